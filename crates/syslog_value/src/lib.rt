@@ -3,13 +3,21 @@
 #![tactic(auto)]
 
 mod counts;
+mod facility;
 mod input;
 mod loops;
+mod mask;
 mod output;
+mod priority;
+mod severity;
 
+pub use facility::Facility;
 pub use input::{FromRead, Input};
 pub use loops::{READER_CALLS, ReadAllFault, WriteFault, read_all, write_all};
+pub use mask::Mask;
 pub use output::{Output, ToWrite};
+pub use priority::Priority;
+pub use severity::Severity;
 use thiserror::Error;
 
 /// A device failed. What it knows of the cause is lost.
