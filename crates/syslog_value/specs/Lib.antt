@@ -1,6 +1,7 @@
 pub mod Calendar
 pub mod Device
 pub mod Facilities
+pub mod Instants
 pub mod Kept
 pub mod Masks
 pub mod Order

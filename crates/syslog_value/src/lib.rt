@@ -2,17 +2,21 @@
 //! devices that are read from and written to.
 #![tactic(auto)]
 
+mod civil;
 mod counts;
 mod facility;
 mod input;
+mod instant;
 mod loops;
 mod mask;
 mod output;
 mod priority;
 mod severity;
 
+pub use civil::Civil;
 pub use facility::Facility;
 pub use input::{FromRead, Input};
+pub use instant::{Instant, TimeFault};
 pub use loops::{READER_CALLS, ReadAllFault, WriteFault, read_all, write_all};
 pub use mask::Mask;
 pub use output::{Output, ToWrite};
