@@ -4,6 +4,9 @@ pub mod Facilities
 pub mod Instants
 pub mod Kept
 pub mod Masks
+pub mod Messages
 pub mod Order
 pub mod Parts
+pub mod Records
 pub mod Severities
+pub mod Words
