@@ -1,0 +1,320 @@
+-- What is known of the octets where a scanner stands.
+use Rattle.std.proofs.Common.{◌≡◌, ◌≢◌, ℕ, ◌+◌, ◌-◌, ◌<◌, ◌≤◌, List, [], ◌∷◌, ◌++◌, length, take, drop, get_or, refl, sym, ap, subst, ◌∙◌, append_assoc, arith, inl, inr, ◌⊎◌}
+use Rattle.std.specs.Fmt.{decimal}
+use Rattle.std.proofs.lemmas.List.{length-append, length-replicate, take-append-drop, length-take, take_all}
+use Rattle.std.specs.Prelude.{replicate}
+use Rattle.octet_language.specs.Language.{Begins, IsPlace, NoFront}
+use Rattle.syslog_frame.specs.Frames.{Frame, IsLine, Whole}
+use Rattle.syslog_frame.specs.Count.{IsCount, IsRefused}
+use Rattle.syslog_frame.specs.Scan.{Scan, Stands, Holds, HasBadCount, HasFrame, HasReady, IsFailed, IsReading}
+use Rattle.syslog_frame.specs.State.{IsOpen, IsTaken}
+use Rattle.syslog_frame.specs.Takes.{Completes, Breaks, GoesOn, Takes}
+use Rattle.syslog_frame.specs.declared.limits.TheConstants.{COUNT_MAX}
+use Rattle.syslog_frame.specs.declared.framing.Framing.{Framing}
+use Rattle.syslog_frame.specs.declared.framing.Framing.TheVariants.{Counted, Lf}
+use Rattle.syslog_frame.specs.declared.phase.Phase.{Phase}
+use Rattle.syslog_frame.specs.declared.phase.Phase.TheVariants.{Counting, Inside, Ended, BadCount, Failed}
+use Rattle.octet_language.proofs.Lists.{one_more}
+use Rattle.octet_language.proofs.Lists.{not_free}
+use Rattle.octet_language.proofs.Sequence.{Misses-NoFront}
+use Rattle.syslog_frame.proofs.Cuts.{one_taken}
+use Rattle.syslog_frame.proofs.Counts.{HasFront, Refusal, NoFront-count, NoFront-refusal, none_begins, place_of_refusal, count_goes_on}
+use Rattle.syslog_frame.proofs.FrameLaws.{OneFront-whole, same_count}
+
+pub HasFront-counted : HasFront (Whole Counted)
+HasFront-counted s (f, (a, e)) = (length f, f, a.0, a.1, e)
+
+-- a line begins a frame, and has none in front
+begins_line : (p : List ℕ) → IsLine p → Begins (Whole Lf) p
+begins_line p h = (10 ∷ [], (p, (h, refl)))
+
+none_in_line : (p : List ℕ) → IsLine p → NoFront (Whole Lf) p
+none_in_line p h x y e (f, (a, b)) = not_free 10 p f y h (e ∙ ap (λ (u : List ℕ). u ++ y) b ∙ one_more f 10 y)
+
+-- octets behind a count, up to it
+counted_frame : (n : ℕ) (f : List ℕ) → 0 < n → n ≤ COUNT_MAX → length f ≡ n → Whole Counted (decimal n ++ 32 ∷ f)
+counted_frame n f some small e = (f, ((omega (arith, some, e), omega (arith, small, e)), ap (λ (k : ℕ). decimal k ++ 32 ∷ f) (sym e)))
+
+begins_counted : (n : ℕ) (f p : List ℕ) → 0 < n → n ≤ COUNT_MAX → length f ≤ n → p ≡ decimal n ++ 32 ∷ f → Begins (Whole Counted) p
+begins_counted n f p some small le e =
+    let more : List ℕ = replicate (n - length f) 0 in
+    let whole = counted_frame n (f ++ more) some small (omega (arith, le, length-append f more, length-replicate {A = ℕ} (n - length f) 0)) in
+    (more, subst (Whole Counted) (sym (ap (λ (u : List ℕ). u ++ more) e ∙ append_assoc (decimal n) (32 ∷ f) more)) whole)
+
+begins_count : (c : ℕ) (q : List ℕ) → c ≤ COUNT_MAX → IsCount c q → Begins (Whole Counted) q
+begins_count c q small is =
+    let g = count_goes_on c q small is in
+    let b = begins_counted g.0 [] (q ++ g.1) g.2 g.3 (omega arith) g.4 in
+    (g.1 ++ b.0, subst (Whole Counted) (append_assoc q g.1 b.0) b.1)
+
+none_inside : (n : ℕ) (r p : List ℕ) → n ≤ COUNT_MAX → length r < n → p ≡ decimal n ++ 32 ∷ r → NoFront (Whole Counted) p
+none_inside n r p small short e x y d (f, (a, b)) =
+    let same = same_count n (length f) r (f ++ y) small a.1 (sym e ∙ d ∙ ap (λ (u : List ℕ). u ++ y) b ∙ append_assoc (decimal (length f)) (32 ∷ f) y) in
+    omega (arith, same.0, ap length same.1, length-append f y, short)
+
+-- ---- by phases
+
+pub whole_ended : (most : ℕ) (kind : Framing) (count size : ℕ) (kept p : List ℕ) → Holds most kind Ended count size kept p → Whole kind p
+whole_ended most Lf count size kept p (line, free, keeps, e) = (line, (free, e))
+whole_ended most Counted count size kept p (f, h, all) = subst (Whole Counted) (sym h.text) (counted_frame count f h.some h.small (h.keeps.size_is ∙ all))
+
+pub begins_open : (most : ℕ) (kind : Framing) (phase : Phase) (count size : ℕ) (kept p : List ℕ) → IsOpen phase → Holds most kind phase count size kept p → Begins (Whole kind) p
+begins_open most Lf Inside count size kept p is h = begins_line p h.0
+begins_open most Lf Counting count size kept p is h = absurd h
+begins_open most Counted Inside count size kept p is (f, h, less) = begins_counted count f p h.some h.small (omega (arith, h.keeps.size_is, less)) h.text
+begins_open most Counted Counting count size kept p is h = begins_count count p h.0 h.1
+begins_open most kind Ended count size kept p is h = absurd is
+begins_open most kind BadCount count size kept p is h = absurd is
+begins_open most kind Failed count size kept p is h = absurd is
+
+pub none_open : (most : ℕ) (kind : Framing) (phase : Phase) (count size : ℕ) (kept p : List ℕ) → IsOpen phase → Holds most kind phase count size kept p → NoFront (Whole kind) p
+none_open most Lf Inside count size kept p is h = none_in_line p h.0
+none_open most Lf Counting count size kept p is h = absurd h
+none_open most Counted Inside count size kept p is (f, h, less) = none_inside count f p h.small (omega (arith, h.keeps.size_is, less)) h.text
+none_open most Counted Counting count size kept p is h = NoFront-count (Whole Counted) HasFront-counted count p h.0 h.1
+none_open most kind Ended count size kept p is h = absurd is
+none_open most kind BadCount count size kept p is h = absurd is
+none_open most kind Failed count size kept p is h = absurd is
+
+-- ---- what was taken
+
+pub completes : (kind : Framing) (p piece : List ℕ) (n : ℕ) → n ≤ length piece → Whole kind (p ++ take n piece) → Completes kind p piece n
+completes kind p piece n within whole = record { within = within; whole = whole; least = least }
+  where
+    least : (m : ℕ) → m < n → ¬ (Whole kind (p ++ take m piece))
+    least m less early =
+        let same = OneFront-whole kind (p ++ take m piece) (drop m piece) (p ++ take n piece) (drop n piece) early whole
+        (append_assoc p (take m piece) (drop m piece) ∙ ap (λ (u : List ℕ). p ++ u) (take-append-drop m piece ∙ sym (take-append-drop n piece)) ∙ sym (append_assoc p (take n piece) (drop n piece))) in
+        omega (arith, ap length same, length-append p (take m piece), length-append p (take n piece), length-take m piece, length-take n piece, less, within)
+
+goes_on : (most : ℕ) (kind : Framing) (phase : Phase) (count size : ℕ) (kept p piece : List ℕ) (n : ℕ) → IsOpen phase → n ≡ length piece → Holds most kind phase count size kept (p ++ take n piece) → GoesOn kind p piece n
+goes_on most kind phase count size kept p piece n is all h =
+    let whole : p ++ take n piece ≡ p ++ piece = ap (λ (u : List ℕ). p ++ u) (take_all n piece (omega (arith, all))) in
+    record {
+      all = all;
+      incomplete = subst (NoFront (Whole kind)) whole (none_open most kind phase count size kept (p ++ take n piece) is h);
+      begins = subst (Begins (Whole kind)) whole (begins_open most kind phase count size kept (p ++ take n piece) is h);
+    }
+
+-- octets that hold a bad count at this place: no frame is in front of them, none begins with them, and each stops there
+pub record IsBadRest (kind : Framing) (rest : List ℕ) (n : ℕ) : Type 0 where
+  pub incomplete : NoFront (Whole kind) rest
+  pub none : ¬ (Begins (Whole kind) rest)
+  pub place : IsPlace (Whole kind) rest n
+
+bad_behind : (c x : ℕ) (q more : List ℕ) → IsRefused c x → c ≤ COUNT_MAX → IsCount c q → IsBadRest Counted (q ++ x ∷ more) (length q)
+bad_behind c x q more refuses small is =
+    let r : Refusal c q x = record { small = small; digits = is; refuses = refuses } in
+    record {
+      incomplete = NoFront-refusal (Whole Counted) HasFront-counted c x q more (q ++ x ∷ more) r refl;
+      none = none_begins (Whole Counted) HasFront-counted c x q more (q ++ x ∷ more) r refl;
+      place = place_of_refusal (Whole Counted) HasFront-counted c x q more (q ++ x ∷ more) r (begins_count c q small is) refl;
+    }
+
+-- behind n octets of a piece, before one that the count refuses, whatever comes behind that
+bad_further : (c : ℕ) (p piece : List ℕ) (n : ℕ) → n < length piece → IsRefused c (get_or piece n 0) → c ≤ COUNT_MAX → IsCount c (p ++ take n piece) → (more : List ℕ) → IsBadRest Counted ((p ++ take (n + 1) piece) ++ more) (length p + n)
+bad_further c p piece n less refuses small is more =
+    let q = p ++ take n piece in
+    let at : length q ≡ length p + n = omega (arith, length-append p (take n piece), length-take n piece, less) in
+    let parts : q ++ get_or piece n 0 ∷ more ≡ (p ++ take (n + 1) piece) ++ more = sym (one_more q (get_or piece n 0) more) ∙ ap (λ (u : List ℕ). u ++ more) (sym (one_taken p piece n less)) in
+    subst (λ (u : List ℕ). IsBadRest Counted u (length p + n)) parts (subst (IsBadRest Counted (q ++ get_or piece n 0 ∷ more)) at (bad_behind c (get_or piece n 0) q more refuses small is))
+
+breaks : (c : ℕ) (p piece : List ℕ) (n : ℕ) → n < length piece → IsRefused c (get_or piece n 0) → c ≤ COUNT_MAX → IsCount c (p ++ take n piece) → Breaks Counted p piece n
+breaks c p piece n less refuses small is =
+    let parts : (p ++ take (n + 1) piece) ++ drop (n + 1) piece ≡ p ++ piece = append_assoc p (take (n + 1) piece) (drop (n + 1) piece) ∙ ap (λ (u : List ℕ). p ++ u) (take-append-drop (n + 1) piece) in
+    let b = subst (λ (u : List ℕ). IsBadRest Counted u (length p + n)) parts (bad_further c p piece n less refuses small is (drop (n + 1) piece)) in
+    record { within = less; incomplete = b.incomplete; none = b.none; place = b.place }
+
+-- how much of a piece a scanner takes behind p, by the phase in which it is then
+abbrev pub TakesIn : Framing → List ℕ → List ℕ → ℕ → Phase → Type 0
+TakesIn kind p piece n Ended = Completes kind p piece n
+TakesIn kind p piece n BadCount = Breaks kind p piece n
+TakesIn kind p piece n Inside = GoesOn kind p piece n
+TakesIn kind p piece n Counting = GoesOn kind p piece n
+TakesIn kind p piece n Failed = ⊥
+
+takes : (most : ℕ) (kind : Framing) (phase : Phase) (count size : ℕ) (kept p piece : List ℕ) (n : ℕ) → n ≤ length piece → IsTaken phase count piece n → Holds most kind phase count size kept (p ++ take n piece) → TakesIn kind p piece n phase
+takes most kind Ended count size kept p piece n within t h = completes kind p piece n within (whole_ended most kind count size kept (p ++ take n piece) h)
+takes most kind Inside count size kept p piece n within t h = goes_on most kind Inside count size kept p piece n tt t h
+takes most kind Counting count size kept p piece n within t h = goes_on most kind Counting count size kept p piece n tt t h
+takes most Lf BadCount count size kept p piece n within t h = absurd h
+takes most Counted BadCount count size kept p piece n within t h = breaks count p piece n t.0 t.1 h.0 h.1
+takes most Lf Failed count size kept p piece n within t h = absurd h
+takes most Counted Failed count size kept p piece n within t h = absurd h
+
+-- what follows a piece that reached a bad place
+bad_rest_in : (most : ℕ) (kind : Framing) (phase : Phase) (count size : ℕ) (kept p piece : List ℕ) (n : ℕ) → phase ≡ BadCount → IsTaken phase count piece n → Holds most kind phase count size kept (p ++ take n piece) → (more : List ℕ) → IsBadRest kind ((p ++ take (n + 1) piece) ++ more) (length p + n)
+bad_rest_in most Counted BadCount count size kept p piece n e t h more = bad_further count p piece n t.0 t.1 h.0 h.1 more
+bad_rest_in most Lf BadCount count size kept p piece n e t h more = absurd h
+bad_rest_in most kind Ended count size kept p piece n e t h more = absurd cc
+bad_rest_in most kind Inside count size kept p piece n e t h more = absurd cc
+bad_rest_in most kind Counting count size kept p piece n e t h more = absurd cc
+bad_rest_in most kind Failed count size kept p piece n e t h more = absurd t
+
+-- in a count, where the phase is open and not inside the record
+pub count_of : (most : ℕ) (kind : Framing) (phase : Phase) (count size : ℕ) (kept p : List ℕ) → kind ≡ Counted → IsOpen phase → phase ≢ Inside → Holds most kind phase count size kept p → IsCount count p
+count_of most Counted Counting count size kept p e is other h = h.1
+count_of most Lf Counting count size kept p e is other h = absurd h
+count_of most kind Inside count size kept p e is other h = absurd (other refl)
+count_of most kind Ended count size kept p e is other h = absurd is
+count_of most kind BadCount count size kept p e is other h = absurd is
+count_of most kind Failed count size kept p e is other h = absurd is
+
+-- behind a count and its space
+pub inside_empty : (most count : ℕ) (kept p : List ℕ) → 0 < count → count ≤ COUNT_MAX → length kept ≡ 0 → p ≡ decimal count ++ 32 ∷ [] → Holds most Counted Inside count 0 kept p
+inside_empty most count [] p some small empty e = ([], record { some = some; small = small; keeps = record { size_is = refl; kept_is = λ _. refl }; text = e }, some)
+inside_empty most count (x ∷ kept) p some small empty e = absurd (omega arith)
+
+-- ---- the phase of what a scanner holds
+
+open_otherwise : (phase : Phase) → phase ≢ Ended → phase ≢ BadCount → phase ≢ Failed → IsOpen phase
+open_otherwise Inside e b f = tt
+open_otherwise Counting e b f = tt
+open_otherwise Ended e b f = absurd (e refl)
+open_otherwise BadCount e b f = absurd (b refl)
+open_otherwise Failed e b f = absurd (f refl)
+
+pub open_reading : (s : Scan) → IsReading s → IsOpen s.phase
+open_reading s r = open_otherwise s.phase (λ e. r.0 (inl e)) (λ e. r.0 (inr e)) r.1
+
+not_open : (phase : Phase) → IsOpen phase → ¬ ((phase ≡ Ended) ⊎ (phase ≡ BadCount)) × (phase ≢ Failed)
+not_open Inside is = (λ r. elim r [ inl e ↦ absurd cc | inr e ↦ absurd cc ], λ e. absurd cc)
+not_open Counting is = (λ r. elim r [ inl e ↦ absurd cc | inr e ↦ absurd cc ], λ e. absurd cc)
+not_open Ended is = absurd is
+not_open BadCount is = absurd is
+not_open Failed is = absurd is
+
+pub reading_open : (s : Scan) → IsOpen s.phase → IsReading s
+reading_open s is = not_open s.phase is
+
+takes_at : (kind : Framing) (p piece : List ℕ) (n : ℕ) (s : Scan) (phase : Phase) → phase ≡ s.phase → TakesIn kind p piece n phase → Takes kind p piece n s
+takes_at kind p piece n s Ended e t = inl (t, sym e)
+takes_at kind p piece n s BadCount e t = inr (inl (t, sym e))
+takes_at kind p piece n s Inside e t = inr (inr (t, reading_open s (subst IsOpen e tt)))
+takes_at kind p piece n s Counting e t = inr (inr (t, reading_open s (subst IsOpen e tt)))
+takes_at kind p piece n s Failed e t = absurd t
+
+-- ---- the scanner's calls
+
+-- octets were taken of a piece, and the scanner holds what it then does
+pub record Took (most : ℕ) (s : Scan) (kind : Framing) (p piece : List ℕ) (n : ℕ) : Type 0 where
+  pub within : n ≤ length piece
+  pub taken : IsTaken s.phase s.count piece n
+  pub holds : Holds most kind s.phase s.count s.size s.kept (p ++ take n piece)
+
+pub took : (most : ℕ) (s t : Scan) (kind : Framing) (p piece : List ℕ) (n : ℕ) → s.framing ≡ kind → n ≤ length piece → IsTaken t.phase t.count piece n
+    → ((q : List ℕ) → Holds most s.framing s.phase s.count s.size s.kept q → Holds most s.framing t.phase t.count t.size t.kept (q ++ take n piece))
+    → Holds most kind s.phase s.count s.size s.kept p → Took most t kind p piece n
+took most s t kind p piece n e within taken step h =
+    let back = subst (λ (k : Framing). Holds most k s.phase s.count s.size s.kept p) (sym e) h in
+    record {
+      within = within;
+      taken = taken;
+      holds = subst (λ (k : Framing). Holds most k t.phase t.count t.size t.kept (p ++ take n piece)) e (step p back);
+    }
+
+pub takes_took : (most : ℕ) (s : Scan) (kind : Framing) (p piece : List ℕ) (n : ℕ) → Took most s kind p piece n → Takes kind p piece n s
+takes_took most s kind p piece n t = takes_at kind p piece n s s.phase refl (takes most kind s.phase s.count s.size s.kept p piece n t.within t.taken t.holds)
+
+pub bad_took : (most : ℕ) (s : Scan) (kind : Framing) (p piece : List ℕ) (n : ℕ) → Took most s kind p piece n → HasBadCount s → (more : List ℕ) → IsBadRest kind ((p ++ take (n + 1) piece) ++ more) (length p + n)
+bad_took most s kind p piece n t bad more = bad_rest_in most kind s.phase s.count s.size s.kept p piece n bad t.taken t.holds more
+
+-- a frame is ready: nothing more is taken, and it is whole
+took_ended : (most : ℕ) (kind : Framing) (phase : Phase) (count size : ℕ) (kept p : List ℕ) → phase ≡ Ended → Holds most kind phase count size kept p → Whole kind p
+took_ended most kind Ended count size kept p e h = whole_ended most kind count size kept p h
+took_ended most kind Inside count size kept p e h = absurd cc
+took_ended most kind Counting count size kept p e h = absurd cc
+took_ended most kind BadCount count size kept p e h = absurd cc
+took_ended most kind Failed count size kept p e h = absurd cc
+
+pub whole_ready : (most : ℕ) (s : Scan) (kind : Framing) (position : ℕ) (p : List ℕ) → HasFrame s → Stands most s kind position p → Whole kind p
+whole_ready most s kind position p is h = took_ended most kind s.phase s.count s.size s.kept p is h.holds
+
+-- neither behind a frame nor in a failed stream: no frame is in front
+none_unless_ended : (most : ℕ) (kind : Framing) (phase : Phase) (count size : ℕ) (kept p : List ℕ) → phase ≢ Ended → Holds most kind phase count size kept p → NoFront (Whole kind) p
+none_unless_ended most Lf BadCount count size kept p e h = absurd h
+none_unless_ended most Counted BadCount count size kept p e h = NoFront-count (Whole Counted) HasFront-counted count p h.0 h.1
+none_unless_ended most kind Inside count size kept p e h = none_open most kind Inside count size kept p tt h
+none_unless_ended most kind Counting count size kept p e h = none_open most kind Counting count size kept p tt h
+none_unless_ended most kind Ended count size kept p e h = absurd (e refl)
+none_unless_ended most Lf Failed count size kept p e h = absurd h
+none_unless_ended most Counted Failed count size kept p e h = absurd h
+
+pub none_unless_frame : (most : ℕ) (s : Scan) (kind : Framing) (position : ℕ) (p : List ℕ) → ¬ (HasFrame s) → Stands most s kind position p → NoFront (Whole kind) p
+none_unless_frame most s kind position p other h = none_unless_ended most kind s.phase s.count s.size s.kept p other h.holds
+
+pub begins_reading : (most : ℕ) (s : Scan) (kind : Framing) (position : ℕ) (p : List ℕ) → IsOpen s.phase → Stands most s kind position p → Begins (Whole kind) p
+begins_reading most s kind position p is h = begins_open most kind s.phase s.count s.size s.kept p is h.holds
+
+-- the octets that were kept are the frame, where it is short enough
+kept_frame : (most : ℕ) (kind : Framing) (phase : Phase) (count size : ℕ) (kept p : List ℕ) → phase ≡ Ended → size ≤ most → Holds most kind phase count size kept p → Frame kind kept p × (length kept ≤ most)
+kept_frame most Lf Ended count size kept p e le (line, free, keeps, text) =
+    let same = keeps.kept_is le in
+    ((subst IsLine (sym same) free, text ∙ ap (λ (u : List ℕ). u ++ 10 ∷ []) (sym same)), omega (arith, ap length same, keeps.size_is, le))
+kept_frame most Counted Ended count size kept p e le (f, h, all) =
+    let same = h.keeps.kept_is le in
+    let n : length kept ≡ count = omega (arith, ap length same, h.keeps.size_is, all) in
+    (((omega (arith, n, h.some), omega (arith, n, h.small)), h.text ∙ ap (λ (k : ℕ). decimal k ++ 32 ∷ f) (sym n) ∙ ap (λ (u : List ℕ). decimal (length kept) ++ 32 ∷ u) (sym same)), omega (arith, n, all, le))
+kept_frame most kind Inside count size kept p e le h = absurd cc
+kept_frame most kind Counting count size kept p e le h = absurd cc
+kept_frame most kind BadCount count size kept p e le h = absurd cc
+kept_frame most kind Failed count size kept p e le h = absurd cc
+
+pub frame_ready : (most : ℕ) (s : Scan) (kind : Framing) (position : ℕ) (p : List ℕ) → HasFrame s → s.size ≤ most → Stands most s kind position p → Frame kind s.kept p × (length s.kept ≤ most)
+frame_ready most s kind position p is le h = kept_frame most kind s.phase s.count s.size s.kept p is le h.holds
+
+long_frame : (most : ℕ) (kind : Framing) (phase : Phase) (count size : ℕ) (kept p : List ℕ) → phase ≡ Ended → most < size → Holds most kind phase count size kept p → (f : List ℕ) × Frame kind f p × (most < length f)
+long_frame most Lf Ended count size kept p e lt (line, free, keeps, text) = (line, (free, text), omega (arith, keeps.size_is, lt))
+long_frame most Counted Ended count size kept p e lt (f, h, all) =
+    let n : length f ≡ count = omega (arith, h.keeps.size_is, all) in
+    (f, ((omega (arith, n, h.some), omega (arith, n, h.small)), h.text ∙ ap (λ (k : ℕ). decimal k ++ 32 ∷ f) (sym n)), omega (arith, n, all, lt))
+long_frame most kind Inside count size kept p e lt h = absurd cc
+long_frame most kind Counting count size kept p e lt h = absurd cc
+long_frame most kind BadCount count size kept p e lt h = absurd cc
+long_frame most kind Failed count size kept p e lt h = absurd cc
+
+pub long_ready : (most : ℕ) (s : Scan) (kind : Framing) (position : ℕ) (p : List ℕ) → HasFrame s → most < s.size → Stands most s kind position p → (f : List ℕ) × Frame kind f p × (most < length f)
+long_ready most s kind position p is lt h = long_frame most kind s.phase s.count s.size s.kept p is lt h.holds
+
+-- nothing stands in a failed stream
+not_failed : (most : ℕ) (kind : Framing) (phase : Phase) (count size : ℕ) (kept p : List ℕ) → phase ≡ Failed → Holds most kind phase count size kept p → ⊥
+not_failed most Lf Failed count size kept p e h = h
+not_failed most Counted Failed count size kept p e h = h
+not_failed most kind Inside count size kept p e h = absurd cc
+not_failed most kind Counting count size kept p e h = absurd cc
+not_failed most kind Ended count size kept p e h = absurd cc
+not_failed most kind BadCount count size kept p e h = absurd cc
+
+pub stands_not_failed : (most : ℕ) (s : Scan) (kind : Framing) (position : ℕ) (p : List ℕ) → Stands most s kind position p → ¬ (IsFailed s)
+stands_not_failed most s kind position p h failed = not_failed most kind s.phase s.count s.size s.kept p failed h.holds
+
+-- a scanner with nothing ready reads, or has failed
+not_ready : (phase : Phase) → phase ≢ Ended → phase ≢ BadCount → (¬ ((phase ≡ Ended) ⊎ (phase ≡ BadCount)) × (phase ≢ Failed)) ⊎ (phase ≡ Failed)
+not_ready Inside e b = inl (not_open Inside tt)
+not_ready Counting e b = inl (not_open Counting tt)
+not_ready Ended e b = absurd (e refl)
+not_ready BadCount e b = absurd (b refl)
+not_ready Failed e b = inr refl
+
+pub reading_or_failed : (s : Scan) → ¬ (HasFrame s) → ¬ (HasBadCount s) → IsReading s ⊎ IsFailed s
+reading_or_failed s e b = not_ready s.phase e b
+
+pub none_ready : (s : Scan) → ¬ (HasFrame s) → ¬ (HasBadCount s) → ¬ (HasReady s)
+none_ready s e b r = elim r [ inl f ↦ e f | inr c ↦ b c ]
+
+-- one that stands somewhere has not failed
+pub reading_standing : (most : ℕ) (s : Scan) (kind : Framing) (position : ℕ) (p : List ℕ) → ¬ (HasFrame s) → ¬ (HasBadCount s) → Stands most s kind position p → IsReading s
+reading_standing most s kind position p e b h = (λ r. elim r [ inl f ↦ e f | inr c ↦ b c ], stands_not_failed most s kind position p h)
+
+pub open_at : (phase : Phase) → (phase ≡ Counting) ⊎ (phase ≡ Inside) → IsOpen phase
+open_at phase (inl e) = subst IsOpen (sym e) tt
+open_at phase (inr e) = subst IsOpen (sym e) tt
+
+pub not_whole : (most : ℕ) (s : Scan) (kind : Framing) (position : ℕ) (p : List ℕ) → ¬ (HasFrame s) → Stands most s kind position p → ¬ (Whole kind p)
+not_whole most s kind position p e h w = Misses-NoFront (Whole kind) p (none_unless_frame most s kind position p e h) w
+
+pub bad_not_frame : (s : Scan) → HasBadCount s → ¬ (HasFrame s)
+bad_not_frame s b e = apart s.phase b e
+  where
+    apart : (phase : Phase) → phase ≡ BadCount → phase ≡ Ended → ⊥
+    apart phase b e = absurd cc

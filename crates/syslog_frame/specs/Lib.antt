@@ -1,0 +1,11 @@
+pub mod Frames
+pub mod MsgLen
+pub mod Count
+pub mod Scan
+pub mod Takes
+pub mod Reads
+pub mod Ready
+pub mod State
+pub mod Fields
+pub mod Put
+pub mod Pieces

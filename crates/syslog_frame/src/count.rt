@@ -1,0 +1,77 @@
+//! MSG-LEN, the count in front of a record (RFC 6587, 3.4.1): a digit 1 to 9, further digits, at
+//! most ten in all, and a space.
+
+ghost use Rattle.std.specs.Prelude.{◌≡◌, ◌≤◌, ◌<◌, ◌+◌, ◌-◌, ◌*◌, ◌↔◌, ℕ, List, length, IsTrue, MatchOption};
+ghost use Rattle.syslog_frame.specs.Count.{CountsOn, IsCount, IsNextDigit, IsStep};
+ghost use Rattle.syslog_frame.specs.MsgLen.{IsMsgLen};
+
+use crate::limits::COUNT_MAX;
+
+/// What octets make of a count.
+#[derive(Clone, Copy, Debug, PartialEq, Eq)]
+pub enum CountStep {
+    /// The count and its space stand in the first octets.
+    Read { count: u64, used: usize },
+    /// All octets are digits of the count.
+    Unfinished { count: u64 },
+    /// The count cannot go on with the octet there.
+    Broken { count: u64, at: usize },
+}
+
+/// A length in front of octets.
+#[derive(Clone, Copy, Debug, PartialEq, Eq)]
+pub enum MsgLen {
+    /// The count, and the number of octets that its digits and the space take.
+    Whole { count: u64, used: usize },
+    /// The octets are a proper front of a count and its space.
+    Part,
+    /// No count goes on with the octet there.
+    Bad { at: usize },
+}
+
+/// The count with one digit more, where MSG-LEN can go on so.
+fn with_digit(count: u64, octet: u8) -> Option<u64>
+    requires { count ≤ COUNT_MAX }
+    ensures { MatchOption result (¬ (IsNextDigit count octet))
+        (λ longer. IsNextDigit count octet × (longer ≡ 10 * count + (octet - 48))) }
+{
+    if !(b'0'..=b'9').contains(&octet) {
+        return None;
+    }
+    let longer = 10 * count + u64::from(octet - b'0');
+    if 0 < longer && longer <= COUNT_MAX {
+        Some(longer)
+    } else {
+        None
+    }
+}
+
+/// Goes on with a count whose digits so far are known by their number.
+pub fn count_on(start: u64, octets: &[u8]) -> CountStep
+    requires { start ≤ COUNT_MAX }
+    ensures step { IsStep octets.now result }
+    ensures counts { (p : List ℕ) → IsCount start p → CountsOn p octets.now result }
+{
+    let mut count = start;
+    for (i, octet) in octets.iter().enumerate() {
+        if count > 0 && *octet == b' ' {
+            return CountStep::Read { count, used: i + 1 };
+        }
+        match with_digit(count, *octet) {
+            Some(longer) => count = longer,
+            None => return CountStep::Broken { count, at: i },
+        }
+    }
+    CountStep::Unfinished { count }
+}
+
+/// The MSG-LEN and space in front of octets.
+pub fn msg_len(octets: &[u8]) -> MsgLen
+    ensures { IsMsgLen octets.now result }
+{
+    match count_on(0, octets) {
+        CountStep::Read { count, used } => MsgLen::Whole { count, used },
+        CountStep::Unfinished { .. } => MsgLen::Part,
+        CountStep::Broken { at, .. } => MsgLen::Bad { at },
+    }
+}

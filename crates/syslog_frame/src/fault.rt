@@ -1,0 +1,67 @@
+//! Why a call is refused.
+
+use thiserror::Error;
+
+/// Why no scanner starts at a position.
+#[derive(Clone, Copy, Debug, PartialEq, Eq, Error)]
+pub enum StartFault {
+    /// The position is above `POSITION_MAX`.
+    #[error("the position is too large")]
+    PositionTooLarge,
+    /// The room for a record was refused.
+    #[error("out of memory")]
+    Memory,
+}
+
+/// Why a scanner took nothing of a piece.
+#[derive(Clone, Copy, Debug, PartialEq, Eq, Error)]
+pub enum ScanFault {
+    /// A bad count was released, so that nothing more can be read.
+    #[error("the stream held a bad count")]
+    Failed,
+    /// The piece reaches past `POSITION_MAX`.
+    #[error("the stream is too long")]
+    StreamTooLong,
+}
+
+/// Why a stream may not stop here.
+#[derive(Clone, Copy, Debug, PartialEq, Eq, Error)]
+pub enum EndFault {
+    /// A bad count was released.
+    #[error("the stream held a bad count")]
+    Failed,
+    /// Something is still ready.
+    #[error("a frame or a bad count was not released")]
+    Unreleased,
+    /// The stream stops inside the frame whose first octet is at this position.
+    #[error("the frame at {start} is unfinished")]
+    Unterminated { start: u64 },
+}
+
+/// Why octets are not written as a frame.
+#[derive(Clone, Copy, Debug, PartialEq, Eq, Error)]
+pub enum PutFault {
+    /// A counted frame of no octets.
+    #[error("a counted frame has at least one octet")]
+    Empty,
+    /// A line that holds a line feed.
+    #[error("a line holds no line feed")]
+    HasLf,
+    /// More than `FRAME_MAX` octets.
+    #[error("the frame is too long")]
+    TooLong,
+    /// The growth of the vector was refused.
+    #[error("out of memory")]
+    Memory,
+}
+
+/// Why the frames of a stream are not told.
+#[derive(Clone, Copy, Debug, PartialEq, Eq, Error)]
+pub enum PiecesFault {
+    /// The pieces reach past `POSITION_MAX`.
+    #[error("the stream is too long")]
+    StreamTooLong,
+    /// A growth was refused.
+    #[error("out of memory")]
+    Memory,
+}

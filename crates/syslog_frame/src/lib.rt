@@ -1,0 +1,34 @@
+//! How syslog records stand on a stream (RFC 6587): both framings, a scanner that takes a stream in
+//! pieces of any cut, and the laws of frames.
+//!
+//! A [`Scanner`] keeps one unfinished frame. Feed it by [`Scanner::push`] until the piece is empty,
+//! look at [`Scanner::ready`] after each call, and let go what was ready by [`Scanner::release`].
+#![tactic(auto)]
+
+mod count;
+mod fault;
+mod framing;
+mod laws;
+mod limits;
+mod phase;
+mod pieces;
+mod put;
+mod ready;
+mod record;
+mod scanner;
+
+pub use count::{MsgLen, msg_len};
+pub use fault::{EndFault, PiecesFault, PutFault, ScanFault, StartFault};
+pub use framing::Framing;
+pub use laws::{
+    bad_counts_end_streams, frames_are_unique, frames_begin, frames_go_on,
+    frames_of_a_concatenation,
+};
+pub use limits::{COUNT_MAX, FRAME_MAX, POSITION_MAX};
+pub use pieces::{StreamEnd, StreamFrames, frames_of_pieces};
+pub use put::put_frame;
+pub use ready::Ready;
+pub use scanner::Scanner;
+
+#[cfg(test)]
+mod tests;

@@ -1,0 +1,16 @@
+//! Where in a frame a scanner is.
+
+/// Where in a frame a scanner is.
+#[derive(Clone, Copy, Debug, PartialEq, Eq)]
+pub enum Phase {
+    /// In the digits of a count, or before them.
+    Counting,
+    /// In the record.
+    Inside,
+    /// Behind a whole frame.
+    Ended,
+    /// Before an octet with which no count can go on.
+    BadCount,
+    /// Behind such a count, for good.
+    Failed,
+}

@@ -1,0 +1,12 @@
+//! What a scanner has ready.
+
+/// What a scanner has ready.
+#[derive(Clone, Copy, Debug, PartialEq, Eq)]
+pub enum Ready<'a> {
+    /// The octets of a frame.
+    Frame(&'a [u8]),
+    /// A frame above `FRAME_MAX` came to its end.
+    TooLong,
+    /// No MSG-LEN can go on with the octet at this position of the stream, which was not taken.
+    BadCount { at: u64 },
+}

@@ -1,0 +1,198 @@
+//! What a piece brings of one frame. The octets of a record are copied by slices and never looked
+//! at one by one.
+
+ghost use Rattle.std.specs.Prelude.{◌≡◌, ◌≢◌, ◌≤◌, ◌<◌, ◌+◌, ◌++◌, ◌^◌, ℕ, List, length, take, vec_capacity, vec_len};
+ghost use Rattle.syslog_frame.specs.Count.{IsCount};
+ghost use Rattle.syslog_frame.specs.Scan.{Holds, Keeps};
+ghost use Rattle.syslog_frame.specs.State.{IsOpen, IsState, IsTaken};
+ghost use Rattle.syslog_frame.specs.declared.framing.Framing.TheVariants.{Counted, Lf};
+
+use crate::count::{CountStep, count_on};
+use crate::framing::Framing;
+use crate::limits::{COUNT_MAX, FRAME_MAX};
+use crate::phase::Phase;
+use memchr::memchr;
+
+/// How far a piece brought the frame.
+#[derive(Clone, Copy, Debug)]
+pub struct Taken {
+    /// So many octets of the piece were taken.
+    pub used: usize,
+    /// Where in the frame the scanner is then.
+    pub phase: Phase,
+    /// The count in front of the record, as far as it was read.
+    pub count: u64,
+    /// So many octets of the record came.
+    pub size: u64,
+}
+
+/// Appends octets of a record of which `size` came, unless it gets too long.
+fn keep(kept: &mut Vec<u8>, size: u64, octets: &[u8])
+    requires room { FRAME_MAX ≤ vec_capacity kept.old }
+    requires known { size ≤ FRAME_MAX → vec_len kept.old ≡ size }
+    requires fits { size + length octets.now < 2 ^ 64 }
+    ensures room { FRAME_MAX ≤ vec_capacity kept.new }
+    ensures keeps { (r : List ℕ) → Keeps FRAME_MAX size kept.old.items r
+        → Keeps FRAME_MAX (size + length octets.now) kept.new.items (r ++ octets.now) }
+    ensures known { size + length octets.now ≤ FRAME_MAX
+        → vec_len kept.new ≡ size + length octets.now }
+{
+    if size + octets.len() as u64 <= FRAME_MAX as u64 {
+        let _ = kept.extend_from_slice(octets);
+    }
+}
+
+/// Takes a piece of a line, up to its line feed.
+fn take_line(kept: &mut Vec<u8>, size: u64, piece: &[u8]) -> Taken
+    requires room { FRAME_MAX ≤ vec_capacity kept.old }
+    requires known { size ≤ FRAME_MAX → vec_len kept.old ≡ size }
+    requires fits { size + length piece.now < 2 ^ 64 }
+    ensures room { FRAME_MAX ≤ vec_capacity kept.new }
+    ensures known { result.size ≤ FRAME_MAX → vec_len kept.new ≡ result.size }
+    ensures within { result.used ≤ length piece.now }
+    ensures some { 0 < length piece.now → result.phase ≢ Phase.BadCount → 0 < result.used }
+    ensures far { result.size ≤ size + result.used }
+    ensures taken { IsTaken result.phase result.count piece.now result.used }
+    ensures state { IsState Lf result.phase result.count result.size }
+    ensures small { result.count ≤ COUNT_MAX }
+    ensures holds { (p : List ℕ) → Holds FRAME_MAX Lf Phase.Inside 0 size kept.old.items p
+        → Holds FRAME_MAX Lf result.phase 0 result.size kept.new.items
+        (p ++ take result.used piece.now) }
+{
+    match memchr(b'\n', piece) {
+        Some(at) => {
+            keep(kept, size, &piece[..at]);
+            Taken {
+                used: at + 1,
+                phase: Phase::Ended,
+                count: 0,
+                size: size + at as u64,
+            }
+        }
+        None => {
+            keep(kept, size, piece);
+            Taken {
+                used: piece.len(),
+                phase: Phase::Inside,
+                count: 0,
+                size: size + piece.len() as u64,
+            }
+        }
+    }
+}
+
+/// Takes a piece of a record that was counted, up to its last octet.
+fn take_record(kept: &mut Vec<u8>, count: u64, size: u64, piece: &[u8]) -> Taken
+    requires room { FRAME_MAX ≤ vec_capacity kept.old }
+    requires known { size ≤ FRAME_MAX → vec_len kept.old ≡ size }
+    requires small { count ≤ COUNT_MAX }
+    requires less { size < count }
+    ensures room { FRAME_MAX ≤ vec_capacity kept.new }
+    ensures known { result.size ≤ FRAME_MAX → vec_len kept.new ≡ result.size }
+    ensures within { result.used ≤ length piece.now }
+    ensures some { 0 < length piece.now → result.phase ≢ Phase.BadCount → 0 < result.used }
+    ensures far { result.size ≤ size + result.used }
+    ensures taken { IsTaken result.phase result.count piece.now result.used }
+    ensures state { IsState Counted result.phase result.count result.size }
+    ensures same { result.count ≡ count }
+    ensures holds { (p : List ℕ) → Holds FRAME_MAX Counted Phase.Inside count size kept.old.items p
+        → Holds FRAME_MAX Counted result.phase count result.size kept.new.items
+        (p ++ take result.used piece.now) }
+{
+    let left = count - size;
+    if (piece.len() as u64) < left {
+        keep(kept, size, piece);
+        return Taken {
+            used: piece.len(),
+            phase: Phase::Inside,
+            count,
+            size: size + piece.len() as u64,
+        };
+    }
+    let used = left as usize;
+    keep(kept, size, &piece[..used]);
+    Taken {
+        used,
+        phase: Phase::Ended,
+        count,
+        size: count,
+    }
+}
+
+/// Takes a piece that begins in a count.
+fn take_count(kept: &mut Vec<u8>, count: u64, piece: &[u8]) -> Taken
+    requires room { FRAME_MAX ≤ vec_capacity kept.old }
+    requires empty { vec_len kept.old ≡ 0 }
+    requires small { count ≤ COUNT_MAX }
+    ensures room { FRAME_MAX ≤ vec_capacity kept.new }
+    ensures known { result.size ≤ FRAME_MAX → vec_len kept.new ≡ result.size }
+    ensures within { result.used ≤ length piece.now }
+    ensures some { 0 < length piece.now → result.phase ≢ Phase.BadCount → 0 < result.used }
+    ensures far { result.size ≤ result.used }
+    ensures taken { IsTaken result.phase result.count piece.now result.used }
+    ensures state { IsState Counted result.phase result.count result.size }
+    ensures small { result.count ≤ COUNT_MAX }
+    ensures holds { (p : List ℕ) → IsCount count p
+        → Holds FRAME_MAX Counted result.phase result.count result.size kept.new.items
+        (p ++ take result.used piece.now) }
+{
+    match count_on(count, piece) {
+        CountStep::Unfinished { count } => Taken {
+            used: piece.len(),
+            phase: Phase::Counting,
+            count,
+            size: 0,
+        },
+        CountStep::Broken { count, at } => Taken {
+            used: at,
+            phase: Phase::BadCount,
+            count,
+            size: 0,
+        },
+        CountStep::Read { count, used } => {
+            let record = take_record(kept, count, 0, &piece[used..]);
+            Taken {
+                used: used + record.used,
+                phase: record.phase,
+                count,
+                size: record.size,
+            }
+        }
+    }
+}
+
+/// Takes a piece, up to the end of the frame.
+pub fn take_piece(
+    framing: Framing,
+    phase: Phase,
+    kept: &mut Vec<u8>,
+    count: u64,
+    size: u64,
+    piece: &[u8],
+) -> Taken
+    requires room { FRAME_MAX ≤ vec_capacity kept.old }
+    requires known { size ≤ FRAME_MAX → vec_len kept.old ≡ size }
+    requires small { count ≤ COUNT_MAX }
+    requires fits { size + length piece.now < 2 ^ 64 }
+    requires open { IsOpen phase }
+    requires state { IsState framing phase count size }
+    ensures room { FRAME_MAX ≤ vec_capacity kept.new }
+    ensures known { result.size ≤ FRAME_MAX → vec_len kept.new ≡ result.size }
+    ensures within { result.used ≤ length piece.now }
+    ensures some { 0 < length piece.now → result.phase ≢ Phase.BadCount → 0 < result.used }
+    ensures far { result.size ≤ size + result.used }
+    ensures state { IsState framing result.phase result.count result.size }
+    ensures small { result.count ≤ COUNT_MAX }
+    ensures taken { IsTaken result.phase result.count piece.now result.used }
+    ensures holds { (p : List ℕ) → Holds FRAME_MAX framing phase count size kept.old.items p
+        → Holds FRAME_MAX framing result.phase result.count result.size kept.new.items
+        (p ++ take result.used piece.now) }
+{
+    match framing {
+        Framing::Lf => take_line(kept, size, piece),
+        Framing::Counted => match phase {
+            Phase::Inside => take_record(kept, count, size, piece),
+            _ => take_count(kept, count, piece),
+        },
+    }
+}

@@ -1,0 +1,239 @@
+//! The scanner.
+
+ghost use Rattle.std.specs.Prelude.{◌≡◌, ◌≤◌, ◌<◌, ◌+◌, ◌++◌, ◌∷◌, ℕ, List, [], length, take, IfOk, IfErr, OnErr, OnOk, IsTrue, false, ◌↔◌, ◌⊎◌};
+ghost use Rattle.syslog_frame.specs.Frames.{Frame, Whole};
+ghost use Rattle.syslog_frame.specs.Ready.{IsEnd, IsReady, TellsOf};
+ghost use Rattle.syslog_frame.specs.Reads.{IsReadyBehind, Reads, ReadsOn, StopsBehind};
+ghost use Rattle.syslog_frame.specs.Scan.{HasBadCount, HasFrame, HasReady, IsFailed, IsReading, Stands};
+ghost use Rattle.syslog_frame.specs.State.{phase_of};
+ghost use Rattle.syslog_frame.specs.Takes.{Takes};
+ghost use Rattle.syslog_frame.specs.declared.framing.Framing.{Framing};
+
+use crate::fault::{EndFault, ScanFault, StartFault};
+use crate::framing::Framing;
+use crate::limits::{FRAME_MAX, POSITION_MAX};
+use crate::phase::Phase;
+use crate::ready::Ready;
+use crate::record::take_piece;
+use std::alloc::{AllocError, Global};
+use std::marker::Model;
+
+/// A stream's frames, as its octets come in pieces of any cut.
+///
+/// Room for one record of `FRAME_MAX` octets is reserved as the scanner is made; no later call
+/// takes memory.
+#[derive(Drop)]
+pub struct Scanner {
+    framing: Framing,
+    position: u64,
+    start: u64,
+    phase: Phase,
+    count: u64,
+    size: u64,
+    kept: Vec<u8>,
+}
+
+impl Model for Scanner {
+    ghost use Rattle.std.specs.Prelude.{◌≤◌};
+    ghost use Rattle.syslog_frame.specs.Scan.{Scan};
+
+    ghost Value = { Scan };
+
+    ghost use Rattle.syslog_frame.specs.Fields.{scan_of, IsSound};
+
+    ghost view = { scan_of };
+
+    ghost invariant = { IsSound };
+}
+
+impl Scanner {
+    /// A scanner before the first octet of a stream.
+    pub fn new(alloc: Global, framing: Framing) -> Result<Scanner, AllocError>
+        ensures stands { IfOk result (λ s. Stands FRAME_MAX s framing 0 [] × IsReading s) }
+        ensures reads { IfOk result (λ s. Reads FRAME_MAX s framing 0 [] [] []) }
+    {
+        Scanner::starting(alloc, framing, 0)
+    }
+
+    /// A scanner before the first octet of a stream that begins at a position, in octets.
+    pub fn new_at(alloc: Global, framing: Framing, position: u64) -> Result<Scanner, StartFault>
+        ensures stands { IfOk result (λ s. Stands FRAME_MAX s framing position [] × IsReading s) }
+        ensures reads { IfOk result (λ s. Reads FRAME_MAX s framing position [] [] []) }
+        ensures too_large { (result ≡ Err StartFault.PositionTooLarge) ↔ (POSITION_MAX < position) }
+    {
+        if position > POSITION_MAX {
+            return Err(StartFault::PositionTooLarge);
+        }
+        Scanner::starting(alloc, framing, position).map_err(|_| StartFault::Memory)
+    }
+
+    fn starting(alloc: Global, framing: Framing, position: u64) -> Result<Scanner, AllocError>
+        requires { position ≤ POSITION_MAX }
+        ensures stands { IfOk result (λ s. Stands FRAME_MAX s framing position [] × IsReading s) }
+        ensures reads { IfOk result (λ s. Reads FRAME_MAX s framing position [] [] []) }
+    {
+        let kept = Vec::with_capacity(alloc, FRAME_MAX)?;
+        Ok(Scanner {
+            framing,
+            position,
+            start: position,
+            phase: first_phase(framing),
+            count: 0,
+            size: 0,
+            kept,
+        })
+    }
+
+    /// The position of the next octet: that of the stream's first octet, and the octets taken since.
+    pub fn position(&self) -> u64
+        ensures value { result ≡ self.now.position }
+        ensures bound { result ≤ POSITION_MAX }
+    {
+        self.position
+    }
+
+    /// Takes octets up to the end of the current frame at most, and says how many. While something
+    /// is ready it takes none.
+    pub fn push(&mut self, piece: &[u8]) -> Result<usize, ScanFault>
+        // Each refusal, and what it leaves.
+        ensures failed { (result ≡ Err ScanFault.Failed) ↔ IsFailed self.old }
+        ensures too_long { (result ≡ Err ScanFault.StreamTooLong)
+            ↔ (IsReading self.old × (POSITION_MAX < self.old.position + length piece.now)) }
+        ensures same { OnErr result (self.new ≡ self.old) }
+
+        // How much is taken.
+        ensures waits { HasReady self.old → (result ≡ Ok 0) × (self.new ≡ self.old) }
+        ensures within { IfOk result (λ used. used ≤ length piece.now) }
+        ensures progress { IfOk result (λ used. IsReading self.old → 0 < length piece.now
+            → ¬ (HasBadCount self.new) → 0 < used) }
+        ensures takes { IfOk result (λ used. (kind : Framing) (position : ℕ) (p : List ℕ)
+            → Stands FRAME_MAX self.old kind position p → ¬ (HasBadCount self.old)
+            → Takes kind p piece.now used self.new) }
+
+        // Where the scanner is then.
+        ensures live { OnOk result (¬ (IsFailed self.new)) }
+        ensures position { IfOk result (λ used. self.new.position ≡ self.old.position + used) }
+        ensures bound { OnOk result (self.new.position ≤ POSITION_MAX) }
+        ensures stands { IfOk result (λ used. (kind : Framing) (position : ℕ) (p : List ℕ)
+            → Stands FRAME_MAX self.old kind position p
+            → Stands FRAME_MAX self.new kind (position + used) (p ++ take used piece.now)) }
+        ensures reads { IfOk result (λ used. (kind : Framing) (first : ℕ) (octets : List ℕ)
+            (frames : List (List ℕ)) (rest : List ℕ)
+            → Reads FRAME_MAX self.old kind first octets frames rest → ¬ (HasBadCount self.old)
+            → ReadsOn FRAME_MAX self.new kind first octets frames rest piece.now used) }
+    {
+        match self.phase {
+            Phase::Failed => Err(ScanFault::Failed),
+            Phase::Ended | Phase::BadCount => Ok(0),
+            Phase::Counting | Phase::Inside => {
+                if piece.len() as u64 > POSITION_MAX - self.position {
+                    return Err(ScanFault::StreamTooLong);
+                }
+                let taken = take_piece(
+                    self.framing,
+                    self.phase,
+                    &mut self.kept,
+                    self.count,
+                    self.size,
+                    piece,
+                );
+                self.phase = taken.phase;
+                self.count = taken.count;
+                self.size = taken.size;
+                self.position += taken.used as u64;
+                Ok(taken.used)
+            }
+        }
+    }
+
+    /// What is ready: a frame once its last octet was taken, or a bad count.
+    pub fn ready(&self) -> Option<Ready<'_>>
+        ensures tells { TellsOf self.now result }
+        ensures stands { (kind : Framing) (position : ℕ) (p : List ℕ)
+            → Stands FRAME_MAX self.now kind position p
+            → IsReady FRAME_MAX self.now kind position p result }
+        ensures reads { (kind : Framing) (first : ℕ) (octets : List ℕ)
+            (frames : List (List ℕ)) (rest : List ℕ)
+            → Reads FRAME_MAX self.now kind first octets frames rest
+            → IsReadyBehind FRAME_MAX kind first octets frames rest result }
+    {
+        match self.phase {
+            Phase::Ended => {
+                if self.size <= FRAME_MAX as u64 {
+                    Some(Ready::Frame(&self.kept))
+                } else {
+                    Some(Ready::TooLong)
+                }
+            }
+            Phase::BadCount => Some(Ready::BadCount { at: self.position }),
+            _ => None,
+        }
+    }
+
+    /// Lets go what is ready, and says whether something was. Behind a frame the next one begins;
+    /// behind a bad count the scanner has failed for good.
+    pub fn release(&mut self) -> bool
+        ensures value { IsTrue result ↔ HasReady self.old }
+        ensures same { result ≡ false → self.new ≡ self.old }
+        ensures position { self.new.position ≡ self.old.position }
+        ensures frame { HasFrame self.old → IsReading self.new }
+        ensures failed { HasBadCount self.old → IsFailed self.new }
+        ensures stands { (kind : Framing) (position : ℕ) (p : List ℕ)
+            → Stands FRAME_MAX self.old kind position p → Whole kind p
+            → Stands FRAME_MAX self.new kind position [] }
+        ensures reads { (kind : Framing) (first : ℕ) (octets : List ℕ)
+            (frames : List (List ℕ)) (rest f : List ℕ)
+            → Reads FRAME_MAX self.old kind first octets frames rest → Frame kind f rest
+            → Reads FRAME_MAX self.new kind first octets (frames ++ f ∷ []) [] }
+    {
+        match self.phase {
+            Phase::Ended => {
+                self.kept.clear();
+                self.phase = first_phase(self.framing);
+                self.count = 0;
+                self.size = 0;
+                self.start = self.position;
+                true
+            }
+            Phase::BadCount => {
+                self.phase = Phase::Failed;
+                true
+            }
+            _ => false,
+        }
+    }
+
+    /// Whether the stream may stop here. The refusals come in the order of the variants of
+    /// [`EndFault`].
+    pub fn end(&self) -> Result<(), EndFault>
+        ensures failed { (result ≡ Err EndFault.Failed) ↔ IsFailed self.now }
+        ensures unreleased { (result ≡ Err EndFault.Unreleased) ↔ HasReady self.now }
+        ensures stands { (kind : Framing) (position : ℕ) (p : List ℕ)
+            → Stands FRAME_MAX self.now kind position p → IsEnd self.now kind position p result }
+        ensures reads { (kind : Framing) (first : ℕ) (octets : List ℕ)
+            (frames : List (List ℕ)) (rest : List ℕ)
+            → Reads FRAME_MAX self.now kind first octets frames rest
+            → StopsBehind self.now kind first octets frames rest result }
+    {
+        match self.phase {
+            Phase::Failed => Err(EndFault::Failed),
+            Phase::Ended | Phase::BadCount => Err(EndFault::Unreleased),
+            Phase::Counting | Phase::Inside => {
+                if self.start == self.position {
+                    Ok(())
+                } else {
+                    Err(EndFault::Unterminated { start: self.start })
+                }
+            }
+        }
+    }
+}
+
+fn first_phase(framing: Framing) -> Phase
+    ensures { result ≡ phase_of framing }
+{
+    match framing {
+        Framing::Counted => Phase::Counting,
+        Framing::Lf => Phase::Inside,
+    }
+}
