@@ -1,5 +1,7 @@
 pub mod Calendar
 pub mod Device
+pub mod Equality
+pub mod EqualityLaws
 pub mod Facilities
 pub mod Instants
 pub mod Kept
@@ -9,4 +11,5 @@ pub mod Order
 pub mod Parts
 pub mod Records
 pub mod Severities
+pub mod Structured
 pub mod Words

@@ -54,6 +54,32 @@ impl Param {
     }
 }
 
+impl PartialEq for Param {
+    ghost use Rattle.std.specs.Prelude.{◌≡◌, ◌↔◌, IsTrue};
+    ghost use Rattle.std.specs.Cmp.{decided, partial_equiv_from_equiv};
+    ghost use Rattle.syslog_value.specs.EqualityLaws.{param_decides};
+    ghost use Rattle.syslog_value.specs.Equality.{param_eq};
+
+    ghost eq = { param_eq };
+
+    ghost laws = { partial_equiv_from_equiv (decided param_eq param_decides) };
+
+    fn eq(&self, other: &Param) -> bool
+        ensures value { result ≡ param_eq self.now other.now }
+        ensures same { IsTrue result ↔ (self.now ≡ other.now) }
+    {
+        self.name == other.name && self.value == other.value
+    }
+}
+
+impl Eq for Param {
+    ghost use Rattle.std.specs.Cmp.{decided};
+    ghost use Rattle.syslog_value.specs.EqualityLaws.{param_decides};
+    ghost use Rattle.syslog_value.specs.Equality.{param_eq};
+
+    ghost laws = { decided param_eq param_decides };
+}
+
 /// SD-ELEMENT: an id, and parameters in their order. A name may stand twice among them.
 #[derive(Debug, Drop)]
 pub struct Element {
@@ -104,6 +130,32 @@ impl Element {
             params,
         })
     }
+}
+
+impl PartialEq for Element {
+    ghost use Rattle.std.specs.Prelude.{◌≡◌, ◌↔◌, IsTrue};
+    ghost use Rattle.std.specs.Cmp.{decided, partial_equiv_from_equiv};
+    ghost use Rattle.syslog_value.specs.EqualityLaws.{element_decides};
+    ghost use Rattle.syslog_value.specs.Equality.{element_eq};
+
+    ghost eq = { element_eq };
+
+    ghost laws = { partial_equiv_from_equiv (decided element_eq element_decides) };
+
+    fn eq(&self, other: &Element) -> bool
+        ensures value { result ≡ element_eq self.now other.now }
+        ensures same { IsTrue result ↔ (self.now ≡ other.now) }
+    {
+        self.id == other.id && self.params == other.params
+    }
+}
+
+impl Eq for Element {
+    ghost use Rattle.std.specs.Cmp.{decided};
+    ghost use Rattle.syslog_value.specs.EqualityLaws.{element_decides};
+    ghost use Rattle.syslog_value.specs.Equality.{element_eq};
+
+    ghost laws = { decided element_eq element_decides };
 }
 
 // parameters are valid by their type

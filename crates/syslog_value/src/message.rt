@@ -98,6 +98,32 @@ impl Message {
     }
 }
 
+impl PartialEq for Message {
+    ghost use Rattle.std.specs.Prelude.{◌≡◌, ◌↔◌, IsTrue};
+    ghost use Rattle.std.specs.Cmp.{decided, partial_equiv_from_equiv};
+    ghost use Rattle.syslog_value.specs.EqualityLaws.{message_decides};
+    ghost use Rattle.syslog_value.specs.Equality.{message_eq};
+
+    ghost eq = { message_eq };
+
+    ghost laws = { partial_equiv_from_equiv (decided message_eq message_decides) };
+
+    fn eq(&self, other: &Message) -> bool
+        ensures value { result ≡ message_eq self.now other.now }
+        ensures same { IsTrue result ↔ (self.now ≡ other.now) }
+    {
+        self.has_mark() == other.has_mark() && self.octets() == other.octets()
+    }
+}
+
+impl Eq for Message {
+    ghost use Rattle.std.specs.Cmp.{decided};
+    ghost use Rattle.syslog_value.specs.EqualityLaws.{message_decides};
+    ghost use Rattle.syslog_value.specs.Equality.{message_eq};
+
+    ghost laws = { decided message_eq message_decides };
+}
+
 #[cfg(test)]
 mod tests {
     use super::*;

@@ -158,6 +158,39 @@ impl Record {
     }
 }
 
+impl PartialEq for Record {
+    ghost use Rattle.std.specs.Prelude.{◌≡◌, ◌↔◌, IsTrue};
+    ghost use Rattle.std.specs.Cmp.{decided, partial_equiv_from_equiv};
+    ghost use Rattle.syslog_value.specs.EqualityLaws.{record_decides};
+    ghost use Rattle.syslog_value.specs.Equality.{record_eq};
+
+    ghost eq = { record_eq };
+
+    ghost laws = { partial_equiv_from_equiv (decided record_eq record_decides) };
+
+    fn eq(&self, other: &Record) -> bool
+        ensures value { result ≡ record_eq self.now other.now }
+        ensures same { IsTrue result ↔ (self.now ≡ other.now) }
+    {
+        self.priority == other.priority
+            && self.instant == other.instant
+            && self.hostname == other.hostname
+            && self.app_name == other.app_name
+            && self.proc_id == other.proc_id
+            && self.msg_id == other.msg_id
+            && self.structured == other.structured
+            && self.message == other.message
+    }
+}
+
+impl Eq for Record {
+    ghost use Rattle.std.specs.Cmp.{decided};
+    ghost use Rattle.syslog_value.specs.EqualityLaws.{record_decides};
+    ghost use Rattle.syslog_value.specs.Equality.{record_eq};
+
+    ghost laws = { decided record_eq record_decides };
+}
+
 // an instant is in range by its type
 fn look_at_instant(instant: &Option<Instant>)
     ensures { IfSome instant.now IsInstant }
@@ -191,7 +224,7 @@ fn copy_word<const N: usize>(
 #[cfg(test)]
 mod tests {
     use super::*;
-    use crate::{Facility, Severity};
+    use crate::{Element, Facility, SdName, Severity};
     use std::test::Fail;
 
     #[test]
@@ -206,6 +239,49 @@ mod tests {
         assert!(rt; record.instant().is_none() && record.hostname().is_none());
         assert!(rt; record.app_name().is_none() && record.proc_id().is_none());
         assert!(rt; record.msg_id().is_none() && record.structured().elements().is_empty());
+        Ok(())
+    }
+
+    fn filled(alloc: Global, host: &[u8], ids: [&[u8]; 2]) -> Result<Record, Fail> {
+        let mut structured = StructuredData::empty(alloc);
+        for id in ids {
+            let element = Element::new(SdName::new(alloc, id)?, Vec::new(alloc));
+            structured.push(element).map_err(|refused| refused.1)?;
+        }
+        Ok(Record::new(
+            Priority::new(Facility::Mail, Severity::Debug),
+            Instant::from_micros(1_061_727_255_000_003),
+            Some(Word::new(alloc, host)?),
+            Some(Word::new(alloc, b"su")?),
+            Some(Word::new(alloc, b"8710")?),
+            Some(Word::new(alloc, b"ID47")?),
+            structured,
+            Message::utf8(String::from_str(alloc, "x")?),
+        ))
+    }
+
+    #[test]
+    fn the_order_of_elements_carries_no_meaning(rt: HostRuntime) -> Result<(), Fail> {
+        let record = filled(rt.alloc(), b"h", [b"a", b"b"])?;
+        assert!(rt; record == filled(rt.alloc(), b"h", [b"b", b"a"])?);
+        assert!(rt; record == record.copy(rt.alloc())?);
+        assert!(rt; record != filled(rt.alloc(), b"h", [b"a", b"c"])?);
+        assert!(rt; record != filled(rt.alloc(), b"H", [b"a", b"b"])?);
+        assert_eq!(rt; record.priority().value(), 23);
+        assert_eq!(rt;
+            record.instant().map(Instant::micros),
+            Some(1_061_727_255_000_003)
+        );
+        for (word, octets) in [
+            (record.hostname().map(Word::bytes), b"h".as_slice()),
+            (record.app_name().map(Word::bytes), b"su"),
+            (record.proc_id().map(Word::bytes), b"8710"),
+            (record.msg_id().map(Word::bytes), b"ID47"),
+        ] {
+            assert_eq!(rt; word.ok_or("nil")?, octets);
+        }
+        assert_eq!(rt; record.structured().elements().len(), 2);
+        assert!(rt; record.message().has_mark());
         Ok(())
     }
 }

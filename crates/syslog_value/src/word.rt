@@ -88,6 +88,31 @@ impl<const N: usize> Word<N> {
     }
 }
 
+impl<const N: usize> PartialEq for Word<N> {
+    ghost use Rattle.std.specs.Prelude.{◌≡◌, ◌↔◌, IsTrue};
+    ghost use Rattle.std.specs.Cmp.Rules.{comparing};
+    ghost use Rattle.std.proofs.Common.{rules};
+    ghost use Rattle.std.specs.Str.{bytes_eq};
+
+    ghost eq = { bytes_eq };
+
+    ghost laws = { Prim.search (comparing, rules) };
+
+    fn eq(&self, other: &Word<N>) -> bool
+        ensures value { result ≡ bytes_eq self.now other.now }
+        ensures same { IsTrue result ↔ (self.now ≡ other.now) }
+    {
+        self.octets == other.octets
+    }
+}
+
+impl<const N: usize> Eq for Word<N> {
+    ghost use Rattle.std.specs.Cmp.Rules.{comparing};
+    ghost use Rattle.std.proofs.Common.{rules};
+
+    ghost laws = { Prim.search (comparing, rules) };
+}
+
 /// SD-NAME: one to 32 printable octets but "=", "]" and the quotation mark.
 #[derive(Debug, Drop)]
 pub struct SdName {
@@ -141,6 +166,31 @@ impl SdName {
     }
 }
 
+impl PartialEq for SdName {
+    ghost use Rattle.std.specs.Prelude.{◌≡◌, ◌↔◌, IsTrue};
+    ghost use Rattle.std.specs.Cmp.Rules.{comparing};
+    ghost use Rattle.std.proofs.Common.{rules};
+    ghost use Rattle.std.specs.Str.{bytes_eq};
+
+    ghost eq = { bytes_eq };
+
+    ghost laws = { Prim.search (comparing, rules) };
+
+    fn eq(&self, other: &SdName) -> bool
+        ensures value { result ≡ bytes_eq self.now other.now }
+        ensures same { IsTrue result ↔ (self.now ≡ other.now) }
+    {
+        self.octets == other.octets
+    }
+}
+
+impl Eq for SdName {
+    ghost use Rattle.std.specs.Cmp.Rules.{comparing};
+    ghost use Rattle.std.proofs.Common.{rules};
+
+    ghost laws = { Prim.search (comparing, rules) };
+}
+
 // where the first octet stands that is no printable one
 fn first_unprintable(octets: &[u8]) -> Option<usize>
     ensures { MatchOption result (AllByRecursion IsPrintable octets.now)
@@ -165,4 +215,61 @@ fn first_outside_names(octets: &[u8]) -> Option<usize>
         }
     }
     None
+}
+
+#[cfg(test)]
+mod tests {
+    use super::*;
+    use std::test::Fail;
+
+    #[test]
+    fn a_word_is_refused_for_its_first_fault(rt: HostRuntime) -> Result<(), Fail> {
+        let long = vec![in rt.alloc(); b'a'; 49]?;
+        for (octets, fault) in [
+            (b"".as_slice(), WordFault::Empty),
+            (b"-", WordFault::Nil),
+            (long.as_slice(), WordFault::TooLong),
+            (b"a b", WordFault::BadOctet { offset: 1 }),
+            (b"\x7f", WordFault::BadOctet { offset: 0 }),
+            (b"ab\xc3\xa9", WordFault::BadOctet { offset: 2 }),
+        ] {
+            let found = Word::<48>::new(rt.alloc(), octets).err();
+            assert_eq!(rt; found, Some(fault));
+        }
+        for octets in [
+            b"su".as_slice(),
+            b"--",
+            b"!",
+            b"~",
+            b"[a=\"b\"]",
+            &long[..48],
+        ] {
+            let word = Word::<48>::new(rt.alloc(), octets)?;
+            assert_eq!(rt; word.bytes(), octets);
+            assert!(rt; word.copy(rt.alloc())? == word);
+        }
+        Ok(())
+    }
+
+    #[test]
+    fn a_name_is_refused_for_its_first_fault(rt: HostRuntime) -> Result<(), Fail> {
+        let long = vec![in rt.alloc(); b'a'; 33]?;
+        for (octets, fault) in [
+            (b"".as_slice(), WordFault::Empty),
+            (long.as_slice(), WordFault::TooLong),
+            (b"a=b", WordFault::BadOctet { offset: 1 }),
+            (b"ab]", WordFault::BadOctet { offset: 2 }),
+            (b"\"", WordFault::BadOctet { offset: 0 }),
+            (b"a b", WordFault::BadOctet { offset: 1 }),
+        ] {
+            let found = SdName::new(rt.alloc(), octets).err();
+            assert_eq!(rt; found, Some(fault));
+        }
+        for octets in [b"-".as_slice(), b"a", b"a@32473", &long[..32]] {
+            let name = SdName::new(rt.alloc(), octets)?;
+            assert_eq!(rt; name.bytes(), octets);
+            assert!(rt; name.copy(rt.alloc())? == name);
+        }
+        Ok(())
+    }
 }
