@@ -1,0 +1,24 @@
+# Builds, checks and installs syslogbox. The toolchain's command `rt` has to be on the path.
+
+PREFIX = /usr/local
+DESTDIR =
+PROGRAM = crates/syslogbox
+
+.PHONY: all check install clean
+
+# Proves the program and what it stands on, and builds build/syslogbox.
+all:
+	@mkdir -p build
+	cd $(PROGRAM) && rt run -- convert < stdin > ../../build/first-run
+	@cmp -s build/first-run $(PROGRAM)/stdout
+	@cmp -s $(PROGRAM)/out/syslogbox build/syslogbox || cp $(PROGRAM)/out/syslogbox build/syslogbox
+
+# Proves every crate from nothing, runs every test, and tries the real program.
+check:
+	bash .ci/run
+
+install: all
+	install -D -m 755 build/syslogbox $(DESTDIR)$(PREFIX)/bin/syslogbox
+
+clean:
+	rm -rf build crates/*/out

@@ -1,0 +1,4 @@
+pub mod FirstNumber
+pub mod FirstTexts
+pub mod LineLemmas
+pub mod RanLemmas

@@ -1,0 +1,33 @@
+//! The files of the system.
+
+ghost use Rattle.std.specs.Prelude.{None};
+
+use crate::files::Files;
+use std::fs::File;
+use std::rt;
+use syslog_value::FromRead;
+
+/// The files of the system. They do not tell their octets.
+#[derive(Drop)]
+pub struct DiskFiles<'a, R> {
+    rt: &'a R,
+}
+
+impl<'a, R: rt::Files> DiskFiles<'a, R> {
+    pub fn new(rt: &'a R) -> DiskFiles<'a, R> {
+        DiskFiles { rt }
+    }
+}
+
+impl<'a, R: rt::Files> Files for DiskFiles<'a, R> {
+    type Reader = FromRead<R::File>;
+
+    ghost stored = { λ _. None };
+
+    fn reader(&mut self, name: &str) -> Option<FromRead<R::File>> {
+        match File::open(self.rt, name) {
+            Ok(file) => Some(FromRead::new(file)),
+            Err(_) => None,
+        }
+    }
+}

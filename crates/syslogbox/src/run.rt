@@ -1,0 +1,62 @@
+//! The program over any devices and files.
+
+ghost use Rattle.std.specs.Prelude.{◌≡◌, ◌≢◌, ◌≤◌, ◌<◌, ◌+◌, ◌^◌, ◌⊎◌, Some, None, map, string_bytes};
+ghost use Rattle.syslog_value.specs.Device.{AreSmall};
+ghost use Rattle.syslogbox.specs.Converted.{Converted};
+ghost use Rattle.syslogbox.specs.Ran.{Answers, WritesFront};
+ghost use Rattle.syslogbox.specs.Requests.{parsed};
+
+use crate::convert::convert;
+use crate::files::Files;
+use crate::notes::note;
+use crate::status::{FAULT, NO_MEMORY};
+use crate::words::{Request, WordsFault, read_words};
+use std::alloc::Global;
+use syslog_frame::FRAME_MAX;
+use syslog_value::{Input, Output, READER_CALLS};
+
+/// Does what the words ask for and answers the exit status: 0 done, 1 something was refused, 2 the
+/// words or a device are at fault, 3 want of memory. The words lack the program's name.
+///
+/// Records go to `writer`, what went wrong to `notes`. Words that are no command, and a request for
+/// help, print their text on `notes`; their status is 2.
+pub fn run<R: Input, W: Output, N: Output, F: Files>(
+    alloc: Global,
+    words: &[String],
+    reader: &mut R,
+    writer: &mut W,
+    notes: &mut N,
+    _files: &mut F,
+) -> u8
+    ensures known { result ≤ 3 }
+
+    // `convert` without a fault of a device and with the memory that it asked for
+    ensures converted { parsed (map string_bytes words.now) ≡ Some Request.Convert → result < 2 →
+        Answers (Converted FRAME_MAX) (R.left reader.old) result
+        (W.taken writer.old) (W.taken writer.new) (N.taken notes.old) (N.taken notes.new) }
+
+    // under every status a front of the right output was written
+    ensures front { parsed (map string_bytes words.now) ≡ Some Request.Convert →
+        WritesFront (Converted FRAME_MAX) (R.left reader.old) (W.taken writer.old) (W.taken writer.new) }
+
+    // 2 is told with its cause alone
+    ensures cause { parsed (map string_bytes words.now) ≢ None →
+        AreSmall (R.calls reader.old) (R.failures reader.old) →
+        W.failures writer.old < 2 ^ 63 → N.failures notes.old < 2 ^ 63 → result ≡ FAULT →
+        (R.failures reader.old < R.failures reader.new)
+        ⊎ (W.failures writer.old < W.failures writer.new)
+        ⊎ (N.failures notes.old < N.failures notes.new)
+        ⊎ ((R.calls reader.new ≡ R.calls reader.old + READER_CALLS)
+        × (R.ends reader.new ≡ R.ends reader.old)) }
+
+    // words that ask for nothing: no device but `notes` is touched
+    ensures usage { parsed (map string_bytes words.now) ≡ None → (2 ≤ result)
+        × (W.taken writer.new ≡ W.taken writer.old) × (R.left reader.new ≡ R.left reader.old) }
+    ensures failed { N.failures notes.old < N.failures notes.new → result ≡ FAULT }
+{
+    match read_words(alloc, words) {
+        Ok(Request::Convert) => convert(alloc, reader, writer, notes),
+        Err(WordsFault::Usage(text)) => note(notes, text.as_bytes(), FAULT),
+        Err(WordsFault::Memory) => note(notes, b"want of memory\n", NO_MEMORY),
+    }
+}
