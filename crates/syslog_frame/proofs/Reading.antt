@@ -10,7 +10,8 @@ use Rattle.syslog_frame.specs.State.{IsTaken}
 use Rattle.syslog_frame.specs.Takes.{Takes}
 use Rattle.syslog_frame.specs.declared.framing.Framing.{Framing}
 use Rattle.syslog_frame.proofs.FrameLaws.{NoFront-nil}
-use Rattle.syslog_frame.proofs.Standing.{IsBadRest, Took, took, takes_took, bad_took, open_reading, bad_not_frame, none_unless_frame, begins_reading, frame_ready, long_ready}
+use Rattle.syslog_frame.proofs.Standing.{IsBadRest}
+use Rattle.syslog_frame.proofs.Calls.{Took, took, takes_took, bad_took, open_reading, bad_not_frame, none_unless_frame, begins_reading, frame_ready, long_ready}
 
 all_push : (P : List ℕ → Type 0) (fs : List (List ℕ)) (f : List ℕ) → AllByRecursion P fs → P f → AllByRecursion P (fs ++ f ∷ [])
 all_push P [] f a h = (h, tt)
@@ -30,15 +31,6 @@ frames_with most s kind first octets frames rest f r is = record {
   whole = whole_with kind octets frames rest f r.whole is.1;
   each = all_push (CanCarry kind) frames f r.each is.0;
   none = NoFront-nil kind;
-}
-
--- that frame is released
-pub reads_release : (most : ℕ) (s t : Scan) (kind : Framing) (first : ℕ) (octets : List ℕ) (frames : List (List ℕ)) (rest f : List ℕ) → Reads most s kind first octets frames rest → Frame kind f rest
-    → Stands most t kind (first + length octets) [] → Reads most t kind first octets (frames ++ f ∷ []) []
-reads_release most s t kind first octets frames rest f r is begun = record {
-  whole = whole_with kind octets frames rest f r.whole is.1;
-  each = all_push (CanCarry kind) frames f r.each is.0;
-  stands = begun;
 }
 
 -- a piece is taken

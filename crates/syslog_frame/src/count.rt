@@ -1,7 +1,7 @@
 //! MSG-LEN, the count in front of a record (RFC 6587, 3.4.1): a digit 1 to 9, further digits, at
 //! most ten in all, and a space.
 
-ghost use Rattle.std.specs.Prelude.{◌≡◌, ◌≤◌, ◌<◌, ◌+◌, ◌-◌, ◌*◌, ◌↔◌, ℕ, List, length, IsTrue, MatchOption};
+ghost use Rattle.std.specs.Prelude.{◌≡◌, ◌≤◌, ◌+◌, ◌-◌, ◌*◌, ℕ, List, MatchOption};
 ghost use Rattle.syslog_frame.specs.Count.{CountsOn, IsCount, IsNextDigit, IsStep};
 ghost use Rattle.syslog_frame.specs.MsgLen.{IsMsgLen};
 
@@ -54,11 +54,11 @@ pub fn count_on(start: u64, octets: &[u8]) -> CountStep
 {
     let mut count = start;
     for (i, octet) in octets.iter().enumerate() {
-        if count > 0 && *octet == b' ' {
-            return CountStep::Read { count, used: i + 1 };
-        }
         match with_digit(count, *octet) {
             Some(longer) => count = longer,
+            None if *octet == b' ' && count > 0 => {
+                return CountStep::Read { count, used: i + 1 };
+            }
             None => return CountStep::Broken { count, at: i },
         }
     }
