@@ -45,9 +45,9 @@ reads_push most s t kind first octets frames rest piece n within r h =
     }
 
 -- the stream is bad behind what was read
-bad_stream : (kind : Framing) (octets : List ℕ) (frames : List (List ℕ)) (rest taken more : List ℕ) (n : ℕ) → octets ≡ flat_map (framed kind) frames ++ rest → AllByRecursion (CanCarry kind) frames
-    → IsBadRest kind ((rest ++ taken) ++ more) (length rest + n) → IsBadAt kind ((octets ++ taken) ++ more) frames ((rest ++ taken) ++ more) (length octets + n)
-bad_stream kind octets frames rest taken more n whole each b = record {
+bad_stream : (kind : Framing) (octets : List ℕ) (frames : List (List ℕ)) (rest taken more : List ℕ) (n at : ℕ) → octets ≡ flat_map (framed kind) frames ++ rest → AllByRecursion (CanCarry kind) frames
+    → IsBadRest kind ((rest ++ taken) ++ more) (length rest + n) → at ≡ length octets + n → IsBadAt kind ((octets ++ taken) ++ more) frames ((rest ++ taken) ++ more) at
+bad_stream kind octets frames rest taken more n at whole each b far = record {
   frames_are = record {
     whole = ap (λ (u : List ℕ). (u ++ taken) ++ more) whole ∙ ap (λ (u : List ℕ). u ++ more) (append_assoc (flat_map (framed kind) frames) rest taken) ∙ append_assoc (flat_map (framed kind) frames) (rest ++ taken) more;
     each = each;
@@ -57,7 +57,7 @@ bad_stream kind octets frames rest taken more n whole each b = record {
   place = (
     length rest + n,
     b.place,
-    omega (arith, length-append (rest ++ taken) more, length-append rest taken, length-append (octets ++ taken) more, length-append octets taken),
+    omega (arith, far, length-append (rest ++ taken) more, length-append rest taken, length-append (octets ++ taken) more, length-append octets taken),
   );
 }
 
@@ -67,7 +67,8 @@ pub reads_on : (most : ℕ) (s t : Scan) (kind : Framing) (first : ℕ) (octets 
     → ReadsOn most t kind first octets frames rest piece n
 reads_on most s t kind first octets frames rest piece n within r h bad = record {
   reads = reads_push most s t kind first octets frames rest piece n within r h;
-  bad = λ is more. bad_stream kind octets frames rest (take (n + 1) piece) more n r.whole r.each (bad is more);
+  bad = λ is more.
+      bad_stream kind octets frames rest (take (n + 1) piece) more n (length (octets ++ take n piece)) r.whole r.each (bad is more) (omega (arith, length-append octets (take n piece), length-take n piece, within));
 }
 
 -- ---- the scanner's calls

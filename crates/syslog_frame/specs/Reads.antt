@@ -19,14 +19,14 @@ pub record Reads (most : ℕ) (s : Scan) (kind : Framing) (first : ℕ) (octets 
   pub each : AllByRecursion (CanCarry kind) frames
   pub stands : Stands most s kind (first + length octets) rest
 
--- n octets of a piece are read too; with a bad count ready, the stream is bad at the next octet,
--- however it goes on behind that
+-- n octets of a piece are read too; with a bad count ready, the stream is bad behind them, with the
+-- next octet and however it goes on
 pub record ReadsOn (most : ℕ) (s : Scan) (kind : Framing) (first : ℕ) (octets : List ℕ)
     (frames : List (List ℕ)) (rest piece : List ℕ) (n : ℕ) : Type 0 where
   pub reads : Reads most s kind first (octets ++ take n piece) frames (rest ++ take n piece)
   pub bad : HasBadCount s → (more : List ℕ)
       → IsBadAt kind ((octets ++ take (n + 1) piece) ++ more) frames
-      ((rest ++ take (n + 1) piece) ++ more) (length octets + n)
+      ((rest ++ take (n + 1) piece) ++ more) (length (octets ++ take n piece))
 
 -- what is ready behind the frames that were released: nothing, so that these are the frames of what
 -- was read; one frame more, told as it is or as too long; or a bad count
