@@ -35,15 +35,12 @@ fn with_digit(count: u64, octet: u8) -> Option<u64>
     ensures { MatchOption result (¬ (IsNextDigit count octet))
         (λ longer. IsNextDigit count octet × (longer ≡ 10 * count + (octet - 48))) }
 {
-    if !(b'0'..=b'9').contains(&octet) {
-        return None;
-    }
-    let longer = 10 * count + u64::from(octet - b'0');
-    if 0 < longer && longer <= COUNT_MAX {
-        Some(longer)
-    } else {
-        None
-    }
+    let goes_on = match octet {
+        b'0' => 0 < count && count <= COUNT_MAX / 10,
+        b'1'..=b'9' => count <= COUNT_MAX / 10,
+        _ => false,
+    };
+    goes_on.then(|| 10 * count + u64::from(octet - b'0'))
 }
 
 /// Goes on with a count whose digits so far are known by their number.
