@@ -8,11 +8,10 @@ use Rattle.octet_language.specs.Language.{AnyOf, Begins, IsPlace, Language, NoFr
 use Rattle.syslog_frame.specs.MsgLen.{MsgLen}
 use Rattle.syslog_frame.specs.declared.limits.TheConstants.{COUNT_MAX}
 use Rattle.syslog_frame.specs.Count.{IsCount, IsNextDigit, IsRefused}
-use Rattle.octet_language.proofs.Lists.{heads, parted}
 use Rattle.octet_language.proofs.Place.{IsPlace-from_stops}
 use Rattle.octet_language.specs.Digits.{IsDigit}
 use Rattle.octet_language.proofs.Decimal.{digits_decimal, goes_on, one_digit, next_digit}
-use Rattle.octet_language.proofs.Lists.{not_free, AllByRecursion-weaker}
+use Rattle.octet_language.proofs.Lists.{heads, parted, not_free, AllByRecursion-weaker}
 
 fits : (n : ℕ) → n ≤ COUNT_MAX → n < 2 ^ 64
 fits n h = omega arith

@@ -2,7 +2,7 @@
 use Rattle.std.proofs.Common.{◌≡◌, ℕ, zero, suc, get_or, ◌+◌, ◌<◌, ◌≤◌, List, [], ◌∷◌, ◌++◌, length, map, take, drop, refl, sym, ap, subst, ◌∙◌, append_assoc, arith}
 use Rattle.std.specs.Prelude.{Option, Some, None, option_map}
 use Rattle.std.specs.List.{flat_map}
-use Rattle.std.proofs.lemmas.List.{append-nil, length-append, length-take, map-append, flat_map_more, take-append-drop, take_all, take_more}
+use Rattle.std.proofs.lemmas.List.{append-nil, length-append, map-append, flat_map_more, take-append-drop, take_all, take_more}
 use Rattle.std.proofs.lemmas.Bool.Decides.{nat_tests}
 use Rattle.syslog_frame.specs.Frames.{delivered, Frames, IsBadAt}
 use Rattle.syslog_frame.specs.Pieces.{HasDelivered, IsRead, StopsAs}
@@ -81,12 +81,11 @@ dealt_frame most s t kind octets piece rest out new n f d begun more = (
 
 -- a bad count is ready: so the whole stream stops
 pub dealt_bad : (most : ℕ) (s t : Scan) (kind : Framing) (octets piece rest : List ℕ) (out new : List (Option (List ℕ))) (n at : ℕ) → (d : DealtWith most s kind octets piece rest out)
-    → ReadsOn most t kind 0 (octets ++ d.0) d.2.frames d.2.rest rest n → HasBadCount t → n ≤ length rest → at ≡ length ((octets ++ d.0) ++ take n rest) → new ≡ out
+    → ReadsOn most t kind 0 (octets ++ d.0) d.2.frames d.2.rest rest n → HasBadCount t → at ≡ length ((octets ++ d.0) ++ take n rest) → new ≡ out
     → (more : List ℕ) → IsRead most kind ((octets ++ piece) ++ more) new (BadCount at)
-dealt_bad most s t kind octets piece rest out new n at d on is within place same more =
+dealt_bad most s t kind octets piece rest out new n at d on is place same more =
     let behind = drop (n + 1) rest ++ more in
-    let far : length (octets ++ d.0) + n ≡ at = omega (arith, place, length-append (octets ++ d.0) (take n rest), length-take n rest, within) in
-    let bad = subst (λ (k : ℕ). IsBadAt kind (((octets ++ d.0) ++ take (n + 1) rest) ++ behind) d.2.frames ((d.2.rest ++ take (n + 1) rest) ++ behind) k) far (on.bad is behind) in
+    let bad = subst (λ (k : ℕ). IsBadAt kind (((octets ++ d.0) ++ take (n + 1) rest) ++ behind) d.2.frames ((d.2.rest ++ take (n + 1) rest) ++ behind) k) (sym place) (on.bad is behind) in
     let whole = subst (λ (u : List ℕ). IsBadAt kind u d.2.frames ((d.2.rest ++ take (n + 1) rest) ++ behind) at) (taken_further octets d.0 rest piece more (n + 1) d.1) bad in
     record {
       frames = d.2.frames;

@@ -10,10 +10,9 @@ use Rattle.syslog_frame.specs.Frames.{CanCarry, framed, Whole, Frames, IsBadAt}
 use Rattle.syslog_frame.specs.declared.framing.Framing.{Framing}
 use Rattle.syslog_frame.specs.declared.limits.TheConstants.{COUNT_MAX}
 use Rattle.syslog_frame.specs.declared.framing.Framing.TheVariants.{Counted, Lf}
-use Rattle.octet_language.proofs.Lists.{tails, one_more, parted}
 use Rattle.octet_language.specs.Digits.{IsDigit}
 use Rattle.octet_language.proofs.Decimal.{digits_decimal}
-use Rattle.octet_language.proofs.Lists.{same_until, AllByRecursion-weaker, same_front}
+use Rattle.octet_language.proofs.Lists.{tails, one_more, parted, same_until, AllByRecursion-weaker, same_front}
 
 fits : (n : ℕ) → n ≤ COUNT_MAX → n < 2 ^ 64
 fits n h = omega arith

@@ -10,7 +10,8 @@ use Rattle.syslog_frame.specs.State.{IsTaken}
 use Rattle.syslog_frame.specs.Takes.{Takes}
 use Rattle.syslog_frame.specs.declared.framing.Framing.{Framing}
 use Rattle.syslog_frame.proofs.FrameLaws.{NoFront-nil}
-use Rattle.syslog_frame.proofs.Standing.{IsBadRest, Took, took, takes_took, bad_took, open_reading, bad_not_frame, none_unless_frame, begins_reading, frame_ready, long_ready}
+use Rattle.syslog_frame.proofs.Standing.{IsBadRest}
+use Rattle.syslog_frame.proofs.Calls.{Took, took, takes_took, bad_took, open_reading, bad_not_frame, none_unless_frame, begins_reading, frame_ready, long_ready}
 
 all_push : (P : List ℕ → Type 0) (fs : List (List ℕ)) (f : List ℕ) → AllByRecursion P fs → P f → AllByRecursion P (fs ++ f ∷ [])
 all_push P [] f a h = (h, tt)
@@ -32,15 +33,6 @@ frames_with most s kind first octets frames rest f r is = record {
   none = NoFront-nil kind;
 }
 
--- that frame is released
-pub reads_release : (most : ℕ) (s t : Scan) (kind : Framing) (first : ℕ) (octets : List ℕ) (frames : List (List ℕ)) (rest f : List ℕ) → Reads most s kind first octets frames rest → Frame kind f rest
-    → Stands most t kind (first + length octets) [] → Reads most t kind first octets (frames ++ f ∷ []) []
-reads_release most s t kind first octets frames rest f r is begun = record {
-  whole = whole_with kind octets frames rest f r.whole is.1;
-  each = all_push (CanCarry kind) frames f r.each is.0;
-  stands = begun;
-}
-
 -- a piece is taken
 pub reads_push : (most : ℕ) (s t : Scan) (kind : Framing) (first : ℕ) (octets : List ℕ) (frames : List (List ℕ)) (rest piece : List ℕ) (n : ℕ) → n ≤ length piece → Reads most s kind first octets frames rest
     → Stands most t kind ((first + length octets) + n) (rest ++ take n piece) → Reads most t kind first (octets ++ take n piece) frames (rest ++ take n piece)
@@ -53,9 +45,9 @@ reads_push most s t kind first octets frames rest piece n within r h =
     }
 
 -- the stream is bad behind what was read
-bad_stream : (kind : Framing) (octets : List ℕ) (frames : List (List ℕ)) (rest taken more : List ℕ) (n : ℕ) → octets ≡ flat_map (framed kind) frames ++ rest → AllByRecursion (CanCarry kind) frames
-    → IsBadRest kind ((rest ++ taken) ++ more) (length rest + n) → IsBadAt kind ((octets ++ taken) ++ more) frames ((rest ++ taken) ++ more) (length octets + n)
-bad_stream kind octets frames rest taken more n whole each b = record {
+bad_stream : (kind : Framing) (octets : List ℕ) (frames : List (List ℕ)) (rest taken more : List ℕ) (n at : ℕ) → octets ≡ flat_map (framed kind) frames ++ rest → AllByRecursion (CanCarry kind) frames
+    → IsBadRest kind ((rest ++ taken) ++ more) (length rest + n) → at ≡ length octets + n → IsBadAt kind ((octets ++ taken) ++ more) frames ((rest ++ taken) ++ more) at
+bad_stream kind octets frames rest taken more n at whole each b far = record {
   frames_are = record {
     whole = ap (λ (u : List ℕ). (u ++ taken) ++ more) whole ∙ ap (λ (u : List ℕ). u ++ more) (append_assoc (flat_map (framed kind) frames) rest taken) ∙ append_assoc (flat_map (framed kind) frames) (rest ++ taken) more;
     each = each;
@@ -65,7 +57,7 @@ bad_stream kind octets frames rest taken more n whole each b = record {
   place = (
     length rest + n,
     b.place,
-    omega (arith, length-append (rest ++ taken) more, length-append rest taken, length-append (octets ++ taken) more, length-append octets taken),
+    omega (arith, far, length-append (rest ++ taken) more, length-append rest taken, length-append (octets ++ taken) more, length-append octets taken),
   );
 }
 
@@ -75,7 +67,8 @@ pub reads_on : (most : ℕ) (s t : Scan) (kind : Framing) (first : ℕ) (octets 
     → ReadsOn most t kind first octets frames rest piece n
 reads_on most s t kind first octets frames rest piece n within r h bad = record {
   reads = reads_push most s t kind first octets frames rest piece n within r h;
-  bad = λ is more. bad_stream kind octets frames rest (take (n + 1) piece) more n r.whole r.each (bad is more);
+  bad = λ is more.
+      bad_stream kind octets frames rest (take (n + 1) piece) more n (length (octets ++ take n piece)) r.whole r.each (bad is more) (omega (arith, length-append octets (take n piece), length-take n piece, within));
 }
 
 -- ---- the scanner's calls

@@ -1,5 +1,6 @@
 -- A count in front of a record, as far as it was read.
-use Rattle.std.specs.Prelude.{◌≡◌, ◌≢◌, ℕ, ◌+◌, ◌*◌, ◌-◌, ◌<◌, ◌≤◌, List, [], ◌∷◌, ◌++◌, length, take, slice_index, decimal, ◌⊎◌}
+use Rattle.std.specs.Prelude.{◌≡◌, ◌≢◌, ℕ, ◌+◌, ◌*◌, ◌-◌, ◌<◌, ◌≤◌, ◌⊎◌, List, [], ◌∷◌, ◌++◌}
+use Rattle.std.specs.Prelude.{length, take, slice_index, decimal}
 use Rattle.octet_language.specs.Digits.{IsDigit}
 use Rattle.syslog_frame.specs.declared.count.CountStep.{CountStep}
 use Rattle.syslog_frame.specs.declared.count.CountStep.TheVariants.{Read, Unfinished, Broken}
@@ -9,7 +10,7 @@ use Rattle.syslog_frame.specs.declared.limits.TheConstants.{COUNT_MAX}
 abbrev pub IsCount : ℕ → List ℕ → Type 0
 IsCount count p = ((count ≡ 0) × (p ≡ [])) ⊎ ((0 < count) × (p ≡ decimal count))
 
--- the digit x goes on behind the digits of a count: not as a first zero, and not past the last count
+-- the digit x goes on behind a count's digits: not as a first zero, nor past the last count
 abbrev pub IsNextDigit : ℕ → ℕ → Type 0
 IsNextDigit count x = IsDigit x × (0 < 10 * count + (x - 48)) × (10 * count + (x - 48) ≤ COUNT_MAX)
 
@@ -19,9 +20,11 @@ IsRefused count x = ¬ (IsNextDigit count x) × (0 < count → x ≢ 32)
 
 -- where a count stands after octets, and what is known of it there
 abbrev pub IsStep : List ℕ → CountStep → Type 0
-IsStep octets (Read count used) = (0 < count) × (count ≤ COUNT_MAX) × (used ≤ length octets) × (0 < used)
+IsStep octets (Read count used) =
+    (0 < count) × (count ≤ COUNT_MAX) × (used ≤ length octets) × (0 < used)
 IsStep octets (Unfinished count) = count ≤ COUNT_MAX
-IsStep octets (Broken count at) = (count ≤ COUNT_MAX) × (at < length octets) × IsRefused count (slice_index octets at)
+IsStep octets (Broken count at) =
+    (count ≤ COUNT_MAX) × (at < length octets) × IsRefused count (slice_index octets at)
 
 -- what the octets make of a count whose digits so far are p
 abbrev pub CountsOn : List ℕ → List ℕ → CountStep → Type 0

@@ -5,8 +5,17 @@ use Rattle.syslog_frame.specs.State.{IsState}
 use Rattle.syslog_frame.specs.declared.limits.TheConstants.{COUNT_MAX, FRAME_MAX, POSITION_MAX}
 use Rattle.syslog_frame.specs.declared.scanner.Scanner.TheInside.{Inside}
 
+-- what the fields hold
 abbrev pub scan_of : Inside → Scan
-scan_of s = record { framing = s.framing; position = s.position; start = s.start; phase = s.phase; count = s.count; size = s.size; kept = s.kept.items }
+scan_of s = record {
+  framing = s.framing;
+  position = s.position;
+  start = s.start;
+  phase = s.phase;
+  count = s.count;
+  size = s.size;
+  kept = s.kept.items;
+}
 
 -- there is room for a whole record, and the numbers are those of a place in a stream
 pub record IsSound (s : Inside) : Type 0 where

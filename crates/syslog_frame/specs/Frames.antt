@@ -1,5 +1,6 @@
 -- How records stand on a stream (RFC 6587, 3.4).
-use Rattle.std.specs.Prelude.{◌≡◌, ◌≢◌, ℕ, ◌+◌, ◌<◌, ◌≤◌, List, [], ◌∷◌, ◌++◌, length, decimal, nat_le, if◌then◌else◌, Option, Some, None}
+use Rattle.std.specs.Prelude.{◌≡◌, ◌≢◌, ℕ, ◌+◌, ◌<◌, ◌≤◌, List, [], ◌∷◌, ◌++◌, length, decimal}
+use Rattle.std.specs.Prelude.{nat_le, if◌then◌else◌, Option, Some, None}
 use Rattle.std.specs.List.{AllByRecursion, flat_map}
 use Rattle.octet_language.specs.Language.{Language, AnyOf, Begins, IsPlace, NoFront}
 use Rattle.syslog_frame.specs.declared.framing.Framing.{Framing}
@@ -15,7 +16,7 @@ abbrev pub CanCarry : Framing → List ℕ → Type 0
 CanCarry Counted frame = (0 < length frame) × (length frame ≤ COUNT_MAX)
 CanCarry Lf frame = IsLine frame
 
--- a frame on the stream: its length in decimal, a space and the frame (3.4.1); or the frame and a line feed (3.4.2)
+-- a frame on the stream: its length, a space and the frame (3.4.1); or the frame and a line feed (3.4.2)
 abbrev pub framed : Framing → List ℕ → List ℕ
 framed Counted frame = decimal (length frame) ++ 32 ∷ frame
 framed Lf frame = frame ++ 10 ∷ []
@@ -29,13 +30,15 @@ abbrev pub Whole : Framing → Language
 Whole kind = AnyOf (Frame kind)
 
 -- the stream is these frames, and then a rest with no whole frame in front
-pub record Frames (kind : Framing) (stream : List ℕ) (frames : List (List ℕ)) (rest : List ℕ) : Type 0 where
+pub record Frames (kind : Framing) (stream : List ℕ) (frames : List (List ℕ)) (rest : List ℕ)
+    : Type 0 where
   pub whole : stream ≡ flat_map (framed kind) frames ++ rest
   pub each : AllByRecursion (CanCarry kind) frames
   pub none : NoFront (Whole kind) rest
 
--- behind these frames stands a rest with which no frame begins, and every frame stops at this place of the stream
-pub record IsBadAt (kind : Framing) (stream : List ℕ) (frames : List (List ℕ)) (rest : List ℕ) (at : ℕ) : Type 0 where
+-- no frame begins with the rest behind these frames: every one stops at this place of the stream
+pub record IsBadAt (kind : Framing) (stream : List ℕ) (frames : List (List ℕ)) (rest : List ℕ)
+    (at : ℕ) : Type 0 where
   pub frames_are : Frames kind stream frames rest
   pub none : ¬ (Begins (Whole kind) rest)
   pub place : (n : ℕ) × IsPlace (Whole kind) rest n × (at + length rest ≡ length stream + n)

@@ -9,8 +9,9 @@ use Rattle.syslog_frame.specs.declared.limits.TheConstants.{COUNT_MAX}
 abbrev pub MsgLen : ℕ → Language
 MsgLen count b = (0 < count) × (count ≤ COUNT_MAX) × (b ≡ decimal count ++ 32 ∷ [])
 
--- the length in front of the octets; or they are a proper front of one; or the place where every length stops
+-- the length in front of the octets; or they begin one; or the place where every length stops
 abbrev pub IsMsgLen : List ℕ → Answer → Type 0
 IsMsgLen octets (Whole count used) = (used ≤ length octets) × MsgLen count (take used octets)
 IsMsgLen octets Part = NoFront (AnyOf MsgLen) octets × Begins (AnyOf MsgLen) octets
-IsMsgLen octets (Bad at) = NoFront (AnyOf MsgLen) octets × ¬ (Begins (AnyOf MsgLen) octets) × IsPlace (AnyOf MsgLen) octets at
+IsMsgLen octets (Bad at) =
+    NoFront (AnyOf MsgLen) octets × ¬ (Begins (AnyOf MsgLen) octets) × IsPlace (AnyOf MsgLen) octets at

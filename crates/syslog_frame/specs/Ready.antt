@@ -1,5 +1,6 @@
 -- What a scanner has ready, and whether its stream may stop.
-use Rattle.std.specs.Prelude.{◌≡◌, ℕ, ◌<◌, ◌≤◌, ◌+◌, List, [], length, Option, Some, None, Result, Ok, Err, ◌⊎◌}
+use Rattle.std.specs.Prelude.{◌≡◌, ℕ, ◌<◌, ◌≤◌, ◌+◌, ◌⊎◌, List, [], length}
+use Rattle.std.specs.Prelude.{Option, Some, None, Result, Ok, Err}
 use Rattle.octet_language.specs.Language.{NoFront}
 use Rattle.syslog_frame.specs.Frames.{Frame, Whole}
 use Rattle.syslog_frame.specs.Scan.{Scan, HasBadCount, HasFrame, HasReady, IsFailed, IsReading}
@@ -9,7 +10,7 @@ use Rattle.syslog_frame.specs.declared.framing.Framing.{Framing}
 use Rattle.syslog_frame.specs.declared.ready.Ready.{Ready}
 use Rattle.syslog_frame.specs.declared.ready.Ready.TheVariants.{Frame as ready_frame, TooLong, BadCount}
 
--- what is ready where the scanner stands at p: the frame that p is, whole or told as too long; a bad count; else nothing
+-- what is ready where the scanner stands at p: the frame that p is, if not too long; or a bad count
 abbrev pub IsReady : ℕ → Scan → Framing → ℕ → List ℕ → Option Ready → Type 0
 IsReady most s kind position p None = NoFront (Whole kind) p × IsReading s
 IsReady most s kind position p (Some (ready_frame f)) = Frame kind f.now p × (length f.now ≤ most)
@@ -28,4 +29,5 @@ abbrev pub IsEnd : {U : Type 0} → Scan → Framing → ℕ → List ℕ → Re
 IsEnd s kind position p (Ok _) = p ≡ []
 IsEnd s kind position p (Err Failed) = ⊥
 IsEnd s kind position p (Err Unreleased) = HasReady s
-IsEnd s kind position p (Err (Unterminated start)) = NoFront (Whole kind) p × (0 < length p) × (start + length p ≡ position)
+IsEnd s kind position p (Err (Unterminated start)) =
+    NoFront (Whole kind) p × (0 < length p) × (start + length p ≡ position)

@@ -8,13 +8,16 @@ use Rattle.syslog_frame.specs.declared.limits.TheConstants.{COUNT_MAX}
 use Rattle.syslog_frame.specs.declared.phase.Phase.{Phase}
 use Rattle.syslog_frame.specs.declared.phase.Phase.TheVariants.{Counting, Inside, Ended, BadCount, Failed}
 
--- what a scanner holds: its framing, its position and that of the frame's first octet, the count in front of the record, how many octets of the record came, and these while they are few enough
+-- what a scanner holds: its framing, its position, and of the unfinished frame
 pub record Scan : Type 0 where
   pub framing : Framing
   pub position : ℕ
+  -- the position of its first octet
   pub start : ℕ
   pub phase : Phase
+  -- the count in front of the record, as far as it was read
   pub count : ℕ
+  -- how many octets of the record came, and these while they are few enough
   pub size : ℕ
   pub kept : List ℕ
 
@@ -53,14 +56,18 @@ pub record HasCount (most : ℕ) (count size : ℕ) (kept : List ℕ) (octets p 
 -- these may be the octets since the last frame that was released
 abbrev pub Holds : ℕ → Framing → Phase → ℕ → ℕ → List ℕ → List ℕ → Type 0
 Holds most Lf Inside count size kept p = IsLine p × Keeps most size kept p
-Holds most Lf Ended count size kept p = (line : List ℕ) × IsLine line × Keeps most size kept line × (p ≡ line ++ 10 ∷ [])
+Holds most Lf Ended count size kept p =
+    (line : List ℕ) × IsLine line × Keeps most size kept line × (p ≡ line ++ 10 ∷ [])
 Holds most Counted Counting count size kept p = (count ≤ COUNT_MAX) × IsCount count p
 Holds most Counted BadCount count size kept p = (count ≤ COUNT_MAX) × IsCount count p
-Holds most Counted Inside count size kept p = (octets : List ℕ) × HasCount most count size kept octets p × (size < count)
-Holds most Counted Ended count size kept p = (octets : List ℕ) × HasCount most count size kept octets p × (size ≡ count)
+Holds most Counted Inside count size kept p =
+    (octets : List ℕ) × HasCount most count size kept octets p × (size < count)
+Holds most Counted Ended count size kept p =
+    (octets : List ℕ) × HasCount most count size kept octets p × (size ≡ count)
 Holds most kind phase count size kept p = ⊥
 
--- the scanner is at this position of a stream of this framing, and these are the octets since the last frame that was released: of a frame above the limit any octets of that number
+-- the scanner is at this position of a stream of this framing, and these may be the octets since the
+-- last frame that was released: those of a record above the limit may be any others of that number
 pub record Stands (most : ℕ) (s : Scan) (kind : Framing) (position : ℕ) (p : List ℕ) : Type 0 where
   pub framing_is : s.framing ≡ kind
   pub position_is : s.position ≡ position

@@ -1,7 +1,7 @@
 //! MSG-LEN, the count in front of a record (RFC 6587, 3.4.1): a digit 1 to 9, further digits, at
 //! most ten in all, and a space.
 
-ghost use Rattle.std.specs.Prelude.{◌≡◌, ◌≤◌, ◌<◌, ◌+◌, ◌-◌, ◌*◌, ◌↔◌, ℕ, List, length, IsTrue, MatchOption};
+ghost use Rattle.std.specs.Prelude.{◌≡◌, ◌≤◌, ◌+◌, ◌-◌, ◌*◌, ℕ, List, MatchOption};
 ghost use Rattle.syslog_frame.specs.Count.{CountsOn, IsCount, IsNextDigit, IsStep};
 ghost use Rattle.syslog_frame.specs.MsgLen.{IsMsgLen};
 
@@ -35,15 +35,12 @@ fn with_digit(count: u64, octet: u8) -> Option<u64>
     ensures { MatchOption result (¬ (IsNextDigit count octet))
         (λ longer. IsNextDigit count octet × (longer ≡ 10 * count + (octet - 48))) }
 {
-    if !(b'0'..=b'9').contains(&octet) {
-        return None;
-    }
-    let longer = 10 * count + u64::from(octet - b'0');
-    if 0 < longer && longer <= COUNT_MAX {
-        Some(longer)
-    } else {
-        None
-    }
+    let goes_on = match octet {
+        b'0' => 0 < count && count <= COUNT_MAX / 10,
+        b'1'..=b'9' => count <= COUNT_MAX / 10,
+        _ => false,
+    };
+    goes_on.then(|| 10 * count + u64::from(octet - b'0'))
 }
 
 /// Goes on with a count whose digits so far are known by their number.
@@ -54,11 +51,11 @@ pub fn count_on(start: u64, octets: &[u8]) -> CountStep
 {
     let mut count = start;
     for (i, octet) in octets.iter().enumerate() {
-        if count > 0 && *octet == b' ' {
-            return CountStep::Read { count, used: i + 1 };
-        }
         match with_digit(count, *octet) {
             Some(longer) => count = longer,
+            None if *octet == b' ' && count > 0 => {
+                return CountStep::Read { count, used: i + 1 };
+            }
             None => return CountStep::Broken { count, at: i },
         }
     }

@@ -31,7 +31,8 @@ pub fn frames_go_on()
         → Frames kind stream f [] → Frames kind more g q → Frames kind (stream ++ more) (f ++ g) q }
 {}
 
-/// Nothing follows a bad count: a stream that goes on has no further frame, and its bad place stays.
+/// Nothing follows a bad count: where the stream goes on, it has no further frame and the same bad
+/// place.
 pub fn bad_counts_end_streams()
     ensures { (kind : Framing) (stream more : List ℕ) (f : List (List ℕ)) (r : List ℕ) (at : ℕ)
         → IsBadAt kind stream f r at → IsBadAt kind (stream ++ more) f (r ++ more) at }

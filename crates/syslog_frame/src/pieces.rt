@@ -1,10 +1,12 @@
 //! The frames of a stream that comes in pieces: a caller of the scanner that follows a stream by
 //! the scanner's clauses alone.
 
-ghost use Rattle.std.specs.Prelude.{◌≡◌, ◌≤◌, ◌<◌, ◌+◌, ◌++◌, ℕ, List, length, map, option_map, IfErr, IfOk, IsNone, OnOk, ◌⊎◌};
+ghost use Rattle.std.specs.Prelude.{◌≡◌, ◌≤◌, ◌<◌, ◌+◌, ◌++◌, ◌⊎◌, ℕ, List, length};
+ghost use Rattle.std.specs.Prelude.{map, option_map, IfErr, IfOk, IsNone, OnOk};
 ghost use Rattle.std.specs.List.{flat_map};
 ghost use Rattle.syslog_frame.specs.Frames.{Frames, delivered};
-ghost use Rattle.syslog_frame.specs.Pieces.{Delivers, DeliversOn, HasDelivered, IsRead, StepTells, StopsAs};
+ghost use Rattle.syslog_frame.specs.Pieces.{Delivers, DeliversOn, HasDelivered};
+ghost use Rattle.syslog_frame.specs.Pieces.{IsRead, StepTells, StopsAs};
 ghost use Rattle.syslog_frame.specs.Reads.{Reads};
 ghost use Rattle.syslog_frame.specs.Scan.{IsReading};
 ghost use Rattle.syslog_frame.specs.declared.framing.Framing.{Framing};

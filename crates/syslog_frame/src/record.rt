@@ -1,7 +1,8 @@
 //! What a piece brings of one frame. The octets of a record are copied by slices and never looked
 //! at one by one.
 
-ghost use Rattle.std.specs.Prelude.{◌≡◌, ◌≢◌, ◌≤◌, ◌<◌, ◌+◌, ◌++◌, ◌^◌, ℕ, List, length, take, vec_capacity, vec_len};
+ghost use Rattle.std.specs.Prelude.{◌≡◌, ◌≢◌, ◌≤◌, ◌<◌, ◌+◌, ◌++◌, ◌^◌, ℕ, List, length, take};
+ghost use Rattle.std.specs.Prelude.{vec_capacity, vec_len};
 ghost use Rattle.syslog_frame.specs.Count.{IsCount};
 ghost use Rattle.syslog_frame.specs.Scan.{Holds, Keeps};
 ghost use Rattle.syslog_frame.specs.State.{IsOpen, IsState, IsTaken};

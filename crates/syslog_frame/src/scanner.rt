@@ -1,10 +1,12 @@
 //! The scanner.
 
-ghost use Rattle.std.specs.Prelude.{◌≡◌, ◌≤◌, ◌<◌, ◌+◌, ◌++◌, ◌∷◌, ℕ, List, [], length, take, IfOk, IfErr, OnErr, OnOk, IsTrue, false, ◌↔◌, ◌⊎◌};
+ghost use Rattle.std.specs.Prelude.{◌≡◌, ◌≤◌, ◌<◌, ◌+◌, ◌++◌, ◌∷◌, ◌↔◌, ℕ, List, [], length, take};
+ghost use Rattle.std.specs.Prelude.{IfOk, OnErr, OnOk, IsTrue, false};
 ghost use Rattle.syslog_frame.specs.Frames.{Frame, Whole};
 ghost use Rattle.syslog_frame.specs.Ready.{IsEnd, IsReady, TellsOf};
 ghost use Rattle.syslog_frame.specs.Reads.{IsReadyBehind, Reads, ReadsOn, StopsBehind};
-ghost use Rattle.syslog_frame.specs.Scan.{HasBadCount, HasFrame, HasReady, IsFailed, IsReading, Stands};
+ghost use Rattle.syslog_frame.specs.Scan.{HasBadCount, HasFrame, HasReady};
+ghost use Rattle.syslog_frame.specs.Scan.{IsFailed, IsReading, Stands};
 ghost use Rattle.syslog_frame.specs.State.{phase_of};
 ghost use Rattle.syslog_frame.specs.Takes.{Takes};
 ghost use Rattle.syslog_frame.specs.declared.framing.Framing.{Framing};
@@ -84,7 +86,7 @@ impl Scanner {
         })
     }
 
-    /// The position of the next octet: that of the stream's first octet, and the octets taken since.
+    /// The position of the next octet: that of the first, and the number of octets taken since.
     pub fn position(&self) -> u64
         ensures value { result ≡ self.now.position }
         ensures bound { result ≤ POSITION_MAX }

@@ -4,8 +4,8 @@ use Rattle.syslog_frame.proofs.Counts.{count_space, count_digit}
 use Rattle.syslog_frame.proofs.Cuts.{one_taken}
 use Rattle.syslog_frame.proofs.count.count_on.Goals as goal
 
-pub returns-then-octet-eq32-clause-counts : goal.returns-then-octet-eq32-clause-counts
-returns-then-octet-eq32-clause-counts c = λ p h.
+pub returns-in-None-clause-counts : goal.returns-in-None-clause-counts
+returns-in-None-clause-counts c = λ p h.
     one_taken p c.args.octets.now c.loop-i.i c.loop-i-test.true ∙ count_space c.loop-i.count _ _ (c.loop-i.invariant.digits p h) (omega arith) (omega arith)
 
 pub loop-i-preserved : goal.loop-i-preserved

@@ -26,7 +26,7 @@ returns-in-Bad-clause-delivers c = λ kind octets h more.
     let d = c.loop-rest.invariant.delivered kind octets h in
     let on = c.in-Ok.ensures.reads kind 0 (octets ++ d.0) d.2.frames d.2.rest d.2.reads (λ b. c.loop-rest.invariant.reading.0 (inr b)) in
     let told = rw c.in-Bad.is at (c.in-Ok-deliver.ensures.delivers kind ((octets ++ d.0) ++ take n rest) d.2.frames (d.2.rest ++ take n rest) on.reads) in
-    dealt_bad _ c.loop-rest.scanner c.push.new.self kind octets c.args.piece.now rest _ _ n c.in-Bad.at d on (rw c.in-Bad.is at c.in-Ok-deliver.ensures.tells) c.in-Ok.ensures.within told.1 told.0 more
+    dealt_bad _ c.loop-rest.scanner c.push.new.self kind octets c.args.piece.now rest _ _ n c.in-Bad.at d on (rw c.in-Bad.is at c.in-Ok-deliver.ensures.tells) told.1 told.0 more
 
 pub loop-rest-preserved : goal.loop-rest-preserved
 loop-rest-preserved c =

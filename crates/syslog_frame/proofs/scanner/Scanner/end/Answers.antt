@@ -1,6 +1,6 @@
 use Rattle.std.proofs.Common.{arith, inl}
 use Rattle.syslog_frame.specs.Fields.{scan_of}
-use Rattle.syslog_frame.proofs.Standing.{none_unless_frame, open_at, reading_open}
+use Rattle.syslog_frame.proofs.Calls.{none_unless_frame, open_at, reading_open}
 use Rattle.syslog_frame.proofs.Reading.{read_nothing}
 use Rattle.syslog_frame.proofs.scanner.Scanner.end.Goals as goal
 

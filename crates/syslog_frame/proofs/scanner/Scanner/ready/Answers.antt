@@ -1,7 +1,7 @@
 use Rattle.std.proofs.Common.{◌+◌, length}
 use Rattle.syslog_frame.proofs.Reading.{read_nothing, read_frame, read_long, read_bad}
 use Rattle.syslog_frame.specs.Fields.{scan_of}
-use Rattle.syslog_frame.proofs.Standing.{none_unless_frame, reading_or_failed, reading_standing}
+use Rattle.syslog_frame.proofs.Calls.{none_unless_frame, reading_or_failed, reading_standing}
 use Rattle.syslog_frame.proofs.scanner.Scanner.ready.Goals as goal
 
 pub returns-then-self-clause-reads : goal.returns-then-self-clause-reads

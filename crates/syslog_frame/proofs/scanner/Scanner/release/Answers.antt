@@ -1,7 +1,7 @@
 use Rattle.std.proofs.Common.{◌+◌, length}
 use Rattle.std.proofs.lemmas.Bool.{false≢true}
 use Rattle.syslog_frame.specs.Fields.{scan_of}
-use Rattle.syslog_frame.proofs.Standing.{not_whole, bad_not_frame, none_ready}
+use Rattle.syslog_frame.proofs.Calls.{not_whole, bad_not_frame, none_ready}
 use Rattle.syslog_frame.proofs.scanner.Scanner.release.Goals as goal
 
 pub returns-in-BadCount-clause-stands : goal.returns-in-BadCount-clause-stands

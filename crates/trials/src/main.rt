@@ -1,0 +1,47 @@
+//! Trials of the libraries, for scripts: a measured run of a call, and a run in which memory may be
+//! refused. No trial tells a time; the script that runs it measures the process.
+#![tactic(auto)]
+
+mod grow;
+mod pace;
+
+use std::alloc::Global;
+use std::process::ExitCode;
+use std::{env, io};
+
+const USAGE: &str = "usage: trials time scan counted|lf SIZE ROUNDS
+       trials time copy SIZE ROUNDS
+       trials grow frame";
+
+/// The word at a place; none is an empty word.
+fn word(words: &[String], place: usize) -> &str {
+    match words.get(place) {
+        Some(word) => word.as_str(),
+        None => "",
+    }
+}
+
+/// Runs the trial that the words name.
+fn run(rt: &impl Print, alloc: Global, words: &[String]) -> io::Result<()> {
+    match (word(words, 0), word(words, 1)) {
+        ("time", "scan") => {
+            pace::scan(rt, alloc, word(words, 2), word(words, 3), word(words, 4))
+        }
+        ("time", "copy") => pace::copy(rt, alloc, word(words, 2), word(words, 3)),
+        ("grow", "frame") => grow::frame(rt, alloc),
+        _ => println!(rt; "{USAGE}"),
+    }
+}
+
+fn main(rt: HostRuntime) -> ExitCode {
+    let Ok(args) = env::args(&rt) else {
+        return ExitCode::from(2);
+    };
+    let Ok(words) = args.skip(1).collect::<Vec<String>>(rt.alloc()) else {
+        return ExitCode::from(3);
+    };
+    match run(&rt, rt.alloc(), &words) {
+        Ok(()) => ExitCode::SUCCESS,
+        Err(_) => ExitCode::from(2),
+    }
+}

@@ -1,0 +1,100 @@
+//! Pieces of one stream, scanned or copied a number of times.
+
+use std::alloc::{AllocError, Global};
+use std::io;
+use syslog_frame::{Framing, Ready, Scanner, put_frame};
+
+/// The octets of a piece.
+const PIECE: usize = 4_096;
+
+/// The octets that the stream of one round has about: too many for a processor's nearest caches.
+const ROUND: usize = 4_096 * PIECE;
+
+/// The greatest size and number of rounds that are tried.
+const SIZE_MAX: usize = 65_535;
+
+const ROUNDS_MAX: u32 = 10_000_000;
+
+/// The size of a frame and the number of rounds, where the words are such.
+fn numbers(size: &str, rounds: &str) -> Option<(usize, u32)> {
+    let size: usize = size.parse().ok()?;
+    let rounds: u32 = rounds.parse().ok()?;
+    (size <= SIZE_MAX && rounds <= ROUNDS_MAX).then_some((size, rounds))
+}
+
+/// Whole frames of so many octets, as many as a round has, at least one.
+fn stream(alloc: Global, framing: Framing, size: usize) -> Result<Vec<u8>, AllocError> {
+    let record = vec![in alloc; b'a'; size]?;
+    let mut out = Vec::with_capacity(alloc, ROUND)?;
+    for _ in 0..=ROUND / (size + 6) {
+        if put_frame(framing, &record, &mut out).is_err() {
+            return Err(AllocError);
+        }
+    }
+    Ok(out)
+}
+
+/// Takes a piece, and counts the octets of the frames that end in it.
+fn take(scanner: &mut Scanner, piece: &[u8]) -> u64 {
+    let mut rest = piece;
+    let mut octets: u64 = 0;
+    for _ in 0..=piece.len() {
+        let Ok(used) = scanner.push(rest) else {
+            return octets;
+        };
+        rest = &rest[used..];
+        match scanner.ready() {
+            Some(Ready::Frame(frame)) => octets = octets.wrapping_add(frame.len() as u64),
+            Some(_) => {}
+            None => return octets,
+        }
+        let _ = scanner.release();
+    }
+    octets
+}
+
+/// Scans the stream in pieces, and prints how many octets of frames came.
+pub fn scan(
+    rt: &impl Print,
+    alloc: Global,
+    framing: &str,
+    size: &str,
+    rounds: &str,
+) -> io::Result<()> {
+    let framing = if framing == "lf" {
+        Framing::Lf
+    } else {
+        Framing::Counted
+    };
+    let Some((size, rounds)) = numbers(size, rounds) else {
+        return println!(rt; "no such numbers");
+    };
+    let stream = stream(alloc, framing, size)?;
+    let mut scanner = Scanner::new(alloc, framing)?;
+    let mut octets: u64 = 0;
+    for _ in 0..rounds {
+        for piece in stream.chunks(PIECE) {
+            octets = octets.wrapping_add(take(&mut scanner, piece));
+        }
+    }
+    println!(rt; "{octets}")
+}
+
+/// Copies the same pieces of the counted stream, each to the front of one room, and prints how many
+/// octets were copied.
+pub fn copy(rt: &impl Print, alloc: Global, size: &str, rounds: &str) -> io::Result<()> {
+    let Some((size, rounds)) = numbers(size, rounds) else {
+        return println!(rt; "no such numbers");
+    };
+    let stream = stream(alloc, Framing::Counted, size)?;
+    let mut room = Vec::with_capacity(alloc, PIECE)?;
+    let mut octets: u64 = 0;
+    for _ in 0..rounds {
+        for piece in stream.chunks(PIECE) {
+            room.clear();
+            room.extend_from_slice(piece)?;
+            octets = octets.wrapping_add(room.len() as u64);
+        }
+    }
+    println!(rt; "{octets}")
+}
