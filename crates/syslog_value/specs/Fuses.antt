@@ -1,5 +1,5 @@
 -- What a fuse holds, and what it lets through.
-use Rattle.std.specs.Prelude.{◌≡◌, ℕ}
+use Rattle.std.specs.Prelude.{◌≡◌, ℕ, ◌⊎◌}
 use Rattle.syslog_value.specs.declared.fuse.Fuse.{Fuse}
 
 -- the device below
@@ -17,6 +17,10 @@ calls_before f = f.calls
 -- the number of calls made
 abbrev pub calls_made : {D : Type 0} → Fuse D → ℕ
 calls_made f = f.counts.calls
+
+-- the next call fails: nothing is left to pass, or it is the one call
+abbrev pub IsStopped : {D : Type 0} → Fuse D → Type 0
+IsStopped f = (octets_left f ≡ 0) ⊎ (calls_made f ≡ calls_before f)
 
 -- no call has been counted
 pub record IsFresh {D : Type 0} (f : Fuse D) : Type 0 where

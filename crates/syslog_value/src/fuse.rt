@@ -1,16 +1,16 @@
 //! A device that fails when it is told to.
-ghost use Rattle.std.specs.Prelude.{◌≡◌, ◌≢◌, ◌≤◌, ◌<◌, ◌+◌, ◌⊎◌, ℕ, length, min};
+ghost use Rattle.std.specs.Prelude.{◌≡◌, ◌≢◌, ◌≤◌, ◌<◌, ◌+◌, ℕ, length, min};
 ghost use Rattle.std.specs.Prelude.{IfOk, IfSome, IfNone, IsNone, IsErr, OnErr};
 ghost use Rattle.std.specs.Io.KnownBytes.{ReadConsumes, WriteAppends};
 ghost use Rattle.syslog_value.specs.Device.{count_on, ReadFailures, ReadEnds, WriteFailures};
-ghost use Rattle.syslog_value.specs.Fuses.{inner, octets_left, calls_before, calls_made, IsFresh};
+ghost use Rattle.syslog_value.specs.Fuses.{inner, octets_left, calls_before, calls_made, IsStopped, IsFresh};
 
 use crate::counts::Counts;
 use crate::{DeviceFault, Input, Output};
 
-/// A device over another. It passes at most so many octets in all (a longer call passes what is left
-/// of them), and then every call fails. Besides, the call after the first `calls` ones fails and
-/// passes nothing, and the calls after it go on.
+/// A device over another. It passes at most so many octets in all (a longer call passes what is
+/// left of them), and then every call fails. Besides, the call after the first `calls` ones fails
+/// and passes nothing, and the calls after it go on.
 #[derive(Debug, Drop)]
 pub struct Fuse<D> {
     device: D,
@@ -52,8 +52,7 @@ impl<D> Fuse<D> {
         ensures room { IfSome result (λ n. n ≡ min (octets_left self.now) wanted) }
         ensures some { IfSome result (λ n.
             (octets_left self.now ≢ 0) × (calls_made self.now ≢ calls_before self.now)) }
-        ensures none { IfNone result (
-            (octets_left self.now ≡ 0) ⊎ (calls_made self.now ≡ calls_before self.now)) }
+        ensures none { IfNone result (IsStopped self.now) }
     {
         if self.octets == 0 || self.counts.calls == self.calls {
             return None;
@@ -66,11 +65,11 @@ impl<D: Input> Fuse<D> {
     // the call, before it is counted
     fn read_through(&mut self, buf: &mut [u8]) -> Result<usize, DeviceFault>
         ensures bound { IfOk result (λ n. n ≤ length buf.new) }
-        ensures octets { ReadConsumes (D.left (inner self.old)) (D.left (inner self.new)) result buf.new }
+        ensures octets { ReadConsumes (D.left (inner self.old)) (D.left (inner self.new))
+            result buf.new }
         ensures counts { self.new.counts ≡ self.old.counts }
         ensures before { calls_before self.new ≡ calls_before self.old }
-        ensures stopped { (octets_left self.old ≡ 0) ⊎ (calls_made self.old ≡ calls_before self.old) →
-            IsErr result × (inner self.new ≡ inner self.old) }
+        ensures stopped { IsStopped self.old → IsErr result × (inner self.new ≡ inner self.old) }
         ensures passed { IfOk result (λ n. octets_left self.new + n ≡ octets_left self.old) }
         ensures kept { OnErr result (octets_left self.new ≡ octets_left self.old) }
         ensures through { octets_left self.old ≢ 0 → calls_made self.old ≢ calls_before self.old →
@@ -92,11 +91,11 @@ impl<D: Output> Fuse<D> {
     // the call, before it is counted
     fn write_through(&mut self, buf: &[u8]) -> Result<usize, DeviceFault>
         ensures bound { IfOk result (λ n. n ≤ length buf.now) }
-        ensures octets { WriteAppends (D.taken (inner self.old)) (D.taken (inner self.new)) result buf.now }
+        ensures octets { WriteAppends (D.taken (inner self.old)) (D.taken (inner self.new))
+            result buf.now }
         ensures counts { self.new.counts ≡ self.old.counts }
         ensures before { calls_before self.new ≡ calls_before self.old }
-        ensures stopped { (octets_left self.old ≡ 0) ⊎ (calls_made self.old ≡ calls_before self.old) →
-            IsErr result × (inner self.new ≡ inner self.old) }
+        ensures stopped { IsStopped self.old → IsErr result × (inner self.new ≡ inner self.old) }
         ensures passed { IfOk result (λ n. octets_left self.new + n ≡ octets_left self.old) }
         ensures kept { OnErr result (octets_left self.new ≡ octets_left self.old) }
         ensures through { octets_left self.old ≢ 0 → calls_made self.old ≢ calls_before self.old →
@@ -127,7 +126,8 @@ impl<D: Input> Input for Fuse<D> {
     fn read(&mut self, buf: &mut [u8]) -> Result<usize, DeviceFault>
         // as every input
         ensures bound { IfOk result (λ n. n ≤ length buf.new) }
-        ensures octets { ReadConsumes (D.left (inner self.old)) (D.left (inner self.new)) result buf.new }
+        ensures octets { ReadConsumes (D.left (inner self.old)) (D.left (inner self.new))
+            result buf.new }
         ensures calls { calls_made self.new ≡ count_on (calls_made self.old) }
         ensures failures { ReadFailures result self.old.counts.failures self.new.counts.failures }
         ensures ends { ReadEnds result (length buf.new) self.old.counts.ends self.new.counts.ends }
@@ -137,10 +137,9 @@ impl<D: Input> Input for Fuse<D> {
         ensures kept { OnErr result (octets_left self.new ≡ octets_left self.old) }
         ensures before { calls_before self.new ≡ calls_before self.old }
 
-        // where nothing is left to pass, and at the one call, it fails and the device is not called;
-        // at every other call the device is called with what may pass, and answers
-        ensures stopped { (octets_left self.old ≡ 0) ⊎ (calls_made self.old ≡ calls_before self.old) →
-            IsErr result × (inner self.new ≡ inner self.old) }
+        // stopped, it fails and does not call the device; else the device is called with what may
+        // pass, and answers
+        ensures stopped { IsStopped self.old → IsErr result × (inner self.new ≡ inner self.old) }
         ensures through { octets_left self.old ≢ 0 → calls_made self.old ≢ calls_before self.old →
             (D.calls (inner self.new) ≡ count_on (D.calls (inner self.old)))
             × ReadFailures result (D.failures (inner self.old)) (D.failures (inner self.new))
@@ -163,7 +162,8 @@ impl<D: Output> Output for Fuse<D> {
     fn write(&mut self, buf: &[u8]) -> Result<usize, DeviceFault>
         // as every output
         ensures bound { IfOk result (λ n. n ≤ length buf.now) }
-        ensures octets { WriteAppends (D.taken (inner self.old)) (D.taken (inner self.new)) result buf.now }
+        ensures octets { WriteAppends (D.taken (inner self.old)) (D.taken (inner self.new))
+            result buf.now }
         ensures calls { calls_made self.new ≡ count_on (calls_made self.old) }
         ensures failures { WriteFailures result (length buf.now)
             self.old.counts.failures self.new.counts.failures }
@@ -173,10 +173,9 @@ impl<D: Output> Output for Fuse<D> {
         ensures kept { OnErr result (octets_left self.new ≡ octets_left self.old) }
         ensures before { calls_before self.new ≡ calls_before self.old }
 
-        // where nothing is left to pass, and at the one call, it fails and the device is not called;
-        // at every other call the device is called with what may pass, and answers
-        ensures stopped { (octets_left self.old ≡ 0) ⊎ (calls_made self.old ≡ calls_before self.old) →
-            IsErr result × (inner self.new ≡ inner self.old) }
+        // stopped, it fails and does not call the device; else the device is called with what may
+        // pass, and answers
+        ensures stopped { IsStopped self.old → IsErr result × (inner self.new ≡ inner self.old) }
         ensures through { octets_left self.old ≢ 0 → calls_made self.old ≢ calls_before self.old →
             (D.calls (inner self.new) ≡ count_on (D.calls (inner self.old)))
             × WriteFailures result (min (octets_left self.old) (length buf.now))
