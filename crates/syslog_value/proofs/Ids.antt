@@ -1,59 +1,23 @@
--- Octet texts in their order, and lists in the order of ids.
-use Rattle.std.proofs.Common.{◌≡◌, ℕ, zero, suc, ◌<◌, ◌≤◌, inl, inr, refl, sym, subst, ◌∙◌, arith, List, [], ◌∷◌, ◌++◌, length, take, drop, get_or, insert, Ok, Err}
+-- Elements in the order of their ids.
+use Rattle.std.proofs.Common.{◌-◌, ◌+◌, ◌≡◌, ◌≢◌, true, false, ℕ, zero, suc, ◌<◌, ◌≤◌, inl, inr, refl, sym, subst, arith, List, [], ◌∷◌, ◌++◌, length, take, drop, get_or, add-one, insert, Ok, Err}
 use Rattle.std.specs.declared.cmp.Ordering.{Ordering}
 use Rattle.std.specs.declared.cmp.Ordering.TheVariants.{Less, Equal, Greater}
 use Rattle.std.specs.Cmp.Lexicographic.{slice_cmp}
-use Rattle.std.specs.List.{AllByRecursion, AllWithin}
-use Rattle.std.specs.List.Sorted.{IsNonDecreasingBy, IsBinarySearchResult}
-use Rattle.std.specs.Ordering.{MatchOrdering, nat_cmp, ordering_then, ordering_index}
+use Rattle.std.specs.List.{AllByRecursion, AllWithin, AllAdjacentBelow}
+use Rattle.std.specs.List.Sorted.{IsNonDecreasingBy, IsBinarySearchResult, IsSortedByKey, IsPermutation}
+use Rattle.std.specs.Ordering.{nat_cmp, ordering_index, is_lt, on}
 use Rattle.std.proofs.lemmas.Bool.{cases_lt}
-use Rattle.std.proofs.lemmas.Cmp.{ranked}
+use Rattle.std.proofs.lemmas.Cmp.{nat_list_eq_equiv, on_equiv}
 use Rattle.std.proofs.lemmas.List.{take-append-drop}
-use Rattle.std.proofs.lemmas.List.Elements.{All-from_recursion}
+use Rattle.std.proofs.lemmas.Map.Keys.{IsDistinct-IsPermutation, IsDistinct-cons, IsDistinct-head, IsDistinct-tail}
+use Rattle.std.proofs.lemmas.Map.Made.{IsDistinct-from_count}
+use Rattle.std.proofs.lemmas.Slice.Eq.{bytes_eq-Decides}
+use Rattle.std.specs.Str.{bytes_eq}
+use Rattle.std.proofs.lemmas.List.Elements.{All-from_recursion, pair_read}
 use Rattle.syslog_value.specs.Order.{OctetsBelow}
 use Rattle.syslog_value.specs.Parts.{ElementParts, IsById}
-use Rattle.syslog_value.specs.Structured.{HasId, AddsElement}
-
-ranked_more : (x y : ℕ) (xs ys : List ℕ) (first rest o : Ordering) → o ≡ ordering_then first rest → MatchOrdering first (x < y) (x ≡ y) (y < x)
-    → MatchOrdering rest (OctetsBelow xs ys) (xs ≡ ys) (OctetsBelow ys xs)
-    → MatchOrdering o (OctetsBelow (x ∷ xs) (y ∷ ys)) (x ∷ xs ≡ y ∷ ys) (OctetsBelow (y ∷ ys) (x ∷ xs))
-ranked_more x y xs ys Less rest o e less r = rw e (inl less)
-ranked_more x y xs ys Equal Less o e same r = rw e (inr (same, r))
-ranked_more x y xs ys Equal Equal o e same r = let both : x ∷ xs ≡ y ∷ ys = cc in rw e both
-ranked_more x y xs ys Equal Greater o e same r = rw e (inr (sym same, r))
-ranked_more x y xs ys Greater rest o e greater r = rw e (inl greater)
-
--- what `cmp` of two octet texts says
-pub octets_ranked : (xs ys : List ℕ) (o : Ordering) → o ≡ slice_cmp nat_cmp xs ys → MatchOrdering o (OctetsBelow xs ys) (xs ≡ ys) (OctetsBelow ys xs)
-octets_ranked [] [] o e = rw e refl
-octets_ranked [] (y ∷ ys) o e = rw e tt
-octets_ranked (x ∷ xs) [] o e = rw e tt
-octets_ranked (x ∷ xs) (y ∷ ys) o e =
-    ranked_more x y xs ys (nat_cmp x y) (slice_cmp nat_cmp xs ys) o e (ranked x y (nat_cmp x y) refl) (octets_ranked xs ys (slice_cmp nat_cmp xs ys) refl)
-
-pub below_itself : (xs : List ℕ) → ¬ OctetsBelow xs xs
-below_itself [] h = h
-below_itself (x ∷ xs) h = elim h [ inl less ↦ absurd (omega arith) | inr more ↦ below_itself xs more.1 ]
-
-pub below_trans : (xs ys zs : List ℕ) → OctetsBelow xs ys → OctetsBelow ys zs → OctetsBelow xs zs
-below_trans xs ys [] h k = k
-below_trans xs [] (z ∷ zs) h k = absurd h
-below_trans [] (y ∷ ys) (z ∷ zs) h k = tt
-below_trans (x ∷ xs) (y ∷ ys) (z ∷ zs) h k =
-    elim h [
-      | inl less ↦ elim k [ inl also ↦ inl (omega arith) | inr (same, rest) ↦ inl (omega arith) ]
-      | inr (same, rest) ↦
-          elim k [
-            | inl less ↦ inl (omega arith)
-            | inr (also, more) ↦ inr (same ∙ also, below_trans xs ys zs rest more)
-          ]
-    ]
-
--- octets below others are `Less`
-pub less_from_below : (xs ys : List ℕ) (o : Ordering) → o ≡ slice_cmp nat_cmp xs ys → OctetsBelow xs ys → o ≡ Less
-less_from_below xs ys Less e h = refl
-less_from_below xs ys Equal e h = let same : xs ≡ ys = octets_ranked xs ys Equal e in absurd (below_itself ys (subst (λ l. OctetsBelow l ys) same h))
-less_from_below xs ys Greater e h = absurd (below_itself xs (below_trans xs ys xs h (octets_ranked xs ys Greater e)))
+use Rattle.syslog_value.specs.Structured.{HasId, AddsElement, HaveDistinctIds, HasEqualNeighbours}
+use Rattle.syslog_value.proofs.Octets.{octets_ranked, below_itself, below_trans, less_from_below}
 
 -- ---- lists by position and by recursion
 
@@ -167,3 +131,75 @@ fits_adds e es new i fits sorted is = record {
   new_is = is;
   by_id = rw is (fits_by_id e es i fits sorted);
 }
+
+-- ---- elements in any order
+
+-- neighbours that ascend ascend all together
+by_id_from_adjacent : (es : List ElementParts) → ((k : ℕ) (d : ElementParts) → suc k < length es → OctetsBelow (get_or es k d).id (get_or es (suc k) d).id)
+    → IsById es
+by_id_from_adjacent [] adjacent = tt
+by_id_from_adjacent (e ∷ []) adjacent = (tt, tt)
+by_id_from_adjacent (e ∷ f ∷ fs) adjacent =
+    let first : OctetsBelow e.id f.id = adjacent 0 e (omega arith) in
+    let rest = by_id_from_adjacent (f ∷ fs) (λ k d h. adjacent (suc k) d (omega arith)) in
+    ((first, weaker _ _ (λ g above. below_trans e.id f.id g.id first above) fs rest.0), rest)
+
+not_less : (e f : ElementParts) (o : Ordering) → o ≡ slice_cmp nat_cmp f.id e.id → is_lt o ≡ false → e.id ≢ f.id → OctetsBelow e.id f.id
+not_less e f Less is never differ = cc
+not_less e f Equal is never differ = absurd (differ (sym (octets_ranked f.id e.id Equal is)))
+not_less e f Greater is never differ = octets_ranked f.id e.id Greater is
+
+pub sorted_by_id : (es : List ElementParts) → IsSortedByKey (λ e. e.id) (slice_cmp nat_cmp) es → AllAdjacentBelow (λ e f. e.id ≢ f.id) es (length es) → IsById es
+sorted_by_id es sorted differ =
+    by_id_from_adjacent es (λ k d h.
+    let within : k + 1 < length es = omega arith in
+    let below = not_less (get_or es k d) (get_or es (k + 1) d) _ refl (sorted k d (omega arith) within) (differ k d within) in
+    subst (λ n. OctetsBelow (get_or es k d).id (get_or es n d).id) (add-one k) below)
+
+ids_unequal : (e f : ElementParts) → OctetsBelow e.id f.id → bytes_eq e.id f.id ≡ false
+ids_unequal e f below =
+    elim (bytes_eq e.id f.id) as (λ b. bytes_eq e.id f.id ≡ b → bytes_eq e.id f.id ≡ false) [
+      | true ↦ λ is. absurd (below_itself f.id (subst (λ l. OctetsBelow l f.id) ((bytes_eq-Decides e.id f.id).0 is) below))
+      | false ↦ λ is. is
+    ] refl
+
+pub by_id_distinct : (es : List ElementParts) → IsById es → HaveDistinctIds es
+by_id_distinct [] sorted = IsDistinct-from_count (on_equiv (λ e. e.id) nat_list_eq_equiv) [] refl
+by_id_distinct (e ∷ es) sorted =
+    IsDistinct-cons (on (λ f. f.id) bytes_eq) e es (weaker _ _ (λ f above. ids_unequal e f above) es sorted.0) (by_id_distinct es sorted.1)
+
+neighbours_differ : (es : List ElementParts) (k : ℕ) (d : ElementParts) → HaveDistinctIds es → suc k < length es
+    → (get_or es k d).id ≢ (get_or es (suc k) d).id
+neighbours_differ [] k d distinct h same = omega arith
+neighbours_differ (e ∷ []) k d distinct h same = omega arith
+neighbours_differ (e ∷ f ∷ fs) zero d distinct h same =
+    let head = IsDistinct-head (on (λ g. g.id) bytes_eq) e (f ∷ fs) distinct in
+    let equal : bytes_eq e.id f.id ≡ true = (bytes_eq-Decides e.id f.id).1 same in
+    let unequal : bytes_eq e.id f.id ≡ false = head.0 in
+    cc
+neighbours_differ (e ∷ f ∷ fs) (suc k) d distinct h same =
+    neighbours_differ (f ∷ fs) k d (IsDistinct-tail (on (λ g. g.id) bytes_eq) e (f ∷ fs) distinct) (omega arith) same
+
+no_element : ElementParts
+no_element = record { id = []; params = [] }
+
+pub equal_neighbours : (es : List ElementParts) → HasEqualNeighbours es → ¬ HaveDistinctIds es
+equal_neighbours es equal distinct =
+    neighbours_differ es equal.place no_element distinct (omega (arith, equal.within))
+    (subst (λ n. (get_or es equal.place no_element).id ≡ (get_or es n no_element).id) (add-one equal.place) (equal.same no_element))
+
+-- two neighbours that were read have one id
+pub equal_from_reads : (es : List ElementParts) (i : ℕ) (x y : ElementParts) → 1 ≤ i → i < length es → x ≡ get_or es (i - 1) x → y ≡ get_or es i y
+    → x.id ≡ y.id → HasEqualNeighbours es
+equal_from_reads es i x y some within is_x is_y same = record {
+  place = i - 1;
+  within = omega arith;
+  same = λ d.
+      let next : i ≡ i - 1 + 1 = omega arith in
+      subst (λ n. (get_or es (i - 1) d).id ≡ (get_or es n d).id) next
+      (pair_read es (λ e f. e.id ≡ f.id) (i - 1) i x y (omega arith) within is_x is_y same d);
+}
+
+-- elements in another order
+pub distinct_permuted : (es fs : List ElementParts) → IsPermutation es fs → HaveDistinctIds es → HaveDistinctIds fs
+distinct_permuted es fs = IsDistinct-IsPermutation _ (λ e f. nat_list_eq_equiv.symm e.id f.id) es fs

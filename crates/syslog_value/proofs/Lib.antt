@@ -3,4 +3,5 @@ pub mod DayNumbers
 pub mod Ids
 pub mod Known
 pub mod Masks
+pub mod Octets
 pub mod Tables

@@ -8,26 +8,26 @@ use Rattle.std.specs.Str.{bytes_eq}
 use Rattle.syslog_value.specs.Parts.{ParamParts, ElementParts, MessageParts, AnyOctets, Utf8Text, Parts}
 use Rattle.syslog_value.specs.Messages.{message_octets}
 
-abbrev pub param_eq : ParamParts → ParamParts → Bool
+unfoldable pub param_eq : ParamParts → ParamParts → Bool
 param_eq = eq_of_both (on (λ p. p.name) bytes_eq) (on (λ p. p.value) bytes_eq)
 
-abbrev pub element_eq : ElementParts → ElementParts → Bool
+unfoldable pub element_eq : ElementParts → ElementParts → Bool
 element_eq = eq_of_both (on (λ e. e.id) bytes_eq) (on (λ e. e.params) (pointwise param_eq))
 
 abbrev pub is_marked : MessageParts → Bool
 is_marked (AnyOctets octets) = false
 is_marked (Utf8Text text) = true
 
-abbrev pub message_eq : MessageParts → MessageParts → Bool
+unfoldable pub message_eq : MessageParts → MessageParts → Bool
 message_eq = eq_of_both (on is_marked beq) (on message_octets bytes_eq)
 
-abbrev pub words_eq : Parts ℤ → Parts ℤ → Bool
+unfoldable pub words_eq : Parts ℤ → Parts ℤ → Bool
 words_eq =
     eq_of_both (on (λ r. r.hostname) (option_eq bytes_eq))
     (eq_of_both (on (λ r. r.app_name) (option_eq bytes_eq))
     (eq_of_both (on (λ r. r.proc_id) (option_eq bytes_eq)) (on (λ r. r.msg_id) (option_eq bytes_eq))))
 
-abbrev pub record_eq : Parts ℤ → Parts ℤ → Bool
+unfoldable pub record_eq : Parts ℤ → Parts ℤ → Bool
 record_eq =
     eq_of_both (on (λ r. r.priority) nat_eq)
     (eq_of_both (on (λ r. r.time) (option_eq int_eq))

@@ -30,6 +30,7 @@ unfolding param_of
 same_params p q name value = let same : param_of p.name p.value ≡ param_of q.name q.value = rw (name, value) in same
 
 pub param_decides : (p q : ParamParts) → Decides (param_eq p q) (p ≡ q)
+unfolding param_eq
 param_decides p q =
     both _ _ (p.name ≡ q.name) (p.value ≡ q.value) (p ≡ q) (bytes_eq-Decides p.name q.name) (bytes_eq-Decides p.value q.value) (same_params p q)
     (ap (λ r. r.name)) (ap (λ r. r.value))
@@ -42,6 +43,7 @@ unfolding element_of
 same_elements e f id params = let same : element_of e.id e.params ≡ element_of f.id f.params = rw (id, params) in same
 
 pub element_decides : (e f : ElementParts) → Decides (element_eq e f) (e ≡ f)
+unfolding element_eq
 element_decides e f =
     both _ _ (e.id ≡ f.id) (e.params ≡ f.params) (e ≡ f) (bytes_eq-Decides e.id f.id) (pointwise_decides param_decides e.params f.params)
     (same_elements e f) (ap (λ g. g.id)) (ap (λ g. g.params))
@@ -50,6 +52,7 @@ pub elements_decide : (es fs : List ElementParts) → Decides (pointwise element
 elements_decide es fs = pointwise_decides element_decides es fs
 
 pub message_decides : (m n : MessageParts) → Decides (message_eq m n) (m ≡ n)
+unfolding message_eq
 message_decides (AnyOctets a) (AnyOctets b) = (λ yes. ap AnyOctets ((bytes_eq-Decides a b).0 yes), λ same. (bytes_eq-Decides a b).1 (cc))
 message_decides (AnyOctets a) (Utf8Text b) = (λ yes. cc, λ same. cc)
 message_decides (Utf8Text a) (AnyOctets b) = (λ yes. cc, λ same. cc)
@@ -66,6 +69,7 @@ record SameWords (r s : Parts ℤ) : Type 0 where
   msg_id : r.msg_id ≡ s.msg_id
 
 words_decide : (r s : Parts ℤ) → Decides (words_eq r s) (SameWords r s)
+unfolding words_eq
 words_decide r s =
     both _ _ (r.hostname ≡ s.hostname) ((r.app_name ≡ s.app_name) × (r.proc_id ≡ s.proc_id) × (r.msg_id ≡ s.msg_id)) (SameWords r s)
     (word_decides r.hostname s.hostname)
@@ -92,6 +96,7 @@ words_of_same r s same =
     record { hostname = ap (λ t. t.hostname) same; app_name = ap (λ t. t.app_name) same; proc_id = ap (λ t. t.proc_id) same; msg_id = ap (λ t. t.msg_id) same }
 
 pub record_decides : (r s : Parts ℤ) → Decides (record_eq r s) (r ≡ s)
+unfolding record_eq
 record_decides r s =
     both _ _ (r.priority ≡ s.priority) ((r.time ≡ s.time) × SameWords r s × (r.elements ≡ s.elements) × (r.message ≡ s.message)) (r ≡ s)
     (Decides-eqb r.priority s.priority)

@@ -3,6 +3,7 @@ pub mod Device
 pub mod Equality
 pub mod EqualityLaws
 pub mod Facilities
+pub mod Fuses
 pub mod Instants
 pub mod Kept
 pub mod Masks

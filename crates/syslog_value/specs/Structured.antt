@@ -1,5 +1,8 @@
 -- Structured data, in which an id stands once (RFC 5424, 6.3.2).
-use Rattle.std.specs.Prelude.{◌≡◌, ℕ, List, [], ◌∷◌, ◌++◌, ◌⊎◌}
+use Rattle.std.specs.Prelude.{◌≡◌, ℕ, ◌+◌, ◌<◌, List, [], ◌∷◌, ◌++◌, ◌⊎◌, length, slice_index_or}
+use Rattle.std.specs.List.{IsDistinct}
+use Rattle.std.specs.Ordering.{on}
+use Rattle.std.specs.Str.{bytes_eq}
 use Rattle.syslog_value.specs.Parts.{ElementParts, IsById}
 use Rattle.syslog_value.specs.declared.structured.PushFault.{PushFault}
 use Rattle.syslog_value.specs.declared.structured.PushFault.TheVariants.{RepeatedId, Memory}
@@ -8,6 +11,16 @@ use Rattle.syslog_value.specs.declared.structured.PushFault.TheVariants.{Repeate
 abbrev pub HasId : List ℕ → List ElementParts → Type 0
 HasId id [] = ⊥
 HasId id (e ∷ es) = (e.id ≡ id) ⊎ HasId id es
+
+-- no id is that of a later element
+abbrev pub HaveDistinctIds : List ElementParts → Type 0
+HaveDistinctIds = IsDistinct (on (λ e. e.id) bytes_eq)
+
+-- two elements that follow each other have one id
+pub record HasEqualNeighbours (es : List ElementParts) : Type 0 where
+  pub place : ℕ
+  pub within : place + 1 < length es
+  pub same : (d : ElementParts) → (slice_index_or es place d).id ≡ (slice_index_or es (place + 1) d).id
 
 -- the element stands among those that were there, and all by id
 pub record AddsElement (element : ElementParts) (old new : List ElementParts) : Type 0 where

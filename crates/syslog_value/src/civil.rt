@@ -27,7 +27,8 @@ impl Civil {
     /// The days from 1970-01-01 to the date, where the calendar has it.
     pub(crate) fn day_number(&self) -> Option<i64>
         ensures exists { IsSome result ↔ HasDate self.now }
-        ensures value { IfSome result (λ n. n ≡ day_number self.now.year self.now.month self.now.day) }
+        ensures value { IfSome result (λ n.
+            n ≡ day_number self.now.year self.now.month self.now.day) }
         ensures range { IfSome result (λ n. IsBetween (neg_ℤ (pos 4_371_587)) (pos 2_932_896) n) }
     {
         if self.year > 9999 || self.month > 12 || self.day > 31 {

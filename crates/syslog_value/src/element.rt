@@ -64,6 +64,7 @@ impl PartialEq for Param {
 
     ghost laws = { partial_equiv_from_equiv (decided param_eq param_decides) };
 
+    #[tactic(auto, unfolding(crate::specs::Equality::param_eq))]
     fn eq(&self, other: &Param) -> bool
         ensures value { result ≡ param_eq self.now other.now }
         ensures same { IsTrue result ↔ (self.now ≡ other.now) }
@@ -142,6 +143,7 @@ impl PartialEq for Element {
 
     ghost laws = { partial_equiv_from_equiv (decided element_eq element_decides) };
 
+    #[tactic(auto, unfolding(crate::specs::Equality::element_eq))]
     fn eq(&self, other: &Element) -> bool
         ensures value { result ≡ element_eq self.now other.now }
         ensures same { IsTrue result ↔ (self.now ≡ other.now) }

@@ -133,6 +133,13 @@ mod tests {
     }
 
     #[test]
+    fn an_input_without_an_end_is_told(rt: HostRuntime) {
+        let mut reader = FromRead::new(std::io::repeat(7));
+        let found = read_all(rt.alloc(), &mut reader, 5).err();
+        assert_eq!(rt; found, Some(ReadAllFault::Endless));
+    }
+
+    #[test]
     fn a_whole_text_is_written(rt: HostRuntime) -> Result<(), Fail> {
         let mut writer = ToWrite::new(Vec::new(rt.alloc()));
         assert_eq!(rt; write_all(&mut writer, b"hello"), Ok(()));

@@ -108,6 +108,7 @@ impl PartialEq for Message {
 
     ghost laws = { partial_equiv_from_equiv (decided message_eq message_decides) };
 
+    #[tactic(auto, unfolding(crate::specs::Equality::message_eq))]
     fn eq(&self, other: &Message) -> bool
         ensures value { result ≡ message_eq self.now other.now }
         ensures same { IsTrue result ↔ (self.now ≡ other.now) }

@@ -24,7 +24,8 @@ pub trait Output {
         ensures bound { IfOk result (λ n. n ≤ length buf.now) }
         ensures octets { WriteAppends (taken self.old) (taken self.new) result buf.now }
         ensures calls { calls self.new ≡ count_on (calls self.old) }
-        ensures failures { WriteFailures result (length buf.now) (failures self.old) (failures self.new) };
+        ensures failures { WriteFailures result (length buf.now)
+            (failures self.old) (failures self.new) };
 }
 
 /// A writer of std's as an output. It tells its octets where that writer does, as a vector does.

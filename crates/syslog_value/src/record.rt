@@ -168,6 +168,7 @@ impl PartialEq for Record {
 
     ghost laws = { partial_equiv_from_equiv (decided record_eq record_decides) };
 
+    #[tactic(auto, unfolding(crate::specs::Equality::record_eq, crate::specs::Equality::words_eq))]
     fn eq(&self, other: &Record) -> bool
         ensures value { result ≡ record_eq self.now other.now }
         ensures same { IsTrue result ↔ (self.now ≡ other.now) }
@@ -222,66 +223,4 @@ fn copy_word<const N: usize>(
 }
 
 #[cfg(test)]
-mod tests {
-    use super::*;
-    use crate::{Element, Facility, SdName, Severity};
-    use std::test::Fail;
-
-    #[test]
-    fn a_plain_record_has_a_priority_and_a_message(rt: HostRuntime) -> Result<(), Fail> {
-        let priority = Priority::new(Facility::Local4, Severity::Notice);
-        let hello = Message::any(b"hello".to_vec(rt.alloc())?)
-            .ok()
-            .ok_or("refused")?;
-        let record = Record::plain(rt.alloc(), priority, hello).copy(rt.alloc())?;
-        assert_eq!(rt; record.priority().value(), 165);
-        assert_eq!(rt; record.message().octets(), b"hello".as_slice());
-        assert!(rt; record.instant().is_none() && record.hostname().is_none());
-        assert!(rt; record.app_name().is_none() && record.proc_id().is_none());
-        assert!(rt; record.msg_id().is_none() && record.structured().elements().is_empty());
-        Ok(())
-    }
-
-    fn filled(alloc: Global, host: &[u8], ids: [&[u8]; 2]) -> Result<Record, Fail> {
-        let mut structured = StructuredData::empty(alloc);
-        for id in ids {
-            let element = Element::new(SdName::new(alloc, id)?, Vec::new(alloc));
-            structured.push(element).map_err(|refused| refused.1)?;
-        }
-        Ok(Record::new(
-            Priority::new(Facility::Mail, Severity::Debug),
-            Instant::from_micros(1_061_727_255_000_003),
-            Some(Word::new(alloc, host)?),
-            Some(Word::new(alloc, b"su")?),
-            Some(Word::new(alloc, b"8710")?),
-            Some(Word::new(alloc, b"ID47")?),
-            structured,
-            Message::utf8(String::from_str(alloc, "x")?),
-        ))
-    }
-
-    #[test]
-    fn the_order_of_elements_carries_no_meaning(rt: HostRuntime) -> Result<(), Fail> {
-        let record = filled(rt.alloc(), b"h", [b"a", b"b"])?;
-        assert!(rt; record == filled(rt.alloc(), b"h", [b"b", b"a"])?);
-        assert!(rt; record == record.copy(rt.alloc())?);
-        assert!(rt; record != filled(rt.alloc(), b"h", [b"a", b"c"])?);
-        assert!(rt; record != filled(rt.alloc(), b"H", [b"a", b"b"])?);
-        assert_eq!(rt; record.priority().value(), 23);
-        assert_eq!(rt;
-            record.instant().map(Instant::micros),
-            Some(1_061_727_255_000_003)
-        );
-        for (word, octets) in [
-            (record.hostname().map(Word::bytes), b"h".as_slice()),
-            (record.app_name().map(Word::bytes), b"su"),
-            (record.proc_id().map(Word::bytes), b"8710"),
-            (record.msg_id().map(Word::bytes), b"ID47"),
-        ] {
-            assert_eq!(rt; word.ok_or("nil")?, octets);
-        }
-        assert_eq!(rt; record.structured().elements().len(), 2);
-        assert!(rt; record.message().has_mark());
-        Ok(())
-    }
-}
+mod tests;

@@ -1,11 +1,14 @@
 //! Structured data: elements under ids of which none stands twice (RFC 5424, section 6.3).
-ghost use Rattle.std.specs.Prelude.{◌≡◌, List, [], OnOk, IfOk, IfErr, length};
+ghost use Rattle.std.specs.Prelude.{◌≡◌, ◌≢◌, ◌↔◌, List, [], length};
+ghost use Rattle.std.specs.Prelude.{OnOk, IfOk, IfErr, IsSome, IfSome, MatchBool};
 ghost use Rattle.std.specs.Cmp.Lexicographic.{slice_cmp};
-ghost use Rattle.std.specs.List.{AllByRecursion};
+ghost use Rattle.std.specs.List.{AllByRecursion, AllAdjacentBelow};
 ghost use Rattle.std.specs.List.Sorted.{IsSearchInRange, IsBinarySearchResult};
+ghost use Rattle.std.specs.List.Sorted.{IsPermutation, IsSortedByKey};
 ghost use Rattle.std.specs.Ordering.{nat_cmp};
 ghost use Rattle.syslog_value.specs.Parts.{ElementParts, IsElement, IsById};
 ghost use Rattle.syslog_value.specs.Structured.{AddsElement, IsPushFault};
+ghost use Rattle.syslog_value.specs.Structured.{HaveDistinctIds, HasEqualNeighbours};
 
 use crate::{Element, SdName};
 use std::alloc::{AllocError, Global};
@@ -45,6 +48,21 @@ impl StructuredData {
         StructuredData {
             elements: Vec::new(alloc),
         }
+    }
+
+    /// Structured data of elements in any order. None where an id stands twice.
+    pub fn from_elements(elements: Vec<Element>) -> Option<StructuredData>
+        ensures distinct { IsSome result ↔ HaveDistinctIds elements.items }
+        ensures value { IfSome result (IsPermutation elements.items) }
+        ensures by_id { IfSome result IsById }
+    {
+        let mut elements = elements;
+        look_at(elements.as_slice());
+        sort_by_id(&mut elements);
+        if has_equal_neighbours(elements.as_slice()) {
+            return None;
+        }
+        Some(StructuredData { elements })
     }
 
     /// The elements, ascending by their ids.
@@ -120,6 +138,34 @@ fn place_of(elements: &[Element], id: &SdName) -> Result<usize, usize>
     elements.binary_search_by(|element| element.id().bytes().cmp(id.bytes()))
 }
 
+// elements are valid by their type
+fn look_at(elements: &[Element])
+    ensures { AllByRecursion IsElement elements.now }
+{
+    for element in elements {
+        let _ = element.id();
+    }
+}
+
+fn sort_by_id(elements: &mut Vec<Element>)
+    ensures permutation { IsPermutation elements.old.items elements.new.items }
+    ensures sorted { IsSortedByKey (λ e. e.id) (slice_cmp nat_cmp) elements.new.items }
+{
+    elements.sort_unstable_by(|one, other| one.id().bytes().cmp(other.id().bytes()));
+}
+
+fn has_equal_neighbours(elements: &[Element]) -> bool
+    ensures { MatchBool result (HasEqualNeighbours elements.now)
+        (AllAdjacentBelow (λ e f. e.id ≢ f.id) elements.now (length elements.now)) }
+{
+    for place in 1..elements.len() {
+        if elements[place - 1].id() == elements[place].id() {
+            return true;
+        }
+    }
+    false
+}
+
 #[cfg(test)]
 mod tests {
     use super::*;
@@ -144,6 +190,36 @@ mod tests {
             assert_eq!(rt; element.id().bytes(), id);
         }
         assert_eq!(rt; data.elements().len(), 7);
+        Ok(())
+    }
+
+    #[test]
+    fn the_order_of_elements_carries_no_meaning(rt: HostRuntime) -> Result<(), Fail> {
+        let mut one = StructuredData::empty(rt.alloc());
+        let mut other = StructuredData::empty(rt.alloc());
+        for (id, back) in [(b"a", b"c"), (b"b", b"b"), (b"c", b"a")] {
+            assert!(rt; one.push(element(rt.alloc(), id, "v")?).is_ok());
+            assert!(rt; other.push(element(rt.alloc(), back, "v")?).is_ok());
+        }
+        assert!(rt; one == other);
+        Ok(())
+    }
+
+    #[test]
+    fn elements_in_any_order_are_put_by_id(rt: HostRuntime) -> Result<(), Fail> {
+        let mut given = Vec::new(rt.alloc());
+        for id in [b"c", b"a", b"b"] {
+            given.push(element(rt.alloc(), id, "v")?)?;
+        }
+        let data = StructuredData::from_elements(given).ok_or("repeated")?;
+        for (element, id) in data.elements().iter().zip([b"a", b"b", b"c"]) {
+            assert_eq!(rt; element.id().bytes(), id.as_slice());
+        }
+        let mut given = Vec::new(rt.alloc());
+        for id in [b"c", b"a", b"c"] {
+            given.push(element(rt.alloc(), id, "v")?)?;
+        }
+        assert!(rt; StructuredData::from_elements(given).is_none());
         Ok(())
     }
 

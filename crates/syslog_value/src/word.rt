@@ -1,8 +1,8 @@
-//! Words of printable octets, and the names of structured data (RFC 5424, sections 6.2 and 6.3).
+//! Words of printable octets (RFC 5424, section 6.2).
 ghost use Rattle.std.specs.Prelude.{◌≡◌, ◌≤◌, IfOk, IfErr, MatchOption, ℕ, List};
 ghost use Rattle.std.specs.List.{AllByRecursion};
-ghost use Rattle.syslog_value.specs.Parts.{IsWord, IsName, IsPrintable, IsNameOctet};
-ghost use Rattle.syslog_value.specs.Words.{IsWordFault, IsNameFault, IsFirstBad};
+ghost use Rattle.syslog_value.specs.Parts.{IsWord, IsPrintable};
+ghost use Rattle.syslog_value.specs.Words.{IsWordFault, IsFirstBad};
 
 use std::alloc::{AllocError, Global};
 use std::marker::Model;
@@ -113,84 +113,6 @@ impl<const N: usize> Eq for Word<N> {
     ghost laws = { Prim.search (comparing, rules) };
 }
 
-/// SD-NAME: one to 32 printable octets but "=", "]" and the quotation mark.
-#[derive(Debug, Drop)]
-pub struct SdName {
-    octets: Vec<u8>,
-}
-
-impl Model for SdName {
-    ghost Value = { List ℕ };
-
-    ghost view = { λ n. n.octets.items };
-
-    ghost invariant = { λ n. IsName n.octets.items };
-}
-
-impl SdName {
-    /// The most octets of a name.
-    pub const MOST: usize = 32;
-
-    /// The name of these octets. It is never refused as `Nil`.
-    pub fn new(alloc: Global, octets: &[u8]) -> Result<SdName, WordFault>
-        ensures ok { IfOk result (λ name. IsName octets.now × (name ≡ octets.now)) }
-        ensures err { IfErr result (IsNameFault octets.now) }
-    {
-        if octets.is_empty() {
-            return Err(WordFault::Empty);
-        }
-        if octets.len() > SdName::MOST {
-            return Err(WordFault::TooLong);
-        }
-        if let Some(offset) = first_outside_names(octets) {
-            return Err(WordFault::BadOctet { offset });
-        }
-        Ok(SdName {
-            octets: octets.to_vec(alloc)?,
-        })
-    }
-
-    pub fn bytes(&self) -> &[u8]
-        ensures value { result.now ≡ self.now }
-        ensures valid { IsName self.now }
-    {
-        self.octets.as_slice()
-    }
-
-    pub fn copy(&self, alloc: Global) -> Result<SdName, AllocError>
-        ensures { IfOk result (λ name. name ≡ self.now) }
-    {
-        Ok(SdName {
-            octets: self.octets.as_slice().to_vec(alloc)?,
-        })
-    }
-}
-
-impl PartialEq for SdName {
-    ghost use Rattle.std.specs.Prelude.{◌≡◌, ◌↔◌, IsTrue};
-    ghost use Rattle.std.specs.Cmp.Rules.{comparing};
-    ghost use Rattle.std.proofs.Common.{rules};
-    ghost use Rattle.std.specs.Str.{bytes_eq};
-
-    ghost eq = { bytes_eq };
-
-    ghost laws = { Prim.search (comparing, rules) };
-
-    fn eq(&self, other: &SdName) -> bool
-        ensures value { result ≡ bytes_eq self.now other.now }
-        ensures same { IsTrue result ↔ (self.now ≡ other.now) }
-    {
-        self.octets == other.octets
-    }
-}
-
-impl Eq for SdName {
-    ghost use Rattle.std.specs.Cmp.Rules.{comparing};
-    ghost use Rattle.std.proofs.Common.{rules};
-
-    ghost laws = { Prim.search (comparing, rules) };
-}
-
 // where the first octet stands that is no printable one
 fn first_unprintable(octets: &[u8]) -> Option<usize>
     ensures { MatchOption result (AllByRecursion IsPrintable octets.now)
@@ -198,19 +120,6 @@ fn first_unprintable(octets: &[u8]) -> Option<usize>
 {
     for (place, octet) in octets.iter().enumerate() {
         if !octet.is_ascii_graphic() {
-            return Some(place);
-        }
-    }
-    None
-}
-
-// where the first octet stands that is none of a name's
-fn first_outside_names(octets: &[u8]) -> Option<usize>
-    ensures { MatchOption result (AllByRecursion IsNameOctet octets.now)
-        (IsFirstBad IsNameOctet octets.now) }
-{
-    for (place, octet) in octets.iter().enumerate() {
-        if !octet.is_ascii_graphic() || matches!(octet, b'=' | b']' | b'"') {
             return Some(place);
         }
     }
@@ -247,28 +156,6 @@ mod tests {
             let word = Word::<48>::new(rt.alloc(), octets)?;
             assert_eq!(rt; word.bytes(), octets);
             assert!(rt; word.copy(rt.alloc())? == word);
-        }
-        Ok(())
-    }
-
-    #[test]
-    fn a_name_is_refused_for_its_first_fault(rt: HostRuntime) -> Result<(), Fail> {
-        let long = vec![in rt.alloc(); b'a'; 33]?;
-        for (octets, fault) in [
-            (b"".as_slice(), WordFault::Empty),
-            (long.as_slice(), WordFault::TooLong),
-            (b"a=b", WordFault::BadOctet { offset: 1 }),
-            (b"ab]", WordFault::BadOctet { offset: 2 }),
-            (b"\"", WordFault::BadOctet { offset: 0 }),
-            (b"a b", WordFault::BadOctet { offset: 1 }),
-        ] {
-            let found = SdName::new(rt.alloc(), octets).err();
-            assert_eq!(rt; found, Some(fault));
-        }
-        for octets in [b"-".as_slice(), b"a", b"a@32473", &long[..32]] {
-            let name = SdName::new(rt.alloc(), octets)?;
-            assert_eq!(rt; name.bytes(), octets);
-            assert!(rt; name.copy(rt.alloc())? == name);
         }
         Ok(())
     }

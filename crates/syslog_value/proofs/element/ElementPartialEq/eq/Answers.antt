@@ -4,6 +4,7 @@ use Rattle.syslog_value.specs.EqualityLaws.{element_decides}
 use Rattle.syslog_value.proofs.element.ElementPartialEq.eq.Goals as goal
 
 pub returns-then-eq-clause-same : goal.returns-then-eq-clause-same
+unfolding element_eq
 returns-then-eq-clause-same c =
     let is : c.eq-then-eq.result ≡ element_eq c.args.self.now c.args.other.now = search rules in
     let decides = element_decides c.args.self.now c.args.other.now in
