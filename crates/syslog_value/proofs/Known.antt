@@ -6,7 +6,7 @@ use Rattle.std.proofs.lemmas.List.{length-take, take_all, take-take}
 use Rattle.std.proofs.lemmas.Bool.{cases_lt}
 use Rattle.std.proofs.lemmas.Grind.{common_steps}
 use Rattle.std.specs.Io.KnownBytes.{Appends, Consumes, IsAtEnd}
-use Rattle.syslog_value.specs.Kept.{KeepsFirst}
+use Rattle.syslog_value.proofs.Kept.{KeepsFirst}
 
 -- the front of what is left of a text, as a slice of it has it
 pub take-rest : (at n : ℕ) (text : List ℕ) → n ≤ length text - at → take n (take (length text - at) (drop at text)) ≡ take n (drop at text)

@@ -5,7 +5,6 @@ pub mod EqualityLaws
 pub mod Facilities
 pub mod Fuses
 pub mod Instants
-pub mod Kept
 pub mod Masks
 pub mod Messages
 pub mod Order

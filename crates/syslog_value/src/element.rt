@@ -160,7 +160,7 @@ impl Eq for Element {
     ghost laws = { decided element_eq element_decides };
 }
 
-// parameters are valid by their type
+// a look at each parameter, which is valid by its type
 fn look_at(params: &[Param])
     ensures { AllByRecursion IsParam params.now }
 {

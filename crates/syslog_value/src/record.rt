@@ -56,6 +56,7 @@ impl Record {
           message = message;
         } }
     {
+        // Each part is valid by its type, and a look at it tells so.
         let _ = priority.value();
         look_at_instant(&instant);
         look_at_word(&hostname);
@@ -192,7 +193,7 @@ impl Eq for Record {
     ghost laws = { decided record_eq record_decides };
 }
 
-// an instant is in range by its type
+// a look at an instant, which is in range by its type
 fn look_at_instant(instant: &Option<Instant>)
     ensures { IfSome instant.now IsInstant }
 {
@@ -201,7 +202,7 @@ fn look_at_instant(instant: &Option<Instant>)
     }
 }
 
-// a word is valid by its type
+// a look at a word, which is valid by its type
 fn look_at_word<const N: usize>(word: &Option<Word<N>>)
     ensures { IfSome word.now (IsWord N) }
 {

@@ -138,7 +138,7 @@ fn place_of(elements: &[Element], id: &SdName) -> Result<usize, usize>
     elements.binary_search_by(|element| element.id().bytes().cmp(id.bytes()))
 }
 
-// elements are valid by their type
+// a look at each element, which is valid by its type
 fn look_at(elements: &[Element])
     ensures { AllByRecursion IsElement elements.now }
 {

@@ -1,6 +1,6 @@
 use Rattle.std.proofs.Common.{◌≡◌, ◌+◌, ◌≤◌, vec_len}
 use Rattle.syslog_value.specs.Device.{AreSmall}
-use Rattle.syslog_value.specs.Kept.{KeepsFirst}
+use Rattle.syslog_value.proofs.Kept.{KeepsFirst}
 use Rattle.syslog_value.proofs.loops.read_all.Given as goal
 
 abbrev pub invariant-loop-turn : goal.invariant-loop-turn
