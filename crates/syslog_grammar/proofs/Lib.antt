@@ -1,0 +1,13 @@
+pub mod Runs
+pub mod Numbers
+pub mod Words
+pub mod Front
+pub mod Characters
+pub mod Ahead
+pub mod Names
+pub mod Values
+pub mod Texts
+pub mod Loops
+pub mod Params
+pub mod Utf8Text
+pub mod Messages

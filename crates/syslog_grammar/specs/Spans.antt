@@ -1,0 +1,40 @@
+-- What the readers of parts lend: the texts of parts as they lie in the octets.
+use Rattle.std.specs.Prelude.{◌≡◌, ℕ, List, [], ◌∷◌, ◌++◌, length, ◌⊎◌}
+use Rattle.std.specs.List.{AllByRecursion}
+use Rattle.octet_language.specs.Language.{Language, Only, ◌⋅◌, AnyOf, Each, IfFront}
+use Rattle.syslog_value.specs.Parts.{IsNameOctet}
+use Rattle.syslog_grammar.specs.Grammar.{Name, Param}
+use Rattle.syslog_grammar.specs.Values.{Piece}
+
+-- a text of the language as its own octets
+abbrev pub Text : Language → List ℕ → Language
+Text L text b = L text × (b ≡ text)
+
+-- a name is not whole: no octet of it stands in front, or more than it may have
+pub record StopsInName (b : List ℕ) (left : ℕ) : Type 0 where
+  pub read : List ℕ
+  pub rest : List ℕ
+  pub parts : b ≡ read ++ rest
+  pub count : length rest ≡ left
+  pub octets : AllByRecursion IsNameOctet read
+  pub ends : ((read ≡ []) × IfFront (λ x. IsNameOctet x → ⊥) rest) ⊎ ((length read ≡ 32) × IfFront IsNameOctet rest)
+
+-- a parameter by its name and the spelling of its value
+pub record ParamSpan : Type 0 where
+  pub name : List ℕ
+  pub raw : List ℕ
+
+-- ="VALUE", by the spelling of the value
+abbrev pub SpannedValue : List ℕ → Language
+SpannedValue raw = Only (61 ∷ []) ⋅ Only (34 ∷ []) ⋅ Text (AnyOf (Each Piece)) raw ⋅ Only (34 ∷ [])
+
+abbrev pub SpannedParam : ParamSpan → Language
+SpannedParam v = Only (32 ∷ []) ⋅ Name v.name ⋅ SpannedValue v.raw
+
+-- an element by its id and the text of its parameters
+pub record ElementSpan : Type 0 where
+  pub id : List ℕ
+  pub params : List ℕ
+
+abbrev pub SpannedElement : ElementSpan → Language
+SpannedElement v = Only (91 ∷ []) ⋅ Name v.id ⋅ Text (AnyOf (Each Param)) v.params ⋅ Only (93 ∷ [])

@@ -1,0 +1,14 @@
+//! Syslog records as octets (RFC 5424, section 6).
+#![tactic(auto)]
+
+mod element;
+mod message;
+mod name;
+mod priority;
+mod reading;
+#[cfg(test)]
+mod tests;
+mod text;
+mod utf8;
+mod value;
+mod word;
