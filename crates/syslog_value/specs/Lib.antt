@@ -1,3 +1,9 @@
 pub mod Calendar
+pub mod Device
+pub mod Facilities
+pub mod Instants
+pub mod Kept
+pub mod Masks
 pub mod Order
 pub mod Parts
+pub mod Severities

@@ -1,0 +1,5 @@
+pub mod CivilTimes
+pub mod DayNumbers
+pub mod Known
+pub mod Masks
+pub mod Tables

@@ -1,0 +1,235 @@
+//! Instants, and the civil times that name them (RFC 5424, section 6.2.3).
+ghost use Rattle.std.specs.Prelude.{◌≡◌, ◌≤◌, ℤ, ◌↔◌, pos, neg_ℤ, ◌+ℤ◌, ◌-ℤ◌, ◌*ℤ◌};
+ghost use Rattle.std.specs.Prelude.{IsSome, IfSome, IfOk, IfErr};
+ghost use Rattle.jiff.specs.Words.{IsBetween};
+ghost use Rattle.syslog_value.specs.Parts.{IsInstant};
+ghost use Rattle.syslog_value.specs.declared.civil.Civil.{Civil};
+ghost use Rattle.syslog_value.specs.Instants.{IsCivil, IsOffset, IsFault, instant_of};
+
+use crate::Civil;
+use crate::civil::date_at;
+use std::marker::Model;
+use thiserror::Error;
+
+/// Why a civil time with an offset names no instant.
+#[derive(Clone, Copy, Debug, PartialEq, Eq, Error)]
+pub enum TimeFault {
+    /// The calendar has no such date, or the year is above 9999.
+    #[error("there is no such date")]
+    NoSuchDate,
+    /// The day has no such time, or there are more than 999,999 microseconds.
+    #[error("there is no such time")]
+    NoSuchTime,
+    /// The offset is more than 1,439 minutes either way.
+    #[error("the offset is a day or more")]
+    BadOffset,
+    /// The instant lies before the year 0 or after the year 9999.
+    #[error("the instant is out of range")]
+    OutOfRange,
+}
+
+/// An instant from 0000-01-01T00:00:00.000000Z to 9999-12-31T23:59:59.999999Z, in microseconds from
+/// 1970-01-01T00:00:00Z.
+#[derive(Clone, Copy, Debug, PartialEq, Eq, PartialOrd, Ord)]
+pub struct Instant {
+    micros: i64,
+}
+
+impl Model for Instant {
+    ghost Value = { ℤ };
+
+    ghost view = { λ i. i.micros };
+
+    ghost invariant = { λ i. IsInstant i.micros };
+
+    ghost inverse = { λ z. record { micros = z } };
+}
+
+// the instant of a day, a second of it, an offset and microseconds
+fn joined(day: i64, second: i64, offset_minutes: i64, micros: i64) -> i64
+    requires day_in { IsBetween (neg_ℤ (pos 4_371_587)) (pos 2_932_896) day }
+    requires second_in { IsBetween (pos 0) (pos 86_399) second }
+    requires offset_in { IsBetween (neg_ℤ (pos 1439)) (pos 1439) offset_minutes }
+    requires micros_in { IsBetween (pos 0) (pos 999_999) micros }
+    ensures { result ≡ (day *ℤ pos 86_400 +ℤ second -ℤ offset_minutes *ℤ pos 60) *ℤ pos 1_000_000
+        +ℤ micros }
+{
+    (day * 86_400 + second - offset_minutes * 60) * 1_000_000 + micros
+}
+
+// the civil time in UTC so many microseconds from 1970-01-01T00:00:00Z
+fn civil_at(micros: i64) -> Civil
+    requires { IsInstant micros }
+    ensures valid { IsCivil result }
+    ensures value { instant_of result (pos 0) ≡ micros }
+{
+    let day = micros.div_euclid(86_400_000_000);
+    let within = micros.rem_euclid(86_400_000_000) as u64;
+    let (year, month, day) = date_at(day);
+    let second = (within / 1_000_000) as u32;
+    Civil {
+        year,
+        month,
+        day,
+        hour: (second / 3600) as u8,
+        minute: (second / 60 % 60) as u8,
+        second: (second % 60) as u8,
+        micros: (within % 1_000_000) as u32,
+    }
+}
+
+impl Instant {
+    /// The instant so many microseconds from 1970-01-01T00:00:00Z, where it is in range.
+    pub fn from_micros(micros: i64) -> Option<Instant>
+        ensures valid { IsSome result ↔ IsInstant micros }
+        ensures value { IfSome result (λ i. i ≡ micros) }
+    {
+        if micros < -62_167_219_200_000_000 || micros > 253_402_300_799_999_999 {
+            return None;
+        }
+        Some(Instant { micros })
+    }
+
+    /// The microseconds from 1970-01-01T00:00:00Z.
+    pub fn micros(self) -> i64
+        ensures value { result ≡ self }
+        ensures range { IsInstant result }
+    {
+        self.micros
+    }
+
+    /// The instant that a civil time names, so many minutes ahead of UTC.
+    pub fn from_civil(civil: Civil, offset_minutes: i16) -> Result<Instant, TimeFault>
+        ensures ok { IfOk result (λ i. IsCivil civil × IsOffset offset_minutes
+            × (i ≡ instant_of civil offset_minutes)) }
+        ensures err { IfErr result (IsFault civil offset_minutes) }
+    {
+        let Some(day) = civil.day_number() else {
+            return Err(TimeFault::NoSuchDate);
+        };
+        let Some(second) = civil.second_of_day() else {
+            return Err(TimeFault::NoSuchTime);
+        };
+        if offset_minutes < -1439 || offset_minutes > 1439 {
+            return Err(TimeFault::BadOffset);
+        }
+        let micros = joined(
+            day,
+            second as i64,
+            offset_minutes as i64,
+            civil.micros as i64,
+        );
+        match Instant::from_micros(micros) {
+            Some(instant) => Ok(instant),
+            None => Err(TimeFault::OutOfRange),
+        }
+    }
+
+    /// The civil time in UTC.
+    pub fn civil(self) -> Civil
+        ensures valid { IsCivil result }
+        ensures value { instant_of result (pos 0) ≡ self }
+        ensures only { (c : Civil) → IsCivil c → instant_of c (pos 0) ≡ self → c ≡ result }
+    {
+        civil_at(self.micros)
+    }
+}
+
+#[cfg(test)]
+mod tests {
+    use super::*;
+
+    fn civil(date: (u16, u8, u8), time: (u8, u8, u8), micros: u32) -> Civil {
+        Civil {
+            year: date.0,
+            month: date.1,
+            day: date.2,
+            hour: time.0,
+            minute: time.1,
+            second: time.2,
+            micros,
+        }
+    }
+
+    #[test]
+    fn a_civil_time_names_its_instant(rt: HostRuntime) {
+        for (date, time, micros, offset, instant) in [
+            ((0, 1, 1), (0, 0, 0), 0, 0, -62_167_219_200_000_000),
+            ((1970, 1, 1), (0, 0, 0), 1, 0, 1),
+            ((2003, 8, 24), (5, 14, 15), 3, -420, 1_061_727_255_000_003),
+            ((2024, 3, 1), (0, 30, 0), 0, 60, 1_709_249_400_000_000),
+            (
+                (9999, 12, 31),
+                (23, 59, 59),
+                999_999,
+                0,
+                253_402_300_799_999_999,
+            ),
+        ] {
+            let found = Instant::from_civil(civil(date, time, micros), offset).ok();
+            assert_eq!(rt; found.map(Instant::micros), Some(instant));
+            assert_eq!(rt; Instant::from_micros(instant), found);
+        }
+    }
+
+    #[test]
+    fn an_instant_has_its_civil_time_in_utc(rt: HostRuntime) {
+        for (instant, date, time, micros) in [
+            (-62_167_219_200_000_000, (0, 1, 1), (0, 0, 0), 0),
+            (-62_162_121_600_000_000, (0, 2, 29), (0, 0, 0), 0),
+            (-1, (1969, 12, 31), (23, 59, 59), 999_999),
+            (1_061_727_255_000_003, (2003, 8, 24), (12, 14, 15), 3),
+            (1_709_249_400_000_000, (2024, 2, 29), (23, 30, 0), 0),
+            (
+                253_402_300_799_999_999,
+                (9999, 12, 31),
+                (23, 59, 59),
+                999_999,
+            ),
+        ] {
+            let found = Instant::from_micros(instant).map(Instant::civil);
+            assert_eq!(rt; found, Some(civil(date, time, micros)));
+        }
+    }
+
+    #[test]
+    fn an_instant_lies_in_the_years_0_to_9999(rt: HostRuntime) {
+        for micros in [
+            i64::MIN,
+            -62_167_219_200_000_001,
+            253_402_300_800_000_000,
+            i64::MAX,
+        ] {
+            assert_eq!(rt; Instant::from_micros(micros), None);
+        }
+    }
+
+    #[test]
+    fn the_first_cause_is_told(rt: HostRuntime) {
+        let noon = (12, 0, 0);
+        for (date, time, micros, offset, fault) in [
+            ((2003, 2, 29), (24, 0, 0), 0, 1440, TimeFault::NoSuchDate),
+            ((1900, 2, 29), noon, 0, 0, TimeFault::NoSuchDate),
+            ((2023, 4, 31), noon, 0, 0, TimeFault::NoSuchDate),
+            ((2023, 0, 1), noon, 0, 0, TimeFault::NoSuchDate),
+            ((2023, 13, 1), noon, 0, 0, TimeFault::NoSuchDate),
+            ((2023, 1, 0), noon, 0, 0, TimeFault::NoSuchDate),
+            ((10_000, 1, 1), noon, 0, 0, TimeFault::NoSuchDate),
+            ((2003, 2, 28), (24, 0, 0), 0, 1440, TimeFault::NoSuchTime),
+            ((2003, 2, 28), (23, 60, 0), 0, 0, TimeFault::NoSuchTime),
+            ((2003, 2, 28), (23, 59, 60), 0, 0, TimeFault::NoSuchTime),
+            ((2003, 2, 28), noon, 1_000_000, 0, TimeFault::NoSuchTime),
+            ((2003, 2, 28), noon, 0, 1440, TimeFault::BadOffset),
+            ((2003, 2, 28), noon, 0, -1440, TimeFault::BadOffset),
+            ((9999, 12, 31), (23, 59, 59), 0, -1, TimeFault::OutOfRange),
+            ((0, 1, 1), (0, 0, 0), 0, 1, TimeFault::OutOfRange),
+        ] {
+            let found = Instant::from_civil(civil(date, time, micros), offset);
+            assert_eq!(rt; found, Err(fault));
+        }
+        let leap = Instant::from_civil(civil((0, 2, 29), noon, 0), 0);
+        assert!(rt; leap.is_ok());
+        let shifted = Instant::from_civil(civil((0, 1, 1), (0, 0, 0), 0), -1439);
+        assert!(rt; shifted.is_ok());
+    }
+}

@@ -1,0 +1,143 @@
+//! The loops over a device that every command stands on.
+ghost use Rattle.std.specs.Prelude.{◌≡◌, ◌+◌, ◌^◌, ◌≤◌, ◌<◌, length, take};
+ghost use Rattle.std.specs.Prelude.{OnOk, OnErr, IfOk, IfErr, IfSome, IsErrOf, vec_len};
+ghost use Rattle.std.specs.Io.KnownBytes.{Appends, IsAtEnd};
+ghost use Rattle.syslog_value.specs.Device.{AreSmall};
+
+use crate::{DeviceFault, Input, Output};
+use std::alloc::{AllocError, Global};
+use thiserror::Error;
+
+/// The most calls of one reader.
+pub const READER_CALLS: u64 = 1_048_576;
+
+// octets asked of a reader at a time
+const PIECE: usize = 4096;
+
+/// The first `sent` octets were written, and then the writer failed.
+#[derive(Clone, Copy, Debug, PartialEq, Eq, Error)]
+#[error("the writer failed after {sent} octets")]
+pub struct WriteFault {
+    pub sent: u64,
+}
+
+/// Writes the whole text.
+pub fn write_all<W: Output>(writer: &mut W, text: &[u8]) -> Result<(), WriteFault>
+    ensures ok { OnOk result (Appends (W.taken writer.old) (W.taken writer.new) text.now) }
+    ensures no_failure { OnOk result (W.failures writer.new ≡ W.failures writer.old) }
+    ensures some_left { IfErr result (λ fault. fault.sent < length text.now) }
+    ensures sent { IfErr result (λ fault.
+        Appends (W.taken writer.old) (W.taken writer.new) (take fault.sent text.now)) }
+    ensures cause { W.failures writer.old < 2 ^ 63 →
+        OnErr result (W.failures writer.old < W.failures writer.new) }
+{
+    let mut sent = 0;
+    while sent < text.len() {
+        match writer.write(&text[sent..]) {
+            Ok(n) if n > 0 => sent += n,
+            _ => return Err(WriteFault { sent: sent as u64 }),
+        }
+    }
+    Ok(())
+}
+
+/// Why an input was not read to its end.
+#[derive(Clone, Copy, Debug, PartialEq, Eq, Error)]
+pub enum ReadAllFault {
+    /// The reader failed.
+    #[error("the reader failed")]
+    Device,
+    /// It was called `READER_CALLS` times and did not give its end.
+    #[error("the input has no end")]
+    Endless,
+    /// A growth was refused.
+    #[error("want of memory")]
+    Memory,
+}
+
+impl From<AllocError> for ReadAllFault {
+    ghost use Rattle.std.specs.Prelude.{◌≡◌};
+    ghost use Rattle.syslog_value.specs.declared.loops.ReadAllFault.TheVariants.{Memory};
+
+    ghost from_gives = { λ _ fault. fault ≡ Memory };
+
+    fn from(_: AllocError) -> ReadAllFault {
+        ReadAllFault::Memory
+    }
+}
+
+/// Reads all that the reader has left, in at most `READER_CALLS` calls, and keeps the first
+/// `limit` octets.
+pub fn read_all<R: Input>(
+    alloc: Global,
+    reader: &mut R,
+    limit: usize,
+) -> Result<Vec<u8>, ReadAllFault>
+    ensures kept { IfOk result (λ kept.
+        IfSome (R.left reader.old) (λ input. kept.items ≡ take limit input)) }
+    ensures few { IfOk result (λ kept. vec_len kept ≤ limit) }
+    ensures at_end { OnOk result (IsAtEnd (R.left reader.new)) }
+    ensures no_failure { OnOk result (R.failures reader.new ≡ R.failures reader.old) }
+
+    // of a reader whose counts are small at the call
+    ensures ended { AreSmall (R.calls reader.old) (R.failures reader.old) →
+        OnOk result (R.ends reader.old < R.ends reader.new) }
+    ensures calls { AreSmall (R.calls reader.old) (R.failures reader.old) →
+        R.calls reader.new ≤ R.calls reader.old + READER_CALLS }
+    ensures device { AreSmall (R.calls reader.old) (R.failures reader.old) →
+        IsErrOf result ReadAllFault.Device → R.failures reader.old < R.failures reader.new }
+    ensures endless { AreSmall (R.calls reader.old) (R.failures reader.old) →
+        IsErrOf result ReadAllFault.Endless →
+        (R.calls reader.new ≡ R.calls reader.old + READER_CALLS)
+        × (R.ends reader.new ≡ R.ends reader.old) }
+{
+    let mut kept = Vec::new(alloc);
+    let mut piece = [0u8; PIECE];
+    for _turn in 0..READER_CALLS {
+        let n = match reader.read(&mut piece) {
+            Ok(n) => n,
+            Err(DeviceFault) => return Err(ReadAllFault::Device),
+        };
+        if n == 0 {
+            return Ok(kept);
+        }
+        let room = n.min(limit - kept.len());
+        kept.extend_from_slice(&piece[..room])?;
+    }
+    Err(ReadAllFault::Endless)
+}
+
+#[cfg(test)]
+mod tests {
+    use super::*;
+    use crate::{FromRead, ToWrite};
+    use std::test::Fail;
+
+    #[test]
+    fn an_input_is_read_to_its_end_and_its_front_is_kept(rt: HostRuntime) -> Result<(), Fail> {
+        for (limit, front) in [(0, ""), (3, "hel"), (5, "hello"), (9, "hello")] {
+            let mut reader = FromRead::new(b"hello".as_slice());
+            let kept = read_all(rt.alloc(), &mut reader, limit)?;
+            assert_eq!(rt; kept.as_slice(), front.as_bytes());
+        }
+        Ok(())
+    }
+
+    #[test]
+    fn a_long_input_is_read_in_many_pieces(rt: HostRuntime) -> Result<(), Fail> {
+        let long = vec![in rt.alloc(); 7u8; 20_000]?;
+        let mut reader = FromRead::new(long.as_slice());
+        let kept = read_all(rt.alloc(), &mut reader, 65_536)?;
+        assert!(rt; kept == long);
+        Ok(())
+    }
+
+    #[test]
+    fn a_whole_text_is_written(rt: HostRuntime) -> Result<(), Fail> {
+        let mut writer = ToWrite::new(Vec::new(rt.alloc()));
+        assert_eq!(rt; write_all(&mut writer, b"hello"), Ok(()));
+        assert_eq!(rt; write_all(&mut writer, b""), Ok(()));
+        assert_eq!(rt; writer.into_inner().as_slice(), b"hello".as_slice());
+        Ok(())
+    }
+}

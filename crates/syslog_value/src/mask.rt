@@ -1,0 +1,106 @@
+//! Which severities a sender lets through (setlogmask(3)).
+ghost use Rattle.std.specs.Prelude.{◌≡◌, ◌≤◌, ◌<◌, ◌↔◌, ◌⊎◌, ◌^◌, ℕ, IsTrue};
+ghost use Rattle.syslog_value.specs.declared.severity.Severity.{Severity};
+ghost use Rattle.syslog_value.specs.Severities.{severity_code};
+ghost use Rattle.syslog_value.specs.Masks.{Holds};
+
+use crate::Severity;
+use std::marker::Model;
+
+/// A set of severities.
+#[derive(Clone, Copy, Debug, PartialEq, Eq)]
+pub struct Mask {
+    bits: u8,
+}
+
+impl Model for Mask {
+    ghost Value = { ℕ };
+
+    ghost view = { λ m. m.bits };
+
+    ghost invariant = { λ m. m.bits < 256 };
+
+    ghost inverse = { λ n. record { bits = n } };
+}
+
+impl Mask {
+    /// The set of all severities.
+    pub fn all() -> Mask
+        ensures { (s : Severity) → Holds result s }
+    {
+        Mask { bits: 0xff }
+    }
+
+    /// The empty set.
+    pub fn none() -> Mask
+        ensures { (s : Severity) → ¬ Holds result s }
+    {
+        Mask { bits: 0 }
+    }
+
+    /// The set of this severity alone (LOG_MASK).
+    pub fn of(severity: Severity) -> Mask
+        ensures { (s : Severity) → Holds result s ↔ (s ≡ severity) }
+    {
+        Mask {
+            bits: 1 << severity.code(),
+        }
+    }
+
+    /// The set of this severity and all that are graver (LOG_UPTO).
+    pub fn up_to(severity: Severity) -> Mask
+        ensures { (s : Severity) → Holds result s ↔ (severity_code s ≤ severity_code severity) }
+    {
+        Mask {
+            bits: 0xff >> (7 - severity.code()),
+        }
+    }
+
+    /// The set of what is in either.
+    pub fn union(self, other: Mask) -> Mask
+        ensures { (s : Severity) → Holds result s ↔ (Holds self s ⊎ Holds other s) }
+    {
+        Mask {
+            bits: self.bits | other.bits,
+        }
+    }
+
+    /// Whether the severity is in the set.
+    pub fn holds(self, severity: Severity) -> bool
+        ensures { IsTrue result ↔ Holds self severity }
+    {
+        self.bits & 1 << severity.code() != 0
+    }
+
+    /// Whether no severity is in the set.
+    pub fn is_empty(self) -> bool
+        ensures { IsTrue result ↔ ((s : Severity) → ¬ Holds self s) }
+    {
+        self.bits == 0
+    }
+}
+
+#[cfg(test)]
+mod tests {
+    use super::*;
+
+    #[test]
+    fn a_mask_holds_what_was_put_in(rt: HostRuntime) {
+        let warning = Mask::up_to(Severity::Warning);
+        for severity in Severity::ALL {
+            let graver = severity.code() <= 4;
+            assert_eq!(rt; warning.holds(severity), graver);
+            assert_eq!(rt;
+                Mask::of(Severity::Error).holds(severity),
+                severity.code() == 3
+            );
+            assert!(rt; Mask::all().holds(severity));
+            assert!(rt; !Mask::none().holds(severity));
+        }
+        let both = Mask::of(Severity::Emergency).union(Mask::of(Severity::Debug));
+        assert!(rt; both.holds(Severity::Emergency) && both.holds(Severity::Debug));
+        assert!(rt; !both.holds(Severity::Notice) && !both.is_empty());
+        assert!(rt; Mask::none().is_empty());
+        assert_eq!(rt; Mask::up_to(Severity::Debug), Mask::all());
+    }
+}

@@ -1,0 +1,88 @@
+//! The number that stands for a facility and a severity (RFC 5424, section 6.2.1).
+ghost use Rattle.std.specs.Prelude.{◌≡◌, ◌+◌, ◌*◌, ◌/◌, ◌%◌, ◌≤◌, ◌↔◌, ℕ, IsSome, IfSome};
+ghost use Rattle.syslog_value.specs.Severities.{severity_code};
+ghost use Rattle.syslog_value.specs.Facilities.{facility_code};
+
+use crate::{Facility, Severity};
+use std::marker::Model;
+
+/// PRIVAL: eight times the facility's code, and the severity's code. It is 0 to 191.
+#[derive(Clone, Copy, Debug, PartialEq, Eq)]
+pub struct Priority {
+    value: u8,
+}
+
+impl Model for Priority {
+    ghost Value = { ℕ };
+
+    ghost view = { λ p. p.value };
+
+    ghost invariant = { λ p. p.value ≤ 191 };
+
+    ghost inverse = { λ n. record { value = n } };
+}
+
+impl Priority {
+    /// The priority with this number, where it is one.
+    pub fn from_value(value: u8) -> Option<Priority>
+        ensures valid { IsSome result ↔ (value ≤ 191) }
+        ensures value { IfSome result (λ priority. priority ≡ value) }
+    {
+        if value > 191 {
+            return None;
+        }
+        Some(Priority { value })
+    }
+
+    pub fn new(facility: Facility, severity: Severity) -> Priority
+        ensures { result ≡ facility_code facility * 8 + severity_code severity }
+    {
+        Priority {
+            value: facility.code() * 8 + severity.code(),
+        }
+    }
+
+    /// The number, 0 to 191.
+    pub fn value(self) -> u8
+        ensures value { result ≡ self }
+        ensures range { result ≤ 191 }
+    {
+        self.value
+    }
+
+    pub fn facility(self) -> Facility
+        ensures { facility_code result ≡ self / 8 }
+    {
+        Facility::from_code(self.value / 8).unwrap()
+    }
+
+    pub fn severity(self) -> Severity
+        ensures { severity_code result ≡ self % 8 }
+    {
+        Severity::from_code(self.value % 8).unwrap()
+    }
+}
+
+#[cfg(test)]
+mod tests {
+    use super::*;
+
+    #[test]
+    fn a_priority_is_its_facility_and_severity(rt: HostRuntime) {
+        for (value, facility, severity) in [
+            (0, Facility::Kern, Severity::Emergency),
+            (13, Facility::User, Severity::Notice),
+            (34, Facility::Auth, Severity::Critical),
+            (165, Facility::Local4, Severity::Notice),
+            (191, Facility::Local7, Severity::Debug),
+        ] {
+            let priority = Priority::new(facility, severity);
+            assert_eq!(rt; priority.value(), value);
+            assert_eq!(rt; Priority::from_value(value), Some(priority));
+            assert_eq!(rt; priority.facility(), facility);
+            assert_eq!(rt; priority.severity(), severity);
+        }
+        assert_eq!(rt; Priority::from_value(192), None);
+        assert_eq!(rt; Priority::from_value(255), None);
+    }
+}

@@ -1,0 +1,105 @@
+//! How grave an event is (RFC 5424, section 6.2.1, table 2).
+ghost use Rattle.std.specs.Prelude.{◌≡◌, ◌≢◌, ◌≤◌, ◌↔◌, IsSome, IfSome, IfNone};
+ghost use Rattle.syslog_value.specs.Severities.{severity_code, severity_name, IsNoSeverityName};
+
+/// A severity of RFC 5424, the gravest first.
+#[derive(Clone, Copy, Debug, PartialEq, Eq, PartialOrd, Ord)]
+pub enum Severity {
+    /// The system is unusable.
+    Emergency,
+    /// Action must be taken at once.
+    Alert,
+    Critical,
+    Error,
+    Warning,
+    /// Normal but significant.
+    Notice,
+    Informational,
+    Debug,
+}
+
+impl Severity {
+    /// Every severity, at the place of its code.
+    pub const ALL: [Severity; 8] = [
+        Severity::Emergency,
+        Severity::Alert,
+        Severity::Critical,
+        Severity::Error,
+        Severity::Warning,
+        Severity::Notice,
+        Severity::Informational,
+        Severity::Debug,
+    ];
+
+    /// The severity with this code, 0 to 7.
+    pub fn from_code(code: u8) -> Option<Severity>
+        ensures valid { IsSome result ↔ (code ≤ 7) }
+        ensures value { IfSome result (λ severity. severity_code severity ≡ code) }
+    {
+        let place = usize::from(code);
+        if place < Severity::ALL.len() {
+            Some(Severity::ALL[place])
+        } else {
+            None
+        }
+    }
+
+    /// The code, 0 to 7.
+    pub fn code(self) -> u8
+        ensures value { result ≡ severity_code self }
+        ensures range { result ≤ 7 }
+    {
+        self as u8
+    }
+
+    /// The short name, in lower case.
+    pub fn name(self) -> &'static str
+        ensures { result.now ≡ severity_name self }
+    {
+        match self {
+            Severity::Emergency => "emerg",
+            Severity::Alert => "alert",
+            Severity::Critical => "crit",
+            Severity::Error => "err",
+            Severity::Warning => "warning",
+            Severity::Notice => "notice",
+            Severity::Informational => "info",
+            Severity::Debug => "debug",
+        }
+    }
+
+    /// The severity with this short name.
+    pub fn from_name(name: &str) -> Option<Severity>
+        ensures found { IfSome result (λ severity. severity_name severity ≡ name.now) }
+        ensures none { IfNone result (IsNoSeverityName name.now) }
+    {
+        for severity in Severity::ALL {
+            if severity.name() == name {
+                return Some(severity);
+            }
+        }
+        None
+    }
+}
+
+#[cfg(test)]
+mod tests {
+    use super::*;
+
+    #[test]
+    fn each_code_has_its_name(rt: HostRuntime) {
+        let names = [
+            "emerg", "alert", "crit", "err", "warning", "notice", "info", "debug",
+        ];
+        for (code, name) in (0u8..8).zip(names) {
+            let severity = Severity::from_code(code);
+            assert_eq!(rt; severity.map(Severity::code), Some(code));
+            assert_eq!(rt; severity.map(Severity::name), Some(name));
+            assert_eq!(rt; Severity::from_name(name), severity);
+        }
+        assert_eq!(rt; Severity::from_code(8), None);
+        for name in ["", "error", "Err", "warn", "debug ", "panic"] {
+            assert_eq!(rt; Severity::from_name(name), None, "{name}");
+        }
+    }
+}
