@@ -1,8 +1,8 @@
 -- Texts by their first octet.
-use Rattle.std.proofs.Common.{◌≡◌, ℕ, List, [], ◌∷◌, ◌++◌, sym, ap, subst, ◌∙◌}
+use Rattle.std.proofs.Common.{◌≡◌, ℕ, List, [], ◌∷◌, ◌++◌, length, refl, sym, ap, subst, ◌∙◌}
 use Rattle.std.specs.Prelude.{Result, Ok, Err}
-use Rattle.octet_language.specs.Language.{Language, Begins, Refuses, NoFront}
-use Rattle.octet_language.specs.Reading.{Passes}
+use Rattle.octet_language.specs.Language.{Language, Begins, Refuses, NoFront, IfFront}
+use Rattle.octet_language.specs.Reading.{Fails, Passes}
 use Rattle.octet_language.proofs.Lists.{heads, tails}
 
 refuses_behind : (L M : Language) (x : ℕ) (p rest : List ℕ) → ((s : List ℕ) → M (x ∷ s) → L s) → Refuses L p rest → Refuses M (x ∷ p) rest
@@ -70,3 +70,26 @@ Passes-alike at L M x b rest t view (Err s) from to someL some text e f = record
     refuses = alike_all L M x rest f.stops.read f.stops.rest from (sym e ∙ f.stops.parts) f.stops.refuses;
   };
 }
+
+-- ---- the same of failures alone
+
+-- where the texts of M that begin with x go on as those of L
+pub Fails-behind : (L M : Language) (x : ℕ) (b rest : List ℕ) (left : ℕ) → ((s : List ℕ) → M (x ∷ s) → L s) → ((s : List ℕ) → L s → M (x ∷ s)) → ¬ (M []) → b ≡ x ∷ rest → Fails L rest left → Fails M b left
+Fails-behind L M x b rest left from to some e f = Passes-behind {X = List ℕ} (λ n. n) L M x b rest (λ r. r) (Err left) from to some e f
+
+-- where the texts of M that begin with x are those of L
+pub Fails-alike : (L M : Language) (x : ℕ) (b rest t : List ℕ) (left : ℕ) → ((s : List ℕ) → M (x ∷ s) → L (x ∷ s)) → ((s : List ℕ) → L (x ∷ s) → M (x ∷ s)) → ¬ (L []) → ¬ (M []) → M t → b ≡ x ∷ rest → Fails L b left → Fails M b left
+Fails-alike L M x b rest t left from to someL some text e f = Passes-alike {X = List ℕ} (λ n. n) L M x b rest t (λ r. r) (Err left) from to someL some text e f
+
+front_refuses : (L : Language) (b : List ℕ) → IfFront (λ x. (s : List ℕ) → ¬ (L (x ∷ s))) b → Refuses L [] b
+front_refuses L [] h = tt
+front_refuses L (x ∷ b) h = λ (more, k). h more k
+
+front_none : (L : Language) (b : List ℕ) → ¬ (L []) → IfFront (λ x. (s : List ℕ) → ¬ (L (x ∷ s))) b → NoFront L b
+front_none L b some h [] y e k = some k
+front_none L [] some h (z ∷ u) y e k = absurd cc
+front_none L (x ∷ b) some h (z ∷ u) y e k = h u (subst (λ (n : ℕ). L (n ∷ u)) (sym (heads x z b (u ++ y) e)) k)
+
+-- at the end, or before an octet with which no text begins
+pub Fails-front : (L : Language) (b t : List ℕ) → L t → ¬ (L []) → IfFront (λ x. (s : List ℕ) → ¬ (L (x ∷ s))) b → Fails L b (length b)
+Fails-front L b t some empty h = record { none = front_none L b empty h; stops = record { read = []; rest = b; parts = refl; count = refl; begins = (t, some); refuses = front_refuses L b h } }

@@ -4,7 +4,11 @@ pub mod Words
 pub mod Front
 pub mod Characters
 pub mod Ahead
+pub mod Classes
+pub mod Separated
 pub mod Names
+pub mod Times
+pub mod Fractions
 pub mod Values
 pub mod Texts
 pub mod Loops

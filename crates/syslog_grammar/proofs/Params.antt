@@ -8,8 +8,9 @@ use Rattle.octet_language.proofs.Lists.{heads}
 use Rattle.octet_language.proofs.Sequence.{OneFront-then}
 use Rattle.octet_language.proofs.Chain.{Fails-first, Fails-later, Fails-same, Fails-second_value, Follows-then, OneFront-only, OneFront-same, Reads-later}
 use Rattle.octet_language.proofs.Many.{Many, many_cases, OneFront-many}
+use Rattle.syslog_value.specs.Parts.{IsNameOctet}
 use Rattle.syslog_grammar.specs.Grammar.{Name, Param, Element}
-use Rattle.syslog_grammar.specs.Spans.{Text, StopsInName, ParamSpan, SpannedValue, SpannedParam, ElementSpan, SpannedElement}
+use Rattle.syslog_grammar.specs.Spans.{Text, StopsInRun, ParamSpan, SpannedValue, SpannedParam, ElementSpan, SpannedElement}
 use Rattle.syslog_grammar.specs.Values.{Piece}
 use Rattle.syslog_grammar.proofs.Ahead.{StartsIn, Fails-ahead, OneFront-ahead}
 use Rattle.syslog_grammar.proofs.Names.{EndsName, OneAhead-name, Fails-name, letter}
@@ -23,7 +24,7 @@ Named m B = Only (m ∷ []) ⋅ (AnyOf Name ⋅ B)
 pub bad_mark : (m : ℕ) (B : Language) (b t : List ℕ) (left : ℕ) → B t → Fails (Only (m ∷ [])) b left → Fails (Named m B) b left
 bad_mark m B b t left some f = Fails-first (Only (m ∷ [])) (AnyOf Name ⋅ B) b (97 ∷ t) left (97 ∷ [], t, refl, letter, some) f
 
-pub bad_name : (m : ℕ) (B : Language) (b rest t : List ℕ) (left : ℕ) → B t → OneFront B → StartsIn EndsName B → Follows (Only (m ∷ [])) b rest → StopsInName rest left → Fails (Named m B) b left
+pub bad_name : (m : ℕ) (B : Language) (b rest t : List ℕ) (left : ℕ) → B t → OneFront B → StartsIn EndsName B → Follows (Only (m ∷ [])) b rest → StopsInRun IsNameOctet 32 rest left → Fails (Named m B) b left
 bad_name m B b rest t left some one starts f g = Fails-later (Only (m ∷ [])) (AnyOf Name ⋅ B) b rest left (OneFront-only (m ∷ [])) f (Fails-name B rest t left some one starts g)
 
 pub bad_behind : (m : ℕ) (B : Language) (b rest after n : List ℕ) (left : ℕ) → StartsIn EndsName B → Follows (Only (m ∷ [])) b rest → Follows (Name n) rest after × IfFront EndsName after → Fails B after left → Fails (Named m B) b left

@@ -1,8 +1,7 @@
 -- What the readers of parts lend: the texts of parts as they lie in the octets.
-use Rattle.std.specs.Prelude.{◌≡◌, ℕ, List, [], ◌∷◌, ◌++◌, length, ◌⊎◌}
+use Rattle.std.specs.Prelude.{◌≡◌, ℕ, ◌<◌, ◌≤◌, List, [], ◌∷◌, ◌++◌, length, ◌⊎◌}
 use Rattle.std.specs.List.{AllByRecursion}
 use Rattle.octet_language.specs.Language.{Language, Only, ◌⋅◌, AnyOf, Each, IfFront}
-use Rattle.syslog_value.specs.Parts.{IsNameOctet}
 use Rattle.syslog_grammar.specs.Grammar.{Name, Param}
 use Rattle.syslog_grammar.specs.Values.{Piece}
 
@@ -10,14 +9,20 @@ use Rattle.syslog_grammar.specs.Values.{Piece}
 abbrev pub Text : Language → List ℕ → Language
 Text L text b = L text × (b ≡ text)
 
--- a name is not whole: no octet of it stands in front, or more than it may have
-pub record StopsInName (b : List ℕ) (left : ℕ) : Type 0 where
+-- one to n octets of a class
+pub record IsRun (C : ℕ → Type 0) (n : ℕ) (b : List ℕ) : Type 0 where
+  pub some : 0 < length b
+  pub fits : length b ≤ n
+  pub octets : AllByRecursion C b
+
+-- a run is not whole: no octet of it stands in front, or more than it may have
+pub record StopsInRun (C : ℕ → Type 0) (n : ℕ) (b : List ℕ) (left : ℕ) : Type 0 where
   pub read : List ℕ
   pub rest : List ℕ
   pub parts : b ≡ read ++ rest
   pub count : length rest ≡ left
-  pub octets : AllByRecursion IsNameOctet read
-  pub ends : ((read ≡ []) × IfFront (λ x. IsNameOctet x → ⊥) rest) ⊎ ((length read ≡ 32) × IfFront IsNameOctet rest)
+  pub octets : AllByRecursion C read
+  pub ends : ((read ≡ []) × IfFront (λ x. C x → ⊥) rest) ⊎ ((length read ≡ n) × IfFront C rest)
 
 -- a parameter by its name and the spelling of its value
 pub record ParamSpan : Type 0 where

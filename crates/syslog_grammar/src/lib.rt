@@ -9,6 +9,7 @@ mod reading;
 #[cfg(test)]
 mod tests;
 mod text;
+mod timestamp;
 mod utf8;
 mod value;
 mod word;

@@ -6,7 +6,7 @@ ghost use Rattle.octet_language.specs.Language.{IfFront};
 ghost use Rattle.octet_language.specs.Reading.{Follows};
 ghost use Rattle.syslog_value.specs.Parts.{IsNameOctet};
 ghost use Rattle.syslog_grammar.specs.Grammar.{Name};
-ghost use Rattle.syslog_grammar.specs.Spans.{StopsInName};
+ghost use Rattle.syslog_grammar.specs.Spans.{StopsInRun};
 
 use crate::reading::Stop;
 
@@ -54,7 +54,7 @@ fn goes_on(octets: &[u8]) -> bool
 pub fn name(octets: &[u8]) -> Result<(&[u8], &[u8]), Stop>
     ensures { MatchResult result
         (λ x. Follows (Name x.0.now) octets.now x.1.now × IfFront (λ y. IsNameOctet y → ⊥) x.1.now)
-        (λ e. StopsInName octets.now e.left) }
+        (λ e. StopsInRun IsNameOctet 32 octets.now e.left) }
 {
     let (name, rest) = octets.split_at(name_len(octets));
     if name.is_empty() {

@@ -1,6 +1,8 @@
 use Rattle.std.proofs.Common.{rules, ◌<◌, ◌≤◌, length, inr, refl}
 use Rattle.octet_language.specs.Language.{IfFront}
-use Rattle.syslog_grammar.proofs.Names.{EndsName, at_limit}
+use Rattle.syslog_grammar.proofs.Classes.{at_limit}
+use Rattle.syslog_grammar.proofs.Names.{EndsName}
+use Rattle.syslog_value.specs.Parts.{IsNameOctet}
 use Rattle.syslog_grammar.proofs.name.name.Goals as goal
 
 pub returns-then-goes_on : goal.returns-then-goes_on
@@ -15,5 +17,5 @@ returns-then-goes_on c =
       parts = search rules;
       count = refl;
       octets = search rules;
-      ends = inr (at_limit n c.split_at.result.1.now most ends goes.0 goes.1, goes.0);
+      ends = inr (at_limit IsNameOctet 32 n c.split_at.result.1.now most ends goes.0 goes.1, goes.0);
     }
