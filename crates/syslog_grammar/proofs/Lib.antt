@@ -15,3 +15,5 @@ pub mod Loops
 pub mod Params
 pub mod Utf8Text
 pub mod Messages
+pub mod DataTexts
+pub mod Headers

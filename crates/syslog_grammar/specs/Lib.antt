@@ -6,3 +6,4 @@ pub mod Dates
 pub mod Grammar
 pub mod Spans
 pub mod Views
+pub mod Fields

@@ -1,8 +1,9 @@
 -- What the readers of parts lend: the texts of parts as they lie in the octets.
-use Rattle.std.specs.Prelude.{◌≡◌, ℕ, ◌<◌, ◌≤◌, List, [], ◌∷◌, ◌++◌, length, ◌⊎◌}
+use Rattle.std.specs.Prelude.{◌≡◌, ◌≢◌, ℕ, ◌<◌, ◌≤◌, List, [], ◌∷◌, ◌++◌, length, ◌⊎◌}
 use Rattle.std.specs.List.{AllByRecursion}
-use Rattle.octet_language.specs.Language.{Language, Only, ◌⋅◌, AnyOf, Each, IfFront}
-use Rattle.syslog_grammar.specs.Grammar.{Name, Param}
+use Rattle.octet_language.specs.Language.{Language, Only, ◌⋅◌, AnyOf, Each, IfFront, NoFront}
+use Rattle.octet_language.specs.Reading.{Follows, Misses}
+use Rattle.syslog_grammar.specs.Grammar.{Name, Param, Element, Data, Tail}
 use Rattle.syslog_grammar.specs.Values.{Piece}
 
 -- a text of the language as its own octets
@@ -43,3 +44,21 @@ pub record ElementSpan : Type 0 where
 
 abbrev pub SpannedElement : ElementSpan → Language
 SpannedElement v = Only (91 ∷ []) ⋅ Name v.id ⋅ Text (AnyOf (Each Param)) v.params ⋅ Only (93 ∷ [])
+
+-- elements stand in front, one at least, and none behind them
+abbrev pub EndsElements : List ℕ → List ℕ → Type 0
+EndsElements b rest = Follows (AnyOf Element ⋅ AnyOf (Each Element)) b rest × IfFront (λ x. x ≢ 91) rest
+
+-- an element is not whole: with a tail behind the elements the octets are no text, and no elements and a space stand in front
+pub record StopsInElements (b : List ℕ) (left : ℕ) : Type 0 where
+  pub tail : Misses (AnyOf Element ⋅ AnyOf (Each Element) ⋅ AnyOf Tail) b left
+  pub space : NoFront (AnyOf Element ⋅ AnyOf (Each Element) ⋅ Only (32 ∷ [])) b
+
+-- structured data stands in front: the sign for none, or elements with none behind them
+abbrev pub EndsData : List ℕ → List ℕ → List ℕ → Type 0
+EndsData b text rest = (b ≡ text ++ rest) × ((text ≡ 45 ∷ []) ⊎ ((AnyOf Element ⋅ AnyOf (Each Element)) text × IfFront (λ x. x ≢ 91) rest))
+
+-- the structured data is not whole
+pub record StopsInData (b : List ℕ) (left : ℕ) : Type 0 where
+  pub tail : Misses (AnyOf Data ⋅ AnyOf Tail) b left
+  pub space : NoFront (AnyOf Data ⋅ Only (32 ∷ [])) b

@@ -1,7 +1,9 @@
 //! Syslog records as octets (RFC 5424, section 6).
 #![tactic(auto)]
 
+mod data;
 mod element;
+mod header;
 mod message;
 mod name;
 mod priority;
