@@ -17,3 +17,4 @@ pub mod Utf8Text
 pub mod Messages
 pub mod DataTexts
 pub mod Headers
+pub mod Records

@@ -140,7 +140,7 @@ from_tail s (m, inr (x, y, e, h, k)) = inl (x, y, e, h, (m, k))
 tail_or : (b : List ℕ) (left : ℕ) → b ≢ [] → Misses Spaces b left → Misses (AnyOf Tail) b left
 tail_or b left some m = Misses-or Spaces (Only []) (AnyOf Tail) b left to_tail from_tail some (not_empty b) m
 
-no_message : AnyOf Message []
+abbrev pub no_message : AnyOf Message []
 no_message = (AnyOctets [], (tt, (λ e. absurd cc), refl))
 
 pub tail_no_space : (b : List ℕ) (left : ℕ) → b ≢ [] → Fails (Only (32 ∷ [])) b left → Misses (AnyOf Tail) b left

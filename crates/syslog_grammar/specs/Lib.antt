@@ -7,3 +7,5 @@ pub mod Grammar
 pub mod Spans
 pub mod Views
 pub mod Fields
+pub mod Faults
+pub mod Spellings

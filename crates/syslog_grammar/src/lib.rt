@@ -3,11 +3,13 @@
 
 mod data;
 mod element;
+mod fault;
 mod header;
 mod message;
 mod name;
 mod priority;
 mod reading;
+mod syntax;
 #[cfg(test)]
 mod tests;
 mod text;
