@@ -1,9 +1,16 @@
 pub mod Calendar
 pub mod Device
+pub mod Equality
+pub mod EqualityLaws
 pub mod Facilities
+pub mod Fuses
 pub mod Instants
 pub mod Kept
 pub mod Masks
+pub mod Messages
 pub mod Order
 pub mod Parts
+pub mod Records
 pub mod Severities
+pub mod Structured
+pub mod Words

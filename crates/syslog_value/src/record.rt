@@ -1,0 +1,309 @@
+//! Records: what one syslog message says (RFC 5424, section 6).
+ghost use Rattle.std.specs.Prelude.{◌≡◌, None, [], ℤ, Option, IfOk, IfSome};
+ghost use Rattle.std.specs.Option.{option_copied};
+ghost use Rattle.syslog_value.specs.Parts.{Parts, IsRecord, IsWord, IsInstant};
+
+use crate::{Instant, Message, Priority, StructuredData, Word};
+use std::alloc::{AllocError, Global};
+use std::marker::Model;
+
+/// A syslog record. What is nil in a text is None.
+#[derive(Debug, Drop)]
+pub struct Record {
+    priority: Priority,
+    instant: Option<Instant>,
+    hostname: Option<Word<255>>,
+    app_name: Option<Word<48>>,
+    proc_id: Option<Word<128>>,
+    msg_id: Option<Word<32>>,
+    structured: StructuredData,
+    message: Message,
+}
+
+impl Model for Record {
+    ghost use Rattle.std.specs.Prelude.{ℤ};
+    ghost use Rattle.syslog_value.specs.Parts.{Parts, IsRecord};
+
+    ghost Value = { Parts ℤ };
+
+    ghost use Rattle.syslog_value.specs.Records.{parts_of};
+
+    ghost view = { parts_of };
+
+    ghost invariant = { λ r. IsRecord (parts_of r) };
+}
+
+impl Record {
+    /// The record of these parts.
+    pub fn new(
+        priority: Priority,
+        instant: Option<Instant>,
+        hostname: Option<Word<255>>,
+        app_name: Option<Word<48>>,
+        proc_id: Option<Word<128>>,
+        msg_id: Option<Word<32>>,
+        structured: StructuredData,
+        message: Message,
+    ) -> Record
+        ensures { result ≡ record {
+          priority = priority;
+          time = instant;
+          hostname = hostname;
+          app_name = app_name;
+          proc_id = proc_id;
+          msg_id = msg_id;
+          elements = structured;
+          message = message;
+        } }
+    {
+        let _ = priority.value();
+        look_at_instant(&instant);
+        look_at_word(&hostname);
+        look_at_word(&app_name);
+        look_at_word(&proc_id);
+        look_at_word(&msg_id);
+        let _ = structured.elements();
+        let _ = message.octets();
+        Record {
+            priority,
+            instant,
+            hostname,
+            app_name,
+            proc_id,
+            msg_id,
+            structured,
+            message,
+        }
+    }
+
+    /// The record of a priority and a message, all else nil.
+    pub fn plain(alloc: Global, priority: Priority, message: Message) -> Record
+        ensures { result ≡ record {
+          priority = priority;
+          time = None;
+          hostname = None;
+          app_name = None;
+          proc_id = None;
+          msg_id = None;
+          elements = [];
+          message = message;
+        } }
+    {
+        let structured = StructuredData::empty(alloc);
+        Record::new(priority, None, None, None, None, None, structured, message)
+    }
+
+    pub fn priority(&self) -> Priority
+        ensures value { result ≡ self.now.priority }
+        ensures valid { IsRecord self.now }
+    {
+        self.priority
+    }
+
+    pub fn instant(&self) -> Option<Instant>
+        ensures { result ≡ self.now.time }
+    {
+        self.instant
+    }
+
+    pub fn hostname(&self) -> Option<&Word<255>>
+        ensures { option_copied result ≡ self.now.hostname }
+    {
+        self.hostname.as_ref()
+    }
+
+    pub fn app_name(&self) -> Option<&Word<48>>
+        ensures { option_copied result ≡ self.now.app_name }
+    {
+        self.app_name.as_ref()
+    }
+
+    pub fn proc_id(&self) -> Option<&Word<128>>
+        ensures { option_copied result ≡ self.now.proc_id }
+    {
+        self.proc_id.as_ref()
+    }
+
+    pub fn msg_id(&self) -> Option<&Word<32>>
+        ensures { option_copied result ≡ self.now.msg_id }
+    {
+        self.msg_id.as_ref()
+    }
+
+    pub fn structured(&self) -> &StructuredData
+        ensures { result.now ≡ self.now.elements }
+    {
+        &self.structured
+    }
+
+    pub fn message(&self) -> &Message
+        ensures { result.now ≡ self.now.message }
+    {
+        &self.message
+    }
+
+    pub fn copy(&self, alloc: Global) -> Result<Record, AllocError>
+        ensures { IfOk result (λ r. r ≡ self.now) }
+    {
+        Ok(Record {
+            priority: self.priority,
+            instant: self.instant,
+            hostname: copy_word(alloc, &self.hostname)?,
+            app_name: copy_word(alloc, &self.app_name)?,
+            proc_id: copy_word(alloc, &self.proc_id)?,
+            msg_id: copy_word(alloc, &self.msg_id)?,
+            structured: self.structured.copy(alloc)?,
+            message: self.message.copy(alloc)?,
+        })
+    }
+}
+
+impl PartialEq for Record {
+    ghost use Rattle.std.specs.Prelude.{◌≡◌, ◌↔◌, IsTrue};
+    ghost use Rattle.std.specs.Cmp.{decided, partial_equiv_from_equiv};
+    ghost use Rattle.syslog_value.specs.EqualityLaws.{record_decides};
+    ghost use Rattle.syslog_value.specs.Equality.{record_eq};
+
+    ghost eq = { record_eq };
+
+    ghost laws = { partial_equiv_from_equiv (decided record_eq record_decides) };
+
+    #[tactic(auto, unfolding(crate::specs::Equality::record_eq, crate::specs::Equality::words_eq))]
+    fn eq(&self, other: &Record) -> bool
+        ensures value { result ≡ record_eq self.now other.now }
+        ensures same { IsTrue result ↔ (self.now ≡ other.now) }
+    {
+        self.priority == other.priority
+            && self.instant == other.instant
+            && self.hostname == other.hostname
+            && self.app_name == other.app_name
+            && self.proc_id == other.proc_id
+            && self.msg_id == other.msg_id
+            && self.structured == other.structured
+            && self.message == other.message
+    }
+}
+
+impl Eq for Record {
+    ghost use Rattle.std.specs.Cmp.{decided};
+    ghost use Rattle.syslog_value.specs.EqualityLaws.{record_decides};
+    ghost use Rattle.syslog_value.specs.Equality.{record_eq};
+
+    ghost laws = { decided record_eq record_decides };
+}
+
+// an instant is in range by its type
+fn look_at_instant(instant: &Option<Instant>)
+    ensures { IfSome instant.now IsInstant }
+{
+    if let Some(instant) = instant {
+        let _ = instant.micros();
+    }
+}
+
+// a word is valid by its type
+fn look_at_word<const N: usize>(word: &Option<Word<N>>)
+    ensures { IfSome word.now (IsWord N) }
+{
+    if let Some(word) = word {
+        let _ = word.bytes();
+    }
+}
+
+fn copy_word<const N: usize>(
+    alloc: Global,
+    word: &Option<Word<N>>,
+) -> Result<Option<Word<N>>, AllocError>
+    ensures { IfOk result (λ copied. copied ≡ word.now) }
+{
+    match word {
+        Some(word) => Ok(Some(word.copy(alloc)?)),
+        None => Ok(None),
+    }
+}
+
+#[cfg(test)]
+mod tests {
+    use super::*;
+    use crate::{Element, Facility, SdName, Severity};
+    use std::test::Fail;
+
+    #[test]
+    fn a_plain_record_has_a_priority_and_a_message(rt: HostRuntime) -> Result<(), Fail> {
+        let priority = Priority::new(Facility::Local4, Severity::Notice);
+        let hello = Message::any(b"hello".to_vec(rt.alloc())?)
+            .ok()
+            .ok_or("refused")?;
+        let record = Record::plain(rt.alloc(), priority, hello).copy(rt.alloc())?;
+        assert_eq!(rt; record.priority().value(), 165);
+        assert_eq!(rt; record.message().octets(), b"hello".as_slice());
+        assert!(rt; record.instant().is_none() && record.hostname().is_none());
+        assert!(rt; record.app_name().is_none() && record.proc_id().is_none());
+        assert!(rt; record.msg_id().is_none() && record.structured().elements().is_empty());
+        Ok(())
+    }
+
+    fn with_elements(alloc: Global, ids: [&[u8]; 2]) -> Result<StructuredData, Fail> {
+        let mut structured = StructuredData::empty(alloc);
+        for id in ids {
+            let element = Element::new(SdName::new(alloc, id)?, Vec::new(alloc));
+            structured.push(element).map_err(|refused| refused.1)?;
+        }
+        Ok(structured)
+    }
+
+    fn filled(alloc: Global, ids: [&[u8]; 2]) -> Result<Record, Fail> {
+        let structured = with_elements(alloc, ids)?;
+        let (host, app) = (Word::new(alloc, b"h")?, Word::new(alloc, b"su")?);
+        let (proc, msg) = (Word::new(alloc, b"8710")?, Word::new(alloc, b"ID47")?);
+        Ok(Record::new(
+            Priority::new(Facility::Mail, Severity::Debug),
+            Instant::from_micros(1_061_727_255_000_003),
+            Some(host),
+            Some(app),
+            Some(proc),
+            Some(msg),
+            structured,
+            Message::empty(alloc),
+        ))
+    }
+
+    #[test]
+    fn the_order_of_elements_carries_no_meaning(rt: HostRuntime) -> Result<(), Fail> {
+        let record = filled(rt.alloc(), [b"a", b"b"])?;
+        let other = filled(rt.alloc(), [b"b", b"a"])?;
+        assert!(rt; record == other);
+        let copy = record.copy(rt.alloc())?;
+        assert!(rt; record == copy);
+        Ok(())
+    }
+
+    #[test]
+    fn other_elements_make_another_record(rt: HostRuntime) -> Result<(), Fail> {
+        let record = filled(rt.alloc(), [b"a", b"b"])?;
+        let other = filled(rt.alloc(), [b"a", b"c"])?;
+        assert!(rt; record != other);
+        Ok(())
+    }
+
+    #[test]
+    fn the_parts_of_a_record_come_back(rt: HostRuntime) -> Result<(), Fail> {
+        let record = filled(rt.alloc(), [b"a", b"b"])?;
+        assert_eq!(rt; record.priority().value(), 23);
+        assert_eq!(rt;
+            record.instant().map(Instant::micros),
+            Some(1_061_727_255_000_003)
+        );
+        for (word, octets) in [
+            (record.hostname().map(Word::bytes), b"h".as_slice()),
+            (record.app_name().map(Word::bytes), b"su"),
+            (record.proc_id().map(Word::bytes), b"8710"),
+            (record.msg_id().map(Word::bytes), b"ID47"),
+        ] {
+            assert_eq!(rt; word.ok_or("nil")?, octets);
+        }
+        assert_eq!(rt; record.structured().elements().len(), 2);
+        assert!(rt; !record.message().has_mark());
+        Ok(())
+    }
+}

@@ -1,0 +1,162 @@
+//! Structured data: elements under ids of which none stands twice (RFC 5424, section 6.3).
+ghost use Rattle.std.specs.Prelude.{◌≡◌, List, [], OnOk, IfOk, IfErr, length};
+ghost use Rattle.std.specs.Cmp.Lexicographic.{slice_cmp};
+ghost use Rattle.std.specs.List.{AllByRecursion};
+ghost use Rattle.std.specs.List.Sorted.{IsSearchInRange, IsBinarySearchResult};
+ghost use Rattle.std.specs.Ordering.{nat_cmp};
+ghost use Rattle.syslog_value.specs.Parts.{ElementParts, IsElement, IsById};
+ghost use Rattle.syslog_value.specs.Structured.{AddsElement, IsPushFault};
+
+use crate::{Element, SdName};
+use std::alloc::{AllocError, Global};
+use std::marker::Model;
+use thiserror::Error;
+
+/// Why an element was not added.
+#[derive(Clone, Copy, Debug, PartialEq, Eq, Error)]
+pub enum PushFault {
+    /// There is an element with this id.
+    #[error("there is an element with this id")]
+    RepeatedId,
+    /// A growth was refused.
+    #[error("want of memory")]
+    Memory,
+}
+
+/// Elements in the order of their ids as octets, so that their order in a text carries no meaning.
+#[derive(Debug, Drop)]
+pub struct StructuredData {
+    elements: Vec<Element>,
+}
+
+impl Model for StructuredData {
+    ghost Value = { List ElementParts };
+
+    ghost view = { λ s. s.elements.items };
+
+    ghost invariant = { λ s. AllByRecursion IsElement s.elements.items × IsById s.elements.items };
+}
+
+impl StructuredData {
+    /// Structured data without elements.
+    pub fn empty(alloc: Global) -> StructuredData
+        ensures { result ≡ [] }
+    {
+        StructuredData {
+            elements: Vec::new(alloc),
+        }
+    }
+
+    /// The elements, ascending by their ids.
+    pub fn elements(&self) -> &[Element]
+        ensures value { result.now ≡ self.now }
+        ensures valid { AllByRecursion IsElement self.now }
+        ensures by_id { IsById self.now }
+    {
+        self.elements.as_slice()
+    }
+
+    /// Adds an element at its place. It comes back where its id is there, or memory was refused.
+    pub fn push(&mut self, element: Element) -> Result<(), (Element, PushFault)>
+        ensures ok { OnOk result (AddsElement element self.old self.new) }
+        ensures err { IfErr result (λ refusal.
+            (refusal.0 ≡ element) × IsPushFault self.old element refusal.1
+            × (self.new ≡ self.old)) }
+    {
+        let place = match place_of(self.elements.as_slice(), element.id()) {
+            Ok(_) => return Err((element, PushFault::RepeatedId)),
+            Err(place) => place,
+        };
+        if let Err(refused) = self.elements.insert(place, element) {
+            return Err((refused.value, PushFault::Memory));
+        }
+        Ok(())
+    }
+
+    pub fn copy(&self, alloc: Global) -> Result<StructuredData, AllocError>
+        ensures { IfOk result (λ copied. copied ≡ self.now) }
+    {
+        let mut elements = Vec::with_capacity(alloc, self.elements.len())?;
+        for element in &self.elements {
+            elements.push(element.copy(alloc)?)?;
+        }
+        Ok(StructuredData { elements })
+    }
+}
+
+impl PartialEq for StructuredData {
+    ghost use Rattle.std.specs.Prelude.{◌≡◌, ◌↔◌, IsTrue};
+    ghost use Rattle.std.specs.Cmp.{decided, partial_equiv_from_equiv};
+    ghost use Rattle.syslog_value.specs.EqualityLaws.{elements_decide};
+    ghost use Rattle.std.specs.Cmp.Lexicographic.{pointwise};
+    ghost use Rattle.syslog_value.specs.Equality.{element_eq};
+
+    ghost eq = { pointwise element_eq };
+
+    ghost laws = { partial_equiv_from_equiv (decided (pointwise element_eq) elements_decide) };
+
+    fn eq(&self, other: &StructuredData) -> bool
+        ensures value { result ≡ pointwise element_eq self.now other.now }
+        ensures same { IsTrue result ↔ (self.now ≡ other.now) }
+    {
+        self.elements == other.elements
+    }
+}
+
+impl Eq for StructuredData {
+    ghost use Rattle.std.specs.Cmp.{decided};
+    ghost use Rattle.syslog_value.specs.EqualityLaws.{elements_decide};
+    ghost use Rattle.std.specs.Cmp.Lexicographic.{pointwise};
+    ghost use Rattle.syslog_value.specs.Equality.{element_eq};
+
+    ghost laws = { decided (pointwise element_eq) elements_decide };
+}
+
+// the element with this id, or the place where one would stand
+fn place_of(elements: &[Element], id: &SdName) -> Result<usize, usize>
+    ensures bound { IsSearchInRange result (length elements.now) }
+    ensures place { IsBinarySearchResult (λ e. slice_cmp nat_cmp e.id id.now) elements.now result }
+{
+    elements.binary_search_by(|element| element.id().bytes().cmp(id.bytes()))
+}
+
+#[cfg(test)]
+mod tests {
+    use super::*;
+    use crate::Param;
+    use std::test::Fail;
+
+    fn element(alloc: Global, id: &[u8], value: &str) -> Result<Element, Fail> {
+        let name = SdName::new(alloc, b"k")?;
+        let param = Param::new(name, String::from_str(alloc, value)?);
+        let params = vec![in alloc; param]?;
+        Ok(Element::new(SdName::new(alloc, id)?, params))
+    }
+
+    #[test]
+    fn elements_stand_by_id(rt: HostRuntime) -> Result<(), Fail> {
+        let mut data = StructuredData::empty(rt.alloc());
+        for id in [b"b".as_slice(), b"d", b"a", b"aa", b"c", b"B", b"z"] {
+            assert!(rt; data.push(element(rt.alloc(), id, "v")?).is_ok());
+        }
+        let ids = [b"B".as_slice(), b"a", b"aa", b"b", b"c", b"d", b"z"];
+        for (element, id) in data.elements().iter().zip(ids) {
+            assert_eq!(rt; element.id().bytes(), id);
+        }
+        assert_eq!(rt; data.elements().len(), 7);
+        Ok(())
+    }
+
+    #[test]
+    fn a_second_element_of_an_id_comes_back(rt: HostRuntime) -> Result<(), Fail> {
+        let mut data = StructuredData::empty(rt.alloc());
+        assert!(rt; data.push(element(rt.alloc(), b"a", "first")?).is_ok());
+        let before = data.copy(rt.alloc())?;
+        let second = element(rt.alloc(), b"a", "second")?;
+        let (back, fault) = data.push(second).err().ok_or("taken")?;
+        assert_eq!(rt; fault, PushFault::RepeatedId);
+        assert!(rt; back == element(rt.alloc(), b"a", "second")?);
+        assert!(rt; data == before);
+        Ok(())
+    }
+}

@@ -1,0 +1,275 @@
+//! Words of printable octets, and the names of structured data (RFC 5424, sections 6.2 and 6.3).
+ghost use Rattle.std.specs.Prelude.{◌≡◌, ◌≤◌, IfOk, IfErr, MatchOption, ℕ, List};
+ghost use Rattle.std.specs.List.{AllByRecursion};
+ghost use Rattle.syslog_value.specs.Parts.{IsWord, IsName, IsPrintable, IsNameOctet};
+ghost use Rattle.syslog_value.specs.Words.{IsWordFault, IsNameFault, IsFirstBad};
+
+use std::alloc::{AllocError, Global};
+use std::marker::Model;
+use thiserror::Error;
+
+/// Why octets are no word, or no name.
+#[derive(Clone, Copy, Debug, PartialEq, Eq, Error)]
+pub enum WordFault {
+    /// There are no octets.
+    #[error("there are no octets")]
+    Empty,
+    /// The one octet "-", which stands for a word that is not there.
+    #[error("the one octet - is no word")]
+    Nil,
+    #[error("there are too many octets")]
+    TooLong,
+    /// The first octet that is not allowed, counted from 0.
+    #[error("the octet at {offset} is not allowed")]
+    BadOctet { offset: usize },
+    /// A growth was refused.
+    #[error("want of memory")]
+    Memory,
+}
+
+impl From<AllocError> for WordFault {
+    ghost use Rattle.std.specs.Prelude.{◌≡◌};
+    ghost use Rattle.syslog_value.specs.declared.word.WordFault.TheVariants.{Memory};
+
+    ghost from_gives = { λ _ fault. fault ≡ Memory };
+
+    fn from(_: AllocError) -> WordFault {
+        WordFault::Memory
+    }
+}
+
+/// One to N printable octets of ASCII that are no space, and not the one octet "-".
+#[derive(Debug, Drop)]
+pub struct Word<const N: usize> {
+    octets: Vec<u8>,
+}
+
+impl<const N: usize> Model for Word<N> {
+    ghost Value = { List ℕ };
+
+    ghost view = { λ w. w.octets.items };
+
+    ghost invariant = { λ w. IsWord N w.octets.items };
+}
+
+impl<const N: usize> Word<N> {
+    /// The word of these octets.
+    pub fn new(alloc: Global, octets: &[u8]) -> Result<Word<N>, WordFault>
+        ensures ok { IfOk result (λ word. IsWord N octets.now × (word ≡ octets.now)) }
+        ensures err { IfErr result (IsWordFault N octets.now) }
+    {
+        match octets {
+            [] => return Err(WordFault::Empty),
+            b"-" => return Err(WordFault::Nil),
+            _ if octets.len() > N => return Err(WordFault::TooLong),
+            _ => {}
+        }
+        if let Some(offset) = first_unprintable(octets) {
+            return Err(WordFault::BadOctet { offset });
+        }
+        Ok(Word {
+            octets: octets.to_vec(alloc)?,
+        })
+    }
+
+    pub fn bytes(&self) -> &[u8]
+        ensures value { result.now ≡ self.now }
+        ensures valid { IsWord N self.now }
+    {
+        self.octets.as_slice()
+    }
+
+    pub fn copy(&self, alloc: Global) -> Result<Word<N>, AllocError>
+        ensures { IfOk result (λ word. word ≡ self.now) }
+    {
+        Ok(Word {
+            octets: self.octets.as_slice().to_vec(alloc)?,
+        })
+    }
+}
+
+impl<const N: usize> PartialEq for Word<N> {
+    ghost use Rattle.std.specs.Prelude.{◌≡◌, ◌↔◌, IsTrue};
+    ghost use Rattle.std.specs.Cmp.Rules.{comparing};
+    ghost use Rattle.std.proofs.Common.{rules};
+    ghost use Rattle.std.specs.Str.{bytes_eq};
+
+    ghost eq = { bytes_eq };
+
+    ghost laws = { Prim.search (comparing, rules) };
+
+    fn eq(&self, other: &Word<N>) -> bool
+        ensures value { result ≡ bytes_eq self.now other.now }
+        ensures same { IsTrue result ↔ (self.now ≡ other.now) }
+    {
+        self.octets == other.octets
+    }
+}
+
+impl<const N: usize> Eq for Word<N> {
+    ghost use Rattle.std.specs.Cmp.Rules.{comparing};
+    ghost use Rattle.std.proofs.Common.{rules};
+
+    ghost laws = { Prim.search (comparing, rules) };
+}
+
+/// SD-NAME: one to 32 printable octets but "=", "]" and the quotation mark.
+#[derive(Debug, Drop)]
+pub struct SdName {
+    octets: Vec<u8>,
+}
+
+impl Model for SdName {
+    ghost Value = { List ℕ };
+
+    ghost view = { λ n. n.octets.items };
+
+    ghost invariant = { λ n. IsName n.octets.items };
+}
+
+impl SdName {
+    /// The most octets of a name.
+    pub const MOST: usize = 32;
+
+    /// The name of these octets. It is never refused as `Nil`.
+    pub fn new(alloc: Global, octets: &[u8]) -> Result<SdName, WordFault>
+        ensures ok { IfOk result (λ name. IsName octets.now × (name ≡ octets.now)) }
+        ensures err { IfErr result (IsNameFault octets.now) }
+    {
+        if octets.is_empty() {
+            return Err(WordFault::Empty);
+        }
+        if octets.len() > SdName::MOST {
+            return Err(WordFault::TooLong);
+        }
+        if let Some(offset) = first_outside_names(octets) {
+            return Err(WordFault::BadOctet { offset });
+        }
+        Ok(SdName {
+            octets: octets.to_vec(alloc)?,
+        })
+    }
+
+    pub fn bytes(&self) -> &[u8]
+        ensures value { result.now ≡ self.now }
+        ensures valid { IsName self.now }
+    {
+        self.octets.as_slice()
+    }
+
+    pub fn copy(&self, alloc: Global) -> Result<SdName, AllocError>
+        ensures { IfOk result (λ name. name ≡ self.now) }
+    {
+        Ok(SdName {
+            octets: self.octets.as_slice().to_vec(alloc)?,
+        })
+    }
+}
+
+impl PartialEq for SdName {
+    ghost use Rattle.std.specs.Prelude.{◌≡◌, ◌↔◌, IsTrue};
+    ghost use Rattle.std.specs.Cmp.Rules.{comparing};
+    ghost use Rattle.std.proofs.Common.{rules};
+    ghost use Rattle.std.specs.Str.{bytes_eq};
+
+    ghost eq = { bytes_eq };
+
+    ghost laws = { Prim.search (comparing, rules) };
+
+    fn eq(&self, other: &SdName) -> bool
+        ensures value { result ≡ bytes_eq self.now other.now }
+        ensures same { IsTrue result ↔ (self.now ≡ other.now) }
+    {
+        self.octets == other.octets
+    }
+}
+
+impl Eq for SdName {
+    ghost use Rattle.std.specs.Cmp.Rules.{comparing};
+    ghost use Rattle.std.proofs.Common.{rules};
+
+    ghost laws = { Prim.search (comparing, rules) };
+}
+
+// where the first octet stands that is no printable one
+fn first_unprintable(octets: &[u8]) -> Option<usize>
+    ensures { MatchOption result (AllByRecursion IsPrintable octets.now)
+        (IsFirstBad IsPrintable octets.now) }
+{
+    for (place, octet) in octets.iter().enumerate() {
+        if !octet.is_ascii_graphic() {
+            return Some(place);
+        }
+    }
+    None
+}
+
+// where the first octet stands that is none of a name's
+fn first_outside_names(octets: &[u8]) -> Option<usize>
+    ensures { MatchOption result (AllByRecursion IsNameOctet octets.now)
+        (IsFirstBad IsNameOctet octets.now) }
+{
+    for (place, octet) in octets.iter().enumerate() {
+        if !octet.is_ascii_graphic() || matches!(octet, b'=' | b']' | b'"') {
+            return Some(place);
+        }
+    }
+    None
+}
+
+#[cfg(test)]
+mod tests {
+    use super::*;
+    use std::test::Fail;
+
+    #[test]
+    fn a_word_is_refused_for_its_first_fault(rt: HostRuntime) -> Result<(), Fail> {
+        let long = vec![in rt.alloc(); b'a'; 49]?;
+        for (octets, fault) in [
+            (b"".as_slice(), WordFault::Empty),
+            (b"-", WordFault::Nil),
+            (long.as_slice(), WordFault::TooLong),
+            (b"a b", WordFault::BadOctet { offset: 1 }),
+            (b"\x7f", WordFault::BadOctet { offset: 0 }),
+            (b"ab\xc3\xa9", WordFault::BadOctet { offset: 2 }),
+        ] {
+            let found = Word::<48>::new(rt.alloc(), octets).err();
+            assert_eq!(rt; found, Some(fault));
+        }
+        for octets in [
+            b"su".as_slice(),
+            b"--",
+            b"!",
+            b"~",
+            b"[a=\"b\"]",
+            &long[..48],
+        ] {
+            let word = Word::<48>::new(rt.alloc(), octets)?;
+            assert_eq!(rt; word.bytes(), octets);
+            assert!(rt; word.copy(rt.alloc())? == word);
+        }
+        Ok(())
+    }
+
+    #[test]
+    fn a_name_is_refused_for_its_first_fault(rt: HostRuntime) -> Result<(), Fail> {
+        let long = vec![in rt.alloc(); b'a'; 33]?;
+        for (octets, fault) in [
+            (b"".as_slice(), WordFault::Empty),
+            (long.as_slice(), WordFault::TooLong),
+            (b"a=b", WordFault::BadOctet { offset: 1 }),
+            (b"ab]", WordFault::BadOctet { offset: 2 }),
+            (b"\"", WordFault::BadOctet { offset: 0 }),
+            (b"a b", WordFault::BadOctet { offset: 1 }),
+        ] {
+            let found = SdName::new(rt.alloc(), octets).err();
+            assert_eq!(rt; found, Some(fault));
+        }
+        for octets in [b"-".as_slice(), b"a", b"a@32473", &long[..32]] {
+            let name = SdName::new(rt.alloc(), octets)?;
+            assert_eq!(rt; name.bytes(), octets);
+            assert!(rt; name.copy(rt.alloc())? == name);
+        }
+        Ok(())
+    }
+}
