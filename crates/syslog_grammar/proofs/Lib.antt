@@ -18,3 +18,5 @@ pub mod Messages
 pub mod DataTexts
 pub mod Headers
 pub mod Records
+pub mod Repeating
+pub mod Viewing

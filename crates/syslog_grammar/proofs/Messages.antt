@@ -140,8 +140,11 @@ from_tail s (m, inr (x, y, e, h, k)) = inl (x, y, e, h, (m, k))
 tail_or : (b : List ℕ) (left : ℕ) → b ≢ [] → Misses Spaces b left → Misses (AnyOf Tail) b left
 tail_or b left some m = Misses-or Spaces (Only []) (AnyOf Tail) b left to_tail from_tail some (not_empty b) m
 
-abbrev pub no_message : AnyOf Message []
-no_message = (AnyOctets [], (tt, (λ e. absurd cc), refl))
+pub empty_message : Message (AnyOctets []) []
+empty_message = (tt, (λ e. absurd cc), refl)
+
+no_message : AnyOf Message []
+no_message = (AnyOctets [], empty_message)
 
 pub tail_no_space : (b : List ℕ) (left : ℕ) → b ≢ [] → Fails (Only (32 ∷ [])) b left → Misses (AnyOf Tail) b left
 tail_no_space b left some f = tail_or b left some (Misses-field (Only (32 ∷ [])) (AnyOf Message) b [] left no_message f)

@@ -15,7 +15,7 @@ use Rattle.syslog_grammar.specs.declared.fault.Field.{Field}
 use Rattle.syslog_grammar.specs.declared.fault.Field.TheVariants as field
 use Rattle.syslog_grammar.specs.declared.fault.Fault.{Fault}
 use Rattle.syslog_grammar.specs.declared.fault.Fault.TheVariants.{Syntax, InstantRange, RepeatedId}
-use Rattle.syslog_grammar.proofs.Messages.{Misses-same, no_message}
+use Rattle.syslog_grammar.proofs.Messages.{Misses-same, empty_message}
 use Rattle.syslog_grammar.proofs.Headers.{OneFront-header}
 use Rattle.syslog_grammar.proofs.DataTexts.{data_misses, data_text, no_space}
 
@@ -99,7 +99,7 @@ take_place b p rest left e l =
     rw (n, e) (take_add p rest (length rest - left))
 
 space_begins : (m : List ℕ) → Begins (AnyOf Tail) (32 ∷ [])
-space_begins m = ([], (AnyOctets [], inr (32 ∷ [], [], refl, refl, no_message.1)))
+space_begins m = ([], (AnyOctets [], inr (32 ∷ [], [], refl, refl, empty_message)))
 
 -- behind a space a tail is not refused before the message
 in_message : (rest m : List ℕ) (left : ℕ) → rest ≡ 32 ∷ m → Misses (AnyOf Tail) rest left → left ≤ length m

@@ -1,8 +1,8 @@
 -- Well-formed records, and why octets are none.
-use Rattle.std.specs.Prelude.{◌≡◌, ◌≢◌, ℕ, ◌<◌, ◌≤◌, List, [], ◌∷◌, ◌++◌, length, take, count_by, ◌==◌, Any, IfSome, ⊤}
-use Rattle.std.specs.List.{AllByRecursion}
+use Rattle.std.specs.Prelude.{◌≡◌, ℕ, ◌<◌, ◌≤◌, List, [], ◌∷◌, ◌++◌, length, take, count_by, ◌==◌, IfSome, ⊤}
 use Rattle.octet_language.specs.Language.{Language, Only, ◌⋅◌, AnyOf, Each, IsPlace}
 use Rattle.syslog_value.specs.Parts.{ElementParts, Parts, IsInstant}
+use Rattle.syslog_value.specs.Structured.{HasId}
 use Rattle.syslog_grammar.specs.Grammar.{Priority, Version, Spaced, Header, Element, Data, Spelled}
 use Rattle.syslog_grammar.specs.Time.{CivilTime, instant}
 use Rattle.syslog_grammar.specs.declared.fault.Field.{Field}
@@ -17,7 +17,7 @@ IsInRange p = IfSome p.time (λ t. IsInstant (instant t))
 -- no id stands twice
 abbrev pub AreDistinct : List ElementParts → Type 0
 AreDistinct [] = ⊤
-AreDistinct (e ∷ es) = AllByRecursion (λ f. f.id ≢ e.id) es × AreDistinct es
+AreDistinct (e ∷ es) = ¬ (HasId e.id es) × AreDistinct es
 
 -- how often an octet stands in a text
 abbrev pub times : ℕ → List ℕ → ℕ
@@ -49,7 +49,7 @@ pub record Repeats (es before : List ElementParts) : Type 0 where
   pub behind : List ElementParts
   pub parts : es ≡ before ++ element ∷ behind
   pub distinct : AreDistinct before
-  pub same : Any (λ f. f.id ≡ element.id) before
+  pub same : HasId element.id before
 
 -- the fault of octets: outside the grammar at its place, else the instant, else an id
 abbrev pub FaultOf : List ℕ → Fault → Type 0

@@ -9,3 +9,6 @@ pub mod Views
 pub mod Fields
 pub mod Faults
 pub mod Spellings
+pub mod Ids
+pub mod Shown
+pub mod Instants

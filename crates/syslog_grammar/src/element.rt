@@ -26,6 +26,31 @@ pub struct ElementView<'a> {
     params: &'a [u8],
 }
 
+impl<'a> ParamView<'a> {
+    /// The name.
+    pub fn name(&self) -> &'a [u8]
+        ensures { result.now ≡ (param_span self.now).name }
+    {
+        self.name
+    }
+
+    /// The value as it is spelled between the quotation marks.
+    pub fn raw(&self) -> &'a [u8]
+        ensures { result.now ≡ (param_span self.now).raw }
+    {
+        self.raw
+    }
+}
+
+impl<'a> ElementView<'a> {
+    /// The id.
+    pub fn id(&self) -> &'a [u8]
+        ensures { result.now ≡ (element_span self.now).id }
+    {
+        self.id
+    }
+}
+
 /// Reads `="`, a value and the quotation mark behind it.
 #[inline(always)]
 fn assigned(octets: &[u8]) -> Result<(&[u8], &[u8]), Stop>

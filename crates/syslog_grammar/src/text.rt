@@ -5,8 +5,8 @@ ghost use Rattle.octet_language.specs.Language.{IsPlace};
 ghost use Rattle.octet_language.specs.Reading.{Misses};
 ghost use Rattle.syslog_grammar.specs.Utf8.{IsText};
 
+use crate::character::behind_character;
 use crate::reading::{Stop, next};
-use crate::utf8::behind_character;
 
 /// Reads characters up to the end.
 #[cold]

@@ -7,8 +7,8 @@ ghost use Rattle.syslog_grammar.specs.Spans.{Text};
 ghost use Rattle.syslog_grammar.specs.Stops.{left_of};
 ghost use Rattle.syslog_grammar.specs.Values.{Piece};
 
+use crate::character::behind_character;
 use crate::reading::{Stop, next};
-use crate::utf8::behind_character;
 
 /// Reads one piece of a value.
 #[inline(always)]

@@ -4,8 +4,8 @@ use Rattle.octet_language.specs.Language.{IfFront}
 use Rattle.syslog_grammar.specs.Stops.{left_of}
 use Rattle.syslog_grammar.specs.Utf8.{from_to, tail, row, table}
 use Rattle.syslog_grammar.proofs.Characters.{in_row, no_character, Outside}
-use Rattle.syslog_grammar.proofs.utf8.behind_character.Goals as goal
-use Rattle.syslog_grammar.proofs.utf8.behind_character.Goals.{in_default-first-via-then-first-lt194, in_default-first-via-else-first-lt194+else-first-lt224+else-first-lt237+else-first-lt240+else-first-lt244}
+use Rattle.syslog_grammar.proofs.character.behind_character.Goals as goal
+use Rattle.syslog_grammar.proofs.character.behind_character.Goals.{in_default-first-via-then-first-lt194, in_default-first-via-else-first-lt194+else-first-lt224+else-first-lt237+else-first-lt240+else-first-lt244}
 
 pub returns-in_default : goal.returns-in_default
 returns-in_default c = no_character c.args.octets.now (subst (IfFront _) (sym c.in_default.ensures) tt)

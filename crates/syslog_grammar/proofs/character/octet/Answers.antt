@@ -2,7 +2,7 @@ use Rattle.std.proofs.Common.{◌≡◌, ◌≤◌, ◌∷◌, sym, subst, arith
 use Rattle.octet_language.specs.Language.{IfFront}
 use Rattle.syslog_grammar.specs.Utf8.{from_to}
 use Rattle.syslog_grammar.proofs.Characters.{no_octet, some_octet}
-use Rattle.syslog_grammar.proofs.utf8.octet.Goals as goal
+use Rattle.syslog_grammar.proofs.character.octet.Goals as goal
 
 pub returns-in_default : goal.returns-in_default
 returns-in_default c = no_octet (from_to c.args.low c.args.high) c.args.octets.now c.requires (subst (IfFront _) (sym c.in_default.ensures) tt)

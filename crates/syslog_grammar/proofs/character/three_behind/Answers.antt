@@ -5,7 +5,7 @@ use Rattle.syslog_grammar.specs.Stops.{left_of}
 use Rattle.syslog_grammar.specs.Utf8.{from_to, tail, Octet}
 use Rattle.octet_language.proofs.Chain.{Fails-first, Passes-later}
 use Rattle.syslog_grammar.proofs.Characters.{OneFront-octet, octet_cons}
-use Rattle.syslog_grammar.proofs.utf8.three_behind.Goals as goal
+use Rattle.syslog_grammar.proofs.character.three_behind.Goals as goal
 
 pub returns-in_err-rest : goal.returns-in_err-rest
 returns-in_err-rest c =
