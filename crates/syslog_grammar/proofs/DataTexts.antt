@@ -12,7 +12,7 @@ use Rattle.syslog_grammar.specs.Grammar.{Element, Data, Tail}
 use Rattle.syslog_grammar.specs.Spans.{StopsInElements, EndsData, StopsInData, ElementSpan, SpannedElement}
 use Rattle.syslog_grammar.proofs.Ahead.{OneAhead, MayStartIn, Misses-ahead}
 use Rattle.syslog_grammar.proofs.Loops.{apart_mark}
-use Rattle.syslog_grammar.proofs.Params.{OneFront-element, Fails-element, Follows-element, element_front}
+use Rattle.syslog_grammar.proofs.ParamTexts.{OneFront-element, Fails-element, Follows-element, element_front}
 
 abbrev AnyTail : Language
 AnyTail = AnyOf Tail

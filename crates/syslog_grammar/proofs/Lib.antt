@@ -12,7 +12,7 @@ pub mod Fractions
 pub mod Values
 pub mod Texts
 pub mod Loops
-pub mod Params
+pub mod ParamTexts
 pub mod Utf8Text
 pub mod Messages
 pub mod DataTexts
@@ -20,3 +20,4 @@ pub mod Headers
 pub mod Records
 pub mod Repeating
 pub mod Viewing
+pub mod Meanings

@@ -19,7 +19,7 @@ use Rattle.syslog_grammar.specs.Ids.{HoldsDistinct, HoldsRepeated, IsAbove, IsAt
 use Rattle.syslog_grammar.specs.Spans.{ElementSpan, SpannedElement}
 use Rattle.syslog_grammar.proofs.Ahead.{may_start}
 use Rattle.syslog_grammar.proofs.Names.{EndsName, OneAhead-name}
-use Rattle.syslog_grammar.proofs.Params.{SpannedParams, params_start, OneFront-element, element_spanned, spanned_element, element_front}
+use Rattle.syslog_grammar.proofs.ParamTexts.{SpannedParams, params_start, OneFront-element, element_spanned, spanned_element, element_front}
 
 -- ---- one element
 

@@ -11,4 +11,5 @@ pub mod Faults
 pub mod Spellings
 pub mod Ids
 pub mod Shown
+pub mod PartsLeft
 pub mod Instants

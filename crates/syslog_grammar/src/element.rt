@@ -23,7 +23,7 @@ pub struct ParamView<'a> {
 #[derive(Clone, Copy, Debug, PartialEq, Eq)]
 pub struct ElementView<'a> {
     id: &'a [u8],
-    params: &'a [u8],
+    pub(crate) params: &'a [u8],
 }
 
 impl<'a> ParamView<'a> {

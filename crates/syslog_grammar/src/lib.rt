@@ -8,10 +8,12 @@ mod fault;
 mod header;
 mod message;
 mod name;
+mod parts;
 mod priority;
 mod reading;
 mod record_view;
 mod repeated;
+mod same;
 mod syntax;
 mod text;
 mod timestamp;
@@ -21,7 +23,9 @@ mod word;
 
 pub use element::{ElementView, ParamView};
 pub use fault::{Fault, Field};
+pub use parts::{Elements, Params};
 pub use record_view::RecordView;
+pub use same::same_value;
 pub use text::utf8;
 pub use whole::view;
 

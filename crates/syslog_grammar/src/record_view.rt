@@ -5,6 +5,7 @@ ghost use Rattle.std.specs.Option.{ForSome};
 ghost use Rattle.syslog_value.specs.Parts.{IsInstant};
 
 use crate::message::MessageView;
+use crate::parts::Elements;
 use syslog_value::{Instant, Priority};
 
 /// A well-formed record that lends its parts from the octets. It takes no memory.
@@ -27,6 +28,7 @@ impl<'a> RecordView<'a> {
     ghost use Rattle.octet_language.specs.Language.{Each};
     ghost use Rattle.syslog_value.specs.Parts.{ElementParts};
     ghost use Rattle.syslog_grammar.specs.Grammar.{Data, Element};
+    ghost use Rattle.syslog_grammar.specs.PartsLeft.{elements_left};
     ghost use Rattle.syslog_grammar.specs.Shown.{IsMarked, octets_of, shown};
 
     /// Facility and severity.
@@ -68,6 +70,14 @@ impl<'a> RecordView<'a> {
         ensures { option_map (λ s. s.now) result ≡ (shown self.now).msg_id }
     {
         self.msg_id
+    }
+
+    /// The elements of the structured data, in the order of the octets.
+    pub fn elements(&self) -> Elements<'a>
+        ensures { (es : List ElementParts) → Data es (shown self.now).elements
+            → Each Element es (elements_left result) }
+    {
+        Elements::of_data(self.data)
     }
 
     /// The octets of the message, without the byte order mark.

@@ -1,4 +1,5 @@
 use crate::fault::{Fault, Field};
+use crate::same::same_value;
 use crate::text::utf8;
 use crate::whole::view;
 use std::test::Fail;
@@ -126,5 +127,47 @@ fn texts_stop_at_their_places(rt: HostRuntime) -> Result<(), Fail> {
     assert!(rt; utf8(b"a\xe2\x82") == Err(3));
     assert!(rt; utf8(b"\xed\xa0\x80") == Err(1));
     assert!(rt; utf8("h\u{e9}".as_bytes()).is_ok());
+    Ok(())
+}
+
+#[test]
+fn elements_and_parameters_come_in_their_order(rt: HostRuntime) -> Result<(), Fail> {
+    let seen = view(b"<0>1 - - - - - [b k=\"1\" l=\"x\\n\"][a]")
+        .ok()
+        .ok_or("a fault")?;
+    let mut elements = seen.elements();
+    let first = elements.next().ok_or("no element")?;
+    assert!(rt; first.id() == b"b".as_slice());
+    let mut params = first.params();
+    let one = params.next().ok_or("no parameter")?;
+    assert!(rt; one.name() == b"k".as_slice());
+    assert!(rt; one.raw() == b"1".as_slice());
+    let two = params.next().ok_or("no parameter")?;
+    assert!(rt; two.raw() == b"x\\n".as_slice());
+    assert!(rt; params.next().is_none());
+    let second = elements.next().ok_or("no element")?;
+    assert!(rt; second.id() == b"a".as_slice());
+    assert!(rt; elements.next().is_none());
+    assert!(rt;
+        view(b"<0>1 - - - - - -")
+            .ok()
+            .ok_or("a fault")?
+            .elements()
+            .next()
+            .is_none()
+    );
+    Ok(())
+}
+
+#[test]
+fn a_spelling_means_its_text(rt: HostRuntime) -> Result<(), Fail> {
+    assert!(rt; same_value(b"x\\n", "x\\n"));
+    assert!(rt; same_value(b"x\\\\n", "x\\n"));
+    assert!(rt; !same_value(b"x\\n", "xn"));
+    assert!(rt; same_value(b"\\\"\\]", "\"]"));
+    assert!(rt; !same_value(b"]", "]"));
+    assert!(rt; !same_value(b"x\\", "x\\"));
+    assert!(rt; !same_value(b"", "x"));
+    assert!(rt; same_value(b"", ""));
     Ok(())
 }

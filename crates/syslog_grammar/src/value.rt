@@ -1,11 +1,11 @@
 //! Values of parameters (RFC 5424, 6.3.3).
 
-ghost use Rattle.std.specs.Prelude.{◌≡◌, ◌∷◌, []};
+ghost use Rattle.std.specs.Prelude.{◌≡◌, ◌∷◌, [], IsTrue};
 ghost use Rattle.octet_language.specs.Language.{◌⋅◌, AnyOf, Each, Only};
 ghost use Rattle.octet_language.specs.Reading.{Passes, Reads};
 ghost use Rattle.syslog_grammar.specs.Spans.{Text};
 ghost use Rattle.syslog_grammar.specs.Stops.{left_of};
-ghost use Rattle.syslog_grammar.specs.Values.{Piece};
+ghost use Rattle.syslog_grammar.specs.Values.{IsEscape, Piece};
 
 use crate::character::behind_character;
 use crate::reading::{Stop, next};
@@ -54,4 +54,38 @@ pub fn value(octets: &[u8]) -> Result<(&[u8], &[u8]), Stop>
     let rest = behind_value(octets)?;
     let (raw, _) = octets.split_at(octets.len() - rest.len() - 1);
     Ok((raw, rest))
+}
+
+/// Whether a piece is a special character behind a backslash.
+#[inline(always)]
+fn is_escape(piece: &[u8]) -> bool
+    ensures escape { IsTrue result → IsEscape piece.now }
+    ensures other { (IsTrue result → ⊥) → IsEscape piece.now → ⊥ }
+{
+    match piece {
+        [b'\\', octet] => *octet == b'"' || *octet == b'\\' || *octet == b']',
+        _ => false,
+    }
+}
+
+/// What a piece means.
+#[inline(always)]
+fn meaning(piece: &[u8]) -> &[u8]
+    ensures { AnyOf Piece piece.now → Piece result.now piece.now }
+{
+    if is_escape(piece) {
+        let (_, meaning) = piece.split_at(1);
+        return meaning;
+    }
+    piece
+}
+
+/// Reads one piece of a value, and gives what it means.
+#[inline(always)]
+pub fn piece(octets: &[u8]) -> Result<(&[u8], &[u8]), Stop>
+    ensures { Reads left_of Piece (λ x. (x.0.now, x.1.now)) octets.now result }
+{
+    let rest = behind_piece(octets)?;
+    let (piece, _) = octets.split_at(octets.len() - rest.len());
+    Ok((meaning(piece), rest))
 }

@@ -1,6 +1,6 @@
 use Rattle.std.proofs.lemmas.Result.{err_from_is_err_and}
 use Rattle.syslog_grammar.specs.Stops.{left_of}
-use Rattle.syslog_grammar.proofs.Params.{no_equals, no_quote, behind_marks}
+use Rattle.syslog_grammar.proofs.ParamTexts.{no_equals, no_quote, behind_marks}
 use Rattle.syslog_grammar.proofs.element.assigned.Goals as goal
 
 pub returns-in_err-rest : goal.returns-in_err-rest

@@ -5,7 +5,7 @@ use Rattle.syslog_grammar.specs.Grammar.{Param}
 use Rattle.syslog_grammar.specs.Views.{param_span}
 use Rattle.syslog_grammar.proofs.Runs.{IfFront-cons, IfFront-empty}
 use Rattle.syslog_grammar.proofs.Loops.{carries_all, carries_more, carried_fails, carried_ends, takes_some, Fails-empty}
-use Rattle.syslog_grammar.proofs.Params.{OneFront-param, Fails-param, Follows-param, param_some, some_param}
+use Rattle.syslog_grammar.proofs.ParamTexts.{OneFront-param, Fails-param, Follows-param, param_some, some_param}
 use Rattle.syslog_grammar.proofs.element.behind_params.Goals as goal
 
 pub loop-first-init : goal.loop-first-init

@@ -1,7 +1,7 @@
 use Rattle.std.proofs.lemmas.Result.{err_from_is_err_and}
 use Rattle.octet_language.specs.Language.{AnyOf}
 use Rattle.syslog_grammar.specs.Views.{element_span}
-use Rattle.syslog_grammar.proofs.Params.{SpannedParams, as_element, bad_mark, bad_name, bad_behind, whole_element, no_params, OneFront-spanned_params, params_start}
+use Rattle.syslog_grammar.proofs.ParamTexts.{SpannedParams, as_element, bad_mark, bad_name, bad_behind, whole_element, no_params, OneFront-spanned_params, params_start}
 use Rattle.syslog_grammar.proofs.element.element.Goals as goal
 
 pub returns-in_err-rest : goal.returns-in_err-rest

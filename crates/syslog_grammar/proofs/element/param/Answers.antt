@@ -2,7 +2,7 @@ use Rattle.std.proofs.lemmas.Result.{err_from_is_err_and}
 use Rattle.octet_language.specs.Language.{AnyOf}
 use Rattle.syslog_grammar.specs.Spans.{SpannedValue}
 use Rattle.syslog_grammar.specs.Views.{param_span}
-use Rattle.syslog_grammar.proofs.Params.{as_param, bad_mark, bad_name, bad_behind, whole_param, empty_value, OneFront-spanned_value, value_starts}
+use Rattle.syslog_grammar.proofs.ParamTexts.{as_param, bad_mark, bad_name, bad_behind, whole_param, empty_value, OneFront-spanned_value, value_starts}
 use Rattle.syslog_grammar.proofs.element.param.Goals as goal
 
 pub returns-in_err-rest : goal.returns-in_err-rest
