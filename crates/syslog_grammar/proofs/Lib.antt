@@ -21,3 +21,4 @@ pub mod Records
 pub mod Repeating
 pub mod Viewing
 pub mod Meanings
+pub mod Rising

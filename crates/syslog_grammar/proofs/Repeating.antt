@@ -5,7 +5,7 @@ use Rattle.std.specs.List.{AllByRecursion}
 use Rattle.std.specs.Ordering.{MatchOrdering}
 use Rattle.std.specs.declared.cmp.Ordering.{Ordering}
 use Rattle.std.specs.declared.cmp.Ordering.TheVariants.{Less, Equal, Greater}
-use Rattle.std.proofs.lemmas.List.{length-append, append_cancel_left, take_at, append-nil}
+use Rattle.std.proofs.lemmas.List.{length-append, append_cancel_left, append_cancel_right, take_at, append-nil}
 use Rattle.octet_language.specs.Language.{AnyOf, Each, IfFront}
 use Rattle.octet_language.specs.Reading.{Fails, Follows}
 use Rattle.octet_language.proofs.Lists.{heads, tails}
@@ -15,7 +15,7 @@ use Rattle.syslog_value.specs.Structured.{HasId}
 use Rattle.syslog_value.proofs.Ids.{below_itself, below_trans}
 use Rattle.syslog_grammar.specs.Faults.{AreDistinct}
 use Rattle.syslog_grammar.specs.Grammar.{Element, Data}
-use Rattle.syslog_grammar.specs.Ids.{HoldsDistinct, HoldsRepeated, IsAbove, IsAtMost}
+use Rattle.syslog_grammar.specs.Ids.{HoldsDistinct, HoldsRepeated, IsAbove, IsAtMost, Known, Skips}
 use Rattle.syslog_grammar.specs.Spans.{ElementSpan, SpannedElement}
 use Rattle.syslog_grammar.proofs.Ahead.{may_start}
 use Rattle.syslog_grammar.proofs.Names.{EndsName, OneAhead-name}
@@ -160,48 +160,49 @@ each_join : (es fs : List ElementParts) (p q : List ℕ) → Each Element es p �
 each_join [] fs p q h k = subst (λ (u : List ℕ). Each Element fs (u ++ q)) (sym h) k
 each_join (f ∷ es) fs p q (x, y, g, h, l) k = (x, y ++ q, ap (λ (u : List ℕ). u ++ q) g ∙ append_assoc x y q, h, each_join es fs y q l k)
 
--- what was read of the text, with distinct ids, and what is left
-pub record Scanned (text rest : List ℕ) (greatest : Option (List ℕ)) : Type 0 where
-  pub front : List ℕ
-  pub before : List ElementParts
-  pub parts : text ≡ front ++ rest
-  pub each : Each Element before front
-  pub distinct : AreDistinct before
-  pub most : AllByRecursion (λ e. IsAtMost e.id greatest) before
-  pub more : ((es : List ElementParts) × Each Element es rest) ⊎ ((before ≡ []) × (rest ≡ 45 ∷ []))
+-- the same, with the greatest id that was met
+pub record Rising (text rest : List ℕ) (greatest : Option (List ℕ)) : Type 0 where
+  pub known : Known text rest
+  pub most : AllByRecursion (λ e. IsAtMost e.id greatest) known.before
 
-pub scanned_none : (text : List ℕ) → AnyOf Data text → Scanned text text None
-scanned_none text ([], h) = record { front = []; before = []; parts = refl; each = refl; distinct = tt; most = tt; more = inr (refl, h) }
-scanned_none text (e ∷ es, h) = record { front = []; before = []; parts = refl; each = refl; distinct = tt; most = tt; more = inl (e ∷ es, h) }
+pub rising_none : (text : List ℕ) → AnyOf Data text → Rising text text None
+rising_none text ([], h) = record { known = record { front = []; before = []; parts = refl; each = refl; distinct = tt; more = inr (refl, h) }; most = tt }
+rising_none text (e ∷ es, h) = record { known = record { front = []; before = []; parts = refl; each = refl; distinct = tt; more = inl (e ∷ es, h) }; most = tt }
 
 some_data : (es : List ElementParts) (text : List ℕ) → text ≢ [] → Each Element es text → Data es text
 some_data [] text some h = absurd (some h)
 some_data (e ∷ es) text some h = h
 
 data_some : (text : List ℕ) → AnyOf Data text → text ≢ []
-data_some text ([], h) e = let i : ◌≡◌ {A = List ℕ} [] (45 ∷ []) = sym e ∙ h in absurd cc
-data_some text (d ∷ es, (x, y, g, h, k)) e = let f = element_front x (d, h) in let i : ◌≡◌ {A = List ℕ} [] (91 ∷ (f.0 ++ y)) = sym e ∙ g ∙ ap (λ (u : List ℕ). u ++ y) f.1 in absurd cc
+data_some text ([], h) e =
+    let i : ◌≡◌ {A = List ℕ} [] (45 ∷ []) = sym e ∙ h in absurd cc
+data_some text (d ∷ es, (x, y, g, h, k)) e =
+    let f = element_front x (d, h) in
+    let i : ◌≡◌ {A = List ℕ} [] (91 ∷ (f.0 ++ y)) = sym e ∙ g ∙ ap (λ (u : List ℕ). u ++ y) f.1 in absurd cc
 
 not_bracket : (es : List ElementParts) (rest t : List ℕ) (x : ℕ) → rest ≡ x ∷ t → Each Element es rest → x ≡ 91
-not_bracket [] rest t x e h = let i : ◌≡◌ {A = List ℕ} [] (x ∷ t) = sym h ∙ e in absurd cc
-not_bracket (d ∷ es) rest t x e (y, z, g, h, k) = let f = element_front y (d, h) in heads x 91 t (f.0 ++ z) (sym e ∙ g ∙ ap (λ (u : List ℕ). u ++ z) f.1)
+not_bracket [] rest t x e h =
+    let i : ◌≡◌ {A = List ℕ} [] (x ∷ t) = sym h ∙ e in absurd cc
+not_bracket (d ∷ es) rest t x e (y, z, g, h, k) =
+    let f = element_front y (d, h) in heads x 91 t (f.0 ++ z) (sym e ∙ g ∙ ap (λ (u : List ℕ). u ++ z) f.1)
 
 -- no bracket is next: the sign for none
-pub scanned_dash : (text rest t : List ℕ) (x : ℕ) (greatest : Option (List ℕ)) → rest ≡ x ∷ t → x ≢ 91 → Scanned text rest greatest → HoldsDistinct text
-scanned_dash text rest t x greatest e ne s = elim s.more [
+pub known_dash : (text rest t : List ℕ) (x : ℕ) → rest ≡ x ∷ t → x ≢ 91 → Known text rest → HoldsDistinct text
+known_dash text rest t x e ne s = elim s.more [
   | inl k ↦ absurd (ne (not_bracket k.0 rest t x e k.1))
   | inr k ↦ ([], s.parts ∙ ap (λ (u : List ℕ). u ++ rest) (subst (λ (es : List ElementParts). Each Element es s.front) k.0 s.each) ∙ k.1, tt)
 ]
 
 -- no element can be read there
-pub scanned_stuck : (text rest t : List ℕ) (x left : ℕ) (greatest : Option (List ℕ)) → rest ≡ x ∷ t → x ≡ 91 → Fails (AnyOf SpannedElement) rest left → Scanned text rest greatest → ⊥
-scanned_stuck text rest t x left greatest e f g s = elim s.more [
+pub known_stuck : (text rest t : List ℕ) (x left : ℕ) → rest ≡ x ∷ t → x ≡ 91 → Fails (AnyOf SpannedElement) rest left → Known text rest → ⊥
+known_stuck text rest t x left e f g s = elim s.more [
   | inl k ↦ no_element k.0 rest t x left e k.1 g
-  | inr k ↦ let i : x ≡ 45 = heads x 45 t [] (sym e ∙ k.1) in omega (arith, i, f)
+  | inr k ↦
+      let i : x ≡ 45 = heads x 45 t [] (sym e ∙ k.1) in omega (arith, i, f)
 ]
 
-pub scanned_end : (text rest : List ℕ) (greatest : Option (List ℕ)) → AnyOf Data text → rest ≡ [] → Scanned text rest greatest → HoldsDistinct text
-scanned_end text rest greatest d e s =
+pub known_end : (text rest : List ℕ) → AnyOf Data text → rest ≡ [] → Known text rest → HoldsDistinct text
+known_end text rest d e s =
     (s.before, some_data s.before text (data_some text d) (subst (Each Element s.before) (sym (s.parts ∙ ap (λ (u : List ℕ). s.front ++ u) e ∙ append-nil s.front)) s.each), s.distinct)
 
 -- the element that was read, and the others
@@ -212,51 +213,56 @@ record Next (rest behind : List ℕ) (v : ElementSpan) : Type 0 where
   pub split : Split element others rest behind v
 
 next_of : (es : List ElementParts) (rest behind t : List ℕ) (x : ℕ) (v : ElementSpan) → rest ≡ x ∷ t → Each Element es rest → Follows (SpannedElement v) rest behind → Next rest behind v
-next_of [] rest behind t x v e h f = let i : ◌≡◌ {A = List ℕ} [] (x ∷ t) = sym h ∙ e in absurd cc
+next_of [] rest behind t x v e h f =
+    let i : ◌≡◌ {A = List ℕ} [] (x ∷ t) = sym h ∙ e in absurd cc
 next_of (d ∷ es) rest behind t x v e h f = record { element = d; others = es; whole = h; split = split d es rest behind v h f }
 
-next : (text rest behind t : List ℕ) (x : ℕ) (greatest : Option (List ℕ)) (v : ElementSpan) → rest ≡ x ∷ t → x ≡ 91 → Follows (SpannedElement v) rest behind → Scanned text rest greatest → Next rest behind v
-next text rest behind t x greatest v e g f s = elim s.more [
+next : (text rest behind t : List ℕ) (x : ℕ) (v : ElementSpan) → rest ≡ x ∷ t → x ≡ 91 → Follows (SpannedElement v) rest behind → Known text rest → Next rest behind v
+next text rest behind t x v e g f s = elim s.more [
   | inl k ↦ next_of k.0 rest behind t x v e k.1 f
-  | inr k ↦ let i : x ≡ 45 = heads x 45 t [] (sym e ∙ k.1) in absurd (omega (arith, i, g))
+  | inr k ↦
+      let i : x ≡ 45 = heads x 45 t [] (sym e ∙ k.1) in absurd (omega (arith, i, g))
 ]
 
-front_is : (text front rest : List ℕ) → text ≡ front ++ rest → take (length text - length rest) text ≡ front
+pub front_is : (text front rest : List ℕ) → text ≡ front ++ rest → take (length text - length rest) text ≡ front
 front_is text front rest e =
     let n : length text - length rest ≡ length front = omega (arith, ap length e, length-append front rest) in
     rw (n, e) (take_at front rest (length front) refl)
 
-keep : (text rest behind : List ℕ) (before after : Option (List ℕ)) (v : ElementSpan) (s : Scanned text rest before) → Next rest behind v → ¬ (HasId v.id s.before) → AllByRecursion (λ e. IsAtMost e.id after) s.before → IsAtMost v.id after → Scanned text behind after
-keep text rest behind before after v s n none all most =
-    record {
-      front = s.front ++ n.split.front;
-      before = s.before ++ n.element ∷ [];
-      parts = s.parts ∙ ap (λ (u : List ℕ). s.front ++ u) n.split.parts ∙ sym (append_assoc s.front n.split.front behind);
-      each = each_end s.before n.element s.front n.split.front s.each n.split.text;
-      distinct = distinct_end s.before n.element s.distinct (λ h. none (subst (λ (id : List ℕ). HasId id s.before) n.split.same h));
-      most = all_end (λ e. IsAtMost e.id after) s.before n.element all (subst (λ (id : List ℕ). IsAtMost id after) (sym n.split.same) most);
-      more = inl (n.others, n.split.others);
-    }
+abbrev keep : (text rest behind : List ℕ) (v : ElementSpan) (s : Known text rest) → Next rest behind v → ¬ (HasId v.id s.before) → Known text behind
+keep text rest behind v s n none = record {
+  front = s.front ++ n.split.front;
+  before = s.before ++ n.element ∷ [];
+  parts = s.parts ∙ ap (λ (u : List ℕ). s.front ++ u) n.split.parts ∙ sym (append_assoc s.front n.split.front behind);
+  each = each_end s.before n.element s.front n.split.front s.each n.split.text;
+  distinct = distinct_end s.before n.element s.distinct (λ h. none (subst (λ (id : List ℕ). HasId id s.before) n.split.same h));
+  more = inl (n.others, n.split.others);
+}
 
 -- an id above all
-pub scanned_above : (text rest behind t : List ℕ) (x : ℕ) (greatest : Option (List ℕ)) (v : ElementSpan) → rest ≡ x ∷ t → x ≡ 91 → Follows (SpannedElement v) rest behind → IsAbove v.id greatest → Scanned text rest greatest → Scanned text behind (Some v.id)
-scanned_above text rest behind t x greatest v e g f a s =
-    keep text rest behind greatest (Some v.id) v s (next text rest behind t x greatest v e g f s) (none_above v.id greatest s.before a s.most) (raised v.id greatest s.before a s.most) (inl refl)
+pub rising_above : (text rest behind t : List ℕ) (x : ℕ) (greatest : Option (List ℕ)) (v : ElementSpan) → rest ≡ x ∷ t → x ≡ 91 → Follows (SpannedElement v) rest behind → IsAbove v.id greatest → Rising text rest greatest → Rising text behind (Some v.id)
+rising_above text rest behind t x greatest v e g f a s =
+    let n = next text rest behind t x v e g f s.known in
+    record {
+      known = keep text rest behind v s.known n (none_above v.id greatest s.known.before a s.most);
+      most = all_end (λ e. IsAtMost e.id (Some v.id)) s.known.before n.element (raised v.id greatest s.known.before a s.most) (subst (λ (id : List ℕ). IsAtMost id (Some v.id)) (sym n.split.same) (inl refl));
+    }
 
--- an id that is not above all, and not among those before
-pub scanned_new : (text rest behind t : List ℕ) (x : ℕ) (greatest : Option (List ℕ)) (v : ElementSpan) (found : Bool) → rest ≡ x ∷ t → x ≡ 91 → Follows (SpannedElement v) rest behind → IsAtMost v.id greatest
-    → ((es : List ElementParts) → Each Element es (take (length text - length rest) text) → IsTrue found ↔ HasId v.id es) → found ≡ false → Scanned text rest greatest → Scanned text behind greatest
-scanned_new text rest behind t x greatest v found e g f most finds isn s =
-    keep text rest behind greatest greatest v s (next text rest behind t x greatest v e g f s) (λ h. apart ((finds s.before (subst (Each Element s.before) (sym (front_is text s.front rest s.parts)) s.each)).1 h)) s.most most
+-- an id that is not among those before
+pub known_new : (text rest behind t : List ℕ) (x : ℕ) (v : ElementSpan) (found : Bool) → rest ≡ x ∷ t → x ≡ 91 → Follows (SpannedElement v) rest behind
+    → ((es : List ElementParts) → Each Element es (take (length text - length rest) text) → IsTrue found ↔ HasId v.id es) → found ≡ false → Known text rest → Known text behind
+known_new text rest behind t x v found e g f finds isn s =
+    keep text rest behind v s (next text rest behind t x v e g f s) (λ h. apart ((finds s.before (subst (Each Element s.before) (sym (front_is text s.front rest s.parts)) s.each)).1 h))
   where
     apart : found ≡ true → ⊥
-    apart y = let i : false ≡ true = sym isn ∙ y in absurd cc
+    apart y =
+        let i : false ≡ true = sym isn ∙ y in absurd cc
 
 -- an id that is among those before
-pub scanned_repeated : (text rest behind t : List ℕ) (x : ℕ) (greatest : Option (List ℕ)) (v : ElementSpan) (found : Bool) (at : ℕ) → AnyOf Data text → rest ≡ x ∷ t → x ≡ 91 → Follows (SpannedElement v) rest behind
-    → ((es : List ElementParts) → Each Element es (take (length text - length rest) text) → IsTrue found ↔ HasId v.id es) → found ≡ true → at ≡ length (take (length text - length rest) text) + 1 → Scanned text rest greatest → HoldsRepeated text at
-scanned_repeated text rest behind t x greatest v found at d e g f finds is place s =
-    let n = next text rest behind t x greatest v e g f s in
+pub known_repeated : (text rest behind t : List ℕ) (x : ℕ) (v : ElementSpan) (found : Bool) (at : ℕ) → AnyOf Data text → rest ≡ x ∷ t → x ≡ 91 → Follows (SpannedElement v) rest behind
+    → ((es : List ElementParts) → Each Element es (take (length text - length rest) text) → IsTrue found ↔ HasId v.id es) → found ≡ true → at ≡ length (take (length text - length rest) text) + 1 → Known text rest → HoldsRepeated text at
+known_repeated text rest behind t x v found at d e g f finds is place s =
+    let n = next text rest behind t x v e g f s in
     let front = front_is text s.front rest s.parts in
     let has : HasId v.id s.before = (finds s.before (subst (Each Element s.before) (sym front) s.each)).0 is in
     let all = s.before ++ n.element ∷ n.others in (
@@ -266,6 +272,45 @@ scanned_repeated text rest behind t x greatest v found at d e g f finds is place
       record { element = n.element; behind = n.others; parts = refl; distinct = s.distinct; same = subst (λ (id : List ℕ). HasId id s.before) (sym n.split.same) has },
       (s.front ++ 91 ∷ [], t, s.parts ∙ ap (λ (u : List ℕ). s.front ++ u) (e ∙ ap (λ (k : ℕ). k ∷ t) g) ∙ sym (append_assoc s.front (91 ∷ []) t), (s.front, 91 ∷ [], refl, s.each, refl), omega (arith, place, ap length front, length-append s.front (91 ∷ []))),
     )
+
+-- ---- so many elements further
+
+pub skips_none : (elements : List ℕ) → Skips elements elements
+skips_none elements = record { front = []; parts = refl; both = λ es h. ([], es, refl, h) }
+
+pub skips_more : (elements rest behind t : List ℕ) (x : ℕ) (v : ElementSpan) → rest ≡ x ∷ t → Follows (SpannedElement v) rest behind → Skips elements rest → Skips elements behind
+skips_more elements rest behind t x v e f s = record {
+  front = s.front ++ f.0;
+  parts = s.parts ∙ ap (λ (u : List ℕ). s.front ++ u) f.1 ∙ sym (append_assoc s.front f.0 behind);
+  both = λ es h. let k = s.both es h in one k.0 k.1 k.2 k.3;
+}
+  where
+    one : (us bs : List ElementParts) → Each Element us s.front → Each Element bs rest → (cs : List ElementParts) × (ds : List ElementParts) × Each Element cs (s.front ++ f.0) × Each Element ds behind
+    one us [] h k =
+        let i : ◌≡◌ {A = List ℕ} [] (x ∷ t) = sym k ∙ e in absurd cc
+    one us (d ∷ bs) h k =
+        let p = split d bs rest behind v k f in
+        let same : p.front ≡ f.0 = append_cancel_right p.front f.0 behind (sym p.parts ∙ f.1) in
+        (us ++ d ∷ [], bs, each_end us d s.front f.0 h (subst (Element d) same p.text), p.others)
+
+-- elements further on, where the ids up to there differ
+pub known_further : (text rest behind t : List ℕ) (x : ℕ) → rest ≡ x ∷ t → x ≡ 91 → Skips rest behind → ((es : List ElementParts) → Each Element es (take (length text - length behind) text) → AreDistinct es) → Known text rest → Known text behind
+known_further text rest behind t x e g k differ s = elim s.more [
+  | inl m ↦
+      let b = k.both m.0 m.1 in
+      let parts : text ≡ (s.front ++ k.front) ++ behind = s.parts ∙ ap (λ (u : List ℕ). s.front ++ u) k.parts ∙ sym (append_assoc s.front k.front behind) in
+      let each = each_join s.before b.0 s.front k.front s.each b.2 in
+      record {
+        front = s.front ++ k.front;
+        before = s.before ++ b.0;
+        parts = parts;
+        each = each;
+        distinct = differ (s.before ++ b.0) (subst (Each Element (s.before ++ b.0)) (sym (front_is text (s.front ++ k.front) behind parts)) each);
+        more = inl (b.1, b.3);
+      }
+  | inr m ↦
+      let i : x ≡ 45 = heads x 45 t [] (sym e ∙ m.1) in absurd (omega (arith, i, g))
+]
 
 -- ---- above the greatest
 

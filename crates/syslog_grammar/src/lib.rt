@@ -3,6 +3,7 @@
 
 mod character;
 mod data;
+mod distinct;
 mod element;
 mod fault;
 mod header;
