@@ -1,0 +1,143 @@
+-- The header: what each failing field says of the whole.
+use Rattle.std.proofs.Common.{ℕ, List, [], ◌∷◌, refl, arith}
+use Rattle.std.specs.Prelude.{Option, None}
+use Rattle.std.specs.Fmt.{digits}
+use Rattle.octet_language.specs.Language.{Language, ◌⋅◌, AnyOf, OneFront}
+use Rattle.octet_language.specs.Reading.{Fails, Follows}
+use Rattle.octet_language.proofs.Sequence.{OneFront-then}
+use Rattle.octet_language.proofs.Chain.{Fails-same, Follows-then, OneFront-same, Behind, further, fails_here, some_value}
+use Rattle.syslog_grammar.specs.Grammar.{HeaderParts, Header, Priority, Version, Word, Spaced, Nilable}
+use Rattle.syslog_grammar.specs.Time.{CivilTime, TimeText}
+use Rattle.syslog_grammar.proofs.Fractions.{AnyTime, nil_time, OneFront-nilable_time}
+use Rattle.syslog_grammar.proofs.Numbers.{OneFront-priority, OneFront-version}
+use Rattle.syslog_grammar.proofs.Words.{OneFront-any_word}
+
+abbrev AnyWord : ℕ → Language
+AnyWord n = AnyOf (λ w. Spaced (Nilable (Word n) w))
+
+nil_word : (n : ℕ) → AnyWord n (45 ∷ 32 ∷ [])
+nil_word n = (None, (45 ∷ [], 32 ∷ [], refl, refl, refl))
+
+abbrev From6 : Language
+From6 = AnyWord 32
+
+abbrev From5 : Language
+From5 = AnyWord 128 ⋅ From6
+
+abbrev From4 : Language
+From4 = AnyWord 48 ⋅ From5
+
+abbrev From3 : Language
+From3 = AnyWord 255 ⋅ From4
+
+abbrev From2 : Language
+From2 = AnyTime ⋅ From3
+
+abbrev From1 : Language
+From1 = Spaced Version ⋅ From2
+
+some6 : From6 (45 ∷ 32 ∷ [])
+some6 = nil_word 32
+
+some5 : From5 (45 ∷ 32 ∷ 45 ∷ 32 ∷ [])
+some5 = (45 ∷ 32 ∷ [], 45 ∷ 32 ∷ [], refl, nil_word 128, some6)
+
+some4 : From4 (45 ∷ 32 ∷ 45 ∷ 32 ∷ 45 ∷ 32 ∷ [])
+some4 = (45 ∷ 32 ∷ [], 45 ∷ 32 ∷ 45 ∷ 32 ∷ [], refl, nil_word 48, some5)
+
+some3 : From3 (45 ∷ 32 ∷ 45 ∷ 32 ∷ 45 ∷ 32 ∷ 45 ∷ 32 ∷ [])
+some3 = (45 ∷ 32 ∷ [], 45 ∷ 32 ∷ 45 ∷ 32 ∷ 45 ∷ 32 ∷ [], refl, nil_word 255, some4)
+
+some2 : From2 (45 ∷ 32 ∷ 45 ∷ 32 ∷ 45 ∷ 32 ∷ 45 ∷ 32 ∷ 45 ∷ 32 ∷ [])
+some2 = (45 ∷ 32 ∷ [], 45 ∷ 32 ∷ 45 ∷ 32 ∷ 45 ∷ 32 ∷ 45 ∷ 32 ∷ [], refl, nil_time, some3)
+
+some1 : From1 (49 ∷ 32 ∷ 45 ∷ 32 ∷ 45 ∷ 32 ∷ 45 ∷ 32 ∷ 45 ∷ 32 ∷ 45 ∷ 32 ∷ [])
+some1 = (49 ∷ 32 ∷ [], 45 ∷ 32 ∷ 45 ∷ 32 ∷ 45 ∷ 32 ∷ 45 ∷ 32 ∷ 45 ∷ 32 ∷ [], refl, (49 ∷ [], 32 ∷ [], refl, refl, refl), some2)
+
+abbrev Whole : Language
+Whole = AnyOf Priority ⋅ From1
+
+whole_header : (s : List ℕ) → Whole s → AnyOf Header s
+unfolding Header
+whole_header s (x0, y0, e0, (v, h0), (x1, y1, e1, h1, (x2, y2, e2, (w2, h2), (x3, y3, e3, (w3, h3), (x4, y4, e4, (w4, h4), (x5, y5, e5, (w5, h5), (w6, h6))))))) =
+    (record { priority = v; time = w2; hostname = w3; app_name = w4; proc_id = w5; msg_id = w6 }, (x0, y0, e0, h0, (x1, y1, e1, h1, (x2, y2, e2, h2, (x3, y3, e3, h3, (x4, y4, e4, h4, (x5, y5, e5, h5, h6)))))))
+
+header_whole : (s : List ℕ) → AnyOf Header s → Whole s
+unfolding Header
+header_whole s (q, (x0, y0, e0, h0, (x1, y1, e1, h1, (x2, y2, e2, h2, (x3, y3, e3, h3, (x4, y4, e4, h4, (x5, y5, e5, h5, h6))))))) =
+    (x0, y0, e0, (q.priority, h0), (x1, y1, e1, h1, (x2, y2, e2, (q.time, h2), (x3, y3, e3, (q.hostname, h3), (x4, y4, e4, (q.app_name, h4), (x5, y5, e5, (q.proc_id, h5), (q.msg_id, h6)))))))
+
+pub some_header : AnyOf Header (60 ∷ 48 ∷ 62 ∷ 49 ∷ 32 ∷ 45 ∷ 32 ∷ 45 ∷ 32 ∷ 45 ∷ 32 ∷ 45 ∷ 32 ∷ 45 ∷ 32 ∷ [])
+unfolding digits
+some_header = whole_header _ (60 ∷ 48 ∷ 62 ∷ [], 49 ∷ 32 ∷ 45 ∷ 32 ∷ 45 ∷ 32 ∷ 45 ∷ 32 ∷ 45 ∷ 32 ∷ 45 ∷ 32 ∷ [], refl, (0, (60 ∷ [], 48 ∷ 62 ∷ [], refl, refl, (48 ∷ [], 62 ∷ [], refl, (omega arith, refl), refl))), some1)
+
+pub OneFront-header : OneFront (AnyOf Header)
+OneFront-header =
+    OneFront-same Whole (AnyOf Header) header_whole
+    (OneFront-then (AnyOf Priority) From1 OneFront-priority
+    (OneFront-then (Spaced Version) From2 OneFront-version
+    (OneFront-then AnyTime From3 OneFront-nilable_time
+    (OneFront-then (AnyWord 255) From4 (OneFront-any_word 255 (omega arith))
+    (OneFront-then (AnyWord 48) From5 (OneFront-any_word 48 (omega arith))
+    (OneFront-then (AnyWord 128) From6 (OneFront-any_word 128 (omega arith)) (OneFront-any_word 32 (omega arith))))))))
+
+at0 : (b : List ℕ) → Behind (AnyOf Header) b Whole b
+at0 b left f = Fails-same Whole (AnyOf Header) b left whole_header header_whole f
+
+at1 : (b r1 : List ℕ) (v : ℕ) → Follows (Priority v) b r1 → Behind (AnyOf Header) b From1 r1
+at1 b r1 v h0 = further (AnyOf Header) (AnyOf Priority) From1 b b r1 OneFront-priority (at0 b) (some_value Priority v b r1 h0)
+
+at2 : (b r1 r2 : List ℕ) (v : ℕ) → Follows (Priority v) b r1 → Follows (Spaced Version) r1 r2 → Behind (AnyOf Header) b From2 r2
+at2 b r1 r2 v h0 h1 = further (AnyOf Header) (Spaced Version) From2 b r1 r2 OneFront-version (at1 b r1 v h0) h1
+
+abbrev OneTime : Option CivilTime → Language
+OneTime t = Spaced (Nilable TimeText t)
+
+abbrev OneWord : ℕ → Option (List ℕ) → Language
+OneWord n w = Spaced (Nilable (Word n) w)
+
+at3 : (b r1 r2 r3 : List ℕ) (v : ℕ) (t : Option CivilTime) → Follows (Priority v) b r1 → Follows (Spaced Version) r1 r2 → Follows (OneTime t) r2 r3 → Behind (AnyOf Header) b From3 r3
+at3 b r1 r2 r3 v t h0 h1 h2 = further (AnyOf Header) AnyTime From3 b r2 r3 OneFront-nilable_time (at2 b r1 r2 v h0 h1) (some_value OneTime t r2 r3 h2)
+
+at4 : (b r1 r2 r3 r4 : List ℕ) (v : ℕ) (t : Option CivilTime) (w3 : Option (List ℕ)) → Follows (Priority v) b r1 → Follows (Spaced Version) r1 r2 → Follows (OneTime t) r2 r3 → Follows (OneWord 255 w3) r3 r4 → Behind (AnyOf Header) b From4 r4
+at4 b r1 r2 r3 r4 v t w3 h0 h1 h2 h3 = further (AnyOf Header) (AnyWord 255) From4 b r3 r4 (OneFront-any_word 255 (omega arith)) (at3 b r1 r2 r3 v t h0 h1 h2) (some_value (OneWord 255) w3 r3 r4 h3)
+
+at5 : (b r1 r2 r3 r4 r5 : List ℕ) (v : ℕ) (t : Option CivilTime) (w3 w4 : Option (List ℕ)) → Follows (Priority v) b r1 → Follows (Spaced Version) r1 r2 → Follows (OneTime t) r2 r3 → Follows (OneWord 255 w3) r3 r4 → Follows (OneWord 48 w4) r4 r5 → Behind (AnyOf Header) b From5 r5
+at5 b r1 r2 r3 r4 r5 v t w3 w4 h0 h1 h2 h3 h4 = further (AnyOf Header) (AnyWord 48) From5 b r4 r5 (OneFront-any_word 48 (omega arith)) (at4 b r1 r2 r3 r4 v t w3 h0 h1 h2 h3) (some_value (OneWord 48) w4 r4 r5 h4)
+
+at6 : (b r1 r2 r3 r4 r5 r6 : List ℕ) (v : ℕ) (t : Option CivilTime) (w3 w4 w5 : Option (List ℕ)) → Follows (Priority v) b r1 → Follows (Spaced Version) r1 r2 → Follows (OneTime t) r2 r3 → Follows (OneWord 255 w3) r3 r4 → Follows (OneWord 48 w4) r4 r5 → Follows (OneWord 128 w5) r5 r6 → Behind (AnyOf Header) b From6 r6
+at6 b r1 r2 r3 r4 r5 r6 v t w3 w4 w5 h0 h1 h2 h3 h4 h5 = further (AnyOf Header) (AnyWord 128) From6 b r5 r6 (OneFront-any_word 128 (omega arith)) (at5 b r1 r2 r3 r4 r5 v t w3 w4 h0 h1 h2 h3 h4) (some_value (OneWord 128) w5 r5 r6 h5)
+
+pub bad_priority : (b : List ℕ) (left : ℕ) → Fails (AnyOf Priority) b left → Fails (AnyOf Header) b left
+bad_priority b left f = fails_here (AnyOf Header) (AnyOf Priority) From1 b b _ left some1 (at0 b) f
+
+pub bad_version : (b r1 : List ℕ) (v : ℕ) (left : ℕ) → Follows (Priority v) b r1 → Fails (Spaced Version) r1 left → Fails (AnyOf Header) b left
+bad_version b r1 v left h0 f = fails_here (AnyOf Header) (Spaced Version) From2 b r1 _ left some2 (at1 b r1 v h0) f
+
+pub bad_time : (b r1 r2 : List ℕ) (v : ℕ) (left : ℕ) → Follows (Priority v) b r1 → Follows (Spaced Version) r1 r2 → Fails AnyTime r2 left → Fails (AnyOf Header) b left
+bad_time b r1 r2 v left h0 h1 f = fails_here (AnyOf Header) AnyTime From3 b r2 _ left some3 (at2 b r1 r2 v h0 h1) f
+
+pub bad_hostname : (b r1 r2 r3 : List ℕ) (v : ℕ) (t : Option CivilTime) (left : ℕ) → Follows (Priority v) b r1 → Follows (Spaced Version) r1 r2 → Follows (OneTime t) r2 r3 → Fails (AnyWord 255) r3 left → Fails (AnyOf Header) b left
+bad_hostname b r1 r2 r3 v t left h0 h1 h2 f = fails_here (AnyOf Header) (AnyWord 255) From4 b r3 _ left some4 (at3 b r1 r2 r3 v t h0 h1 h2) f
+
+pub bad_app_name : (b r1 r2 r3 r4 : List ℕ) (v : ℕ) (t : Option CivilTime) (w3 : Option (List ℕ)) (left : ℕ) → Follows (Priority v) b r1 → Follows (Spaced Version) r1 r2 → Follows (OneTime t) r2 r3 → Follows (OneWord 255 w3) r3 r4 → Fails (AnyWord 48) r4 left → Fails (AnyOf Header) b left
+bad_app_name b r1 r2 r3 r4 v t w3 left h0 h1 h2 h3 f = fails_here (AnyOf Header) (AnyWord 48) From5 b r4 _ left some5 (at4 b r1 r2 r3 r4 v t w3 h0 h1 h2 h3) f
+
+pub bad_proc_id : (b r1 r2 r3 r4 r5 : List ℕ) (v : ℕ) (t : Option CivilTime) (w3 w4 : Option (List ℕ)) (left : ℕ) → Follows (Priority v) b r1 → Follows (Spaced Version) r1 r2 → Follows (OneTime t) r2 r3 → Follows (OneWord 255 w3) r3 r4 → Follows (OneWord 48 w4) r4 r5 → Fails (AnyWord 128) r5 left → Fails (AnyOf Header) b left
+bad_proc_id b r1 r2 r3 r4 r5 v t w3 w4 left h0 h1 h2 h3 h4 f = fails_here (AnyOf Header) (AnyWord 128) From6 b r5 _ left some6 (at5 b r1 r2 r3 r4 r5 v t w3 w4 h0 h1 h2 h3 h4) f
+
+pub bad_msg_id : (b r1 r2 r3 r4 r5 r6 : List ℕ) (v : ℕ) (t : Option CivilTime) (w3 w4 w5 : Option (List ℕ)) (left : ℕ) → Follows (Priority v) b r1 → Follows (Spaced Version) r1 r2 → Follows (OneTime t) r2 r3 → Follows (OneWord 255 w3) r3 r4 → Follows (OneWord 48 w4) r4 r5 → Follows (OneWord 128 w5) r5 r6 → Fails (AnyWord 32) r6 left → Fails (AnyOf Header) b left
+bad_msg_id b r1 r2 r3 r4 r5 r6 v t w3 w4 w5 left h0 h1 h2 h3 h4 h5 f = at6 b r1 r2 r3 r4 r5 r6 v t w3 w4 w5 h0 h1 h2 h3 h4 h5 left f
+
+pub header_read : (b r1 r2 r3 r4 r5 r6 r7 : List ℕ) (h : HeaderParts) → Follows (Priority h.priority) b r1 → Follows (Spaced Version) r1 r2 → Follows (OneTime h.time) r2 r3 → Follows (OneWord 255 h.hostname) r3 r4 → Follows (OneWord 48 h.app_name) r4 r5 → Follows (OneWord 128 h.proc_id) r5 r6 → Follows (OneWord 32 h.msg_id) r6 r7 → Follows (Header h) b r7
+unfolding Header
+header_read b r1 r2 r3 r4 r5 r6 r7 h h0 h1 h2 h3 h4 h5 h6 =
+    Follows-then (Priority h.priority) _ b r1 r7 h0
+    (Follows-then (Spaced Version) _ r1 r2 r7 h1
+    (Follows-then (OneTime h.time) _ r2 r3 r7 h2
+    (Follows-then (OneWord 255 h.hostname) _ r3 r4 r7 h3
+    (Follows-then (OneWord 48 h.app_name) _ r4 r5 r7 h4
+    (Follows-then (OneWord 128 h.proc_id) (OneWord 32 h.msg_id) r5 r6 r7 h5 h6)))))
+
+pub time_stands : (b r1 r2 : List ℕ) (v : ℕ) → Follows (Priority v) b r1 → Follows (Spaced Version) r1 r2 → Follows (AnyOf Priority ⋅ Spaced Version) b r2
+time_stands b r1 r2 v h0 h1 = Follows-then (AnyOf Priority) (Spaced Version) b r1 r2 (some_value Priority v b r1 h0) h1

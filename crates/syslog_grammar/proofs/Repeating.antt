@@ -1,0 +1,325 @@
+-- Elements one by one, and the first id that repeats an earlier one.
+use Rattle.std.proofs.Common.{◌≡◌, ◌≢◌, ℕ, ◌+◌, ◌-◌, List, [], ◌∷◌, ◌++◌, length, take, refl, sym, ap, subst, ◌∙◌, append_assoc, arith, inl, inr, ◌⊎◌}
+use Rattle.std.specs.Prelude.{Option, Some, None, IsTrue, ◌↔◌, Bool, true, false}
+use Rattle.std.specs.List.{AllByRecursion}
+use Rattle.std.specs.Ordering.{MatchOrdering}
+use Rattle.std.specs.declared.cmp.Ordering.{Ordering}
+use Rattle.std.specs.declared.cmp.Ordering.TheVariants.{Less, Equal, Greater}
+use Rattle.std.proofs.lemmas.List.{length-append, append_cancel_left, append_cancel_right, take_at, append-nil}
+use Rattle.octet_language.specs.Language.{AnyOf, Each, IfFront}
+use Rattle.octet_language.specs.Reading.{Fails, Follows}
+use Rattle.octet_language.proofs.Lists.{heads, tails}
+use Rattle.syslog_value.specs.Order.{OctetsBelow}
+use Rattle.syslog_value.specs.Parts.{ElementParts}
+use Rattle.syslog_value.specs.Structured.{HasId}
+use Rattle.syslog_value.proofs.Octets.{below_itself, below_trans}
+use Rattle.syslog_grammar.specs.Faults.{AreDistinct}
+use Rattle.syslog_grammar.specs.Grammar.{Element, Data}
+use Rattle.syslog_grammar.specs.Ids.{HoldsDistinct, HoldsRepeated, IsAbove, IsAtMost, Known, Skips}
+use Rattle.syslog_grammar.specs.Spans.{ElementSpan, SpannedElement}
+use Rattle.syslog_grammar.proofs.Ahead.{may_start}
+use Rattle.syslog_grammar.proofs.Names.{EndsName, OneAhead-name}
+use Rattle.syslog_grammar.proofs.ParamTexts.{SpannedParams, params_start, OneFront-element, element_spanned, spanned_element, element_front}
+
+-- ---- one element
+
+spanned_front : (d : List ℕ) → AnyOf SpannedParams d → IfFront EndsName d
+spanned_front d h = may_start EndsName (AnyOf SpannedParams) params_start d h
+
+same_name : (v w : ElementSpan) (x : List ℕ) → SpannedElement v x → SpannedElement w x → v.id ≡ w.id
+same_name v w x (a, b, e, h, (c, d, f, (n, i), l)) (a', b', e', h', (c', d', f', (n', i'), l')) =
+    let both : 91 ∷ b ≡ 91 ∷ b' = ap (λ (u : List ℕ). u ++ b) (sym h) ∙ sym e ∙ e' ∙ ap (λ (u : List ℕ). u ++ b') h' in
+    let rests : c ++ d ≡ c' ++ d' = sym f ∙ tails 91 91 b b' both ∙ f' in
+    let same : c ≡ c' = OneAhead-name c d c' d' (v.id, (n, i)) (w.id, (n', i')) (spanned_front d (v.params, l)) (spanned_front d' (w.params, l')) rests in
+    sym i ∙ same ∙ i'
+
+element_id : (e : ElementParts) (x : List ℕ) → Element e x → (v : ElementSpan) × SpannedElement v x × (v.id ≡ e.id)
+element_id p x (a, y, e, h, (z, w, g, k, (u, v, f, l, m))) =
+    (record { id = p.id; params = u }, (a, y, e, h, (z, w, g, k, (u, v, f, ((p.params, l), refl), m))), refl)
+
+-- the first element and the others, where one was read
+pub record Split (e : ElementParts) (es : List ElementParts) (rest behind : List ℕ) (v : ElementSpan) : Type 0 where
+  pub front : List ℕ
+  pub parts : rest ≡ front ++ behind
+  pub text : Element e front
+  pub same : e.id ≡ v.id
+  pub others : Each Element es behind
+
+pub split : (e : ElementParts) (es : List ElementParts) (rest behind : List ℕ) (v : ElementSpan) → Each Element (e ∷ es) rest → Follows (SpannedElement v) rest behind → Split e es rest behind v
+split e es rest behind v (x, y, g, h, k) (t, f, s) =
+    let same : x ≡ t = OneFront-element x y t behind (e, h) (spanned_element t (v, s)) (sym g ∙ f) in
+    let rests : y ≡ behind = append_cancel_left x y behind (sym g ∙ f ∙ ap (λ (u : List ℕ). u ++ behind) (sym same)) in
+    let i = element_id e x h in
+    record {
+      front = t;
+      parts = f;
+      text = subst (Element e) same h;
+      same = sym i.2 ∙ same_name i.0 v t (subst (SpannedElement i.0) same i.1) s;
+      others = subst (Each Element es) rests k;
+    }
+
+-- elements where none can be read
+pub no_element : (es : List ElementParts) (rest t : List ℕ) (x left : ℕ) → rest ≡ x ∷ t → Each Element es rest → Fails (AnyOf SpannedElement) rest left → ⊥
+no_element [] rest t x left e h f = let i : ◌≡◌ {A = List ℕ} [] (x ∷ t) = sym h ∙ e in absurd cc
+no_element (d ∷ es) rest t x left e (y, z, g, h, k) f = f.none y z g (element_spanned y (d, h))
+
+-- ---- whether some elements have an id
+
+pub record Left (id : List ℕ) (es : List ElementParts) (rest : List ℕ) : Type 0 where
+  pub todo : List ElementParts
+  pub each : Each Element todo rest
+  pub to : HasId id es → HasId id todo
+  pub from : HasId id todo → HasId id es
+
+abbrev pub Seeks : List ℕ → List ℕ → List ℕ → Type 0
+Seeks elements id rest = (es : List ElementParts) → Each Element es elements → Left id es rest
+
+pub seeks_all : (elements id : List ℕ) → Seeks elements id elements
+seeks_all elements id es h = record { todo = es; each = h; to = λ k. k; from = λ k. k }
+
+found_more : (id : List ℕ) (es todo : List ElementParts) (rest behind t : List ℕ) (x : ℕ) (v : ElementSpan) → rest ≡ x ∷ t → Each Element todo rest → (HasId id es → HasId id todo) → (HasId id todo → HasId id es) → Follows (SpannedElement v) rest behind → v.id ≢ id → Left id es behind
+found_more id es [] rest behind t x v e h to from f ne = let i : ◌≡◌ {A = List ℕ} [] (x ∷ t) = sym h ∙ e in absurd cc
+found_more id es (d ∷ ds) rest behind t x v e h to from f ne =
+    let s = split d ds rest behind v h f in
+    record {
+      todo = ds;
+      each = s.others;
+      to = λ k. elim (to k) [ inl g ↦ absurd (ne (sym s.same ∙ g)) | inr g ↦ g ];
+      from = λ k. from (inr k);
+    }
+
+pub seeks_more : (elements id rest behind t : List ℕ) (x : ℕ) (v : ElementSpan) → rest ≡ x ∷ t → Follows (SpannedElement v) rest behind → v.id ≢ id → Seeks elements id rest → Seeks elements id behind
+seeks_more elements id rest behind t x v e f ne seeks es h =
+    let k = seeks es h in
+    found_more id es k.todo rest behind t x v e k.each k.to k.from f ne
+
+found_here : (id : List ℕ) (todo : List ElementParts) (rest behind t : List ℕ) (x : ℕ) (v : ElementSpan) → rest ≡ x ∷ t → Each Element todo rest → Follows (SpannedElement v) rest behind → v.id ≡ id → HasId id todo
+found_here id [] rest behind t x v e h f g = let i : ◌≡◌ {A = List ℕ} [] (x ∷ t) = sym h ∙ e in absurd cc
+found_here id (d ∷ ds) rest behind t x v e h f g = inl ((split d ds rest behind v h f).same ∙ g)
+
+pub seeks_found : (elements id rest behind t : List ℕ) (x : ℕ) (v : ElementSpan) → rest ≡ x ∷ t → Follows (SpannedElement v) rest behind → v.id ≡ id → Seeks elements id rest → (es : List ElementParts) → Each Element es elements → IsTrue true ↔ HasId id es
+seeks_found elements id rest behind t x v e f g seeks es h =
+    let k = seeks es h in
+    (λ u. k.from (found_here id k.todo rest behind t x v e k.each f g), λ u. refl)
+
+pub seeks_stuck : (elements id rest t : List ℕ) (x left : ℕ) → rest ≡ x ∷ t → Fails (AnyOf SpannedElement) rest left → Seeks elements id rest → (es : List ElementParts) → Each Element es elements → IsTrue false ↔ HasId id es
+seeks_stuck elements id rest t x left e f seeks es h = let k = seeks es h in absurd (no_element k.todo rest t x left e k.each f)
+
+none_left : (id : List ℕ) (todo : List ElementParts) → Each Element todo [] → HasId id todo → ⊥
+none_left id [] h k = k
+none_left id (d ∷ ds) (x, y, g, h, l) k = let f = element_front x (d, h) in let i : ◌≡◌ {A = List ℕ} [] (91 ∷ (f.0 ++ y)) = g ∙ ap (λ (u : List ℕ). u ++ y) f.1 in absurd cc
+
+pub seeks_end : (elements id rest : List ℕ) → rest ≡ [] → Seeks elements id rest → (es : List ElementParts) → Each Element es elements → IsTrue false ↔ HasId id es
+seeks_end elements id rest e seeks es h =
+    let k = seeks es h in
+    (λ u. absurd cc, λ u. absurd (none_left id k.todo (subst (Each Element k.todo) e k.each) (k.to u)))
+
+-- ---- distinct ids
+
+has_end : (id : List ℕ) (es : List ElementParts) (e : ElementParts) → HasId id (es ++ e ∷ []) → HasId id es ⊎ (e.id ≡ id)
+has_end id [] e (inl h) = inr h
+has_end id [] e (inr h) = absurd h
+has_end id (d ∷ es) e (inl h) = inl (inl h)
+has_end id (d ∷ es) e (inr h) = elim (has_end id es e h) [ inl k ↦ inl (inr k) | inr k ↦ inr k ]
+
+distinct_end : (es : List ElementParts) (e : ElementParts) → AreDistinct es → ¬ (HasId e.id es) → AreDistinct (es ++ e ∷ [])
+distinct_end [] e d none = (λ h. h, tt)
+distinct_end (f ∷ es) e d none = (λ h. elim (has_end f.id es e h) [ inl k ↦ d.0 k | inr k ↦ none (inl (sym k)) ], distinct_end es e d.1 (λ h. none (inr h)))
+
+all_end : (P : ElementParts → Type 0) (es : List ElementParts) (e : ElementParts) → AllByRecursion P es → P e → AllByRecursion P (es ++ e ∷ [])
+all_end P [] e h p = (p, tt)
+all_end P (f ∷ es) e h p = (h.0, all_end P es e h.1 p)
+
+none_above : (id : List ℕ) (greatest : Option (List ℕ)) (es : List ElementParts) → IsAbove id greatest → AllByRecursion (λ e. IsAtMost e.id greatest) es → ¬ (HasId id es)
+none_above id greatest [] a h k = k
+none_above id None (e ∷ es) a h k = h.0
+none_above id (Some g) (e ∷ es) a h (inl k) = elim h.0 [
+  | inl same ↦ below_itself id (subst (λ (l : List ℕ). OctetsBelow l id) (sym same ∙ k) a)
+  | inr less ↦ below_itself id (below_trans id g id (subst (λ (l : List ℕ). OctetsBelow l g) k less) a)
+]
+none_above id (Some g) (e ∷ es) a h (inr k) = none_above id (Some g) es a h.1 k
+
+raised : (id : List ℕ) (greatest : Option (List ℕ)) (es : List ElementParts) → IsAbove id greatest → AllByRecursion (λ e. IsAtMost e.id greatest) es → AllByRecursion (λ e. IsAtMost e.id (Some id)) es
+raised id greatest [] a h = tt
+raised id None (e ∷ es) a h = absurd h.0
+raised id (Some g) (e ∷ es) a h = (
+  elim h.0 [
+    | inl same ↦ inr (subst (λ (l : List ℕ). OctetsBelow l id) (sym same) a)
+    | inr less ↦ inr (below_trans e.id g id less a)
+  ],
+  raised id (Some g) es a h.1,
+)
+
+-- ---- from the left
+
+each_end : (es : List ElementParts) (e : ElementParts) (p q : List ℕ) → Each Element es p → Element e q → Each Element (es ++ e ∷ []) (p ++ q)
+each_end [] e p q h k = (q, [], ap (λ (u : List ℕ). u ++ q) h ∙ sym (append-nil q), k, refl)
+each_end (f ∷ es) e p q (x, y, g, h, l) k = (x, y ++ q, ap (λ (u : List ℕ). u ++ q) g ∙ append_assoc x y q, h, each_end es e y q l k)
+
+each_join : (es fs : List ElementParts) (p q : List ℕ) → Each Element es p → Each Element fs q → Each Element (es ++ fs) (p ++ q)
+each_join [] fs p q h k = subst (λ (u : List ℕ). Each Element fs (u ++ q)) (sym h) k
+each_join (f ∷ es) fs p q (x, y, g, h, l) k = (x, y ++ q, ap (λ (u : List ℕ). u ++ q) g ∙ append_assoc x y q, h, each_join es fs y q l k)
+
+-- the same, with the greatest id that was met
+pub record Rising (text rest : List ℕ) (greatest : Option (List ℕ)) : Type 0 where
+  pub known : Known text rest
+  pub most : AllByRecursion (λ e. IsAtMost e.id greatest) known.before
+
+pub rising_none : (text : List ℕ) → AnyOf Data text → Rising text text None
+rising_none text ([], h) = record { known = record { front = []; before = []; parts = refl; each = refl; distinct = tt; more = inr (refl, h) }; most = tt }
+rising_none text (e ∷ es, h) = record { known = record { front = []; before = []; parts = refl; each = refl; distinct = tt; more = inl (e ∷ es, h) }; most = tt }
+
+some_data : (es : List ElementParts) (text : List ℕ) → text ≢ [] → Each Element es text → Data es text
+some_data [] text some h = absurd (some h)
+some_data (e ∷ es) text some h = h
+
+data_some : (text : List ℕ) → AnyOf Data text → text ≢ []
+data_some text ([], h) e =
+    let i : ◌≡◌ {A = List ℕ} [] (45 ∷ []) = sym e ∙ h in absurd cc
+data_some text (d ∷ es, (x, y, g, h, k)) e =
+    let f = element_front x (d, h) in
+    let i : ◌≡◌ {A = List ℕ} [] (91 ∷ (f.0 ++ y)) = sym e ∙ g ∙ ap (λ (u : List ℕ). u ++ y) f.1 in absurd cc
+
+not_bracket : (es : List ElementParts) (rest t : List ℕ) (x : ℕ) → rest ≡ x ∷ t → Each Element es rest → x ≡ 91
+not_bracket [] rest t x e h =
+    let i : ◌≡◌ {A = List ℕ} [] (x ∷ t) = sym h ∙ e in absurd cc
+not_bracket (d ∷ es) rest t x e (y, z, g, h, k) =
+    let f = element_front y (d, h) in heads x 91 t (f.0 ++ z) (sym e ∙ g ∙ ap (λ (u : List ℕ). u ++ z) f.1)
+
+-- no bracket is next: the sign for none
+pub known_dash : (text rest t : List ℕ) (x : ℕ) → rest ≡ x ∷ t → x ≢ 91 → Known text rest → HoldsDistinct text
+known_dash text rest t x e ne s = elim s.more [
+  | inl k ↦ absurd (ne (not_bracket k.0 rest t x e k.1))
+  | inr k ↦ ([], s.parts ∙ ap (λ (u : List ℕ). u ++ rest) (subst (λ (es : List ElementParts). Each Element es s.front) k.0 s.each) ∙ k.1, tt)
+]
+
+-- no element can be read there
+pub known_stuck : (text rest t : List ℕ) (x left : ℕ) → rest ≡ x ∷ t → x ≡ 91 → Fails (AnyOf SpannedElement) rest left → Known text rest → ⊥
+known_stuck text rest t x left e f g s = elim s.more [
+  | inl k ↦ no_element k.0 rest t x left e k.1 g
+  | inr k ↦
+      let i : x ≡ 45 = heads x 45 t [] (sym e ∙ k.1) in omega (arith, i, f)
+]
+
+pub known_end : (text rest : List ℕ) → AnyOf Data text → rest ≡ [] → Known text rest → HoldsDistinct text
+known_end text rest d e s =
+    (s.before, some_data s.before text (data_some text d) (subst (Each Element s.before) (sym (s.parts ∙ ap (λ (u : List ℕ). s.front ++ u) e ∙ append-nil s.front)) s.each), s.distinct)
+
+-- the element that was read, and the others
+record Next (rest behind : List ℕ) (v : ElementSpan) : Type 0 where
+  pub element : ElementParts
+  pub others : List ElementParts
+  pub whole : Each Element (element ∷ others) rest
+  pub split : Split element others rest behind v
+
+next_of : (es : List ElementParts) (rest behind t : List ℕ) (x : ℕ) (v : ElementSpan) → rest ≡ x ∷ t → Each Element es rest → Follows (SpannedElement v) rest behind → Next rest behind v
+next_of [] rest behind t x v e h f =
+    let i : ◌≡◌ {A = List ℕ} [] (x ∷ t) = sym h ∙ e in absurd cc
+next_of (d ∷ es) rest behind t x v e h f = record { element = d; others = es; whole = h; split = split d es rest behind v h f }
+
+next : (text rest behind t : List ℕ) (x : ℕ) (v : ElementSpan) → rest ≡ x ∷ t → x ≡ 91 → Follows (SpannedElement v) rest behind → Known text rest → Next rest behind v
+next text rest behind t x v e g f s = elim s.more [
+  | inl k ↦ next_of k.0 rest behind t x v e k.1 f
+  | inr k ↦
+      let i : x ≡ 45 = heads x 45 t [] (sym e ∙ k.1) in absurd (omega (arith, i, g))
+]
+
+pub front_is : (text front rest : List ℕ) → text ≡ front ++ rest → take (length text - length rest) text ≡ front
+front_is text front rest e =
+    let n : length text - length rest ≡ length front = omega (arith, ap length e, length-append front rest) in
+    rw (n, e) (take_at front rest (length front) refl)
+
+abbrev keep : (text rest behind : List ℕ) (v : ElementSpan) (s : Known text rest) → Next rest behind v → ¬ (HasId v.id s.before) → Known text behind
+keep text rest behind v s n none = record {
+  front = s.front ++ n.split.front;
+  before = s.before ++ n.element ∷ [];
+  parts = s.parts ∙ ap (λ (u : List ℕ). s.front ++ u) n.split.parts ∙ sym (append_assoc s.front n.split.front behind);
+  each = each_end s.before n.element s.front n.split.front s.each n.split.text;
+  distinct = distinct_end s.before n.element s.distinct (λ h. none (subst (λ (id : List ℕ). HasId id s.before) n.split.same h));
+  more = inl (n.others, n.split.others);
+}
+
+-- an id above all
+pub rising_above : (text rest behind t : List ℕ) (x : ℕ) (greatest : Option (List ℕ)) (v : ElementSpan) → rest ≡ x ∷ t → x ≡ 91 → Follows (SpannedElement v) rest behind → IsAbove v.id greatest → Rising text rest greatest → Rising text behind (Some v.id)
+rising_above text rest behind t x greatest v e g f a s =
+    let n = next text rest behind t x v e g f s.known in
+    record {
+      known = keep text rest behind v s.known n (none_above v.id greatest s.known.before a s.most);
+      most = all_end (λ e. IsAtMost e.id (Some v.id)) s.known.before n.element (raised v.id greatest s.known.before a s.most) (subst (λ (id : List ℕ). IsAtMost id (Some v.id)) (sym n.split.same) (inl refl));
+    }
+
+-- an id that is not among those before
+pub known_new : (text rest behind t : List ℕ) (x : ℕ) (v : ElementSpan) (found : Bool) → rest ≡ x ∷ t → x ≡ 91 → Follows (SpannedElement v) rest behind
+    → ((es : List ElementParts) → Each Element es (take (length text - length rest) text) → IsTrue found ↔ HasId v.id es) → found ≡ false → Known text rest → Known text behind
+known_new text rest behind t x v found e g f finds isn s =
+    keep text rest behind v s (next text rest behind t x v e g f s) (λ h. apart ((finds s.before (subst (Each Element s.before) (sym (front_is text s.front rest s.parts)) s.each)).1 h))
+  where
+    apart : found ≡ true → ⊥
+    apart y =
+        let i : false ≡ true = sym isn ∙ y in absurd cc
+
+-- an id that is among those before
+pub known_repeated : (text rest behind t : List ℕ) (x : ℕ) (v : ElementSpan) (found : Bool) (at : ℕ) → AnyOf Data text → rest ≡ x ∷ t → x ≡ 91 → Follows (SpannedElement v) rest behind
+    → ((es : List ElementParts) → Each Element es (take (length text - length rest) text) → IsTrue found ↔ HasId v.id es) → found ≡ true → at ≡ length (take (length text - length rest) text) + 1 → Known text rest → HoldsRepeated text at
+known_repeated text rest behind t x v found at d e g f finds is place s =
+    let n = next text rest behind t x v e g f s in
+    let front = front_is text s.front rest s.parts in
+    let has : HasId v.id s.before = (finds s.before (subst (Each Element s.before) (sym front) s.each)).0 is in
+    let all = s.before ++ n.element ∷ n.others in (
+      all,
+      some_data all text (data_some text d) (subst (Each Element all) (sym s.parts) (each_join s.before (n.element ∷ n.others) s.front rest s.each n.whole)),
+      s.before,
+      record { element = n.element; behind = n.others; parts = refl; distinct = s.distinct; same = subst (λ (id : List ℕ). HasId id s.before) (sym n.split.same) has },
+      (s.front ++ 91 ∷ [], t, s.parts ∙ ap (λ (u : List ℕ). s.front ++ u) (e ∙ ap (λ (k : ℕ). k ∷ t) g) ∙ sym (append_assoc s.front (91 ∷ []) t), (s.front, 91 ∷ [], refl, s.each, refl), omega (arith, place, ap length front, length-append s.front (91 ∷ []))),
+    )
+
+-- ---- so many elements further
+
+pub skips_none : (elements : List ℕ) → Skips elements elements
+skips_none elements = record { front = []; parts = refl; both = λ es h. ([], es, refl, h) }
+
+pub skips_more : (elements rest behind t : List ℕ) (x : ℕ) (v : ElementSpan) → rest ≡ x ∷ t → Follows (SpannedElement v) rest behind → Skips elements rest → Skips elements behind
+skips_more elements rest behind t x v e f s = record {
+  front = s.front ++ f.0;
+  parts = s.parts ∙ ap (λ (u : List ℕ). s.front ++ u) f.1 ∙ sym (append_assoc s.front f.0 behind);
+  both = λ es h. let k = s.both es h in one k.0 k.1 k.2 k.3;
+}
+  where
+    one : (us bs : List ElementParts) → Each Element us s.front → Each Element bs rest → (cs : List ElementParts) × (ds : List ElementParts) × Each Element cs (s.front ++ f.0) × Each Element ds behind
+    one us [] h k =
+        let i : ◌≡◌ {A = List ℕ} [] (x ∷ t) = sym k ∙ e in absurd cc
+    one us (d ∷ bs) h k =
+        let p = split d bs rest behind v k f in
+        let same : p.front ≡ f.0 = append_cancel_right p.front f.0 behind (sym p.parts ∙ f.1) in
+        (us ++ d ∷ [], bs, each_end us d s.front f.0 h (subst (Element d) same p.text), p.others)
+
+-- elements further on, where the ids up to there differ
+pub known_further : (text rest behind t : List ℕ) (x : ℕ) → rest ≡ x ∷ t → x ≡ 91 → Skips rest behind → ((es : List ElementParts) → Each Element es (take (length text - length behind) text) → AreDistinct es) → Known text rest → Known text behind
+known_further text rest behind t x e g k differ s = elim s.more [
+  | inl m ↦
+      let b = k.both m.0 m.1 in
+      let parts : text ≡ (s.front ++ k.front) ++ behind = s.parts ∙ ap (λ (u : List ℕ). s.front ++ u) k.parts ∙ sym (append_assoc s.front k.front behind) in
+      let each = each_join s.before b.0 s.front k.front s.each b.2 in
+      record {
+        front = s.front ++ k.front;
+        before = s.before ++ b.0;
+        parts = parts;
+        each = each;
+        distinct = differ (s.before ++ b.0) (subst (Each Element (s.before ++ b.0)) (sym (front_is text (s.front ++ k.front) behind parts)) each);
+        more = inl (b.1, b.3);
+      }
+  | inr m ↦
+      let i : x ≡ 45 = heads x 45 t [] (sym e ∙ m.1) in absurd (omega (arith, i, g))
+]
+
+-- ---- above the greatest
+
+pub above_when : (greatest id : List ℕ) (o : Ordering) → MatchOrdering o (OctetsBelow greatest id) (greatest ≡ id) (OctetsBelow id greatest) → o ≡ Less → OctetsBelow greatest id
+above_when greatest id Less h e = h
+above_when greatest id Equal h e = absurd cc
+above_when greatest id Greater h e = absurd cc
+
+pub most_when : (greatest id : List ℕ) (o : Ordering) → MatchOrdering o (OctetsBelow greatest id) (greatest ≡ id) (OctetsBelow id greatest) → o ≢ Less → IsAtMost id (Some greatest)
+most_when greatest id Less h e = absurd (e refl)
+most_when greatest id Equal h e = inl (sym h)
+most_when greatest id Greater h e = inr h

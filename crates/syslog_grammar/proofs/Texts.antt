@@ -1,0 +1,14 @@
+-- Texts that are lent as their own octets.
+use Rattle.std.proofs.Common.{ℕ, List, refl, subst, sym}
+use Rattle.octet_language.specs.Language.{Language, ◌⋅◌, AnyOf}
+use Rattle.octet_language.specs.Reading.{Fails}
+use Rattle.octet_language.proofs.Chain.{Fails-same}
+use Rattle.syslog_grammar.specs.Spans.{Text}
+
+-- a text and what is behind it fail alike where the text is lent
+pub Fails-text : (L Z : Language) (b : List ℕ) (left : ℕ) → Fails (L ⋅ Z) b left → Fails (AnyOf (λ t. Text L t ⋅ Z)) b left
+Fails-text L Z b left f =
+    Fails-same (L ⋅ Z) (AnyOf (λ t. Text L t ⋅ Z)) b left
+    (λ s (x, y, e, h, k). (x, (x, y, e, (h, refl), k)))
+    (λ s (t, (x, y, e, (h, g), k)). (x, y, e, subst L (sym g) h, k))
+    f

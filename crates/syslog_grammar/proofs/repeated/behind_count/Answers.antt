@@ -1,0 +1,9 @@
+use Rattle.syslog_grammar.specs.Views.{element_span}
+use Rattle.syslog_grammar.proofs.Repeating.{skips_none, skips_more}
+use Rattle.syslog_grammar.proofs.repeated.behind_count.Goals as goal
+
+pub loop-init : goal.loop-init
+loop-init c = skips_none c.args.elements.now
+
+pub loop-preserved : goal.loop-preserved
+loop-preserved c = skips_more c.args.elements.now c.loop.rest.now c.in-Ok.behind.now c.in-Some._after.now c.in-Some._first (element_span c.in-Ok._found) c.in-Some.ensures c.in-Ok.ensures c.loop.invariant

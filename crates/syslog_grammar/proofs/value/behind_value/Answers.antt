@@ -1,0 +1,33 @@
+use Rattle.std.proofs.Common.{◌≡◌, ◌≢◌, ◌∷◌, [], sym, subst}
+use Rattle.std.proofs.lemmas.Result.{err_from_is_err_and}
+use Rattle.octet_language.specs.Language.{IfFront}
+use Rattle.syslog_grammar.specs.Values.{Piece}
+use Rattle.octet_language.specs.Language.{AnyOf}
+use Rattle.syslog_grammar.proofs.Loops.{carries_all, carries_more, carried_fails, carried_ends, takes_some}
+use Rattle.syslog_grammar.proofs.Values.{OneFront-piece, no_piece, piece_some}
+use Rattle.syslog_grammar.proofs.value.behind_value.Goals as goal
+
+pub returns-then-first-eq34 : goal.returns-then-first-eq34
+returns-then-first-eq34 c = carried_ends Piece 34 c.args.octets.now c.loop-first.rest.now c.in-Some.after.now c.in-Some.first c.loop-first.invariant c.in-Some.ensures c.if-first-eq34.true
+
+pub returns-in_err-behind : goal.returns-in_err-behind
+returns-in_err-behind c =
+    let p = err_from_is_err_and c.from_residual.result c.from_residual.ensures.1 in
+    let e : c.loop-first.rest.now ≡ c.in-Some.first ∷ c.in-Some.after.now = c.in-Some.ensures in
+    rw (p.1, p.2) (carried_fails Piece 34 c.args.octets.now c.loop-first.rest.now _ (subst (IfFront (λ x. x ≢ 34)) (sym e) c.if-first-eq34.false) c.loop-first.invariant c.in_err-behind.ensures)
+
+pub loop-first-smaller : goal.loop-first-smaller
+loop-first-smaller c = takes_some (AnyOf Piece) c.loop-first.rest.now c.in_ok-behind.behind.now piece_some c.in_ok-behind.ensures
+
+pub loop-first-preserved : goal.loop-first-preserved
+loop-first-preserved c =
+    let e : c.loop-first.rest.now ≡ c.in-Some.first ∷ c.in-Some.after.now = c.in-Some.ensures in
+    carries_more Piece 34 c.args.octets.now c.loop-first.rest.now c.in_ok-behind.behind.now OneFront-piece (subst (IfFront (λ x. x ≢ 34)) (sym e) c.if-first-eq34.false) c.in_ok-behind.ensures c.loop-first.invariant
+
+pub returns : goal.returns
+returns c =
+    let e : c.loop-first.rest.now ≡ [] = c.in_default.ensures in
+    carried_fails Piece 34 c.args.octets.now c.loop-first.rest.now _ (subst (IfFront (λ x. x ≢ 34)) (sym e) tt) c.loop-first.invariant (no_piece c.loop-first.rest.now (subst (IfFront _) (sym e) tt))
+
+pub loop-first-init : goal.loop-first-init
+loop-first-init c = carries_all Piece _ c.args.octets.now

@@ -1,0 +1,37 @@
+use Rattle.std.proofs.Common.{refl}
+use Rattle.syslog_grammar.specs.Fields.{header_parts}
+use Rattle.syslog_grammar.proofs.Viewing.{parts_of, spelled_by, header_priority, out_of_range, in_range, shown_instant, repeated_id, valid_micros}
+use Rattle.syslog_grammar.proofs.whole.view.Goals as goal
+
+pub returns-in-Err : goal.returns-in-Err
+returns-in-Err c = out_of_range c.args.octets.now c.in_ok-spelling.spelling c.in_ok-spelling.ensures c.in-Err.ensures
+
+pub returns-in-Some : goal.returns-in-Some
+returns-in-Some c = repeated_id c.args.octets.now c.in_ok-spelling.spelling c.in-Ok.micros c.in-Some.place c.in_ok-spelling.ensures c.in-Ok.ensures.0 c.in-Ok.ensures.1 c.in-Some.ensures
+
+pub invariant_of-result : goal.invariant_of-result
+invariant_of-result c = record {
+  priority_valid = header_priority (header_parts c.in_ok-spelling.spelling.fields) c.in_ok-spelling.ensures.fields.0 c.in_ok-spelling.ensures.fields.2;
+  micros_valid = valid_micros c.in-Ok.micros c.in-Ok.ensures.1;
+}
+
+pub returns : goal.returns
+returns c =
+    let s = c.in_ok-spelling.spelling in
+    let k = c.in_ok-spelling.ensures in
+    let e = c.in_default.ensures in (
+      parts_of s e.0,
+      spelled_by c.args.octets.now s e.0 k e.1,
+      in_range s e.0 c.in-Ok.micros c.in-Ok.ensures.0 c.in-Ok.ensures.1,
+      e.2,
+      record {
+        priority = refl;
+        instant = shown_instant s e.0 c.in-Ok.micros c.in-Ok.ensures.0;
+        hostname = refl;
+        app_name = refl;
+        proc_id = refl;
+        msg_id = refl;
+        elements = e.1;
+        message = refl;
+      },
+    )

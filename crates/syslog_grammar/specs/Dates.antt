@@ -1,0 +1,28 @@
+-- The parts of a timestamp as they are read, one behind the other.
+use Rattle.std.specs.Prelude.{ℕ, ℤ, [], ◌∷◌}
+use Rattle.octet_language.specs.Language.{Language, Only, ◌⋅◌}
+use Rattle.syslog_grammar.specs.declared.timestamp.Timestamp.{Timestamp}
+use Rattle.syslog_grammar.specs.Time.{CivilTime, Two, YearText, DateText, ClockText, FractionText, ZoneText}
+
+-- a year and a month
+abbrev pub YearMonth : ℕ × ℕ → Language
+YearMonth d = YearText d.0 ⋅ Only (45 ∷ []) ⋅ Two 1 12 d.1
+
+-- a year, a month and a day
+abbrev pub Date : ℕ × ℕ × ℕ → Language
+Date d = DateText d.0 d.1 d.2
+
+-- an hour and a minute
+abbrev pub HourMinute : ℕ × ℕ → Language
+HourMinute c = Two 0 23 c.0 ⋅ Only (58 ∷ []) ⋅ Two 0 59 c.1
+
+-- an hour, a minute and a second
+abbrev pub Clock : ℕ × ℕ × ℕ → Language
+Clock c = ClockText c.0 c.1 c.2
+
+-- microseconds and an offset in minutes
+abbrev pub FractionZone : ℕ × ℤ → Language
+FractionZone f = FractionText f.0 ⋅ ZoneText f.1
+
+abbrev pub time_of : Timestamp → CivilTime
+time_of t = record { civil = t.civil; offset = t.offset_minutes }

@@ -1,0 +1,21 @@
+-- The fields of a header without where they lie in memory.
+use Rattle.std.specs.Prelude.{◌≡◌, ℕ, List, length, option_map}
+use Rattle.octet_language.specs.Language.{◌⋅◌, AnyOf}
+use Rattle.octet_language.specs.Reading.{Follows}
+use Rattle.syslog_grammar.specs.declared.header.HeaderFields.{HeaderFields}
+use Rattle.syslog_grammar.specs.Dates.{time_of}
+use Rattle.syslog_grammar.specs.Grammar.{HeaderParts, Priority, Spaced, Version}
+
+abbrev pub header_parts : HeaderFields → HeaderParts
+header_parts h = record {
+  priority = h.priority;
+  time = option_map time_of h.time;
+  hostname = option_map (λ s. s.now) h.hostname;
+  app_name = option_map (λ s. s.now) h.app_name;
+  proc_id = option_map (λ s. s.now) h.proc_id;
+  msg_id = option_map (λ s. s.now) h.msg_id;
+}
+
+-- so many octets are left behind PRI, VERSION and the space
+abbrev pub TimeStands : List ℕ → ℕ → Type 0
+TimeStands b left = (rest : List ℕ) × Follows (AnyOf Priority ⋅ Spaced Version) b rest × (length rest ≡ left)

@@ -1,0 +1,15 @@
+pub mod Utf8
+pub mod Values
+pub mod Stops
+pub mod Time
+pub mod Dates
+pub mod Grammar
+pub mod Spans
+pub mod Views
+pub mod Fields
+pub mod Faults
+pub mod Spellings
+pub mod Ids
+pub mod Shown
+pub mod PartsLeft
+pub mod Instants

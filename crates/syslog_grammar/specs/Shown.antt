@@ -1,0 +1,57 @@
+-- What a view of a record shows.
+use Rattle.std.specs.Prelude.{◌≡◌, ℕ, ℤ, List, Option, option_map, ⊤}
+use Rattle.syslog_value.specs.Parts.{Parts, MessageParts, AnyOctets, Utf8Text}
+use Rattle.syslog_grammar.specs.Faults.{IsInRange, AreDistinct}
+use Rattle.syslog_grammar.specs.Grammar.{Data, Spelled}
+use Rattle.syslog_grammar.specs.Time.{CivilTime, instant}
+use Rattle.syslog_grammar.specs.Views.{message_parts}
+use Rattle.syslog_grammar.specs.declared.record_view.RecordView.{RecordView}
+
+-- the parts of a record with the text of its structured data
+pub record ShownParts : Type 0 where
+  pub priority : ℕ
+  pub instant : Option ℤ
+  pub hostname : Option (List ℕ)
+  pub app_name : Option (List ℕ)
+  pub proc_id : Option (List ℕ)
+  pub msg_id : Option (List ℕ)
+  pub elements : List ℕ
+  pub message : MessageParts
+
+-- what a view shows
+abbrev pub shown : RecordView → ShownParts
+shown v = record {
+  priority = v.priority;
+  instant = v.micros;
+  hostname = option_map (λ s. s.now) v.hostname;
+  app_name = option_map (λ s. s.now) v.app_name;
+  proc_id = option_map (λ s. s.now) v.proc_id;
+  msg_id = option_map (λ s. s.now) v.msg_id;
+  elements = v.data.now;
+  message = message_parts v.message;
+}
+
+-- the parts that are shown are those that the octets spell
+pub record Shows (p : Parts CivilTime) (s : ShownParts) : Type 0 where
+  pub priority : s.priority ≡ p.priority
+  pub instant : s.instant ≡ option_map instant p.time
+  pub hostname : s.hostname ≡ p.hostname
+  pub app_name : s.app_name ≡ p.app_name
+  pub proc_id : s.proc_id ≡ p.proc_id
+  pub msg_id : s.msg_id ≡ p.msg_id
+  pub elements : Data p.elements s.elements
+  pub message : s.message ≡ p.message
+
+-- the octets spell a record, with an instant in range and distinct ids, and this is shown of it
+abbrev pub IsShown : List ℕ → ShownParts → Type 0
+IsShown b s = (p : Parts CivilTime) × Spelled p b × IsInRange p × AreDistinct p.elements × Shows p s
+
+-- the octets of a message, without the mark
+abbrev pub octets_of : MessageParts → List ℕ
+octets_of (AnyOctets octets) = octets
+octets_of (Utf8Text text) = text
+
+-- the mark stands before the message
+abbrev pub IsMarked : MessageParts → Type 0
+IsMarked (AnyOctets octets) = ⊥
+IsMarked (Utf8Text text) = ⊤

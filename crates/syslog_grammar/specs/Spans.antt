@@ -1,0 +1,64 @@
+-- What the readers of parts lend: the texts of parts as they lie in the octets.
+use Rattle.std.specs.Prelude.{◌≡◌, ◌≢◌, ℕ, ◌<◌, ◌≤◌, List, [], ◌∷◌, ◌++◌, length, ◌⊎◌}
+use Rattle.std.specs.List.{AllByRecursion}
+use Rattle.octet_language.specs.Language.{Language, Only, ◌⋅◌, AnyOf, Each, IfFront, NoFront}
+use Rattle.octet_language.specs.Reading.{Follows, Misses}
+use Rattle.syslog_grammar.specs.Grammar.{Name, Param, Element, Data, Tail}
+use Rattle.syslog_grammar.specs.Values.{Piece}
+
+-- a text of the language as its own octets
+abbrev pub Text : Language → List ℕ → Language
+Text L text b = L text × (b ≡ text)
+
+-- one to n octets of a class
+pub record IsRun (C : ℕ → Type 0) (n : ℕ) (b : List ℕ) : Type 0 where
+  pub some : 0 < length b
+  pub fits : length b ≤ n
+  pub octets : AllByRecursion C b
+
+-- a run is not whole: no octet of it stands in front, or more than it may have
+pub record StopsInRun (C : ℕ → Type 0) (n : ℕ) (b : List ℕ) (left : ℕ) : Type 0 where
+  pub read : List ℕ
+  pub rest : List ℕ
+  pub parts : b ≡ read ++ rest
+  pub count : length rest ≡ left
+  pub octets : AllByRecursion C read
+  pub ends : ((read ≡ []) × IfFront (λ x. C x → ⊥) rest) ⊎ ((length read ≡ n) × IfFront C rest)
+
+-- a parameter by its name and the spelling of its value
+pub record ParamSpan : Type 0 where
+  pub name : List ℕ
+  pub raw : List ℕ
+
+-- ="VALUE", by the spelling of the value
+abbrev pub SpannedValue : List ℕ → Language
+SpannedValue raw = Only (61 ∷ []) ⋅ Only (34 ∷ []) ⋅ Text (AnyOf (Each Piece)) raw ⋅ Only (34 ∷ [])
+
+abbrev pub SpannedParam : ParamSpan → Language
+SpannedParam v = Only (32 ∷ []) ⋅ Name v.name ⋅ SpannedValue v.raw
+
+-- an element by its id and the text of its parameters
+pub record ElementSpan : Type 0 where
+  pub id : List ℕ
+  pub params : List ℕ
+
+abbrev pub SpannedElement : ElementSpan → Language
+SpannedElement v = Only (91 ∷ []) ⋅ Name v.id ⋅ Text (AnyOf (Each Param)) v.params ⋅ Only (93 ∷ [])
+
+-- elements stand in front, one at least, and none behind them
+abbrev pub EndsElements : List ℕ → List ℕ → Type 0
+EndsElements b rest = Follows (AnyOf Element ⋅ AnyOf (Each Element)) b rest × IfFront (λ x. x ≢ 91) rest
+
+-- an element is not whole: with a tail behind the elements the octets are no text, and no elements and a space stand in front
+pub record StopsInElements (b : List ℕ) (left : ℕ) : Type 0 where
+  pub tail : Misses (AnyOf Element ⋅ AnyOf (Each Element) ⋅ AnyOf Tail) b left
+  pub space : NoFront (AnyOf Element ⋅ AnyOf (Each Element) ⋅ Only (32 ∷ [])) b
+
+-- structured data stands in front: the sign for none, or elements with none behind them
+abbrev pub EndsData : List ℕ → List ℕ → List ℕ → Type 0
+EndsData b text rest = (b ≡ text ++ rest) × ((text ≡ 45 ∷ []) ⊎ ((AnyOf Element ⋅ AnyOf (Each Element)) text × IfFront (λ x. x ≢ 91) rest))
+
+-- the structured data is not whole
+pub record StopsInData (b : List ℕ) (left : ℕ) : Type 0 where
+  pub tail : Misses (AnyOf Data ⋅ AnyOf Tail) b left
+  pub space : NoFront (AnyOf Data ⋅ Only (32 ∷ [])) b

@@ -1,0 +1,28 @@
+-- The spellings of a parameter's value (RFC 5424, 6.3.3).
+use Rattle.std.specs.Prelude.{◌≡◌, ◌≢◌, ℕ, List, [], ◌∷◌, ◌⊎◌}
+use Rattle.std.specs.List.{flat_map}
+use Rattle.octet_language.specs.Language.{Language, Each}
+use Rattle.syslog_grammar.specs.Utf8.{IsCharacter}
+
+-- a quotation mark, a backslash or a closing bracket
+abbrev pub IsSpecial : ℕ → Type 0
+IsSpecial x = (x ≡ 34) ⊎ ((x ≡ 92) ⊎ (x ≡ 93))
+
+-- a character that is none of these
+abbrev pub IsPlain : Language
+IsPlain c = IsCharacter c × (c ≢ 34 ∷ []) × (c ≢ 92 ∷ []) × (c ≢ 93 ∷ [])
+
+-- a special character behind a backslash
+abbrev pub IsEscape : Language
+IsEscape b = (x : ℕ) × IsSpecial x × (b ≡ 92 ∷ x ∷ [])
+
+-- a piece of a spelling by its meaning: a special character behind a backslash means itself,
+-- a backslash before any other character means both, and any other character means itself
+abbrev pub Piece : List ℕ → Language
+Piece m b = ((x : ℕ) × IsSpecial x × (m ≡ x ∷ []) × (b ≡ 92 ∷ x ∷ []))
+    ⊎ (((c : List ℕ) × IsPlain c × (m ≡ 92 ∷ c) × (b ≡ 92 ∷ c))
+    ⊎ (IsPlain m × (b ≡ m)))
+
+-- PARAM-VALUE: the spellings of a text are pieces whose meanings, joined, are the text
+abbrev pub Spells : List ℕ → Language
+Spells text b = (meanings : List (List ℕ)) × (text ≡ flat_map (λ m. m) meanings) × Each Piece meanings b

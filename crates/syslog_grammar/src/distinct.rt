@@ -1,0 +1,113 @@
+//! Whether ids are distinct, in less than quadratic time and without memory.
+
+ghost use Rattle.std.specs.Prelude.{◌≡◌, ◌≤◌, ◌<◌, ◌∷◌, [], List, None, IsTrue, IfSome, MatchOption, length, take, map};
+ghost use Rattle.octet_language.specs.Language.{Each};
+ghost use Rattle.syslog_value.specs.Parts.{ElementParts};
+ghost use Rattle.syslog_grammar.specs.Faults.{AreDistinct};
+ghost use Rattle.syslog_grammar.specs.Grammar.{Element};
+ghost use Rattle.syslog_grammar.specs.Ids.{IsRisingFrom, ids_of};
+
+use crate::element::element;
+use crate::reading::next;
+use crate::repeated::is_above;
+
+/// Puts the ids of elements in front of the places, where there are enough.
+fn fill<'a>(elements: &'a [u8], places: &mut [&'a [u8]]) -> Option<usize>
+    ensures { IfSome result (λ n. (n ≤ length places.new)
+        × ((es : List ElementParts) → Each Element es elements.now
+        → ids_of es ≡ map (λ s. s.now) (take n places.new))) }
+{
+    let mut rest = elements;
+    let mut count = 0;
+    while let Some((_first, _after)) = next(rest) {
+        let Ok((found, behind)) = element(rest) else {
+            return None;
+        };
+        if count >= places.len() {
+            return None;
+        }
+        places[count] = found.id();
+        count += 1;
+        rest = behind;
+    }
+    Some(count)
+}
+
+/// The first id, and those behind it.
+#[inline(always)]
+fn next_id<'a, 'b>(ids: &'b [&'a [u8]]) -> Option<(&'a [u8], &'b [&'a [u8]])>
+    ensures next { MatchOption result (ids.now ≡ [])
+        (λ x. map (λ s. s.now) ids.now ≡ x.0.now ∷ map (λ s. s.now) x.1.now) }
+    ensures less { IfSome result (λ x. length x.1.now < length ids.now) }
+{
+    match ids {
+        [] => None,
+        [first, rest @ ..] => Some((*first, rest)),
+    }
+}
+
+/// Whether each id is above the one before it.
+fn are_rising(ids: &[&[u8]]) -> bool
+    ensures { IsTrue result → IsRisingFrom None (map (λ s. s.now) ids.now) }
+{
+    let Some((first, behind)) = next_id(ids) else {
+        return true;
+    };
+    let mut last = first;
+    let mut rest = behind;
+    while let Some((id, others)) = next_id(rest) {
+        if !is_above(id, Some(last)) {
+            return false;
+        }
+        last = id;
+        rest = others;
+    }
+    true
+}
+
+/// Whether elements have distinct ids, as far as the places reach. Where they do not it is not told.
+fn differ_in<'a>(elements: &'a [u8], places: &mut [&'a [u8]]) -> bool
+    ensures { IsTrue result → (es : List ElementParts) → Each Element es elements.now
+        → AreDistinct es }
+{
+    let Some(count) = fill(elements, places) else {
+        return false;
+    };
+    let (ids, _) = places.split_at_mut(count);
+    ids.sort_unstable();
+    are_rising(ids)
+}
+
+/// Whether at most 256 elements have distinct ids.
+#[inline(never)]
+fn few_differ(elements: &[u8]) -> bool
+    ensures { IsTrue result → (es : List ElementParts) → Each Element es elements.now
+        → AreDistinct es }
+{
+    let (none, _) = elements.split_at(0);
+    let mut places = [none; 256];
+    differ_in(elements, &mut places)
+}
+
+/// Whether at most 16,384 elements have distinct ids.
+#[inline(never)]
+fn many_differ(elements: &[u8]) -> bool
+    ensures { IsTrue result → (es : List ElementParts) → Each Element es elements.now
+        → AreDistinct es }
+{
+    let (none, _) = elements.split_at(0);
+    let mut places = [none; 16_384];
+    differ_in(elements, &mut places)
+}
+
+/// Whether elements have distinct ids. Where there are more than 16,384 it is not told.
+pub fn differ(elements: &[u8]) -> bool
+    ensures { IsTrue result → (es : List ElementParts) → Each Element es elements.now
+        → AreDistinct es }
+{
+    if elements.len() <= 3 * 256 {
+        few_differ(elements)
+    } else {
+        many_differ(elements)
+    }
+}

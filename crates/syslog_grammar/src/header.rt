@@ -1,0 +1,54 @@
+//! The header of a record (RFC 5424, 6.2).
+
+ghost use Rattle.std.specs.Prelude.{IfOk};
+ghost use Rattle.octet_language.specs.Reading.{Reads};
+ghost use Rattle.syslog_grammar.specs.Fields.{TimeStands, header_parts};
+ghost use Rattle.syslog_grammar.specs.Grammar.{Header as HeaderText};
+ghost use Rattle.syslog_grammar.specs.Stops.{left_of};
+
+use crate::priority::{priority, version};
+use crate::reading::Stop;
+use crate::timestamp::{Timestamp, nilable_time};
+use crate::word::word;
+
+/// The fields up to the structured data, as they lie in the octets.
+#[derive(Clone, Copy, Debug, PartialEq, Eq)]
+pub struct HeaderFields<'a> {
+    pub priority: u8,
+    pub time: Option<Timestamp>,
+    pub hostname: Option<&'a [u8]>,
+    pub app_name: Option<&'a [u8]>,
+    pub proc_id: Option<&'a [u8]>,
+    pub msg_id: Option<&'a [u8]>,
+    /// How many octets are left where the timestamp begins.
+    pub time_left: usize,
+}
+
+/// Reads the header and the space behind it.
+#[inline(always)]
+pub fn fields(octets: &[u8]) -> Result<(HeaderFields<'_>, &[u8]), Stop>
+    ensures reads { Reads left_of HeaderText (λ x. (header_parts x.0, x.1.now))
+        octets.now result }
+    ensures time { IfOk result (λ x. TimeStands octets.now x.0.time_left) }
+{
+    let (priority, rest) = priority(octets)?;
+    let rest = version(rest)?;
+    let time_left = rest.len();
+    let (time, rest) = nilable_time(rest)?;
+    let (hostname, rest) = word::<255>(rest)?;
+    let (app_name, rest) = word::<48>(rest)?;
+    let (proc_id, rest) = word::<128>(rest)?;
+    let (msg_id, rest) = word::<32>(rest)?;
+    Ok((
+        HeaderFields {
+            priority,
+            time,
+            hostname,
+            app_name,
+            proc_id,
+            msg_id,
+            time_left,
+        },
+        rest,
+    ))
+}

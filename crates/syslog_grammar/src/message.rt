@@ -1,0 +1,69 @@
+//! The message behind the structured data (RFC 5424, 6.4).
+
+ghost use Rattle.std.specs.Prelude.{◌≡◌, ◌≢◌, ◌++◌, MatchOption, MatchResult, take};
+ghost use Rattle.octet_language.specs.Language.{AnyOf};
+ghost use Rattle.octet_language.specs.Reading.{Misses};
+ghost use Rattle.syslog_value.specs.Parts.{mark as byte_order_mark};
+ghost use Rattle.syslog_grammar.specs.Grammar.{Message, Tail};
+ghost use Rattle.syslog_grammar.specs.Views.{message_parts};
+
+use crate::reading::{Stop, mark};
+use crate::text::text;
+
+/// A message as it lies in the octets, without the byte order mark.
+#[derive(Clone, Copy, Debug, PartialEq, Eq)]
+pub struct MessageView<'a> {
+    pub octets: &'a [u8],
+    pub has_mark: bool,
+}
+
+/// What is behind the byte order mark, where the octets start with it.
+#[inline(always)]
+fn behind_mark(octets: &[u8]) -> Option<&[u8]>
+    ensures { MatchOption result (take 3 octets.now ≢ byte_order_mark)
+        (λ x. octets.now ≡ byte_order_mark ++ x.now) }
+{
+    match octets {
+        [0xef, 0xbb, 0xbf, text @ ..] => Some(text),
+        _ => None,
+    }
+}
+
+/// Reads a message up to the end.
+#[inline(always)]
+fn message(octets: &[u8]) -> Result<MessageView<'_>, Stop>
+    ensures { MatchResult result (λ m. Message (message_parts m) octets.now)
+        (λ e. Misses (AnyOf Message) octets.now e.left) }
+{
+    let Some(behind) = behind_mark(octets) else {
+        return Ok(MessageView {
+            octets,
+            has_mark: false,
+        });
+    };
+    match text(behind) {
+        Ok(_text) => Ok(MessageView {
+            octets: behind,
+            has_mark: true,
+        }),
+        Err(stop) => Err(stop),
+    }
+}
+
+/// Reads nothing, or a space and a message, up to the end.
+#[inline(always)]
+pub fn tail(octets: &[u8]) -> Result<MessageView<'_>, Stop>
+    ensures { MatchResult result (λ m. Tail (message_parts m) octets.now)
+        (λ e. Misses (AnyOf Tail) octets.now e.left) }
+{
+    if octets.is_empty() {
+        return Ok(MessageView {
+            octets,
+            has_mark: false,
+        });
+    }
+    match mark(b' ', octets) {
+        Ok(rest) => message(rest),
+        Err(stop) => Err(stop),
+    }
+}

@@ -1,0 +1,67 @@
+//! SD-NAME (RFC 5424, 6.3.2 and 6.3.3).
+
+ghost use Rattle.std.specs.Prelude.{◌≤◌, ◌<◌, ◌↔◌, length, IsTrue, take, drop, MatchResult};
+ghost use Rattle.std.specs.List.{AllByRecursion};
+ghost use Rattle.octet_language.specs.Language.{IfFront};
+ghost use Rattle.octet_language.specs.Reading.{Follows};
+ghost use Rattle.syslog_value.specs.Parts.{IsNameOctet};
+ghost use Rattle.syslog_grammar.specs.Grammar.{Name};
+ghost use Rattle.syslog_grammar.specs.Spans.{StopsInRun};
+
+use crate::reading::Stop;
+
+/// The most octets of a name.
+const NAME_MAX: usize = 32;
+
+#[inline(always)]
+fn is_name_octet(octet: u8) -> bool
+    ensures { IsTrue result ↔ IsNameOctet octet }
+{
+    octet >= 33 && octet <= 126 && octet != b'=' && octet != b']' && octet != b'"'
+}
+
+/// How many octets in front may stand in a name, up to the most that a name has.
+#[inline(always)]
+fn name_len(octets: &[u8]) -> usize
+    ensures most { result ≤ 32 }
+    ensures within { result ≤ length octets.now }
+    ensures octets { AllByRecursion IsNameOctet (take result octets.now) }
+    ensures ends { result < 32 → IfFront (λ x. IsNameOctet x → ⊥) (drop result octets.now) }
+{
+    let most = octets.len().min(NAME_MAX);
+    for i in 0..most {
+        if !is_name_octet(octets[i]) {
+            return i;
+        }
+    }
+    most
+}
+
+/// Whether the first octet, if there is one, may stand in a name.
+#[inline(always)]
+fn goes_on(octets: &[u8]) -> bool
+    ensures goes { IsTrue result → IfFront IsNameOctet octets.now × (0 < length octets.now) }
+    ensures ends { (IsTrue result → ⊥) → IfFront (λ x. IsNameOctet x → ⊥) octets.now }
+{
+    match octets {
+        [] => false,
+        [octet, ..] => is_name_octet(*octet),
+    }
+}
+
+/// Reads a name, and leaves what ends it.
+#[inline(always)]
+pub fn name(octets: &[u8]) -> Result<(&[u8], &[u8]), Stop>
+    ensures { MatchResult result
+        (λ x. Follows (Name x.0.now) octets.now x.1.now × IfFront (λ y. IsNameOctet y → ⊥) x.1.now)
+        (λ e. StopsInRun IsNameOctet 32 octets.now e.left) }
+{
+    let (name, rest) = octets.split_at(name_len(octets));
+    if name.is_empty() {
+        return Err(Stop { left: octets.len() });
+    }
+    if goes_on(rest) {
+        return Err(Stop { left: rest.len() });
+    }
+    Ok((name, rest))
+}

@@ -1,0 +1,96 @@
+//! A record as it lies in its octets.
+
+ghost use Rattle.std.specs.Prelude.{◌≤◌};
+ghost use Rattle.std.specs.Option.{ForSome};
+ghost use Rattle.syslog_value.specs.Parts.{IsInstant};
+
+use crate::message::MessageView;
+use crate::parts::Elements;
+use syslog_value::{Instant, Priority};
+
+/// A well-formed record that lends its parts from the octets. It takes no memory.
+#[derive(Clone, Copy, Debug, PartialEq, Eq)]
+pub struct RecordView<'a> {
+    pub(crate) priority: u8,
+    pub(crate) micros: Option<i64>,
+    pub(crate) hostname: Option<&'a [u8]>,
+    pub(crate) app_name: Option<&'a [u8]>,
+    pub(crate) proc_id: Option<&'a [u8]>,
+    pub(crate) msg_id: Option<&'a [u8]>,
+    pub(crate) data: &'a [u8],
+    pub(crate) message: MessageView<'a>,
+    ghost priority_valid: { priority ≤ 191 },
+    ghost micros_valid: { ForSome micros IsInstant },
+}
+
+impl<'a> RecordView<'a> {
+    ghost use Rattle.std.specs.Prelude.{◌≡◌, ◌↔◌, List, IsTrue, option_map};
+    ghost use Rattle.octet_language.specs.Language.{Each};
+    ghost use Rattle.syslog_value.specs.Parts.{ElementParts};
+    ghost use Rattle.syslog_grammar.specs.Grammar.{Data, Element};
+    ghost use Rattle.syslog_grammar.specs.PartsLeft.{elements_left};
+    ghost use Rattle.syslog_grammar.specs.Shown.{IsMarked, octets_of, shown};
+
+    /// Facility and severity.
+    pub fn priority(&self) -> Priority
+        ensures { result ≡ (shown self.now).priority }
+    {
+        Priority::from_value(self.priority).unwrap()
+    }
+
+    /// The instant of the timestamp, if it has one.
+    pub fn instant(&self) -> Option<Instant>
+        ensures { result ≡ (shown self.now).instant }
+    {
+        match self.micros {
+            None => None,
+            Some(micros) => Instant::from_micros(micros),
+        }
+    }
+
+    pub fn hostname(&self) -> Option<&'a [u8]>
+        ensures { option_map (λ s. s.now) result ≡ (shown self.now).hostname }
+    {
+        self.hostname
+    }
+
+    pub fn app_name(&self) -> Option<&'a [u8]>
+        ensures { option_map (λ s. s.now) result ≡ (shown self.now).app_name }
+    {
+        self.app_name
+    }
+
+    pub fn proc_id(&self) -> Option<&'a [u8]>
+        ensures { option_map (λ s. s.now) result ≡ (shown self.now).proc_id }
+    {
+        self.proc_id
+    }
+
+    pub fn msg_id(&self) -> Option<&'a [u8]>
+        ensures { option_map (λ s. s.now) result ≡ (shown self.now).msg_id }
+    {
+        self.msg_id
+    }
+
+    /// The elements of the structured data, in the order of the octets.
+    pub fn elements(&self) -> Elements<'a>
+        ensures { (es : List ElementParts) → Data es (shown self.now).elements
+            → Each Element es (elements_left result) }
+    {
+        Elements::of_data(self.data)
+    }
+
+    /// The octets of the message, without the byte order mark.
+    pub fn message(&self) -> &'a [u8]
+        ensures { result.now ≡ octets_of (shown self.now).message }
+    {
+        self.message.octets
+    }
+
+    /// Whether the byte order mark stands before the message, which then is a text in UTF-8.
+    pub fn has_mark(&self) -> bool
+        ensures { IsTrue result ↔ IsMarked (shown self.now).message }
+    {
+        self.message.has_mark
+    }
+}

@@ -1,0 +1,151 @@
+//! The first id of the structured data that repeats an earlier one (RFC 5424, 6.3.2).
+
+ghost use Rattle.std.specs.Prelude.{◌≡◌, ◌↔◌, List, IsTrue, MatchOption, option_map};
+ghost use Rattle.octet_language.specs.Language.{AnyOf, Each};
+ghost use Rattle.syslog_value.specs.Parts.{ElementParts};
+ghost use Rattle.syslog_value.specs.Structured.{HasId};
+ghost use Rattle.syslog_grammar.specs.Grammar.{Data, Element};
+ghost use Rattle.syslog_grammar.specs.Ids.{HoldsDistinct, HoldsRepeated, IsAbove, IsAtMost, Known, Skips};
+
+use crate::distinct::differ;
+use crate::element::element;
+use crate::reading::next;
+use std::cmp::Ordering;
+
+/// Whether one of these elements has the id.
+fn holds_id(elements: &[u8], id: &[u8]) -> bool
+    ensures { (es : List ElementParts) → Each Element es elements.now
+        → (IsTrue result ↔ HasId id.now es) }
+{
+    let mut rest = elements;
+    while let Some((_first, _after)) = next(rest) {
+        let Ok((found, behind)) = element(rest) else {
+            return false;
+        };
+        if found.id() == id {
+            return true;
+        }
+        rest = behind;
+    }
+    false
+}
+
+/// Whether the id is above the greatest that was met.
+pub fn is_above(id: &[u8], greatest: Option<&[u8]>) -> bool
+    ensures above { IsTrue result → IsAbove id.now (option_map (λ s. s.now) greatest.entry) }
+    ensures most { (IsTrue result → ⊥)
+        → IsAtMost id.now (option_map (λ s. s.now) greatest.entry) }
+{
+    match greatest {
+        None => true,
+        Some(greatest) => match greatest.cmp(id) {
+            Ordering::Less => true,
+            Ordering::Equal => false,
+            Ordering::Greater => false,
+        },
+    }
+}
+
+/// What is behind the elements in front whose ids rise.
+fn behind_rising(data: &[u8]) -> &[u8]
+    requires { AnyOf Data data.now }
+    ensures { Known data.now result.now }
+{
+    let mut rest = data;
+    let mut greatest: Option<&[u8]> = None;
+    while let Some((first, _after)) = next(rest) {
+        if first != b'[' {
+            return rest;
+        }
+        let Ok((found, behind)) = element(rest) else {
+            return rest;
+        };
+        let id = found.id();
+        if !is_above(id, greatest) {
+            return rest;
+        }
+        greatest = Some(id);
+        rest = behind;
+    }
+    rest
+}
+
+/// What is behind so many elements.
+fn behind_count(elements: &[u8], count: usize) -> &[u8]
+    ensures { Skips elements.now result.now }
+{
+    let mut rest = elements;
+    for _ in 0..count {
+        let Some((_first, _after)) = next(rest) else {
+            return rest;
+        };
+        let Ok((_found, behind)) = element(rest) else {
+            return rest;
+        };
+        rest = behind;
+    }
+    rest
+}
+
+/// How many elements stand in front.
+fn count(elements: &[u8]) -> usize {
+    let mut rest = elements;
+    for i in 0..elements.len() {
+        let Ok((_found, behind)) = element(rest) else {
+            return i;
+        };
+        rest = behind;
+    }
+    elements.len()
+}
+
+/// What is behind elements in front whose ids differ: all but a few of the longest such front,
+/// where it has at most 16,384 elements.
+fn behind_distinct(data: &[u8]) -> &[u8]
+    requires { AnyOf Data data.now }
+    ensures { Known data.now result.now }
+{
+    let mut known = behind_rising(data);
+    let mut step = count(known);
+    while step > 0 {
+        let Some((first, _after)) = next(known) else {
+            return known;
+        };
+        if first != b'[' {
+            return known;
+        }
+        let rest = behind_count(known, step);
+        let (front, _) = data.split_at(data.len() - rest.len());
+        if differ(front) {
+            known = rest;
+        }
+        step /= 2;
+    }
+    known
+}
+
+/// The place of the first id that repeats an earlier one.
+///
+/// Ids that rise are distinct in one pass. Others are sorted on the stack, in fronts that are
+/// halved until the repeated id is near; from there on each id is sought among all before it.
+pub fn first_repeated(data: &[u8]) -> Option<usize>
+    requires { AnyOf Data data.now }
+    ensures { MatchOption result (HoldsDistinct data.now) (HoldsRepeated data.now) }
+{
+    let mut rest = behind_distinct(data);
+    while let Some((first, _after)) = next(rest) {
+        if first != b'[' {
+            return None;
+        }
+        let Ok((found, behind)) = element(rest) else {
+            return None;
+        };
+        let id = found.id();
+        let (before, _) = data.split_at(data.len() - rest.len());
+        if holds_id(before, id) {
+            return Some(before.len() + 1);
+        }
+        rest = behind;
+    }
+    None
+}

@@ -1,0 +1,41 @@
+//! Whether the spelling of a value means a text (RFC 5424, 6.3.3).
+
+ghost use Rattle.std.specs.Prelude.{◌≡◌, ◌≢◌, ◌++◌, ◌↔◌, ℕ, List, IsTrue, MatchOption};
+ghost use Rattle.syslog_grammar.specs.Values.{Spells};
+
+use crate::reading::next;
+use crate::value::piece;
+
+/// What is behind a front, where the octets have it.
+fn behind_front<'a>(front: &[u8], octets: &'a [u8]) -> Option<&'a [u8]>
+    ensures { MatchOption result ((t : List ℕ) → octets.now ≢ front.now ++ t)
+        (λ x. octets.now ≡ front.now ++ x.now) }
+{
+    if front.len() > octets.len() {
+        return None;
+    }
+    let (start, rest) = octets.split_at(front.len());
+    if start == front { Some(rest) } else { None }
+}
+
+/// Whether a parameter's value, as it is spelled, means the text.
+///
+/// A backslash before a quotation mark, a backslash or a closing bracket is left out, and any other
+/// backslash counts. Octets that spell no value mean no text. It takes no memory.
+pub fn same_value(raw: &[u8], text: &str) -> bool
+    ensures { IsTrue result ↔ Spells text.now raw.now }
+{
+    let mut spelling = raw;
+    let mut meaning = text.as_bytes();
+    while let Some((_first, _after)) = next(spelling) {
+        let Ok((front, behind)) = piece(spelling) else {
+            return false;
+        };
+        let Some(rest) = behind_front(front, meaning) else {
+            return false;
+        };
+        spelling = behind;
+        meaning = rest;
+    }
+    meaning.is_empty()
+}

@@ -1,0 +1,173 @@
+use crate::fault::{Fault, Field};
+use crate::same::same_value;
+use crate::text::utf8;
+use crate::whole::view;
+use std::test::Fail;
+
+fn at(octets: &[u8]) -> Option<(Field, usize)> {
+    match view(octets) {
+        Err(Fault::Syntax { field, offset }) => Some((field, offset)),
+        _ => None,
+    }
+}
+
+const RFC: &[u8] =
+    b"<165>1 2003-08-24T05:14:15.000003-07:00 192.0.2.1 myproc 8710 - - %% It's time to make the do-nuts.";
+
+#[test]
+fn the_example_of_the_standard_is_read(rt: HostRuntime) -> Result<(), Fail> {
+    let seen = view(RFC).ok().ok_or("a fault")?;
+    assert_eq!(rt; seen.priority().value(), 165);
+    assert!(rt; seen.instant().map(|i| i.micros()) == Some(1_061_727_255_000_003));
+    assert!(rt; seen.hostname() == Some(b"192.0.2.1".as_slice()));
+    assert!(rt; seen.app_name() == Some(b"myproc".as_slice()));
+    assert!(rt; seen.proc_id() == Some(b"8710".as_slice()));
+    assert!(rt; seen.msg_id().is_none());
+    assert!(rt; seen.message() == b"%% It's time to make the do-nuts.".as_slice());
+    assert!(rt; !seen.has_mark());
+    Ok(())
+}
+
+#[test]
+fn each_prefix_of_the_example_stops_at_its_length(rt: HostRuntime) -> Result<(), Fail> {
+    for n in 0..65 {
+        let (front, _) = RFC.split_at(RFC.len().min(n));
+        let (_, offset) = at(front).ok_or("no fault")?;
+        assert_eq!(rt; offset, n);
+    }
+    Ok(())
+}
+
+#[test]
+fn priority_and_version_stop_at_their_places(rt: HostRuntime) -> Result<(), Fail> {
+    assert!(rt; at(b"<192>1 -") == Some((Field::Priority, 3)));
+    assert!(rt; at(b"<007>1 -") == Some((Field::Priority, 2)));
+    assert!(rt; at(b"") == Some((Field::Priority, 0)));
+    assert!(rt; at(b"<>") == Some((Field::Priority, 1)));
+    assert!(rt; at(b"<0>10 -") == Some((Field::Version, 4)));
+    assert!(rt; at(b"<0>2") == Some((Field::Version, 3)));
+    Ok(())
+}
+
+#[test]
+fn a_timestamp_stops_at_its_place(rt: HostRuntime) -> Result<(), Fail> {
+    assert!(rt; at(b"<0>1 2003-02-29T00:00:00Z - - - - -") == Some((Field::Timestamp, 14)));
+    assert!(rt; at(b"<0>1 1900-02-29T00:00:00Z - - - - -") == Some((Field::Timestamp, 14)));
+    assert!(rt; at(b"<0>1 2003-02-28T00:00:60Z - - - - -") == Some((Field::Timestamp, 22)));
+    assert!(rt; at(b"<0>1 2024-13") == Some((Field::Timestamp, 11)));
+    assert!(rt; at(b"<0>1 2023-02-3") == Some((Field::Timestamp, 13)));
+    assert!(rt; at(b"<0>1 2023-04-31") == Some((Field::Timestamp, 14)));
+    assert!(rt; at(b"<0>1 2003-02-28T00:00:00.Z") == Some((Field::Timestamp, 25)));
+    assert!(rt; at(b"<0>1 2003-02-28T00:00:00.1234567Z") == Some((Field::Timestamp, 31)));
+    assert!(rt; at(b"<0>1 2003-02-28T00:00:00+24:00") == Some((Field::Timestamp, 26)));
+    assert!(rt; at(b"<13>1 x") == Some((Field::Timestamp, 6)));
+    Ok(())
+}
+
+#[test]
+fn a_word_stops_at_its_place(rt: HostRuntime) -> Result<(), Fail> {
+    assert!(rt; at(b"<0>1 - ab") == Some((Field::Hostname, 9)));
+    assert!(rt; at(b"<0>1 -  -") == Some((Field::Hostname, 7)));
+    assert!(rt; at(b"<0>1 - - - - -") == Some((Field::MsgId, 14)));
+    assert!(rt; at(b"<0>1 - - - - - -x") == Some((Field::StructuredData, 16)));
+    Ok(())
+}
+
+#[test]
+fn structured_data_stops_at_its_place(rt: HostRuntime) -> Result<(), Fail> {
+    let name = b"<0>1 - - - - - [aaaaaaaaaaaaaaaaaaaaaaaaaaaaaaaaa";
+    assert!(rt; at(b"<0>1 - - - - - ") == Some((Field::StructuredData, 15)));
+    assert!(rt; at(b"<0>1 - - - - - []") == Some((Field::StructuredData, 16)));
+    assert!(rt; at(b"<0>1 - - - - - [a ]") == Some((Field::StructuredData, 18)));
+    assert!(rt; at(name) == Some((Field::StructuredData, 48)));
+    assert!(rt; at(b"<0>1 - - - - - [a k=\"]\"]") == Some((Field::StructuredData, 21)));
+    assert!(rt; at(b"<0>1 - - - - - [a k=\"x\\\"]") == Some((Field::StructuredData, 24)));
+    assert!(rt; at(b"<0>1 - - - - - [a k=\"\\\xff") == Some((Field::StructuredData, 22)));
+    assert!(rt; at(b"<0>1 - - - - - [a k=\"\xe0\x80\"]") == Some((Field::StructuredData, 22)));
+    assert!(rt; at(b"<0>1 - - - - - [a][a]x") == Some((Field::StructuredData, 21)));
+    assert!(rt;
+        at(b"<0>1 9999-12-31T23:59:59-00:01 - - - - x") == Some((Field::StructuredData, 39))
+    );
+    Ok(())
+}
+
+#[test]
+fn a_message_stops_at_its_place(rt: HostRuntime) -> Result<(), Fail> {
+    assert!(rt; at(b"<0>1 - - - - - - \xef\xbb\xbf\xff") == Some((Field::Message, 20)));
+    assert!(rt; at(b"<0>1 - - - - - - \xef\xbb\xbf\xe2\x82") == Some((Field::Message, 22)));
+    assert!(rt; view(b"<0>1 - - - - - - \xef\xbb").is_ok());
+    assert!(rt; view(b"<0>1 - - - - - - \xff").is_ok());
+    Ok(())
+}
+
+#[test]
+fn the_instant_comes_before_the_ids(rt: HostRuntime) -> Result<(), Fail> {
+    let late = view(b"<0>1 9999-12-31T23:59:59-00:01 - - - - [a][a]");
+    assert!(rt; late.err() == Some(Fault::InstantRange { offset: 5 }));
+    assert!(rt; view(b"<0>1 0000-01-01T00:00:00Z - - - - -").is_ok());
+    assert!(rt; view(b"<0>1 0000-01-01T00:00:00+00:01 - - - - -").is_err());
+    Ok(())
+}
+
+#[test]
+fn an_id_stands_once(rt: HostRuntime) -> Result<(), Fail> {
+    let twice = view(b"<0>1 - - - - - [a][b][a]");
+    assert!(rt; twice.err() == Some(Fault::RepeatedId { offset: 22 }));
+    let down = view(b"<0>1 - - - - - [c][b][a][b]");
+    assert!(rt; down.err() == Some(Fault::RepeatedId { offset: 25 }));
+    assert!(rt; view(b"<0>1 - - - - - [a k=\"1\" k=\"2\"]").is_ok());
+    assert!(rt; view(b"<0>1 - - - - - [b][a][c]").is_ok());
+    Ok(())
+}
+
+#[test]
+fn texts_stop_at_their_places(rt: HostRuntime) -> Result<(), Fail> {
+    assert!(rt; utf8(b"a\xe0\x80") == Err(2));
+    assert!(rt; utf8(b"a\xff") == Err(1));
+    assert!(rt; utf8(b"a\xe2\x82") == Err(3));
+    assert!(rt; utf8(b"\xed\xa0\x80") == Err(1));
+    assert!(rt; utf8("h\u{e9}".as_bytes()).is_ok());
+    Ok(())
+}
+
+#[test]
+fn elements_and_parameters_come_in_their_order(rt: HostRuntime) -> Result<(), Fail> {
+    let seen = view(b"<0>1 - - - - - [b k=\"1\" l=\"x\\n\"][a]")
+        .ok()
+        .ok_or("a fault")?;
+    let mut elements = seen.elements();
+    let first = elements.next().ok_or("no element")?;
+    assert!(rt; first.id() == b"b".as_slice());
+    let mut params = first.params();
+    let one = params.next().ok_or("no parameter")?;
+    assert!(rt; one.name() == b"k".as_slice());
+    assert!(rt; one.raw() == b"1".as_slice());
+    let two = params.next().ok_or("no parameter")?;
+    assert!(rt; two.raw() == b"x\\n".as_slice());
+    assert!(rt; params.next().is_none());
+    let second = elements.next().ok_or("no element")?;
+    assert!(rt; second.id() == b"a".as_slice());
+    assert!(rt; elements.next().is_none());
+    assert!(rt;
+        view(b"<0>1 - - - - - -")
+            .ok()
+            .ok_or("a fault")?
+            .elements()
+            .next()
+            .is_none()
+    );
+    Ok(())
+}
+
+#[test]
+fn a_spelling_means_its_text(rt: HostRuntime) -> Result<(), Fail> {
+    assert!(rt; same_value(b"x\\n", "x\\n"));
+    assert!(rt; same_value(b"x\\\\n", "x\\n"));
+    assert!(rt; !same_value(b"x\\n", "xn"));
+    assert!(rt; same_value(b"\\\"\\]", "\"]"));
+    assert!(rt; !same_value(b"]", "]"));
+    assert!(rt; !same_value(b"x\\", "x\\"));
+    assert!(rt; !same_value(b"", "x"));
+    assert!(rt; same_value(b"", ""));
+    Ok(())
+}

@@ -1,0 +1,305 @@
+//! TIMESTAMP (RFC 5424, 6.2.3).
+
+ghost use Rattle.std.specs.Prelude.{◌≡◌, ◌≤◌, ◌<◌, ◌+◌, ◌-◌, ◌*◌, ◌∷◌, ◌++◌, ◌↔◌, [], length, replicate, take, drop, slice_index, IsTrue, MatchResult, option_map, IfOk};
+ghost use Rattle.std.specs.List.{AllByRecursion};
+ghost use Rattle.octet_language.specs.Digits.{IsDigit, read_on};
+ghost use Rattle.octet_language.specs.Language.{IfFront};
+ghost use Rattle.octet_language.specs.Reading.{Follows, Reads};
+ghost use Rattle.syslog_value.specs.Calendar.{is_leap, month_length};
+ghost use Rattle.syslog_grammar.specs.Dates.{Clock, Date, FractionZone, HourMinute, YearMonth, time_of};
+ghost use Rattle.syslog_grammar.specs.Spans.{StopsInRun};
+ghost use Rattle.syslog_grammar.specs.Grammar.{Nilable, Spaced};
+ghost use Rattle.syslog_grammar.specs.Stops.{left_of};
+ghost use Rattle.syslog_grammar.specs.Time.{Decimals, OffsetText, TimeText, Two, YearText, ZoneText};
+
+use crate::reading::{Stop, mark, next};
+use syslog_value::Civil;
+
+/// A civil time as it is spelled, and how many minutes it is ahead of UTC.
+#[derive(Clone, Copy, Debug, PartialEq, Eq)]
+pub struct Timestamp {
+    pub civil: Civil,
+    pub offset_minutes: i16,
+}
+
+#[inline(always)]
+fn is_digit(octet: u8) -> bool
+    ensures { IsTrue result ↔ IsDigit octet }
+{
+    octet >= b'0' && octet <= b'9'
+}
+
+/// Reads a number from `low` to `high` in two digits.
+#[inline(always)]
+fn two(low: u8, high: u8, octets: &[u8]) -> Result<(u8, &[u8]), Stop>
+    requires some { low ≤ high }
+    requires two_digits { high ≤ 99 }
+    ensures { Reads left_of (Two low high) (λ x. (x.0, x.1.now)) octets.now result }
+{
+    let Some((tens, behind)) = next(octets) else {
+        return Err(Stop { left: octets.len() });
+    };
+    if tens < b'0' + low / 10 {
+        return Err(Stop { left: octets.len() });
+    }
+    if tens > b'0' + high / 10 {
+        return Err(Stop { left: octets.len() });
+    }
+    let Some((units, rest)) = next(behind) else {
+        return Err(Stop { left: behind.len() });
+    };
+    if !is_digit(units) {
+        return Err(Stop { left: behind.len() });
+    }
+    let value = 10 * (tens - b'0') + (units - b'0');
+    if value < low {
+        return Err(Stop { left: behind.len() });
+    }
+    if value > high {
+        return Err(Stop { left: behind.len() });
+    }
+    Ok((value, rest))
+}
+
+/// Reads a year in four digits.
+#[inline(always)]
+fn year(octets: &[u8]) -> Result<(u16, &[u8]), Stop>
+    ensures { Reads left_of YearText (λ x. (x.0, x.1.now)) octets.now result }
+{
+    let (century, rest) = two(0, 99, octets)?;
+    let (year, rest) = two(0, 99, rest)?;
+    Ok((100 * u16::from(century) + u16::from(year), rest))
+}
+
+#[inline(always)]
+fn is_leap_year(year: u16) -> bool
+    ensures { result ≡ is_leap year }
+{
+    (year % 4 == 0 && !(year % 100 == 0)) || year % 400 == 0
+}
+
+/// How many days a month has.
+#[inline(always)]
+fn last_day(year: u16, month: u8) -> u8
+    ensures value { result ≡ month_length year month }
+    ensures range { (28 ≤ result) × (result ≤ 31) }
+{
+    if month == 2 {
+        if is_leap_year(year) { 29 } else { 28 }
+    } else if month == 4 || month == 6 || month == 9 || month == 11 {
+        30
+    } else {
+        31
+    }
+}
+
+/// Reads a year and a month.
+#[inline(always)]
+fn year_month(octets: &[u8]) -> Result<((u16, u8), &[u8]), Stop>
+    ensures { Reads left_of YearMonth (λ x. (x.0, x.1.now)) octets.now result }
+{
+    let (year, rest) = year(octets)?;
+    let rest = mark(b'-', rest)?;
+    let (month, rest) = two(1, 12, rest)?;
+    Ok(((year, month), rest))
+}
+
+/// Reads a date that the calendar has.
+#[inline(always)]
+fn date(octets: &[u8]) -> Result<((u16, u8, u8), &[u8]), Stop>
+    ensures { Reads left_of Date (λ x. (x.0, x.1.now)) octets.now result }
+{
+    let ((year, month), rest) = year_month(octets)?;
+    let rest = mark(b'-', rest)?;
+    let (day, rest) = two(1, last_day(year, month), rest)?;
+    Ok(((year, month, day), rest))
+}
+
+/// Reads an hour and a minute.
+#[inline(always)]
+fn hour_minute(octets: &[u8]) -> Result<((u8, u8), &[u8]), Stop>
+    ensures { Reads left_of HourMinute (λ x. (x.0, x.1.now)) octets.now result }
+{
+    let (hour, rest) = two(0, 23, octets)?;
+    let rest = mark(b':', rest)?;
+    let (minute, rest) = two(0, 59, rest)?;
+    Ok(((hour, minute), rest))
+}
+
+/// Reads the time of a day.
+#[inline(always)]
+fn clock(octets: &[u8]) -> Result<((u8, u8, u8), &[u8]), Stop>
+    ensures { Reads left_of Clock (λ x. (x.0, x.1.now)) octets.now result }
+{
+    let ((hour, minute), rest) = hour_minute(octets)?;
+    let rest = mark(b':', rest)?;
+    let (second, rest) = two(0, 59, rest)?;
+    Ok(((hour, minute, second), rest))
+}
+
+/// How many digits stand in front, up to six.
+#[inline(always)]
+fn digits_len(octets: &[u8]) -> usize
+    ensures most { result ≤ 6 }
+    ensures within { result ≤ length octets.now }
+    ensures digits { AllByRecursion IsDigit (take result octets.now) }
+    ensures ends { result < 6 → IfFront (λ x. IsDigit x → ⊥) (drop result octets.now) }
+{
+    let most = octets.len().min(6);
+    for i in 0..most {
+        if !is_digit(octets[i]) {
+            return i;
+        }
+    }
+    most
+}
+
+/// The digit at a place behind the point, or a zero on the right.
+#[inline(always)]
+fn digit_at(digits: &[u8], place: usize) -> u32
+    requires { AllByRecursion IsDigit digits.now }
+    ensures value { result ≡ slice_index digits.now place - 48 }
+    ensures range { result ≤ 9 }
+{
+    if place < digits.len() {
+        u32::from(digits[place] - b'0')
+    } else {
+        0
+    }
+}
+
+/// The microseconds that digits behind the point stand for.
+#[inline(always)]
+fn micros(digits: &[u8]) -> u32
+    requires most { length digits.now ≤ 6 }
+    requires digits { AllByRecursion IsDigit digits.now }
+    ensures value { result ≡ read_on 0 (digits.now ++ replicate (6 - length digits.now) 48) }
+    ensures range { result ≤ 999_999 }
+{
+    let thousands = 100 * digit_at(digits, 0) + 10 * digit_at(digits, 1) + digit_at(digits, 2);
+    let ones = 100 * digit_at(digits, 3) + 10 * digit_at(digits, 4) + digit_at(digits, 5);
+    1000 * thousands + ones
+}
+
+/// Whether a digit stands in front.
+#[inline(always)]
+fn goes_on(octets: &[u8]) -> bool
+    ensures goes { IsTrue result → IfFront IsDigit octets.now × (0 < length octets.now) }
+    ensures ends { (IsTrue result → ⊥) → IfFront (λ x. IsDigit x → ⊥) octets.now }
+{
+    match octets {
+        [] => false,
+        [octet, ..] => is_digit(*octet),
+    }
+}
+
+/// Reads the digits behind the point, and leaves what ends them.
+#[inline(always)]
+fn decimals(octets: &[u8]) -> Result<(u32, &[u8]), Stop>
+    ensures { MatchResult result
+        (λ x. Follows (Decimals x.0) octets.now x.1.now × IfFront (λ y. IsDigit y → ⊥) x.1.now)
+        (λ e. StopsInRun IsDigit 6 octets.now e.left) }
+{
+    let (digits, rest) = octets.split_at(digits_len(octets));
+    if digits.is_empty() {
+        return Err(Stop { left: octets.len() });
+    }
+    if goes_on(rest) {
+        return Err(Stop { left: rest.len() });
+    }
+    Ok((micros(digits), rest))
+}
+
+/// Reads the hours and minutes of an offset, in minutes.
+#[inline(always)]
+fn offset(octets: &[u8]) -> Result<(u16, &[u8]), Stop>
+    ensures reads { Reads left_of OffsetText (λ x. (x.0, x.1.now)) octets.now result }
+    ensures range { IfOk result (λ x. x.0 ≤ 1439) }
+{
+    let ((hour, minute), rest) = hour_minute(octets)?;
+    Ok((60 * u16::from(hour) + u16::from(minute), rest))
+}
+
+/// Reads the zone.
+#[inline(always)]
+fn zone(octets: &[u8]) -> Result<(i16, &[u8]), Stop>
+    ensures { Reads left_of ZoneText (λ x. (x.0, x.1.now)) octets.now result }
+{
+    let Some((sign, rest)) = next(octets) else {
+        return Err(Stop { left: octets.len() });
+    };
+    if sign == b'Z' {
+        return Ok((0, rest));
+    }
+    if sign == b'+' {
+        let (minutes, rest) = offset(rest)?;
+        return Ok((minutes as i16, rest));
+    }
+    if sign == b'-' {
+        let (minutes, rest) = offset(rest)?;
+        return Ok((-(minutes as i16), rest));
+    }
+    Err(Stop { left: octets.len() })
+}
+
+/// Reads the fraction, if there is one, and the zone.
+#[inline(always)]
+fn fraction_and_zone(octets: &[u8]) -> Result<((u32, i16), &[u8]), Stop>
+    ensures { Reads left_of FractionZone (λ x. (x.0, x.1.now)) octets.now result }
+{
+    let Some((first, behind)) = next(octets) else {
+        return Err(Stop { left: octets.len() });
+    };
+    if first == b'.' {
+        let (micros, rest) = decimals(behind)?;
+        let (offset, rest) = zone(rest)?;
+        return Ok(((micros, offset), rest));
+    }
+    let (offset, rest) = zone(octets)?;
+    Ok(((0, offset), rest))
+}
+
+/// Reads a time.
+#[inline(always)]
+fn time(octets: &[u8]) -> Result<(Timestamp, &[u8]), Stop>
+    ensures { Reads left_of TimeText (λ x. (time_of x.0, x.1.now)) octets.now result }
+{
+    let ((year, month, day), rest) = date(octets)?;
+    let rest = mark(b'T', rest)?;
+    let ((hour, minute, second), rest) = clock(rest)?;
+    let ((micros, offset_minutes), rest) = fraction_and_zone(rest)?;
+    let civil = Civil {
+        year,
+        month,
+        day,
+        hour,
+        minute,
+        second,
+        micros,
+    };
+    Ok((
+        Timestamp {
+            civil,
+            offset_minutes,
+        },
+        rest,
+    ))
+}
+
+/// Reads a time, or the sign for nil, and the space behind it.
+#[inline(always)]
+pub fn nilable_time(octets: &[u8]) -> Result<(Option<Timestamp>, &[u8]), Stop>
+    ensures { Reads left_of (λ t. Spaced (Nilable TimeText t))
+        (λ x. (option_map time_of x.0, x.1.now)) octets.now result }
+{
+    let Some((first, behind)) = next(octets) else {
+        return Err(Stop { left: octets.len() });
+    };
+    if first == b'-' {
+        let rest = mark(b' ', behind)?;
+        return Ok((None, rest));
+    }
+    let (time, rest) = time(octets)?;
+    let rest = mark(b' ', rest)?;
+    Ok((Some(time), rest))
+}

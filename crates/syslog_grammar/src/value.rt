@@ -1,0 +1,91 @@
+//! Values of parameters (RFC 5424, 6.3.3).
+
+ghost use Rattle.std.specs.Prelude.{◌≡◌, ◌∷◌, [], IsTrue};
+ghost use Rattle.octet_language.specs.Language.{◌⋅◌, AnyOf, Each, Only};
+ghost use Rattle.octet_language.specs.Reading.{Passes, Reads};
+ghost use Rattle.syslog_grammar.specs.Spans.{Text};
+ghost use Rattle.syslog_grammar.specs.Stops.{left_of};
+ghost use Rattle.syslog_grammar.specs.Values.{IsEscape, Piece};
+
+use crate::character::behind_character;
+use crate::reading::{Stop, next};
+
+/// Reads one piece of a value.
+#[inline(always)]
+fn behind_piece(octets: &[u8]) -> Result<&[u8], Stop>
+    ensures { Passes left_of (AnyOf Piece) (λ x. x.now) octets.now result }
+{
+    let Some((first, rest)) = next(octets) else {
+        return Err(Stop { left: octets.len() });
+    };
+    if first == b'\\' {
+        return behind_character(rest);
+    }
+    if first == b'"' {
+        return Err(Stop { left: octets.len() });
+    }
+    if first == b']' {
+        return Err(Stop { left: octets.len() });
+    }
+    behind_character(octets)
+}
+
+/// Reads a value and the quotation mark that ends it.
+fn behind_value(octets: &[u8]) -> Result<&[u8], Stop>
+    ensures { Passes left_of (AnyOf (Each Piece) ⋅ Only (34 ∷ [])) (λ x. x.now)
+        octets.now result }
+{
+    let mut rest = octets;
+    while let Some((first, after)) = next(rest) {
+        if first == b'"' {
+            return Ok(after);
+        }
+        let behind = behind_piece(rest)?;
+        rest = behind;
+    }
+    Err(Stop { left: rest.len() })
+}
+
+/// Reads a value, which is given as it is spelled, and the quotation mark that ends it.
+pub fn value(octets: &[u8]) -> Result<(&[u8], &[u8]), Stop>
+    ensures { Reads left_of (λ raw. Text (AnyOf (Each Piece)) raw ⋅ Only (34 ∷ []))
+        (λ x. (x.0.now, x.1.now)) octets.now result }
+{
+    let rest = behind_value(octets)?;
+    let (raw, _) = octets.split_at(octets.len() - rest.len() - 1);
+    Ok((raw, rest))
+}
+
+/// Whether a piece is a special character behind a backslash.
+#[inline(always)]
+fn is_escape(piece: &[u8]) -> bool
+    ensures escape { IsTrue result → IsEscape piece.now }
+    ensures other { (IsTrue result → ⊥) → IsEscape piece.now → ⊥ }
+{
+    match piece {
+        [b'\\', octet] => *octet == b'"' || *octet == b'\\' || *octet == b']',
+        _ => false,
+    }
+}
+
+/// What a piece means.
+#[inline(always)]
+fn meaning(piece: &[u8]) -> &[u8]
+    ensures { AnyOf Piece piece.now → Piece result.now piece.now }
+{
+    if is_escape(piece) {
+        let (_, meaning) = piece.split_at(1);
+        return meaning;
+    }
+    piece
+}
+
+/// Reads one piece of a value, and gives what it means.
+#[inline(always)]
+pub fn piece(octets: &[u8]) -> Result<(&[u8], &[u8]), Stop>
+    ensures { Reads left_of Piece (λ x. (x.0.now, x.1.now)) octets.now result }
+{
+    let rest = behind_piece(octets)?;
+    let (piece, _) = octets.split_at(octets.len() - rest.len());
+    Ok((meaning(piece), rest))
+}

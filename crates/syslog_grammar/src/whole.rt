@@ -1,0 +1,63 @@
+//! The reading of a record from all of its octets.
+
+ghost use Rattle.std.specs.Prelude.{MatchResult};
+ghost use Rattle.syslog_grammar.specs.Faults.{FaultOf};
+ghost use Rattle.syslog_grammar.specs.Instants.{IsTimeOf};
+ghost use Rattle.syslog_grammar.specs.Shown.{IsShown, shown};
+
+use crate::fault::Fault;
+use crate::record_view::RecordView;
+use crate::repeated::first_repeated;
+use crate::syntax::spelled;
+use crate::timestamp::Timestamp;
+use syslog_value::Instant;
+
+/// The instant lies outside the years from 0 to 9999.
+struct OutOfRange;
+
+/// The instant that a time names, if there is one.
+fn micros_of(time: Option<Timestamp>) -> Result<Option<i64>, OutOfRange>
+    ensures { IsTimeOf time result }
+{
+    let Some(time) = time else {
+        return Ok(None);
+    };
+    match Instant::from_civil(time.civil, time.offset_minutes) {
+        Ok(instant) => Ok(Some(instant.micros())),
+        Err(_) => Err(OutOfRange),
+    }
+}
+
+/// Reads a record from all of the octets.
+///
+/// A fault of the syntax comes before an instant that is out of range, and that before an id that
+/// stands twice. It takes no memory.
+pub fn view(octets: &[u8]) -> Result<RecordView<'_>, Fault>
+    ensures { MatchResult result (λ v. IsShown octets.now (shown v)) (FaultOf octets.now) }
+{
+    let spelling = spelled(octets)?;
+    let fields = spelling.fields;
+    let micros = match micros_of(fields.time) {
+        Ok(micros) => micros,
+        Err(OutOfRange) => {
+            return Err(Fault::InstantRange {
+                offset: octets.len() - fields.time_left,
+            });
+        }
+    };
+    if let Some(place) = first_repeated(spelling.data) {
+        return Err(Fault::RepeatedId {
+            offset: octets.len() - spelling.data_left + place,
+        });
+    }
+    Ok(RecordView {
+        priority: fields.priority,
+        micros,
+        hostname: fields.hostname,
+        app_name: fields.app_name,
+        proc_id: fields.proc_id,
+        msg_id: fields.msg_id,
+        data: spelling.data,
+        message: spelling.message,
+    })
+}

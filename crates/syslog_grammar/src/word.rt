@@ -1,0 +1,81 @@
+//! The words of the header (RFC 5424, 6.2.4 to 6.2.7).
+
+ghost use Rattle.std.specs.Prelude.{◌≡◌, ◌≤◌, ◌<◌, ◌∷◌, ◌++◌, ◌↔◌, [], length, IsTrue, take, drop, option_map};
+ghost use Rattle.std.specs.List.{AllByRecursion};
+ghost use Rattle.octet_language.specs.Language.{IfFront};
+ghost use Rattle.octet_language.specs.Reading.{Reads};
+ghost use Rattle.syslog_value.specs.Parts.{IsPrintable};
+ghost use Rattle.syslog_grammar.specs.Grammar.{Nilable, Spaced, Word};
+ghost use Rattle.syslog_grammar.specs.Stops.{left_of};
+
+use crate::reading::{Stop, next};
+
+#[inline(always)]
+fn is_printable(octet: u8) -> bool
+    ensures { IsTrue result ↔ IsPrintable octet }
+{
+    octet >= 33 && octet <= 126
+}
+
+/// Whether a word is the sign for nil.
+#[inline(always)]
+fn is_dash(word: &[u8]) -> bool
+    ensures { IsTrue result ↔ (word.now ≡ 45 ∷ []) }
+{
+    match word {
+        [octet] => *octet == b'-',
+        _ => false,
+    }
+}
+
+/// How many octets in front are printable, up to a limit.
+#[inline(always)]
+fn printable_len(limit: usize, octets: &[u8]) -> usize
+    ensures most { result ≤ limit }
+    ensures within { result ≤ length octets.now }
+    ensures printable { AllByRecursion IsPrintable (take result octets.now) }
+    ensures ends { result < limit → IfFront (λ x. IsPrintable x → ⊥) (drop result octets.now) }
+{
+    let most = octets.len().min(limit);
+    for i in 0..most {
+        if !is_printable(octets[i]) {
+            return i;
+        }
+    }
+    most
+}
+
+/// The printable octets in front, up to a limit, and what is behind them.
+#[inline(always)]
+fn printable_front(limit: usize, octets: &[u8]) -> (&[u8], &[u8])
+    ensures parts { octets.now ≡ result.0.now ++ result.1.now }
+    ensures most { length result.0.now ≤ limit }
+    ensures printable { AllByRecursion IsPrintable result.0.now }
+    ensures ends { length result.0.now < limit
+        → IfFront (λ x. IsPrintable x → ⊥) result.1.now }
+{
+    octets.split_at(printable_len(limit, octets))
+}
+
+/// Reads a word of at most `N` octets, or the sign for nil, and the space behind it.
+#[inline(always)]
+pub fn word<const N: usize>(octets: &[u8]) -> Result<(Option<&[u8]>, &[u8]), Stop>
+    requires { 0 < N }
+    ensures { Reads left_of (λ w. Spaced (Nilable (Word N) w))
+        (λ x. (option_map (λ s. s.now) x.0, x.1.now)) octets.now result }
+{
+    let (word, behind) = printable_front(N, octets);
+    if word.is_empty() {
+        return Err(Stop { left: octets.len() });
+    }
+    let Some((octet, rest)) = next(behind) else {
+        return Err(Stop { left: behind.len() });
+    };
+    if octet != b' ' {
+        return Err(Stop { left: behind.len() });
+    }
+    if is_dash(word) {
+        return Ok((None, rest));
+    }
+    Ok((Some(word), rest))
+}
