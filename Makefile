@@ -4,7 +4,7 @@ PREFIX = /usr/local
 DESTDIR =
 PROGRAM = crates/syslogbox
 
-.PHONY: all check install clean
+.PHONY: all trials check install clean
 
 # Proves the program and what it stands on, and builds build/syslogbox.
 all:
@@ -12,6 +12,12 @@ all:
 	cd $(PROGRAM) && rt run -- convert < stdin > ../../build/first-run
 	@cmp -s build/first-run $(PROGRAM)/stdout
 	@cmp -s $(PROGRAM)/out/syslogbox build/syslogbox || cp $(PROGRAM)/out/syslogbox build/syslogbox
+
+# Proves and builds the trials of the libraries, which tests/ and bench/ run.
+trials:
+	@mkdir -p build
+	cd crates/trials && rt run > ../../build/first-trial
+	@cmp -s crates/trials/out/trials build/trials || cp crates/trials/out/trials build/trials
 
 # Proves every crate from nothing, runs every test, and tries the real program.
 check:

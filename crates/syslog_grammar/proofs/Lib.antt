@@ -22,3 +22,13 @@ pub mod Repeating
 pub mod Viewing
 pub mod Meanings
 pub mod Rising
+pub mod Rows
+pub mod ById
+pub mod Appends
+pub mod EscapedRuns
+pub mod Unescaped
+pub mod OwnedParts
+pub mod RecordsOf
+pub mod OneMeaning
+pub mod Laws
+pub mod CanonicalSpelled

@@ -1,6 +1,8 @@
 -- Values of parameters: pieces up to the quotation mark.
 use Rattle.std.proofs.Common.{◌≡◌, ◌≢◌, ℕ, ◌≤◌, List, [], ◌∷◌, ◌++◌, length, refl, sym, ap, subst, ◌∙◌, arith, inl, inr, ◌⊎◌}
 use Rattle.std.specs.Prelude.{Result}
+use Rattle.std.specs.List.{AllByRecursion}
+use Rattle.std.proofs.lemmas.List.{length-append}
 use Rattle.std.proofs.lemmas.Bool.{cases_eq}
 use Rattle.octet_language.specs.Language.{Language, Only, AnyOf, Refuses, NoFront, OneFront, IfFront}
 use Rattle.octet_language.specs.Reading.{Fails, Passes}
@@ -8,7 +10,8 @@ use Rattle.octet_language.proofs.Lists.{heads, tails}
 use Rattle.octet_language.proofs.Chain.{OneFront-only}
 use Rattle.octet_language.proofs.Many.{Many, OneFront-many}
 use Rattle.syslog_grammar.specs.Utf8.{table, from_to, IsCharacter}
-use Rattle.syslog_grammar.specs.Values.{IsSpecial, IsPlain, Piece}
+use Rattle.syslog_grammar.specs.Values.{IsSpecial, IsPlain, IsPlainOctet, PassesPlain, Piece}
+use Rattle.syslog_grammar.proofs.Loops.{Carries, carries_more}
 use Rattle.syslog_grammar.proofs.Front.{Passes-behind, Passes-alike}
 use Rattle.syslog_grammar.proofs.Characters.{character_some, OneFront-character, octet_cons, width, table_widths}
 
@@ -150,3 +153,19 @@ apart_piece (x ∷ p) s q t h k e = no_piece_from x p (inl (heads x 34 (p ++ s) 
 
 pub OneFront-value : OneFront (Many Piece (Only (34 ∷ [])))
 OneFront-value = OneFront-many Piece (Only (34 ∷ [])) OneFront-piece (OneFront-only (34 ∷ [])) apart_piece
+
+-- ---- octets that mean themselves
+
+plain_piece : (x : ℕ) → IsPlainOctet x → AnyPiece (x ∷ [])
+plain_piece x p = (x ∷ [], inr (inr ((ascii x (omega (arith, p.0)), (λ e. p.1 (heads x 34 [] [] e)), (λ e. p.2 (heads x 92 [] [] e)), (λ e. p.3 (heads x 93 [] [] e))), refl)))
+
+-- behind such octets, what of the rest holds of the whole
+carries_run : (b run rest : List ℕ) → AllByRecursion IsPlainOctet run → Carries Piece (Only (34 ∷ [])) b (run ++ rest) → Carries Piece (Only (34 ∷ [])) b rest
+carries_run b [] rest h k = k
+carries_run b (x ∷ run) rest h k = carries_run b run rest h.1 (carries_more Piece 34 b (x ∷ run ++ rest) (run ++ rest) OneFront-piece h.0.1 (x ∷ [], refl, plain_piece x h.0) k)
+
+pub carries_plain : (b from rest : List ℕ) → PassesPlain from rest → Carries Piece (Only (34 ∷ [])) b from → Carries Piece (Only (34 ∷ [])) b rest
+carries_plain b from rest p k = carries_run b p.run rest p.plain (subst (Carries Piece (Only (34 ∷ [])) b) p.parts k)
+
+pub plain_takes : (from rest : List ℕ) → PassesPlain from rest → length rest ≤ length from
+plain_takes from rest p = omega (arith, ap length p.parts, length-append p.run rest)

@@ -13,3 +13,8 @@ pub mod Ids
 pub mod Shown
 pub mod PartsLeft
 pub mod Instants
+pub mod WellFormed
+pub mod Canonical
+pub mod Appending
+pub mod Escapes
+pub mod DecodeFaults

@@ -1,6 +1,6 @@
 -- The spellings of a parameter's value (RFC 5424, 6.3.3).
-use Rattle.std.specs.Prelude.{◌≡◌, ◌≢◌, ℕ, List, [], ◌∷◌, ◌⊎◌}
-use Rattle.std.specs.List.{flat_map}
+use Rattle.std.specs.Prelude.{◌≡◌, ◌≢◌, ℕ, ◌<◌, List, [], ◌∷◌, ◌++◌, ◌⊎◌}
+use Rattle.std.specs.List.{AllByRecursion, flat_map}
 use Rattle.octet_language.specs.Language.{Language, Each}
 use Rattle.syslog_grammar.specs.Utf8.{IsCharacter}
 
@@ -26,3 +26,13 @@ Piece m b = ((x : ℕ) × IsSpecial x × (m ≡ x ∷ []) × (b ≡ 92 ∷ x ∷
 -- PARAM-VALUE: the spellings of a text are pieces whose meanings, joined, are the text
 abbrev pub Spells : List ℕ → Language
 Spells text b = (meanings : List (List ℕ)) × (text ≡ flat_map (λ m. m) meanings) × Each Piece meanings b
+
+-- an octet of ASCII that is a piece and means itself
+abbrev pub IsPlainOctet : ℕ → Type 0
+IsPlainOctet x = (x < 128) × (x ≢ 34) × (x ≢ 92) × (x ≢ 93)
+
+-- such octets stand in front of the rest
+pub record PassesPlain (b rest : List ℕ) : Type 0 where
+  pub run : List ℕ
+  pub parts : b ≡ run ++ rest
+  pub plain : AllByRecursion IsPlainOctet run

@@ -43,6 +43,13 @@ impl<'a> ParamView<'a> {
 }
 
 impl<'a> ElementView<'a> {
+    /// The text of the parameters.
+    pub(crate) fn params_text(&self) -> &'a [u8]
+        ensures { result.now ≡ (element_span self.now).params }
+    {
+        self.params
+    }
+
     /// The id.
     pub fn id(&self) -> &'a [u8]
         ensures { result.now ≡ (element_span self.now).id }

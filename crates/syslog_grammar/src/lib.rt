@@ -1,14 +1,23 @@
 //! Syslog records as octets (RFC 5424, section 6).
 #![tactic(auto)]
 
+mod appending;
+mod canonical;
+mod canonical_data;
+mod canonical_len;
+mod canonical_view;
 mod character;
+mod civil_text;
 mod data;
+mod decoding;
 mod distinct;
 mod element;
 mod fault;
 mod header;
+mod law;
 mod message;
 mod name;
+mod owned;
 mod parts;
 mod priority;
 mod reading;
@@ -18,17 +27,24 @@ mod same;
 mod syntax;
 mod text;
 mod timestamp;
+mod unescape;
 mod value;
 mod whole;
 mod word;
 
+pub use canonical::canon;
+pub use canonical_view::put_canonical;
+pub use decoding::{DecodeFault, decode};
 pub use element::{ElementView, ParamView};
 pub use fault::{Fault, Field};
+pub use law::{canonical_is_injective, canonical_is_well_formed, octets_are_one_record};
 pub use parts::{Elements, Params};
 pub use record_view::RecordView;
 pub use same::same_value;
 pub use text::utf8;
 pub use whole::view;
 
+#[cfg(test)]
+mod canonical_tests;
 #[cfg(test)]
 mod tests;

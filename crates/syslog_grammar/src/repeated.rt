@@ -99,6 +99,9 @@ fn count(elements: &[u8]) -> usize {
     elements.len()
 }
 
+/// So many ids are sought one by one.
+const FEW: usize = 16;
+
 /// What is behind elements in front whose ids differ: all but a few of the longest such front,
 /// where it has at most 16,384 elements.
 fn behind_distinct(data: &[u8]) -> &[u8]
@@ -107,6 +110,9 @@ fn behind_distinct(data: &[u8]) -> &[u8]
 {
     let mut known = behind_rising(data);
     let mut step = count(known);
+    if step <= FEW {
+        return known;
+    }
     while step > 0 {
         let Some((first, _after)) = next(known) else {
             return known;

@@ -1,11 +1,12 @@
 //! Values of parameters (RFC 5424, 6.3.3).
 
-ghost use Rattle.std.specs.Prelude.{◌≡◌, ◌∷◌, [], IsTrue};
+ghost use Rattle.std.specs.Prelude.{◌≡◌, ◌≤◌, ◌∷◌, ◌↔◌, [], IsTrue, length, take};
+ghost use Rattle.std.specs.List.{AllByRecursion};
 ghost use Rattle.octet_language.specs.Language.{◌⋅◌, AnyOf, Each, Only};
 ghost use Rattle.octet_language.specs.Reading.{Passes, Reads};
 ghost use Rattle.syslog_grammar.specs.Spans.{Text};
 ghost use Rattle.syslog_grammar.specs.Stops.{left_of};
-ghost use Rattle.syslog_grammar.specs.Values.{IsEscape, Piece};
+ghost use Rattle.syslog_grammar.specs.Values.{IsEscape, IsPlainOctet, PassesPlain, Piece};
 
 use crate::character::behind_character;
 use crate::reading::{Stop, next};
@@ -30,18 +31,49 @@ fn behind_piece(octets: &[u8]) -> Result<&[u8], Stop>
     behind_character(octets)
 }
 
+/// Whether an octet is a piece of a value that means itself.
+#[inline(always)]
+fn is_plain(octet: u8) -> bool
+    ensures { IsTrue result ↔ IsPlainOctet octet }
+{
+    octet < 0x80 && octet != b'"' && octet != b'\\' && octet != b']'
+}
+
+/// How many octets in front are pieces of a value that mean themselves.
+#[inline(always)]
+fn plain_len(octets: &[u8]) -> usize
+    ensures within { result ≤ length octets.now }
+    ensures plain { AllByRecursion IsPlainOctet (take result octets.now) }
+{
+    for i in 0..octets.len() {
+        if !is_plain(octets[i]) {
+            return i;
+        }
+    }
+    octets.len()
+}
+
+/// What is behind the octets in front that mean themselves.
+#[inline(always)]
+fn behind_plain(octets: &[u8]) -> &[u8]
+    ensures { PassesPlain octets.now result.now }
+{
+    let (_, rest) = octets.split_at(plain_len(octets));
+    rest
+}
+
 /// Reads a value and the quotation mark that ends it.
 fn behind_value(octets: &[u8]) -> Result<&[u8], Stop>
     ensures { Passes left_of (AnyOf (Each Piece) ⋅ Only (34 ∷ [])) (λ x. x.now)
         octets.now result }
 {
-    let mut rest = octets;
+    let mut rest = behind_plain(octets);
     while let Some((first, after)) = next(rest) {
         if first == b'"' {
             return Ok(after);
         }
         let behind = behind_piece(rest)?;
-        rest = behind;
+        rest = behind_plain(behind);
     }
     Err(Stop { left: rest.len() })
 }

@@ -1,4 +1,9 @@
+pub mod AnswerLemmas
+pub mod CauseLemmas
+pub mod DealtLemmas
 pub mod FirstNumber
 pub mod FirstTexts
 pub mod LineLemmas
 pub mod RanLemmas
+pub mod ScanLemmas
+pub mod StreamLemmas

@@ -1,7 +1,13 @@
-pub mod Line
-pub mod Requests
-pub mod First
+pub mod Checked
 pub mod Converted
-pub mod Ran
+pub mod Dealings
+pub mod Dealt
 pub mod Files
+pub mod First
+pub mod Line
+pub mod Lines
 pub mod Memory
+pub mod Ran
+pub mod Requests
+pub mod Scans
+pub mod Streams

@@ -1,6 +1,19 @@
 -- The command line: the subcommands, their options and positionals.
-use Rattle.std.specs.Prelude.{true, codes}
-use Rattle.clap.specs.Simple.{App, new_app, on_top, with_subcommand}
+use Rattle.std.specs.Prelude.{[], ◌∷◌, Some, true, codes}
+use Rattle.clap.specs.Walk.{Rule, Text}
+use Rattle.clap.specs.Simple.{App, new_app, new_rule, on_top, with_rule, with_subcommand}
+
+-- an option that takes a value
+abbrev pub option_rule : Text → Rule
+option_rule id = record (new_rule id) { long = Some id }
+
+-- an option with a value where it is not given
+abbrev pub default_rule : Text → Text → Rule
+default_rule id value = record (option_rule id) { defaults = value ∷ [] }
+
+-- a command that reads records
+abbrev pub input_app : Text → App
+input_app name = with_rule (new_app name) (default_rule (codes "framing") (codes "datagram"))
 
 abbrev pub convert_app : App
 convert_app = new_app (codes "convert")
@@ -10,4 +23,4 @@ abbrev pub empty_app : App
 empty_app = on_top (λ s. record s { no_binary_name = true; subcommand_required = true }) (new_app (codes "syslogbox"))
 
 abbrev pub line_app : App
-line_app = with_subcommand empty_app convert_app.top
+line_app = with_subcommand (with_subcommand empty_app (input_app (codes "check")).top) convert_app.top

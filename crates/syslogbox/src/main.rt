@@ -1,14 +1,21 @@
 //! Reads syslog records and writes them in their one canonical form.
 #![tactic(auto)]
 
+mod check;
 mod convert;
+mod dealer;
+mod dealings;
 mod disk;
 mod files;
 mod first;
+mod line;
 mod memory;
 mod notes;
+mod request;
 mod run;
+mod scan;
 mod status;
+mod stream;
 #[cfg(test)]
 mod tests;
 mod words;

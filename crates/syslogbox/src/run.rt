@@ -4,13 +4,19 @@ ghost use Rattle.std.specs.Prelude.{◌≡◌, ◌≢◌, ◌≤◌, ◌<◌, �
 ghost use Rattle.syslog_value.specs.Device.{AreSmall};
 ghost use Rattle.syslogbox.specs.Converted.{Converted};
 ghost use Rattle.syslogbox.specs.Ran.{Answers, WritesFront};
+ghost use Rattle.syslogbox.specs.Checked.{check_deals, refused_line};
 ghost use Rattle.syslogbox.specs.Requests.{parsed};
+ghost use Rattle.syslogbox.specs.Streams.{AnswersWith, InputDone};
+ghost use Rattle.syslogbox.specs.declared.request.Carrier.{Carrier};
 
+use crate::check::Check;
 use crate::convert::convert;
 use crate::files::Files;
 use crate::notes::note;
+use crate::request::Request;
+use crate::scan::scan_input;
 use crate::status::{FAULT, NO_MEMORY};
-use crate::words::{Request, WordsFault, read_words};
+use crate::words::{WordsFault, read_words};
 use std::alloc::Global;
 use syslog_frame::FRAME_MAX;
 use syslog_value::{Input, Output, READER_CALLS};
@@ -35,7 +41,13 @@ pub fn run<R: Input, W: Output, N: Output, F: Files>(
         Answers (Converted FRAME_MAX) (R.left reader.old) result
         (W.taken writer.old) (W.taken writer.new) (N.taken notes.old) (N.taken notes.new) }
 
-    // under every status a front of the right output was written
+    // `check` the same: one line a frame, and one on how a stream stops
+    ensures checked { (carrier : Carrier)
+        → parsed (map string_bytes words.now) ≡ Some (Request.Check carrier) → result < 2 →
+        AnswersWith (InputDone check_deals refused_line carrier) (R.left reader.old) result
+        (W.taken writer.old) (W.taken writer.new) (N.taken notes.old) (N.taken notes.new) }
+
+    // under every status a front of the right output of `convert` was written
     ensures front { parsed (map string_bytes words.now) ≡ Some Request.Convert →
         WritesFront (Converted FRAME_MAX) (R.left reader.old) (W.taken writer.old) (W.taken writer.new) }
 
@@ -55,6 +67,9 @@ pub fn run<R: Input, W: Output, N: Output, F: Files>(
     ensures failed { N.failures notes.old < N.failures notes.new → result ≡ FAULT }
 {
     match read_words(alloc, words) {
+        Ok(Request::Check { carrier }) => {
+            scan_input(alloc, carrier, &Check, reader, writer, notes)
+        }
         Ok(Request::Convert) => convert(alloc, reader, writer, notes),
         Err(WordsFault::Usage(text)) => note(notes, text.as_bytes(), FAULT),
         Err(WordsFault::Memory) => note(notes, b"want of memory\n", NO_MEMORY),

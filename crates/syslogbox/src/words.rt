@@ -1,23 +1,19 @@
 //! The command line, read by `clap`: the words alone decide what is asked for.
 
 ghost use Rattle.std.specs.Prelude.{◌≡◌, false, map, option_map, option_and_then, IfOk, IfErr, Some, None};
-ghost use Rattle.clap.specs.Words.{app_of, subcommand_rows_of};
-ghost use Rattle.clap.specs.Simple.{with_subcommand};
+ghost use Rattle.clap.specs.Walk.{first_of};
+ghost use Rattle.clap.specs.Words.{app_of, found_of, rows_of, rule_of, subcommand_rows_of};
+ghost use Rattle.clap.specs.Simple.{with_rule, with_subcommand};
 ghost use Rattle.clap.specs.declared.builder.command.Command.TheViews.{out-Command as fields_of};
-ghost use Rattle.syslogbox.specs.Line.{empty_app, line_app};
-ghost use Rattle.syslogbox.specs.Requests.{IsUsage, parsed, read_of};
+ghost use Rattle.syslogbox.specs.Line.{default_rule, empty_app, input_app, line_app};
+ghost use Rattle.syslogbox.specs.Requests.{IsUsage, carrier_in, carrier_of, framing_of, parsed, read_check, read_of};
 
+use crate::request::{Carrier, Request};
 use clap::error::ErrorKind;
-use clap::{ArgMatches, Command};
+use clap::{Arg, ArgMatches, Command};
 use std::alloc::{AllocError, Global};
 use std::convert::AsStr;
-
-/// What the words ask for.
-#[derive(Clone, Copy, Debug, PartialEq, Eq)]
-pub enum Request {
-    /// `convert`: one datagram on standard input, its canonical octets on standard output.
-    Convert,
-}
+use syslog_frame::Framing;
 
 /// Why words ask for nothing.
 #[derive(Debug, Drop)]
@@ -39,6 +35,36 @@ impl From<AllocError> for WordsFault {
     }
 }
 
+// An option with a value where it is not given.
+fn option_or<'a>(alloc: Global, id: &'a str, value: &'a str) -> Arg<'a>
+    ensures rule { rule_of result ≡ default_rule id.entry.now value.entry.now }
+    ensures local { result.global ≡ false }
+{
+    Arg::new(alloc, id).long(id).default_value(value)
+}
+
+// The command with one more argument.
+fn with_arg<'a>(command: Command<'a>, arg: Arg<'a>) -> Result<Command<'a>, AllocError>
+    requires arg_local { arg.global ≡ false }
+    requires local { (fields_of command).has_globals ≡ false }
+    ensures app { IfOk result (λ c.
+        app_of c ≡ with_rule (app_of command.entry) (rule_of arg.entry)) }
+    ensures local { IfOk result (λ c. (fields_of c).has_globals ≡ false) }
+{
+    command.arg(arg)
+}
+
+// A command that reads records.
+fn input_command<'a>(alloc: Global, name: &'a str) -> Result<Command<'a>, AllocError>
+    ensures app { IfOk result (λ c. app_of c ≡ input_app name.entry.now) }
+    ensures local { IfOk result (λ c. (fields_of c).has_globals ≡ false) }
+{
+    with_arg(
+        Command::new(alloc, name),
+        option_or(alloc, "framing", "datagram"),
+    )
+}
+
 // The line with no subcommand yet.
 fn empty_line<'a>(alloc: Global) -> Command<'a>
     ensures { app_of result ≡ empty_app }
@@ -51,7 +77,8 @@ fn empty_line<'a>(alloc: Global) -> Command<'a>
 // The line with one more subcommand.
 fn with_command<'a>(line: Command<'a>, command: Command<'a>) -> Result<Command<'a>, AllocError>
     requires { (fields_of command).has_globals ≡ false }
-    ensures { IfOk result (λ c. app_of c ≡ with_subcommand (app_of line.entry) (app_of command.entry).top) }
+    ensures { IfOk result (λ c.
+        app_of c ≡ with_subcommand (app_of line.entry) (app_of command.entry).top) }
 {
     line.subcommand(command)
 }
@@ -59,14 +86,55 @@ fn with_command<'a>(line: Command<'a>, command: Command<'a>) -> Result<Command<'
 fn whole_line<'a>(alloc: Global) -> Result<Command<'a>, AllocError>
     ensures { IfOk result (λ c. app_of c ≡ line_app) }
 {
-    with_command(empty_line(alloc), Command::new(alloc, "convert"))
+    let line = with_command(empty_line(alloc), input_command(alloc, "check")?)?;
+    with_command(line, Command::new(alloc, "convert"))
+}
+
+fn value<'a>(matches: &ArgMatches<'a>, id: &str) -> Option<&'a str>
+    ensures { option_map (λ s. s.now) result ≡ first_of id.now (rows_of (found_of matches.now)) }
+{
+    matches.get_str(id)
+}
+
+fn framing(name: &str) -> Option<Framing>
+    ensures { result ≡ framing_of name.now }
+{
+    match name {
+        "counted" => Some(Framing::Counted),
+        "lf" => Some(Framing::Lf),
+        _ => None,
+    }
+}
+
+fn carrier(name: &str) -> Option<Carrier>
+    ensures { result ≡ carrier_of name.now }
+{
+    match name {
+        "datagram" => Some(Carrier::Datagram),
+        _ => Some(Carrier::Stream(framing(name)?)),
+    }
+}
+
+// The value of `--framing`.
+fn carrier_of_matches(matches: &ArgMatches<'_>) -> Option<Carrier>
+    ensures { result ≡ carrier_in (rows_of (found_of matches.now)) }
+{
+    carrier(value(matches, "framing")?)
+}
+
+fn read_check_words(matches: &ArgMatches<'_>) -> Option<Request>
+    ensures { result ≡ read_check (rows_of (found_of matches.now)) }
+{
+    let carrier = carrier_of_matches(matches)?;
+    Some(Request::Check { carrier })
 }
 
 fn asked_for(matches: &ArgMatches<'_>) -> Option<Request>
     ensures { result ≡ option_and_then read_of (subcommand_rows_of matches.now) }
 {
-    let (name, _inner) = matches.subcommand()?;
+    let (name, inner) = matches.subcommand()?;
     match name {
+        "check" => read_check_words(inner),
         "convert" => Some(Request::Convert),
         _ => None,
     }
@@ -80,9 +148,9 @@ fn refused(alloc: Global, error: &clap::Error) -> WordsFault {
     }
 }
 
-// What `clap` takes and this program does not.
+// A value that `clap` takes and this program does not.
 fn unknown(alloc: Global) -> WordsFault {
-    match String::from_str(alloc, "error: no such command\n") {
+    match String::from_str(alloc, "error: a framing is datagram, counted or lf\n") {
         Ok(text) => WordsFault::Usage(text),
         Err(_) => WordsFault::Memory,
     }

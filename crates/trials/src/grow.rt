@@ -10,7 +10,7 @@ use syslog_frame::{
 /// `put_frame` behind two octets that were there before.
 fn put(rt: &impl Print, alloc: Global, name: &str, framing: Framing) -> io::Result<()> {
     let Ok(mut out) = b"ab".as_slice().to_vec(alloc) else {
-        return println!(rt; "{name}: no octets to put behind");
+        return println!(rt; "{name}: memory for what stands before");
     };
     let outcome = put_frame(framing, b"record", &mut out);
     let octets = out.len();
@@ -27,7 +27,7 @@ fn put(rt: &impl Print, alloc: Global, name: &str, framing: Framing) -> io::Resu
 /// `frames_of_pieces` of one piece that is made here.
 fn pieces(rt: &impl Print, alloc: Global) -> io::Result<()> {
     let Ok(piece) = b"2 ab".as_slice().to_vec(alloc) else {
-        return println!(rt; "frames_of_pieces: no piece");
+        return println!(rt; "frames_of_pieces: memory for its piece");
     };
     match frames_of_pieces(alloc, Framing::Counted, &[piece]) {
         Ok(read) => {

@@ -4,6 +4,7 @@
 
 mod grow;
 mod pace;
+mod value;
 
 use std::alloc::Global;
 use std::process::ExitCode;
@@ -11,7 +12,7 @@ use std::{env, io};
 
 const USAGE: &str = "usage: trials time scan counted|lf SIZE ROUNDS
        trials time copy SIZE ROUNDS
-       trials grow frame";
+       trials grow frame|value";
 
 /// The word at a place; none is an empty word.
 fn word(words: &[String], place: usize) -> &str {
@@ -29,6 +30,7 @@ fn run(rt: &impl Print, alloc: Global, words: &[String]) -> io::Result<()> {
         }
         ("time", "copy") => pace::copy(rt, alloc, word(words, 2), word(words, 3)),
         ("grow", "frame") => grow::frame(rt, alloc),
+        ("grow", "value") => value::value(rt, alloc),
         _ => println!(rt; "{USAGE}"),
     }
 }

@@ -1,0 +1,135 @@
+use crate::canonical::canon;
+use crate::canonical_view::put_canonical;
+use crate::decoding::{DecodeFault, decode};
+use crate::fault::Fault;
+use crate::whole::view;
+use std::alloc::Global;
+use std::test::Fail;
+
+/// The canonical octets by way of the record, which are those of the view, with what stood before.
+fn canonical(alloc: Global, octets: &[u8]) -> Result<Vec<u8>, Fail> {
+    let seen = view(octets).ok().ok_or("a fault")?;
+    let record = seen.to_record(alloc)?;
+    let mut appended = b"old ".to_vec(alloc)?;
+    put_canonical(alloc, &seen, &mut appended)?;
+    let by_record = canon(alloc, &record)?;
+    let mut expected = b"old ".to_vec(alloc)?;
+    expected.extend_from_slice(by_record.as_slice())?;
+    if appended.as_slice() != expected.as_slice() {
+        return Err(Fail::from("the view and the record differ"));
+    }
+    Ok(by_record)
+}
+
+#[test]
+fn an_instant_is_written_in_utc_with_six_digits(rt: HostRuntime) -> Result<(), Fail> {
+    for (octets, expected) in [
+        (
+            b"<165>1 2003-08-24T05:14:15.000003-07:00 192.0.2.1 myproc 8710 - - %% It's time to make the do-nuts.".as_slice(),
+            b"<165>1 2003-08-24T12:14:15.000003Z 192.0.2.1 myproc 8710 - - %% It's time to make the do-nuts.".as_slice(),
+        ),
+        (
+            b"<0>1 2024-03-01T00:30:00+01:00 - - - - -",
+            b"<0>1 2024-02-29T23:30:00.000000Z - - - - -",
+        ),
+        (
+            b"<0>1 0000-01-01T00:00:00Z - - - - -",
+            b"<0>1 0000-01-01T00:00:00.000000Z - - - - -",
+        ),
+        (
+            b"<191>1 9999-12-31T23:59:59.999999Z - - - - -",
+            b"<191>1 9999-12-31T23:59:59.999999Z - - - - -",
+        ),
+    ] {
+        assert_eq!(rt; canonical(rt.alloc(), octets)?.as_slice(), expected);
+    }
+    Ok(())
+}
+
+#[test]
+fn elements_stand_by_id_and_exactly_three_octets_are_escaped(rt: HostRuntime) -> Result<(), Fail> {
+    for (octets, expected) in [
+        (
+            b"<0>1 - - - - - [b][a x=\"\\n\\\"\\]\\\\\"][B]".as_slice(),
+            b"<0>1 - - - - - [B][a x=\"\\\\n\\\"\\]\\\\\"][b]".as_slice(),
+        ),
+        (
+            b"<0>1 - - - - - [a\\b x\\y=\"z\"]",
+            b"<0>1 - - - - - [a\\b x\\y=\"z\"]",
+        ),
+        (
+            b"<0>1 - - - - - [a k=\"\\\xc3\xa9\\\"\"]",
+            b"<0>1 - - - - - [a k=\"\\\\\xc3\xa9\\\"\"]",
+        ),
+    ] {
+        assert_eq!(rt; canonical(rt.alloc(), octets)?.as_slice(), expected);
+    }
+    Ok(())
+}
+
+#[test]
+fn the_empty_message_is_left_out_and_the_mark_is_kept(rt: HostRuntime) -> Result<(), Fail> {
+    for (octets, expected) in [
+        (
+            b"<0>1 - - - - - -".as_slice(),
+            b"<0>1 - - - - - -".as_slice(),
+        ),
+        (b"<0>1 - - - - - - ", b"<0>1 - - - - - -"),
+        (
+            b"<0>1 - - - - - - \xef\xbb\xbf",
+            b"<0>1 - - - - - - \xef\xbb\xbf",
+        ),
+        (b"<0>1 - - - - - -  ", b"<0>1 - - - - - -  "),
+        (
+            b"<0>1 - - - - - - \xef\xbb\xbfA",
+            b"<0>1 - - - - - - \xef\xbb\xbfA",
+        ),
+        (b"<0>1 - - - - - - \xef\xbb", b"<0>1 - - - - - - \xef\xbb"),
+    ] {
+        assert_eq!(rt; canonical(rt.alloc(), octets)?.as_slice(), expected);
+    }
+    Ok(())
+}
+
+#[test]
+fn the_largest_record_grows_by_each_backslash(rt: HostRuntime) -> Result<(), Fail> {
+    let mut octets = b"<0>1 - - - - - [a k=\"".to_vec(rt.alloc())?;
+    for _ in 0..32_756 {
+        octets.extend_from_slice(b"\\n")?;
+    }
+    octets.extend_from_slice(b"\"]")?;
+    assert_eq!(rt; octets.len(), 65_535);
+    assert_eq!(rt; canonical(rt.alloc(), octets.as_slice())?.len(), 98_291);
+    Ok(())
+}
+
+#[test]
+fn a_decoded_record_is_that_of_the_view_and_its_copy(rt: HostRuntime) -> Result<(), Fail> {
+    let octets =
+        b"<165>1 2003-08-24T05:14:15.000003-07:00 192.0.2.1 myproc 8710 - [b][a k=\"1\" k=\"\\\"\"] x".as_slice();
+    let decoded = decode(rt.alloc(), octets).ok().ok_or("refused")?;
+    let seen = view(octets).ok().ok_or("a fault")?;
+    assert!(rt; seen.to_record(rt.alloc())? == decoded);
+    assert!(rt; decoded.copy(rt.alloc())? == decoded);
+    let other = canon(rt.alloc(), &decoded)?;
+    assert!(rt; decode(rt.alloc(), other.as_slice()).ok().ok_or("refused")? == decoded);
+    Ok(())
+}
+
+#[test]
+fn octets_that_are_no_record_are_refused_with_their_fault(rt: HostRuntime) -> Result<(), Fail> {
+    for (octets, fault) in [
+        (
+            b"<0>1 - - - - - [a][b][a]".as_slice(),
+            Fault::RepeatedId { offset: 22 },
+        ),
+        (
+            b"<0>1 9999-12-31T23:59:59-00:01 - - - - -",
+            Fault::InstantRange { offset: 5 },
+        ),
+    ] {
+        let refused = decode(rt.alloc(), octets).err();
+        assert_eq!(rt; refused, Some(DecodeFault::Bad(fault)));
+    }
+    Ok(())
+}

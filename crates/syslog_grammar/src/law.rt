@@ -1,0 +1,22 @@
+//! Laws of records and their octets, each the contract of a function that does nothing.
+
+ghost use Rattle.std.specs.Prelude.{◌≡◌, ◌↔◌, ℤ, List, ℕ};
+ghost use Rattle.syslog_value.specs.Parts.{IsRecord, Parts};
+ghost use Rattle.syslog_grammar.specs.Canonical.{Canonical};
+ghost use Rattle.syslog_grammar.specs.WellFormed.{WellFormed};
+
+/// Octets are one record at most.
+pub fn octets_are_one_record()
+    ensures { (r : Parts ℤ) (q : Parts ℤ) (b : List ℕ) → WellFormed r b → WellFormed q b → r ≡ q }
+{}
+
+/// The canonical octets of a record are well-formed, and are that record.
+pub fn canonical_is_well_formed()
+    ensures { (r : Parts ℤ) (b : List ℕ) → IsRecord r → Canonical r b → WellFormed r b }
+{}
+
+/// Two records are equal exactly where their canonical octets are.
+pub fn canonical_is_injective()
+    ensures { (r : Parts ℤ) (q : Parts ℤ) (b : List ℕ) (c : List ℕ) → IsRecord r → IsRecord q
+        → Canonical r b → Canonical q c → (r ≡ q) ↔ (b ≡ c) }
+{}

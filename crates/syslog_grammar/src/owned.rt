@@ -1,0 +1,158 @@
+//! The record that a view shows, with memory of its own.
+
+ghost use Rattle.std.specs.Prelude.{◌≡◌, ℕ, List, IfOk, option_map, string_bytes};
+ghost use Rattle.octet_language.specs.Language.{Each};
+ghost use Rattle.syslog_value.specs.Parts.{ElementParts, ParamParts};
+ghost use Rattle.syslog_grammar.specs.Grammar.{Data, Param as ParamText};
+ghost use Rattle.syslog_grammar.specs.Shown.{IsShown, shown};
+ghost use Rattle.syslog_grammar.specs.Values.{Spells};
+ghost use Rattle.syslog_grammar.specs.Views.{element_span, message_parts, param_span};
+ghost use Rattle.syslog_grammar.specs.WellFormed.{WellFormed};
+
+use crate::element::{ElementView, ParamView, element, param};
+use crate::message::MessageView;
+use crate::reading::next;
+use crate::record_view::RecordView;
+use crate::unescape::unescape;
+use std::alloc::{AllocError, Global};
+use syslog_value::{Element, Message, Param, Record, SdName, StructuredData, Word};
+
+/// The word of these octets.
+fn to_word<const N: usize>(
+    alloc: Global,
+    octets: Option<&[u8]>,
+) -> Result<Option<Word<N>>, AllocError>
+    ensures { IfOk result (λ word. word ≡ option_map (λ s. s.now) octets.entry) }
+{
+    let Some(octets) = octets else {
+        return Ok(None);
+    };
+    match Word::new(alloc, octets) {
+        Ok(word) => Ok(Some(word)),
+        Err(_) => Err(AllocError),
+    }
+}
+
+/// The name of these octets.
+fn to_name(alloc: Global, octets: &[u8]) -> Result<SdName, AllocError>
+    ensures { IfOk result (λ name. name ≡ octets.now) }
+{
+    match SdName::new(alloc, octets) {
+        Ok(name) => Ok(name),
+        Err(_) => Err(AllocError),
+    }
+}
+
+/// The text that a value means, as it is spelled.
+fn to_text(alloc: Global, raw: &[u8]) -> Result<String, AllocError>
+    ensures { IfOk result (λ value. (text : List ℕ) → Spells text raw.now
+        → string_bytes value ≡ text) }
+{
+    match String::from_utf8(unescape(alloc, raw)?) {
+        Ok(text) => Ok(text),
+        Err(_) => Err(AllocError),
+    }
+}
+
+/// The parameter of a name and a spelling.
+fn to_param(alloc: Global, view: &ParamView<'_>) -> Result<Param, AllocError>
+    ensures { IfOk result (λ param. (text : List ℕ) → Spells text (param_span view.now).raw
+        → param ≡ record { name = (param_span view.now).name; value = text }) }
+{
+    let name = to_name(alloc, view.name())?;
+    let value = to_text(alloc, view.raw())?;
+    Ok(Param::new(name, value))
+}
+
+/// The parameters of a text of parameters.
+fn to_params(alloc: Global, octets: &[u8]) -> Result<Vec<Param>, AllocError>
+    ensures { IfOk result (λ params. (ps : List ParamParts) → Each ParamText ps octets.now
+        → params.items ≡ ps) }
+{
+    let mut params = Vec::new(alloc);
+    let mut rest = octets;
+    while let Some((_first, _after)) = next(rest) {
+        let Ok((found, behind)) = param(rest) else {
+            return Err(AllocError);
+        };
+        params.push(to_param(alloc, &found)?)?;
+        rest = behind;
+    }
+    Ok(params)
+}
+
+/// The element of an id and a text of parameters.
+fn to_element(alloc: Global, view: &ElementView<'_>) -> Result<Element, AllocError>
+    ensures { IfOk result (λ element. (ps : List ParamParts)
+        → Each ParamText ps (element_span view.now).params
+        → element ≡ record { id = (element_span view.now).id; params = ps }) }
+{
+    let id = to_name(alloc, view.id())?;
+    let params = to_params(alloc, view.params_text())?;
+    Ok(Element::new(id, params))
+}
+
+/// The elements of a text of structured data, in their order.
+fn to_elements(alloc: Global, octets: &[u8]) -> Result<Vec<Element>, AllocError>
+    ensures { IfOk result (λ elements. (es : List ElementParts) → Data es octets.now
+        → elements.items ≡ es) }
+{
+    let mut elements = Vec::new(alloc);
+    let mut rest = octets;
+    while let Some((first, _after)) = next(rest) {
+        if first != b'[' {
+            return Ok(elements);
+        }
+        let Ok((found, behind)) = element(rest) else {
+            return Err(AllocError);
+        };
+        elements.push(to_element(alloc, &found)?)?;
+        rest = behind;
+    }
+    Ok(elements)
+}
+
+/// The message of a text behind the mark, or of any octets.
+fn to_message(alloc: Global, view: &MessageView<'_>) -> Result<Message, AllocError>
+    ensures { IfOk result (λ message. message ≡ message_parts view.now) }
+{
+    if !view.has_mark {
+        return match Message::any(view.octets.to_vec(alloc)?) {
+            Ok(message) => Ok(message),
+            Err(_) => Err(AllocError),
+        };
+    }
+    match simdutf8::basic::from_utf8(view.octets) {
+        Ok(text) => Ok(Message::utf8(String::from_str(alloc, text)?)),
+        Err(_) => Err(AllocError),
+    }
+}
+
+impl<'a> RecordView<'a> {
+    /// The record that the octets spell, with memory of its own. Its elements stand by id.
+    ///
+    /// A view of well-formed octets is refused for want of memory alone.
+    pub fn to_record(&self, alloc: Global) -> Result<Record, AllocError>
+        ensures { IfOk result (λ r. (b : List ℕ) → IsShown b (shown self.now) → WellFormed r b) }
+    {
+        let hostname = to_word(alloc, self.hostname)?;
+        let app_name = to_word(alloc, self.app_name)?;
+        let proc_id = to_word(alloc, self.proc_id)?;
+        let msg_id = to_word(alloc, self.msg_id)?;
+        let elements = to_elements(alloc, self.data)?;
+        let Some(structured) = StructuredData::from_elements(elements) else {
+            return Err(AllocError);
+        };
+        let message = to_message(alloc, &self.message)?;
+        Ok(Record::new(
+            self.priority(),
+            self.instant(),
+            hostname,
+            app_name,
+            proc_id,
+            msg_id,
+            structured,
+            message,
+        ))
+    }
+}

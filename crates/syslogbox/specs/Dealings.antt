@@ -1,0 +1,12 @@
+-- What was done with frames and is not yet written.
+use Rattle.std.specs.Prelude.{◌≡◌, ℕ, List, ◌++◌, Option}
+use Rattle.std.specs.Io.KnownBytes.{Appends}
+use Rattle.syslogbox.specs.Dealt.{Done, then_done}
+use Rattle.syslogbox.specs.declared.dealings.Dealings.{Dealings}
+
+abbrev pub done_of : Dealings → Done
+done_of d = record { refused = d.refused; output = d.output.items; notes = d.notes.items }
+
+-- one outcome behind what was done
+abbrev pub Adds : (Done → Type 0) → Done → Done → Type 0
+Adds D old new = (d : Done) × D d × (new ≡ then_done old d)

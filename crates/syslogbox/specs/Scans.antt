@@ -1,0 +1,13 @@
+-- Why a stream was not dealt with to its end.
+use Rattle.std.specs.Prelude.{Result, Ok, Err, ⊤}
+use Rattle.syslogbox.specs.declared.scan.Stopped.{Stopped}
+use Rattle.syslogbox.specs.declared.scan.Stopped.TheVariants.{Read, Endless, Write, Notes, Memory}
+
+-- a device or its bound stopped it
+abbrev pub IsCause : {U : Type 0} → Result U Stopped → Type 0
+IsCause (Ok x) = ⊥
+IsCause (Err Read) = ⊤
+IsCause (Err Endless) = ⊤
+IsCause (Err Write) = ⊤
+IsCause (Err Notes) = ⊤
+IsCause (Err Memory) = ⊥

@@ -1,0 +1,53 @@
+//! `check`: one line a frame.
+
+ghost use Rattle.std.specs.Prelude.{◌≡◌, OnErr, OnOk};
+ghost use Rattle.syslogbox.specs.Checked.{refused_line};
+ghost use Rattle.syslogbox.specs.Dealings.{done_of};
+ghost use Rattle.syslogbox.specs.Dealt.{then_done};
+ghost use Rattle.syslogbox.specs.declared.line.Line.{Line};
+
+use crate::dealer::Dealer;
+use crate::dealings::Dealings;
+use crate::line::{Line, put_line};
+use std::alloc::AllocError;
+use syslog_frame::FRAME_MAX;
+use syslog_grammar::view;
+
+/// Writes for each frame whether it is a record, and else why not, without copying it.
+#[derive(Clone, Copy, Debug)]
+pub struct Check;
+
+// Tells a refusal on the output.
+fn refuse(line: Line, done: &mut Dealings) -> Result<(), AllocError>
+    ensures ok { OnOk result (done_of done.new ≡ then_done (done_of done.old) (refused_line line)) }
+    ensures err { OnErr result (done_of done.new ≡ done_of done.old) }
+{
+    put_line(&mut done.output, line)?;
+    done.refused = true;
+    Ok(())
+}
+
+impl Dealer for Check {
+    ghost use Rattle.std.proofs.Common.{inl, refl};
+    ghost use Rattle.syslogbox.specs.Checked.{check_deals};
+
+    ghost deals = { λ _. check_deals };
+
+    ghost tells = { λ _. refused_line };
+
+    fn deal(&self, number: u64, frame: &[u8], done: &mut Dealings) -> Result<(), AllocError> {
+        if frame.len() > FRAME_MAX {
+            return refuse(Line::TooLong { number }, done);
+        }
+        match view(frame) {
+            Ok(_) => put_line(&mut done.output, Line::Accepted { number }),
+            Err(fault) => refuse(Line::Refused { number, fault }, done),
+        }
+    }
+
+    fn tell(&self, line: Line, done: &mut Dealings) -> Result<(), AllocError> {
+        refuse(line, done)
+    }
+
+    ghost long = { λ d n f h. inl (h, refl) };
+}

@@ -1,0 +1,34 @@
+//! What was done with frames, until it is written.
+
+ghost use Rattle.std.specs.Prelude.{◌≡◌, ◌≤◌, ◌<◌, ◌^◌, ◌⊎◌, [], vec_len};
+ghost use Rattle.std.specs.Io.KnownBytes.{Appends};
+
+use std::alloc::{AllocError, Global};
+use syslog_value::{Output, WriteFault, write_all};
+
+/// What was done with frames, until it is written: octets to go out, lines of notes, and whether
+/// something was refused. `scratch` is room to work in, so that no frame takes memory anew.
+#[derive(Debug, Drop)]
+pub struct Dealings {
+    pub output: Vec<u8>,
+    pub notes: Vec<u8>,
+    pub refused: bool,
+    pub scratch: Vec<u8>,
+}
+
+impl Dealings {
+    ghost use Rattle.syslogbox.specs.Dealings.{done_of};
+    ghost use Rattle.syslogbox.specs.Dealt.{nothing};
+
+    /// Nothing was done yet.
+    pub fn new(alloc: Global) -> Dealings
+        ensures { done_of result ≡ nothing }
+    {
+        Dealings {
+            output: Vec::new(alloc),
+            notes: Vec::new(alloc),
+            refused: false,
+            scratch: Vec::new(alloc),
+        }
+    }
+}

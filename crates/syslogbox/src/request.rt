@@ -1,0 +1,21 @@
+//! What the words of a command line ask for.
+
+use syslog_frame::Framing;
+
+/// How records stand in an input.
+#[derive(Clone, Copy, Debug, PartialEq, Eq)]
+pub enum Carrier {
+    /// The whole input is one record (RFC 5426).
+    Datagram,
+    /// A stream of frames (RFC 6587).
+    Stream(Framing),
+}
+
+/// What the words ask for.
+#[derive(Clone, Copy, Debug, PartialEq, Eq)]
+pub enum Request {
+    /// `check`: one line a frame.
+    Check { carrier: Carrier },
+    /// `convert`: one datagram on standard input, its canonical octets on standard output.
+    Convert,
+}

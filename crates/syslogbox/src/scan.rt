@@ -1,0 +1,362 @@
+//! A stream read from a device and dealt with frame by frame.
+
+ghost use Rattle.std.specs.Prelude.{◌≡◌, ◌≤◌, ◌<◌, ◌+◌, ◌^◌, ℕ, List, [], length, take, OnErr, OnOk, IfErr, IfSome, IsErrOf, IsOk, ◌⊎◌, if◌then◌else◌};
+ghost use Rattle.std.specs.Io.KnownBytes.{Appends};
+ghost use Rattle.syslog_value.specs.Device.{AreSmall};
+ghost use Rattle.syslogbox.specs.Dealings.{done_of};
+ghost use Rattle.syslogbox.specs.Dealt.{HasOneOutput, nothing};
+ghost use Rattle.syslogbox.specs.Scans.{IsCause};
+ghost use Rattle.syslogbox.specs.Streams.{AnswersWith, InputDone, IsAnswered, IsBegun, Moves, StreamDone, WritesFrontOf, status_of};
+
+use crate::dealer::Dealer;
+use crate::dealings::Dealings;
+use crate::line::Line;
+use crate::notes::note;
+use crate::request::Carrier;
+use crate::status::{DONE, FAULT, NO_MEMORY, REFUSED};
+use crate::stream::{end_stream, feed};
+use std::alloc::{AllocError, Global};
+use syslog_frame::{FRAME_MAX, Framing, Scanner};
+use syslog_value::{Input, Output, READER_CALLS, ReadAllFault, read_all, write_all};
+
+// octets asked of a reader at a time
+const PIECE: usize = 4096;
+
+// what is held back before it is written, in octets
+const LARGE: usize = 65_536;
+
+/// Why an input was not dealt with to its end.
+#[derive(Clone, Copy, Debug, PartialEq, Eq)]
+pub enum Stopped {
+    /// The reader failed.
+    Read,
+    /// The reader did not give its end.
+    Endless,
+    /// The writer failed.
+    Write,
+    /// The notes could not be written.
+    Notes,
+    /// A growth was refused.
+    Memory,
+}
+
+impl From<AllocError> for Stopped {
+    ghost use Rattle.std.specs.Prelude.{◌≡◌};
+    ghost use Rattle.syslogbox.specs.declared.scan.Stopped.TheVariants.{Memory};
+
+    ghost from_gives = { λ _ stopped. stopped ≡ Memory };
+
+    fn from(_: AllocError) -> Stopped {
+        Stopped::Memory
+    }
+}
+
+/// Writes the notes and then the output, and holds nothing back.
+pub fn flush<W: Output, N: Output>(
+    done: &mut Dealings,
+    writer: &mut W,
+    notes: &mut N,
+) -> Result<(), Stopped>
+    ensures ok { OnOk result (Moves (W.taken writer.old) (W.taken writer.new)
+        (N.taken notes.old) (N.taken notes.new) (done_of done.old) (done_of done.new)) }
+    ensures clear { OnOk result ((done.new.output.items ≡ []) × (done.new.notes.items ≡ [])) }
+    ensures kinds { IfErr result (λ stopped. (stopped ≡ Stopped.Write) ⊎ (stopped ≡ Stopped.Notes)) }
+    ensures err { OnErr result ((done.new.output.items ≡ []) × ((n : ℕ)
+        × Appends (W.taken writer.old) (W.taken writer.new) (take n done.old.output.items))) }
+    ensures no_failure { OnOk result ((W.failures writer.new ≡ W.failures writer.old)
+        × (N.failures notes.new ≡ N.failures notes.old)) }
+    ensures write { W.failures writer.old < 2 ^ 63 → IsErrOf result Stopped.Write →
+        W.failures writer.old < W.failures writer.new }
+    ensures notes { N.failures notes.old < 2 ^ 63 → IsErrOf result Stopped.Notes →
+        N.failures notes.old < N.failures notes.new }
+    ensures quiet { N.failures notes.old < N.failures notes.new → IsErrOf result Stopped.Notes }
+{
+    let told = write_all(notes, done.notes.as_slice());
+    done.notes.clear();
+    if told.is_err() {
+        done.output.clear();
+        return Err(Stopped::Notes);
+    }
+    let written = write_all(writer, done.output.as_slice());
+    done.output.clear();
+    match written {
+        Ok(()) => Ok(()),
+        Err(_) => Err(Stopped::Write),
+    }
+}
+
+// Writes what is held back once it is large.
+fn flush_large<W: Output, N: Output>(
+    done: &mut Dealings,
+    writer: &mut W,
+    notes: &mut N,
+) -> Result<(), Stopped>
+    ensures ok { OnOk result (Moves (W.taken writer.old) (W.taken writer.new)
+        (N.taken notes.old) (N.taken notes.new) (done_of done.old) (done_of done.new)) }
+    ensures kinds { IfErr result (λ stopped. (stopped ≡ Stopped.Write) ⊎ (stopped ≡ Stopped.Notes)) }
+    ensures err { OnErr result ((done.new.output.items ≡ []) × ((n : ℕ)
+        × Appends (W.taken writer.old) (W.taken writer.new) (take n done.old.output.items))) }
+    ensures no_failure { OnOk result ((W.failures writer.new ≡ W.failures writer.old)
+        × (N.failures notes.new ≡ N.failures notes.old)) }
+    ensures write { W.failures writer.old < 2 ^ 63 → IsErrOf result Stopped.Write →
+        W.failures writer.old < W.failures writer.new }
+    ensures notes { N.failures notes.old < 2 ^ 63 → IsErrOf result Stopped.Notes →
+        N.failures notes.old < N.failures notes.new }
+    ensures quiet { N.failures notes.old < N.failures notes.new → IsErrOf result Stopped.Notes }
+{
+    if done.output.len() < LARGE && done.notes.len() < LARGE {
+        return Ok(());
+    }
+    flush(done, writer, notes)
+}
+
+/// Reads a stream to its end, or up to a bad count, and deals with its frames. What is held back in
+/// `done` is written as it grows large; the rest is left in it.
+pub fn deal_stream<D: Dealer, R: Input, W: Output, N: Output>(
+    alloc: Global,
+    framing: Framing,
+    dealer: &D,
+    reader: &mut R,
+    writer: &mut W,
+    notes: &mut N,
+    done: &mut Dealings,
+) -> Result<(), Stopped>
+    requires { done_of done.old ≡ nothing }
+    ensures ok { OnOk result (IfSome (R.left reader.old) (λ input.
+        IsAnswered (D.deals dealer.now) (D.tells dealer.now) framing input (W.taken writer.old)
+        (W.taken writer.new) (N.taken notes.old) (N.taken notes.new) (done_of done.new))) }
+    ensures err { OnErr result (IfSome (R.left reader.old) (λ input.
+        IsBegun (D.deals dealer.now) framing input (W.taken writer.old) (W.taken writer.new)
+        done.new.output.items)) }
+    ensures read { AreSmall (R.calls reader.old) (R.failures reader.old) →
+        IsErrOf result Stopped.Read → R.failures reader.old < R.failures reader.new }
+    ensures endless { AreSmall (R.calls reader.old) (R.failures reader.old) →
+        IsErrOf result Stopped.Endless →
+        (R.calls reader.new ≡ R.calls reader.old + READER_CALLS)
+        × (R.ends reader.new ≡ R.ends reader.old) }
+    ensures write { W.failures writer.old < 2 ^ 63 → IsErrOf result Stopped.Write →
+        W.failures writer.old < W.failures writer.new }
+    ensures notes { N.failures notes.old < 2 ^ 63 → IsErrOf result Stopped.Notes →
+        N.failures notes.old < N.failures notes.new }
+    ensures quiet { N.failures notes.old < N.failures notes.new → IsErrOf result Stopped.Notes }
+    ensures no_failure { OnOk result ((W.failures writer.new ≡ W.failures writer.old)
+        × (N.failures notes.new ≡ N.failures notes.old)) }
+    ensures memory { IsErrOf result Stopped.Memory →
+        (W.failures writer.new ≡ W.failures writer.old)
+        × (N.failures notes.new ≡ N.failures notes.old) }
+{
+    let mut scanner = Scanner::new(alloc, framing)?;
+    let mut number = 1;
+    let mut piece = [0u8; PIECE];
+    for _turn in 0..READER_CALLS {
+        let Ok(n) = reader.read(&mut piece) else {
+            return Err(Stopped::Read);
+        };
+        if n == 0 {
+            end_stream(dealer, &scanner, done)?;
+            return Ok(());
+        }
+        if let Some(at) = feed(dealer, &mut scanner, &mut number, &piece[..n], done)? {
+            dealer.tell(Line::BadCount { number, at }, done)?;
+            return Ok(());
+        }
+        flush_large(done, writer, notes)?;
+    }
+    Err(Stopped::Endless)
+}
+
+// Writes what is held back, and then a line with its status.
+fn close_with<W: Output, N: Output>(
+    done: &mut Dealings,
+    writer: &mut W,
+    notes: &mut N,
+    line: &[u8],
+    status: u8,
+) -> u8
+    requires { 2 ≤ status }
+    ensures high { 2 ≤ result }
+    ensures known { status ≤ 3 → result ≤ 3 }
+    ensures front { (n : ℕ)
+        × Appends (W.taken writer.old) (W.taken writer.new) (take n done.old.output.items) }
+    ensures cause { W.failures writer.old < 2 ^ 63 → N.failures notes.old < 2 ^ 63 →
+        result ≡ FAULT → (status ≡ FAULT) ⊎ (W.failures writer.old < W.failures writer.new)
+        ⊎ (N.failures notes.old < N.failures notes.new) }
+    ensures failed { N.failures notes.old < N.failures notes.new → result ≡ FAULT }
+{
+    match flush(done, writer, notes) {
+        Ok(()) => note(notes, line, status),
+        Err(Stopped::Write) => note(notes, b"write fault\n", FAULT),
+        Err(_) => FAULT,
+    }
+}
+
+fn status(refused: bool) -> u8
+    ensures { result ≡ (if refused then 1 else 0) }
+{
+    if refused { REFUSED } else { DONE }
+}
+
+// Writes what is held back, and answers the status: that of what was done, or that of what stopped it.
+fn close<W: Output, N: Output>(
+    outcome: Result<(), Stopped>,
+    done: &mut Dealings,
+    writer: &mut W,
+    notes: &mut N,
+) -> u8
+    ensures known { result ≤ 3 }
+    ensures answer { result < 2 → IsOk outcome × (result ≡ status_of (done_of done.old))
+        × Appends (W.taken writer.old) (W.taken writer.new) done.old.output.items
+        × Appends (N.taken notes.old) (N.taken notes.new) done.old.notes.items }
+    ensures front { (n : ℕ)
+        × Appends (W.taken writer.old) (W.taken writer.new) (take n done.old.output.items) }
+    ensures cause { W.failures writer.old < 2 ^ 63 → N.failures notes.old < 2 ^ 63 →
+        result ≡ FAULT → IsCause outcome ⊎ (W.failures writer.old < W.failures writer.new)
+        ⊎ (N.failures notes.old < N.failures notes.new) }
+    ensures failed { N.failures notes.old < N.failures notes.new → result ≡ FAULT }
+    ensures notes { IsErrOf outcome Stopped.Notes → result ≡ FAULT }
+    ensures writer_kept { IsErrOf outcome Stopped.Write →
+        W.failures writer.new ≡ W.failures writer.old }
+    ensures notes_kept { IsErrOf outcome Stopped.Notes →
+        N.failures notes.new ≡ N.failures notes.old }
+{
+    match outcome {
+        Ok(()) => {
+            let status = status(done.refused);
+            match flush(done, writer, notes) {
+                Ok(()) => status,
+                Err(Stopped::Write) => note(notes, b"write fault\n", FAULT),
+                Err(_) => FAULT,
+            }
+        }
+        Err(Stopped::Read) => close_with(done, writer, notes, b"read fault\n", FAULT),
+        Err(Stopped::Endless) => close_with(done, writer, notes, b"endless input\n", FAULT),
+        Err(Stopped::Memory) => close_with(done, writer, notes, b"want of memory\n", NO_MEMORY),
+        Err(Stopped::Write) => note(notes, b"write fault\n", FAULT),
+        Err(Stopped::Notes) => FAULT,
+    }
+}
+
+// Deals with the stream that the reader has left, frame by frame, and writes what comes of it. The
+// status is 0 where nothing was refused, else 1; 2 where a device failed; 3 for want of memory.
+fn scan_stream<D: Dealer, R: Input, W: Output, N: Output>(
+    alloc: Global,
+    framing: Framing,
+    dealer: &D,
+    reader: &mut R,
+    writer: &mut W,
+    notes: &mut N,
+) -> u8
+    ensures known { result ≤ 3 }
+    ensures answer { result < 2 → AnswersWith
+        (StreamDone (D.deals dealer.now) (D.tells dealer.now) framing) (R.left reader.old) result
+        (W.taken writer.old) (W.taken writer.new) (N.taken notes.old) (N.taken notes.new) }
+    ensures front { HasOneOutput (D.deals dealer.now) →
+        WritesFrontOf (StreamDone (D.deals dealer.now) (D.tells dealer.now) framing)
+        (R.left reader.old) (W.taken writer.old) (W.taken writer.new) }
+    ensures cause { AreSmall (R.calls reader.old) (R.failures reader.old) →
+        W.failures writer.old < 2 ^ 63 → N.failures notes.old < 2 ^ 63 → result ≡ FAULT →
+        (R.failures reader.old < R.failures reader.new)
+        ⊎ (W.failures writer.old < W.failures writer.new)
+        ⊎ (N.failures notes.old < N.failures notes.new)
+        ⊎ ((R.calls reader.new ≡ R.calls reader.old + READER_CALLS)
+        × (R.ends reader.new ≡ R.ends reader.old)) }
+    ensures failed { N.failures notes.old < N.failures notes.new → result ≡ FAULT }
+{
+    let mut done = Dealings::new(alloc);
+    let outcome = deal_stream(alloc, framing, dealer, reader, writer, notes, &mut done);
+    close(outcome, &mut done, writer, notes)
+}
+
+// Reads the one datagram that the reader has left, and deals with it as the first frame.
+fn deal_datagram<D: Dealer, R: Input>(
+    alloc: Global,
+    dealer: &D,
+    reader: &mut R,
+    done: &mut Dealings,
+) -> Result<(), Stopped>
+    requires { done_of done.old ≡ nothing }
+    ensures ok { OnOk result (IfSome (R.left reader.old) (λ input.
+        D.deals dealer.now 1 input (done_of done.new))) }
+    ensures err { OnErr result (done_of done.new ≡ nothing) }
+    ensures read { AreSmall (R.calls reader.old) (R.failures reader.old) →
+        IsErrOf result Stopped.Read → R.failures reader.old < R.failures reader.new }
+    ensures endless { AreSmall (R.calls reader.old) (R.failures reader.old) →
+        IsErrOf result Stopped.Endless →
+        (R.calls reader.new ≡ R.calls reader.old + READER_CALLS)
+        × (R.ends reader.new ≡ R.ends reader.old) }
+    ensures kinds { IfErr result (λ stopped. (stopped ≡ Stopped.Read)
+        ⊎ (stopped ≡ Stopped.Endless) ⊎ (stopped ≡ Stopped.Memory)) }
+{
+    let datagram = match read_all(alloc, reader, FRAME_MAX + 1) {
+        Ok(datagram) => datagram,
+        Err(ReadAllFault::Device) => return Err(Stopped::Read),
+        Err(ReadAllFault::Endless) => return Err(Stopped::Endless),
+        Err(ReadAllFault::Memory) => return Err(Stopped::Memory),
+    };
+    if datagram.len() > FRAME_MAX {
+        dealer.tell(Line::TooLong { number: 1 }, done)?;
+        return Ok(());
+    }
+    dealer.deal(1, datagram.as_slice(), done)?;
+    Ok(())
+}
+
+// Deals with the one datagram that the reader has left, and writes what comes of it.
+fn scan_datagram<D: Dealer, R: Input, W: Output, N: Output>(
+    alloc: Global,
+    dealer: &D,
+    reader: &mut R,
+    writer: &mut W,
+    notes: &mut N,
+) -> u8
+    ensures known { result ≤ 3 }
+    ensures answer { result < 2 → AnswersWith (D.deals dealer.now 1) (R.left reader.old) result
+        (W.taken writer.old) (W.taken writer.new) (N.taken notes.old) (N.taken notes.new) }
+    ensures front { HasOneOutput (D.deals dealer.now) → WritesFrontOf (D.deals dealer.now 1)
+        (R.left reader.old) (W.taken writer.old) (W.taken writer.new) }
+    ensures cause { AreSmall (R.calls reader.old) (R.failures reader.old) →
+        W.failures writer.old < 2 ^ 63 → N.failures notes.old < 2 ^ 63 → result ≡ FAULT →
+        (R.failures reader.old < R.failures reader.new)
+        ⊎ (W.failures writer.old < W.failures writer.new)
+        ⊎ (N.failures notes.old < N.failures notes.new)
+        ⊎ ((R.calls reader.new ≡ R.calls reader.old + READER_CALLS)
+        × (R.ends reader.new ≡ R.ends reader.old)) }
+    ensures failed { N.failures notes.old < N.failures notes.new → result ≡ FAULT }
+{
+    let mut done = Dealings::new(alloc);
+    let outcome = deal_datagram(alloc, dealer, reader, &mut done);
+    close(outcome, &mut done, writer, notes)
+}
+
+/// Deals with what the reader has left, frame by frame, and writes what comes of it. The status is 0
+/// where nothing was refused, else 1; 2 where a device failed; 3 for want of memory.
+pub fn scan_input<D: Dealer, R: Input, W: Output, N: Output>(
+    alloc: Global,
+    carrier: Carrier,
+    dealer: &D,
+    reader: &mut R,
+    writer: &mut W,
+    notes: &mut N,
+) -> u8
+    ensures known { result ≤ 3 }
+    ensures answer { result < 2 →
+        AnswersWith (InputDone (D.deals dealer.now) (D.tells dealer.now) carrier)
+        (R.left reader.old) result (W.taken writer.old) (W.taken writer.new)
+        (N.taken notes.old) (N.taken notes.new) }
+    ensures front { HasOneOutput (D.deals dealer.now) →
+        WritesFrontOf (InputDone (D.deals dealer.now) (D.tells dealer.now) carrier)
+        (R.left reader.old) (W.taken writer.old) (W.taken writer.new) }
+    ensures cause { AreSmall (R.calls reader.old) (R.failures reader.old) →
+        W.failures writer.old < 2 ^ 63 → N.failures notes.old < 2 ^ 63 → result ≡ FAULT →
+        (R.failures reader.old < R.failures reader.new)
+        ⊎ (W.failures writer.old < W.failures writer.new)
+        ⊎ (N.failures notes.old < N.failures notes.new)
+        ⊎ ((R.calls reader.new ≡ R.calls reader.old + READER_CALLS)
+        × (R.ends reader.new ≡ R.ends reader.old)) }
+    ensures failed { N.failures notes.old < N.failures notes.new → result ≡ FAULT }
+{
+    match carrier {
+        Carrier::Datagram => scan_datagram(alloc, dealer, reader, writer, notes),
+        Carrier::Stream(framing) => scan_stream(alloc, framing, dealer, reader, writer, notes),
+    }
+}
