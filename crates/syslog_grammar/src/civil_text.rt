@@ -1,11 +1,11 @@
 //! The canonical text of an instant.
 
-ghost use Rattle.std.specs.Prelude.{◌≡◌, ◌≤◌};
+ghost use Rattle.std.specs.Prelude.{◌≡◌, ◌≤◌, Some};
 ghost use Rattle.syslog_value.specs.Instants.{IsCivil};
-ghost use Rattle.syslog_grammar.specs.Canonical.{civil_text};
+ghost use Rattle.syslog_grammar.specs.Canonical.{TimeForm, civil_text};
 ghost use Rattle.syslog_grammar.specs.Time.{padded};
 
-use syslog_value::Civil;
+use syslog_value::{Civil, Instant};
 
 /// Two digits.
 #[inline(always)]
@@ -54,4 +54,11 @@ pub fn civil_text(civil: Civil) -> [u8; 27]
         y1, y2, y3, y4, b'-', m1, m2, b'-', d1, d2, b'T', h1, h2, b':', i1, i2, b':', s1, s2, b'.',
         u1, u2, u3, u4, u5, u6, b'Z',
     ]
+}
+
+/// The canonical timestamp of an instant (RFC 5424, section 6.2.3): in UTC, with microseconds.
+pub fn canonical_timestamp(instant: Instant) -> [u8; 27]
+    ensures { TimeForm (Some instant) result }
+{
+    civil_text(instant.civil())
 }

@@ -34,6 +34,7 @@ mod word;
 
 pub use canonical::canon;
 pub use canonical_view::put_canonical;
+pub use civil_text::canonical_timestamp;
 pub use decoding::{DecodeFault, decode};
 pub use element::{ElementView, ParamView};
 pub use fault::{Fault, Field};

@@ -1,9 +1,7 @@
 pub mod AnswerLemmas
 pub mod CauseLemmas
+pub mod ConvertLemmas
 pub mod DealtLemmas
-pub mod FirstNumber
-pub mod FirstTexts
 pub mod LineLemmas
-pub mod RanLemmas
 pub mod ScanLemmas
 pub mod StreamLemmas

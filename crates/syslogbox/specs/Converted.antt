@@ -1,33 +1,51 @@
--- What `convert` answers and writes for one datagram.
-use Rattle.std.specs.Prelude.{◌≡◌, ℕ, ℤ, ◌≤◌, ◌<◌, List, [], ◌⊎◌, length, codes}
-use Rattle.octet_language.specs.Language.{AnyOf}
+-- What `convert` does with each frame.
+use Rattle.std.specs.Prelude.{◌≡◌, ℕ, ℤ, ◌<◌, ◌≤◌, List, [], ◌⊎◌, length, true, false, ⊤, Option, Some, None}
+use Rattle.syslog_frame.specs.Frames.{IsLine, framed}
+use Rattle.syslog_frame.specs.declared.framing.Framing.{Framing}
+use Rattle.syslog_frame.specs.declared.framing.Framing.TheVariants.{Counted, Lf}
+use Rattle.syslog_frame.specs.declared.limits.TheConstants.{FRAME_MAX}
 use Rattle.syslog_value.specs.Parts.{Parts}
-use Rattle.syslogbox.specs.First.{Spells, canonical_of}
+use Rattle.syslog_grammar.specs.Canonical.{Canonical}
+use Rattle.syslog_grammar.specs.Faults.{FaultOf}
+use Rattle.syslog_grammar.specs.WellFormed.{WellFormed}
+use Rattle.syslog_grammar.specs.declared.fault.Fault.{Fault}
+use Rattle.syslogbox.specs.Dealt.{Deals, Done}
+use Rattle.syslogbox.specs.Lines.{line_text}
+use Rattle.syslogbox.specs.declared.line.Line.{Line}
+use Rattle.syslogbox.specs.declared.line.Line.TheVariants.{CanonicalTooLong, HasLf, Refused, TooLong}
 
--- an answer: the status, the octets written and the lines of notes
-pub record Answer : Type 0 where
-  pub status : ℕ
-  pub output : List ℕ
-  pub notes : List ℕ
+-- octets go out
+abbrev pub goes_out : List ℕ → Done
+goes_out octets = record { refused = false; output = octets; notes = [] }
 
--- nothing is written, and one line says why
-abbrev pub refusal : List ℕ → Answer
-refusal line = record { status = 1; output = []; notes = line }
+-- a refusal whose line is noted
+abbrev pub noted_line : Line → Done
+noted_line line = record { refused = true; output = []; notes = line_text line }
 
--- the datagram is longer than a record may be
-abbrev pub IsTooLong : ℕ → List ℕ → Answer → Type 0
-IsTooLong most input a = (most < length input) × (a ≡ refusal (codes "1 too-long\n"))
+-- a framing carries the octets: a line holds no line feed
+abbrev pub Carries : Framing → List ℕ → Type 0
+Carries Counted octets = ⊤
+Carries Lf octets = IsLine octets
 
--- no record that is read so far
-abbrev pub IsUnsupported : ℕ → List ℕ → Answer → Type 0
-IsUnsupported most input a = (length input ≤ most) × ¬ (AnyOf Spells input) × (a ≡ refusal (codes "1 unsupported\n"))
+-- octets go out as one frame, by the number of the frame that they come of; or the framing does not carry them, or they are too long for a frame
+abbrev pub Framed : Framing → ℕ → List ℕ → Done → Type 0
+Framed kind n octets d =
+    (Carries kind octets × (length octets ≤ FRAME_MAX) × (d ≡ goes_out (framed kind octets)))
+    ⊎ ((¬ (Carries kind octets) × (d ≡ noted_line (HasLf n)))
+    ⊎ (Carries kind octets × (FRAME_MAX < length octets) × (d ≡ noted_line (CanonicalTooLong n))))
 
--- a record: its canonical octets are written, and nothing is noted
-abbrev pub IsConverted : ℕ → List ℕ → Answer → Type 0
-IsConverted most input a =
-    (length input ≤ most) × (r : Parts ℤ) × Spells r input
-    × (a ≡ record { status = 0; output = canonical_of r.priority r.message; notes = [] })
+-- octets go out in a framing, or bare
+abbrev pub GoesOut : Option Framing → ℕ → List ℕ → Done → Type 0
+GoesOut None n octets d = d ≡ goes_out octets
+GoesOut (Some kind) n octets d = Framed kind n octets d
 
--- the answer to one datagram, whose records are of at most so many octets
-abbrev pub Converted : ℕ → List ℕ → Answer → Type 0
-Converted most input a = IsTooLong most input a ⊎ IsUnsupported most input a ⊎ IsConverted most input a
+-- the canonical octets of the record that a frame is go out
+abbrev pub Converts : Option Framing → ℕ → List ℕ → Done → Type 0
+Converts to n f d = (r : Parts ℤ) × WellFormed r f × (c : List ℕ) × Canonical r c × GoesOut to n c d
+
+-- a frame is too long, or no record for this fault, or its canonical octets go out
+abbrev pub convert_deals : Option Framing → Deals
+convert_deals to n f d =
+    ((FRAME_MAX < length f) × (d ≡ noted_line (TooLong n)))
+    ⊎ (((length f ≤ FRAME_MAX) × Converts to n f d)
+    ⊎ ((length f ≤ FRAME_MAX) × (fault : Fault) × FaultOf f fault × (d ≡ noted_line (Refused n fault))))

@@ -3,11 +3,10 @@ pub mod Converted
 pub mod Dealings
 pub mod Dealt
 pub mod Files
-pub mod First
 pub mod Line
 pub mod Lines
 pub mod Memory
-pub mod Ran
 pub mod Requests
 pub mod Scans
+pub mod Showing
 pub mod Streams

@@ -15,12 +15,15 @@ default_rule id value = record (option_rule id) { defaults = value ∷ [] }
 abbrev pub input_app : Text → App
 input_app name = with_rule (new_app name) (default_rule (codes "framing") (codes "datagram"))
 
+-- the command that reads records and writes them
 abbrev pub convert_app : App
-convert_app = new_app (codes "convert")
+convert_app = with_rule (input_app (codes "convert")) (option_rule (codes "to"))
 
 -- the words lack the program's name, and one subcommand is wanted
 abbrev pub empty_app : App
 empty_app = on_top (λ s. record s { no_binary_name = true; subcommand_required = true }) (new_app (codes "syslogbox"))
 
 abbrev pub line_app : App
-line_app = with_subcommand (with_subcommand empty_app (input_app (codes "check")).top) convert_app.top
+line_app =
+    with_subcommand (with_subcommand (with_subcommand empty_app (input_app (codes "show")).top)
+    (input_app (codes "check")).top) convert_app.top

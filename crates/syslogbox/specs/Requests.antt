@@ -11,7 +11,7 @@ use Rattle.syslogbox.specs.Line.{line_app}
 use Rattle.syslogbox.specs.declared.request.Carrier.{Carrier}
 use Rattle.syslogbox.specs.declared.request.Carrier.TheVariants.{Datagram, Stream}
 use Rattle.syslogbox.specs.declared.request.Request.{Request}
-use Rattle.syslogbox.specs.declared.request.Request.TheVariants.{Check, Convert}
+use Rattle.syslogbox.specs.declared.request.Request.TheVariants.{Check, Convert, Show}
 use Rattle.syslogbox.specs.declared.words.WordsFault.{WordsFault}
 use Rattle.syslogbox.specs.declared.words.WordsFault.TheVariants.{Usage, Memory}
 
@@ -30,11 +30,29 @@ carrier_in rows = option_and_then carrier_of (first_of (codes "framing") rows)
 abbrev pub read_check : List Row → Option Request
 read_check rows = option_map (λ carrier. Check carrier) (carrier_in rows)
 
+abbrev pub read_show : List Row → Option Request
+read_show rows = option_map (λ carrier. Show carrier) (carrier_in rows)
+
+-- the framing in which records come
+abbrev pub own_framing : Carrier → Option Framing
+own_framing Datagram = None
+own_framing (Stream kind) = Some kind
+
+-- the framing of what goes out, by the value of `--to`: without it, that of what comes
+abbrev pub to_of : Carrier → Option Text → Option (Option Framing)
+to_of carrier None = Some (own_framing carrier)
+to_of carrier (Some name) = option_map (λ kind. Some kind) (framing_of name)
+
+abbrev pub read_convert : List Row → Option Request
+read_convert rows =
+    option_and_then (λ carrier. option_map (λ to. Convert carrier to) (to_of carrier (first_of (codes "to") rows))) (carrier_in rows)
+
 -- what a subcommand with its values asks for
 abbrev pub read_of : Text × List Row → Option Request
 read_of (name, rows) =
     if bytes_eq name (codes "check") then read_check rows
-    else (if bytes_eq name (codes "convert") then Some Convert else None)
+    else (if bytes_eq name (codes "convert") then read_convert rows
+    else (if bytes_eq name (codes "show") then read_show rows else None))
 
 -- the request, where nothing is at fault
 abbrev pub request_of : Kinds → Option (Text × List Row) → Option Request

@@ -1,96 +1,96 @@
-//! `convert`: the canonical octets of one datagram.
+//! `convert`: the canonical octets of each record.
 
-ghost use Rattle.std.specs.Prelude.{◌≡◌, ◌≤◌, ◌<◌, ◌+◌, ◌^◌, ◌⊎◌, ℕ, length, take, Some};
-ghost use Rattle.std.specs.Io.KnownBytes.{Appends};
-ghost use Rattle.syslog_value.specs.Device.{AreSmall};
-ghost use Rattle.syslogbox.specs.Converted.{Answer, Converted};
-ghost use Rattle.syslogbox.specs.Ran.{Answers, WritesFront};
+ghost use Rattle.std.specs.Prelude.{◌≡◌, ◌<◌, List, ℕ, OnErr, OnOk, Some, length};
+ghost use Rattle.syslog_grammar.specs.Shown.{IsShown, shown};
+ghost use Rattle.syslogbox.specs.Converted.{Converts, Framed, noted_line};
+ghost use Rattle.syslogbox.specs.Dealings.{Adds, done_of};
+ghost use Rattle.syslogbox.specs.Dealt.{then_done};
 
-use crate::first::{FirstFault, first_canon, first_decode};
-use crate::notes::note;
-use crate::status::{DONE, FAULT, NO_MEMORY, REFUSED};
+use crate::dealer::Dealer;
+use crate::dealings::Dealings;
+use crate::line::{Line, put_line};
 use std::alloc::{AllocError, Global};
-use syslog_frame::FRAME_MAX;
-use syslog_value::{Input, Output, READER_CALLS, ReadAllFault, read_all, write_all};
+use syslog_frame::{FRAME_MAX, Framing, PutFault, put_frame};
+use syslog_grammar::{RecordView, put_canonical, view};
 
-// Writes the octets of an answer.
-fn put<W: Output, N: Output>(writer: &mut W, notes: &mut N, octets: &[u8]) -> u8
-    ensures known { (result ≡ DONE) ⊎ (result ≡ FAULT) }
-    ensures done { result ≡ DONE → (N.taken notes.new ≡ N.taken notes.old)
-        × Appends (W.taken writer.old) (W.taken writer.new) octets.now }
-    ensures front { (n : ℕ) × Appends (W.taken writer.old) (W.taken writer.new) (take n octets.now) }
-    ensures cause { W.failures writer.old < 2 ^ 63 → result ≡ FAULT →
-        W.failures writer.old < W.failures writer.new }
-    ensures failed { N.failures notes.old < N.failures notes.new → result ≡ FAULT }
+/// Writes for each frame the canonical octets of its record, and notes why there are none.
+#[derive(Clone, Copy, Debug)]
+pub struct Convert {
+    /// Where the octets of a record whose ids do not ascend find room for it.
+    pub alloc: Global,
+    /// The framing of what goes out; none: bare octets.
+    pub to: Option<Framing>,
+}
+
+/// Tells a refusal on the notes.
+pub fn note_line(line: Line, done: &mut Dealings) -> Result<(), AllocError>
+    ensures ok { OnOk result (done_of done.new ≡ then_done (done_of done.old) (noted_line line)) }
+    ensures err { OnErr result (done_of done.new ≡ done_of done.old) }
 {
-    match write_all(writer, octets) {
-        Ok(()) => DONE,
-        Err(_) => note(notes, b"write fault\n", FAULT),
+    put_line(&mut done.notes, line)?;
+    done.refused = true;
+    Ok(())
+}
+
+// Puts the canonical octets that stand in the scratch behind the output, in a framing.
+fn put_framed(framing: Framing, number: u64, done: &mut Dealings) -> Result<(), AllocError>
+    requires { 0 < length done.old.scratch.items }
+    ensures ok { OnOk result (Adds (Framed framing number done.old.scratch.items)
+        (done_of done.old) (done_of done.new)) }
+    ensures err { OnErr result (done_of done.new ≡ done_of done.old) }
+{
+    match put_frame(framing, done.scratch.as_slice(), &mut done.output) {
+        Ok(()) => Ok(()),
+        Err(PutFault::HasLf) => note_line(Line::HasLf { number }, done),
+        Err(PutFault::TooLong) => note_line(Line::CanonicalTooLong { number }, done),
+        Err(PutFault::Memory) => Err(AllocError),
+        Err(PutFault::Empty) => unreachable!(),
     }
 }
 
-// Converts a datagram of at most `FRAME_MAX` octets.
-fn convert_datagram<W: Output, N: Output>(
-    alloc: Global,
-    datagram: &[u8],
-    writer: &mut W,
-    notes: &mut N,
-) -> u8
-    requires { length datagram.now ≤ FRAME_MAX }
-    ensures known { result ≤ 3 }
-    ensures answer { result < 2 → Answers (Converted FRAME_MAX) (Some datagram.now) result
-        (W.taken writer.old) (W.taken writer.new) (N.taken notes.old) (N.taken notes.new) }
-    ensures front { WritesFront (Converted FRAME_MAX) (Some datagram.now)
-        (W.taken writer.old) (W.taken writer.new) }
-    ensures cause { W.failures writer.old < 2 ^ 63 → N.failures notes.old < 2 ^ 63 → result ≡ 2 →
-        (W.failures writer.old < W.failures writer.new)
-        ⊎ (N.failures notes.old < N.failures notes.new) }
-    ensures failed { N.failures notes.old < N.failures notes.new → result ≡ FAULT }
-{
-    let record = match first_decode(alloc, datagram) {
-        Ok(record) => record,
-        Err(FirstFault::Unsupported) => return note(notes, b"1 unsupported\n", REFUSED),
-        Err(FirstFault::Memory) => return note(notes, b"want of memory\n", NO_MEMORY),
-    };
-    match first_canon(alloc, &record) {
-        Ok(octets) => put(writer, notes, octets.as_slice()),
-        Err(AllocError) => note(notes, b"want of memory\n", NO_MEMORY),
+impl Convert {
+    // Puts the canonical octets of a record behind the output.
+    fn put_record(
+        &self,
+        number: u64,
+        view: &RecordView<'_>,
+        done: &mut Dealings,
+    ) -> Result<(), AllocError>
+        requires { (b : List ℕ) × IsShown b (shown view.now) }
+        ensures ok { OnOk result ((b : List ℕ) → IsShown b (shown view.now) →
+            Adds (Converts self.now.to number b) (done_of done.old) (done_of done.new)) }
+        ensures err { OnErr result (done_of done.new ≡ done_of done.old) }
+    {
+        let Some(framing) = self.to else {
+            return put_canonical(self.alloc, view, &mut done.output);
+        };
+        done.scratch.clear();
+        put_canonical(self.alloc, view, &mut done.scratch)?;
+        put_framed(framing, number, done)
     }
 }
 
-/// Writes the canonical octets of the one datagram that the reader has left, or a line that says
-/// why there are none, and answers the status.
-///
-/// A datagram above `FRAME_MAX` octets is told too long, and one that is no record unsupported. A
-/// device that fails is told on `notes` where that can still be written.
-pub fn convert<R: Input, W: Output, N: Output>(
-    alloc: Global,
-    reader: &mut R,
-    writer: &mut W,
-    notes: &mut N,
-) -> u8
-    ensures known { result ≤ 3 }
-    ensures answer { result < 2 → Answers (Converted FRAME_MAX) (R.left reader.old) result
-        (W.taken writer.old) (W.taken writer.new) (N.taken notes.old) (N.taken notes.new) }
-    ensures front { WritesFront (Converted FRAME_MAX) (R.left reader.old)
-        (W.taken writer.old) (W.taken writer.new) }
-    ensures cause { AreSmall (R.calls reader.old) (R.failures reader.old) →
-        W.failures writer.old < 2 ^ 63 → N.failures notes.old < 2 ^ 63 → result ≡ FAULT →
-        (R.failures reader.old < R.failures reader.new)
-        ⊎ (W.failures writer.old < W.failures writer.new)
-        ⊎ (N.failures notes.old < N.failures notes.new)
-        ⊎ ((R.calls reader.new ≡ R.calls reader.old + READER_CALLS)
-        × (R.ends reader.new ≡ R.ends reader.old)) }
-    ensures failed { N.failures notes.old < N.failures notes.new → result ≡ FAULT }
-{
-    let datagram = match read_all(alloc, reader, FRAME_MAX + 1) {
-        Ok(datagram) => datagram,
-        Err(ReadAllFault::Device) => return note(notes, b"read fault\n", FAULT),
-        Err(ReadAllFault::Endless) => return note(notes, b"endless input\n", FAULT),
-        Err(ReadAllFault::Memory) => return note(notes, b"want of memory\n", NO_MEMORY),
-    };
-    if datagram.len() > FRAME_MAX {
-        return note(notes, b"1 too-long\n", REFUSED);
+impl Dealer for Convert {
+    ghost use Rattle.std.proofs.Common.{inl, refl};
+    ghost use Rattle.syslogbox.specs.Converted.{convert_deals, noted_line};
+
+    ghost deals = { λ c. convert_deals c.to };
+
+    ghost tells = { λ _. noted_line };
+
+    fn deal(&self, number: u64, frame: &[u8], done: &mut Dealings) -> Result<(), AllocError> {
+        if frame.len() > FRAME_MAX {
+            return note_line(Line::TooLong { number }, done);
+        }
+        match view(frame) {
+            Ok(view) => self.put_record(number, &view, done),
+            Err(fault) => note_line(Line::Refused { number, fault }, done),
+        }
     }
-    convert_datagram(alloc, datagram.as_slice(), writer, notes)
+
+    fn tell(&self, line: Line, done: &mut Dealings) -> Result<(), AllocError> {
+        note_line(line, done)
+    }
+
+    ghost long = { λ d n f h. inl (h, refl) };
 }

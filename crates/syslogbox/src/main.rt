@@ -7,13 +7,14 @@ mod dealer;
 mod dealings;
 mod disk;
 mod files;
-mod first;
 mod line;
 mod memory;
 mod notes;
+mod record_lines;
 mod request;
 mod run;
 mod scan;
+mod show;
 mod status;
 mod stream;
 #[cfg(test)]

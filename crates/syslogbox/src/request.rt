@@ -16,6 +16,11 @@ pub enum Carrier {
 pub enum Request {
     /// `check`: one line a frame.
     Check { carrier: Carrier },
-    /// `convert`: one datagram on standard input, its canonical octets on standard output.
-    Convert,
+    /// `show`: the fields of each record, a line each.
+    Show { carrier: Carrier },
+    /// `convert`: the canonical octets of each record, in a framing or, where there is none, bare.
+    Convert {
+        carrier: Carrier,
+        to: Option<Framing>,
+    },
 }

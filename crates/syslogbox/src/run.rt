@@ -1,24 +1,25 @@
 //! The program over any devices and files.
 
-ghost use Rattle.std.specs.Prelude.{◌≡◌, ◌≢◌, ◌≤◌, ◌<◌, ◌+◌, ◌^◌, ◌⊎◌, Some, None, map, string_bytes};
+ghost use Rattle.std.specs.Prelude.{◌≡◌, ◌≢◌, ◌≤◌, ◌<◌, ◌+◌, ◌^◌, ◌⊎◌, Option, Some, None, map, string_bytes};
 ghost use Rattle.syslog_value.specs.Device.{AreSmall};
-ghost use Rattle.syslogbox.specs.Converted.{Converted};
-ghost use Rattle.syslogbox.specs.Ran.{Answers, WritesFront};
 ghost use Rattle.syslogbox.specs.Checked.{check_deals, refused_line};
+ghost use Rattle.syslogbox.specs.Converted.{convert_deals, noted_line};
 ghost use Rattle.syslogbox.specs.Requests.{parsed};
-ghost use Rattle.syslogbox.specs.Streams.{AnswersWith, InputDone};
+ghost use Rattle.syslogbox.specs.Showing.{show_deals};
+ghost use Rattle.syslogbox.specs.Streams.{AnswersWith, InputDone, WritesFrontOf};
+ghost use Rattle.syslog_frame.specs.declared.framing.Framing.{Framing};
 ghost use Rattle.syslogbox.specs.declared.request.Carrier.{Carrier};
 
 use crate::check::Check;
-use crate::convert::convert;
+use crate::convert::Convert;
 use crate::files::Files;
 use crate::notes::note;
 use crate::request::Request;
 use crate::scan::scan_input;
+use crate::show::Show;
 use crate::status::{FAULT, NO_MEMORY};
 use crate::words::{WordsFault, read_words};
 use std::alloc::Global;
-use syslog_frame::FRAME_MAX;
 use syslog_value::{Input, Output, READER_CALLS};
 
 /// Does what the words ask for and answers the exit status: 0 done, 1 something was refused, 2 the
@@ -36,9 +37,11 @@ pub fn run<R: Input, W: Output, N: Output, F: Files>(
 ) -> u8
     ensures known { result ≤ 3 }
 
-    // `convert` without a fault of a device and with the memory that it asked for
-    ensures converted { parsed (map string_bytes words.now) ≡ Some Request.Convert → result < 2 →
-        Answers (Converted FRAME_MAX) (R.left reader.old) result
+    // `convert` without a fault of a device and with the memory that it asked for: the canonical
+    // octets of each record in the order of the frames, in the framing that was asked for
+    ensures converted { (carrier : Carrier) (to : Option Framing)
+        → parsed (map string_bytes words.now) ≡ Some (Request.Convert carrier to) → result < 2 →
+        AnswersWith (InputDone (convert_deals to) noted_line carrier) (R.left reader.old) result
         (W.taken writer.old) (W.taken writer.new) (N.taken notes.old) (N.taken notes.new) }
 
     // `check` the same: one line a frame, and one on how a stream stops
@@ -47,9 +50,17 @@ pub fn run<R: Input, W: Output, N: Output, F: Files>(
         AnswersWith (InputDone check_deals refused_line carrier) (R.left reader.old) result
         (W.taken writer.old) (W.taken writer.new) (N.taken notes.old) (N.taken notes.new) }
 
+    // `show` the same: the fields of each record, a line each
+    ensures shown { (carrier : Carrier)
+        → parsed (map string_bytes words.now) ≡ Some (Request.Show carrier) → result < 2 →
+        AnswersWith (InputDone show_deals noted_line carrier) (R.left reader.old) result
+        (W.taken writer.old) (W.taken writer.new) (N.taken notes.old) (N.taken notes.new) }
+
     // under every status a front of the right output of `convert` was written
-    ensures front { parsed (map string_bytes words.now) ≡ Some Request.Convert →
-        WritesFront (Converted FRAME_MAX) (R.left reader.old) (W.taken writer.old) (W.taken writer.new) }
+    ensures front { (carrier : Carrier) (to : Option Framing)
+        → parsed (map string_bytes words.now) ≡ Some (Request.Convert carrier to) →
+        WritesFrontOf (InputDone (convert_deals to) noted_line carrier) (R.left reader.old)
+        (W.taken writer.old) (W.taken writer.new) }
 
     // 2 is told with its cause alone
     ensures cause { parsed (map string_bytes words.now) ≢ None →
@@ -70,7 +81,13 @@ pub fn run<R: Input, W: Output, N: Output, F: Files>(
         Ok(Request::Check { carrier }) => {
             scan_input(alloc, carrier, &Check, reader, writer, notes)
         }
-        Ok(Request::Convert) => convert(alloc, reader, writer, notes),
+        Ok(Request::Show { carrier }) => {
+            scan_input(alloc, carrier, &Show { alloc }, reader, writer, notes)
+        }
+        Ok(Request::Convert { carrier, to }) => {
+            let dealer = Convert { alloc, to };
+            scan_input(alloc, carrier, &dealer, reader, writer, notes)
+        }
         Err(WordsFault::Usage(text)) => note(notes, text.as_bytes(), FAULT),
         Err(WordsFault::Memory) => note(notes, b"want of memory\n", NO_MEMORY),
     }

@@ -5,8 +5,9 @@ ghost use Rattle.clap.specs.Walk.{first_of};
 ghost use Rattle.clap.specs.Words.{app_of, found_of, rows_of, rule_of, subcommand_rows_of};
 ghost use Rattle.clap.specs.Simple.{with_rule, with_subcommand};
 ghost use Rattle.clap.specs.declared.builder.command.Command.TheViews.{out-Command as fields_of};
-ghost use Rattle.syslogbox.specs.Line.{default_rule, empty_app, input_app, line_app};
-ghost use Rattle.syslogbox.specs.Requests.{IsUsage, carrier_in, carrier_of, framing_of, parsed, read_check, read_of};
+ghost use Rattle.syslogbox.specs.Line.{convert_app, default_rule, empty_app, input_app, line_app, option_rule};
+ghost use Rattle.syslogbox.specs.Requests.{IsUsage, carrier_in, carrier_of, framing_of, own_framing, parsed};
+ghost use Rattle.syslogbox.specs.Requests.{read_check, read_convert, read_of, read_show, to_of};
 
 use crate::request::{Carrier, Request};
 use clap::error::ErrorKind;
@@ -33,6 +34,14 @@ impl From<AllocError> for WordsFault {
     fn from(_: AllocError) -> WordsFault {
         WordsFault::Memory
     }
+}
+
+// An option that takes a value.
+fn option<'a>(alloc: Global, id: &'a str) -> Arg<'a>
+    ensures rule { rule_of result ≡ option_rule id.entry.now }
+    ensures local { result.global ≡ false }
+{
+    Arg::new(alloc, id).long(id)
 }
 
 // An option with a value where it is not given.
@@ -65,6 +74,14 @@ fn input_command<'a>(alloc: Global, name: &'a str) -> Result<Command<'a>, AllocE
     )
 }
 
+// The command that reads records and writes them.
+fn convert_command<'a>(alloc: Global) -> Result<Command<'a>, AllocError>
+    ensures app { IfOk result (λ c. app_of c ≡ convert_app) }
+    ensures local { IfOk result (λ c. (fields_of c).has_globals ≡ false) }
+{
+    with_arg(input_command(alloc, "convert")?, option(alloc, "to"))
+}
+
 // The line with no subcommand yet.
 fn empty_line<'a>(alloc: Global) -> Command<'a>
     ensures { app_of result ≡ empty_app }
@@ -86,8 +103,9 @@ fn with_command<'a>(line: Command<'a>, command: Command<'a>) -> Result<Command<'
 fn whole_line<'a>(alloc: Global) -> Result<Command<'a>, AllocError>
     ensures { IfOk result (λ c. app_of c ≡ line_app) }
 {
-    let line = with_command(empty_line(alloc), input_command(alloc, "check")?)?;
-    with_command(line, Command::new(alloc, "convert"))
+    let line = with_command(empty_line(alloc), input_command(alloc, "show")?)?;
+    let line = with_command(line, input_command(alloc, "check")?)?;
+    with_command(line, convert_command(alloc)?)
 }
 
 fn value<'a>(matches: &ArgMatches<'a>, id: &str) -> Option<&'a str>
@@ -129,13 +147,49 @@ fn read_check_words(matches: &ArgMatches<'_>) -> Option<Request>
     Some(Request::Check { carrier })
 }
 
+// The framing in which records come.
+fn own_framing(carrier: Carrier) -> Option<Framing>
+    ensures { result ≡ own_framing carrier }
+{
+    match carrier {
+        Carrier::Datagram => None,
+        Carrier::Stream(framing) => Some(framing),
+    }
+}
+
+// The framing of what goes out, where the value of `--to` names one or is not given.
+fn to(carrier: Carrier, name: Option<&str>) -> Option<Option<Framing>>
+    ensures { result ≡ to_of carrier (option_map (λ s. s.now) name.entry) }
+{
+    match name {
+        None => Some(own_framing(carrier)),
+        Some(name) => Some(Some(framing(name)?)),
+    }
+}
+
+fn read_convert_words(matches: &ArgMatches<'_>) -> Option<Request>
+    ensures { result ≡ read_convert (rows_of (found_of matches.now)) }
+{
+    let carrier = carrier_of_matches(matches)?;
+    let to = to(carrier, value(matches, "to"))?;
+    Some(Request::Convert { carrier, to })
+}
+
+fn read_show_words(matches: &ArgMatches<'_>) -> Option<Request>
+    ensures { result ≡ read_show (rows_of (found_of matches.now)) }
+{
+    let carrier = carrier_of_matches(matches)?;
+    Some(Request::Show { carrier })
+}
+
 fn asked_for(matches: &ArgMatches<'_>) -> Option<Request>
     ensures { result ≡ option_and_then read_of (subcommand_rows_of matches.now) }
 {
     let (name, inner) = matches.subcommand()?;
     match name {
         "check" => read_check_words(inner),
-        "convert" => Some(Request::Convert),
+        "convert" => read_convert_words(inner),
+        "show" => read_show_words(inner),
         _ => None,
     }
 }
@@ -150,7 +204,7 @@ fn refused(alloc: Global, error: &clap::Error) -> WordsFault {
 
 // A value that `clap` takes and this program does not.
 fn unknown(alloc: Global) -> WordsFault {
-    match String::from_str(alloc, "error: a framing is datagram, counted or lf\n") {
+    match String::from_str(alloc, "error: --framing is datagram, counted or lf, and --to is counted or lf\n") {
         Ok(text) => WordsFault::Usage(text),
         Err(_) => WordsFault::Memory,
     }

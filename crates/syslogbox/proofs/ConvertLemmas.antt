@@ -1,0 +1,73 @@
+-- What `convert` puts out.
+use Rattle.std.proofs.Common.{◌≡◌, ◌≢◌, ℕ, ℤ, ◌+◌, ◌<◌, ◌≤◌, List, [], ◌∷◌, ◌++◌, length, Option, None, Some, refl, sym, ap, subst, ◌∙◌, arith, inl, inr}
+use Rattle.octet_language.specs.Language.{Language}
+use Rattle.syslog_frame.specs.Frames.{CanCarry, IsLine, framed}
+use Rattle.syslog_frame.specs.Put.{IsFit, IsPutFault}
+use Rattle.syslog_frame.specs.declared.fault.PutFault.{PutFault}
+use Rattle.syslog_frame.specs.declared.fault.PutFault.TheVariants.{HasLf as NotLine, TooLong as Long}
+use Rattle.syslog_frame.specs.declared.framing.Framing.{Framing}
+use Rattle.syslog_frame.specs.declared.framing.Framing.TheVariants.{Counted, Lf}
+use Rattle.syslog_frame.specs.declared.limits.TheConstants.{FRAME_MAX}
+use Rattle.syslog_value.specs.Parts.{Parts}
+use Rattle.syslog_grammar.specs.Canonical.{Canonical, HeaderForm, front_form}
+use Rattle.syslog_grammar.specs.Faults.{FaultOf}
+use Rattle.syslog_grammar.specs.WellFormed.{AddsCanonical, WellFormed}
+use Rattle.syslogbox.specs.Converted.{Carries, Converts, Framed, GoesOut, goes_out, noted_line}
+use Rattle.syslogbox.specs.declared.line.Line.TheVariants.{CanonicalTooLong, HasLf}
+use Rattle.syslogbox.specs.Dealings.{Adds}
+use Rattle.syslogbox.specs.Dealt.{Done, then_done}
+use Rattle.std.specs.Prelude.{Result, Ok, Err, OnOk}
+use Rattle.syslogbox.proofs.DealtLemmas.{adds_output, same_done}
+
+pub carries : (kind : Framing) (octets : List ℕ) → CanCarry kind octets → Carries kind octets
+carries Counted octets h = tt
+carries Lf octets h = h
+
+pub fit_carries : (kind : Framing) (octets : List ℕ) → IsFit kind octets → Carries kind octets
+fit_carries Counted octets h = tt
+fit_carries Lf octets h = h
+
+pub no_line : (kind : Framing) (octets : List ℕ) → kind ≡ Lf → ¬ (IsLine octets) → ¬ (Carries kind octets)
+no_line Counted octets e h = absurd cc
+no_line Lf octets e h = h
+
+-- bare octets behind the output
+pub bare : (n : ℕ) (b : List ℕ) (old new : Done) → AddsCanonical b old.output new.output → new.refused ≡ old.refused → new.notes ≡ old.notes → Adds (Converts None n b) old new
+bare n b old new (r, h, (c, k, e)) same notes = (goes_out c, (r, h, c, k, refl), adds_output old new c same e notes)
+
+-- the canonical octets in the scratch went out as a frame
+pub in_frame : (kind : Framing) (n : ℕ) (b c : List ℕ) (old mid new : Done) → AddsCanonical b [] c → mid ≡ old → Adds (Framed kind n c) mid new → Adds (Converts (Some kind) n b) old new
+in_frame kind n b c old mid new (r, h, (text, k, e)) same (d, out, whole) =
+    (d, (r, h, c, subst (Canonical r) (sym e) k, out), whole ∙ ap (λ (x : Done). then_done x d) same)
+
+-- octets went out as one frame
+pub out_framed : (kind : Framing) (n : ℕ) (c s : List ℕ) (old new : Done) → s ≡ c → CanCarry kind s → length s ≤ FRAME_MAX → new.output ≡ old.output ++ framed kind s → new.refused ≡ old.refused → new.notes ≡ old.notes
+    → Adds (Framed kind n c) old new
+out_framed kind n c s old new same can few e r o =
+    (goes_out (framed kind c), inl (carries kind c (subst (CanCarry kind) same can), subst (λ (x : List ℕ). length x ≤ FRAME_MAX) same few, refl), adds_output old new (framed kind c) r (e ∙ ap (λ (x : List ℕ). old.output ++ framed kind x) same) o)
+
+pub out_line : (kind : Framing) (n : ℕ) (c s : List ℕ) (fault : PutFault) (old new : Done) → s ≡ c → fault ≡ NotLine → IsPutFault FRAME_MAX kind s fault → new ≡ then_done old (noted_line (HasLf n)) → Adds (Framed kind n c) old new
+out_line kind n c s fault old new same is h e =
+    let told : (kind ≡ Lf) × ¬ (IsLine s) = rw is at h in
+    (noted_line (HasLf n), inr (inl (no_line kind c told.0 (λ l. told.1 (subst IsLine (sym same) l)), refl)), e)
+
+pub out_long : (kind : Framing) (n : ℕ) (c s : List ℕ) (fault : PutFault) (old new : Done) → s ≡ c → fault ≡ Long → IsPutFault FRAME_MAX kind s fault → new ≡ then_done old (noted_line (CanonicalTooLong n)) → Adds (Framed kind n c) old new
+out_long kind n c s fault old new same is h e =
+    let told : IsFit kind s × (FRAME_MAX < length s) = rw is at h in
+    (noted_line (CanonicalTooLong n), inr (inr (fit_carries kind c (subst (IsFit kind) same told.0), subst (λ (x : List ℕ). FRAME_MAX < length x) same told.1, refl)), e)
+
+-- canonical octets begin with an angle bracket
+pub some_octets : (b c : List ℕ) → AddsCanonical b [] c → 0 < length c
+unfolding HeaderForm
+some_octets b c (r, h, (text, (x, y, e, (front, behind, f, g, w), t), whole)) =
+    let all : c ≡ (front_form r.priority ++ behind) ++ y = whole ∙ e ∙ ap (λ (s : List ℕ). s ++ y) (f ∙ ap (λ (s : List ℕ). s ++ behind) g) in
+    rw all (omega arith)
+
+-- what is added behind what was done, which stands elsewhere
+pub adds_behind : (D : Done → Type 0) (old mid new : Done) → mid.refused ≡ old.refused → mid.output ≡ old.output → mid.notes ≡ old.notes → Adds D mid new → Adds D old new
+adds_behind D old mid new r o n (d, h, e) = (d, h, e ∙ ap (λ (x : Done). then_done x d) (same_done mid.refused old.refused mid.output old.output mid.notes old.notes r o n))
+
+-- what holds of each octet text at Ok holds at Ok of each
+pub at_ok : {X E : Type 0} (r : Result X E) (P Q : List ℕ → Type 0) → ((b : List ℕ) → P b → OnOk r (Q b)) → OnOk r ((b : List ℕ) → P b → Q b)
+at_ok (Ok x) P Q h = h
+at_ok (Err e) P Q h = tt

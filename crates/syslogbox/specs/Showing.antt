@@ -1,0 +1,81 @@
+-- The lines that `show` prints of a record.
+use Rattle.std.specs.Prelude.{◌≡◌, ◌≤◌, ◌<◌, ◌+◌, ℕ, ℤ, List, [], ◌∷◌, ◌++◌, ◌⊎◌, length, codes, decimal, Bool, false, ◌&&◌, ◌||◌, ◌==◌, ◌/◌, ◌%◌, nat_le, nat_lt, if◌then◌else◌, Option, Some, None, not}
+use Rattle.std.specs.List.{flat_map}
+use Rattle.octet_language.specs.Language.{Language, Only, ◌⋅◌}
+use Rattle.syslog_frame.specs.declared.limits.TheConstants.{FRAME_MAX}
+use Rattle.syslog_value.specs.Facilities.{facility_code, facility_name}
+use Rattle.syslog_value.specs.Parts.{ElementParts, MessageParts, AnyOctets, Utf8Text, ParamParts, Parts}
+use Rattle.syslog_value.specs.Severities.{severity_code, severity_name}
+use Rattle.syslog_value.specs.declared.facility.Facility.{Facility}
+use Rattle.syslog_value.specs.declared.severity.Severity.{Severity}
+use Rattle.syslog_grammar.specs.Canonical.{TimeForm, word_form}
+use Rattle.syslog_grammar.specs.Faults.{FaultOf}
+use Rattle.syslog_grammar.specs.WellFormed.{WellFormed}
+use Rattle.syslog_grammar.specs.declared.fault.Fault.{Fault}
+use Rattle.syslogbox.specs.Converted.{goes_out, noted_line}
+use Rattle.syslogbox.specs.Dealt.{Deals}
+use Rattle.syslogbox.specs.declared.line.Line.TheVariants.{Refused, TooLong}
+
+-- a lower-case hexadecimal digit
+abbrev pub hex_digit : ℕ → ℕ
+hex_digit d = if nat_lt d 10 then 48 + d else 87 + d
+
+-- printable octets of ASCII and the space, but for the quotation mark and the backslash
+abbrev pub is_shown_bare : ℕ → Bool
+is_shown_bare x = nat_le 32 x && nat_le x 126 && not (x == 34) && not (x == 92)
+
+-- such an octet as itself, every other as `\x` and two hexadecimal digits
+abbrev pub octet_shown : ℕ → List ℕ
+octet_shown x = if is_shown_bare x then x ∷ [] else 92 ∷ 120 ∷ hex_digit (x / 16) ∷ hex_digit (x % 16) ∷ []
+
+abbrev pub octets_shown : List ℕ → List ℕ
+octets_shown octets = flat_map octet_shown octets
+
+-- a name, a space, a text and a line feed
+abbrev pub line_of : List ℕ → List ℕ → List ℕ
+line_of name text = name ++ 32 ∷ text ++ 10 ∷ []
+
+-- a name, a space, shown octets between quotation marks and a line feed
+abbrev pub quoted_line : List ℕ → List ℕ → List ℕ
+quoted_line name octets = name ++ 32 ∷ 34 ∷ octets_shown octets ++ 34 ∷ 10 ∷ []
+
+abbrev pub param_lines : ParamParts → List ℕ
+param_lines p = quoted_line (codes "param " ++ p.name) p.value
+
+abbrev pub element_lines : ElementParts → List ℕ
+element_lines e = line_of (codes "element") e.id ++ flat_map param_lines e.params
+
+abbrev pub message_line : MessageParts → List ℕ
+message_line (AnyOctets octets) = quoted_line (codes "message any") octets
+message_line (Utf8Text text) = quoted_line (codes "message utf8") text
+
+-- the number of the record
+abbrev pub number_line : ℕ → List ℕ
+number_line n = line_of (codes "record") (decimal n)
+
+-- PRIVAL with the names of the facility and the severity that it is made of
+abbrev pub PriorityLine : ℕ → Language
+PriorityLine v b = (f : Facility) × (s : Severity) × (v ≡ facility_code f * 8 + severity_code s)
+    × (b ≡ line_of (codes "priority") (decimal v ++ 32 ∷ facility_name f ++ 32 ∷ severity_name s))
+
+-- the canonical timestamp
+abbrev pub TimeLine : Option ℤ → Language
+TimeLine time b = (t : List ℕ) × TimeForm time t × (b ≡ line_of (codes "time") t)
+
+abbrev pub word_lines : Parts ℤ → List ℕ
+word_lines r =
+    line_of (codes "host") (word_form r.hostname) ++ line_of (codes "app") (word_form r.app_name)
+    ++ line_of (codes "proc") (word_form r.proc_id) ++ line_of (codes "msgid") (word_form r.msg_id)
+
+-- all lines of a record, which has this number
+abbrev pub RecordLines : ℕ → Parts ℤ → Language
+RecordLines n r =
+    Only (number_line n) ⋅ PriorityLine r.priority ⋅ TimeLine r.time ⋅ Only (word_lines r)
+    ⋅ Only (flat_map element_lines r.elements) ⋅ Only (message_line r.message)
+
+-- a frame is too long, or a record that is shown, or no record for this fault
+abbrev pub show_deals : Deals
+show_deals n f d =
+    ((FRAME_MAX < length f) × (d ≡ noted_line (TooLong n)))
+    ⊎ (((length f ≤ FRAME_MAX) × (r : Parts ℤ) × WellFormed r f × (b : List ℕ) × RecordLines n r b × (d ≡ goes_out b))
+    ⊎ ((length f ≤ FRAME_MAX) × (fault : Fault) × FaultOf f fault × (d ≡ noted_line (Refused n fault))))

@@ -1,0 +1,49 @@
+//! `show`: the fields of each record, a line each.
+
+ghost use Rattle.std.specs.Prelude.{◌≡◌, List, ℕ, OnErr, OnOk};
+ghost use Rattle.syslogbox.specs.Dealings.{done_of};
+
+use crate::convert::note_line;
+use crate::dealer::Dealer;
+use crate::dealings::Dealings;
+use crate::line::Line;
+use crate::record_lines::put_record_lines;
+use std::alloc::{AllocError, Global};
+use syslog_frame::FRAME_MAX;
+use syslog_grammar::view;
+
+/// Writes the fields of each record, and notes why a frame is none.
+#[derive(Clone, Copy, Debug)]
+pub struct Show {
+    /// Where a record finds room.
+    pub alloc: Global,
+}
+
+impl Dealer for Show {
+    ghost use Rattle.std.proofs.Common.{inl, refl};
+    ghost use Rattle.syslogbox.specs.Converted.{noted_line};
+    ghost use Rattle.syslogbox.specs.Showing.{show_deals};
+
+    ghost deals = { λ _. show_deals };
+
+    ghost tells = { λ _. noted_line };
+
+    fn deal(&self, number: u64, frame: &[u8], done: &mut Dealings) -> Result<(), AllocError> {
+        if frame.len() > FRAME_MAX {
+            return note_line(Line::TooLong { number }, done);
+        }
+        match view(frame) {
+            Ok(view) => {
+                let record = view.to_record(self.alloc)?;
+                put_record_lines(number, &record, &mut done.output)
+            }
+            Err(fault) => note_line(Line::Refused { number, fault }, done),
+        }
+    }
+
+    fn tell(&self, line: Line, done: &mut Dealings) -> Result<(), AllocError> {
+        note_line(line, done)
+    }
+
+    ghost long = { λ d n f h. inl (h, refl) };
+}
