@@ -32,3 +32,4 @@ pub mod RecordsOf
 pub mod OneMeaning
 pub mod Laws
 pub mod CanonicalSpelled
+pub mod Excluded
