@@ -1,9 +1,11 @@
 -- Octets with a fault are no record.
 use Rattle.std.proofs.Common.{◌≡◌, ℕ, List, [], ◌∷◌, ◌++◌, refl, sym, subst, ◌∙◌, inl, inr}
 use Rattle.std.specs.Prelude.{ℤ, Option, Some, None, IfSome, option_map}
+use Rattle.octet_language.specs.Language.{AnyOf}
 use Rattle.syslog_value.specs.Parts.{Parts, ElementParts, IsInstant}
 use Rattle.syslog_value.specs.Structured.{HasId}
 use Rattle.syslog_grammar.specs.Faults.{IsInRange, AreDistinct, FaultOf}
+use Rattle.syslog_grammar.specs.Spellings.{IsSyntaxFault}
 use Rattle.syslog_grammar.specs.Time.{CivilTime, instant}
 use Rattle.syslog_grammar.specs.WellFormed.{WellFormed}
 use Rattle.syslog_grammar.specs.declared.fault.Fault.{Fault}
@@ -46,3 +48,11 @@ fault_excludes b (InstantRange at) r (p, h, out, place) (s, k, in_range, distinc
 fault_excludes b (RepeatedId at) r (p, h, in_range, before, found, place) (s, k, in_range', distinct, m) =
     let same : before ++ found.element ∷ found.behind ≡ s.elements = sym found.parts ∙ (same_parts p s b h k).elements in
     not_distinct before found.element found.behind found.same (subst AreDistinct (sym same) distinct)
+
+pub no_record : (b : List ℕ) (f : Fault) → FaultOf b f → ¬ (AnyOf WellFormed b)
+no_record b f h (r, w) = fault_excludes b f r h w
+
+pub no_syntax : (b : List ℕ) (f : Fault) → IsSyntaxFault b f → ¬ (AnyOf WellFormed b)
+no_syntax b (Syntax f at) h w = no_record b (Syntax f at) h w
+no_syntax b (InstantRange at) h w = h
+no_syntax b (RepeatedId at) h w = h
