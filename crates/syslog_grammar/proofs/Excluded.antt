@@ -4,7 +4,7 @@ use Rattle.std.specs.Prelude.{ℤ, Option, Some, None, IfSome, option_map}
 use Rattle.octet_language.specs.Language.{AnyOf}
 use Rattle.syslog_value.specs.Parts.{Parts, ElementParts, IsInstant}
 use Rattle.syslog_value.specs.Structured.{HasId}
-use Rattle.syslog_grammar.specs.Faults.{IsInRange, AreDistinct, FaultOf}
+use Rattle.syslog_grammar.specs.Faults.{AreDistinct, FaultOf}
 use Rattle.syslog_grammar.specs.Spellings.{IsSyntaxFault}
 use Rattle.syslog_grammar.specs.Time.{CivilTime, instant}
 use Rattle.syslog_grammar.specs.WellFormed.{WellFormed}

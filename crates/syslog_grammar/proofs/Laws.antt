@@ -1,5 +1,5 @@
 -- One text is at most one record.
-use Rattle.std.proofs.Common.{◌≡◌, ℕ, List, refl, sym, ap, subst, ◌∙◌, arith}
+use Rattle.std.proofs.Common.{◌≡◌, ℕ, List, refl, sym, subst, ◌∙◌, arith}
 use Rattle.std.specs.Prelude.{ℤ, Option, option_map}
 use Rattle.std.specs.List.Sorted.{IsPermutation}
 use Rattle.octet_language.specs.Language.{Language, AnyOf}

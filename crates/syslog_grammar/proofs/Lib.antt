@@ -33,3 +33,4 @@ pub mod OneMeaning
 pub mod Laws
 pub mod CanonicalSpelled
 pub mod Excluded
+pub mod Bounded
