@@ -4,7 +4,7 @@ use Rattle.std.specs.Prelude.{Result, Ok, Err, IsErr}
 use Rattle.std.specs.List.{flat_map}
 use Rattle.std.proofs.lemmas.List.{append-nil, flat_map_more, take_all, take_at, take_more}
 use Rattle.octet_language.specs.Language.{Language, Only, ◌⋅◌}
-use Rattle.syslog_grammar.specs.Appending.{Anything, Adds, Puts, Appends}
+use Rattle.syslog_grammar.specs.Appending.{Anything, Adds, Puts}
 
 pub adds_then : (A B : Language) (old mid new : List ℕ) → Adds A old mid → Adds B mid new → Adds (A ⋅ B) old new
 adds_then A B old mid new (x, a, e) (y, b, f) = (x ++ y, (x, y, refl, a, b), f ∙ ap (λ (s : List ℕ). s ++ y) e ∙ append_assoc old x y)

@@ -1,18 +1,16 @@
 -- The canonical text of a record spells it.
-use Rattle.std.proofs.Common.{◌≡◌, ℕ, ◌≤◌, Bool, true, false, List, [], ◌∷◌, ◌++◌, refl, sym, ap, subst, ◌∙◌, append_assoc, arith, inl, inr}
+use Rattle.std.proofs.Common.{◌≡◌, ℕ, ◌≤◌, true, List, [], ◌∷◌, ◌++◌, refl, sym, ap, subst, ◌∙◌, append_assoc, arith, inl, inr}
 use Rattle.std.specs.Prelude.{◌↔◌, if◌then◌else◌, ℤ, pos, Option, Some, None, IfSome, option_map, decimal, IsUtf8}
 use Rattle.std.specs.List.{AllByRecursion, flat_map}
 use Rattle.std.proofs.lemmas.Grind.{flat_map-append}
 use Rattle.std.proofs.lemmas.List.Sorted.{IsPermutation-refl}
 use Rattle.octet_language.specs.Language.{Language, Only, ◌⋅◌, Each}
-use Rattle.octet_language.proofs.Lists.{one_more}
 use Rattle.syslog_value.proofs.CivilTimes.{civil-injective}
-use Rattle.syslog_value.specs.Instants.{IsCivil, instant_of}
+use Rattle.syslog_value.specs.Instants.{IsCivil}
 use Rattle.syslog_value.specs.Parts.{ParamParts, ElementParts, MessageParts, AnyOctets, Utf8Text, Parts, IsWord, IsParam, IsElement, IsMessage, IsInstant, IsRecord, mark}
 use Rattle.syslog_value.specs.declared.civil.Civil.{Civil}
 use Rattle.syslog_grammar.specs.Canonical.{civil_text, TimeForm, front_form, word_form, needs_escape, escaped, param_form, element_form, data_form, tail_form, SpacedWord, HeaderForm, Canonical}
-use Rattle.syslog_grammar.specs.Faults.{IsInRange}
-use Rattle.syslog_grammar.specs.Grammar.{HeaderParts, Header, header_of, Priority, Version, Spaced, Nilable, Word, Param, Element, Data, Message, Tail, Spelled}
+use Rattle.syslog_grammar.specs.Grammar.{Header, Spaced, Nilable, Word, Param, Element, Data, Tail}
 use Rattle.syslog_grammar.specs.Time.{CivilTime, TimeText, Decimals, instant, padded}
 use Rattle.syslog_grammar.specs.Utf8.{Character, IsCharacter}
 use Rattle.syslog_grammar.specs.Values.{IsSpecial, Piece, Spells}
@@ -99,11 +97,11 @@ header_spelled r t time rest b k text e (x3, y3, e3, h3, (x4, y4, e4, h4, (x5, y
 
 -- ---- values
 
-bare : (c : List ℕ) → AllByRecursion (λ x. ¬ (needs_escape x ≡ true)) c → escaped c ≡ c
+pub bare : (c : List ℕ) → AllByRecursion (λ x. ¬ (needs_escape x ≡ true)) c → escaped c ≡ c
 bare [] h = refl
 bare (x ∷ c) h = kept x c h.0 ∙ ap (λ (s : List ℕ). x ∷ s) (bare c h.1)
 
-special : (x : ℕ) → IsSpecial x → escaped (x ∷ []) ≡ 92 ∷ x ∷ []
+pub special : (x : ℕ) → IsSpecial x → escaped (x ∷ []) ≡ 92 ∷ x ∷ []
 special x h = rw (special_test x h) refl
 
 piece : (c : List ℕ) → IsCharacter c → Piece c (escaped c)

@@ -1,5 +1,5 @@
 -- One text is at most one record.
-use Rattle.std.proofs.Common.{◌≡◌, ℕ, List, refl, sym, ap, subst, ◌∙◌, arith}
+use Rattle.std.proofs.Common.{◌≡◌, ℕ, List, refl, sym, subst, ◌∙◌, arith}
 use Rattle.std.specs.Prelude.{ℤ, Option, option_map}
 use Rattle.std.specs.List.Sorted.{IsPermutation}
 use Rattle.octet_language.specs.Language.{Language, AnyOf}
@@ -15,7 +15,7 @@ use Rattle.syslog_grammar.proofs.OneMeaning.{by_front, spaced, priority_same, ni
 use Rattle.syslog_grammar.proofs.Words.{OneFront-any_word}
 
 -- the fields of two headers mean the same
-record SameHeader (h g : HeaderParts) : Type 0 where
+pub record SameHeader (h g : HeaderParts) : Type 0 where
   pub priority : h.priority ≡ g.priority
   pub time : option_map instant h.time ≡ option_map instant g.time
   pub hostname : h.hostname ≡ g.hostname
@@ -67,10 +67,24 @@ meant p s r q same elements message m n =
     (one_order s.elements r.elements q.elements (subst (λ (es : List ElementParts). IsPermutation es r.elements) elements m.elements) n.elements m.by_id n.by_id)
     (m.message ∙ message ∙ sym n.message)
 
--- octets are one record at most
-pub one_meaning : (r q : Parts ℤ) (b : List ℕ) → WellFormed r b → WellFormed q b → r ≡ q
-one_meaning r q b (p, (x, y, e, h, (d, t, f, k, l)), in_range, distinct, m) (s, (u, v, g, i, (c, a, j, n, o)), in_range', distinct', w) =
+-- two parts that one text spells mean the same
+pub record SameParts (p s : Parts CivilTime) : Type 0 where
+  pub header : SameHeader (header_of p) (header_of s)
+  pub elements : p.elements ≡ s.elements
+  pub message : p.message ≡ s.message
+
+pub same_parts : (p s : Parts CivilTime) (b : List ℕ) → Spelled p b → Spelled s b → SameParts p s
+same_parts p s b (x, y, e, h, (d, t, f, k, l)) (u, v, g, i, (c, a, j, n, o)) =
     let headers = by_front (AnyOf Header) x y u v OneFront-header (header_of p, h) (header_of s, i) (sym e ∙ g) in
     let elements = data_same p.elements s.elements d t c a k n (tail_front p.message t l) (tail_front s.message a o) (sym f ∙ headers.1 ∙ j) in
-    let message = tail_same p.message s.message a (subst (λ (z : List ℕ). Tail p.message z) elements.1 l) o in
-    meant p s r q (header_same (header_of p) (header_of s) u (subst (Header (header_of p)) headers.0 h) i) elements.0 message m w
+    record {
+      header = header_same (header_of p) (header_of s) u (subst (Header (header_of p)) headers.0 h) i;
+      elements = elements.0;
+      message = tail_same p.message s.message a (subst (λ (z : List ℕ). Tail p.message z) elements.1 l) o;
+    }
+
+-- octets are one record at most
+pub one_meaning : (r q : Parts ℤ) (b : List ℕ) → WellFormed r b → WellFormed q b → r ≡ q
+one_meaning r q b (p, h, in_range, distinct, m) (s, k, in_range', distinct', w) =
+    let same = same_parts p s b h k in
+    meant p s r q same.header same.elements same.message m w

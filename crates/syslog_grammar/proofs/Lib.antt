@@ -32,3 +32,5 @@ pub mod RecordsOf
 pub mod OneMeaning
 pub mod Laws
 pub mod CanonicalSpelled
+pub mod Excluded
+pub mod Bounded

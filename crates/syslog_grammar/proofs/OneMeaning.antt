@@ -1,5 +1,5 @@
 -- One text has one meaning, part by part.
-use Rattle.std.proofs.Common.{◌≡◌, ◌≢◌, ℕ, ◌+◌, ◌-◌, ◌*◌, ◌/◌, ◌%◌, ◌≤◌, List, [], ◌∷◌, ◌++◌, length, take, refl, sym, ap, subst, ◌∙◌, append_assoc, arith, inl, inr, ◌⊎◌}
+use Rattle.std.proofs.Common.{◌≡◌, ◌≢◌, ℕ, ◌+◌, ◌-◌, ◌/◌, ◌%◌, ◌≤◌, List, [], ◌∷◌, ◌++◌, length, take, refl, sym, ap, subst, ◌∙◌, append_assoc, arith, inl, inr}
 use Rattle.std.specs.Prelude.{ℤ, pos, neg_ℤ, Option, Some, None, option_map, replicate}
 use Rattle.std.specs.Fmt.{decimal}
 use Rattle.std.proofs.lemmas.Fmt.{decimal_injective}
@@ -9,13 +9,12 @@ use Rattle.syslog_value.specs.Calendar.{month_length}
 use Rattle.octet_language.specs.Digits.{IsDigit, read_on}
 use Rattle.octet_language.specs.Language.{Language, Only, ◌⋅◌, AnyOf, Each, OneFront, IfFront}
 use Rattle.octet_language.proofs.Lists.{heads, tails, same_front}
-use Rattle.octet_language.proofs.Chain.{OneFront-only}
 use Rattle.syslog_value.specs.Parts.{ParamParts, ElementParts, MessageParts, AnyOctets, Utf8Text, mark}
-use Rattle.syslog_grammar.specs.Grammar.{Name, Nilable, Word, Spaced, Number, Priority, Version, Param, Element, Data, Message, Tail, HeaderParts, Header}
-use Rattle.syslog_grammar.specs.Time.{CivilTime, instant, padded, Two, OffsetText, ZoneText, FractionText, TimeText}
+use Rattle.syslog_grammar.specs.Grammar.{Nilable, Word, Spaced, Priority, Param, Element, Data, Message, Tail}
+use Rattle.syslog_grammar.specs.Time.{CivilTime, instant, padded, OffsetText, ZoneText, FractionText, TimeText}
 use Rattle.syslog_grammar.proofs.Ahead.{may_start, same_run}
 use Rattle.syslog_grammar.proofs.Classes.{Ends}
-use Rattle.syslog_grammar.proofs.Fractions.{AnyZone, IsSign, zone_front, zone_some, zone_starts}
+use Rattle.syslog_grammar.proofs.Fractions.{AnyZone, IsSign, zone_front, zone_starts}
 use Rattle.syslog_grammar.proofs.OwnedParts.{param_same, param_is, element_same, element_is}
 use Rattle.syslog_grammar.proofs.ParamTexts.{OneFront-param, OneFront-element, param_some, element_front}
 use Rattle.syslog_grammar.proofs.Times.{OneValue-year}
@@ -96,12 +95,12 @@ rest_same m n o p s (x, y, e, inr (a, b, f, i, (q0, q1, q2, q3)), h) (u, v, g, i
     (q3 ∙ ap (λ (t : List ℕ). read_on 0 (t ++ replicate (6 - length t) 48)) digits ∙ sym r3, zone_same o p v (subst (ZoneText o) zones h) l)
 
 -- a time by its fields of one width, and the rest of it
-record Fixed (t : CivilTime) (b : List ℕ) : Type 0 where
+pub record Fixed (t : CivilTime) (b : List ℕ) : Type 0 where
   pub rest : List ℕ
   pub is : b ≡ padded 4 t.civil.year ++ (45 ∷ padded 2 t.civil.month) ++ (45 ∷ padded 2 t.civil.day) ++ (84 ∷ padded 2 t.civil.hour) ++ (58 ∷ padded 2 t.civil.minute) ++ (58 ∷ padded 2 t.civil.second) ++ rest
   pub behind : (FractionText t.civil.micros ⋅ ZoneText t.offset) rest
 
-fixed : (t : CivilTime) (b : List ℕ) → TimeText t b → Fixed t b
+pub fixed : (t : CivilTime) (b : List ℕ) → TimeText t b → Fixed t b
 fixed t b (x, y, e, (a, c, f, (yl, ye), (d, g, h, i, (j, k, l, (ml, mh, me), (m, n, o, p, (dl, dh, de))))), (q, r, s, u, (v, w, z, (v1, w1, z1, (hl, hh, he), (v2, w2, z2, i2, (v3, w3, z3, (nl, nh, ne), (v4, w4, z4, i4, (sl, sh, se))))), behind))) =
     record { rest = w; is = e ∙ rw (f, ye, h, i, l, me, o, p, de, s, u, z, z1, he, z2, i2, z3, ne, z4, i4, se) refl; behind = behind }
 

@@ -1,7 +1,7 @@
 -- What was read of parameters and elements, as parts of their own.
-use Rattle.std.proofs.Common.{◌≡◌, ◌≢◌, ℕ, List, [], ◌∷◌, ◌++◌, length, refl, sym, ap, subst, ◌∙◌, append_assoc, arith, inl, inr, ◌⊎◌}
+use Rattle.std.proofs.Common.{◌≡◌, ◌≢◌, ℕ, List, [], ◌∷◌, ◌++◌, refl, sym, ap, subst, ◌∙◌, append_assoc, arith, inl, inr, ◌⊎◌}
 use Rattle.std.proofs.lemmas.List.{append-nil, append_cancel_left, append_cancel_right}
-use Rattle.octet_language.specs.Language.{Language, Only, AnyOf, Each, OneFront, IfFront}
+use Rattle.octet_language.specs.Language.{Language, AnyOf, Each, OneFront, IfFront}
 use Rattle.octet_language.specs.Reading.{Follows}
 use Rattle.octet_language.proofs.Lists.{heads, tails}
 use Rattle.syslog_value.specs.Parts.{ParamParts, ElementParts}

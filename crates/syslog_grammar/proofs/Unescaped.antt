@@ -1,6 +1,6 @@
 -- What a spelling of a value means, octet by octet.
 use Rattle.std.proofs.Common.{◌≡◌, ◌≢◌, ℕ, zero, suc, ◌<◌, ◌≤◌, Bool, true, false, List, [], ◌∷◌, ◌++◌, length, take, drop, get_or, refl, sym, ap, subst, ◌∙◌, append_assoc, arith, inl, inr, ◌⊎◌, eq-eqb}
-use Rattle.std.specs.Prelude.{◌&&◌, ◌==◌, if◌then◌else◌, Some, None}
+use Rattle.std.specs.Prelude.{◌&&◌, ◌==◌, Some, None}
 use Rattle.std.specs.List.{AllByRecursion, flat_map}
 use Rattle.std.proofs.lemmas.Bool.{cases_eq, eqb-true}
 use Rattle.std.proofs.lemmas.Bool.Decides.{nat_tests}
@@ -11,7 +11,7 @@ use Rattle.octet_language.proofs.Lists.{AllByRecursion-weaker}
 use Rattle.syslog_grammar.specs.Appending.{Adds}
 use Rattle.syslog_grammar.specs.Escapes.{MeansFirst}
 use Rattle.syslog_grammar.specs.Canonical.{needs_escape}
-use Rattle.syslog_grammar.specs.Utf8.{Range, Row, Octet, table, tail, InRow, IsCharacter}
+use Rattle.syslog_grammar.specs.Utf8.{Range, Row, Octet, table, InRow, IsCharacter}
 use Rattle.syslog_grammar.specs.Values.{IsSpecial, IsPlain, Piece, Spells}
 use Rattle.syslog_grammar.proofs.Characters.{character_some}
 use Rattle.syslog_grammar.proofs.Values.{no_special}

@@ -1,6 +1,6 @@
 //! Laws of records and their octets, each the contract of a function that does nothing.
 
-ghost use Rattle.std.specs.Prelude.{◌≡◌, ◌↔◌, ℤ, List, ℕ};
+ghost use Rattle.std.specs.Prelude.{◌≡◌, ◌↔◌, ◌+◌, ◌*◌, ◌≤◌, ℤ, List, ℕ, length};
 ghost use Rattle.syslog_value.specs.Parts.{IsRecord, Parts};
 ghost use Rattle.syslog_grammar.specs.Canonical.{Canonical};
 ghost use Rattle.syslog_grammar.specs.WellFormed.{WellFormed};
@@ -19,4 +19,11 @@ pub fn canonical_is_well_formed()
 pub fn canonical_is_injective()
     ensures { (r : Parts ℤ) (q : Parts ℤ) (b : List ℕ) (c : List ℕ) → IsRecord r → IsRecord q
         → Canonical r b → Canonical q c → (r ≡ q) ↔ (b ≡ c) }
+{}
+
+/// The canonical octets of a record are at most seven more than twice those of any octets that are
+/// the record: each backslash adds one octet at most, and a timestamp seven.
+pub fn canonical_is_bounded()
+    ensures { (r : Parts ℤ) (b : List ℕ) (c : List ℕ) (n : ℕ) → WellFormed r b → Canonical r c
+        → length b ≤ n → length c ≤ 2 * n + 7 }
 {}

@@ -38,7 +38,9 @@ pub use civil_text::canonical_timestamp;
 pub use decoding::{DecodeFault, decode};
 pub use element::{ElementView, ParamView};
 pub use fault::{Fault, Field};
-pub use law::{canonical_is_injective, canonical_is_well_formed, octets_are_one_record};
+pub use law::{
+    canonical_is_bounded, canonical_is_injective, canonical_is_well_formed, octets_are_one_record,
+};
 pub use parts::{Elements, Params};
 pub use record_view::RecordView;
 pub use same::same_value;

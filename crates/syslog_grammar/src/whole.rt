@@ -1,9 +1,11 @@
 //! The reading of a record from all of its octets.
 
-ghost use Rattle.std.specs.Prelude.{MatchResult};
+ghost use Rattle.std.specs.Prelude.{MatchResult, OnErr};
+ghost use Rattle.octet_language.specs.Language.{AnyOf};
 ghost use Rattle.syslog_grammar.specs.Faults.{FaultOf};
 ghost use Rattle.syslog_grammar.specs.Instants.{IsTimeOf};
 ghost use Rattle.syslog_grammar.specs.Shown.{IsShown, shown};
+ghost use Rattle.syslog_grammar.specs.WellFormed.{WellFormed};
 
 use crate::fault::Fault;
 use crate::record_view::RecordView;
@@ -28,12 +30,13 @@ fn micros_of(time: Option<Timestamp>) -> Result<Option<i64>, OutOfRange>
     }
 }
 
-/// Reads a record from all of the octets.
+/// Reads a record from all of the octets: a view exactly where they are a well-formed record.
 ///
 /// A fault of the syntax comes before an instant that is out of range, and that before an id that
 /// stands twice. It takes no memory.
 pub fn view(octets: &[u8]) -> Result<RecordView<'_>, Fault>
-    ensures { MatchResult result (λ v. IsShown octets.now (shown v)) (FaultOf octets.now) }
+    ensures whole { MatchResult result (λ v. IsShown octets.now (shown v)) (FaultOf octets.now) }
+    ensures none { OnErr result (¬ (AnyOf WellFormed octets.now)) }
 {
     let spelling = spelled(octets)?;
     let fields = spelling.fields;

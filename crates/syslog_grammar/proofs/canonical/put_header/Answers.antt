@@ -1,5 +1,5 @@
-use Rattle.std.proofs.Common.{◌∷◌, [], List, ℕ}
-use Rattle.std.specs.Prelude.{Option, option_map}
+use Rattle.std.proofs.Common.{◌∷◌, []}
+use Rattle.std.specs.Prelude.{option_map}
 use Rattle.octet_language.specs.Language.{Only, ◌⋅◌, Language}
 use Rattle.syslog_grammar.specs.Canonical.{HeaderForm, SpacedWord, TimeForm, front_form}
 use Rattle.syslog_grammar.proofs.Appends.{adds_then, puts_then}

@@ -1,4 +1,4 @@
-use Rattle.std.proofs.Common.{sym, subst, List, ◌∷◌, ◌++◌, []}
+use Rattle.std.proofs.Common.{subst, List, ◌∷◌, ◌++◌, []}
 use Rattle.std.specs.List.{flat_map}
 use Rattle.octet_language.specs.Language.{Only}
 use Rattle.syslog_value.specs.Parts.{ParamParts}

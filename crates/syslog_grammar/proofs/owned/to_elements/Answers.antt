@@ -1,5 +1,4 @@
-use Rattle.std.proofs.Common.{sym, subst, List}
-use Rattle.syslog_value.specs.Parts.{ElementParts}
+use Rattle.std.proofs.Common.{sym, subst}
 use Rattle.syslog_grammar.specs.Views.{element_span}
 use Rattle.syslog_grammar.proofs.OwnedParts.{ElementsRead, elements_all, elements_more, elements_dash, elements_end}
 use Rattle.syslog_grammar.proofs.owned.to_elements.Goals as goal

@@ -1,13 +1,29 @@
-use Rattle.std.proofs.Common.{refl}
+use Rattle.std.proofs.Common.{◌+◌, ◌-◌, length, refl}
+use Rattle.std.proofs.lemmas.Result.{err_from_is_err_and}
 use Rattle.syslog_grammar.specs.Fields.{header_parts}
+use Rattle.syslog_grammar.specs.declared.fault.Fault.TheVariants.{InstantRange, RepeatedId}
+use Rattle.syslog_grammar.proofs.Excluded.{no_record, no_syntax}
 use Rattle.syslog_grammar.proofs.Viewing.{parts_of, spelled_by, header_priority, out_of_range, in_range, shown_instant, repeated_id, valid_micros}
 use Rattle.syslog_grammar.proofs.whole.view.Goals as goal
 
+pub returns-in_err-spelling-clause-none : goal.returns-in_err-spelling-clause-none
+returns-in_err-spelling-clause-none c =
+    let p = err_from_is_err_and c.from_residual.result c.from_residual.ensures.1 in
+    rw p.1 (no_syntax c.args.octets.now c.in_err-spelling.field-0.0 c.in_err-spelling.ensures)
+
 pub returns-in-Err : goal.returns-in-Err
-returns-in-Err c = out_of_range c.args.octets.now c.in_ok-spelling.spelling c.in_ok-spelling.ensures c.in-Err.ensures
+returns-in-Err c =
+    let b = c.args.octets.now in
+    let s = c.in_ok-spelling.spelling in
+    let h = out_of_range b s c.in_ok-spelling.ensures c.in-Err.ensures in
+    record { whole = h; none = no_record b (InstantRange (length b - s.fields.time_left)) h }
 
 pub returns-in-Some : goal.returns-in-Some
-returns-in-Some c = repeated_id c.args.octets.now c.in_ok-spelling.spelling c.in-Ok.micros c.in-Some.place c.in_ok-spelling.ensures c.in-Ok.ensures.0 c.in-Ok.ensures.1 c.in-Some.ensures
+returns-in-Some c =
+    let b = c.args.octets.now in
+    let s = c.in_ok-spelling.spelling in
+    let h = repeated_id b s c.in-Ok.micros c.in-Some.place c.in_ok-spelling.ensures c.in-Ok.ensures.0 c.in-Ok.ensures.1 c.in-Some.ensures in
+    record { whole = h; none = no_record b (RepeatedId (length b - s.data_left + c.in-Some.place)) h }
 
 pub invariant_of-result : goal.invariant_of-result
 invariant_of-result c = record {
@@ -15,8 +31,8 @@ invariant_of-result c = record {
   micros_valid = valid_micros c.in-Ok.micros c.in-Ok.ensures.1;
 }
 
-pub returns : goal.returns
-returns c =
+pub returns-clause-whole : goal.returns-clause-whole
+returns-clause-whole c =
     let s = c.in_ok-spelling.spelling in
     let k = c.in_ok-spelling.ensures in
     let e = c.in_default.ensures in (
