@@ -4,14 +4,14 @@ use Rattle.std.specs.Prelude.{OnErr, OnOk, Result, Ok, Err}
 use Rattle.std.specs.List.{flat_map}
 use Rattle.std.specs.Io.KnownBytes.{Appends}
 use Rattle.std.proofs.KnownBytes.{Appends-trans}
-use Rattle.std.proofs.lemmas.List.{append-nil, length-take, take_all, take_at, take-append-drop}
+use Rattle.std.proofs.lemmas.List.{length-take, take_all, take_at, take-append-drop}
 use Rattle.octet_language.specs.Language.{Begins, IsPlace}
-use Rattle.syslog_frame.specs.Frames.{Frames, IsBadAt, Whole, framed}
+use Rattle.syslog_frame.specs.Frames.{Frames, Whole, framed}
 use Rattle.syslog_frame.specs.declared.framing.Framing.{Framing}
 use Rattle.syslog_frame.proofs.FrameLaws.{begun_frames, concatenation, unique_frames}
 use Rattle.syslogbox.specs.Dealings.{Adds}
 use Rattle.syslogbox.specs.Dealt.{Deals, DealtFrom, Done, HasOneOutput, nothing, then_done}
-use Rattle.syslogbox.specs.Streams.{AnswersWith, IsAnswered, IsBegun, StreamDone, TellsEnd, WritesFrontOf, status_of, written_out}
+use Rattle.syslogbox.specs.Streams.{AnswersWith, IsAnswered, IsBegun, StreamDone, TellsEnd, WritesFrontOf, status_of}
 use Rattle.syslogbox.specs.declared.line.Line.{Line}
 use Rattle.syslogbox.specs.declared.line.Line.TheVariants.{BadCount, Unterminated}
 use Rattle.syslogbox.proofs.DealtLemmas.{dealt_front, dealt_output}

@@ -1,5 +1,5 @@
 -- Why a stream was not dealt with to its end, and the status of that.
-use Rattle.std.proofs.Common.{◌≡◌, ℕ, ◌<◌, ◌^◌, Result, Ok, Err, inl, inr, ◌⊎◌, arith, refl, ap}
+use Rattle.std.proofs.Common.{◌≡◌, ℕ, ◌<◌, ◌^◌, Result, Ok, Err, inl, inr, ◌⊎◌, arith, refl}
 use Rattle.std.specs.Prelude.{IsErrOf, OnOk}
 use Rattle.syslogbox.specs.Scans.{IsCause}
 use Rattle.syslogbox.specs.declared.scan.Stopped.{Stopped}

@@ -1,6 +1,5 @@
 -- What `convert` puts out.
-use Rattle.std.proofs.Common.{◌≡◌, ◌≢◌, ℕ, ℤ, ◌+◌, ◌<◌, ◌≤◌, List, [], ◌∷◌, ◌++◌, length, Option, None, Some, refl, sym, ap, subst, ◌∙◌, arith, inl, inr}
-use Rattle.octet_language.specs.Language.{Language}
+use Rattle.std.proofs.Common.{◌≡◌, ℕ, ℤ, ◌<◌, ◌≤◌, List, [], ◌++◌, length, Option, None, Some, refl, sym, ap, subst, ◌∙◌, arith, inl, inr}
 use Rattle.syslog_frame.specs.Frames.{CanCarry, IsLine, framed}
 use Rattle.syslog_frame.specs.Put.{IsFit, IsPutFault}
 use Rattle.syslog_frame.specs.declared.fault.PutFault.{PutFault}
@@ -10,13 +9,18 @@ use Rattle.syslog_frame.specs.declared.framing.Framing.TheVariants.{Counted, Lf}
 use Rattle.syslog_frame.specs.declared.limits.TheConstants.{FRAME_MAX}
 use Rattle.syslog_value.specs.Parts.{Parts}
 use Rattle.syslog_grammar.specs.Canonical.{Canonical, HeaderForm, front_form}
-use Rattle.syslog_grammar.specs.Faults.{FaultOf}
-use Rattle.syslog_grammar.specs.WellFormed.{AddsCanonical, WellFormed}
-use Rattle.syslogbox.specs.Converted.{Carries, Converts, Framed, GoesOut, goes_out, noted_line}
+use Rattle.syslog_grammar.specs.WellFormed.{AddsCanonical}
+use Rattle.syslogbox.specs.Converted.{Carries, Converts, convert_deals, Framed, GoesOut, goes_out, noted_line}
+use Rattle.syslogbox.specs.declared.request.Carrier.{Carrier}
+use Rattle.syslogbox.specs.declared.request.Request.{Request}
+use Rattle.syslogbox.specs.declared.request.Request.TheVariants.{Check, Convert, Show}
 use Rattle.syslogbox.specs.declared.line.Line.TheVariants.{CanonicalTooLong, HasLf}
 use Rattle.syslogbox.specs.Dealings.{Adds}
-use Rattle.syslogbox.specs.Dealt.{Done, then_done}
+use Rattle.syslogbox.specs.Dealt.{Done, HasOneOutput, then_done}
 use Rattle.std.specs.Prelude.{Result, Ok, Err, OnOk}
+use Rattle.syslog_grammar.proofs.CanonicalSpelled.{canonical_once}
+use Rattle.syslog_grammar.proofs.Excluded.{fault_excludes}
+use Rattle.syslog_grammar.proofs.Laws.{one_meaning}
 use Rattle.syslogbox.proofs.DealtLemmas.{adds_output, same_done}
 
 pub carries : (kind : Framing) (octets : List ℕ) → CanCarry kind octets → Carries kind octets
@@ -71,3 +75,55 @@ adds_behind D old mid new r o n (d, h, e) = (d, h, e ∙ ap (λ (x : Done). then
 pub at_ok : {X E : Type 0} (r : Result X E) (P Q : List ℕ → Type 0) → ((b : List ℕ) → P b → OnOk r (Q b)) → OnOk r ((b : List ℕ) → P b → Q b)
 at_ok (Ok x) P Q h = h
 at_ok (Err e) P Q h = tt
+
+-- ---- a frame has one output
+
+framed_output : (kind : Framing) (n : ℕ) (octets : List ℕ) (a b : Done) → Framed kind n octets a → Framed kind n octets b → a.output ≡ b.output
+framed_output kind n octets a b (inl (can, few, e)) (inl (can', few', f)) = ap (λ (d : Done). d.output) (e ∙ sym f)
+framed_output kind n octets a b (inl (can, few, e)) (inr (inl (never, f))) = absurd (never can)
+framed_output kind n octets a b (inl (can, few, e)) (inr (inr (can', long, f))) = absurd (omega (arith, few, long))
+framed_output kind n octets a b (inr (inl (never, e))) (inl (can, few, f)) = absurd (never can)
+framed_output kind n octets a b (inr (inl (never, e))) (inr (inl (never', f))) = ap (λ (d : Done). d.output) (e ∙ sym f)
+framed_output kind n octets a b (inr (inl (never, e))) (inr (inr (can, long, f))) = absurd (never can)
+framed_output kind n octets a b (inr (inr (can, long, e))) (inl (can', few, f)) = absurd (omega (arith, few, long))
+framed_output kind n octets a b (inr (inr (can, long, e))) (inr (inl (never, f))) = absurd (never can)
+framed_output kind n octets a b (inr (inr (can, long, e))) (inr (inr (can', long', f))) = ap (λ (d : Done). d.output) (e ∙ sym f)
+
+out_output : (to : Option Framing) (n : ℕ) (octets : List ℕ) (a b : Done) → GoesOut to n octets a → GoesOut to n octets b → a.output ≡ b.output
+out_output None n octets a b e f = ap (λ (d : Done). d.output) (e ∙ sym f)
+out_output (Some kind) n octets a b h k = framed_output kind n octets a b h k
+
+converts_output : (to : Option Framing) (n : ℕ) (f : List ℕ) (a b : Done) → Converts to n f a → Converts to n f b → a.output ≡ b.output
+converts_output to n f a b (r, h, c, k, out) (r', h', c', k', out') =
+    let same : r ≡ r' = one_meaning r r' f h h' in
+    let octets : c ≡ c' = canonical_once r' c c' (subst (λ (x : Parts ℤ). Canonical x c) same k) k' in
+    out_output to n c' a b (subst (λ (x : List ℕ). GoesOut to n x a) octets out) out'
+
+pub convert_output : (to : Option Framing) → HasOneOutput (convert_deals to)
+convert_output to n f a b (inl (long, e)) (inl (long', g)) = ap (λ (d : Done). d.output) (e ∙ sym g)
+convert_output to n f a b (inl (long, e)) (inr (inl (few, w))) = absurd (omega (arith, few, long))
+convert_output to n f a b (inl (long, e)) (inr (inr (few, fault, bad, g))) = absurd (omega (arith, few, long))
+convert_output to n f a b (inr (inl (few, w))) (inl (long, e)) = absurd (omega (arith, few, long))
+convert_output to n f a b (inr (inl (few, w))) (inr (inl (few', w'))) = converts_output to n f a b w w'
+convert_output to n f a b (inr (inl (few, w))) (inr (inr (few', fault, bad, e))) = absurd (fault_excludes f fault w.0 bad w.1)
+convert_output to n f a b (inr (inr (few, fault, bad, e))) (inl (long, g)) = absurd (omega (arith, few, long))
+convert_output to n f a b (inr (inr (few, fault, bad, e))) (inr (inl (few', w'))) = absurd (fault_excludes f fault w'.0 bad w'.1)
+convert_output to n f a b (inr (inr (few, fault, bad, e))) (inr (inr (few', fault', bad', e'))) = ap (λ (d : Done). d.output) e ∙ sym (ap (λ (d : Done). d.output) e')
+
+-- ---- what the words ask for
+
+carrier_in_request : Carrier → Request → Carrier
+carrier_in_request d (Check c) = d
+carrier_in_request d (Show c) = d
+carrier_in_request d (Convert c to) = c
+
+to_in_request : Option Framing → Request → Option Framing
+to_in_request d (Check c) = d
+to_in_request d (Show c) = d
+to_in_request d (Convert c to) = to
+
+pub same_request : (c d : Carrier) (to into : Option Framing) (asked : Request) (parses : Option Request) → asked ≡ Convert c to → parses ≡ Some asked → parses ≡ Some (Convert d into) → (c ≡ d) × (to ≡ into)
+unfolding carrier_in_request to_in_request
+same_request c d to into asked parses e f g =
+    let same : Convert c to ≡ Convert d into = cc in
+    (ap (carrier_in_request d) same, ap (to_in_request into) same)

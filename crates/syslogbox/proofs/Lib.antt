@@ -4,4 +4,5 @@ pub mod ConvertLemmas
 pub mod DealtLemmas
 pub mod LineLemmas
 pub mod ScanLemmas
+pub mod ShowLemmas
 pub mod StreamLemmas

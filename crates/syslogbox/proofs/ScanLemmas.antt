@@ -1,18 +1,18 @@
 -- A stream that is read from a device, and written as it is dealt with.
-use Rattle.std.proofs.Common.{◌≡◌, ℕ, ◌+◌, ◌<◌, ◌≤◌, List, [], ◌∷◌, ◌++◌, Option, None, Some, IfSome, length, take, drop, refl, sym, ap, ap₂, subst, ◌∙◌, append_assoc, arith, inl, inr, false, true}
+use Rattle.std.proofs.Common.{◌≡◌, ℕ, ◌+◌, List, [], ◌++◌, Option, None, Some, IfSome, length, take, drop, refl, sym, ap, subst, ◌∙◌, append_assoc, arith, inr}
 use Rattle.std.specs.List.{flat_map}
 use Rattle.std.specs.Io.KnownBytes.{Appends, Consumes, IsAtEnd}
-use Rattle.std.proofs.KnownBytes.{Appends-nil, Appends-trans, Consumes-nil, Consumes-trans, Consumes-whole}
+use Rattle.std.proofs.KnownBytes.{Appends-nil, Appends-trans, Consumes-nil, Consumes-trans}
 use Rattle.std.proofs.lemmas.List.{append-nil, take-append-drop}
-use Rattle.syslog_frame.specs.Frames.{Frames, IsBadAt, framed}
+use Rattle.syslog_frame.specs.Frames.{Frames, framed}
 use Rattle.syslog_frame.specs.Reads.{Reads}
 use Rattle.syslog_frame.specs.Scan.{Scan}
 use Rattle.syslog_frame.specs.declared.framing.Framing.{Framing}
 use Rattle.syslog_frame.specs.declared.limits.TheConstants.{FRAME_MAX}
 use Rattle.syslogbox.specs.Dealt.{Deals, DealtFrom, Done, nothing, then_done}
-use Rattle.syslogbox.specs.Streams.{DealsOn, HasBad, HasDealt, HasPart, IsAnswered, IsBegun, IsStreaming, Moves, StreamDone, TellsEnd, written_out}
+use Rattle.syslogbox.specs.Streams.{HasBad, HasDealt, HasPart, IsAnswered, IsBegun, IsStreaming, Moves, StreamDone, TellsEnd, written_out}
 use Rattle.syslogbox.specs.declared.line.Line.{Line}
-use Rattle.syslogbox.specs.declared.line.Line.TheVariants.{BadCount, Unterminated}
+use Rattle.syslogbox.specs.declared.line.Line.TheVariants.{BadCount}
 use Rattle.syslogbox.proofs.DealtLemmas.{same_done, then_assoc}
 
 -- nothing was read yet

@@ -1,8 +1,8 @@
 -- A stream whose frames are dealt with as its pieces come: by what the scanner's clauses say, and by lists.
-use Rattle.std.proofs.Common.{◌≡◌, ℕ, ◌+◌, ◌<◌, ◌≤◌, List, [], ◌∷◌, ◌++◌, length, take, drop, refl, sym, ap, subst, ◌∙◌, append_assoc, arith}
-use Rattle.std.specs.List.{AllByRecursion, flat_map}
+use Rattle.std.proofs.Common.{◌≡◌, ℕ, ◌+◌, List, [], ◌∷◌, ◌++◌, length, take, drop, sym, ap, subst, ◌∙◌, append_assoc, arith}
+use Rattle.std.specs.List.{flat_map}
 use Rattle.std.proofs.lemmas.List.{append-nil, length-append, take-append-drop}
-use Rattle.syslog_frame.specs.Frames.{CanCarry, Frame, Frames, IsBadAt, framed}
+use Rattle.syslog_frame.specs.Frames.{IsBadAt, framed}
 use Rattle.syslog_frame.specs.Reads.{Reads, ReadsOn}
 use Rattle.syslog_frame.specs.Scan.{Scan, HasBadCount}
 use Rattle.syslog_frame.specs.declared.framing.Framing.{Framing}

@@ -1,5 +1,5 @@
 -- What `check` does with each frame.
-use Rattle.std.specs.Prelude.{◌≡◌, ℕ, ◌<◌, ◌≤◌, List, [], ◌⊎◌, length, true, false}
+use Rattle.std.specs.Prelude.{◌≡◌, ◌<◌, ◌≤◌, [], ◌⊎◌, length, true, false}
 use Rattle.syslog_frame.specs.declared.limits.TheConstants.{FRAME_MAX}
 use Rattle.syslog_grammar.specs.Faults.{FaultOf}
 use Rattle.syslog_grammar.specs.Shown.{IsShown, ShownParts}

@@ -1,6 +1,5 @@
 -- What was done with frames and is not yet written.
-use Rattle.std.specs.Prelude.{◌≡◌, ℕ, List, ◌++◌, Option}
-use Rattle.std.specs.Io.KnownBytes.{Appends}
+use Rattle.std.specs.Prelude.{◌≡◌}
 use Rattle.syslogbox.specs.Dealt.{Done, then_done}
 use Rattle.syslogbox.specs.declared.dealings.Dealings.{Dealings}
 

@@ -1,5 +1,5 @@
 -- The lines that `show` prints of a record.
-use Rattle.std.specs.Prelude.{◌≡◌, ◌≤◌, ◌<◌, ◌+◌, ℕ, ℤ, List, [], ◌∷◌, ◌++◌, ◌⊎◌, length, codes, decimal, Bool, false, ◌&&◌, ◌||◌, ◌==◌, ◌/◌, ◌%◌, nat_le, nat_lt, if◌then◌else◌, Option, Some, None, not}
+use Rattle.std.specs.Prelude.{◌≡◌, ◌≤◌, ◌<◌, ◌+◌, ◌*◌, ℕ, ℤ, List, [], ◌∷◌, ◌++◌, ◌⊎◌, length, codes, decimal, Bool, ◌&&◌, ◌==◌, ◌/◌, ◌%◌, nat_le, nat_lt, if◌then◌else◌, Option, not}
 use Rattle.std.specs.List.{flat_map}
 use Rattle.octet_language.specs.Language.{Language, Only, ◌⋅◌}
 use Rattle.syslog_frame.specs.declared.limits.TheConstants.{FRAME_MAX}
@@ -45,7 +45,7 @@ param_lines p = quoted_line (codes "param " ++ p.name) p.value
 abbrev pub element_lines : ElementParts → List ℕ
 element_lines e = line_of (codes "element") e.id ++ flat_map param_lines e.params
 
-abbrev pub message_line : MessageParts → List ℕ
+unfoldable pub message_line : MessageParts → List ℕ
 message_line (AnyOctets octets) = quoted_line (codes "message any") octets
 message_line (Utf8Text text) = quoted_line (codes "message utf8") text
 
@@ -53,10 +53,13 @@ message_line (Utf8Text text) = quoted_line (codes "message utf8") text
 abbrev pub number_line : ℕ → List ℕ
 number_line n = line_of (codes "record") (decimal n)
 
--- PRIVAL with the names of the facility and the severity that it is made of
+-- PRIVAL, and the names of a facility and a severity
+abbrev pub priority_line : ℕ → Facility → Severity → List ℕ
+priority_line v f s = line_of (codes "priority") (decimal v ++ 32 ∷ facility_name f ++ 32 ∷ severity_name s)
+
+-- the names are those of the facility and the severity that PRIVAL is made of
 abbrev pub PriorityLine : ℕ → Language
-PriorityLine v b = (f : Facility) × (s : Severity) × (v ≡ facility_code f * 8 + severity_code s)
-    × (b ≡ line_of (codes "priority") (decimal v ++ 32 ∷ facility_name f ++ 32 ∷ severity_name s))
+PriorityLine v b = (f : Facility) × (s : Severity) × (v ≡ facility_code f * 8 + severity_code s) × (b ≡ priority_line v f s)
 
 -- the canonical timestamp
 abbrev pub TimeLine : Option ℤ → Language
@@ -68,7 +71,7 @@ word_lines r =
     ++ line_of (codes "proc") (word_form r.proc_id) ++ line_of (codes "msgid") (word_form r.msg_id)
 
 -- all lines of a record, which has this number
-abbrev pub RecordLines : ℕ → Parts ℤ → Language
+unfoldable pub RecordLines : ℕ → Parts ℤ → Language
 RecordLines n r =
     Only (number_line n) ⋅ PriorityLine r.priority ⋅ TimeLine r.time ⋅ Only (word_lines r)
     ⋅ Only (flat_map element_lines r.elements) ⋅ Only (message_line r.message)

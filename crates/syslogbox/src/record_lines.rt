@@ -1,18 +1,19 @@
 //! The fields of a record, a line each.
 
-ghost use Rattle.std.specs.Prelude.{◌≡◌, ◌++◌, ◌<◌, List, ℕ, OnErr, OnOk, codes, decimal, option_map};
+ghost use Rattle.std.specs.Prelude.{◌≡◌, ◌++◌, ◌<◌, List, ℕ, OnErr, OnOk, codes, decimal, option_map, if◌then◌else◌, ◌∷◌};
+ghost use Rattle.syslog_value.specs.Parts.{AnyOctets, Utf8Text};
 ghost use Rattle.std.specs.List.{flat_map};
 ghost use Rattle.std.specs.Option.{option_copied};
 ghost use Rattle.octet_language.specs.Language.{Only};
 ghost use Rattle.syslog_grammar.specs.Appending.{Adds, Anything, Puts};
 ghost use Rattle.syslog_grammar.specs.Canonical.{word_form};
 ghost use Rattle.syslogbox.specs.Showing.{PriorityLine, RecordLines, TimeLine, element_lines};
-ghost use Rattle.syslogbox.specs.Showing.{hex_digit, line_of, message_line, number_line, octet_shown, octets_shown, param_lines, quoted_line, word_lines};
+ghost use Rattle.syslogbox.specs.Showing.{hex_digit, line_of, message_line, number_line, octet_shown, octets_shown, param_lines, priority_line, quoted_line, word_lines};
 
 use itoa::Buffer;
 use std::alloc::AllocError;
 use syslog_grammar::canonical_timestamp;
-use syslog_value::{Element, Instant, Message, Param, Priority, Record, Word};
+use syslog_value::{Element, Facility, Instant, Param, Priority, Record, Severity, Word};
 
 fn put(octets: &[u8], out: &mut Vec<u8>) -> Result<(), AllocError>
     ensures { Puts (Only octets.now) out.old.items out.new.items result }
@@ -20,13 +21,20 @@ fn put(octets: &[u8], out: &mut Vec<u8>) -> Result<(), AllocError>
     out.extend_from_slice(octets)
 }
 
+// Appends a space and a text.
+fn put_spaced(text: &[u8], out: &mut Vec<u8>) -> Result<(), AllocError>
+    ensures { Puts (Only (32 ∷ text.now)) out.old.items out.new.items result }
+{
+    put(b" ", out)?;
+    put(text, out)
+}
+
 // Appends a name, a space, a text and a line feed.
 fn put_line_of(name: &[u8], text: &[u8], out: &mut Vec<u8>) -> Result<(), AllocError>
     ensures { Puts (Only (line_of name.now text.now)) out.old.items out.new.items result }
 {
     put(name, out)?;
-    put(b" ", out)?;
-    put(text, out)?;
+    put_spaced(text, out)?;
     put(b"\n", out)
 }
 
@@ -51,7 +59,10 @@ fn put_octet(octet: u8, out: &mut Vec<u8>) -> Result<(), AllocError>
         b' '..=b'~' => return put(&[octet], out),
         _ => {}
     }
-    put(&[b'\\', b'x', hex_digit(octet / 16), hex_digit(octet % 16)], out)
+    put(
+        &[b'\\', b'x', hex_digit(octet / 16), hex_digit(octet % 16)],
+        out,
+    )
 }
 
 fn put_octets(octets: &[u8], out: &mut Vec<u8>) -> Result<(), AllocError>
@@ -99,15 +110,16 @@ fn put_elements(elements: &[Element], out: &mut Vec<u8>) -> Result<(), AllocErro
     Ok(())
 }
 
-fn put_message(message: &Message, out: &mut Vec<u8>) -> Result<(), AllocError>
-    ensures { Puts (Only (message_line message.now)) out.old.items out.new.items result }
+fn put_message(octets: &[u8], has_mark: bool, out: &mut Vec<u8>) -> Result<(), AllocError>
+    ensures { Puts (Only (message_line
+        (if has_mark then Utf8Text octets.now else AnyOctets octets.now)))
+        out.old.items out.new.items result }
 {
-    let kind: &[u8] = if message.has_mark() {
-        b"message utf8"
+    if has_mark {
+        put_quoted(b"message utf8", octets, out)
     } else {
-        b"message any"
-    };
-    put_quoted(kind, message.octets(), out)
+        put_quoted(b"message any", octets, out)
+    }
 }
 
 fn put_number(number: u64, out: &mut Vec<u8>) -> Result<(), AllocError>
@@ -116,16 +128,32 @@ fn put_number(number: u64, out: &mut Vec<u8>) -> Result<(), AllocError>
     put_line_of(b"record", Buffer::new().format(number).as_bytes(), out)
 }
 
+// Appends PRIVAL with the names of its facility and its severity.
+fn put_names(
+    value: u8,
+    facility: Facility,
+    severity: Severity,
+    out: &mut Vec<u8>,
+) -> Result<(), AllocError>
+    ensures { Puts (Only (priority_line value facility severity))
+        out.old.items out.new.items result }
+{
+    put(b"priority", out)?;
+    put_spaced(Buffer::new().format(value).as_bytes(), out)?;
+    put_spaced(facility.name().as_bytes(), out)?;
+    put_spaced(severity.name().as_bytes(), out)?;
+    put(b"\n", out)
+}
+
 fn put_priority(priority: Priority, out: &mut Vec<u8>) -> Result<(), AllocError>
     ensures { Puts (PriorityLine priority) out.old.items out.new.items result }
 {
-    put(b"priority ", out)?;
-    put(Buffer::new().format(priority.value()).as_bytes(), out)?;
-    put(b" ", out)?;
-    put(priority.facility().name().as_bytes(), out)?;
-    put(b" ", out)?;
-    put(priority.severity().name().as_bytes(), out)?;
-    put(b"\n", out)
+    put_names(
+        priority.value(),
+        priority.facility(),
+        priority.severity(),
+        out,
+    )
 }
 
 fn put_time(instant: Option<Instant>, out: &mut Vec<u8>) -> Result<(), AllocError>
@@ -161,11 +189,7 @@ fn put_words(record: &Record, out: &mut Vec<u8>) -> Result<(), AllocError>
 }
 
 // Appends all lines of a record; where a growth is refused, perhaps a part of them.
-fn append_record_lines(
-    number: u64,
-    record: &Record,
-    out: &mut Vec<u8>,
-) -> Result<(), AllocError>
+fn append_record_lines(number: u64, record: &Record, out: &mut Vec<u8>) -> Result<(), AllocError>
     ensures { Puts (RecordLines number record.now) out.old.items out.new.items result }
 {
     put_number(number, out)?;
@@ -173,17 +197,13 @@ fn append_record_lines(
     put_time(record.instant(), out)?;
     put_words(record, out)?;
     put_elements(record.structured().elements(), out)?;
-    put_message(record.message(), out)
+    put_message(record.message().octets(), record.message().has_mark(), out)
 }
 
 /// Appends the fields of a record, which has this number, whole or not at all. Elements stand by
 /// id. Octets of values and of the message that are not printable ASCII, and quotation marks and
 /// backslashes, are shown as `\x` and two hexadecimal digits.
-pub fn put_record_lines(
-    number: u64,
-    record: &Record,
-    out: &mut Vec<u8>,
-) -> Result<(), AllocError>
+pub fn put_record_lines(number: u64, record: &Record, out: &mut Vec<u8>) -> Result<(), AllocError>
     ensures ok { OnOk result (Adds (RecordLines number record.now) out.old.items out.new.items) }
     ensures err { OnErr result (out.new.items ≡ out.old.items) }
 {

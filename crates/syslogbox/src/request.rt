@@ -15,9 +15,13 @@ pub enum Carrier {
 #[derive(Clone, Copy, Debug, PartialEq, Eq)]
 pub enum Request {
     /// `check`: one line a frame.
-    Check { carrier: Carrier },
+    Check {
+        carrier: Carrier,
+    },
     /// `show`: the fields of each record, a line each.
-    Show { carrier: Carrier },
+    Show {
+        carrier: Carrier,
+    },
     /// `convert`: the canonical octets of each record, in a framing or, where there is none, bare.
     Convert {
         carrier: Carrier,

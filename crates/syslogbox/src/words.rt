@@ -204,7 +204,10 @@ fn refused(alloc: Global, error: &clap::Error) -> WordsFault {
 
 // A value that `clap` takes and this program does not.
 fn unknown(alloc: Global) -> WordsFault {
-    match String::from_str(alloc, "error: --framing is datagram, counted or lf, and --to is counted or lf\n") {
+    match String::from_str(
+        alloc,
+        "error: --framing is datagram, counted or lf, and --to is counted or lf\n",
+    ) {
         Ok(text) => WordsFault::Usage(text),
         Err(_) => WordsFault::Memory,
     }

@@ -1,10 +1,9 @@
-use Rattle.std.proofs.Common.{◌∙◌, ◌++◌, take, arith, refl, rules, ap, sym, subst, inl, inr, List, ℕ}
+use Rattle.std.proofs.Common.{◌∙◌, arith, refl, rules}
 use Rattle.std.proofs.KnownBytes.{Consumes-trans}
 use Rattle.std.proofs.lemmas.Grind.{common_steps}
 use Rattle.std.proofs.lemmas.Result.{err_from_is_err_and}
 use Rattle.syslogbox.specs.Dealings.{done_of}
-use Rattle.syslogbox.specs.Streams.{HasBad, written_out}
-use Rattle.syslogbox.specs.Dealt.{then_done}
+use Rattle.syslogbox.specs.Streams.{written_out}
 use Rattle.syslogbox.proofs.ScanLemmas.{streaming_more, streaming_moved, streaming_still, answered_end, answered_bad, begun_streaming, begun_same, begun_flush, begun_piece, begun_bad, begun_nothing}
 use Rattle.syslogbox.proofs.scan.deal_stream.Goals as goal
 

@@ -1,4 +1,3 @@
-use Rattle.std.proofs.Common.{refl}
 use Rattle.syslogbox.specs.Dealings.{done_of}
 use Rattle.syslogbox.proofs.AnswerLemmas.{front_of}
 use Rattle.syslogbox.proofs.CauseLemmas.{cause_of}

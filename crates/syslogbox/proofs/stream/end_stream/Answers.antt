@@ -1,4 +1,4 @@
-use Rattle.std.proofs.Common.{refl, sym, subst, inl, inr, arith, List, ℕ}
+use Rattle.std.proofs.Common.{refl, sym, subst, inl, inr, arith}
 use Rattle.std.proofs.lemmas.Result.{on_ok_weaker}
 use Rattle.syslog_frame.specs.Frames.{Frames}
 use Rattle.syslogbox.specs.Dealings.{done_of}
