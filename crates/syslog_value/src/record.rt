@@ -1,5 +1,5 @@
 //! Records: what one syslog message says (RFC 5424, section 6).
-ghost use Rattle.std.specs.Prelude.{◌≡◌, None, [], ℤ, Option, IfOk, IfSome};
+ghost use Rattle.std.specs.Prelude.{◌≡◌, ℤ, Option, IfOk, IfSome};
 ghost use Rattle.std.specs.Option.{option_copied};
 ghost use Rattle.syslog_value.specs.Parts.{Parts, IsRecord, IsWord, IsInstant};
 
@@ -75,23 +75,6 @@ impl Record {
             structured,
             message,
         }
-    }
-
-    /// The record of a priority and a message, all else nil.
-    pub fn plain(alloc: Global, priority: Priority, message: Message) -> Record
-        ensures { result ≡ record {
-          priority = priority;
-          time = None;
-          hostname = None;
-          app_name = None;
-          proc_id = None;
-          msg_id = None;
-          elements = [];
-          message = message;
-        } }
-    {
-        let structured = StructuredData::empty(alloc);
-        Record::new(priority, None, None, None, None, None, structured, message)
     }
 
     pub fn priority(&self) -> Priority

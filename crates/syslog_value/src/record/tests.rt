@@ -4,12 +4,13 @@ use crate::{Facility, Severity};
 use std::test::Fail;
 
 #[test]
-fn a_plain_record_has_a_priority_and_a_message(rt: HostRuntime) -> Result<(), Fail> {
+fn a_record_of_a_priority_and_a_message_has_nil_fields(rt: HostRuntime) -> Result<(), Fail> {
     let priority = Priority::new(Facility::Local4, Severity::Notice);
     let hello = Message::any(b"hello".to_vec(rt.alloc())?)
         .ok()
         .ok_or("refused")?;
-    let record = Record::plain(rt.alloc(), priority, hello);
+    let structured = StructuredData::empty(rt.alloc());
+    let record = Record::new(priority, None, None, None, None, None, structured, hello);
     assert_eq!(rt; record.priority().value(), 165);
     assert_eq!(rt; record.message().octets(), b"hello".as_slice());
     assert!(rt; record.instant().is_none() && record.hostname().is_none());
