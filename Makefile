@@ -25,6 +25,7 @@ check:
 
 install: all
 	install -D -m 755 build/syslogbox $(DESTDIR)$(PREFIX)/bin/syslogbox
+	install -D -m 644 man/syslogbox.1 $(DESTDIR)$(PREFIX)/share/man/man1/syslogbox.1
 
 clean:
 	rm -rf build crates/*/out
