@@ -195,19 +195,24 @@ def calls(program, results, shim, where):
         results.check(f"write {n} of the notes fails", right, str(seen))
 
 
+# what a trial tells of a refused growth: what was there before is unchanged
+REFUSED_GROWTH = re.compile(r": (memory(, unchanged( at 7 octets)?| for .*)?|ok, memory for its copy)$")
+
+
 def trials(program, results, shim, where):
     """Each growth that the libraries ask for refused in turn: `memory`, or what ample memory gives."""
-    for part in ["frame", "value"]:
+    for part in ["frame", "value", "grammar"]:
         words = ["grow", part]
         status, ample, _ = run(program, words)
-        results.check(f"trials of {part} run", status == 0 and b"memory" not in ample, ample.decode())
+        right = status == 0 and not re.search(rb"memory|other|another|refused|syntax", ample)
+        results.check(f"trials of {part} run", right, ample.decode())
         growths = counts(program, words, b"", shim, where)[0]
         told = 0
         for n in range(1, growths + 2):
             status, output, _ = run(program, words, environment={"LD_PRELOAD": shim, "SHIM_MALLOC": str(n)})
             lines = output.decode().splitlines()
             known = set(ample.decode().splitlines())
-            wrong = [line for line in lines if line not in known and "memory" not in line]
+            wrong = [line for line in lines if line not in known and not REFUSED_GROWTH.search(line)]
             told += any("memory" in line for line in lines)
             # a growth for the words themselves ends the program before any line
             right = not wrong and (status == 0 or not lines)
