@@ -123,6 +123,11 @@ def devices(program, results):
     results.check("a folder is a read fault", seen == (2, b"", b"read fault\n"), str(seen))
     seen = run("/bin/sh", ["-c", f"'{program}' convert <&-"], stdin=subprocess.DEVNULL)
     results.check("a closed input is a read fault", seen == (2, b"", b"read fault\n"), str(seen))
+    for words in (["check"], ["check", "--framing", "counted"], ["check", "--framing", "lf"]):
+        with open("/dev/zero", "rb") as zeros:
+            seen = run(program, words, stdin=zeros)
+        told = (1, b"1 bad-count 0\n", b"") if "counted" in words else (2, b"", b"endless input\n")
+        results.check(f"an input that does not end: {' '.join(words)}", seen == told, str(seen))
 
 
 def counts(program, words, octets, shim, where):
@@ -172,6 +177,41 @@ def memory(program, results, shim, where):
         results.check(f"{name}: a refused growth is told", refused > 0)
 
 
+def pieces(program, results, shim, where):
+    """What is written goes out by large pieces, not by a call a record."""
+    stream = (EXAMPLE + b"\n") * 20_000
+    for command in ["check"] + ["convert"] * converts_streams(program) + ["show"] * shows(program):
+        words = [command, "--framing", "lf"]
+        output = run(program, words, stream)[1]
+        run(program, words, stream, {"LD_PRELOAD": shim, "SHIM_FD": "1", "SHIM_COUNTS": where})
+        made = int(Path(where).read_text().split()[2])
+        results.check(f"{command} writes large pieces", made <= 1 + len(output) // 32_768, f"{made} of {len(output)} octets")
+
+
+def name_of(n):
+    """Three octets, another for each number below 13,824."""
+    return bytes([65 + n // 576, 65 + n // 24 % 24, 65 + n % 24])
+
+
+def many_ids(program, results):
+    """A record of 64 KiB with some 13,000 ids, in any order, costs milliseconds."""
+    front, count = b"<0>1 - - - - - ", 13_000
+    orders = {"ascending": range(count), "descending": range(count - 1, -1, -1),
+              "scattered": [n * 7_919 % count for n in range(count)]}
+    for name, order in orders.items():
+        ids = [b"[" + name_of(n) + b"]" for n in order]
+        for ending, line in [(b"", b"ok"), (ids[0], b"repeated-id %d" % (len(front) + 5 * count + 1)),
+                             (ids[-1], b"repeated-id %d" % (len(front) + 5 * count + 1))]:
+            octets = front + b"".join(ids) + ending
+            before = os.times()
+            seen = run(program, ["check", "--framing", "lf"], (octets + b"\n") * 20)
+            after = os.times()
+            told = b"".join(b"%d %b\n" % (n, line) for n in range(1, 21))
+            results.check(f"13,000 ids {name}, {line}", seen[1:] == (told, b""), f"{seen[0]} {seen[1][:60]!r}")
+            took = (after.children_user + after.children_system - before.children_user - before.children_system) / 20
+            results.check(f"the time of 13,000 ids {name}, {line}", took < 0.15, f"{took:.3f} s a record")
+
+
 def calls(program, results, shim, where):
     """Each read and each write fails, comes short or is interrupted in turn."""
     octets = HELLO + b"x" * 9_000
@@ -186,6 +226,10 @@ def calls(program, results, shim, where):
             results.check(f"{kind.lower()} {n} fails", right, f"{seen[0]} {len(seen[1])} {seen[2]!r}")
             seen = run(program, ["convert"], octets, {**plain, f"SHIM_{kind}_SHORT": str(n)})
             results.check(f"{kind.lower()} {n} comes short", seen == (0, octets, b""), f"{seen[0]} {len(seen[1])} {seen[2]!r}")
+            if kind == "READ":
+                seen = run(program, ["convert"], octets, {**plain, "SHIM_READ_AGAIN": str(n)})
+                right = seen == (0, octets, b"") or (seen[0] == 2 and octets.startswith(seen[1]) and seen[2] == line)
+                results.check(f"read {n} is interrupted", right, f"{seen[0]} {len(seen[1])} {seen[2]!r}")
         seen = run(program, ["convert"], octets, {**plain, f"SHIM_{kind}": str(made + 1)})
         results.check(f"past the last {kind.lower()}", seen == (0, octets, b""), f"{seen[0]} {len(seen[1])} {seen[2]!r}")
     for n in range(1, 3):
@@ -317,6 +361,8 @@ def main():
         devices(program, results)
         memory(program, results, shim, f"{folder}/counts")
         calls(program, results, shim, f"{folder}/counts")
+        pieces(program, results, shim, f"{folder}/counts")
+        many_ids(program, results)
         trials(trial, results, shim, f"{folder}/counts")
     print(f"{results.passed} passed, {results.failed} failed")
     sys.exit(1 if results.failed else 0)
