@@ -4,7 +4,7 @@ PREFIX = /usr/local
 DESTDIR =
 PROGRAM = crates/syslogbox
 
-.PHONY: all trials check install clean
+.PHONY: all trials check bench install clean
 
 # Proves the program and what it stands on, and builds build/syslogbox.
 all:
@@ -22,6 +22,10 @@ trials:
 # Proves every crate from nothing, runs every test, and tries the real program.
 check:
 	bash .ci/run
+
+# Measures check and convert beside cat and wc.
+bench: all
+	bench/run
 
 install: all
 	install -D -m 755 build/syslogbox $(DESTDIR)$(PREFIX)/bin/syslogbox
