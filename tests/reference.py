@@ -1,5 +1,6 @@
-"""A second reading of syslog records (RFC 5424, section 6), written apart from the program and beside it in
-tests only: what `check` tells of octets, their canonical form, and what `show` prints.
+"""A second reading of syslog records (RFC 5424, section 6) and of streams (RFC 6587, section 3.4), written apart
+from the program and beside it in tests only: what `check` tells of octets, their canonical form, and what `show`
+prints.
 
 Whether octets are a record is told by one regular expression, with the calendar and UTF-8 of Python. The place
 of a fault is found by reading on as far as some record goes on.
@@ -307,3 +308,59 @@ def utf8_place(octets, begin):
                 if at + n >= len(octets) or octets[at + n] not in can:
                     return at + n
     return at
+
+
+# ---------------------------------------------------------------- streams
+
+FRAME_MAX = 65_535
+COUNT = re.compile(rb"([1-9]\d{0,9}) ")
+COUNT_FRONT = re.compile(rb"(?:[1-9]\d{0,9})?")
+
+
+def counted_frames(octets):
+    """The frames, None for one that is too long, and how the stream stops: a line behind the number or without one."""
+    frames, at = [], 0
+    while at < len(octets):
+        seen = COUNT.match(octets, at)
+        if not seen:
+            stop = COUNT_FRONT.match(octets, at).end()
+            return frames, f"unterminated {at}" if stop == len(octets) else f"{len(frames) + 1} bad-count {stop}"
+        count = int(seen.group(1))
+        if len(octets) - seen.end() < count:
+            return frames, f"unterminated {at}"
+        frames.append(octets[seen.end():seen.end() + count] if count <= FRAME_MAX else None)
+        at = seen.end() + count
+    return frames, None
+
+
+def line_frames(octets):
+    *lines, rest = octets.split(b"\n")
+    frames = [line if len(line) <= FRAME_MAX else None for line in lines]
+    return frames, f"unterminated {len(octets) - len(rest)}" if rest else None
+
+
+def framed(framing, octets):
+    return b"%d %b" % (len(octets), octets) if framing == "counted" else octets + b"\n"
+
+
+def run_of(octets, framing, to):
+    """What `check` writes, and what `convert` writes to its output and tells."""
+    frames, stop = counted_frames(octets) if framing == "counted" else line_frames(octets)
+    checked, output, told = [], [], []
+    for n, frame in enumerate(frames, 1):
+        one = b"too-long" if frame is None else read(frame)
+        checked.append(b"%d %b" % (n, one if isinstance(one, bytes) else b"ok"))
+        if isinstance(one, bytes):
+            told.append(checked[-1])
+            continue
+        octets = canonical(one)
+        if to == "lf" and b"\n" in octets:
+            told.append(b"%d has-lf" % n)
+        elif len(octets) > FRAME_MAX:
+            told.append(b"%d canonical-too-long" % n)
+        else:
+            output.append(framed(to, octets))
+    if stop:
+        checked.append(stop.encode())
+        told.append(stop.encode())
+    return b"".join(line + b"\n" for line in checked), b"".join(output), b"".join(line + b"\n" for line in told)

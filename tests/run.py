@@ -348,6 +348,42 @@ def mutated(program, results, count=1_000_000):
         results.check("mutated records are shown", status == 1 and output == fields, f"{status} {len(output)}")
 
 
+def streams(program, results, count=400):
+    """Streams with changes anywhere, in their counts too."""
+    random = Random(6587)
+    convert = converts_streams(program)
+    long = [b"<0>1 - - - - - - " + b"a" * 65_519, b"<0>1 - - - - - [a k=\"" + b"\\n" * 32_756 + b"\"]", b"x" * 70_000]
+    pool = mutations(5_000)
+    good = {"check": 0, "convert": 0}
+    for _ in range(count):
+        framing = random.choice(["counted", "lf"])
+        to = random.choice(["counted", "lf"])
+        frames = random.choices(pool, k=random.randrange(8))
+        if random.random() < 0.1:
+            frames.insert(random.randrange(len(frames) + 1), random.choice(long))
+        octets = bytearray(b"".join(reference.framed(framing, frame) for frame in frames))
+        for _ in range(random.randrange(3)):
+            at = random.randrange(len(octets) + 1)
+            change = random.randrange(4)
+            if change == 0:
+                octets[at:at + 1] = bytes([random.choice(b"0123456789 \n<x")])
+            elif change == 1:
+                octets[at:at] = bytes([random.choice(b"0123456789 \n<x")])
+            elif change == 2:
+                del octets[at:at + 1]
+            else:
+                del octets[at:]
+        checked, output, told = reference.run_of(bytes(octets), framing, to)
+        seen = run(program, ["check", "--framing", framing], octets)
+        good["check"] += seen == (int(bool(re.search(rb"(?<! ok)\n", checked))), checked, b"")
+        if convert:
+            seen = run(program, ["convert", "--framing", framing, "--to", to], octets)
+            good["convert"] += seen == (int(bool(told)), output, told)
+    results.check("each changed stream is checked as it is read a second time", good["check"] == count, str(good))
+    if convert:
+        results.check("each changed stream is converted as it is read a second time", good["convert"] == count, str(good))
+
+
 def main():
     program = str(Path(sys.argv[1]).resolve())
     trial = str(Path(sys.argv[2]).resolve())
@@ -358,6 +394,7 @@ def main():
         rows(program, results)
         manual(program, results)
         mutated(program, results)
+        streams(program, results)
         devices(program, results)
         memory(program, results, shim, f"{folder}/counts")
         calls(program, results, shim, f"{folder}/counts")
