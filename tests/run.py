@@ -7,6 +7,7 @@ PROGRAM is syslogbox, TRIALS the program of trials of the libraries. Prints each
 """
 import os
 import re
+import shutil
 import subprocess
 import sys
 import tempfile
@@ -93,6 +94,9 @@ def manual(program, results):
     """Each example of the manual, as a shell runs it, prints what stands behind it."""
     examples = MANUAL.read_text().split(".Sh EXAMPLES")[1].split(".Sh ")[0]
     blocks = [unescaped(block) for block in re.findall(r"\.Bd -literal.*?\n(.*?)\.Ed\n", examples, re.DOTALL)]
+    if shutil.which("groff"):
+        done = subprocess.run(["groff", "-ww", "-mandoc", "-Tutf8", str(MANUAL)], capture_output=True)
+        results.check("the manual is laid out without a warning", done.returncode == 0 and done.stderr == b"", str(done.stderr))
     results.check("the manual has examples", len(blocks) >= 10 and len(blocks) % 2 == 0, str(len(blocks)))
     convert, show = converts_streams(program), shows(program)
     for command, output in zip(blocks[::2], blocks[1::2]):
@@ -388,6 +392,9 @@ def main():
     program = str(Path(sys.argv[1]).resolve())
     trial = str(Path(sys.argv[2]).resolve())
     results = Results()
+    for command, has_come in [("convert", converts_streams(program)), ("show", shows(program))]:
+        if not has_come:
+            print(f"{command} has not come whole: its rows are left out")
     with tempfile.TemporaryDirectory() as folder:
         shim = f"{folder}/shim.so"
         subprocess.run(["gcc", "-shared", "-fPIC", "-O1", "-o", shim, str(HERE / "shim.c"), "-ldl"], check=True)
