@@ -4,7 +4,7 @@ PREFIX = /usr/local
 DESTDIR =
 PROGRAM = crates/syslogbox
 
-.PHONY: all trials check install clean
+.PHONY: all trials check bench install clean
 
 # Proves the program and what it stands on, and builds build/syslogbox.
 all:
@@ -23,8 +23,13 @@ trials:
 check:
 	bash .ci/run
 
+# Measures check and convert beside cat and wc.
+bench: all
+	bench/run
+
 install: all
 	install -D -m 755 build/syslogbox $(DESTDIR)$(PREFIX)/bin/syslogbox
+	install -D -m 644 man/syslogbox.1 $(DESTDIR)$(PREFIX)/share/man/man1/syslogbox.1
 
 clean:
 	rm -rf build crates/*/out

@@ -6,16 +6,20 @@ usage: tests/run.py PROGRAM TRIALS
 PROGRAM is syslogbox, TRIALS the program of trials of the libraries. Prints each case that fails, and last `N passed, M failed`. The status is 0 exactly where none failed.
 """
 import os
+import re
+import shutil
 import subprocess
 import sys
 import tempfile
 from random import Random
 from pathlib import Path
 
+sys.dont_write_bytecode = True
+import reference
+from rows import ALWAYS, ELEMENTS, EXAMPLE, HELLO, MARK, NIL_ALONE, RECORDS, REFUSED, STREAMS
+
 HERE = Path(__file__).resolve().parent
-HELLO = b"<165>1 - - - - - - hello"
-EXAMPLE = (b"<165>1 2003-08-24T05:14:15.000003-07:00 192.0.2.1 myproc 8710 - - "
-           b"%% It's time to make the do-nuts.")
+MANUAL = HERE.parent / "man/syslogbox.1"
 
 
 class Results:
@@ -41,55 +45,66 @@ def run(program, words, octets=b"", environment=None, **streams):
     return done.returncode, done.stdout, done.stderr
 
 
-# words, standard input, status, standard output, standard error (None: any text, but some)
-ROWS = [
-    ("a record with nil fields", ["convert"], HELLO, 0, HELLO, b""),
-    ("an empty message", ["convert"], b"<0>1 - - - - - -", 0, b"<0>1 - - - - - -", b""),
-    ("a space without a message", ["convert"], b"<0>1 - - - - - - ", 0, b"<0>1 - - - - - -", b""),
-    ("any octets", ["convert"], b"<191>1 - - - - - - \x00\xff\n\r ", 0, b"<191>1 - - - - - - \x00\xff\n\r ", b""),
-    ("the longest record", ["convert"], HELLO + b"x" * (65_535 - 24), 0, HELLO + b"x" * (65_535 - 24), b""),
-    ("one octet more", ["convert"], HELLO + b"x" * (65_536 - 24), 1, b"", b"1 too-long\n"),
-    ("a long input", ["convert"], HELLO + b"x" * 1_000_000, 1, b"", b"1 too-long\n"),
-    ("a priority above 191", ["convert"], b"<192>1 - - - - - - x", 1, b"", b"1 unsupported\n"),
-    ("a leading zero", ["convert"], b"<007>1 - - - - - - x", 1, b"", b"1 unsupported\n"),
-    ("no octets", ["convert"], b"", 1, b"", b"1 unsupported\n"),
-    ("a time", ["convert"], b"<0>1 2024-02-29T00:00:00Z - - - - -", 1, b"", b"1 unsupported\n"),
-    ("octets behind the structured data", ["convert"], b"<0>1 - - - - - -x", 1, b"", b"1 unsupported\n"),
-    ("a line feed at the end is of the message", ["convert"], HELLO + b"\n", 0, HELLO + b"\n", b""),
-    ("check of a record", ["check"], EXAMPLE, 0, b"1 ok\n", b""),
-    ("check of a priority above 191", ["check"], b"<192>1 -", 1, b"1 syntax priority 3\n", b""),
-    ("check of no octets", ["check"], b"", 1, b"1 syntax priority 0\n", b""),
-    ("check of 29 February 2003", ["check"], b"<0>1 2003-02-29T00:00:00Z - - - - -", 1, b"1 syntax timestamp 14\n", b""),
-    ("check of an instant out of range", ["check"], b"<0>1 9999-12-31T23:59:59-00:01 - - - - -", 1, b"1 instant-range 5\n", b""),
-    ("check of a repeated id", ["check"], b"<0>1 - - - - - [a][b][a]", 1, b"1 repeated-id 22\n", b""),
-    ("check of a long datagram", ["check"], b"a" * 65_536, 1, b"1 too-long\n", b""),
-    ("check of counted frames", ["check", "--framing", "counted"], b"16 <0>1 - - - - - -17 <0>1 - - - - - - ", 0, b"1 ok\n2 ok\n", b""),
-    ("check of a bad count", ["check", "--framing", "counted"], b"016 ", 1, b"1 bad-count 0\n", b""),
-    ("check of a bad count behind a frame", ["check", "--framing=counted"], b"16 <0>1 - - - - - -x", 1, b"1 ok\n2 bad-count 19\n", b""),
-    ("check of an unfinished frame", ["check", "--framing", "counted"], b"16 <0>", 1, b"unterminated 0\n", b""),
-    ("check of lines", ["check", "--framing", "lf"], b"\nx\n" + b"a" * 65_536 + b"\n<0>1 - - - - - -\n", 1,
-     b"1 syntax priority 0\n2 syntax priority 0\n3 too-long\n4 ok\n", b""),
-    ("check of an unfinished line", ["check", "--framing", "lf"], b"\nx\n" + b"a" * 65_536 + b"\n<0>1 - - - - - -", 1,
-     b"1 syntax priority 0\n2 syntax priority 0\n3 too-long\nunterminated 65540\n", b""),
-    ("check of no frames", ["check", "--framing", "lf"], b"", 0, b"", b""),
-    ("check of an unknown framing", ["check", "--framing", "tcp"], HELLO, 2, b"", None),
-    ("an option given twice", ["check", "--framing", "lf", "--framing", "lf"], HELLO, 2, b"", None),
-    ("no words", [], HELLO, 2, b"", None),
-    ("an unknown word", ["konvert"], HELLO, 2, b"", None),
-    ("a word too many", ["convert", "x"], HELLO, 2, b"", None),
-    ("an unknown option", ["convert", "--x"], HELLO, 2, b"", None),
-    ("an empty word", [""], HELLO, 2, b"", None),
-    ("help", ["--help"], HELLO, 2, b"", None),
-    ("help of a command", ["help", "convert"], HELLO, 2, b"", None),
-    ("a word that is no UTF-8", [b"\xff"], HELLO, 2, b"", None),
-]
+def converts_streams(program):
+    """Whether `convert` reads and writes streams, and so all records."""
+    return run(program, ["convert", "--framing", "lf"])[0] == 0
+
+
+def shows(program):
+    return run(program, ["show", "--framing", "lf"])[0] == 0
+
+
+def row(program, results, name, words, octets, status, output, notes):
+    seen = run(program, words, octets)
+    right = seen[:2] == (status, output) and (bool(seen[2]) if notes is None else seen[2] == notes)
+    results.check(f"{' '.join(str(word) for word in words)}: {name}", right, f"{seen[0]} {seen[1][:60]!r} {seen[2][:60]!r}")
 
 
 def rows(program, results):
-    for name, words, octets, status, output, notes in ROWS:
-        seen = run(program, words, octets)
-        right = seen[:2] == (status, output) and (bool(seen[2]) if notes is None else seen[2] == notes)
-        results.check(name, right, f"{seen[0]} {seen[1][:60]!r} {seen[2][:60]!r}")
+    """The tables, those of a command where it has come."""
+    convert, show = converts_streams(program), shows(program)
+    for name, octets, canonical in RECORDS:
+        row(program, results, name, ["check"], octets, 0, b"1 ok\n", b"")
+        if convert:
+            row(program, results, name, ["convert"], octets, 0, canonical, b"")
+            if len(canonical) <= 65_535:
+                row(program, results, f"canonical: {name}", ["convert"], canonical, 0, canonical, b"")
+        if show:
+            row(program, results, name, ["show"], octets, 0, reference.show(1, reference.read(octets)), b"")
+    for name, octets, line in REFUSED:
+        row(program, results, name, ["check"], octets, 1, b"1 " + line + b"\n", b"")
+        for command in ["convert"] * convert + ["show"] * show:
+            row(program, results, name, [command], octets, 1, b"", b"1 " + line + b"\n")
+    for case in ALWAYS + (STREAMS if convert else NIL_ALONE):
+        if show or case[1][:1] != ["show"]:
+            row(program, results, *case)
+    for length in range(65):
+        line = b"1 " + reference.read(EXAMPLE[:length]) + b"\n"
+        right = line.endswith(b" %d\n" % length)
+        results.check(f"the place of a front of {length} octets, read a second time", right, str(line))
+        row(program, results, f"a front of {length} octets", ["check"], EXAMPLE[:length], 1, line, b"")
+
+
+def unescaped(text):
+    """The lines of a literal block of the manual as they are shown."""
+    return text.replace("\\-", "-").replace("\\(aq", "'").replace("\\e", "\\").replace("\\&", "")
+
+
+def manual(program, results):
+    """Each example of the manual, as a shell runs it, prints what stands behind it."""
+    examples = MANUAL.read_text().split(".Sh EXAMPLES")[1].split(".Sh ")[0]
+    blocks = [unescaped(block) for block in re.findall(r"\.Bd -literal.*?\n(.*?)\.Ed\n", examples, re.DOTALL)]
+    if shutil.which("groff"):
+        done = subprocess.run(["groff", "-ww", "-mandoc", "-Tutf8", str(MANUAL)], capture_output=True)
+        results.check("the manual is laid out without a warning", done.returncode == 0 and done.stderr == b"", str(done.stderr))
+    results.check("the manual has examples", len(blocks) >= 10 and len(blocks) % 2 == 0, str(len(blocks)))
+    convert, show = converts_streams(program), shows(program)
+    for command, output in zip(blocks[::2], blocks[1::2]):
+        if ("convert" in command and not convert) or ("show" in command and not show):
+            continue
+        path = f"{Path(program).parent}:{os.environ['PATH']}"
+        done = subprocess.run(["sh", "-c", command], env={**os.environ, "PATH": path}, capture_output=True, text=True)
+        results.check(f"example: {command}", done.stdout == output, done.stdout)
 
 
 def devices(program, results):
@@ -112,6 +127,11 @@ def devices(program, results):
     results.check("a folder is a read fault", seen == (2, b"", b"read fault\n"), str(seen))
     seen = run("/bin/sh", ["-c", f"'{program}' convert <&-"], stdin=subprocess.DEVNULL)
     results.check("a closed input is a read fault", seen == (2, b"", b"read fault\n"), str(seen))
+    for words in (["check"], ["check", "--framing", "counted"], ["check", "--framing", "lf"]):
+        with open("/dev/zero", "rb") as zeros:
+            seen = run(program, words, stdin=zeros)
+        told = (1, b"1 bad-count 0\n", b"") if "counted" in words else (2, b"", b"endless input\n")
+        results.check(f"an input that does not end: {' '.join(words)}", seen == told, str(seen))
 
 
 def counts(program, words, octets, shim, where):
@@ -120,16 +140,32 @@ def counts(program, words, octets, shim, where):
     return [int(word) for word in Path(where).read_text().split()]
 
 
+def is_refused(seen, ample):
+    """Whether want of memory is told, behind a front of what ample memory gives."""
+    told = b"want of memory\n"
+    return (seen[0] == 3 and ample[1].startswith(seen[1]) and seen[2].endswith(told)
+            and ample[2].startswith(seen[2].removesuffix(told)))
+
+
 def memory(program, results, shim, where):
     """Each growth refused in turn: status 3 and a front of the output, or the full answer once the
     number is past the last."""
+    mixed = (EXAMPLE + b"\n") * 40 + b"x\n" + ELEMENTS + b"\n"
+    convert, show = converts_streams(program), shows(program)
     for name, words, octets in [
         ("convert", ["convert"], HELLO),
         ("convert of a long record", ["convert"], HELLO + b"x" * 60_000),
         ("convert of octets that are no record", ["convert"], b"<192>1 - - - - - - x"),
-        ("check of a stream", ["check", "--framing", "lf"], (EXAMPLE + b"\n") * 40 + b"x\n"),
+        ("check of a stream", ["check", "--framing", "lf"], mixed),
         ("usage", ["konvert"], HELLO),
-    ]:
+    ] + [
+        ("convert of elements", ["convert"], ELEMENTS),
+        ("convert of a stream", ["convert", "--framing", "lf"], mixed),
+        ("convert to counted frames", ["convert", "--framing", "lf", "--to", "counted"], mixed),
+    ] * convert + [
+        ("show", ["show"], ELEMENTS),
+        ("show of a stream", ["show", "--framing", "lf"], mixed),
+    ] * show:
         ample = run(program, words, octets)
         growths = counts(program, words, octets, shim, where)[0]
         results.check(f"{name}: memory is asked for", growths > 0, str(growths))
@@ -138,11 +174,46 @@ def memory(program, results, shim, where):
             seen = run(program, words, octets, {"LD_PRELOAD": shim, "SHIM_MALLOC": str(n)})
             if n > growths:
                 results.check(f"{name}: past the last growth", seen == ample, f"{n} {seen}")
-            elif seen[0] == 3 and ample[1].startswith(seen[1]) and seen[2] == b"want of memory\n":
+            elif is_refused(seen, ample):
                 refused += 1
             else:
                 results.check(f"{name}: growth {n} refused", seen == ample, f"{seen}")
         results.check(f"{name}: a refused growth is told", refused > 0)
+
+
+def pieces(program, results, shim, where):
+    """What is written goes out by large pieces, not by a call a record."""
+    stream = (EXAMPLE + b"\n") * 20_000
+    for command in ["check"] + ["convert"] * converts_streams(program) + ["show"] * shows(program):
+        words = [command, "--framing", "lf"]
+        output = run(program, words, stream)[1]
+        run(program, words, stream, {"LD_PRELOAD": shim, "SHIM_FD": "1", "SHIM_COUNTS": where})
+        made = int(Path(where).read_text().split()[2])
+        results.check(f"{command} writes large pieces", made <= 1 + len(output) // 32_768, f"{made} of {len(output)} octets")
+
+
+def name_of(n):
+    """Three octets, another for each number below 13,824."""
+    return bytes([65 + n // 576, 65 + n // 24 % 24, 65 + n % 24])
+
+
+def many_ids(program, results):
+    """A record of 64 KiB with some 13,000 ids, in any order, costs milliseconds."""
+    front, count = b"<0>1 - - - - - ", 13_000
+    orders = {"ascending": range(count), "descending": range(count - 1, -1, -1),
+              "scattered": [n * 7_919 % count for n in range(count)]}
+    for name, order in orders.items():
+        ids = [b"[" + name_of(n) + b"]" for n in order]
+        for ending, line in [(b"", b"ok"), (ids[0], b"repeated-id %d" % (len(front) + 5 * count + 1)),
+                             (ids[-1], b"repeated-id %d" % (len(front) + 5 * count + 1))]:
+            octets = front + b"".join(ids) + ending
+            before = os.times()
+            seen = run(program, ["check", "--framing", "lf"], (octets + b"\n") * 20)
+            after = os.times()
+            told = b"".join(b"%d %b\n" % (n, line) for n in range(1, 21))
+            results.check(f"13,000 ids {name}, {line}", seen[1:] == (told, b""), f"{seen[0]} {seen[1][:60]!r}")
+            took = (after.children_user + after.children_system - before.children_user - before.children_system) / 20
+            results.check(f"the time of 13,000 ids {name}, {line}", took < 0.15, f"{took:.3f} s a record")
 
 
 def calls(program, results, shim, where):
@@ -159,27 +230,37 @@ def calls(program, results, shim, where):
             results.check(f"{kind.lower()} {n} fails", right, f"{seen[0]} {len(seen[1])} {seen[2]!r}")
             seen = run(program, ["convert"], octets, {**plain, f"SHIM_{kind}_SHORT": str(n)})
             results.check(f"{kind.lower()} {n} comes short", seen == (0, octets, b""), f"{seen[0]} {len(seen[1])} {seen[2]!r}")
+            if kind == "READ":
+                seen = run(program, ["convert"], octets, {**plain, "SHIM_READ_AGAIN": str(n)})
+                right = seen == (0, octets, b"") or (seen[0] == 2 and octets.startswith(seen[1]) and seen[2] == line)
+                results.check(f"read {n} is interrupted", right, f"{seen[0]} {len(seen[1])} {seen[2]!r}")
         seen = run(program, ["convert"], octets, {**plain, f"SHIM_{kind}": str(made + 1)})
         results.check(f"past the last {kind.lower()}", seen == (0, octets, b""), f"{seen[0]} {len(seen[1])} {seen[2]!r}")
     for n in range(1, 3):
         seen = run(program, ["convert"], b"", {"LD_PRELOAD": shim, "SHIM_FD": "2", "SHIM_WRITE": str(n)})
-        right = seen[:2] == (2, b"") if n == 1 else seen == (1, b"", b"1 unsupported\n")
+        line = b"1 syntax priority 0\n" if converts_streams(program) else b"1 unsupported\n"
+        right = seen[:2] == (2, b"") if n == 1 else seen == (1, b"", line)
         results.check(f"write {n} of the notes fails", right, str(seen))
+
+
+# what a trial tells of a refused growth: what was there before is unchanged
+REFUSED_GROWTH = re.compile(r": (memory(, unchanged( at 7 octets)?| for .*)?|ok, memory for its copy)$")
 
 
 def trials(program, results, shim, where):
     """Each growth that the libraries ask for refused in turn: `memory`, or what ample memory gives."""
-    for part in ["frame", "value"]:
+    for part in ["frame", "value", "grammar"]:
         words = ["grow", part]
         status, ample, _ = run(program, words)
-        results.check(f"trials of {part} run", status == 0 and b"memory" not in ample, ample.decode())
+        right = status == 0 and not re.search(rb"memory|other|another|refused|syntax", ample)
+        results.check(f"trials of {part} run", right, ample.decode())
         growths = counts(program, words, b"", shim, where)[0]
         told = 0
         for n in range(1, growths + 2):
             status, output, _ = run(program, words, environment={"LD_PRELOAD": shim, "SHIM_MALLOC": str(n)})
             lines = output.decode().splitlines()
             known = set(ample.decode().splitlines())
-            wrong = [line for line in lines if line not in known and "memory" not in line]
+            wrong = [line for line in lines if line not in known and not REFUSED_GROWTH.search(line)]
             told += any("memory" in line for line in lines)
             # a growth for the words themselves ends the program before any line
             right = not wrong and (status == 0 or not lines)
@@ -187,42 +268,145 @@ def trials(program, results, shim, where):
         results.check(f"trials of {part}: a refused growth is told", told > 0)
 
 
-def mutated(program, results):
-    """Random and mutated records: as many lines as frames, and the next good one is still read."""
+SEEDS = [
+    EXAMPLE, HELLO, ELEMENTS, b"<13>1 - h a - - [a k=\"v\\\\]\"][b x=\"\xc3\xa9\"] hi",
+    b"<34>1 1999-12-31T23:59:60Z host - - - - leap", b"<0>1 0000-01-01T00:00:00+00:01 - - - - [a][b][a]",
+    b"<191>1 9999-12-31T23:59:59.9-00:00 h su 17 ID [c][b a=\"\"][a b=\"1\" b=\"2\"] " + MARK + "größe €𝄞".encode(),
+    b"<165>1 2024-02-29T12:30:00.25+05:30 h.example.com app 1 ID1 [id@32473 k=\"\\\\n\" l=\"say \\\"x\\\"\"] text",
+    b"<7>1 - - - - - - " + MARK + "été".encode(), b"<86>1 2023-11-30T00:00:00-08:00 - - - - - \x00\xff",
+]
+# octets that the grammar speaks of stand in for others more often than chance would have them
+MARKS = b'<>[]="\\ -:.TZ+0123456789ab\xef\xbb\xbf\xc3\xa9\x80\xff\n'
+
+
+def mutations(count):
+    """So many octet texts: random ones, seeds, and seeds with one or two changes."""
     random = Random(5424)
+    draw = random.random
     frames = []
-    for _ in range(200_000):
-        kind = random.randrange(3)
-        if kind == 0:
-            frames.append(bytes(random.randrange(256) for _ in range(random.randrange(1, 40))))
+    for _ in range(count):
+        kind = draw()
+        if kind < 0.1:
+            frames.append(random.randbytes(1 + int(draw() * 39)))
             continue
-        octets = bytearray(random.choice([EXAMPLE, HELLO, b'<13>1 - h a - - [a k="v\\]"][b x="\xc3\xa9"] hi']))
-        for _ in range(random.randrange(3) if kind == 1 else 1):
-            octets[random.randrange(len(octets))] = random.randrange(256)
+        octets = bytearray(SEEDS[int(draw() * len(SEEDS))])
+        for _ in range(int(kind * 3)):
+            at = int(draw() * len(octets))
+            octet = MARKS[int(draw() * len(MARKS))] if draw() < 0.7 else int(draw() * 256)
+            change = draw()
+            if change < 0.5:
+                octets[at] = octet
+            elif change < 0.75:
+                octets.insert(at, octet)
+            elif change < 0.9:
+                del octets[at]
+            elif change < 0.95:
+                del octets[max(1, at):]
+            else:
+                end = at + int(draw() * 12)
+                octets[at:at] = octets[at:end]
+            if not octets:
+                octets.append(octet)
         frames.append(bytes(octets))
-    stream = b"".join(str(len(frame)).encode() + b" " + frame for frame in frames)
+    return frames
+
+
+def first_difference(seen, expected, frames):
+    """The first line that is another than expected, with its frame."""
+    for n, (one, other) in enumerate(zip(seen.splitlines(), expected.splitlines())):
+        if one != other:
+            return f"{one!r} for {other!r}, frame {frames[n]!r}"
+    return f"{len(seen)} octets for {len(expected)}"
+
+
+def counted(frames):
+    return b"".join(b"%d %b" % (len(frame), frame) for frame in frames)
+
+
+def mutated(program, results, count=1_000_000):
+    """A million random and mutated records as one stream: each line, each place and each canonical record is that
+    of the second reading, and what was written is converted to itself."""
+    frames = mutations(count)
+    known = {frame: reference.read(frame) for frame in set(frames)}
+    read = [known[frame] for frame in frames]
+    stream = counted(frames)
     status, output, notes = run(program, ["check", "--framing", "counted"], stream)
-    lines = output.splitlines()
-    right = status == 1 and notes == b"" and len(lines) == len(frames)
-    results.check("a line for each mutated frame", right, f"{status} {len(lines)} {notes[:60]!r}")
-    numbered = all(line.startswith(str(n + 1).encode() + b" ") for n, line in enumerate(lines))
-    results.check("the lines are numbered from 1", numbered)
-    plain = all(lines[n].endswith(b" ok") for n, frame in enumerate(frames) if frame in (EXAMPLE, HELLO))
-    results.check("each unchanged record is accepted", plain)
+    lines = b"".join(b"%d %b\n" % (n, one if isinstance(one, bytes) else b"ok") for n, one in enumerate(read, 1))
+    results.check("the line of each mutated record", output == lines, first_difference(output, lines, frames))
+    results.check("mutated records are refused and no more", (status, notes) == (1, b""), f"{status} {notes[:60]!r}")
+    if converts_streams(program):
+        refusals = b"".join(b"%d %b\n" % (n, one) for n, one in enumerate(read, 1) if isinstance(one, bytes))
+        canonical = counted([reference.canonical(one) for one in read if not isinstance(one, bytes)])
+        status, output, notes = run(program, ["convert", "--framing", "counted"], stream)
+        results.check("mutated records are converted", status == 1 and output == canonical, f"{status} {len(output)}")
+        results.check("mutated records that are refused are told", notes == refusals, notes[:60])
+        seen = run(program, ["convert", "--framing", "counted", "--to", "counted"], output)
+        results.check("what was converted converts to itself", seen == (0, output, b""), f"{seen[0]} {len(seen[1])}")
+        status, lines, notes = run(program, ["check", "--framing", "counted"], output)
+        right = status == 0 and notes == b"" and lines.count(b" ok\n") == sum(not isinstance(one, bytes) for one in read)
+        results.check("what was converted is accepted", right, f"{status} {notes[:60]!r}")
+    if shows(program):
+        few = read[:count // 10]
+        fields = b"".join(reference.show(n, one) for n, one in enumerate(few, 1) if not isinstance(one, bytes))
+        status, output, _ = run(program, ["show", "--framing", "counted"], counted(frames[:count // 10]))
+        results.check("mutated records are shown", status == 1 and output == fields, f"{status} {len(output)}")
+
+
+def streams(program, results, count=400):
+    """Streams with changes anywhere, in their counts too."""
+    random = Random(6587)
+    convert = converts_streams(program)
+    long = [b"<0>1 - - - - - - " + b"a" * 65_519, b"<0>1 - - - - - [a k=\"" + b"\\n" * 32_756 + b"\"]", b"x" * 70_000]
+    pool = mutations(5_000)
+    good = {"check": 0, "convert": 0}
+    for _ in range(count):
+        framing = random.choice(["counted", "lf"])
+        to = random.choice(["counted", "lf"])
+        frames = random.choices(pool, k=random.randrange(8))
+        if random.random() < 0.1:
+            frames.insert(random.randrange(len(frames) + 1), random.choice(long))
+        octets = bytearray(b"".join(reference.framed(framing, frame) for frame in frames))
+        for _ in range(random.randrange(3)):
+            at = random.randrange(len(octets) + 1)
+            change = random.randrange(4)
+            if change == 0:
+                octets[at:at + 1] = bytes([random.choice(b"0123456789 \n<x")])
+            elif change == 1:
+                octets[at:at] = bytes([random.choice(b"0123456789 \n<x")])
+            elif change == 2:
+                del octets[at:at + 1]
+            else:
+                del octets[at:]
+        checked, output, told = reference.run_of(bytes(octets), framing, to)
+        seen = run(program, ["check", "--framing", framing], octets)
+        good["check"] += seen == (int(bool(re.search(rb"(?<! ok)\n", checked))), checked, b"")
+        if convert:
+            seen = run(program, ["convert", "--framing", framing, "--to", to], octets)
+            good["convert"] += seen == (int(bool(told)), output, told)
+    results.check("each changed stream is checked as it is read a second time", good["check"] == count, str(good))
+    if convert:
+        results.check("each changed stream is converted as it is read a second time", good["convert"] == count, str(good))
 
 
 def main():
     program = str(Path(sys.argv[1]).resolve())
     trial = str(Path(sys.argv[2]).resolve())
     results = Results()
+    for command, has_come in [("convert", converts_streams(program)), ("show", shows(program))]:
+        if not has_come:
+            print(f"{command} has not come whole: its rows are left out")
     with tempfile.TemporaryDirectory() as folder:
         shim = f"{folder}/shim.so"
         subprocess.run(["gcc", "-shared", "-fPIC", "-O1", "-o", shim, str(HERE / "shim.c"), "-ldl"], check=True)
         rows(program, results)
+        manual(program, results)
         mutated(program, results)
+        streams(program, results)
         devices(program, results)
         memory(program, results, shim, f"{folder}/counts")
         calls(program, results, shim, f"{folder}/counts")
+        pieces(program, results, shim, f"{folder}/counts")
+        many_ids(program, results)
         trials(trial, results, shim, f"{folder}/counts")
     print(f"{results.passed} passed, {results.failed} failed")
     sys.exit(1 if results.failed else 0)

@@ -2,6 +2,7 @@
 //! refused. No trial tells a time; the script that runs it measures the process.
 #![tactic(auto)]
 
+mod grammar;
 mod grow;
 mod pace;
 mod value;
@@ -12,7 +13,7 @@ use std::{env, io};
 
 const USAGE: &str = "usage: trials time scan counted|lf SIZE ROUNDS
        trials time copy SIZE ROUNDS
-       trials grow frame|value";
+       trials grow frame|value|grammar";
 
 /// The word at a place; none is an empty word.
 fn word(words: &[String], place: usize) -> &str {
@@ -31,6 +32,7 @@ fn run(rt: &impl Print, alloc: Global, words: &[String]) -> io::Result<()> {
         ("time", "copy") => pace::copy(rt, alloc, word(words, 2), word(words, 3)),
         ("grow", "frame") => grow::frame(rt, alloc),
         ("grow", "value") => value::value(rt, alloc),
+        ("grow", "grammar") => grammar::grammar(rt, alloc),
         _ => println!(rt; "{USAGE}"),
     }
 }

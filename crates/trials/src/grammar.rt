@@ -1,0 +1,74 @@
+//! Each call of `syslog_grammar` that takes memory, and the copy of a record, with its outcome on a
+//! line: `ok` and what came of it, or `memory` and what was left.
+
+use std::alloc::{AllocError, Global};
+use std::io;
+use syslog_grammar::{DecodeFault, RecordView, canon, decode, put_canonical, view};
+use syslog_value::Record;
+
+/// Two elements, the greater id first, values with escapes, and a message that is a text.
+const OCTETS: &[u8] =
+    b"<34>1 2003-10-11T22:14:15.003+02:00 host su 77 ID47 [b k=\"x\\n\\\"\\]\" l=\"\"][a m=\"\xc3\xa9\"] \xef\xbb\xbfgr\xc3\xb6\xc3\x9fe";
+
+/// Their canonical form.
+const CANONICAL: &[u8] =
+    b"<34>1 2003-10-11T20:14:15.003000Z host su 77 ID47 [a m=\"\xc3\xa9\"][b k=\"x\\\\n\\\"\\]\" l=\"\"] \xef\xbb\xbfgr\xc3\xb6\xc3\x9fe";
+
+/// What stands in the vector before.
+const BEFORE: &[u8] = b"before ";
+
+/// `canon` and `copy` of the record.
+fn whole(rt: &impl Print, alloc: Global, record: &Record) -> io::Result<()> {
+    match canon(alloc, record) {
+        Ok(octets) if octets.as_slice() == CANONICAL => {
+            let count = octets.len();
+            println!(rt; "canon: ok, {count} octets")?
+        }
+        Ok(_) => println!(rt; "canon: other octets")?,
+        Err(AllocError) => println!(rt; "canon: memory")?,
+    }
+    match record.copy(alloc) {
+        Ok(copy) if copy == *record => println!(rt; "copy: ok, copied"),
+        Ok(_) => println!(rt; "copy: another copy"),
+        Err(AllocError) => println!(rt; "copy: memory"),
+    }
+}
+
+/// `put_canonical` behind octets that were there before.
+fn put(rt: &impl Print, alloc: Global, seen: &RecordView<'_>) -> io::Result<()> {
+    let Ok(mut out) = BEFORE.to_vec(alloc) else {
+        return println!(rt; "put_canonical: memory for what stands before");
+    };
+    let outcome = put_canonical(alloc, seen, &mut out);
+    let octets = out.len();
+    match outcome {
+        Ok(()) => println!(rt; "put_canonical: ok, {octets} octets"),
+        Err(AllocError) if out.as_slice() == BEFORE => {
+            println!(rt; "put_canonical: memory, unchanged at {octets} octets")
+        }
+        Err(AllocError) => println!(rt; "put_canonical: memory, changed to {octets} octets"),
+    }
+}
+
+/// Every call of `syslog_grammar` that takes memory.
+pub fn grammar(rt: &impl Print, alloc: Global) -> io::Result<()> {
+    match decode(alloc, OCTETS) {
+        Ok(record) => {
+            let count = record.structured().elements().len();
+            println!(rt; "decode: ok, {count} elements")?
+        }
+        Err(DecodeFault::Memory) => println!(rt; "decode: memory")?,
+        Err(fault) => println!(rt; "decode: {fault}")?,
+    }
+    let Ok(seen) = view(OCTETS) else {
+        return println!(rt; "view: refused");
+    };
+    match seen.to_record(alloc) {
+        Ok(record) => {
+            println!(rt; "to_record: ok")?;
+            whole(rt, alloc, &record)?
+        }
+        Err(AllocError) => println!(rt; "to_record: memory")?,
+    }
+    put(rt, alloc, &seen)
+}

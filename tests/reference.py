@@ -1,0 +1,366 @@
+"""A second reading of syslog records (RFC 5424, section 6) and of streams (RFC 6587, section 3.4), written apart
+from the program and beside it in tests only: what `check` tells of octets, their canonical form, and what `show`
+prints.
+
+Whether octets are a record is told by one regular expression, with the calendar and UTF-8 of Python. The place
+of a fault is found by reading on as far as some record goes on.
+"""
+import re
+from datetime import date
+
+NAME = rb'[!#-<>-\\^-~]{1,32}'
+VALUE = rb'(?:[^"\\\]]|\\.)*'
+TIME = rb'(\d{4})-(\d\d)-(\d\d)T(\d\d):(\d\d):(\d\d)(?:\.(\d{1,6}))?(?:Z|([+-])(\d\d):(\d\d))'
+PARAM = rb' (%b)="(%b)"' % (NAME, VALUE)
+ELEMENT = rb'\[(%b)((?: %b="%b")*)\]' % (NAME, NAME, VALUE)
+RECORD = re.compile(rb'<(0|[1-9]\d?|1[0-8]\d|19[01])>1 ([!-~]+) ([!-~]{1,255}) ([!-~]{1,48}) ([!-~]{1,128}) '
+                    rb'([!-~]{1,32}) (-|(?:\[%b(?: %b="%b")*\])+)( .*)?' % (NAME, NAME, VALUE), re.DOTALL)
+TIME_OF = re.compile(TIME)
+PARAMS_OF = re.compile(PARAM, re.DOTALL)
+ELEMENTS_OF = re.compile(ELEMENT, re.DOTALL)
+MARK = b"\xef\xbb\xbf"
+
+LEAST = -62_167_219_200_000_000
+GREATEST = 253_402_300_799_999_999
+EPOCH = date(1970, 1, 1).toordinal()
+CYCLE = 146_097  # the days of 400 years
+
+FACILITIES = ["kern", "user", "mail", "daemon", "auth", "syslog", "lpr", "news", "uucp", "cron", "authpriv", "ftp", "ntp",
+              "audit", "alert", "clock"] + [f"local{n}" for n in range(8)]
+SEVERITIES = ["emerg", "alert", "crit", "err", "warning", "notice", "info", "debug"]
+FIELDS = ["timestamp", "hostname", "app-name", "procid", "msgid", "structured-data", "message"]
+
+
+def is_utf8(octets):
+    try:
+        octets.decode()
+        return True
+    except UnicodeDecodeError:
+        return False
+
+
+# ---------------------------------------------------------------- records
+
+def days_of(year, month):
+    leap = year % 4 == 0 and year % 100 != 0 or year % 400 == 0
+    return [31, 29 if leap else 28, 31, 30, 31, 30, 31, 31, 30, 31, 30, 31][month - 1]
+
+
+def instant(text):
+    """The microseconds since 1970 of a timestamp, which may be out of range; None where it is none."""
+    seen = TIME_OF.fullmatch(text)
+    if not seen:
+        return None
+    year, month, day, hour, minute, second = (int(part) for part in seen.groups()[:6])
+    fraction, sign, ahead_hours, ahead_minutes = seen.groups()[6:]
+    if not (1 <= month <= 12 and 1 <= day <= days_of(year, month) and hour < 24 and minute < 60 and second < 60):
+        return None
+    ahead = 0
+    if sign:
+        if int(ahead_hours) > 23 or int(ahead_minutes) > 59:
+            return None
+        ahead = int(sign + b"1") * (int(ahead_hours) * 60 + int(ahead_minutes))
+    days = date(year or 400, month, day).toordinal() - EPOCH - (0 if year else CYCLE)
+    micros = int((fraction or b"").ljust(6, b"0"))
+    return (((days * 24 + hour) * 60 + minute - ahead) * 60 + second) * 1_000_000 + micros
+
+
+def timestamp(micros):
+    """The canonical timestamp of an instant."""
+    days, rest = divmod(micros, 86_400_000_000)
+    second, micro = divmod(rest, 1_000_000)
+    ordinal = days + EPOCH
+    day = date.fromordinal(ordinal if ordinal >= 1 else ordinal + CYCLE)
+    year = day.year - (0 if ordinal >= 1 else 400)
+    return (f"{year:04d}-{day.month:02d}-{day.day:02d}T{second // 3600:02d}:{second // 60 % 60:02d}:{second % 60:02d}"
+            f".{micro:06d}Z").encode()
+
+
+class Record:
+    """What stands in well-formed octets."""
+
+    def __init__(self, priority, micros, words, elements, message):
+        self.priority = priority
+        self.micros = micros
+        self.words = words
+        self.elements = elements
+        self.message = message
+
+
+def raw_elements(data):
+    """The elements of structured data in the octets' order, with the place of each id in the data."""
+    return [(seen.group(1), seen.start(1), PARAMS_OF.findall(seen.group(2))) for seen in ELEMENTS_OF.finditer(data)]
+
+
+def unescaped(raw):
+    return re.sub(rb'\\(["\\\]])', rb"\1", raw)
+
+
+def parsed(octets):
+    """The match of the octets where they are of the grammar, else None."""
+    seen = RECORD.fullmatch(octets)
+    if not seen:
+        return None
+    time, data, tail = seen.group(2), seen.group(7), seen.group(8)
+    if time != b"-" and instant(time) is None:
+        return None
+    if data != b"-" and not all(is_utf8(raw) for _, _, params in raw_elements(data) for _, raw in params):
+        return None
+    if tail and tail.startswith(b" " + MARK) and not is_utf8(tail[4:]):
+        return None
+    return seen
+
+
+def repeated(seen):
+    """The place of the first id that repeats an earlier one, or None."""
+    known = set()
+    for name, at, _ in raw_elements(seen.group(7)):
+        if name in known:
+            return seen.start(7) + at
+        known.add(name)
+    return None
+
+
+def read(octets):
+    """The record, or the refusal as `check` prints it behind the number."""
+    seen = parsed(octets)
+    if not seen:
+        return syntax(octets)
+    time = seen.group(2)
+    micros = None if time == b"-" else instant(time)
+    if micros is not None and not LEAST <= micros <= GREATEST:
+        return f"instant-range {seen.start(2)}".encode()
+    again = repeated(seen) if seen.group(7) != b"-" else None
+    if again is not None:
+        return f"repeated-id {again}".encode()
+    elements = sorted((name, params) for name, _, params in raw_elements(seen.group(7)))
+    elements = [(name, [(param, unescaped(raw)) for param, raw in params]) for name, params in elements]
+    return Record(int(seen.group(1)), micros, seen.groups()[2:6], elements, (seen.group(8) or b"")[1:])
+
+
+# ---------------------------------------------------------------- what is printed
+
+def canonical(record):
+    """The canonical octets."""
+    time = b"-" if record.micros is None else timestamp(record.micros)
+    data = b"".join(
+        b"[%b%b]" % (name, b"".join(b' %b="%b"' % (param, re.sub(rb'(["\\\]])', rb"\\\1", value)) for param, value in params))
+        for name, params in record.elements)
+    front = b"<%d>1 %b %b %b" % (record.priority, time, b" ".join(record.words), data or b"-")
+    return front + b" " + record.message if record.message else front
+
+
+def shown(octets):
+    return b"".join(bytes([octet]) if 32 <= octet <= 126 and octet not in b'"\\' else b"\\x%02x" % octet for octet in octets)
+
+
+def show(number, record):
+    """The lines of `show`."""
+    lines = [b"record %d" % number,
+             f"priority {record.priority} {FACILITIES[record.priority // 8]} {SEVERITIES[record.priority % 8]}".encode(),
+             b"time " + (b"-" if record.micros is None else timestamp(record.micros))]
+    lines += [label + b" " + word for label, word in zip([b"host", b"app", b"proc", b"msgid"], record.words)]
+    for name, params in record.elements:
+        lines.append(b"element " + name)
+        lines += [b'param %b "%b"' % (param, shown(value)) for param, value in params]
+    marked = record.message.startswith(MARK)
+    text = record.message[3:] if marked else record.message
+    lines.append(b'message %b "%b"' % (b"utf8" if marked else b"any", shown(text)))
+    return b"".join(line + b"\n" for line in lines)
+
+
+# ---------------------------------------------------------------- the place of a fault
+
+def syntax(octets):
+    """The refusal of octets outside the grammar."""
+    field, place = fault(octets)
+    return f"syntax {field} {place}".encode()
+
+
+FRONT = re.compile(rb'(?:<(?:(?:1[0-8]\d|19[01]|[1-9]\d|\d)(?:>(?:1(?: )?)?)?)?)?')
+
+
+def fault(octets):
+    """The field, and the length of the longest front that some record begins with."""
+    at = FRONT.match(octets).end()
+    front = octets[:at]
+    if not front.endswith(b" "):
+        return ("version" if b">" in front else "priority"), at
+    at, whole = (at + 1, True) if octets[at:at + 1] == b"-" else time_place(octets, at)
+    if not whole or octets[at:at + 1] != b" ":
+        return "timestamp", at
+    for field, most in zip(FIELDS[1:5], [255, 48, 128, 32]):
+        begin = at + 1
+        at = re.compile(rb"[!-~]{0,%d}" % most).match(octets, begin).end()
+        if at == begin or octets[at:at + 1] != b" ":
+            return field, at
+    at, whole = (at + 2, True) if octets[at + 1:at + 2] == b"-" else elements_place(octets, at + 1)
+    if not whole or octets[at:at + 1] != b" ":
+        return "structured-data", at
+    assert octets[at + 1:at + 4] == MARK
+    return "message", utf8_place(octets, at + 4)
+
+
+def days_first(front):
+    """The digits that can begin the day behind `YYYY-MM-`."""
+    return b"012" if front[5:7] == b"02" else b"0123"
+
+
+def days_second(front):
+    last = days_of(int(front[:4]), int(front[5:7]))
+    return bytes(octet for octet in b"0123456789" if 1 <= int(front[8:9] + bytes([octet])) <= last)
+
+
+DIGITS = b"0123456789"
+# what can stand at each place of `YYYY-MM-DDThh:mm:ss`: octets, or a function of the front before the place
+PLACES = [DIGITS, DIGITS, DIGITS, DIGITS, b"-", b"01", lambda front: b"123456789" if front[5:6] == b"0" else b"012", b"-",
+          days_first, days_second, b"T", b"012", lambda front: DIGITS if front[11:12] != b"2" else b"0123", b":", b"012345",
+          DIGITS, b":", b"012345", DIGITS]
+AHEAD = [b"012", lambda front: DIGITS if front[0:1] != b"2" else b"0123", b":", b"012345", DIGITS]
+
+
+def follow(places, octets, begin):
+    """How far the octets follow, and whether to the end."""
+    for n, place in enumerate(places):
+        can = place if isinstance(place, bytes) else place(octets[begin:begin + n])
+        octet = octets[begin + n:begin + n + 1]
+        if not octet or octet not in can:
+            return begin + n, False
+    return begin + len(places), True
+
+
+def time_place(octets, begin):
+    at, whole = follow(PLACES, octets, begin)
+    if not whole:
+        return at, False
+    if octets[at:at + 1] == b".":
+        begin = at + 1
+        at = re.compile(rb"\d{0,6}").match(octets, begin).end()
+        if at == begin:
+            return at, False
+    sign = octets[at:at + 1]
+    if sign == b"Z":
+        return at + 1, True
+    return follow(AHEAD, octets, at + 1) if sign in (b"+", b"-") else (at, False)
+
+
+NAME_FRONT = re.compile(rb'[!#-<>-\\^-~]{0,32}')
+VALUE_FRONT = re.compile(VALUE, re.DOTALL)
+
+
+def elements_place(octets, at):
+    """Elements as far as they go; at least one is wanted."""
+    whole = False
+    while octets[at:at + 1] == b"[":
+        at, whole = element_place(octets, at + 1)
+        if not whole:
+            return at, False
+    return at, whole
+
+
+def element_place(octets, begin):
+    at = NAME_FRONT.match(octets, begin).end()
+    if at == begin:
+        return at, False
+    while octets[at:at + 1] == b" ":
+        at, whole = param_place(octets, at + 1)
+        if not whole:
+            return at, False
+    return (at + 1, True) if octets[at:at + 1] == b"]" else (at, False)
+
+
+def param_place(octets, begin):
+    at = NAME_FRONT.match(octets, begin).end()
+    if at == begin:
+        return at, False
+    for octet in (b"=", b'"'):
+        if octets[at:at + 1] != octet:
+            return at, False
+        at += 1
+    end = VALUE_FRONT.match(octets, at).end()
+    stop = utf8_place(octets, at)
+    if stop <= end and not is_utf8(octets[at:end]):
+        return stop, False
+    if octets[end:end + 1] == b'"':
+        return end + 1, True
+    return (len(octets) if octets[end:] == b"\\" else end), False
+
+
+# RFC 3629, section 4: the first octets, and what can stand behind them
+FOLLOWERS = ([(range(0xC2, 0xE0), [range(0x80, 0xC0)]), (range(0xE0, 0xE1), [range(0xA0, 0xC0), range(0x80, 0xC0)]),
+              (range(0xED, 0xEE), [range(0x80, 0xA0), range(0x80, 0xC0)]),
+              (range(0xE1, 0xF0), [range(0x80, 0xC0)] * 2),
+              (range(0xF0, 0xF1), [range(0x90, 0xC0)] + [range(0x80, 0xC0)] * 2),
+              (range(0xF1, 0xF4), [range(0x80, 0xC0)] * 3),
+              (range(0xF4, 0xF5), [range(0x80, 0x90)] + [range(0x80, 0xC0)] * 2)])
+
+
+def utf8_place(octets, begin):
+    """How far the octets go on as UTF-8."""
+    try:
+        octets[begin:].decode()
+        return len(octets)
+    except UnicodeDecodeError as error:
+        at = begin + error.start
+    for first, followers in FOLLOWERS:
+        if octets[at] in first:
+            for n, can in enumerate(followers, 1):
+                if at + n >= len(octets) or octets[at + n] not in can:
+                    return at + n
+    return at
+
+
+# ---------------------------------------------------------------- streams
+
+FRAME_MAX = 65_535
+COUNT = re.compile(rb"([1-9]\d{0,9}) ")
+COUNT_FRONT = re.compile(rb"(?:[1-9]\d{0,9})?")
+
+
+def counted_frames(octets):
+    """The frames, None for one that is too long, and how the stream stops: a line behind the number or without one."""
+    frames, at = [], 0
+    while at < len(octets):
+        seen = COUNT.match(octets, at)
+        if not seen:
+            stop = COUNT_FRONT.match(octets, at).end()
+            return frames, f"unterminated {at}" if stop == len(octets) else f"{len(frames) + 1} bad-count {stop}"
+        count = int(seen.group(1))
+        if len(octets) - seen.end() < count:
+            return frames, f"unterminated {at}"
+        frames.append(octets[seen.end():seen.end() + count] if count <= FRAME_MAX else None)
+        at = seen.end() + count
+    return frames, None
+
+
+def line_frames(octets):
+    *lines, rest = octets.split(b"\n")
+    frames = [line if len(line) <= FRAME_MAX else None for line in lines]
+    return frames, f"unterminated {len(octets) - len(rest)}" if rest else None
+
+
+def framed(framing, octets):
+    return b"%d %b" % (len(octets), octets) if framing == "counted" else octets + b"\n"
+
+
+def run_of(octets, framing, to):
+    """What `check` writes, and what `convert` writes to its output and tells."""
+    frames, stop = counted_frames(octets) if framing == "counted" else line_frames(octets)
+    checked, output, told = [], [], []
+    for n, frame in enumerate(frames, 1):
+        one = b"too-long" if frame is None else read(frame)
+        checked.append(b"%d %b" % (n, one if isinstance(one, bytes) else b"ok"))
+        if isinstance(one, bytes):
+            told.append(checked[-1])
+            continue
+        octets = canonical(one)
+        if to == "lf" and b"\n" in octets:
+            told.append(b"%d has-lf" % n)
+        elif len(octets) > FRAME_MAX:
+            told.append(b"%d canonical-too-long" % n)
+        else:
+            output.append(framed(to, octets))
+    if stop:
+        checked.append(stop.encode())
+        told.append(stop.encode())
+    return b"".join(line + b"\n" for line in checked), b"".join(output), b"".join(line + b"\n" for line in told)

@@ -1,0 +1,167 @@
+"""Tables of what the program is given and must give."""
+
+HELLO = b"<165>1 - - - - - - hello"
+EXAMPLE = (b"<165>1 2003-08-24T05:14:15.000003-07:00 192.0.2.1 myproc 8710 - - "
+           b"%% It's time to make the do-nuts.")
+MARK = b"\xef\xbb\xbf"
+ELEMENTS = (b'<34>1 2003-10-11T22:14:15.003Z mymachine.example.com su - ID47 [exampleSDID@32473 iut="3" eventSource='
+            b'"a\\]b\\\\c\\"d"][class@32473 high="1"] ' + MARK + "größe".encode())
+NIL = b"<0>1 - - - - - "  # all up to the structured data
+LARGEST = NIL + b'[a k="' + b"\\n" * 32_756 + b'"]'  # 65,535 octets, canonical 98,291
+B = b"<14>1 2024-02-29T23:30:00.000000Z h a - - -"
+
+# a record, and its canonical form
+RECORDS = [
+    ("nil fields", HELLO, HELLO),
+    ("the example of RFC 5424", EXAMPLE,
+     b"<165>1 2003-08-24T12:14:15.000003Z 192.0.2.1 myproc 8710 - - %% It's time to make the do-nuts."),
+    ("an instant ahead of UTC", b"<14>1 2024-03-01T00:30:00+01:00 h a - - -", B),
+    ("the same instant in UTC", b"<14>1 2024-02-29T23:30:00.0Z h a - - -", B),
+    ("minus no offset", b"<14>1 2024-02-29T23:30:00-00:00 h a - - -", B),
+    ("the first instant", b"<0>1 0000-01-01T00:00:00Z - - - - -", b"<0>1 0000-01-01T00:00:00.000000Z - - - - -"),
+    ("the last instant", b"<0>1 9999-12-31T23:59:59.999999Z - - - - -", b"<0>1 9999-12-31T23:59:59.999999Z - - - - -"),
+    ("a leap day of the year 0", b"<0>1 0000-02-29T01:00:00.1+01:00 - - - - -", b"<0>1 0000-02-29T00:00:00.100000Z - - - - -"),
+    ("a regular backslash", NIL + b'[a k="x\\n"]', NIL + b'[a k="x\\\\n"]'),
+    ("an escaped backslash", NIL + b'[a k="x\\\\n"]', NIL + b'[a k="x\\\\n"]'),
+    ("each escape", NIL + b'[a k="\\"\\]\\\\" l=""]', NIL + b'[a k="\\"\\]\\\\" l=""]'),
+    ("a parameter twice", NIL + b'[a k="1" k="2"]', NIL + b'[a k="1" k="2"]'),
+    ("parameters in their order", NIL + b'[a l="1" k="2"]', NIL + b'[a l="1" k="2"]'),
+    ("elements by id", NIL + b"[b][a]", NIL + b"[a][b]"),
+    ("elements by id, not by length", NIL + b"[b][ab][B][a] x", NIL + b"[B][a][ab][b] x"),
+    ("no message", NIL + b"-", NIL + b"-"),
+    ("an empty message", NIL + b"- ", NIL + b"-"),
+    ("the mark alone", NIL + b"- " + MARK, NIL + b"- " + MARK),
+    ("a part of the mark", NIL + b"- " + MARK[:2], NIL + b"- " + MARK[:2]),
+    ("a text", NIL + b"- " + MARK + "größe".encode(), NIL + b"- " + MARK + "größe".encode()),
+    ("any octets", b"<191>1 - - - - - - \x00\xff\n\r ", b"<191>1 - - - - - - \x00\xff\n\r "),
+    ("a line feed at the end", HELLO + b"\n", HELLO + b"\n"),
+    ("a host of 255 octets", b"<0>1 - " + b"a" * 255 + b" - - - -", b"<0>1 - " + b"a" * 255 + b" - - - -"),
+    ("words of the greatest lengths", b"<0>1 - " + b"h" * 255 + b" " + b"a" * 48 + b" " + b"p" * 128 + b" " + b"m" * 32 + b" -",
+     b"<0>1 - " + b"h" * 255 + b" " + b"a" * 48 + b" " + b"p" * 128 + b" " + b"m" * 32 + b" -"),
+    ("the longest record", HELLO + b"x" * (65_535 - 24), HELLO + b"x" * (65_535 - 24)),
+    ("the longest canonical form", LARGEST, NIL + b'[a k="' + b"\\\\n" * 32_756 + b'"]'),
+]
+
+# octets that are no record, and what is told behind the number
+REFUSED = [
+    ("no octets", b"", b"syntax priority 0"),
+    ("no priority", b"<>", b"syntax priority 1"),
+    ("a priority above 191", b"<192>1 -", b"syntax priority 3"),
+    ("a leading zero", b"<007>1 -", b"syntax priority 2"),
+    ("a version of two digits", b"<0>10 -", b"syntax version 4"),
+    ("another version", b"<0>2", b"syntax version 3"),
+    ("29 February 2003", b"<0>1 2003-02-29T00:00:00Z - - - - -", b"syntax timestamp 14"),
+    ("second 60", b"<0>1 2003-02-28T00:00:60Z - - - - -", b"syntax timestamp 22"),
+    ("month 13", b"<0>1 2024-13", b"syntax timestamp 11"),
+    ("30 February", b"<0>1 2023-02-3", b"syntax timestamp 13"),
+    ("31 April", b"<0>1 2023-04-31", b"syntax timestamp 14"),
+    ("a fraction of no digits", b"<0>1 2003-02-28T00:00:00.Z", b"syntax timestamp 25"),
+    ("a fraction of seven digits", b"<0>1 2003-02-28T00:00:00.1234567Z", b"syntax timestamp 31"),
+    ("hour 24 of an offset", b"<0>1 2003-02-28T00:00:00+24:00", b"syntax timestamp 26"),
+    ("an instant behind the last", b"<0>1 9999-12-31T23:59:59-00:01 - - - - -", b"instant-range 5"),
+    ("an instant before the first", b"<0>1 0000-01-01T00:00:59+00:01 - - - - -", b"instant-range 5"),
+    ("a fault comes before the instant's range", b"<0>1 9999-12-31T23:59:59-00:01 - - - - x", b"syntax structured-data 39"),
+    ("two spaces", b"<0>1 -  -", b"syntax hostname 7"),
+    ("an end inside the host", b"<0>1 - ab", b"syntax hostname 9"),
+    ("a host of 256 octets", b"<0>1 - " + b"a" * 256 + b" - - - -", b"syntax hostname 262"),
+    ("an end behind the message id", b"<0>1 - - - - -", b"syntax msgid 14"),
+    ("no structured data", NIL, b"syntax structured-data 15"),
+    ("octets behind the structured data", NIL + b"-x", b"syntax structured-data 16"),
+    ("an element without an id", NIL + b"[]", b"syntax structured-data 16"),
+    ("a parameter without a name", NIL + b"[a ]", b"syntax structured-data 18"),
+    ("an id of 33 octets", NIL + b"[" + b"a" * 33, b"syntax structured-data 48"),
+    ("a bracket without a backslash", NIL + b'[a k="]"]', b"syntax structured-data 21"),
+    ("octets that are no UTF-8", NIL + b'[a k="\xe0\x80"]', b"syntax structured-data 22"),
+    ("an escaped quotation mark last", NIL + b'[a k="x\\"]', b"syntax structured-data 24"),
+    ("a backslash before FF", NIL + b'[a k="\\\xff', b"syntax structured-data 22"),
+    ("a repeated id", NIL + b"[a][b][a]", b"repeated-id 22"),
+    ("a fault comes before a repeated id", NIL + b"[a][a]x", b"syntax structured-data 21"),
+    ("a text that is no UTF-8", NIL + b"- " + MARK + b"\xff", b"syntax message 20"),
+    ("a text that ends inside a character", NIL + b"- " + MARK + b"\xe2\x82", b"syntax message 22"),
+    ("one octet too many", HELLO + b"x" * (65_536 - 24), b"too-long"),
+    ("a long input", HELLO + b"x" * 1_000_000, b"too-long"),
+]
+
+LINES = b"\nx\n" + b"a" * 65_536 + b"\n<0>1 - - - - - -"
+TOLD = b"1 syntax priority 0\n2 syntax priority 0\n3 too-long\n"
+
+# words, standard input, status, standard output, standard error (None: any text, but some)
+ALWAYS = [
+    ("counted frames", ["check", "--framing", "counted"], b"16 <0>1 - - - - - -17 <0>1 - - - - - - ", 0, b"1 ok\n2 ok\n", b""),
+    ("a bad count", ["check", "--framing", "counted"], b"016 ", 1, b"1 bad-count 0\n", b""),
+    ("a count of zero", ["check", "--framing", "counted"], b"0 ", 1, b"1 bad-count 0\n", b""),
+    ("a count without its space", ["check", "--framing", "counted"], b"16<", 1, b"1 bad-count 2\n", b""),
+    ("a count of eleven digits", ["check", "--framing", "counted"], b"12345678901 ", 1, b"1 bad-count 10\n", b""),
+    ("a bad count behind a frame", ["check", "--framing=counted"], b"16 <0>1 - - - - - -x", 1, b"1 ok\n2 bad-count 19\n", b""),
+    ("an unfinished frame", ["check", "--framing", "counted"], b"16 <0>", 1, b"unterminated 0\n", b""),
+    ("an unfinished count", ["check", "--framing", "counted"], b"16 <0>1 - - - - - -16", 1, b"1 ok\nunterminated 19\n", b""),
+    ("lines", ["check", "--framing", "lf"], LINES + b"\n", 1, TOLD + b"4 ok\n", b""),
+    ("an unfinished line", ["check", "--framing", "lf"], LINES, 1, TOLD + b"unterminated 65540\n", b""),
+    ("no lines", ["check", "--framing", "lf"], b"", 0, b"", b""),
+    ("no counted frames", ["check", "--framing", "counted"], b"", 0, b"", b""),
+    ("the framing of datagrams", ["check", "--framing", "datagram"], b"", 1, b"1 syntax priority 0\n", b""),
+    ("an unknown framing", ["check", "--framing", "tcp"], HELLO, 2, b"", None),
+    ("an empty framing", ["check", "--framing="], HELLO, 2, b"", None),
+    ("an option given twice", ["check", "--framing", "lf", "--framing", "lf"], HELLO, 2, b"", None),
+    ("an option without its value", ["check", "--framing"], HELLO, 2, b"", None),
+    ("check writes in no framing", ["check", "--to", "lf"], HELLO, 2, b"", None),
+    ("no words", [], HELLO, 2, b"", None),
+    ("an unknown word", ["konvert"], HELLO, 2, b"", None),
+    ("a word too many", ["convert", "x"], HELLO, 2, b"", None),
+    ("an unknown option", ["convert", "--x"], HELLO, 2, b"", None),
+    ("an empty word", [""], HELLO, 2, b"", None),
+    ("help", ["--help"], HELLO, 2, b"", None),
+    ("help in short", ["-h"], HELLO, 2, b"", None),
+    ("help as a word", ["help"], HELLO, 2, b"", None),
+    ("help of a command", ["help", "convert"], HELLO, 2, b"", None),
+    ("the version", ["--version"], HELLO, 2, b"", None),
+    ("a word that is no UTF-8", [b"\xff"], HELLO, 2, b"", None),
+]
+
+# `convert` while it reads only datagrams whose fields are nil
+NIL_ALONE = [
+    ("a record with nil fields", ["convert"], HELLO, 0, HELLO, b""),
+    ("an empty message", ["convert"], NIL + b"- ", 0, NIL + b"-", b""),
+    ("any octets", ["convert"], b"<191>1 - - - - - - \x00\xff\n\r ", 0, b"<191>1 - - - - - - \x00\xff\n\r ", b""),
+    ("one octet too many", ["convert"], HELLO + b"x" * (65_536 - 24), 1, b"", b"1 too-long\n"),
+    ("a priority above 191", ["convert"], b"<192>1 - - - - - - x", 1, b"", b"1 unsupported\n"),
+    ("no octets", ["convert"], b"", 1, b"", b"1 unsupported\n"),
+    ("a time", ["convert"], b"<0>1 2024-02-29T00:00:00Z - - - - -", 1, b"", b"1 unsupported\n"),
+]
+
+COUNTED, LF = ["--framing", "counted"], ["--framing", "lf"]
+TWICE = b"<0>1 - - - - - -\n<0>1 - - - - - -\n"
+SHOWN = (b"record 1\npriority 165 local4 notice\ntime -\nhost -\napp -\nproc -\nmsgid -\nelement a\n"
+         b'param k "x\\x5cn"\nmessage any "hi"\n')
+
+# `convert` and `show` of streams
+STREAMS = [
+    ("counted frames to lines", ["convert", *COUNTED, "--to", "lf"], b"16 <0>1 - - - - - -17 <0>1 - - - - - - ", 0, TWICE, b""),
+    ("counted frames stay counted", ["convert", *COUNTED], b"17 <0>1 - - - - - - ", 0, b"16 <0>1 - - - - - -", b""),
+    ("lines to counted frames", ["convert", *LF, "--to", "counted"], b"<0>1 - - - - - - \n", 0, b"16 <0>1 - - - - - -", b""),
+    ("lines stay lines", ["convert", *LF], b"<0>1 - - - - - - \n<0>1 - - - - - -\n", 0, TWICE, b""),
+    ("a datagram to a line", ["convert", "--to", "lf"], HELLO, 0, HELLO + b"\n", b""),
+    ("a datagram to a counted frame", ["convert", "--to", "counted"], HELLO, 0, b"24 " + HELLO, b""),
+    ("a canonical form with a line feed", ["convert", "--to", "lf"], NIL + b"- a\nb", 1, b"", b"1 has-lf\n"),
+    ("a counted frame with a line feed to a line", ["convert", *COUNTED, "--to", "lf"], b"20 " + NIL + b"- a\nb16 " + NIL + b"-",
+     1, NIL + b"-\n", b"1 has-lf\n"),
+    ("a canonical form too long to be counted", ["convert", "--to", "counted"], LARGEST, 1, b"", b"1 canonical-too-long\n"),
+    ("a canonical form too long for a line", ["convert", "--to", "lf"], LARGEST, 1, b"", b"1 canonical-too-long\n"),
+    ("a line feed comes before the length", ["convert", "--to", "lf"], LARGEST[:-3] + b'\n"]', 1, b"", b"1 has-lf\n"),
+    ("a stream whose canonical form is too long", ["convert", *LF], LARGEST + b"\n" + HELLO + b"\n", 1, HELLO + b"\n",
+     b"1 canonical-too-long\n"),
+    ("what is refused is told and passed over", ["convert", *LF], LINES + b"\n", 1, NIL + b"-\n", TOLD),
+    ("an unfinished line is not converted", ["convert", *LF], LINES, 1, b"", TOLD + b"unterminated 65540\n"),
+    ("nothing is read behind a bad count", ["convert", *COUNTED], b"16 <0>1 - - - - - -x16 <0>1 - - - - - -", 1,
+     b"16 <0>1 - - - - - -", b"2 bad-count 19\n"),
+    ("no lines to convert", ["convert", *LF], b"", 0, b"", b""),
+    ("unordered elements", ["convert"], NIL + b"[b][a]", 0, NIL + b"[a][b]", b""),
+    ("an unknown framing to convert to", ["convert", "--to", "tcp"], HELLO, 2, b"", None),
+    ("a framing to convert to twice", ["convert", "--to", "lf", "--to", "lf"], HELLO, 2, b"", None),
+    ("no datagram to convert to", ["convert", "--to", "datagram"], HELLO, 2, b"", None),
+    ("fields are shown", ["show"], b'<165>1 - - - - - [a k="x\\n"] hi', 0, SHOWN, b""),
+    ("lines are shown", ["show", *LF], HELLO + b"\nx\n" + HELLO + b"\n", 1,
+     b"".join(b"record %d\npriority 165 local4 notice\ntime -\nhost -\napp -\nproc -\nmsgid -\n"
+              b'message any "hello"\n' % n for n in (1, 3)), b"2 syntax priority 0\n"),
+    ("show writes in no framing", ["show", "--to", "lf"], HELLO, 2, b"", None),
+]
