@@ -94,7 +94,7 @@ time_some t b h = let f = fixed t b h in behind f.rest f.is f.behind
         → (FractionText t.civil.micros ⋅ ZoneText t.offset) rest → 20 ≤ len b
     behind rest e (x, y, f, g, h) = omega (arith, ap length e, together x y rest f, zone_some t.offset y h)
 
-civil_len : (c : Civil) → len (civil_text c) ≡ 27
+pub civil_len : (c : Civil) → len (civil_text c) ≡ 27
 unfolding civil_text
 civil_len c = refl
 
@@ -105,7 +105,7 @@ time_bound (Some t) b c h (d, exists, e, f) = omega (arith, ap length f, civil_l
 spaced_time : (t : Option CivilTime) (b c : List ℕ) → Spaced (Nilable TimeText t) b → (TimeForm (option_map instant t) ⋅ Only (32 ∷ [])) c → len c ≤ len b + 7
 spaced_time t b c (x, y, e, h, k) (u, v, f, i, j) = omega (arith, together x y b e, together u v c f, ap length k, ap length j, time_bound t x u h i)
 
-word_len : (n : ℕ) (w : Option (List ℕ)) (b : List ℕ) → Nilable (Word n) w b → b ≡ word_form w
+pub word_len : (n : ℕ) (w : Option (List ℕ)) (b : List ℕ) → Nilable (Word n) w b → b ≡ word_form w
 word_len n None b h = h
 word_len n (Some w) b h = h.1
 

@@ -20,7 +20,7 @@ weaker : (P Q : ElementParts → Type 0) → ((e : ElementParts) → P e → Q e
 weaker P Q each [] h = tt
 weaker P Q each (e ∷ es) h = (each e h.0, weaker P Q each es h.1)
 
-all_permuted : (P : ElementParts → Type 0) (es fs : List ElementParts) → IsPermutation es fs → AllByRecursion P es → AllByRecursion P fs
+pub all_permuted : (P : ElementParts → Type 0) (es fs : List ElementParts) → IsPermutation es fs → AllByRecursion P es → AllByRecursion P fs
 all_permuted P es fs p h = recursion_from_All P fs (All-permutation P es fs p (All-from_recursion P es h))
 
 -- ---- there is an order

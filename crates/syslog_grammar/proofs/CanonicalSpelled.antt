@@ -24,7 +24,7 @@ use Rattle.syslog_grammar.proofs.Values.{plain_or}
 
 -- ---- the header
 
-abbrev at_utc : Civil → CivilTime
+abbrev pub at_utc : Civil → CivilTime
 at_utc c = record { civil = c; offset = pos 0 }
 
 six : (m : ℕ) → m ≤ 999_999 → Decimals m (padded 6 m)
@@ -35,7 +35,7 @@ six m h = (
   omega arith,
 )
 
-civil_spelled : (c : Civil) → IsCivil c → TimeText (at_utc c) (civil_text c)
+pub civil_spelled : (c : Civil) → IsCivil c → TimeText (at_utc c) (civil_text c)
 unfolding civil_text
 civil_spelled c ((y, m0, m1, d0, d1), (h, i, s, u)) = (
   padded 4 c.year ++ (45 ∷ (padded 2 c.month ++ (45 ∷ padded 2 c.day))),
@@ -58,12 +58,12 @@ civil_spelled c ((y, m0, m1, d0, d1), (h, i, s, u)) = (
 )
 
 -- the time that a canonical text names
-record Named (i : Option ℤ) (b : List ℕ) : Type 0 where
+pub record Named (i : Option ℤ) (b : List ℕ) : Type 0 where
   pub time : Option CivilTime
   pub text : Nilable TimeText time b
   pub same : i ≡ option_map instant time
 
-named : (i : Option ℤ) (b : List ℕ) → TimeForm i b → Named i b
+pub named : (i : Option ℤ) (b : List ℕ) → TimeForm i b → Named i b
 named None b h = record { time = None; text = h; same = refl }
 named (Some i) b (c, exists, e, f) = record { time = Some (at_utc c); text = subst (TimeText (at_utc c)) (sym f) (civil_spelled c exists); same = ap Some (sym e) }
 
@@ -71,7 +71,7 @@ word_spelled : (n : ℕ) (w : Option (List ℕ)) (b : List ℕ) → IfSome w (Is
 word_spelled n None b h s = s
 word_spelled n (Some w) b h (x, y, e, f, g) = (x, y, e, (h, f), g)
 
-header_spelled : (r : Parts ℤ) (t : Option CivilTime) (time rest b : List ℕ) → IsRecord r → Nilable TimeText t time → b ≡ front_form r.priority ++ ((time ++ 32 ∷ []) ++ rest)
+pub header_spelled : (r : Parts ℤ) (t : Option CivilTime) (time rest b : List ℕ) → IsRecord r → Nilable TimeText t time → b ≡ front_form r.priority ++ ((time ++ 32 ∷ []) ++ rest)
     → (SpacedWord r.hostname ⋅ SpacedWord r.app_name ⋅ SpacedWord r.proc_id ⋅ SpacedWord r.msg_id) rest
     → Header (record { priority = r.priority; time = t; hostname = r.hostname; app_name = r.app_name; proc_id = r.proc_id; msg_id = r.msg_id }) b
 unfolding Header
@@ -123,7 +123,7 @@ value_spelled value h = let t = IsText-utf8 value h in let p = pieces t.0 value 
 
 -- ---- elements
 
-param_spelled : (p : ParamParts) → IsParam p → Param p (param_form p)
+pub param_spelled : (p : ParamParts) → IsParam p → Param p (param_form p)
 param_spelled p h = (
   32 ∷ [],
   p.name ++ (61 ∷ 34 ∷ (escaped p.value ++ 34 ∷ [])),
@@ -136,7 +136,7 @@ params_spelled : (ps : List ParamParts) → AllByRecursion IsParam ps → Each P
 params_spelled [] h = refl
 params_spelled (p ∷ ps) h = (param_form p, flat_map param_form ps, refl, param_spelled p h.0, params_spelled ps h.1)
 
-element_spelled : (e : ElementParts) → IsElement e → Element e (element_form e)
+pub element_spelled : (e : ElementParts) → IsElement e → Element e (element_form e)
 element_spelled e h = (
   91 ∷ [],
   e.id ++ (flat_map param_form e.params ++ 93 ∷ []),
@@ -149,13 +149,13 @@ elements_spelled : (es : List ElementParts) → AllByRecursion IsElement es → 
 elements_spelled [] h = refl
 elements_spelled (e ∷ es) h = (element_form e, flat_map element_form es, refl, element_spelled e h.0, elements_spelled es h.1)
 
-data_spelled : (es : List ElementParts) → AllByRecursion IsElement es → Data es (data_form es)
+pub data_spelled : (es : List ElementParts) → AllByRecursion IsElement es → Data es (data_form es)
 data_spelled [] h = refl
 data_spelled (e ∷ es) h = elements_spelled (e ∷ es) h
 
 -- ---- the message
 
-tail_spelled : (m : MessageParts) → IsMessage m → Tail m (tail_form m)
+pub tail_spelled : (m : MessageParts) → IsMessage m → Tail m (tail_form m)
 tail_spelled (AnyOctets []) h = inl (refl, refl)
 tail_spelled (AnyOctets (x ∷ octets)) h = inr (32 ∷ [], x ∷ octets, refl, refl, (h.0, h.1, refl))
 tail_spelled (Utf8Text text) h = inr (32 ∷ [], mark ++ text, refl, refl, (IsText-utf8 text h, (mark, text, refl, refl, refl)))

@@ -29,7 +29,7 @@ OneWord n w = Spaced (Nilable (Word n) w)
 one_word : (n : ℕ) (v w : Option (List ℕ)) (b : List ℕ) → OneWord n v b → OneWord n w b → v ≡ w
 one_word n v w b h k = let s = spaced (Nilable (Word n)) v w b h k in word_same n v w s.0 s.1 s.2
 
-header_same : (h g : HeaderParts) (b : List ℕ) → Header h b → Header g b → SameHeader h g
+pub header_same : (h g : HeaderParts) (b : List ℕ) → Header h b → Header g b → SameHeader h g
 unfolding Header
 header_same h g b (x0, y0, e0, h0, (x1, y1, e1, h1, (x2, y2, e2, h2, (x3, y3, e3, h3, (x4, y4, e4, h4, (x5, y5, e5, h5, h6)))))) (u0, v0, f0, g0, (u1, v1, f1, g1, (u2, v2, f2, g2, (u3, v3, f3, g3, (u4, v4, f4, g4, (u5, v5, f5, g5, g6)))))) =
     let s0 = by_front (AnyOf Priority) x0 y0 u0 v0 OneFront-priority (h.priority, h0) (g.priority, g0) (sym e0 ∙ f0) in

@@ -34,3 +34,8 @@ pub mod Laws
 pub mod CanonicalSpelled
 pub mod Excluded
 pub mod Bounded
+pub mod ValueForms
+pub mod Valid
+pub mod DataForms
+pub mod TimeForms
+pub mod CanonicalForms

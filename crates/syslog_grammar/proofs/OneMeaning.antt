@@ -107,7 +107,11 @@ fixed t b (x, y, e, (a, c, f, (yl, ye), (d, g, h, i, (j, k, l, (ml, mh, me), (m,
 month_most : (y m : ℕ) → month_length y m ≤ 31
 month_most y m = grind (arith, nat_tests)
 
-time_same : (t u : CivilTime) (b : List ℕ) → TimeText t b → TimeText u b → instant t ≡ instant u
+abbrev made : ℕ → ℕ → ℕ → ℕ → ℕ → ℕ → ℕ → ℤ → CivilTime
+made y m d h i s u o = record { civil = record { year = y; month = m; day = d; hour = h; minute = i; second = s; micros = u }; offset = o }
+
+-- one text is one time
+pub time_same : (t u : CivilTime) (b : List ℕ) → TimeText t b → TimeText u b → t ≡ u
 time_same t u b h k =
     let f = fixed t b h in
     let g = fixed u b k in
@@ -134,7 +138,10 @@ time_same t u b h k =
     let minute : t.civil.minute ≡ u.civil.minute = two_same t.civil.minute u.civil.minute (omega arith) (omega arith) (tails 58 58 (padded 2 t.civil.minute) (padded 2 u.civil.minute) s4.0) in
     let second : t.civil.second ≡ u.civil.second = two_same t.civil.second u.civil.second (omega arith) (omega arith) (tails 58 58 (padded 2 t.civil.second) (padded 2 u.civil.second) s5.0) in
     let last = rest_same t.civil.micros u.civil.micros t.offset u.offset g.rest (subst (FractionText t.civil.micros ⋅ ZoneText t.offset) s5.1 f.behind) g.behind in
-    rw (year, month, day, hour, minute, second, last.0, last.1) refl
+    let same : made t.civil.year t.civil.month t.civil.day t.civil.hour t.civil.minute t.civil.second t.civil.micros t.offset
+    ≡ made u.civil.year u.civil.month u.civil.day u.civil.hour u.civil.minute u.civil.second u.civil.micros u.offset =
+    rw (year, month, day, hour, minute, second, last.0, last.1) refl in
+    same
 
 no_dash : (t : CivilTime) (b : List ℕ) → TimeText t b → b ≡ 45 ∷ [] → ⊥
 no_dash t b h e = let f = fixed t b h in let i : ◌≡◌ {A = List ℕ} (45 ∷ []) (padded 4 t.civil.year ++ (45 ∷ padded 2 t.civil.month) ++ (45 ∷ padded 2 t.civil.day) ++ (84 ∷ padded 2 t.civil.hour) ++ (58 ∷ padded 2 t.civil.minute) ++ (58 ∷ padded 2 t.civil.second) ++ f.rest) = sym e ∙ f.is in absurd (cc)
@@ -143,7 +150,7 @@ pub nilable_time_same : (t u : Option CivilTime) (b : List ℕ) → Nilable Time
 nilable_time_same None None b h k = refl
 nilable_time_same None (Some u) b h k = absurd (no_dash u b k h)
 nilable_time_same (Some t) None b h k = absurd (no_dash t b h k)
-nilable_time_same (Some t) (Some u) b h k = ap Some (time_same t u b h k)
+nilable_time_same (Some t) (Some u) b h k = ap (λ (c : CivilTime). Some (instant c)) (time_same t u b h k)
 
 -- ---- words and the priority
 

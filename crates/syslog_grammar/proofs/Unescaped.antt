@@ -111,7 +111,7 @@ plain_bare c h = elim (one_or_high table c rows h.0) [
 backslash : (x : ℕ) → ¬ (needs_escape x ≡ true) → x ≢ 92
 backslash x h e = h (special_test x (inr (inl e)))
 
-plain_free : (c : List ℕ) → IsPlain c → AllByRecursion (λ x. x ≢ 92) c
+pub plain_free : (c : List ℕ) → IsPlain c → AllByRecursion (λ x. x ≢ 92) c
 plain_free c h = AllByRecursion-weaker (λ x. ¬ (needs_escape x ≡ true)) (λ x. x ≢ 92) backslash c (plain_bare c h)
 
 -- ---- by pieces
@@ -147,7 +147,7 @@ pub record Unescapes (raw rest done : List ℕ) : Type 0 where
 pub unescapes_all : (raw : List ℕ) → Unescapes raw raw []
 unescapes_all raw = record { is = refl }
 
-free_front : (k : ℕ) (s : List ℕ) → ((i : ℕ) → i < k → ¬ ((get_or s i 0 == 92) ≡ true)) → AllByRecursion (λ x. x ≢ 92) (take k s)
+pub free_front : (k : ℕ) (s : List ℕ) → ((i : ℕ) → i < k → ¬ ((get_or s i 0 == 92) ≡ true)) → AllByRecursion (λ x. x ≢ 92) (take k s)
 free_front zero s h = tt
 free_front (suc k) [] h = tt
 free_front (suc k) (x ∷ s) h = (λ e. h 0 (omega arith) (eq-eqb x 92 e), free_front k s (λ i less. h (suc i) (omega arith)))

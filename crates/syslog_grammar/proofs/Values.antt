@@ -17,7 +17,7 @@ use Rattle.syslog_grammar.proofs.Characters.{character_some, OneFront-character,
 
 -- ---- ASCII
 
-ascii : (x : ℕ) → x ≤ 127 → IsCharacter (x ∷ [])
+pub ascii : (x : ℕ) → x ≤ 127 → IsCharacter (x ∷ [])
 unfolding IsCharacter
 ascii x h = inl (octet_cons (from_to 0x00 0x7f) [] x [] (omega arith) h refl)
 

@@ -80,7 +80,7 @@ same_instant : (time : Option Timestamp) → option_map (λ s. instant (time_of 
 same_instant None = refl
 same_instant (Some t) = refl
 
-in_range_by : (time : Option Timestamp) (m : Option ℤ) → m ≡ option_map (λ s. instant (time_of s)) time → IfSome m IsInstant → IfSome (option_map time_of time) (λ t. IsInstant (instant t))
+pub in_range_by : (time : Option Timestamp) (m : Option ℤ) → m ≡ option_map (λ s. instant (time_of s)) time → IfSome m IsInstant → IfSome (option_map time_of time) (λ t. IsInstant (instant t))
 in_range_by None m e h = tt
 in_range_by (Some t) m e h = subst (λ (o : Option ℤ). IfSome o IsInstant) e h
 

@@ -10,6 +10,11 @@ pub fn octets_are_one_record()
     ensures { (r : Parts ℤ) (q : Parts ℤ) (b : List ℕ) → WellFormed r b → WellFormed q b → r ≡ q }
 {}
 
+/// What well-formed octets are is a record.
+pub fn well_formed_is_a_record()
+    ensures { (r : Parts ℤ) (b : List ℕ) → WellFormed r b → IsRecord r }
+{}
+
 /// The canonical octets of a record are well-formed, and are that record.
 pub fn canonical_is_well_formed()
     ensures { (r : Parts ℤ) (b : List ℕ) → IsRecord r → Canonical r b → WellFormed r b }

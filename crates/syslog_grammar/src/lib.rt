@@ -4,11 +4,13 @@
 mod appending;
 mod canonical;
 mod canonical_data;
+mod canonical_form;
 mod canonical_len;
 mod canonical_view;
 mod character;
 mod civil_text;
 mod data;
+mod data_form;
 mod decoding;
 mod distinct;
 mod element;
@@ -33,6 +35,7 @@ mod whole;
 mod word;
 
 pub use canonical::canon;
+pub use canonical_form::is_canon;
 pub use canonical_view::put_canonical;
 pub use civil_text::canonical_timestamp;
 pub use decoding::{DecodeFault, decode};
@@ -40,6 +43,7 @@ pub use element::{ElementView, ParamView};
 pub use fault::{Fault, Field};
 pub use law::{
     canonical_is_bounded, canonical_is_injective, canonical_is_well_formed, octets_are_one_record,
+    well_formed_is_a_record,
 };
 pub use parts::{Elements, Params};
 pub use record_view::RecordView;

@@ -10,7 +10,7 @@ use memchr::memchr;
 use std::alloc::{AllocError, Global};
 
 /// Whether a quotation mark, a backslash or a closing bracket is in front.
-fn begins_special(octets: &[u8]) -> bool
+pub fn begins_special(octets: &[u8]) -> bool
     ensures special { IsTrue result → BeginsSpecial octets.now }
     ensures other { (IsTrue result → ⊥) → IfFront (λ x. ¬ (IsSpecial x)) octets.now }
 {

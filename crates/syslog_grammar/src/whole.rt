@@ -15,10 +15,10 @@ use crate::timestamp::Timestamp;
 use syslog_value::Instant;
 
 /// The instant lies outside the years from 0 to 9999.
-struct OutOfRange;
+pub struct OutOfRange;
 
 /// The instant that a time names, if there is one.
-fn micros_of(time: Option<Timestamp>) -> Result<Option<i64>, OutOfRange>
+pub fn micros_of(time: Option<Timestamp>) -> Result<Option<i64>, OutOfRange>
     ensures { IsTimeOf time result }
 {
     let Some(time) = time else {

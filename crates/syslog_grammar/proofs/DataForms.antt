@@ -1,0 +1,285 @@
+-- Whether structured data stands in its canonical form, part by part.
+use Rattle.std.proofs.Common.{◌≡◌, ◌≢◌, ℕ, List, [], ◌∷◌, ◌++◌, refl, sym, ap, subst, ◌∙◌, append_assoc, arith, inl, inr, Bool}
+use Rattle.std.specs.Prelude.{◌↔◌, IsTrue, true, false, Option, Some, None}
+use Rattle.std.specs.List.{AllByRecursion, flat_map}
+use Rattle.std.proofs.lemmas.List.{append_cancel_left, append_cancel_right}
+use Rattle.octet_language.specs.Language.{Language, AnyOf, Each, OneFront}
+use Rattle.octet_language.specs.Reading.{Fails, Follows}
+use Rattle.octet_language.proofs.Lists.{heads, tails}
+use Rattle.syslog_value.specs.Order.{OctetsBelow}
+use Rattle.syslog_value.specs.Parts.{ParamParts, ElementParts, IsById}
+use Rattle.syslog_value.proofs.Octets.{below_itself, below_trans}
+use Rattle.syslog_grammar.specs.Canonical.{escaped, param_form, element_form, data_form}
+use Rattle.syslog_grammar.specs.Grammar.{Param, Element, Data}
+use Rattle.syslog_grammar.specs.Ids.{IsAbove, IsAtMost, IsRisingFrom, ids_of}
+use Rattle.syslog_grammar.specs.Spans.{ParamSpan, SpannedParam, ElementSpan, SpannedElement}
+use Rattle.syslog_grammar.specs.Values.{Spells}
+use Rattle.syslog_grammar.proofs.CanonicalSpelled.{param_spelled, element_spelled}
+use Rattle.syslog_grammar.proofs.OneMeaning.{by_front}
+use Rattle.syslog_grammar.proofs.OwnedParts.{param_same, element_same}
+use Rattle.syslog_grammar.proofs.ParamTexts.{OneFront-param, OneFront-element, spanned_param, spanned_element, param_spanned, element_spanned, param_front, element_front}
+use Rattle.syslog_grammar.proofs.Valid.{valid_param, valid_element}
+
+-- ---- one item
+
+-- the first item, where a reader of it took its text
+item : {V W : Type 0} (A : V → Language) (S : W → Language) → OneFront (AnyOf A) → ((s : List ℕ) → AnyOf S s → AnyOf A s)
+    → (v : V) (vs : List V) (w : W) (rest behind : List ℕ) → Each A (v ∷ vs) rest → Follows (S w) rest behind → (x : List ℕ) × (rest ≡ x ++ behind) × A v x × S w x × Each A vs behind
+item A S one from v vs w rest behind (x, y, e, h, k) (t, f, s) =
+    let both = by_front (AnyOf A) x y t behind one (v, h) (from t (w, s)) (sym e ∙ f) in
+    (t, f, subst (A v) both.0 h, s, subst (Each A vs) both.1 k)
+
+-- ---- parameters
+
+spanned_text : (v : ParamSpan) (x : List ℕ) → SpannedParam v x → x ≡ 32 ∷ (v.name ++ 61 ∷ 34 ∷ (v.raw ++ 34 ∷ []))
+spanned_text v x (a, b, e, h, (z, w, g, (n, k), (u, t, f, l, (q, r, i, m, (c, d, j, (s, o), p))))) =
+    e ∙ rw (h, g, k, f, l, i, m, j, o, p) refl
+
+param_raw : (p : ParamParts) (v : ParamSpan) (x : List ℕ) → Param p x → SpannedParam v x → x ≡ 32 ∷ (p.name ++ 61 ∷ 34 ∷ (v.raw ++ 34 ∷ []))
+param_raw p v x h s =
+    spanned_text v x s ∙ ap (λ (n : List ℕ). 32 ∷ (n ++ 61 ∷ 34 ∷ (v.raw ++ 34 ∷ []))) (sym (param_same p v x h s).0)
+
+form_raw : (p : ParamParts) → param_form p ≡ 32 ∷ (p.name ++ 61 ∷ 34 ∷ (escaped p.value ++ 34 ∷ []))
+form_raw p = ap (λ (s : List ℕ). 32 ∷ s) (append_assoc p.name (61 ∷ 34 ∷ escaped p.value) (34 ∷ []))
+
+same_raw : (name r s : List ℕ) → 32 ∷ (name ++ 61 ∷ 34 ∷ (r ++ 34 ∷ [])) ≡ 32 ∷ (name ++ 61 ∷ 34 ∷ (s ++ 34 ∷ [])) → r ≡ s
+same_raw name r s e =
+    let inner = append_cancel_left name (61 ∷ 34 ∷ (r ++ 34 ∷ [])) (61 ∷ 34 ∷ (s ++ 34 ∷ [])) (tails 32 32 (name ++ 61 ∷ 34 ∷ (r ++ 34 ∷ [])) (name ++ 61 ∷ 34 ∷ (s ++ 34 ∷ [])) e) in
+    append_cancel_right r s (34 ∷ []) (tails 34 34 (r ++ 34 ∷ []) (s ++ 34 ∷ []) (tails 61 61 (34 ∷ (r ++ 34 ∷ [])) (34 ∷ (s ++ 34 ∷ [])) inner))
+
+-- the parameters stand in their form where those that are left do
+pub record ParamsRest (params rest : List ℕ) (ps : List ParamParts) : Type 0 where
+  pub todo : List ParamParts
+  pub each : Each Param todo rest
+  pub to : params ≡ flat_map param_form ps → rest ≡ flat_map param_form todo
+  pub from : rest ≡ flat_map param_form todo → params ≡ flat_map param_form ps
+
+abbrev pub ParamsLeft : List ℕ → List ℕ → Type 0
+ParamsLeft params rest = (ps : List ParamParts) → Each Param ps params → ParamsRest params rest ps
+
+pub params_all : (params : List ℕ) → ParamsLeft params params
+params_all params ps h = record { todo = ps; each = h; to = λ e. e; from = λ e. e }
+
+-- the test of a value, by what it means
+abbrev pub ValueTest : Bool → List ℕ → Type 0
+ValueTest r raw = (text : List ℕ) → Spells text raw → IsTrue r ↔ (raw ≡ escaped text)
+
+pub params_more : (params rest behind after : List ℕ) (x : ℕ) (v : ParamSpan) (r : Bool) → rest ≡ x ∷ after → Follows (SpannedParam v) rest behind → ValueTest r v.raw → r ≡ true → ParamsLeft params rest → ParamsLeft params behind
+params_more params rest behind after x v r e f test is left ps h = go (left ps h)
+  where
+    go : ParamsRest params rest ps → ParamsRest params behind ps
+    go l = one l.todo l.each l.to l.from
+      where
+        one : (todo : List ParamParts) → Each Param todo rest → (params ≡ flat_map param_form ps → rest ≡ flat_map param_form todo) → (rest ≡ flat_map param_form todo → params ≡ flat_map param_form ps) → ParamsRest params behind ps
+        one [] k to from = let i : ◌≡◌ {A = List ℕ} [] (x ∷ after) = sym k ∙ e in absurd cc
+        one (q ∷ todo) k to from =
+            let i = item Param SpannedParam OneFront-param spanned_param q todo v rest behind k f in
+            let raw : v.raw ≡ escaped q.value = (test q.value (param_same q v i.0 i.2 i.3).1).0 is in
+            let form : i.0 ≡ param_form q = param_raw q v i.0 i.2 i.3 ∙ ap (λ (s : List ℕ). 32 ∷ (q.name ++ 61 ∷ 34 ∷ (s ++ 34 ∷ []))) raw ∙ sym (form_raw q) in
+            record {
+              todo = todo;
+              each = i.4;
+              to = λ g. append_cancel_left (param_form q) behind (flat_map param_form todo) (ap (λ (s : List ℕ). s ++ behind) (sym form) ∙ sym i.1 ∙ to g);
+              from = λ g. from (i.1 ∙ ap (λ (s : List ℕ). s ++ behind) form ∙ ap (λ (s : List ℕ). param_form q ++ s) g);
+            }
+
+pub params_bad : (params rest behind after : List ℕ) (x : ℕ) (v : ParamSpan) (r : Bool) → rest ≡ x ∷ after → Follows (SpannedParam v) rest behind → ValueTest r v.raw → r ≡ false → ParamsLeft params rest
+    → (ps : List ParamParts) → Each Param ps params → IsTrue false ↔ (params ≡ flat_map param_form ps)
+params_bad params rest behind after x v r e f test isn left ps h = (λ g. absurd cc, λ g. let l = left ps h in one l.todo l.each (l.to g))
+  where
+    one : (todo : List ParamParts) → Each Param todo rest → rest ≡ flat_map param_form todo → IsTrue false
+    one [] k g = let i : ◌≡◌ {A = List ℕ} [] (x ∷ after) = sym k ∙ e in absurd cc
+    one (q ∷ todo) k g =
+        let i = item Param SpannedParam OneFront-param spanned_param q todo v rest behind k f in
+        let both = by_front (AnyOf Param) i.0 behind (param_form q) (flat_map param_form todo) OneFront-param (q, i.2) (q, param_spelled q (valid_param q i.0 i.2)) (sym i.1 ∙ g) in
+        let raw = same_raw q.name v.raw (escaped q.value) (sym (param_raw q v i.0 i.2 i.3) ∙ both.0 ∙ form_raw q) in
+        sym isn ∙ (test q.value (param_same q v i.0 i.2 i.3).1).1 raw
+
+pub params_stuck : (params rest after : List ℕ) (x left : ℕ) → rest ≡ x ∷ after → Fails (AnyOf SpannedParam) rest left → ParamsLeft params rest → (ps : List ParamParts) → Each Param ps params → IsTrue false ↔ (params ≡ flat_map param_form ps)
+params_stuck params rest after x left e f more ps h = let l = more ps h in absurd (one l.todo l.each)
+  where
+    one : (todo : List ParamParts) → Each Param todo rest → ⊥
+    one [] k = let i : ◌≡◌ {A = List ℕ} [] (x ∷ after) = sym k ∙ e in absurd cc
+    one (q ∷ todo) (y, z, g, k, l) = f.none y z g (param_spanned y (q, k))
+
+pub params_end : (params rest : List ℕ) → rest ≡ [] → ParamsLeft params rest → (ps : List ParamParts) → Each Param ps params → IsTrue true ↔ (params ≡ flat_map param_form ps)
+params_end params rest e left ps h = (λ u. let l = left ps h in one l.todo l.each l.from, λ u. refl)
+  where
+    one : (todo : List ParamParts) → Each Param todo rest → (rest ≡ flat_map param_form todo → params ≡ flat_map param_form ps) → params ≡ flat_map param_form ps
+    one [] k from = from e
+    one (q ∷ todo) (y, z, g, k, l) from =
+        let s = param_front y (q, k) in
+        let i : ◌≡◌ {A = List ℕ} [] (32 ∷ (s.0 ++ z)) = sym e ∙ g ∙ ap (λ (t : List ℕ). t ++ z) s.1 in absurd cc
+
+-- ---- elements by id
+
+abbrev AllAbove : Option (List ℕ) → List ElementParts → Type 0
+AllAbove met es = AllByRecursion (λ e. IsAbove e.id met) es
+
+rising_of : (met : Option (List ℕ)) (es : List ElementParts) → AllAbove met es → IsById es → IsRisingFrom met (ids_of es)
+rising_of met [] above by_id = tt
+rising_of met (e ∷ es) above by_id = (above.0, rising_of (Some e.id) es by_id.0 by_id.1)
+
+none_met : (es : List ElementParts) → AllAbove None es
+none_met [] = tt
+none_met (e ∷ es) = (tt, none_met es)
+
+further : (met : Option (List ℕ)) (id : List ℕ) (es : List ElementParts) → IsAbove id met → AllAbove (Some id) es → AllAbove met es
+further None id es a h = none_met es
+further (Some g) id [] a h = tt
+further (Some g) id (e ∷ es) a h = (below_trans g id e.id a h.0, further (Some g) id es a h.1)
+
+of_rising : (met : Option (List ℕ)) (es : List ElementParts) → IsRisingFrom met (ids_of es) → AllAbove met es × IsById es
+of_rising met [] h = (tt, tt)
+of_rising met (e ∷ es) h =
+    let deeper = of_rising (Some e.id) es h.1 in
+    ((h.0, further met e.id es h.0 deeper.0), (deeper.0, deeper.1))
+
+not_above : (id : List ℕ) (met : Option (List ℕ)) → IsAtMost id met → ¬ (IsAbove id met)
+not_above id None h a = h
+not_above id (Some g) (inl same) a = below_itself id (subst (λ (l : List ℕ). OctetsBelow l id) (sym same) a)
+not_above id (Some g) (inr less) a = below_itself id (below_trans id g id less a)
+
+-- ---- elements
+
+spanned_element_text : (v : ElementSpan) (x : List ℕ) → SpannedElement v x → x ≡ 91 ∷ (v.id ++ (v.params ++ 93 ∷ []))
+spanned_element_text v x (a, b, e, h, (z, w, g, (n, k), (u, t, f, (l, i), m))) = e ∙ rw (h, g, k, f, i, m) refl
+
+element_text : (d : ElementParts) (v : ElementSpan) (x : List ℕ) → Element d x → SpannedElement v x → x ≡ 91 ∷ (d.id ++ (v.params ++ 93 ∷ []))
+element_text d v x h s =
+    spanned_element_text v x s ∙ ap (λ (n : List ℕ). 91 ∷ (n ++ (v.params ++ 93 ∷ []))) (sym (element_same d v x h s).0)
+
+form_text : (d : ElementParts) → element_form d ≡ 91 ∷ (d.id ++ (flat_map param_form d.params ++ 93 ∷ []))
+form_text d = ap (λ (s : List ℕ). 91 ∷ s) (append_assoc d.id (flat_map param_form d.params) (93 ∷ []))
+
+same_params : (id r s : List ℕ) → 91 ∷ (id ++ (r ++ 93 ∷ [])) ≡ 91 ∷ (id ++ (s ++ 93 ∷ [])) → r ≡ s
+same_params id r s e = append_cancel_right r s (93 ∷ []) (append_cancel_left id (r ++ 93 ∷ []) (s ++ 93 ∷ []) (tails 91 91 (id ++ (r ++ 93 ∷ [])) (id ++ (s ++ 93 ∷ [])) e))
+
+-- the elements stand in their form where those that are left do
+abbrev InForm : List ℕ → Option (List ℕ) → List ElementParts → Type 0
+InForm text met es = (text ≡ flat_map element_form es) × IsRisingFrom met (ids_of es)
+
+pub record ElementsRest (elements rest : List ℕ) (met : Option (List ℕ)) (es : List ElementParts) : Type 0 where
+  pub todo : List ElementParts
+  pub each : Each Element todo rest
+  pub to : (elements ≡ flat_map element_form es) × IsById es → (rest ≡ flat_map element_form todo) × IsRisingFrom met (ids_of todo)
+  pub from : (rest ≡ flat_map element_form todo) × IsRisingFrom met (ids_of todo) → (elements ≡ flat_map element_form es) × IsById es
+
+abbrev pub ElementsLeft : List ℕ → List ℕ → Option (List ℕ) → Type 0
+ElementsLeft elements rest met = (es : List ElementParts) → Each Element es elements → ElementsRest elements rest met es
+
+pub elements_all : (elements : List ℕ) → ElementsLeft elements elements None
+elements_all elements es h = record {
+  todo = es;
+  each = h;
+  to = λ k. (k.0, rising_of None es (none_met es) k.1);
+  from = λ k. (k.0, (of_rising None es k.1).1);
+}
+
+-- the test of parameters, by what they are
+abbrev pub ParamsTest : Bool → List ℕ → Type 0
+ParamsTest r params = (ps : List ParamParts) → Each Param ps params → IsTrue r ↔ (params ≡ flat_map param_form ps)
+
+-- the first of the elements that are left
+record Item (v : ElementSpan) (rest behind : List ℕ) (todo : List ElementParts) : Type 0 where
+  pub element : ElementParts
+  pub others : List ElementParts
+  pub is : todo ≡ element ∷ others
+  pub text : List ℕ
+  pub parts : rest ≡ text ++ behind
+  pub spelled : Element element text
+  pub spanned : SpannedElement v text
+  pub each : Each Element others behind
+
+first_item : (rest behind after : List ℕ) (x : ℕ) (v : ElementSpan) (todo : List ElementParts) → rest ≡ x ∷ after → Follows (SpannedElement v) rest behind → Each Element todo rest → Item v rest behind todo
+first_item rest behind after x v [] e f k = let i : ◌≡◌ {A = List ℕ} [] (x ∷ after) = sym k ∙ e in absurd cc
+first_item rest behind after x v (d ∷ todo) e f k =
+    let i = item Element SpannedElement OneFront-element spanned_element d todo v rest behind k f in
+    record { element = d; others = todo; is = refl; text = i.0; parts = i.1; spelled = i.2; spanned = i.3; each = i.4 }
+
+pub elements_more : (elements rest behind after : List ℕ) (x : ℕ) (v : ElementSpan) (met : Option (List ℕ)) (r : Bool) → rest ≡ x ∷ after → Follows (SpannedElement v) rest behind → IsAbove v.id met → ParamsTest r v.params → r ≡ true
+    → ElementsLeft elements rest met → ElementsLeft elements behind (Some v.id)
+elements_more elements rest behind after x v met r e f above test is left es h =
+    let l = left es h in
+    let i = first_item rest behind after x v l.todo e f l.each in
+    let same = element_same i.element v i.text i.spelled i.spanned in
+    let params : v.params ≡ flat_map param_form i.element.params = (test i.element.params same.1).0 is in
+    let form : i.text ≡ element_form i.element = element_text i.element v i.text i.spelled i.spanned ∙ ap (λ (s : List ℕ). 91 ∷ (i.element.id ++ (s ++ 93 ∷ []))) params ∙ sym (form_text i.element) in
+    record {
+      todo = i.others;
+      each = i.each;
+      to = λ g.
+          let k = subst (InForm rest met) i.is (l.to g) in
+          (append_cancel_left (element_form i.element) behind (flat_map element_form i.others) (ap (λ (s : List ℕ). s ++ behind) (sym form) ∙ sym i.parts ∙ k.0), subst (λ (id : List ℕ). IsRisingFrom (Some id) (ids_of i.others)) same.0 k.1.1);
+      from = λ g.
+          l.from (subst (InForm rest met) (sym i.is) (i.parts ∙ ap (λ (s : List ℕ). s ++ behind) form ∙ ap (λ (s : List ℕ). element_form i.element ++ s) g.0, (subst (λ (id : List ℕ). IsAbove id met) (sym same.0) above, subst (λ (id : List ℕ). IsRisingFrom (Some id) (ids_of i.others)) (sym same.0) g.1)));
+    }
+
+-- a fault of the first of the elements that are left
+refused : (elements rest : List ℕ) (met : Option (List ℕ)) → ElementsLeft elements rest met → ((todo : List ElementParts) → Each Element todo rest → ¬ (InForm rest met todo))
+    → (es : List ElementParts) → Each Element es elements → IsTrue false ↔ ((elements ≡ flat_map element_form es) × IsById es)
+refused elements rest met left none es h = (λ u. absurd cc, λ g. let l = left es h in absurd (none l.todo l.each (l.to g)))
+
+pub elements_most : (elements rest behind after : List ℕ) (x : ℕ) (v : ElementSpan) (met : Option (List ℕ)) → rest ≡ x ∷ after → Follows (SpannedElement v) rest behind → IsAtMost v.id met → ElementsLeft elements rest met
+    → (es : List ElementParts) → Each Element es elements → IsTrue false ↔ ((elements ≡ flat_map element_form es) × IsById es)
+elements_most elements rest behind after x v met e f most left es h = refused elements rest met left none es h
+  where
+    none : (todo : List ElementParts) → Each Element todo rest → ¬ (InForm rest met todo)
+    none todo k g =
+        let i = first_item rest behind after x v todo e f k in
+        let rising = subst (InForm rest met) i.is g in
+        not_above v.id met most (subst (λ (id : List ℕ). IsAbove id met) (element_same i.element v i.text i.spelled i.spanned).0 rising.1.0)
+
+pub elements_bad : (elements rest behind after : List ℕ) (x : ℕ) (v : ElementSpan) (met : Option (List ℕ)) (r : Bool) → rest ≡ x ∷ after → Follows (SpannedElement v) rest behind → ParamsTest r v.params → r ≡ false → ElementsLeft elements rest met
+    → (es : List ElementParts) → Each Element es elements → IsTrue false ↔ ((elements ≡ flat_map element_form es) × IsById es)
+elements_bad elements rest behind after x v met r e f test isn left es h = refused elements rest met left none es h
+  where
+    none : (todo : List ElementParts) → Each Element todo rest → ¬ (InForm rest met todo)
+    none todo k g =
+        let i = first_item rest behind after x v todo e f k in
+        let whole = (subst (InForm rest met) i.is g).0 in
+        let both = by_front (AnyOf Element) i.text behind (element_form i.element) (flat_map element_form i.others) OneFront-element
+        (i.element, i.spelled) (i.element, element_spelled i.element (valid_element i.element i.text i.spelled)) (sym i.parts ∙ whole) in
+        let params = same_params i.element.id v.params (flat_map param_form i.element.params) (sym (element_text i.element v i.text i.spelled i.spanned) ∙ both.0 ∙ form_text i.element) in
+        let yes : r ≡ true = (test i.element.params (element_same i.element v i.text i.spelled i.spanned).1).1 params in
+        absurd cc
+
+pub elements_stuck : (elements rest after : List ℕ) (x left : ℕ) (met : Option (List ℕ)) → rest ≡ x ∷ after → Fails (AnyOf SpannedElement) rest left → ElementsLeft elements rest met
+    → (es : List ElementParts) → Each Element es elements → IsTrue false ↔ ((elements ≡ flat_map element_form es) × IsById es)
+elements_stuck elements rest after x left met e f more es h = refused elements rest met more none es h
+  where
+    none : (todo : List ElementParts) → Each Element todo rest → ¬ (InForm rest met todo)
+    none [] k g = let i : ◌≡◌ {A = List ℕ} [] (x ∷ after) = sym k ∙ e in absurd cc
+    none (q ∷ todo) (y, z, i, k, l) g = f.none y z i (element_spanned y (q, k))
+
+pub elements_end : (elements rest : List ℕ) (met : Option (List ℕ)) → rest ≡ [] → ElementsLeft elements rest met
+    → (es : List ElementParts) → Each Element es elements → IsTrue true ↔ ((elements ≡ flat_map element_form es) × IsById es)
+elements_end elements rest met e left es h = (λ u. let l = left es h in l.from (one l.todo l.each), λ u. refl)
+  where
+    one : (todo : List ElementParts) → Each Element todo rest → InForm rest met todo
+    one [] k = (e, tt)
+    one (q ∷ todo) (y, z, g, k, l) =
+        let s = element_front y (q, k) in
+        let i : ◌≡◌ {A = List ℕ} [] (91 ∷ (s.0 ++ z)) = sym e ∙ g ∙ ap (λ (t : List ℕ). t ++ z) s.1 in absurd cc
+
+-- ---- the whole
+
+-- no octet, which is no structured data
+pub data_empty : (text : List ℕ) → text ≡ [] → (es : List ElementParts) → Data es text → IsTrue true ↔ ((text ≡ data_form es) × IsById es)
+data_empty text e [] h = let i : ◌≡◌ {A = List ℕ} [] (45 ∷ []) = sym e ∙ h in absurd cc
+data_empty text e (d ∷ es) (x, y, g, h, k) =
+    let f = element_front x (d, h) in
+    let i : ◌≡◌ {A = List ℕ} [] (91 ∷ (f.0 ++ y)) = sym e ∙ g ∙ ap (λ (u : List ℕ). u ++ y) f.1 in absurd cc
+
+-- no element in front
+pub data_none : (text after : List ℕ) (x : ℕ) → text ≡ x ∷ after → x ≢ 91 → (es : List ElementParts) → Data es text → IsTrue true ↔ ((text ≡ data_form es) × IsById es)
+data_none text after x e ne [] h = (λ u. (h, tt), λ u. refl)
+data_none text after x e ne (d ∷ es) (y, z, g, h, k) =
+    let f = element_front y (d, h) in
+    absurd (ne (heads x 91 after (f.0 ++ z) (sym e ∙ g ∙ ap (λ (u : List ℕ). u ++ z) f.1)))
+
+-- an element in front
+pub data_some : (text after : List ℕ) (x : ℕ) (r : Bool) → text ≡ x ∷ after → x ≡ 91 → ((es : List ElementParts) → Each Element es text → IsTrue r ↔ ((text ≡ flat_map element_form es) × IsById es))
+    → (es : List ElementParts) → Data es text → IsTrue r ↔ ((text ≡ data_form es) × IsById es)
+data_some text after x r e f test [] h = let i : x ≡ 45 = heads x 45 after [] (sym e ∙ h) in absurd (omega (arith, i, f))
+data_some text after x r e f test (d ∷ es) h = test (d ∷ es) h
