@@ -86,7 +86,7 @@ LINES = b"\nx\n" + b"a" * 65_536 + b"\n<0>1 - - - - - -"
 TOLD = b"1 syntax priority 0\n2 syntax priority 0\n3 too-long\n"
 
 # words, standard input, status, standard output, standard error (None: any text, but some)
-ALWAYS = [
+WORDS = [
     ("counted frames", ["check", "--framing", "counted"], b"16 <0>1 - - - - - -17 <0>1 - - - - - - ", 0, b"1 ok\n2 ok\n", b""),
     ("a bad count", ["check", "--framing", "counted"], b"016 ", 1, b"1 bad-count 0\n", b""),
     ("a count of zero", ["check", "--framing", "counted"], b"0 ", 1, b"1 bad-count 0\n", b""),
@@ -116,17 +116,6 @@ ALWAYS = [
     ("help of a command", ["help", "convert"], HELLO, 2, b"", None),
     ("the version", ["--version"], HELLO, 2, b"", None),
     ("a word that is no UTF-8", [b"\xff"], HELLO, 2, b"", None),
-]
-
-# `convert` while it reads only datagrams whose fields are nil
-NIL_ALONE = [
-    ("a record with nil fields", ["convert"], HELLO, 0, HELLO, b""),
-    ("an empty message", ["convert"], NIL + b"- ", 0, NIL + b"-", b""),
-    ("any octets", ["convert"], b"<191>1 - - - - - - \x00\xff\n\r ", 0, b"<191>1 - - - - - - \x00\xff\n\r ", b""),
-    ("one octet too many", ["convert"], HELLO + b"x" * (65_536 - 24), 1, b"", b"1 too-long\n"),
-    ("a priority above 191", ["convert"], b"<192>1 - - - - - - x", 1, b"", b"1 unsupported\n"),
-    ("no octets", ["convert"], b"", 1, b"", b"1 unsupported\n"),
-    ("a time", ["convert"], b"<0>1 2024-02-29T00:00:00Z - - - - -", 1, b"", b"1 unsupported\n"),
 ]
 
 COUNTED, LF = ["--framing", "counted"], ["--framing", "lf"]

@@ -16,7 +16,7 @@ from pathlib import Path
 
 sys.dont_write_bytecode = True
 import reference
-from rows import ALWAYS, ELEMENTS, EXAMPLE, HELLO, MARK, NIL_ALONE, RECORDS, REFUSED, STREAMS
+from rows import ELEMENTS, EXAMPLE, HELLO, MARK, RECORDS, REFUSED, STREAMS, WORDS
 
 HERE = Path(__file__).resolve().parent
 MANUAL = HERE.parent / "man/syslogbox.1"
@@ -45,15 +45,6 @@ def run(program, words, octets=b"", environment=None, **streams):
     return done.returncode, done.stdout, done.stderr
 
 
-def converts_streams(program):
-    """Whether `convert` reads and writes streams, and so all records."""
-    return run(program, ["convert", "--framing", "lf"])[0] == 0
-
-
-def shows(program):
-    return run(program, ["show", "--framing", "lf"])[0] == 0
-
-
 def row(program, results, name, words, octets, status, output, notes):
     seen = run(program, words, octets)
     right = seen[:2] == (status, output) and (bool(seen[2]) if notes is None else seen[2] == notes)
@@ -61,23 +52,19 @@ def row(program, results, name, words, octets, status, output, notes):
 
 
 def rows(program, results):
-    """The tables, those of a command where it has come."""
-    convert, show = converts_streams(program), shows(program)
+    """The tables."""
     for name, octets, canonical in RECORDS:
         row(program, results, name, ["check"], octets, 0, b"1 ok\n", b"")
-        if convert:
-            row(program, results, name, ["convert"], octets, 0, canonical, b"")
-            if len(canonical) <= 65_535:
-                row(program, results, f"canonical: {name}", ["convert"], canonical, 0, canonical, b"")
-        if show:
-            row(program, results, name, ["show"], octets, 0, reference.show(1, reference.read(octets)), b"")
+        row(program, results, name, ["convert"], octets, 0, canonical, b"")
+        if len(canonical) <= 65_535:
+            row(program, results, f"canonical: {name}", ["convert"], canonical, 0, canonical, b"")
+        row(program, results, name, ["show"], octets, 0, reference.show(1, reference.read(octets)), b"")
     for name, octets, line in REFUSED:
         row(program, results, name, ["check"], octets, 1, b"1 " + line + b"\n", b"")
-        for command in ["convert"] * convert + ["show"] * show:
+        for command in ["convert", "show"]:
             row(program, results, name, [command], octets, 1, b"", b"1 " + line + b"\n")
-    for case in ALWAYS + (STREAMS if convert else NIL_ALONE):
-        if show or case[1][:1] != ["show"]:
-            row(program, results, *case)
+    for case in WORDS + STREAMS:
+        row(program, results, *case)
     for length in range(65):
         line = b"1 " + reference.read(EXAMPLE[:length]) + b"\n"
         right = line.endswith(b" %d\n" % length)
@@ -98,10 +85,7 @@ def manual(program, results):
         done = subprocess.run(["groff", "-ww", "-mandoc", "-Tutf8", str(MANUAL)], capture_output=True)
         results.check("the manual is laid out without a warning", done.returncode == 0 and done.stderr == b"", str(done.stderr))
     results.check("the manual has examples", len(blocks) >= 10 and len(blocks) % 2 == 0, str(len(blocks)))
-    convert, show = converts_streams(program), shows(program)
     for command, output in zip(blocks[::2], blocks[1::2]):
-        if ("convert" in command and not convert) or ("show" in command and not show):
-            continue
         path = f"{Path(program).parent}:{os.environ['PATH']}"
         done = subprocess.run(["sh", "-c", command], env={**os.environ, "PATH": path}, capture_output=True, text=True)
         results.check(f"example: {command}", done.stdout == output, done.stdout)
@@ -151,21 +135,18 @@ def memory(program, results, shim, where):
     """Each growth refused in turn: status 3 and a front of the output, or the full answer once the
     number is past the last."""
     mixed = (EXAMPLE + b"\n") * 40 + b"x\n" + ELEMENTS + b"\n"
-    convert, show = converts_streams(program), shows(program)
     for name, words, octets in [
         ("convert", ["convert"], HELLO),
         ("convert of a long record", ["convert"], HELLO + b"x" * 60_000),
         ("convert of octets that are no record", ["convert"], b"<192>1 - - - - - - x"),
         ("check of a stream", ["check", "--framing", "lf"], mixed),
         ("usage", ["konvert"], HELLO),
-    ] + [
         ("convert of elements", ["convert"], ELEMENTS),
         ("convert of a stream", ["convert", "--framing", "lf"], mixed),
         ("convert to counted frames", ["convert", "--framing", "lf", "--to", "counted"], mixed),
-    ] * convert + [
         ("show", ["show"], ELEMENTS),
         ("show of a stream", ["show", "--framing", "lf"], mixed),
-    ] * show:
+    ]:
         ample = run(program, words, octets)
         growths = counts(program, words, octets, shim, where)[0]
         results.check(f"{name}: memory is asked for", growths > 0, str(growths))
@@ -184,7 +165,7 @@ def memory(program, results, shim, where):
 def pieces(program, results, shim, where):
     """What is written goes out by large pieces, not by a call a record."""
     stream = (EXAMPLE + b"\n") * 20_000
-    for command in ["check"] + ["convert"] * converts_streams(program) + ["show"] * shows(program):
+    for command in ["check", "convert", "show"]:
         words = [command, "--framing", "lf"]
         output = run(program, words, stream)[1]
         run(program, words, stream, {"LD_PRELOAD": shim, "SHIM_FD": "1", "SHIM_COUNTS": where})
@@ -238,8 +219,7 @@ def calls(program, results, shim, where):
         results.check(f"past the last {kind.lower()}", seen == (0, octets, b""), f"{seen[0]} {len(seen[1])} {seen[2]!r}")
     for n in range(1, 3):
         seen = run(program, ["convert"], b"", {"LD_PRELOAD": shim, "SHIM_FD": "2", "SHIM_WRITE": str(n)})
-        line = b"1 syntax priority 0\n" if converts_streams(program) else b"1 unsupported\n"
-        right = seen[:2] == (2, b"") if n == 1 else seen == (1, b"", line)
+        right = seen[:2] == (2, b"") if n == 1 else seen == (1, b"", b"1 syntax priority 0\n")
         results.check(f"write {n} of the notes fails", right, str(seen))
 
 
@@ -334,28 +314,25 @@ def mutated(program, results, count=1_000_000):
     lines = b"".join(b"%d %b\n" % (n, one if isinstance(one, bytes) else b"ok") for n, one in enumerate(read, 1))
     results.check("the line of each mutated record", output == lines, first_difference(output, lines, frames))
     results.check("mutated records are refused and no more", (status, notes) == (1, b""), f"{status} {notes[:60]!r}")
-    if converts_streams(program):
-        refusals = b"".join(b"%d %b\n" % (n, one) for n, one in enumerate(read, 1) if isinstance(one, bytes))
-        canonical = counted([reference.canonical(one) for one in read if not isinstance(one, bytes)])
-        status, output, notes = run(program, ["convert", "--framing", "counted"], stream)
-        results.check("mutated records are converted", status == 1 and output == canonical, f"{status} {len(output)}")
-        results.check("mutated records that are refused are told", notes == refusals, notes[:60])
-        seen = run(program, ["convert", "--framing", "counted", "--to", "counted"], output)
-        results.check("what was converted converts to itself", seen == (0, output, b""), f"{seen[0]} {len(seen[1])}")
-        status, lines, notes = run(program, ["check", "--framing", "counted"], output)
-        right = status == 0 and notes == b"" and lines.count(b" ok\n") == sum(not isinstance(one, bytes) for one in read)
-        results.check("what was converted is accepted", right, f"{status} {notes[:60]!r}")
-    if shows(program):
-        few = read[:count // 10]
-        fields = b"".join(reference.show(n, one) for n, one in enumerate(few, 1) if not isinstance(one, bytes))
-        status, output, _ = run(program, ["show", "--framing", "counted"], counted(frames[:count // 10]))
-        results.check("mutated records are shown", status == 1 and output == fields, f"{status} {len(output)}")
+    refusals = b"".join(b"%d %b\n" % (n, one) for n, one in enumerate(read, 1) if isinstance(one, bytes))
+    canonical = counted([reference.canonical(one) for one in read if not isinstance(one, bytes)])
+    status, output, notes = run(program, ["convert", "--framing", "counted"], stream)
+    results.check("mutated records are converted", status == 1 and output == canonical, f"{status} {len(output)}")
+    results.check("mutated records that are refused are told", notes == refusals, notes[:60])
+    seen = run(program, ["convert", "--framing", "counted", "--to", "counted"], output)
+    results.check("what was converted converts to itself", seen == (0, output, b""), f"{seen[0]} {len(seen[1])}")
+    status, lines, notes = run(program, ["check", "--framing", "counted"], output)
+    right = status == 0 and notes == b"" and lines.count(b" ok\n") == sum(not isinstance(one, bytes) for one in read)
+    results.check("what was converted is accepted", right, f"{status} {notes[:60]!r}")
+    few = read[:count // 10]
+    fields = b"".join(reference.show(n, one) for n, one in enumerate(few, 1) if not isinstance(one, bytes))
+    status, output, _ = run(program, ["show", "--framing", "counted"], counted(frames[:count // 10]))
+    results.check("mutated records are shown", status == 1 and output == fields, f"{status} {len(output)}")
 
 
 def streams(program, results, count=400):
     """Streams with changes anywhere, in their counts too."""
     random = Random(6587)
-    convert = converts_streams(program)
     long = [b"<0>1 - - - - - - " + b"a" * 65_519, b"<0>1 - - - - - [a k=\"" + b"\\n" * 32_756 + b"\"]", b"x" * 70_000]
     pool = mutations(5_000)
     good = {"check": 0, "convert": 0}
@@ -380,21 +357,16 @@ def streams(program, results, count=400):
         checked, output, told = reference.run_of(bytes(octets), framing, to)
         seen = run(program, ["check", "--framing", framing], octets)
         good["check"] += seen == (int(bool(re.search(rb"(?<! ok)\n", checked))), checked, b"")
-        if convert:
-            seen = run(program, ["convert", "--framing", framing, "--to", to], octets)
-            good["convert"] += seen == (int(bool(told)), output, told)
+        seen = run(program, ["convert", "--framing", framing, "--to", to], octets)
+        good["convert"] += seen == (int(bool(told)), output, told)
     results.check("each changed stream is checked as it is read a second time", good["check"] == count, str(good))
-    if convert:
-        results.check("each changed stream is converted as it is read a second time", good["convert"] == count, str(good))
+    results.check("each changed stream is converted as it is read a second time", good["convert"] == count, str(good))
 
 
 def main():
     program = str(Path(sys.argv[1]).resolve())
     trial = str(Path(sys.argv[2]).resolve())
     results = Results()
-    for command, has_come in [("convert", converts_streams(program)), ("show", shows(program))]:
-        if not has_come:
-            print(f"{command} has not come whole: its rows are left out")
     with tempfile.TemporaryDirectory() as folder:
         shim = f"{folder}/shim.so"
         subprocess.run(["gcc", "-shared", "-fPIC", "-O1", "-o", shim, str(HERE / "shim.c"), "-ldl"], check=True)
