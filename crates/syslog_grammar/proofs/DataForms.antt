@@ -23,7 +23,7 @@ use Rattle.syslog_grammar.proofs.Valid.{valid_param, valid_element}
 -- ---- one item
 
 -- the first item, where a reader of it took its text
-item : {V W : Type 0} (A : V → Language) (S : W → Language) → OneFront (AnyOf A) → ((s : List ℕ) → AnyOf S s → AnyOf A s)
+pub item : {V W : Type 0} (A : V → Language) (S : W → Language) → OneFront (AnyOf A) → ((s : List ℕ) → AnyOf S s → AnyOf A s)
     → (v : V) (vs : List V) (w : W) (rest behind : List ℕ) → Each A (v ∷ vs) rest → Follows (S w) rest behind → (x : List ℕ) × (rest ≡ x ++ behind) × A v x × S w x × Each A vs behind
 item A S one from v vs w rest behind (x, y, e, h, k) (t, f, s) =
     let both = by_front (AnyOf A) x y t behind one (v, h) (from t (w, s)) (sym e ∙ f) in
@@ -39,10 +39,10 @@ param_raw : (p : ParamParts) (v : ParamSpan) (x : List ℕ) → Param p x → Sp
 param_raw p v x h s =
     spanned_text v x s ∙ ap (λ (n : List ℕ). 32 ∷ (n ++ 61 ∷ 34 ∷ (v.raw ++ 34 ∷ []))) (sym (param_same p v x h s).0)
 
-form_raw : (p : ParamParts) → param_form p ≡ 32 ∷ (p.name ++ 61 ∷ 34 ∷ (escaped p.value ++ 34 ∷ []))
+pub form_raw : (p : ParamParts) → param_form p ≡ 32 ∷ (p.name ++ 61 ∷ 34 ∷ (escaped p.value ++ 34 ∷ []))
 form_raw p = ap (λ (s : List ℕ). 32 ∷ s) (append_assoc p.name (61 ∷ 34 ∷ escaped p.value) (34 ∷ []))
 
-same_raw : (name r s : List ℕ) → 32 ∷ (name ++ 61 ∷ 34 ∷ (r ++ 34 ∷ [])) ≡ 32 ∷ (name ++ 61 ∷ 34 ∷ (s ++ 34 ∷ [])) → r ≡ s
+pub same_raw : (name r s : List ℕ) → 32 ∷ (name ++ 61 ∷ 34 ∷ (r ++ 34 ∷ [])) ≡ 32 ∷ (name ++ 61 ∷ 34 ∷ (s ++ 34 ∷ [])) → r ≡ s
 same_raw name r s e =
     let inner = append_cancel_left name (61 ∷ 34 ∷ (r ++ 34 ∷ [])) (61 ∷ 34 ∷ (s ++ 34 ∷ [])) (tails 32 32 (name ++ 61 ∷ 34 ∷ (r ++ 34 ∷ [])) (name ++ 61 ∷ 34 ∷ (s ++ 34 ∷ [])) e) in
     append_cancel_right r s (34 ∷ []) (tails 34 34 (r ++ 34 ∷ []) (s ++ 34 ∷ []) (tails 61 61 (34 ∷ (r ++ 34 ∷ [])) (34 ∷ (s ++ 34 ∷ [])) inner))
@@ -113,7 +113,7 @@ params_end params rest e left ps h = (λ u. let l = left ps h in one l.todo l.ea
 
 -- ---- elements by id
 
-abbrev AllAbove : Option (List ℕ) → List ElementParts → Type 0
+abbrev pub AllAbove : Option (List ℕ) → List ElementParts → Type 0
 AllAbove met es = AllByRecursion (λ e. IsAbove e.id met) es
 
 rising_of : (met : Option (List ℕ)) (es : List ElementParts) → AllAbove met es → IsById es → IsRisingFrom met (ids_of es)
@@ -129,7 +129,7 @@ further None id es a h = none_met es
 further (Some g) id [] a h = tt
 further (Some g) id (e ∷ es) a h = (below_trans g id e.id a h.0, further (Some g) id es a h.1)
 
-of_rising : (met : Option (List ℕ)) (es : List ElementParts) → IsRisingFrom met (ids_of es) → AllAbove met es × IsById es
+pub of_rising : (met : Option (List ℕ)) (es : List ElementParts) → IsRisingFrom met (ids_of es) → AllAbove met es × IsById es
 of_rising met [] h = (tt, tt)
 of_rising met (e ∷ es) h =
     let deeper = of_rising (Some e.id) es h.1 in
@@ -149,7 +149,7 @@ element_text : (d : ElementParts) (v : ElementSpan) (x : List ℕ) → Element d
 element_text d v x h s =
     spanned_element_text v x s ∙ ap (λ (n : List ℕ). 91 ∷ (n ++ (v.params ++ 93 ∷ []))) (sym (element_same d v x h s).0)
 
-form_text : (d : ElementParts) → element_form d ≡ 91 ∷ (d.id ++ (flat_map param_form d.params ++ 93 ∷ []))
+pub form_text : (d : ElementParts) → element_form d ≡ 91 ∷ (d.id ++ (flat_map param_form d.params ++ 93 ∷ []))
 form_text d = ap (λ (s : List ℕ). 91 ∷ s) (append_assoc d.id (flat_map param_form d.params) (93 ∷ []))
 
 same_params : (id r s : List ℕ) → 91 ∷ (id ++ (r ++ 93 ∷ [])) ≡ 91 ∷ (id ++ (s ++ 93 ∷ [])) → r ≡ s
@@ -181,7 +181,7 @@ abbrev pub ParamsTest : Bool → List ℕ → Type 0
 ParamsTest r params = (ps : List ParamParts) → Each Param ps params → IsTrue r ↔ (params ≡ flat_map param_form ps)
 
 -- the first of the elements that are left
-record Item (v : ElementSpan) (rest behind : List ℕ) (todo : List ElementParts) : Type 0 where
+pub record Item (v : ElementSpan) (rest behind : List ℕ) (todo : List ElementParts) : Type 0 where
   pub element : ElementParts
   pub others : List ElementParts
   pub is : todo ≡ element ∷ others
@@ -191,7 +191,7 @@ record Item (v : ElementSpan) (rest behind : List ℕ) (todo : List ElementParts
   pub spanned : SpannedElement v text
   pub each : Each Element others behind
 
-first_item : (rest behind after : List ℕ) (x : ℕ) (v : ElementSpan) (todo : List ElementParts) → rest ≡ x ∷ after → Follows (SpannedElement v) rest behind → Each Element todo rest → Item v rest behind todo
+pub first_item : (rest behind after : List ℕ) (x : ℕ) (v : ElementSpan) (todo : List ElementParts) → rest ≡ x ∷ after → Follows (SpannedElement v) rest behind → Each Element todo rest → Item v rest behind todo
 first_item rest behind after x v [] e f k = let i : ◌≡◌ {A = List ℕ} [] (x ∷ after) = sym k ∙ e in absurd cc
 first_item rest behind after x v (d ∷ todo) e f k =
     let i = item Element SpannedElement OneFront-element spanned_element d todo v rest behind k f in

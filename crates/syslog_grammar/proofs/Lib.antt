@@ -39,3 +39,4 @@ pub mod Valid
 pub mod DataForms
 pub mod TimeForms
 pub mod CanonicalForms
+pub mod Rewritten

@@ -16,22 +16,22 @@ use Rattle.syslog_grammar.proofs.Characters.{character_some}
 use Rattle.syslog_grammar.proofs.Unescaped.{special_test, plain_bare, plain_free, free_front}
 use Rattle.syslog_grammar.proofs.Values.{no_special}
 
-abbrev Free : List ℕ → Type 0
+abbrev pub Free : List ℕ → Type 0
 Free s = AllByRecursion (λ x. x ≢ 92) s
 
-abbrev joined : List (List ℕ) → List ℕ
+abbrev pub joined : List (List ℕ) → List ℕ
 joined ms = flat_map (λ m. m) ms
 
-escaped_join : (x y : List ℕ) → escaped (x ++ y) ≡ escaped x ++ escaped y
+pub escaped_join : (x y : List ℕ) → escaped (x ++ y) ≡ escaped x ++ escaped y
 escaped_join x y = flat_map-append (λ n. if needs_escape n then 92 ∷ n ∷ [] else n ∷ []) x y
 
-escaped_special : (x : ℕ) (s : List ℕ) → IsSpecial x → escaped (x ∷ s) ≡ 92 ∷ x ∷ escaped s
+pub escaped_special : (x : ℕ) (s : List ℕ) → IsSpecial x → escaped (x ∷ s) ≡ 92 ∷ x ∷ escaped s
 escaped_special x s h = rw (special_test x h) refl
 
 -- ---- up to a backslash
 
 -- the pieces from a backslash on, behind a run that means itself
-record Run (ms : List (List ℕ)) (run t : List ℕ) : Type 0 where
+pub record Run (ms : List (List ℕ)) (run t : List ℕ) : Type 0 where
   pub behind : List (List ℕ)
   pub each : Each Piece behind (92 ∷ t)
   pub means : joined ms ≡ run ++ joined behind
@@ -40,7 +40,7 @@ record Run (ms : List (List ℕ)) (run t : List ℕ) : Type 0 where
 not_run : (m x y run t rest : List ℕ) (r : ℕ) (s : List ℕ) → rest ≡ x ++ y → x ≡ 92 ∷ s → rest ≡ (r ∷ run) ++ 92 ∷ t → Free (r ∷ run) → ⊥
 not_run m x y run t rest r s e f g free = free.0 (sym (heads 92 r (s ++ y) (run ++ 92 ∷ t) (ap (λ (u : List ℕ). u ++ y) (sym f) ∙ sym e ∙ g)))
 
-runs : (ms : List (List ℕ)) (rest run t : List ℕ) → Each Piece ms rest → rest ≡ run ++ 92 ∷ t → Free run → Run ms run t
+pub runs : (ms : List (List ℕ)) (rest run t : List ℕ) → Each Piece ms rest → rest ≡ run ++ 92 ∷ t → Free run → Run ms run t
 runs ms rest [] t h g free = record { behind = ms; each = subst (Each Piece ms) g h; means = refl; same = refl }
 runs [] rest (r ∷ run) t h g free = let i : ◌≡◌ {A = List ℕ} [] (r ∷ (run ++ 92 ∷ t)) = sym h ∙ g in absurd cc
 runs (m ∷ ms) rest (r ∷ run) t (x, y, e, inl (s, k, f, i), j) g free = absurd (not_run m x y run t rest r (s ∷ []) e i g free)
@@ -65,12 +65,12 @@ no_plain [] z t x k s e = character_some k.0
 no_plain (y ∷ m) z t x k s e = no_special y m (subst IsSpecial (heads x y t (m ++ z) e) s) k
 
 -- an escape, and the pieces behind it
-record Escape (ms : List (List ℕ)) (y : ℕ) (after : List ℕ) : Type 0 where
+pub record Escape (ms : List (List ℕ)) (y : ℕ) (after : List ℕ) : Type 0 where
   pub behind : List (List ℕ)
   pub each : Each Piece behind after
   pub means : joined ms ≡ y ∷ joined behind
 
-escape : (ms : List (List ℕ)) (y : ℕ) (after : List ℕ) → Each Piece ms (92 ∷ y ∷ after) → IsSpecial y → Escape ms y after
+pub escape : (ms : List (List ℕ)) (y : ℕ) (after : List ℕ) → Each Piece ms (92 ∷ y ∷ after) → IsSpecial y → Escape ms y after
 escape [] y after h s = absurd cc
 escape (m ∷ ms) y after (x, z, e, inl (q, k, f, i), j) s =
     let both : 92 ∷ y ∷ after ≡ 92 ∷ q ∷ z = e ∙ ap (λ (u : List ℕ). u ++ z) i in
@@ -95,9 +95,23 @@ lone (m ∷ ms) t (x, z, e, inr (inl (c, k, f, i)), j) none =
     (escaped (c ++ joined ms), ap (λ (u : List ℕ). escaped (u ++ joined ms)) f ∙ escaped_special 92 (c ++ joined ms) (inr (inl refl)))
 lone (m ∷ ms) t (x, z, e, inr (inr (k, f)), j) none = absurd (no_plain m z t 92 k (inr (inl refl)) (e ∙ ap (λ (u : List ℕ). u ++ z) f))
 
+-- the pieces behind such a backslash
+pub lone_more : (ms : List (List ℕ)) (t : List ℕ) → Each Piece ms (92 ∷ t) → IfFront (λ x. ¬ (IsSpecial x)) t → (ks : List (List ℕ)) × Each Piece ks t × (joined ms ≡ 92 ∷ joined ks)
+lone_more [] t h none = absurd cc
+lone_more (m ∷ ms) t (x, z, e, inl (q, k, f, i), j) none =
+    let rest : t ≡ q ∷ z = tails 92 92 t (q ∷ z) (e ∙ ap (λ (u : List ℕ). u ++ z) i) in
+    absurd (subst (IfFront (λ n. ¬ (IsSpecial n))) rest none k)
+lone_more (m ∷ ms) t (x, z, e, inr (inl (c, k, f, i)), j) none =
+    let rest : t ≡ c ++ z = tails 92 92 t (c ++ z) (e ∙ ap (λ (u : List ℕ). u ++ z) i) in
+    (c ∷ ms, (c, z, rest, inr (inr (k, refl)), j), ap (λ (u : List ℕ). u ++ joined ms) f)
+lone_more (m ∷ ms) t (x, z, e, inr (inr (k, f)), j) none = absurd (no_plain m z t 92 k (inr (inl refl)) (e ∙ ap (λ (u : List ℕ). u ++ z) f))
+
 -- ---- no backslash
 
-all_plain : (ms : List (List ℕ)) (rest : List ℕ) → Each Piece ms rest → Free rest → rest ≡ escaped (joined ms)
+pub free_rest : (rest : List ℕ) → IsFirstByte (is_byte 92) rest None → Free rest
+free_rest rest f = subst Free (take_all (length rest) rest (omega arith)) (free_front (length rest) rest (λ i less. f i (omega arith) less))
+
+pub all_plain : (ms : List (List ℕ)) (rest : List ℕ) → Each Piece ms rest → Free rest → rest ≡ escaped (joined ms)
 all_plain [] rest h free = h
 all_plain (m ∷ ms) rest (x, y, e, inl (s, k, f, i), j) free = absurd ((subst Free (e ∙ ap (λ (u : List ℕ). u ++ y) i) free).0 refl)
 all_plain (m ∷ ms) rest (x, y, e, inr (inl (c, k, f, i)), j) free = absurd ((subst Free (e ∙ ap (λ (u : List ℕ). u ++ y) i) free).0 refl)
@@ -119,42 +133,40 @@ ValueLeft raw rest = (text : List ℕ) → Spells text raw → Left raw text res
 pub value_all : (raw : List ℕ) → ValueLeft raw raw
 value_all raw text h = record { meaning = text; spells = h; to = λ e. e; from = λ e. e }
 
-at_mark : (k : ℕ) (rest : List ℕ) → k < length rest → (get_or rest k 0 == 92) ≡ true → drop k rest ≡ 92 ∷ drop 1 (drop k rest)
+pub at_mark : (k : ℕ) (rest : List ℕ) → k < length rest → (get_or rest k 0 == 92) ≡ true → drop k rest ≡ 92 ∷ drop 1 (drop k rest)
 at_mark k [] h e = absurd (omega arith)
 at_mark zero (x ∷ rest) h e = ap (λ (n : ℕ). n ∷ rest) (eqb-true x 92 e)
 at_mark (suc k) (x ∷ rest) h e = at_mark k rest (omega arith) e
 
 -- what stands before the first backslash, and behind it
-record Marked (rest behind : List ℕ) : Type 0 where
-  pub run : List ℕ
+pub record Marked (rest run behind : List ℕ) : Type 0 where
   pub parts : rest ≡ run ++ 92 ∷ behind
   pub free : Free run
 
-marked_at : (rest marked behind : List ℕ) (k : ℕ) → IsFirstByte (is_byte 92) rest (Some k) → marked ≡ drop k rest → behind ≡ drop 1 marked → Marked rest behind
+pub marked_at : (rest marked behind : List ℕ) (k : ℕ) → IsFirstByte (is_byte 92) rest (Some k) → marked ≡ drop k rest → behind ≡ drop 1 marked → Marked rest (take k rest) behind
 marked_at rest marked behind k f m b = record {
-  run = take k rest;
   parts = sym (take-append-drop k rest) ∙ ap (λ (u : List ℕ). take k rest ++ u) (at_mark k rest f.0.high f.1 ∙ ap (λ (u : List ℕ). 92 ∷ u) (ap (drop 1) (sym m) ∙ sym b));
   free = free_front k rest (λ i less. f.0.before i (omega arith) less);
 }
 
-step : (raw rest behind after text : List ℕ) (y : ℕ) → Marked rest behind → behind ≡ y ∷ after → IsSpecial y → Left raw text rest → Left raw text after
-step raw rest behind after text y m e s h =
-    let r = runs h.spells.0 rest m.run behind h.spells.2 m.parts m.free in
+step : (raw rest run behind after text : List ℕ) (y : ℕ) → Marked rest run behind → behind ≡ y ∷ after → IsSpecial y → Left raw text rest → Left raw text after
+step raw rest run behind after text y m e s h =
+    let r = runs h.spells.0 rest run behind h.spells.2 m.parts m.free in
     let q = escape r.behind y after (subst (λ (u : List ℕ). Each Piece r.behind (92 ∷ u)) e r.each) s in
-    let form : escaped h.meaning ≡ m.run ++ 92 ∷ y ∷ escaped (joined q.behind) =
-    ap escaped (h.spells.1 ∙ r.means) ∙ escaped_join m.run (joined r.behind) ∙ ap (λ (u : List ℕ). u ++ escaped (joined r.behind)) r.same
-    ∙ ap (λ (u : List ℕ). m.run ++ u) (ap escaped q.means ∙ escaped_special y (joined q.behind) s) in
-    let whole : rest ≡ m.run ++ 92 ∷ y ∷ after = m.parts ∙ ap (λ (u : List ℕ). m.run ++ 92 ∷ u) e in
+    let form : escaped h.meaning ≡ run ++ 92 ∷ y ∷ escaped (joined q.behind) =
+    ap escaped (h.spells.1 ∙ r.means) ∙ escaped_join run (joined r.behind) ∙ ap (λ (u : List ℕ). u ++ escaped (joined r.behind)) r.same
+    ∙ ap (λ (u : List ℕ). run ++ u) (ap escaped q.means ∙ escaped_special y (joined q.behind) s) in
+    let whole : rest ≡ run ++ 92 ∷ y ∷ after = m.parts ∙ ap (λ (u : List ℕ). run ++ 92 ∷ u) e in
     record {
       meaning = joined q.behind;
       spells = (q.behind, refl, q.each);
-      to = λ g. tails y y after (escaped (joined q.behind)) (tails 92 92 (y ∷ after) (y ∷ escaped (joined q.behind)) (append_cancel_left m.run (92 ∷ y ∷ after) (92 ∷ y ∷ escaped (joined q.behind)) (sym whole ∙ h.to g ∙ form)));
-      from = λ g. h.from (whole ∙ ap (λ (u : List ℕ). m.run ++ 92 ∷ y ∷ u) g ∙ sym form);
+      to = λ g. tails y y after (escaped (joined q.behind)) (tails 92 92 (y ∷ after) (y ∷ escaped (joined q.behind)) (append_cancel_left run (92 ∷ y ∷ after) (92 ∷ y ∷ escaped (joined q.behind)) (sym whole ∙ h.to g ∙ form)));
+      from = λ g. h.from (whole ∙ ap (λ (u : List ℕ). run ++ 92 ∷ y ∷ u) g ∙ sym form);
     }
 
 pub value_more : (raw rest marked behind after : List ℕ) (k : ℕ) → IsFirstByte (is_byte 92) rest (Some k) → marked ≡ drop k rest → behind ≡ drop 1 marked → BeginsSpecial behind → after ≡ drop 1 behind → ValueLeft raw rest → ValueLeft raw after
 value_more raw rest marked behind after k f m b (y, z, e, s) a left text h =
-    step raw rest behind after text y (marked_at rest marked behind k f m b) (e ∙ ap (λ (u : List ℕ). y ∷ u) (ap (drop 1) (sym e) ∙ sym a)) s (left text h)
+    step raw rest (take k rest) behind after text y (marked_at rest marked behind k f m b) (e ∙ ap (λ (u : List ℕ). y ∷ u) (ap (drop 1) (sym e) ∙ sym a)) s (left text h)
 
 pub value_lone : (raw rest marked behind : List ℕ) (k : ℕ) → IsFirstByte (is_byte 92) rest (Some k) → marked ≡ drop k rest → behind ≡ drop 1 marked → IfFront (λ x. ¬ (IsSpecial x)) behind → ValueLeft raw rest
     → (text : List ℕ) → Spells text raw → IsTrue false ↔ (raw ≡ escaped text)
@@ -163,15 +175,14 @@ value_lone raw rest marked behind k f m b none left text h = (λ e. absurd cc, �
     apart : Left raw text rest → raw ≡ escaped text → IsTrue false
     apart l g =
         let p = marked_at rest marked behind k f m b in
-        let r = runs l.spells.0 rest p.run behind l.spells.2 p.parts p.free in
+        let r = runs l.spells.0 rest (take k rest) behind l.spells.2 p.parts p.free in
         let q = lone r.behind behind r.each none in
-        let form : escaped l.meaning ≡ p.run ++ 92 ∷ 92 ∷ q.0 =
-        ap escaped (l.spells.1 ∙ r.means) ∙ escaped_join p.run (joined r.behind) ∙ ap (λ (u : List ℕ). u ++ escaped (joined r.behind)) r.same ∙ ap (λ (u : List ℕ). p.run ++ u) q.1 in
-        let second : behind ≡ 92 ∷ q.0 = tails 92 92 behind (92 ∷ q.0) (append_cancel_left p.run (92 ∷ behind) (92 ∷ 92 ∷ q.0) (sym p.parts ∙ l.to g ∙ form)) in
+        let form : escaped l.meaning ≡ take k rest ++ 92 ∷ 92 ∷ q.0 =
+        ap escaped (l.spells.1 ∙ r.means) ∙ escaped_join (take k rest) (joined r.behind) ∙ ap (λ (u : List ℕ). u ++ escaped (joined r.behind)) r.same ∙ ap (λ (u : List ℕ). take k rest ++ u) q.1 in
+        let second : behind ≡ 92 ∷ q.0 = tails 92 92 behind (92 ∷ q.0) (append_cancel_left (take k rest) (92 ∷ behind) (92 ∷ 92 ∷ q.0) (sym p.parts ∙ l.to g ∙ form)) in
         absurd (subst (IfFront (λ n. ¬ (IsSpecial n))) second none (inr (inl refl)))
 
 pub value_end : (raw rest : List ℕ) → IsFirstByte (is_byte 92) rest None → ValueLeft raw rest → (text : List ℕ) → Spells text raw → IsTrue true ↔ (raw ≡ escaped text)
 value_end raw rest f left text h =
     let l = left text h in
-    let free : Free rest = subst Free (take_all (length rest) rest (omega arith)) (free_front (length rest) rest (λ i less. f i (omega arith) less)) in
-    (λ u. l.from (all_plain l.spells.0 rest l.spells.2 free ∙ ap escaped (sym l.spells.1)), λ u. refl)
+    (λ u. l.from (all_plain l.spells.0 rest l.spells.2 (free_rest rest f) ∙ ap escaped (sym l.spells.1)), λ u. refl)

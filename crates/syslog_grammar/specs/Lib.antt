@@ -18,3 +18,4 @@ pub mod Canonical
 pub mod Appending
 pub mod Escapes
 pub mod DecodeFaults
+pub mod Respelled

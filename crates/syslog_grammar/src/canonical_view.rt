@@ -1,15 +1,40 @@
 //! The canonical octets of a view.
 
-ghost use Rattle.std.specs.Prelude.{◌≡◌, ℕ, List, OnOk, OnErr};
+ghost use Rattle.std.specs.Prelude.{◌≡◌, ℕ, List, IfOk, IsTrue, OnOk, OnErr};
 ghost use Rattle.syslog_grammar.specs.Appending.{Adds, Anything};
 ghost use Rattle.syslog_grammar.specs.Shown.{IsShown, shown};
 ghost use Rattle.syslog_grammar.specs.WellFormed.{AddsCanonical};
 
-use crate::canonical::put_record;
+use crate::canonical::{FrontFields, put_header, put_record, put_tail};
 use crate::record_view::RecordView;
+use crate::respelled::put_data;
 use std::alloc::{AllocError, Global};
 
-/// Appends the canonical octets of the record that a view shows.
+/// Appends the canonical octets of the record that a view shows, where its elements stand by id.
+/// Where they do not, the answer is false, and a part may have been appended.
+fn put_spelled(view: &RecordView<'_>, out: &mut Vec<u8>) -> Result<bool, AllocError>
+    ensures begun { Adds Anything out.old.items out.new.items }
+    ensures ok { (b : List ℕ) → IsShown b (shown view.now)
+        → IfOk result (λ all. IsTrue all → AddsCanonical b out.old.items out.new.items) }
+{
+    let fields = FrontFields {
+        priority: view.priority(),
+        instant: view.instant(),
+        hostname: view.hostname,
+        app_name: view.app_name,
+        proc_id: view.proc_id,
+        msg_id: view.msg_id,
+    };
+    put_header(&fields, out)?;
+    if !put_data(view.data, out)? {
+        return Ok(false);
+    }
+    put_tail(view.message.octets, view.message.has_mark, out)?;
+    Ok(true)
+}
+
+/// Appends the canonical octets of the record that a view shows, by way of a record that owns its
+/// parts.
 fn put_owned(alloc: Global, view: &RecordView<'_>, out: &mut Vec<u8>) -> Result<(), AllocError>
     ensures begun { Adds Anything out.old.items out.new.items }
     ensures ok { (b : List ℕ) → IsShown b (shown view.now)
@@ -19,9 +44,24 @@ fn put_owned(alloc: Global, view: &RecordView<'_>, out: &mut Vec<u8>) -> Result<
     put_record(&record, out)
 }
 
+/// Appends the canonical octets of the record that a view shows, in one of these two ways.
+fn put_shown(alloc: Global, view: &RecordView<'_>, out: &mut Vec<u8>) -> Result<(), AllocError>
+    ensures begun { Adds Anything out.old.items out.new.items }
+    ensures ok { (b : List ℕ) → IsShown b (shown view.now)
+        → OnOk result (AddsCanonical b out.old.items out.new.items) }
+{
+    let start = out.len();
+    if put_spelled(view, out)? {
+        return Ok(());
+    }
+    out.truncate(start);
+    put_owned(alloc, view, out)
+}
+
 /// Appends the canonical octets of the record that the octets of a view spell.
 ///
-/// Where a growth is refused, the vector is unchanged.
+/// Where a growth is refused, the vector is unchanged. Where the ids of the elements ascend, no
+/// memory is taken but that of the vector.
 pub fn put_canonical(
     alloc: Global,
     view: &RecordView<'_>,
@@ -32,7 +72,7 @@ pub fn put_canonical(
     ensures err { OnErr result (out.new.items ≡ out.old.items) }
 {
     let start = out.len();
-    if let Err(refused) = put_owned(alloc, view, out) {
+    if let Err(refused) = put_shown(alloc, view, out) {
         out.truncate(start);
         return Err(refused);
     }

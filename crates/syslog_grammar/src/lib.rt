@@ -25,6 +25,7 @@ mod priority;
 mod reading;
 mod record_view;
 mod repeated;
+mod respelled;
 mod same;
 mod syntax;
 mod text;

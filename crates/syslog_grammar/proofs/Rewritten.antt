@@ -1,0 +1,189 @@
+-- Structured data that is written from its octets.
+use Rattle.std.proofs.Common.{◌≡◌, ℕ, List, [], ◌∷◌, ◌++◌, take, drop, refl, sym, ap, subst, ◌∙◌, append_assoc, inl, inr}
+use Rattle.std.specs.Prelude.{ℤ, Option, Some, None, Result, Ok, Err}
+use Rattle.std.specs.List.{flat_map}
+use Rattle.std.proofs.lemmas.List.{append-nil}
+use Rattle.std.proofs.lemmas.List.Sorted.{IsPermutation-refl}
+use Rattle.memchr.specs.Find.{IsFirstByte, is_byte}
+use Rattle.octet_language.specs.Language.{Language, Only, Each}
+use Rattle.octet_language.specs.Reading.{Follows}
+use Rattle.octet_language.proofs.Lists.{tails}
+use Rattle.syslog_value.specs.Parts.{ParamParts, ElementParts, Parts, IsById}
+use Rattle.syslog_grammar.specs.Appending.{Anything, Adds, Puts}
+use Rattle.syslog_grammar.specs.Canonical.{escaped, param_form, element_form, tail_form, HeaderForm}
+use Rattle.syslog_grammar.specs.Escapes.{MeansFirst}
+use Rattle.syslog_grammar.specs.Grammar.{Param, Element}
+use Rattle.syslog_grammar.specs.Ids.{IsAbove, IsRisingFrom, ids_of}
+use Rattle.syslog_grammar.specs.Respelled.{ValueOf, ParamOf, ParamsOf, ElementOf, ElementsOf, DataOf}
+use Rattle.syslog_grammar.specs.Shown.{ShownParts, Shows, IsShown}
+use Rattle.syslog_grammar.specs.Spans.{ParamSpan, SpannedParam, ElementSpan, SpannedElement}
+use Rattle.syslog_grammar.specs.Time.{CivilTime}
+use Rattle.syslog_grammar.specs.Values.{Piece, Spells}
+use Rattle.syslog_grammar.specs.WellFormed.{IsMeaning, AddsCanonical}
+use Rattle.syslog_grammar.proofs.Appends.{adds_some}
+use Rattle.syslog_grammar.proofs.DataForms.{item, form_raw, form_text, first_item, of_rising}
+use Rattle.syslog_grammar.proofs.OwnedParts.{param_same, element_same}
+use Rattle.syslog_grammar.proofs.ParamTexts.{OneFront-param, spanned_param, param_front, element_front}
+use Rattle.syslog_grammar.proofs.ValueForms.{joined, runs, escape, lone_more, marked_at, at_mark, all_plain, escaped_join, escaped_special, free_rest}
+
+-- ---- values
+
+-- what was written of a value, and what is left of its spelling
+pub record Written (raw rest old out : List ℕ) : Type 0 where
+  pub done : List ℕ
+  pub parts : out ≡ old ++ done
+  pub is : (text : List ℕ) → Spells text raw → (ms : List (List ℕ)) × Each Piece ms rest × (escaped text ≡ done ++ escaped (joined ms))
+
+pub written_all : (raw old : List ℕ) → Written raw raw old old
+written_all raw old = record { done = []; parts = sym (append-nil old); is = λ text h. (h.0, h.2, ap escaped h.1) }
+
+pub written_begun : (raw rest old out : List ℕ) → Written raw rest old out → Adds Anything old out
+written_begun raw rest old out w = (w.done, tt, w.parts)
+
+-- the pieces behind a backslash and what it means with the octet behind it
+mark_next : (ms : List (List ℕ)) (t first behind : List ℕ) → MeansFirst (92 ∷ t) first behind → Each Piece ms (92 ∷ t) → (ks : List (List ℕ)) × Each Piece ks behind × (escaped (joined ms) ≡ 92 ∷ (first ++ escaped (joined ks)))
+mark_next ms t first behind (inl (x, s, e, f)) h =
+    let same : t ≡ x ∷ behind = tails 92 92 t (x ∷ behind) e in
+    let q = escape ms x behind (subst (λ (u : List ℕ). Each Piece ms (92 ∷ u)) same h) s in
+    (q.behind, q.each, ap escaped q.means ∙ escaped_special x (joined q.behind) s ∙ ap (λ (u : List ℕ). 92 ∷ (u ++ escaped (joined q.behind))) (sym f))
+mark_next ms t first behind (inr (e, none, f)) h =
+    let same : t ≡ behind = tails 92 92 t behind e in
+    let q = lone_more ms behind (subst (λ (u : List ℕ). Each Piece ms (92 ∷ u)) same h) none in
+    (q.0, q.1, ap escaped q.2 ∙ escaped_special 92 (joined q.0) (inr (inl refl)) ∙ ap (λ (u : List ℕ). 92 ∷ (u ++ escaped (joined q.0))) (sym f))
+
+pub written_more : (raw rest old out m1 m2 m3 plain marked first behind : List ℕ) (k : ℕ) → Written raw rest old out → IsFirstByte (is_byte 92) rest (Some k)
+    → plain ≡ take k rest → marked ≡ drop k rest → MeansFirst marked first behind
+    → Adds (Only plain) out m1 → Adds (Only (92 ∷ [])) m1 m2 → Adds (Only first) m2 m3 → Written raw behind old m3
+written_more raw rest old out m1 m2 m3 plain marked first behind k w f p m b (x, xs, xe) (y, ys, ye) (z, zs, ze) =
+    let t = drop 1 marked in
+    let at = marked_at rest marked t k f m refl in
+    let mark : marked ≡ 92 ∷ t = m ∙ at_mark k rest f.0.high f.1 ∙ ap (λ (u : List ℕ). 92 ∷ drop 1 u) (sym m) in
+    record {
+      done = w.done ++ plain ++ 92 ∷ [] ++ first;
+      parts = ze ∙ ap (λ (u : List ℕ). u ++ z) (ye ∙ ap (λ (u : List ℕ). u ++ y) (xe ∙ ap (λ (u : List ℕ). u ++ x) w.parts)) ∙ rw (xs, ys, zs) (simp append_assoc);
+      is = λ text h.
+          let l = w.is text h in
+          let r = runs l.0 rest (take k rest) t l.1 at.parts at.free in
+          let q = mark_next r.behind t first behind (subst (λ (u : List ℕ). MeansFirst u first behind) mark b) r.each in (
+            q.0,
+            q.1,
+            l.2 ∙ ap (λ (u : List ℕ). w.done ++ escaped u) r.means ∙ ap (λ (u : List ℕ). w.done ++ u) (escaped_join (take k rest) (joined r.behind) ∙ ap (λ (u : List ℕ). u ++ escaped (joined r.behind)) (r.same ∙ sym p) ∙ ap (λ (u : List ℕ). plain ++ u) q.2)
+                ∙ simp append_assoc,
+          );
+    }
+
+pub written_end : {X E : Type 0} (raw rest old out new : List ℕ) (r : Result X E) → Written raw rest old out → IsFirstByte (is_byte 92) rest None → Puts (Only rest) out new r → Puts (ValueOf raw) old new r
+written_end raw rest old out new (Ok x) w f (t, ts, te) = (
+  w.done ++ rest,
+  λ text h. let l = w.is text h in sym (l.2 ∙ ap (λ (u : List ℕ). w.done ++ u) (sym (all_plain l.0 rest l.1 (free_rest rest f)))),
+  te ∙ ap (λ (s : List ℕ). s ++ t) w.parts ∙ append_assoc old w.done t ∙ ap (λ (s : List ℕ). old ++ (w.done ++ s)) ts,
+)
+written_end raw rest old out new (Err x) w f a = adds_some Anything Anything old out new (written_begun raw rest old out w) a
+
+-- ---- parameters
+
+param_written : (q : ParamParts) (v : ParamSpan) (b : List ℕ) → q.name ≡ v.name → Spells q.value v.raw → ParamOf v b → b ≡ param_form q
+param_written q v b n s (x0, y0, e0, h0, (x1, y1, e1, h1, (x2, y2, e2, h2, (x3, y3, e3, h3, h4)))) =
+    let value : x3 ≡ escaped q.value = h3 q.value s in
+    e0 ∙ rw (h0, e1, h1, e2, h2, e3, value, h4, ← n) refl ∙ sym (form_raw q)
+
+pub record ParamsWritten (params rest old out : List ℕ) : Type 0 where
+  pub done : List ℕ
+  pub parts : out ≡ old ++ done
+  pub is : (ps : List ParamParts) → Each Param ps params → (todo : List ParamParts) × Each Param todo rest × (flat_map param_form ps ≡ done ++ flat_map param_form todo)
+
+pub params_all : (params old : List ℕ) → ParamsWritten params params old old
+params_all params old = record { done = []; parts = sym (append-nil old); is = λ ps h. (ps, h, refl) }
+
+pub params_begun : (params rest old out : List ℕ) → ParamsWritten params rest old out → Adds Anything old out
+params_begun params rest old out w = (w.done, tt, w.parts)
+
+pub params_more : (params rest behind after old out mid : List ℕ) (x : ℕ) (v : ParamSpan) → rest ≡ x ∷ after → Follows (SpannedParam v) rest behind → Adds (ParamOf v) out mid → ParamsWritten params rest old out → ParamsWritten params behind old mid
+params_more params rest behind after old out mid x v e f (z, zs, ze) w = record {
+  done = w.done ++ z;
+  parts = ze ∙ ap (λ (u : List ℕ). u ++ z) w.parts ∙ append_assoc old w.done z;
+  is = λ ps h. let l = w.is ps h in one ps l.0 l.1 l.2;
+}
+  where
+    one : (ps todo : List ParamParts) → Each Param todo rest → flat_map param_form ps ≡ w.done ++ flat_map param_form todo → (ks : List ParamParts) × Each Param ks behind × (flat_map param_form ps ≡ w.done ++ z ++ flat_map param_form ks)
+    one ps [] k g = let i : ◌≡◌ {A = List ℕ} [] (x ∷ after) = sym k ∙ e in absurd cc
+    one ps (q ∷ todo) k g =
+        let i = item Param SpannedParam OneFront-param spanned_param q todo v rest behind k f in
+        let same = param_same q v i.0 i.2 i.3 in
+        (todo, i.4, g ∙ ap (λ (u : List ℕ). w.done ++ (u ++ flat_map param_form todo)) (sym (param_written q v z same.0 same.1 zs)) ∙ sym (append_assoc w.done z (flat_map param_form todo)))
+
+pub params_end : (params rest old out : List ℕ) → rest ≡ [] → ParamsWritten params rest old out → Adds (ParamsOf params) old out
+params_end params rest old out e w = (w.done, λ ps h. let l = w.is ps h in one ps l.0 l.1 l.2, w.parts)
+  where
+    one : (ps todo : List ParamParts) → Each Param todo rest → flat_map param_form ps ≡ w.done ++ flat_map param_form todo → w.done ≡ flat_map param_form ps
+    one ps [] k g = sym (g ∙ append-nil w.done)
+    one ps (q ∷ todo) (y, z, i, k, l) g =
+        let s = param_front y (q, k) in
+        let j : ◌≡◌ {A = List ℕ} [] (32 ∷ (s.0 ++ z)) = sym e ∙ i ∙ ap (λ (t : List ℕ). t ++ z) s.1 in absurd cc
+
+-- ---- elements
+
+element_written : (d : ElementParts) (v : ElementSpan) (b : List ℕ) → d.id ≡ v.id → Each Param d.params v.params → ElementOf v b → b ≡ element_form d
+element_written d v b n s (x0, y0, e0, h0, (x1, y1, e1, h1, (x2, y2, e2, h2, h3))) =
+    let params : x2 ≡ flat_map param_form d.params = h2 d.params s in
+    e0 ∙ rw (h0, e1, h1, e2, params, h3, ← n) refl ∙ sym (form_text d)
+
+pub record ElementsWritten (elements rest : List ℕ) (met : Option (List ℕ)) (old out : List ℕ) : Type 0 where
+  pub done : List ℕ
+  pub parts : out ≡ old ++ done
+  pub is : (es : List ElementParts) → Each Element es elements
+      → (todo : List ElementParts) × Each Element todo rest × (flat_map element_form es ≡ done ++ flat_map element_form todo) × (IsRisingFrom met (ids_of todo) → IsById es)
+
+pub elements_all : (elements old : List ℕ) → ElementsWritten elements elements None old old
+elements_all elements old = record { done = []; parts = sym (append-nil old); is = λ es h. (es, h, refl, λ k. (of_rising None es k).1) }
+
+pub elements_begun : (elements rest : List ℕ) (met : Option (List ℕ)) (old out : List ℕ) → ElementsWritten elements rest met old out → Adds Anything old out
+elements_begun elements rest met old out w = (w.done, tt, w.parts)
+
+pub elements_more : (elements rest behind after old out mid : List ℕ) (x : ℕ) (v : ElementSpan) (met : Option (List ℕ)) → rest ≡ x ∷ after → Follows (SpannedElement v) rest behind → IsAbove v.id met → Adds (ElementOf v) out mid
+    → ElementsWritten elements rest met old out → ElementsWritten elements behind (Some v.id) old mid
+elements_more elements rest behind after old out mid x v met e f above (z, zs, ze) w = record {
+  done = w.done ++ z;
+  parts = ze ∙ ap (λ (u : List ℕ). u ++ z) w.parts ∙ append_assoc old w.done z;
+  is = λ es h.
+      let l = w.is es h in
+      let i = first_item rest behind after x v l.0 e f l.1 in
+      let same = element_same i.element v i.text i.spelled i.spanned in (
+        i.others,
+        i.each,
+        l.2 ∙ ap (λ (u : List ElementParts). w.done ++ flat_map element_form u) i.is
+            ∙ ap (λ (u : List ℕ). w.done ++ (u ++ flat_map element_form i.others)) (sym (element_written i.element v z same.0 same.1 zs)) ∙ sym (append_assoc w.done z (flat_map element_form i.others)),
+        λ rising.
+            l.3 (subst (λ (u : List ElementParts). IsRisingFrom met (ids_of u)) (sym i.is) (subst (λ (id : List ℕ). IsAbove id met) (sym same.0) above, subst (λ (id : List ℕ). IsRisingFrom (Some id) (ids_of i.others)) (sym same.0) rising)),
+      );
+}
+
+pub elements_end : (elements rest : List ℕ) (met : Option (List ℕ)) (old out : List ℕ) → rest ≡ [] → ElementsWritten elements rest met old out → Adds (ElementsOf elements) old out
+elements_end elements rest met old out e w = (w.done, λ es h. let l = w.is es h in one es l.0 l.1 l.2 l.3, w.parts)
+  where
+    one : (es todo : List ElementParts) → Each Element todo rest → flat_map element_form es ≡ w.done ++ flat_map element_form todo → (IsRisingFrom met (ids_of todo) → IsById es) → (w.done ≡ flat_map element_form es) × IsById es
+    one es [] k g by_id = (sym (g ∙ append-nil w.done), by_id tt)
+    one es (q ∷ todo) (y, z, i, k, l) g by_id =
+        let s = element_front y (q, k) in
+        let j : ◌≡◌ {A = List ℕ} [] (91 ∷ (s.0 ++ z)) = sym e ∙ i ∙ ap (λ (t : List ℕ). t ++ z) s.1 in absurd cc
+
+-- ---- the record
+
+-- the record that is shown, where its elements stand by id
+abbrev shown_record : ShownParts → List ElementParts → Parts ℤ
+shown_record s es = record { priority = s.priority; time = s.instant; hostname = s.hostname; app_name = s.app_name; proc_id = s.proc_id; msg_id = s.msg_id; elements = es; message = s.message }
+
+-- the header of what is shown
+abbrev pub ShownHeader : ShownParts → Language
+ShownHeader s = HeaderForm s.priority s.instant s.hostname s.app_name s.proc_id s.msg_id
+
+shown_is : (s : ShownParts) (p : Parts CivilTime) → Shows p s → IsById p.elements → IsMeaning p (shown_record s p.elements)
+shown_is s p h by_id = record { priority = h.priority; time = h.instant; hostname = h.hostname; app_name = h.app_name; proc_id = h.proc_id; msg_id = h.msg_id; elements = IsPermutation-refl p.elements; by_id = by_id; message = h.message }
+
+pub record_written : (s : ShownParts) (old m1 m2 new : List ℕ) → Adds (ShownHeader s) old m1 → Adds (DataOf s.elements) m1 m2 → Adds (Only (tail_form s.message)) m2 new → (b : List ℕ) → IsShown b s → AddsCanonical b old new
+record_written s old m1 m2 new (x, xh, xe) (y, yh, ye) (z, zh, ze) b (p, spelled, range, distinct, h) =
+    let elements = yh p.elements h.elements in (
+      shown_record s p.elements,
+      (p, spelled, range, distinct, shown_is s p h elements.1),
+      (x ++ (y ++ z), (x, y ++ z, refl, xh, (y, z, refl, elements.0, zh)), ze ∙ ap (λ (u : List ℕ). u ++ z) (ye ∙ ap (λ (u : List ℕ). u ++ y) xe) ∙ append_assoc (old ++ x) y z ∙ append_assoc old x (y ++ z)),
+    )

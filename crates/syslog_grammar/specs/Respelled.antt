@@ -1,0 +1,40 @@
+-- The canonical form of structured data by any spelling of it.
+use Rattle.std.specs.Prelude.{◌≡◌, ℕ, List, [], ◌∷◌, Bool, true, false, Result, Ok, Err}
+use Rattle.std.specs.List.{flat_map}
+use Rattle.octet_language.specs.Language.{Language, Only, ◌⋅◌, Each}
+use Rattle.syslog_value.specs.Parts.{ParamParts, ElementParts, IsById}
+use Rattle.syslog_grammar.specs.Appending.{Anything, Adds}
+use Rattle.syslog_grammar.specs.Canonical.{escaped, param_form, element_form, data_form}
+use Rattle.syslog_grammar.specs.Grammar.{Param, Element, Data}
+use Rattle.syslog_grammar.specs.Spans.{ParamSpan, ElementSpan}
+use Rattle.syslog_grammar.specs.Values.{Spells}
+
+-- of the value of a spelling
+abbrev pub ValueOf : List ℕ → Language
+ValueOf raw b = (text : List ℕ) → Spells text raw → b ≡ escaped text
+
+-- of a parameter, with the space before it
+abbrev pub ParamOf : ParamSpan → Language
+ParamOf v = Only (32 ∷ []) ⋅ Only v.name ⋅ Only (61 ∷ 34 ∷ []) ⋅ ValueOf v.raw ⋅ Only (34 ∷ [])
+
+-- of the parameters of a text
+abbrev pub ParamsOf : List ℕ → Language
+ParamsOf params b = (ps : List ParamParts) → Each Param ps params → b ≡ flat_map param_form ps
+
+-- of an element
+abbrev pub ElementOf : ElementSpan → Language
+ElementOf v = Only (91 ∷ []) ⋅ Only v.id ⋅ ParamsOf v.params ⋅ Only (93 ∷ [])
+
+-- of the elements of a text, which stand by id
+abbrev pub ElementsOf : List ℕ → Language
+ElementsOf elements b = (es : List ElementParts) → Each Element es elements → (b ≡ flat_map element_form es) × IsById es
+
+-- of the structured data of a text, whose elements stand by id
+abbrev pub DataOf : List ℕ → Language
+DataOf text b = (es : List ElementParts) → Data es text → (b ≡ data_form es) × IsById es
+
+-- a text of the language was appended where the answer is true, else any text
+abbrev pub PutsIf : {E : Type 0} → Language → List ℕ → List ℕ → Result Bool E → Type 0
+PutsIf L old new (Ok true) = Adds L old new
+PutsIf L old new (Ok false) = Adds Anything old new
+PutsIf L old new (Err e) = Adds Anything old new
