@@ -1,9 +1,9 @@
 //! The command line, read by `clap`: the words alone decide what is asked for.
 
-ghost use Rattle.std.specs.Prelude.{◌≡◌, false, map, option_map, option_and_then, IfOk, IfErr, Some, None};
+ghost use Rattle.std.specs.Prelude.{◌≡◌, codes, false, map, option_map, option_and_then, IfOk, IfErr, Some, None};
 ghost use Rattle.clap.specs.Walk.{first_of};
 ghost use Rattle.clap.specs.Words.{app_of, found_of, rows_of, rule_of, subcommand_rows_of};
-ghost use Rattle.clap.specs.Simple.{with_rule, with_subcommand};
+ghost use Rattle.clap.specs.Simple.{new_app, with_rule, with_subcommand};
 ghost use Rattle.clap.specs.declared.builder.command.Command.TheViews.{out-Command as fields_of};
 ghost use Rattle.syslogbox.specs.Line.{convert_app, default_rule, empty_app, input_app, line_app, option_rule};
 ghost use Rattle.syslogbox.specs.Requests.{IsUsage, carrier_in, carrier_of, framing_of, own_framing, parsed};
@@ -44,12 +44,29 @@ fn option<'a>(alloc: Global, id: &'a str) -> Arg<'a>
     Arg::new(alloc, id).long(id)
 }
 
-// An option with a value where it is not given.
-fn option_or<'a>(alloc: Global, id: &'a str, value: &'a str) -> Arg<'a>
-    ensures rule { rule_of result ≡ default_rule id.entry.now value.entry.now }
+// What help says of an option.
+fn described<'a>(option: Arg<'a>, help: &'a str) -> Arg<'a>
+    ensures rule { rule_of result ≡ rule_of option.entry }
+    ensures local { result.global ≡ option.entry.global }
+{
+    option.help(help)
+}
+
+// An option that takes the name of a framing.
+fn framing_option<'a>(alloc: Global, id: &'a str, help: &'a str) -> Arg<'a>
+    ensures rule { rule_of result ≡ option_rule id.entry.now }
     ensures local { result.global ≡ false }
 {
-    Arg::new(alloc, id).long(id).default_value(value)
+    described(option(alloc, id), help)
+}
+
+// The framing of what comes: a datagram where it is not given.
+fn input_option<'a>(alloc: Global) -> Arg<'a>
+    ensures rule { rule_of result ≡ default_rule (codes "framing") (codes "datagram") }
+    ensures local { result.global ≡ false }
+{
+    let help = "How records come: datagram, counted or lf";
+    framing_option(alloc, "framing", help).default_value("datagram")
 }
 
 // The command with one more argument.
@@ -63,15 +80,24 @@ fn with_arg<'a>(command: Command<'a>, arg: Arg<'a>) -> Result<Command<'a>, Alloc
     command.arg(arg)
 }
 
+// A command and what help says of it.
+fn command<'a>(alloc: Global, name: &'a str, about: &'a str) -> Command<'a>
+    ensures app { app_of result ≡ new_app name.entry.now }
+    ensures local { (fields_of result).has_globals ≡ false }
+{
+    Command::new(alloc, name).about(about)
+}
+
 // A command that reads records.
-fn input_command<'a>(alloc: Global, name: &'a str) -> Result<Command<'a>, AllocError>
+fn input_command<'a>(
+    alloc: Global,
+    name: &'a str,
+    about: &'a str,
+) -> Result<Command<'a>, AllocError>
     ensures app { IfOk result (λ c. app_of c ≡ input_app name.entry.now) }
     ensures local { IfOk result (λ c. (fields_of c).has_globals ≡ false) }
 {
-    with_arg(
-        Command::new(alloc, name),
-        option_or(alloc, "framing", "datagram"),
-    )
+    with_arg(command(alloc, name, about), input_option(alloc))
 }
 
 // The command that reads records and writes them.
@@ -79,7 +105,12 @@ fn convert_command<'a>(alloc: Global) -> Result<Command<'a>, AllocError>
     ensures app { IfOk result (λ c. app_of c ≡ convert_app) }
     ensures local { IfOk result (λ c. (fields_of c).has_globals ≡ false) }
 {
-    with_arg(input_command(alloc, "convert")?, option(alloc, "to"))
+    let about = "Write the canonical octets of each record";
+    let help = "How records go out: counted or lf [default: as they came]";
+    with_arg(
+        input_command(alloc, "convert", about)?,
+        framing_option(alloc, "to", help),
+    )
 }
 
 // The line with no subcommand yet.
@@ -103,9 +134,11 @@ fn with_command<'a>(line: Command<'a>, command: Command<'a>) -> Result<Command<'
 fn whole_line<'a>(alloc: Global) -> Result<Command<'a>, AllocError>
     ensures { IfOk result (λ c. app_of c ≡ line_app) }
 {
-    let line = with_command(empty_line(alloc), input_command(alloc, "show")?)?;
-    let line = with_command(line, input_command(alloc, "check")?)?;
-    with_command(line, convert_command(alloc)?)
+    let show = input_command(alloc, "show", "Write the fields of each record")?;
+    let line = with_command(empty_line(alloc), show)?;
+    let about = "Tell of each frame whether it is a record, and else where it stops being one";
+    let check = input_command(alloc, "check", about)?;
+    with_command(with_command(line, check)?, convert_command(alloc)?)
 }
 
 fn value<'a>(matches: &ArgMatches<'a>, id: &str) -> Option<&'a str>
