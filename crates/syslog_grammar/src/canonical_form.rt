@@ -43,7 +43,8 @@ fn has_time_form(time: Option<Timestamp>, octets: &[u8]) -> bool
     front == text.as_slice()
 }
 
-/// Whether what stands behind the structured data is in its canonical form: so many octets.
+/// Whether what stands behind the structured data, which is so many octets, is in its canonical
+/// form.
 fn has_tail_form(message: &MessageView<'_>, count: usize) -> bool
     ensures { (tail : List ℕ) → Tail (message_parts message.now) tail → count ≡ length tail
         → (IsTrue result ↔ (tail ≡ tail_form (message_parts message.now))) }
@@ -53,7 +54,7 @@ fn has_tail_form(message: &MessageView<'_>, count: usize) -> bool
 
 /// Whether the octets are the canonical form of some record.
 ///
-/// It takes no memory, and reads the octets a few times at most.
+/// It takes no memory, and reads each octet a few times at most.
 pub fn is_canon(octets: &[u8]) -> bool
     ensures { IsTrue result ↔ ((r : Parts ℤ) × IsRecord r × Canonical r octets.now) }
 {

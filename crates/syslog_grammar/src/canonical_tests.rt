@@ -1,12 +1,15 @@
 use crate::canonical::canon;
+use crate::canonical_form::is_canon;
 use crate::canonical_view::put_canonical;
 use crate::decoding::{DecodeFault, decode};
 use crate::fault::Fault;
+use crate::same::same_value;
 use crate::whole::view;
 use std::alloc::Global;
 use std::test::Fail;
 
-/// The canonical octets by way of the record, which are those of the view, with what stood before.
+/// The canonical octets by way of the record, which are those of the view, with what stood before;
+/// they alone are known as canonical.
 fn canonical(alloc: Global, octets: &[u8]) -> Result<Vec<u8>, Fail> {
     let seen = view(octets).ok().ok_or("a fault")?;
     let record = seen.to_record(alloc)?;
@@ -17,6 +20,13 @@ fn canonical(alloc: Global, octets: &[u8]) -> Result<Vec<u8>, Fail> {
     expected.extend_from_slice(by_record.as_slice())?;
     if appended.as_slice() != expected.as_slice() {
         return Err(Fail::from("the view and the record differ"));
+    }
+    if !is_canon(by_record.as_slice()) {
+        return Err(Fail::from("canonical octets are not known as such"));
+    }
+    let same = octets == by_record.as_slice();
+    if is_canon(octets) != same {
+        return Err(Fail::from("other octets are taken for canonical ones"));
     }
     Ok(by_record)
 }
@@ -29,8 +39,20 @@ fn an_instant_is_written_in_utc_with_six_digits(rt: HostRuntime) -> Result<(), F
             b"<165>1 2003-08-24T12:14:15.000003Z 192.0.2.1 myproc 8710 - - %% It's time to make the do-nuts.".as_slice(),
         ),
         (
-            b"<0>1 2024-03-01T00:30:00+01:00 - - - - -",
-            b"<0>1 2024-02-29T23:30:00.000000Z - - - - -",
+            b"<14>1 2024-03-01T00:30:00+01:00 h a - - -",
+            b"<14>1 2024-02-29T23:30:00.000000Z h a - - -",
+        ),
+        (
+            b"<14>1 2024-02-29T23:30:00.0Z h a - - -",
+            b"<14>1 2024-02-29T23:30:00.000000Z h a - - -",
+        ),
+        (
+            b"<14>1 2024-02-29T23:30:00.00000Z h a - - -",
+            b"<14>1 2024-02-29T23:30:00.000000Z h a - - -",
+        ),
+        (
+            b"<14>1 2024-02-29T23:30:00.000000+00:00 h a - - -",
+            b"<14>1 2024-02-29T23:30:00.000000Z h a - - -",
         ),
         (
             b"<0>1 0000-01-01T00:00:00Z - - - - -",
@@ -56,6 +78,22 @@ fn elements_stand_by_id_and_exactly_three_octets_are_escaped(rt: HostRuntime) ->
         (
             b"<0>1 - - - - - [a\\b x\\y=\"z\"]",
             b"<0>1 - - - - - [a\\b x\\y=\"z\"]",
+        ),
+        (
+            b"<0>1 - - - - - [a k=\"x\\n\"]",
+            b"<0>1 - - - - - [a k=\"x\\\\n\"]",
+        ),
+        (
+            b"<0>1 - - - - - [a k=\"x\\\\n\"]",
+            b"<0>1 - - - - - [a k=\"x\\\\n\"]",
+        ),
+        (
+            b"<0>1 - - - - - [a k=\"1\" k=\"2\"]",
+            b"<0>1 - - - - - [a k=\"1\" k=\"2\"]",
+        ),
+        (
+            b"<0>1 - - - - - [a][b k=\"\\\"\" l=\"\\a\\\\\" m=\"\"][c] x",
+            b"<0>1 - - - - - [a][b k=\"\\\"\" l=\"\\\\a\\\\\" m=\"\"][c] x",
         ),
         (
             b"<0>1 - - - - - [a k=\"\\\xc3\xa9\\\"\"]",
@@ -130,6 +168,27 @@ fn octets_that_are_no_record_are_refused_with_their_fault(rt: HostRuntime) -> Re
     ] {
         let refused = decode(rt.alloc(), octets).err();
         assert_eq!(rt; refused, Some(DecodeFault::Bad(fault)));
+    }
+    Ok(())
+}
+
+#[test]
+fn both_spellings_of_a_backslash_mean_the_same(rt: HostRuntime) -> Result<(), Fail> {
+    assert!(rt; same_value(b"x\\n", "x\\n"));
+    assert!(rt; same_value(b"x\\\\n", "x\\n"));
+    Ok(())
+}
+
+#[test]
+fn octets_that_are_no_record_are_not_canonical(rt: HostRuntime) -> Result<(), Fail> {
+    for octets in [
+        b"".as_slice(),
+        b"<0>1 - - - - - [a][a]",
+        b"<0>1 - - - - - [a k=\"]\"]",
+        b"<0>1 9999-12-31T23:59:59-00:01 - - - - -",
+        b"<0>1 - - - - - -x",
+    ] {
+        assert!(rt; !is_canon(octets));
     }
     Ok(())
 }
