@@ -30,6 +30,7 @@ pub mod Unescaped
 pub mod OwnedParts
 pub mod RecordsOf
 pub mod OneMeaning
+pub mod LaneRuns
 pub mod Laws
 pub mod CanonicalSpelled
 pub mod Excluded

@@ -11,6 +11,7 @@ pub mod Faults
 pub mod Spellings
 pub mod Ids
 pub mod Shown
+pub mod Lanes
 pub mod PartsLeft
 pub mod Instants
 pub mod WellFormed

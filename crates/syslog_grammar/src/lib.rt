@@ -16,6 +16,7 @@ mod distinct;
 mod element;
 mod fault;
 mod header;
+mod lanes;
 mod law;
 mod message;
 mod name;

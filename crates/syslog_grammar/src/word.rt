@@ -8,6 +8,7 @@ ghost use Rattle.syslog_value.specs.Parts.{IsPrintable};
 ghost use Rattle.syslog_grammar.specs.Grammar.{Nilable, Spaced, Word};
 ghost use Rattle.syslog_grammar.specs.Stops.{left_of};
 
+use crate::lanes::{LANES, printable_run};
 use crate::reading::{Stop, next};
 
 #[inline(always)]
@@ -28,6 +29,24 @@ fn is_dash(word: &[u8]) -> bool
     }
 }
 
+/// A place up to which octets are printable, sixteen of them at a time.
+#[inline(always)]
+fn printable_blocks(most: usize, octets: &[u8]) -> usize
+    requires { most ≤ length octets.now }
+    ensures within { result ≤ most }
+    ensures printable { AllByRecursion IsPrintable (take result octets.now) }
+{
+    let mut at = 0;
+    while most - at >= LANES {
+        let run = printable_run(octets, at);
+        at += run;
+        if run < LANES {
+            return at;
+        }
+    }
+    at
+}
+
 /// How many octets in front are printable, up to a limit.
 #[inline(always)]
 fn printable_len(limit: usize, octets: &[u8]) -> usize
@@ -37,7 +56,7 @@ fn printable_len(limit: usize, octets: &[u8]) -> usize
     ensures ends { result < limit → IfFront (λ x. IsPrintable x → ⊥) (drop result octets.now) }
 {
     let most = octets.len().min(limit);
-    for i in 0..most {
+    for i in printable_blocks(most, octets)..most {
         if !is_printable(octets[i]) {
             return i;
         }
