@@ -6,6 +6,7 @@ use Rattle.octet_language.specs.Language.{Language, ◌⋅◌, AnyOf, OneFront}
 use Rattle.octet_language.specs.Reading.{Fails, Follows}
 use Rattle.octet_language.proofs.Sequence.{OneFront-then}
 use Rattle.octet_language.proofs.Chain.{Fails-same, Follows-then, OneFront-same, Behind, further, fails_here, some_value}
+use Rattle.syslog_grammar.specs.Fields.{words_of}
 use Rattle.syslog_grammar.specs.Grammar.{HeaderParts, Header, Priority, Version, Word, Spaced, Nilable}
 use Rattle.syslog_grammar.specs.Time.{CivilTime, TimeText}
 use Rattle.syslog_grammar.proofs.Fractions.{AnyTime, nil_time, OneFront-nilable_time}
@@ -138,6 +139,13 @@ header_read b r1 r2 r3 r4 r5 r6 r7 h h0 h1 h2 h3 h4 h5 h6 =
     (Follows-then (OneWord 255 h.hostname) _ r3 r4 r7 h3
     (Follows-then (OneWord 48 h.app_name) _ r4 r5 r7 h4
     (Follows-then (OneWord 128 h.proc_id) (OneWord 32 h.msg_id) r5 r6 r7 h5 h6)))))
+
+-- the words and their spaces
+pub words_read : (r3 r4 r5 r6 r7 : List ℕ) (h : HeaderParts) → Follows (OneWord 255 h.hostname) r3 r4 → Follows (OneWord 48 h.app_name) r4 r5 → Follows (OneWord 128 h.proc_id) r5 r6 → Follows (OneWord 32 h.msg_id) r6 r7 → Follows (words_of h) r3 r7
+words_read r3 r4 r5 r6 r7 h h3 h4 h5 h6 =
+    Follows-then (OneWord 255 h.hostname) _ r3 r4 r7 h3
+    (Follows-then (OneWord 48 h.app_name) _ r4 r5 r7 h4
+    (Follows-then (OneWord 128 h.proc_id) (OneWord 32 h.msg_id) r5 r6 r7 h5 h6))
 
 pub time_stands : (b r1 r2 : List ℕ) (v : ℕ) → Follows (Priority v) b r1 → Follows (Spaced Version) r1 r2 → Follows (AnyOf Priority ⋅ Spaced Version) b r2
 time_stands b r1 r2 v h0 h1 = Follows-then (AnyOf Priority) (Spaced Version) b r1 r2 (some_value Priority v b r1 h0) h1

@@ -6,13 +6,13 @@ use Rattle.std.specs.List.{AllByRecursion}
 use Rattle.std.proofs.lemmas.Int.{ints}
 use Rattle.std.proofs.lemmas.List.{length-append}
 use Rattle.octet_language.specs.Digits.{IsDigit}
-use Rattle.octet_language.specs.Language.{◌⋅◌, AnyOf}
+use Rattle.octet_language.specs.Language.{Only, ◌⋅◌, AnyOf}
 use Rattle.syslog_value.specs.Parts.{Parts, ElementParts, IsInstant}
 use Rattle.syslog_value.specs.Instants.{IsCivil, IsOffset}
 use Rattle.syslog_grammar.specs.Dates.{time_of}
 use Rattle.syslog_grammar.specs.Faults.{IsInRange, FrontEnds, FaultOf}
-use Rattle.syslog_grammar.specs.Fields.{header_parts, TimeStands}
-use Rattle.syslog_grammar.specs.Grammar.{HeaderParts, Header, Nilable, Spaced, Priority, Version, Data, Spelled}
+use Rattle.syslog_grammar.specs.Fields.{header_parts, words_of, TimeStands}
+use Rattle.syslog_grammar.specs.Grammar.{HeaderParts, Header, Nilable, Spaced, Priority, Version, Data, Spelled, Tail}
 use Rattle.syslog_grammar.specs.Ids.{HoldsRepeated}
 use Rattle.syslog_grammar.specs.Instants.{IsOutOfRange}
 use Rattle.syslog_grammar.specs.Spellings.{IsSpelling}
@@ -31,6 +31,11 @@ parts_of s es =
 
 pub spelled_by : (b : List ℕ) (s : Spelling) (es : List ElementParts) → IsSpelling b s → Data es s.«data».now → Spelled (parts_of s es) b
 spelled_by b s es k d = (k.fields.0, k.rest, k.fields.1, k.fields.2, (s.«data».now, k.end, k.parts, d, k.tail))
+
+-- what stands behind the timestamp
+pub behind_time : {b : List ℕ} (s : Spelling) (k : IsSpelling b s) → (words_of (header_parts s.fields) ⋅ Only s.«data».now ⋅ Tail (message_parts s.message)) s.fields.behind_time.now
+behind_time s k =
+    (k.words.0, s.«data».now ++ k.end, k.words.1 ∙ ap (λ (r : List ℕ). k.words.0 ++ r) k.parts, k.words.2, (s.«data».now, k.end, refl, refl, k.tail))
 
 -- ---- the priority and the time of a header
 

@@ -1,10 +1,10 @@
 -- The fields of a header without where they lie in memory.
 use Rattle.std.specs.Prelude.{◌≡◌, ℕ, List, length, option_map}
-use Rattle.octet_language.specs.Language.{◌⋅◌, AnyOf}
+use Rattle.octet_language.specs.Language.{Language, ◌⋅◌, AnyOf}
 use Rattle.octet_language.specs.Reading.{Follows}
 use Rattle.syslog_grammar.specs.declared.header.HeaderFields.{HeaderFields}
 use Rattle.syslog_grammar.specs.Dates.{time_of}
-use Rattle.syslog_grammar.specs.Grammar.{HeaderParts, Priority, Spaced, Version}
+use Rattle.syslog_grammar.specs.Grammar.{HeaderParts, Priority, Spaced, Version, WordFields}
 
 abbrev pub header_parts : HeaderFields → HeaderParts
 header_parts h = record {
@@ -15,6 +15,10 @@ header_parts h = record {
   proc_id = option_map (λ s. s.now) h.proc_id;
   msg_id = option_map (λ s. s.now) h.msg_id;
 }
+
+-- the texts of the words of a header and their spaces
+abbrev pub words_of : HeaderParts → Language
+words_of h = WordFields h.hostname h.app_name h.proc_id h.msg_id
 
 -- so many octets are left behind PRI, VERSION and the space
 abbrev pub TimeStands : List ℕ → ℕ → Type 0

@@ -66,6 +66,12 @@ pub record HeaderParts : Type 0 where
   pub proc_id : Option (List ℕ)
   pub msg_id : Option (List ℕ)
 
+-- HOSTNAME SP APP-NAME SP PROCID SP MSGID SP
+abbrev pub WordFields : Option (List ℕ) → Option (List ℕ) → Option (List ℕ) → Option (List ℕ) → Language
+WordFields hostname app_name proc_id msg_id =
+    Spaced (Nilable (Word 255) hostname) ⋅ Spaced (Nilable (Word 48) app_name)
+    ⋅ Spaced (Nilable (Word 128) proc_id) ⋅ Spaced (Nilable (Word 32) msg_id)
+
 -- HEADER SP
 unfoldable pub Header : HeaderParts → Language
 Header h =

@@ -1,8 +1,9 @@
 -- What a view of a record shows.
 use Rattle.std.specs.Prelude.{◌≡◌, ℕ, ℤ, List, Option, option_map, ⊤}
+use Rattle.octet_language.specs.Language.{Language, Only, ◌⋅◌}
 use Rattle.syslog_value.specs.Parts.{Parts, MessageParts, AnyOctets, Utf8Text}
 use Rattle.syslog_grammar.specs.Faults.{IsInRange, AreDistinct}
-use Rattle.syslog_grammar.specs.Grammar.{Data, Spelled}
+use Rattle.syslog_grammar.specs.Grammar.{Data, Spelled, Tail, WordFields}
 use Rattle.syslog_grammar.specs.Time.{CivilTime, instant}
 use Rattle.syslog_grammar.specs.Views.{message_parts}
 use Rattle.syslog_grammar.specs.declared.record_view.RecordView.{RecordView}
@@ -17,6 +18,7 @@ pub record ShownParts : Type 0 where
   pub msg_id : Option (List ℕ)
   pub elements : List ℕ
   pub message : MessageParts
+  pub behind_time : List ℕ
 
 -- what a view shows
 abbrev pub shown : RecordView → ShownParts
@@ -29,7 +31,12 @@ shown v = record {
   msg_id = option_map (λ s. s.now) v.msg_id;
   elements = v.data.now;
   message = message_parts v.message;
+  behind_time = v.behind_time.now;
 }
+
+-- what stands behind the timestamp and its space: the words, the structured data and the tail
+abbrev pub BehindTime : ShownParts → Language
+BehindTime s = WordFields s.hostname s.app_name s.proc_id s.msg_id ⋅ Only s.elements ⋅ Tail s.message
 
 -- the parts that are shown are those that the octets spell
 pub record Shows (p : Parts CivilTime) (s : ShownParts) : Type 0 where
@@ -41,6 +48,7 @@ pub record Shows (p : Parts CivilTime) (s : ShownParts) : Type 0 where
   pub msg_id : s.msg_id ≡ p.msg_id
   pub elements : Data p.elements s.elements
   pub message : s.message ≡ p.message
+  pub behind_time : BehindTime s s.behind_time
 
 -- the octets spell a record, with an instant in range and distinct ids, and this is shown of it
 abbrev pub IsShown : List ℕ → ShownParts → Type 0

@@ -3,7 +3,7 @@ use Rattle.std.specs.Prelude.{◌≡◌, ◌≢◌, ℕ, ◌-◌, ◌<◌, ◌�
 use Rattle.octet_language.specs.Language.{AnyOf, IfFront}
 use Rattle.octet_language.specs.Reading.{Follows}
 use Rattle.syslog_grammar.specs.Faults.{FaultOf, times}
-use Rattle.syslog_grammar.specs.Fields.{header_parts, TimeStands}
+use Rattle.syslog_grammar.specs.Fields.{header_parts, words_of, TimeStands}
 use Rattle.syslog_grammar.specs.Grammar.{Header, Data, Tail}
 use Rattle.syslog_grammar.specs.Views.{message_parts}
 use Rattle.syslog_grammar.specs.declared.syntax.Spelling.{Spelling}
@@ -49,6 +49,7 @@ pub record IsSpelling (b : List ℕ) (s : Spelling) : Type 0 where
   pub end : List ℕ
   pub fields : Follows (Header (header_parts s.fields)) b rest
   pub time : TimeStands b s.fields.time_left
+  pub words : Follows (words_of (header_parts s.fields)) s.fields.behind_time.now rest
   pub parts : rest ≡ s.data.now ++ end
   pub left : length rest ≡ s.data_left
   pub elements : AnyOf Data s.data.now

@@ -1,8 +1,8 @@
 //! The header of a record (RFC 5424, 6.2).
 
 ghost use Rattle.std.specs.Prelude.{IfOk};
-ghost use Rattle.octet_language.specs.Reading.{Reads};
-ghost use Rattle.syslog_grammar.specs.Fields.{TimeStands, header_parts};
+ghost use Rattle.octet_language.specs.Reading.{Follows, Reads};
+ghost use Rattle.syslog_grammar.specs.Fields.{TimeStands, header_parts, words_of};
 ghost use Rattle.syslog_grammar.specs.Grammar.{Header as HeaderText};
 ghost use Rattle.syslog_grammar.specs.Stops.{left_of};
 
@@ -22,6 +22,8 @@ pub struct HeaderFields<'a> {
     pub msg_id: Option<&'a [u8]>,
     /// How many octets are left where the timestamp begins.
     pub time_left: usize,
+    /// What stands behind the timestamp and its space.
+    pub behind_time: &'a [u8],
 }
 
 /// Reads the header and the space behind it.
@@ -30,12 +32,15 @@ pub fn fields(octets: &[u8]) -> Result<(HeaderFields<'_>, &[u8]), Stop>
     ensures reads { Reads left_of HeaderText (λ x. (header_parts x.0, x.1.now))
         octets.now result }
     ensures time { IfOk result (λ x. TimeStands octets.now x.0.time_left) }
+    ensures words { IfOk result (λ x.
+        Follows (words_of (header_parts x.0)) x.0.behind_time.now x.1.now) }
 {
     let (priority, rest) = priority(octets)?;
     let rest = version(rest)?;
     let time_left = rest.len();
     let (time, rest) = nilable_time(rest)?;
-    let (hostname, rest) = word::<255>(rest)?;
+    let behind_time = rest;
+    let (hostname, rest) = word::<255>(behind_time)?;
     let (app_name, rest) = word::<48>(rest)?;
     let (proc_id, rest) = word::<128>(rest)?;
     let (msg_id, rest) = word::<32>(rest)?;
@@ -48,6 +53,7 @@ pub fn fields(octets: &[u8]) -> Result<(HeaderFields<'_>, &[u8]), Stop>
             proc_id,
             msg_id,
             time_left,
+            behind_time,
         },
         rest,
     ))

@@ -19,6 +19,8 @@ pub struct RecordView<'a> {
     pub(crate) msg_id: Option<&'a [u8]>,
     pub(crate) data: &'a [u8],
     pub(crate) message: MessageView<'a>,
+    /// What stands behind the timestamp and its space.
+    pub(crate) behind_time: &'a [u8],
     ghost priority_valid: { priority ≤ 191 },
     ghost micros_valid: { ForSome micros IsInstant },
 }

@@ -62,5 +62,6 @@ pub fn view(octets: &[u8]) -> Result<RecordView<'_>, Fault>
         msg_id: fields.msg_id,
         data: spelling.data,
         message: spelling.message,
+        behind_time: fields.behind_time,
     })
 }

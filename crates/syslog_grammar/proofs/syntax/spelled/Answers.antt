@@ -16,6 +16,7 @@ returns-in-Ok-tail c = record {
   end = c.in-Ok-data.read.1.now;
   fields = c.in-Ok.ensures.reads;
   time = c.in-Ok.ensures.time;
+  words = c.in-Ok.ensures.words;
   parts = c.in-Ok-data.ensures.0;
   left = refl;
   elements = data_text c.in-Ok.read.1.now c.in-Ok-data.read.0.now c.in-Ok-data.read.1.now c.in-Ok-data.ensures;

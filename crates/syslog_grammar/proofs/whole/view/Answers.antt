@@ -3,7 +3,7 @@ use Rattle.std.proofs.lemmas.Result.{err_from_is_err_and}
 use Rattle.syslog_grammar.specs.Fields.{header_parts}
 use Rattle.syslog_grammar.specs.declared.fault.Fault.TheVariants.{InstantRange, RepeatedId}
 use Rattle.syslog_grammar.proofs.Excluded.{no_record, no_syntax}
-use Rattle.syslog_grammar.proofs.Viewing.{parts_of, spelled_by, header_priority, out_of_range, in_range, shown_instant, repeated_id, valid_micros}
+use Rattle.syslog_grammar.proofs.Viewing.{behind_time, parts_of, spelled_by, header_priority, out_of_range, in_range, shown_instant, repeated_id, valid_micros}
 use Rattle.syslog_grammar.proofs.whole.view.Goals as goal
 
 pub returns-in_err-spelling-clause-none : goal.returns-in_err-spelling-clause-none
@@ -49,5 +49,6 @@ returns-clause-whole c =
         msg_id = refl;
         elements = e.1;
         message = refl;
+        behind_time = behind_time s k;
       },
     )
