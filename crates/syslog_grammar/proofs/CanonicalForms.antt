@@ -54,7 +54,7 @@ record TimeAt (h : HeaderParts) (header rest from : List ℕ) : Type 0 where
   pub spelled : Spaced (Nilable TimeText h.time) time
   pub formed : TimeSpace (option_map instant h.time) time → FormOf h header
 
-word_formed : (n : ℕ) (w : Option (List ℕ)) (b : List ℕ) → Spaced (Nilable (Word n) w) b → SpacedWord w b
+pub word_formed : (n : ℕ) (w : Option (List ℕ)) (b : List ℕ) → Spaced (Nilable (Word n) w) b → SpacedWord w b
 word_formed n w b (x, y, e, h, k) = (x, y, e, word_len n w x h, k)
 
 front_formed : (p : ℕ) (x y : List ℕ) → Priority p x → Spaced Version y → x ++ y ≡ front_form p

@@ -5,14 +5,15 @@ use Rattle.std.specs.List.{flat_map}
 use Rattle.std.proofs.lemmas.List.{append-nil}
 use Rattle.std.proofs.lemmas.List.Sorted.{IsPermutation-refl}
 use Rattle.memchr.specs.Find.{IsFirstByte, is_byte}
-use Rattle.octet_language.specs.Language.{Language, Only, Each}
+use Rattle.octet_language.specs.Language.{Language, Only, ◌⋅◌, Each}
 use Rattle.octet_language.specs.Reading.{Follows}
 use Rattle.octet_language.proofs.Lists.{tails}
 use Rattle.syslog_value.specs.Parts.{ParamParts, ElementParts, Parts, IsById}
 use Rattle.syslog_grammar.specs.Appending.{Anything, Adds, Puts}
-use Rattle.syslog_grammar.specs.Canonical.{escaped, param_form, element_form, tail_form, HeaderForm}
+use Rattle.syslog_grammar.specs.Canonical.{escaped, param_form, element_form, tail_form, HeaderForm, SpacedWord}
 use Rattle.syslog_grammar.specs.Escapes.{MeansFirst}
-use Rattle.syslog_grammar.specs.Grammar.{Param, Element}
+use Rattle.syslog_grammar.specs.Grammar.{Param, Element, WordFields}
+use Rattle.syslog_grammar.specs.Lying.{HasOneTail, LyingForm}
 use Rattle.syslog_grammar.specs.Ids.{IsAbove, IsRisingFrom, ids_of}
 use Rattle.syslog_grammar.specs.Respelled.{ValueOf, ParamOf, ParamsOf, ElementOf, ElementsOf, DataOf}
 use Rattle.syslog_grammar.specs.Shown.{ShownParts, Shows, IsShown}
@@ -21,6 +22,7 @@ use Rattle.syslog_grammar.specs.Time.{CivilTime}
 use Rattle.syslog_grammar.specs.Values.{Piece, Spells}
 use Rattle.syslog_grammar.specs.WellFormed.{IsMeaning, AddsCanonical}
 use Rattle.syslog_grammar.proofs.Appends.{adds_some}
+use Rattle.syslog_grammar.proofs.CanonicalForms.{word_formed}
 use Rattle.syslog_grammar.proofs.DataForms.{item, form_raw, form_text, first_item, of_rising}
 use Rattle.syslog_grammar.proofs.OwnedParts.{param_same, element_same}
 use Rattle.syslog_grammar.proofs.ParamTexts.{OneFront-param, spanned_param, param_front, element_front}
@@ -187,3 +189,30 @@ record_written s old m1 m2 new (x, xh, xe) (y, yh, ye) (z, zh, ze) b (p, spelled
       (p, spelled, range, distinct, shown_is s p h elements.1),
       (x ++ (y ++ z), (x, y ++ z, refl, xh, (y, z, refl, elements.0, zh)), ze ∙ ap (λ (u : List ℕ). u ++ z) (ye ∙ ap (λ (u : List ℕ). u ++ y) xe) ∙ append_assoc (old ++ x) y z ∙ append_assoc old x (y ++ z)),
     )
+
+-- ---- what lies in the octets
+
+-- the words of a text are canonical
+words_formed : (h a p m : Option (List ℕ)) (b : List ℕ) → WordFields h a p m b → (SpacedWord h ⋅ SpacedWord a ⋅ SpacedWord p ⋅ SpacedWord m) b
+words_formed h a p m b (x, y, e, k, (x', y', e', k', (x'', y'', e'', k'', l))) =
+    (x, y, e, word_formed 255 h x k, (x', y', e', word_formed 48 a x' k', (x'', y'', e'', word_formed 128 p x'' k'', word_formed 32 m y'' l)))
+
+-- seven texts, one behind the other
+seven : (o f t g w e l : List ℕ) → ((o ++ (f ++ ((t ++ g) ++ w))) ++ e) ++ l ≡ o ++ (f ++ (t ++ (g ++ (w ++ (e ++ l)))))
+seven o f t g w e l =
+    append_assoc (o ++ (f ++ ((t ++ g) ++ w))) e l ∙ append_assoc o (f ++ ((t ++ g) ++ w)) (e ++ l)
+    ∙ ap (λ (x : List ℕ). o ++ x) (append_assoc f ((t ++ g) ++ w) (e ++ l)
+    ∙ ap (λ (x : List ℕ). f ++ x) (append_assoc (t ++ g) w (e ++ l) ∙ append_assoc t g (w ++ (e ++ l))))
+
+pub record_lying : (s : ShownParts) (old new : List ℕ) → HasOneTail s.message → DataOf s.elements s.elements → Adds (LyingForm s) old new → (b : List ℕ) → IsShown b s → AddsCanonical b old new
+unfolding HeaderForm LyingForm
+record_lying s old new one dataform (text, (front, t1, e1, f, (time, t2, e2, t, (space, behind, e3, sp, be))), whole) b shows =
+    let (ws, t3, e4, words, (d, tl, e5, is, tail)) = shows.4.behind_time in
+    let header : List ℕ = front ++ ((time ++ space) ++ ws) in
+    let told : text ≡ front ++ (time ++ (space ++ (ws ++ (s.elements ++ tl)))) =
+    e1 ∙ ap (λ (x : List ℕ). front ++ x) (e2 ∙ ap (λ (x : List ℕ). time ++ x) (e3 ∙ ap (λ (x : List ℕ). space ++ x) (be ∙ e4 ∙ ap (λ (x : List ℕ). ws ++ x) (e5 ∙ ap (λ (x : List ℕ). x ++ tl) is)))) in
+    let all : new ≡ ((old ++ header) ++ s.elements) ++ tl = whole ∙ ap (λ (x : List ℕ). old ++ x) told ∙ sym (seven old front time space ws s.elements tl) in
+    record_written s old (old ++ header) ((old ++ header) ++ s.elements) new
+    (header, (front, (time ++ space) ++ ws, refl, f, (time ++ space, ws, refl, (time, space, refl, t, sp), words_formed s.hostname s.app_name s.proc_id s.msg_id ws words)), refl)
+    (s.elements, dataform, refl)
+    (tl, one tl tail, all) b shows

@@ -12,6 +12,7 @@ pub mod Spellings
 pub mod Ids
 pub mod Shown
 pub mod Lanes
+pub mod Lying
 pub mod PartsLeft
 pub mod Instants
 pub mod WellFormed

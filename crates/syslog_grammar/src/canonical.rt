@@ -30,7 +30,7 @@ pub struct FrontFields<'a> {
 
 /// Appends PRI, VERSION and a space.
 #[inline(always)]
-fn put_front(priority: Priority, out: &mut Vec<u8>) -> Result<(), AllocError>
+pub fn put_front(priority: Priority, out: &mut Vec<u8>) -> Result<(), AllocError>
     ensures { Puts (Only (front_form priority)) out.old.items out.new.items result }
 {
     let mut buffer = Buffer::new();
@@ -41,7 +41,7 @@ fn put_front(priority: Priority, out: &mut Vec<u8>) -> Result<(), AllocError>
 
 /// Appends the timestamp.
 #[inline(always)]
-fn put_time(instant: Option<Instant>, out: &mut Vec<u8>) -> Result<(), AllocError>
+pub fn put_time(instant: Option<Instant>, out: &mut Vec<u8>) -> Result<(), AllocError>
     ensures { Puts (TimeForm instant) out.old.items out.new.items result }
 {
     match instant {

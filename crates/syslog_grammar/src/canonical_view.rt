@@ -1,18 +1,41 @@
 //! The canonical octets of a view.
 
 ghost use Rattle.std.specs.Prelude.{◌≡◌, ℕ, List, IfOk, IsTrue, OnOk, OnErr};
-ghost use Rattle.syslog_grammar.specs.Appending.{Adds, Anything};
+ghost use Rattle.syslog_grammar.specs.Appending.{Adds, Anything, Puts};
+ghost use Rattle.syslog_grammar.specs.Lying.{HasOneTail, LyingForm};
 ghost use Rattle.syslog_grammar.specs.Shown.{IsShown, shown};
+ghost use Rattle.syslog_grammar.specs.Views.{message_parts};
 ghost use Rattle.syslog_grammar.specs.WellFormed.{AddsCanonical};
 
-use crate::canonical::{FrontFields, put_header, put_record, put_tail};
+use crate::appending::put;
+use crate::canonical::{FrontFields, put_front, put_header, put_record, put_tail, put_time};
+use crate::data_form::has_data_form;
+use crate::message::MessageView;
 use crate::record_view::RecordView;
 use crate::respelled::put_data;
 use std::alloc::{AllocError, Global};
 
+/// Whether a message, where there is one, has one tail alone: an empty one may have a space or none.
+fn has_one_tail(message: &MessageView<'_>) -> bool
+    ensures { IsTrue result → HasOneTail (message_parts message.now) }
+{
+    message.has_mark || !message.octets.is_empty()
+}
+
+/// Appends the canonical octets of the record that a view shows, where all that stands behind the
+/// timestamp is canonical as it lies in the octets.
+fn put_lying(view: &RecordView<'_>, out: &mut Vec<u8>) -> Result<(), AllocError>
+    ensures { Puts (LyingForm (shown view.now)) out.old.items out.new.items result }
+{
+    put_front(view.priority(), out)?;
+    put_time(view.instant(), out)?;
+    put(b" ", out)?;
+    put(view.behind_time, out)
+}
+
 /// Appends the canonical octets of the record that a view shows, where its elements stand by id.
 /// Where they do not, the answer is false, and a part may have been appended.
-fn put_spelled(view: &RecordView<'_>, out: &mut Vec<u8>) -> Result<bool, AllocError>
+fn put_parts(view: &RecordView<'_>, out: &mut Vec<u8>) -> Result<bool, AllocError>
     ensures begun { Adds Anything out.old.items out.new.items }
     ensures ok { (b : List ℕ) → IsShown b (shown view.now)
         → IfOk result (λ all. IsTrue all → AddsCanonical b out.old.items out.new.items) }
@@ -30,6 +53,20 @@ fn put_spelled(view: &RecordView<'_>, out: &mut Vec<u8>) -> Result<bool, AllocEr
         return Ok(false);
     }
     put_tail(view.message.octets, view.message.has_mark, out)?;
+    Ok(true)
+}
+
+/// Appends the canonical octets of the record that a view shows, where its elements stand by id: as
+/// they lie where that can be, else part by part.
+fn put_spelled(view: &RecordView<'_>, out: &mut Vec<u8>) -> Result<bool, AllocError>
+    ensures begun { Adds Anything out.old.items out.new.items }
+    ensures ok { (b : List ℕ) → IsShown b (shown view.now)
+        → IfOk result (λ all. IsTrue all → AddsCanonical b out.old.items out.new.items) }
+{
+    if !has_one_tail(&view.message) || !has_data_form(view.data) {
+        return put_parts(view, out);
+    }
+    put_lying(view, out)?;
     Ok(true)
 }
 
