@@ -1,6 +1,6 @@
 //! The reading of a record from all of its octets.
 
-ghost use Rattle.std.specs.Prelude.{MatchResult, OnErr};
+ghost use Rattle.std.specs.Prelude.{MatchResult, OnErr, OnOk};
 ghost use Rattle.octet_language.specs.Language.{AnyOf};
 ghost use Rattle.syslog_grammar.specs.Faults.{FaultOf};
 ghost use Rattle.syslog_grammar.specs.Instants.{IsTimeOf};
@@ -35,6 +35,7 @@ pub fn micros_of(time: Option<Timestamp>) -> Result<Option<i64>, OutOfRange>
 /// A fault of the syntax comes before an instant that is out of range, and that before an id that
 /// stands twice. It takes no memory.
 pub fn view(octets: &[u8]) -> Result<RecordView<'_>, Fault>
+    ensures some { OnOk result (AnyOf WellFormed octets.now) }
     ensures whole { MatchResult result (λ v. IsShown octets.now (shown v)) (FaultOf octets.now) }
     ensures none { OnErr result (¬ (AnyOf WellFormed octets.now)) }
 {

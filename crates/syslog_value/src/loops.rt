@@ -78,6 +78,8 @@ pub fn read_all<R: Input>(
     ensures few { IfOk result (λ kept. vec_len kept ≤ limit) }
     ensures at_end { OnOk result (IsAtEnd (R.left reader.new)) }
     ensures no_failure { OnOk result (R.failures reader.new ≡ R.failures reader.old) }
+    ensures failed { R.failures reader.old < R.failures reader.new →
+        IsErrOf result ReadAllFault.Device }
 
     // of a reader whose counts are small at the call
     ensures ended { AreSmall (R.calls reader.old) (R.failures reader.old) →

@@ -2,7 +2,8 @@
 use Rattle.std.specs.Prelude.{◌≡◌, ◌<◌, ◌≤◌, [], ◌⊎◌, length, true, false}
 use Rattle.syslog_frame.specs.declared.limits.TheConstants.{FRAME_MAX}
 use Rattle.syslog_grammar.specs.Faults.{FaultOf}
-use Rattle.syslog_grammar.specs.Shown.{IsShown, ShownParts}
+use Rattle.syslog_grammar.specs.WellFormed.{WellFormed}
+use Rattle.octet_language.specs.Language.{AnyOf}
 use Rattle.syslog_grammar.specs.declared.fault.Fault.{Fault}
 use Rattle.syslogbox.specs.Dealt.{Deals, Done}
 use Rattle.syslogbox.specs.Lines.{line_text}
@@ -17,5 +18,5 @@ refused_line line = record { refused = true; output = line_text line; notes = []
 abbrev pub check_deals : Deals
 check_deals n f d =
     ((FRAME_MAX < length f) × (d ≡ refused_line (TooLong n)))
-    ⊎ (((length f ≤ FRAME_MAX) × (s : ShownParts) × IsShown f s × (d ≡ record { refused = false; output = line_text (Accepted n); notes = [] }))
+    ⊎ (((length f ≤ FRAME_MAX) × AnyOf WellFormed f × (d ≡ record { refused = false; output = line_text (Accepted n); notes = [] }))
     ⊎ ((length f ≤ FRAME_MAX) × (fault : Fault) × FaultOf f fault × (d ≡ refused_line (Refused n fault))))

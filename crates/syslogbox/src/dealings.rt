@@ -1,10 +1,8 @@
 //! What was done with frames, until it is written.
 
-ghost use Rattle.std.specs.Prelude.{◌≡◌, ◌≤◌, ◌<◌, ◌^◌, ◌⊎◌, [], vec_len};
-ghost use Rattle.std.specs.Io.KnownBytes.{Appends};
+ghost use Rattle.std.specs.Prelude.{◌≡◌};
 
-use std::alloc::{AllocError, Global};
-use syslog_value::{Output, WriteFault, write_all};
+use std::alloc::Global;
 
 /// What was done with frames, until it is written: octets to go out, lines of notes, and whether
 /// something was refused. `scratch` is room to work in, so that no frame takes memory anew.

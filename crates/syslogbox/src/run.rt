@@ -75,7 +75,11 @@ pub fn run<R: Input, W: Output, N: Output, F: Files>(
     // words that ask for nothing: no device but `notes` is touched
     ensures usage { parsed (map string_bytes words.now) ≡ None → (2 ≤ result)
         × (W.taken writer.new ≡ W.taken writer.old) × (R.left reader.new ≡ R.left reader.old) }
+
+    // a device that fails is told so
     ensures failed { N.failures notes.old < N.failures notes.new → result ≡ FAULT }
+    ensures read_failed { R.failures reader.old < R.failures reader.new → result ≡ FAULT }
+    ensures write_failed { W.failures writer.old < W.failures writer.new → result ≡ FAULT }
 {
     match read_words(alloc, words) {
         Ok(Request::Check { carrier }) => {

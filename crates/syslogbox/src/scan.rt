@@ -70,10 +70,13 @@ pub fn flush<W: Output, N: Output>(
     ensures notes { N.failures notes.old < 2 ^ 63 → IsErrOf result Stopped.Notes →
         N.failures notes.old < N.failures notes.new }
     ensures quiet { N.failures notes.old < N.failures notes.new → IsErrOf result Stopped.Notes }
+    ensures quiet_write { W.failures writer.old < W.failures writer.new →
+        IsErrOf result Stopped.Write ⊎ IsErrOf result Stopped.Notes }
 {
     let told = write_all(notes, done.notes.as_slice());
     done.notes.clear();
     if told.is_err() {
+        let _ = write_all(writer, done.output.as_slice());
         done.output.clear();
         return Err(Stopped::Notes);
     }
@@ -103,6 +106,8 @@ fn flush_large<W: Output, N: Output>(
     ensures notes { N.failures notes.old < 2 ^ 63 → IsErrOf result Stopped.Notes →
         N.failures notes.old < N.failures notes.new }
     ensures quiet { N.failures notes.old < N.failures notes.new → IsErrOf result Stopped.Notes }
+    ensures quiet_write { W.failures writer.old < W.failures writer.new →
+        IsErrOf result Stopped.Write ⊎ IsErrOf result Stopped.Notes }
 {
     if done.output.len() < LARGE && done.notes.len() < LARGE {
         return Ok(());
@@ -130,6 +135,7 @@ pub fn deal_stream<D: Dealer, R: Input, W: Output, N: Output>(
         done.new.output.items)) }
     ensures read { AreSmall (R.calls reader.old) (R.failures reader.old) →
         IsErrOf result Stopped.Read → R.failures reader.old < R.failures reader.new }
+    ensures quiet_read { R.failures reader.old < R.failures reader.new → IsErrOf result Stopped.Read }
     ensures endless { AreSmall (R.calls reader.old) (R.failures reader.old) →
         IsErrOf result Stopped.Endless →
         (R.calls reader.new ≡ R.calls reader.old + READER_CALLS)
@@ -139,6 +145,8 @@ pub fn deal_stream<D: Dealer, R: Input, W: Output, N: Output>(
     ensures notes { N.failures notes.old < 2 ^ 63 → IsErrOf result Stopped.Notes →
         N.failures notes.old < N.failures notes.new }
     ensures quiet { N.failures notes.old < N.failures notes.new → IsErrOf result Stopped.Notes }
+    ensures quiet_write { W.failures writer.old < W.failures writer.new →
+        IsErrOf result Stopped.Write ⊎ IsErrOf result Stopped.Notes }
     ensures no_failure { OnOk result ((W.failures writer.new ≡ W.failures writer.old)
         × (N.failures notes.new ≡ N.failures notes.old)) }
     ensures memory { IsErrOf result Stopped.Memory →
@@ -182,6 +190,12 @@ fn close_with<W: Output, N: Output>(
         result ≡ FAULT → (status ≡ FAULT) ⊎ (W.failures writer.old < W.failures writer.new)
         ⊎ (N.failures notes.old < N.failures notes.new) }
     ensures failed { N.failures notes.old < N.failures notes.new → result ≡ FAULT }
+    ensures held { W.failures writer.old < 2 ^ 63 → N.failures notes.old < 2 ^ 63 →
+        W.failures writer.new ≡ W.failures writer.old →
+        N.failures notes.new ≡ N.failures notes.old →
+        Appends (W.taken writer.old) (W.taken writer.new) done.old.output.items }
+    ensures fault { status ≡ FAULT → result ≡ FAULT }
+    ensures written { W.failures writer.old < W.failures writer.new → result ≡ FAULT }
 {
     match flush(done, writer, notes) {
         Ok(()) => note(notes, line, status),
@@ -214,6 +228,10 @@ fn close<W: Output, N: Output>(
         ⊎ (N.failures notes.old < N.failures notes.new) }
     ensures failed { N.failures notes.old < N.failures notes.new → result ≡ FAULT }
     ensures notes { IsErrOf outcome Stopped.Notes → result ≡ FAULT }
+    ensures read { IsErrOf outcome Stopped.Read → result ≡ FAULT }
+    ensures endless { IsErrOf outcome Stopped.Endless → result ≡ FAULT }
+    ensures write { IsErrOf outcome Stopped.Write → result ≡ FAULT }
+    ensures written { W.failures writer.old < W.failures writer.new → result ≡ FAULT }
     ensures writer_kept { IsErrOf outcome Stopped.Write →
         W.failures writer.new ≡ W.failures writer.old }
     ensures notes_kept { IsErrOf outcome Stopped.Notes →
@@ -261,6 +279,8 @@ fn scan_stream<D: Dealer, R: Input, W: Output, N: Output>(
         ⊎ ((R.calls reader.new ≡ R.calls reader.old + READER_CALLS)
         × (R.ends reader.new ≡ R.ends reader.old)) }
     ensures failed { N.failures notes.old < N.failures notes.new → result ≡ FAULT }
+    ensures read_failed { R.failures reader.old < R.failures reader.new → result ≡ FAULT }
+    ensures write_failed { W.failures writer.old < W.failures writer.new → result ≡ FAULT }
 {
     let mut done = Dealings::new(alloc);
     let outcome = deal_stream(alloc, framing, dealer, reader, writer, notes, &mut done);
@@ -286,6 +306,7 @@ fn deal_datagram<D: Dealer, R: Input>(
         × (R.ends reader.new ≡ R.ends reader.old) }
     ensures kinds { IfErr result (λ stopped. (stopped ≡ Stopped.Read)
         ⊎ (stopped ≡ Stopped.Endless) ⊎ (stopped ≡ Stopped.Memory)) }
+    ensures quiet_read { R.failures reader.old < R.failures reader.new → IsErrOf result Stopped.Read }
 {
     let datagram = match read_all(alloc, reader, FRAME_MAX + 1) {
         Ok(datagram) => datagram,
@@ -322,6 +343,8 @@ fn scan_datagram<D: Dealer, R: Input, W: Output, N: Output>(
         ⊎ ((R.calls reader.new ≡ R.calls reader.old + READER_CALLS)
         × (R.ends reader.new ≡ R.ends reader.old)) }
     ensures failed { N.failures notes.old < N.failures notes.new → result ≡ FAULT }
+    ensures read_failed { R.failures reader.old < R.failures reader.new → result ≡ FAULT }
+    ensures write_failed { W.failures writer.old < W.failures writer.new → result ≡ FAULT }
 {
     let mut done = Dealings::new(alloc);
     let outcome = deal_datagram(alloc, dealer, reader, &mut done);
@@ -354,6 +377,8 @@ pub fn scan_input<D: Dealer, R: Input, W: Output, N: Output>(
         ⊎ ((R.calls reader.new ≡ R.calls reader.old + READER_CALLS)
         × (R.ends reader.new ≡ R.ends reader.old)) }
     ensures failed { N.failures notes.old < N.failures notes.new → result ≡ FAULT }
+    ensures read_failed { R.failures reader.old < R.failures reader.new → result ≡ FAULT }
+    ensures write_failed { W.failures writer.old < W.failures writer.new → result ≡ FAULT }
 {
     match carrier {
         Carrier::Datagram => scan_datagram(alloc, dealer, reader, writer, notes),

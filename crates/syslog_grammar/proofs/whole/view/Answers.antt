@@ -4,6 +4,7 @@ use Rattle.syslog_grammar.specs.Fields.{header_parts}
 use Rattle.syslog_grammar.specs.declared.fault.Fault.TheVariants.{InstantRange, RepeatedId}
 use Rattle.syslog_grammar.proofs.Excluded.{no_record, no_syntax}
 use Rattle.syslog_grammar.proofs.Viewing.{behind_time, parts_of, spelled_by, header_priority, out_of_range, in_range, shown_instant, repeated_id, valid_micros}
+use Rattle.syslog_grammar.proofs.RecordsOf.{some_record}
 use Rattle.syslog_grammar.proofs.whole.view.Goals as goal
 
 pub returns-in_err-spelling-clause-none : goal.returns-in_err-spelling-clause-none
@@ -16,14 +17,14 @@ returns-in-Err c =
     let b = c.args.octets.now in
     let s = c.in_ok-spelling.spelling in
     let h = out_of_range b s c.in_ok-spelling.ensures c.in-Err.ensures in
-    record { whole = h; none = no_record b (InstantRange (length b - s.fields.time_left)) h }
+    record { some = tt; whole = h; none = no_record b (InstantRange (length b - s.fields.time_left)) h }
 
 pub returns-in-Some : goal.returns-in-Some
 returns-in-Some c =
     let b = c.args.octets.now in
     let s = c.in_ok-spelling.spelling in
     let h = repeated_id b s c.in-Ok.micros c.in-Some.place c.in_ok-spelling.ensures c.in-Ok.ensures.0 c.in-Ok.ensures.1 c.in-Some.ensures in
-    record { whole = h; none = no_record b (RepeatedId (length b - s.data_left + c.in-Some.place)) h }
+    record { some = tt; whole = h; none = no_record b (RepeatedId (length b - s.data_left + c.in-Some.place)) h }
 
 pub invariant_of-result : goal.invariant_of-result
 invariant_of-result c = record {
@@ -52,3 +53,6 @@ returns-clause-whole c =
         behind_time = behind_time s k;
       },
     )
+
+pub returns-clause-some : goal.returns-clause-some
+returns-clause-some c = some_record _ _ (returns-clause-whole c)

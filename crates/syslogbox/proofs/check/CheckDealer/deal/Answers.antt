@@ -1,6 +1,5 @@
 use Rattle.std.proofs.Common.{refl, inl, inr}
 use Rattle.std.proofs.lemmas.Result.{on_ok_weaker}
-use Rattle.syslog_grammar.specs.Shown.{shown}
 use Rattle.syslogbox.specs.Dealings.{done_of}
 use Rattle.syslogbox.proofs.DealtLemmas.{adds_output}
 use Rattle.syslogbox.proofs.check.CheckDealer.deal.Goals as goal
@@ -11,7 +10,7 @@ returns-then-frame-gt-FRAME_MAX-clause-ok c = on_ok_weaker c.refuse.result (λ e
 pub returns-in-Ok-clause-ok : goal.returns-in-Ok-clause-ok
 returns-in-Ok-clause-ok c =
     on_ok_weaker c.put_line.result
-    (λ e. (_, inr (inl (c.if-frame-gt-FRAME_MAX.false, shown c.in-Ok.field-0, c.in-Ok.ensures.whole, refl)), adds_output (done_of c.args.done.now) _ _ refl e refl))
+    (λ e. (_, inr (inl (c.if-frame-gt-FRAME_MAX.false, c.in-Ok.ensures.some, refl)), adds_output (done_of c.args.done.now) _ _ refl e refl))
     c.put_line.ensures.ok
 
 pub returns-in-Err-clause-ok : goal.returns-in-Err-clause-ok
