@@ -116,11 +116,11 @@ params_end params rest e left ps h = (λ u. let l = left ps h in one l.todo l.ea
 abbrev pub AllAbove : Option (List ℕ) → List ElementParts → Type 0
 AllAbove met es = AllByRecursion (λ e. IsAbove e.id met) es
 
-rising_of : (met : Option (List ℕ)) (es : List ElementParts) → AllAbove met es → IsById es → IsRisingFrom met (ids_of es)
+pub rising_of : (met : Option (List ℕ)) (es : List ElementParts) → AllAbove met es → IsById es → IsRisingFrom met (ids_of es)
 rising_of met [] above by_id = tt
 rising_of met (e ∷ es) above by_id = (above.0, rising_of (Some e.id) es by_id.0 by_id.1)
 
-none_met : (es : List ElementParts) → AllAbove None es
+pub none_met : (es : List ElementParts) → AllAbove None es
 none_met [] = tt
 none_met (e ∷ es) = (tt, none_met es)
 
@@ -135,7 +135,7 @@ of_rising met (e ∷ es) h =
     let deeper = of_rising (Some e.id) es h.1 in
     ((h.0, further met e.id es h.0 deeper.0), (deeper.0, deeper.1))
 
-not_above : (id : List ℕ) (met : Option (List ℕ)) → IsAtMost id met → ¬ (IsAbove id met)
+pub not_above : (id : List ℕ) (met : Option (List ℕ)) → IsAtMost id met → ¬ (IsAbove id met)
 not_above id None h a = h
 not_above id (Some g) (inl same) a = below_itself id (subst (λ (l : List ℕ). OctetsBelow l id) (sym same) a)
 not_above id (Some g) (inr less) a = below_itself id (below_trans id g id less a)

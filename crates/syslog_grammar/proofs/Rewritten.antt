@@ -5,8 +5,8 @@ use Rattle.std.specs.List.{flat_map}
 use Rattle.std.proofs.lemmas.List.{append-nil}
 use Rattle.std.proofs.lemmas.List.Sorted.{IsPermutation-refl}
 use Rattle.memchr.specs.Find.{IsFirstByte, is_byte}
-use Rattle.octet_language.specs.Language.{Language, Only, ◌⋅◌, Each}
-use Rattle.octet_language.specs.Reading.{Follows}
+use Rattle.octet_language.specs.Language.{Language, Only, ◌⋅◌, AnyOf, Each}
+use Rattle.octet_language.specs.Reading.{Fails, Follows}
 use Rattle.octet_language.proofs.Lists.{tails}
 use Rattle.syslog_value.specs.Parts.{ParamParts, ElementParts, Parts, IsById}
 use Rattle.syslog_grammar.specs.Appending.{Anything, Adds, Puts}
@@ -14,8 +14,8 @@ use Rattle.syslog_grammar.specs.Canonical.{escaped, param_form, element_form, ta
 use Rattle.syslog_grammar.specs.Escapes.{MeansFirst}
 use Rattle.syslog_grammar.specs.Grammar.{Param, Element, WordFields}
 use Rattle.syslog_grammar.specs.Lying.{HasOneTail, LyingForm}
-use Rattle.syslog_grammar.specs.Ids.{IsAbove, IsRisingFrom, ids_of}
-use Rattle.syslog_grammar.specs.Respelled.{ValueOf, ParamOf, ParamsOf, ElementOf, ElementsOf, DataOf}
+use Rattle.syslog_grammar.specs.Ids.{IsAbove, IsAtMost, IsRisingFrom, ids_of}
+use Rattle.syslog_grammar.specs.Respelled.{ValueOf, ParamOf, ParamsOf, ElementOf, ElementsOf, DataOf, AreUnordered}
 use Rattle.syslog_grammar.specs.Shown.{ShownParts, Shows, IsShown}
 use Rattle.syslog_grammar.specs.Spans.{ParamSpan, SpannedParam, ElementSpan, SpannedElement}
 use Rattle.syslog_grammar.specs.Time.{CivilTime}
@@ -23,9 +23,9 @@ use Rattle.syslog_grammar.specs.Values.{Piece, Spells}
 use Rattle.syslog_grammar.specs.WellFormed.{IsMeaning, AddsCanonical}
 use Rattle.syslog_grammar.proofs.Appends.{adds_some}
 use Rattle.syslog_grammar.proofs.CanonicalForms.{word_formed}
-use Rattle.syslog_grammar.proofs.DataForms.{item, form_raw, form_text, first_item, of_rising}
+use Rattle.syslog_grammar.proofs.DataForms.{item, form_raw, form_text, first_item, of_rising, rising_of, none_met, not_above}
 use Rattle.syslog_grammar.proofs.OwnedParts.{param_same, element_same}
-use Rattle.syslog_grammar.proofs.ParamTexts.{OneFront-param, spanned_param, param_front, element_front}
+use Rattle.syslog_grammar.proofs.ParamTexts.{OneFront-param, spanned_param, element_spanned, param_front, element_front}
 use Rattle.syslog_grammar.proofs.ValueForms.{joined, runs, escape, lone_more, marked_at, at_mark, all_plain, escaped_join, escaped_special, free_rest}
 
 -- ---- values
@@ -135,9 +135,10 @@ pub record ElementsWritten (elements rest : List ℕ) (met : Option (List ℕ)) 
   pub parts : out ≡ old ++ done
   pub is : (es : List ElementParts) → Each Element es elements
       → (todo : List ElementParts) × Each Element todo rest × (flat_map element_form es ≡ done ++ flat_map element_form todo) × (IsRisingFrom met (ids_of todo) → IsById es)
+      × (IsById es → IsRisingFrom met (ids_of todo))
 
 pub elements_all : (elements old : List ℕ) → ElementsWritten elements elements None old old
-elements_all elements old = record { done = []; parts = sym (append-nil old); is = λ es h. (es, h, refl, λ k. (of_rising None es k).1) }
+elements_all elements old = record { done = []; parts = sym (append-nil old); is = λ es h. (es, h, refl, λ k. (of_rising None es k).1, λ k. rising_of None es (none_met es) k) }
 
 pub elements_begun : (elements rest : List ℕ) (met : Option (List ℕ)) (old out : List ℕ) → ElementsWritten elements rest met old out → Adds Anything old out
 elements_begun elements rest met old out w = (w.done, tt, w.parts)
@@ -157,6 +158,9 @@ elements_more elements rest behind after old out mid x v met e f above (z, zs, z
             ∙ ap (λ (u : List ℕ). w.done ++ (u ++ flat_map element_form i.others)) (sym (element_written i.element v z same.0 same.1 zs)) ∙ sym (append_assoc w.done z (flat_map element_form i.others)),
         λ rising.
             l.3 (subst (λ (u : List ElementParts). IsRisingFrom met (ids_of u)) (sym i.is) (subst (λ (id : List ℕ). IsAbove id met) (sym same.0) above, subst (λ (id : List ℕ). IsRisingFrom (Some id) (ids_of i.others)) (sym same.0) rising)),
+        λ by_id.
+            let rising = subst (λ (u : List ElementParts). IsRisingFrom met (ids_of u)) i.is (l.4 by_id) in
+            subst (λ (id : List ℕ). IsRisingFrom (Some id) (ids_of i.others)) same.0 rising.1,
       );
 }
 
@@ -168,6 +172,20 @@ elements_end elements rest met old out e w = (w.done, λ es h. let l = w.is es h
     one es (q ∷ todo) (y, z, i, k, l) g by_id =
         let s = element_front y (q, k) in
         let j : ◌≡◌ {A = List ℕ} [] (91 ∷ (s.0 ++ z)) = sym e ∙ i ∙ ap (λ (t : List ℕ). t ++ z) s.1 in absurd cc
+
+pub elements_stuck : (elements rest after old out : List ℕ) (x left : ℕ) (met : Option (List ℕ)) → rest ≡ x ∷ after → Fails (AnyOf SpannedElement) rest left → ElementsWritten elements rest met old out → AreUnordered elements
+elements_stuck elements rest after old out x left met e f w es h by_id = let l = w.is es h in one l.0 l.1
+  where
+    one : (todo : List ElementParts) → Each Element todo rest → ⊥
+    one [] k = let i : ◌≡◌ {A = List ℕ} [] (x ∷ after) = sym k ∙ e in absurd cc
+    one (q ∷ todo) (y, z, i, k, l) = f.none y z i (element_spanned y (q, k))
+
+pub elements_most : (elements rest behind after old out : List ℕ) (x : ℕ) (v : ElementSpan) (met : Option (List ℕ)) → rest ≡ x ∷ after → Follows (SpannedElement v) rest behind → IsAtMost v.id met → ElementsWritten elements rest met old out → AreUnordered elements
+elements_most elements rest behind after old out x v met e f most w es h by_id =
+    let l = w.is es h in
+    let i = first_item rest behind after x v l.0 e f l.1 in
+    let rising = subst (λ (u : List ElementParts). IsRisingFrom met (ids_of u)) i.is (l.4 by_id) in
+    not_above v.id met most (subst (λ (id : List ℕ). IsAbove id met) (element_same i.element v i.text i.spelled i.spanned).0 rising.0)
 
 -- ---- the record
 

@@ -33,8 +33,16 @@ ElementsOf elements b = (es : List ElementParts) → Each Element es elements �
 abbrev pub DataOf : List ℕ → Language
 DataOf text b = (es : List ElementParts) → Data es text → (b ≡ data_form es) × IsById es
 
--- a text of the language was appended where the answer is true, else any text
-abbrev pub PutsIf : {E : Type 0} → Language → List ℕ → List ℕ → Result Bool E → Type 0
-PutsIf L old new (Ok true) = Adds L old new
-PutsIf L old new (Ok false) = Adds Anything old new
-PutsIf L old new (Err e) = Adds Anything old new
+-- the elements of a text do not stand by id
+abbrev pub AreUnordered : List ℕ → Type 0
+AreUnordered elements = (es : List ElementParts) → Each Element es elements → ¬ (IsById es)
+
+-- the elements of structured data do not stand by id
+abbrev pub IsUnordered : List ℕ → Type 0
+IsUnordered text = (es : List ElementParts) → Data es text → ¬ (IsById es)
+
+-- a text of the language was appended where the answer is true; it is false only for the cause, and some text was appended
+abbrev pub PutsUnless : {E : Type 0} → Language → Type 0 → List ℕ → List ℕ → Result Bool E → Type 0
+PutsUnless L Cause old new (Ok true) = Adds L old new
+PutsUnless L Cause old new (Ok false) = Adds Anything old new × Cause
+PutsUnless L Cause old new (Err e) = Adds Anything old new

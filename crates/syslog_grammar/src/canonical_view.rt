@@ -3,6 +3,7 @@
 ghost use Rattle.std.specs.Prelude.{◌≡◌, ℕ, List, IfOk, IsTrue, OnOk, OnErr};
 ghost use Rattle.syslog_grammar.specs.Appending.{Adds, Anything, Puts};
 ghost use Rattle.syslog_grammar.specs.Lying.{HasOneTail, LyingForm};
+ghost use Rattle.syslog_grammar.specs.Respelled.{IsUnordered};
 ghost use Rattle.syslog_grammar.specs.Shown.{IsShown, shown};
 ghost use Rattle.syslog_grammar.specs.Views.{message_parts};
 ghost use Rattle.syslog_grammar.specs.WellFormed.{AddsCanonical};
@@ -39,6 +40,8 @@ fn put_parts(view: &RecordView<'_>, out: &mut Vec<u8>) -> Result<bool, AllocErro
     ensures begun { Adds Anything out.old.items out.new.items }
     ensures ok { (b : List ℕ) → IsShown b (shown view.now)
         → IfOk result (λ all. IsTrue all → AddsCanonical b out.old.items out.new.items) }
+    ensures order { IfOk result (λ all. (IsTrue all → ⊥)
+        → IsUnordered (shown view.now).elements) }
 {
     let fields = FrontFields {
         priority: view.priority(),
@@ -62,6 +65,8 @@ fn put_spelled(view: &RecordView<'_>, out: &mut Vec<u8>) -> Result<bool, AllocEr
     ensures begun { Adds Anything out.old.items out.new.items }
     ensures ok { (b : List ℕ) → IsShown b (shown view.now)
         → IfOk result (λ all. IsTrue all → AddsCanonical b out.old.items out.new.items) }
+    ensures order { IfOk result (λ all. (IsTrue all → ⊥)
+        → IsUnordered (shown view.now).elements) }
 {
     if !has_one_tail(&view.message) || !has_data_form(view.data) {
         return put_parts(view, out);

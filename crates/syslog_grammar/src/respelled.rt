@@ -1,7 +1,8 @@
 //! The canonical octets of structured data, from any octets that spell it.
 
 ghost use Rattle.syslog_grammar.specs.Appending.{Puts};
-ghost use Rattle.syslog_grammar.specs.Respelled.{DataOf, ElementOf, ElementsOf, ParamOf, ParamsOf, PutsIf, ValueOf};
+ghost use Rattle.syslog_grammar.specs.Respelled.{AreUnordered, DataOf, ElementOf, ElementsOf, IsUnordered};
+ghost use Rattle.syslog_grammar.specs.Respelled.{ParamOf, ParamsOf, PutsUnless, ValueOf};
 ghost use Rattle.syslog_grammar.specs.Views.{element_span, param_span};
 
 use crate::appending::put;
@@ -67,7 +68,7 @@ fn put_element(element: &ElementView<'_>, out: &mut Vec<u8>) -> Result<(), Alloc
 
 /// Appends elements, up to one whose id is not above those before it.
 fn put_ascending(elements: &[u8], out: &mut Vec<u8>) -> Result<bool, AllocError>
-    ensures { PutsIf (ElementsOf elements.now) out.old.items out.new.items result }
+    ensures { PutsUnless (ElementsOf elements.now) (AreUnordered elements.now) out.old.items out.new.items result }
 {
     let mut rest = elements;
     let mut greatest: Option<&[u8]> = None;
@@ -89,7 +90,7 @@ fn put_ascending(elements: &[u8], out: &mut Vec<u8>) -> Result<bool, AllocError>
 /// Appends structured data whose elements stand by id. Where they do not, the answer is false, and
 /// a part of them may have been appended.
 pub fn put_data(data: &[u8], out: &mut Vec<u8>) -> Result<bool, AllocError>
-    ensures { PutsIf (DataOf data.now) out.old.items out.new.items result }
+    ensures { PutsUnless (DataOf data.now) (IsUnordered data.now) out.old.items out.new.items result }
 {
     if has_data_form(data) {
         put(data, out)?;
