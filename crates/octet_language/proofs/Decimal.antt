@@ -61,6 +61,6 @@ one_digit x d =
 pub next_digit : (n x : ℕ) → 0 < n → IsDigit x → 10 * n + (x - 48) < 2 ^ 64 → decimal (10 * n + (x - 48)) ≡ decimal n ++ x ∷ []
 next_digit n x positive d fits =
     let m = 10 * n + (x - 48) in
-    let front : m / 10 ≡ n = omega arith in
+    let prefix : m / 10 ≡ n = omega arith in
     let last : 48 + m % 10 ≡ x = omega arith in
-    decimal_step m (omega arith) fits ∙ ap (λ (k : ℕ). decimal k ++ (48 + m % 10) ∷ []) front ∙ ap (λ (k : ℕ). decimal n ++ k ∷ []) last
+    decimal_step m (omega arith) fits ∙ ap (λ (k : ℕ). decimal k ++ (48 + m % 10) ∷ []) prefix ∙ ap (λ (k : ℕ). decimal n ++ k ∷ []) last

@@ -1,8 +1,8 @@
 pub mod Lists
 pub mod Sequence
-pub mod Place
+pub mod FaultOffset
 pub mod Decimal
-pub mod Marked
+pub mod Delimited
 pub mod Chain
 pub mod Many
 pub mod Whole

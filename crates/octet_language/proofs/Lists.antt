@@ -58,6 +58,6 @@ not_free x [] (d ∷ b) c p e = absurd cc
 not_free x (h ∷ a) [] c p e = p.0 (heads h x a c e)
 not_free x (h ∷ a) (d ∷ b) c p e = not_free x a b c p.1 (tails h d a (b ++ x ∷ c) e)
 
--- fronts of one length are one
-pub same_front : (f g s t : List ℕ) → length f ≡ length g → f ++ s ≡ g ++ t → f ≡ g
-same_front f g s t n e = sym (take_at f s (length f) refl) ∙ ap (take (length f)) e ∙ take_at g t (length f) (sym n)
+-- prefixes of one length are one
+pub same_prefix : (f g s t : List ℕ) → length f ≡ length g → f ++ s ≡ g ++ t → f ≡ g
+same_prefix f g s t n e = sym (take_at f s (length f) refl) ∙ ap (take (length f)) e ∙ take_at g t (length f) (sym n)

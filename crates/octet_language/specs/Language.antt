@@ -1,4 +1,4 @@
--- Sets of octet texts, and the place where octets stop being the front of one.
+-- Sets of octet texts, and the offset where octets stop being the prefix of one.
 use Rattle.std.specs.Prelude.{◌≡◌, ℕ, ◌≤◌, List, [], ◌∷◌, ◌++◌, length, take, ⊤}
 
 -- a set of texts, each a list of octets
@@ -28,7 +28,7 @@ abbrev pub Begins : Language → List ℕ → Type 0
 Begins L p = (more : List ℕ) × L (p ++ more)
 
 -- n is the length of the longest prefix of b that some text of the language begins with
-pub record IsPlace (L : Language) (b : List ℕ) (n : ℕ) : Type 0 where
+pub record IsFaultOffset (L : Language) (b : List ℕ) (n : ℕ) : Type 0 where
   pub within : n ≤ length b
   pub begins : Begins L (take n b)
   pub longest : (m : ℕ) → m ≤ length b → Begins L (take m b) → m ≤ n
@@ -39,23 +39,23 @@ Refuses L p [] = ⊤
 Refuses L p (x ∷ rest) = ¬ (Begins L (p ++ x ∷ []))
 
 -- b is read up to where no text goes on, and so many octets are left there
-pub record Stops (L : Language) (b : List ℕ) (left : ℕ) : Type 0 where
+pub record Stops (L : Language) (b : List ℕ) (remaining : ℕ) : Type 0 where
   pub read : List ℕ
   pub rest : List ℕ
   pub parts : b ≡ read ++ rest
-  pub count : length rest ≡ left
+  pub count : length rest ≡ remaining
   pub begins : Begins L read
   pub refuses : Refuses L read rest
 
--- no front of b is a text of the language
-abbrev pub NoFront : Language → List ℕ → Type 0
-NoFront L b = (x : List ℕ) (y : List ℕ) → b ≡ x ++ y → ¬ (L x)
+-- no prefix of b is a text of the language
+abbrev pub NoPrefix : Language → List ℕ → Type 0
+NoPrefix L b = (x : List ℕ) (y : List ℕ) → b ≡ x ++ y → ¬ (L x)
 
--- where one text stands in front, no shorter or longer one does
-abbrev pub OneFront : Language → Type 0
-OneFront L = (p s q t : List ℕ) → L p → L q → p ++ s ≡ q ++ t → p ≡ q
+-- where one text comes first, no shorter or longer one does
+abbrev pub IsPrefixFree : Language → Type 0
+IsPrefixFree L = (p s q t : List ℕ) → L p → L q → p ++ s ≡ q ++ t → p ≡ q
 
 -- what holds of the first octet, if there is one
-abbrev pub IfFront : (ℕ → Type 0) → List ℕ → Type 0
-IfFront P [] = Unit {0}
-IfFront P (x ∷ rest) = P x
+abbrev pub IfFirst : (ℕ → Type 0) → List ℕ → Type 0
+IfFirst P [] = Unit {0}
+IfFirst P (x ∷ rest) = P x

@@ -1,18 +1,18 @@
 -- What is known of a scanner where it stands, at each of its calls.
 use Rattle.std.proofs.Common.{◌≡◌, ◌≢◌, ℕ, ◌+◌, ◌<◌, ◌≤◌, List, [], ◌∷◌, ◌++◌, length, take, refl, sym, ap, subst, ◌∙◌, arith, inl, inr, ◌⊎◌}
 use Rattle.std.specs.Fmt.{decimal}
-use Rattle.octet_language.specs.Language.{Begins, NoFront}
+use Rattle.octet_language.specs.Language.{Begins, NoPrefix}
 use Rattle.syslog_frame.specs.Frames.{Frame, IsLine, Whole}
 use Rattle.syslog_frame.specs.Scan.{Scan, Stands, Holds, HasBadCount, HasFrame, HasReady, IsFailed, IsReading}
-use Rattle.syslog_frame.specs.State.{IsOpen, IsTaken}
+use Rattle.syslog_frame.specs.State.{IsOpen, IsProgress}
 use Rattle.syslog_frame.specs.Takes.{Takes}
 use Rattle.syslog_frame.specs.declared.framing.Framing.{Framing}
 use Rattle.syslog_frame.specs.declared.framing.Framing.TheVariants.{Counted, Lf}
 use Rattle.syslog_frame.specs.declared.phase.Phase.{Phase}
 use Rattle.syslog_frame.specs.declared.phase.Phase.TheVariants.{Counting, Inside, Ended, BadCount, Failed}
-use Rattle.octet_language.proofs.Sequence.{Misses-NoFront}
-use Rattle.syslog_frame.proofs.Counts.{NoFront-count}
-use Rattle.syslog_frame.proofs.Standing.{HasFront-counted, IsBadRest, TakesIn, begins_open, none_open, takes, bad_rest_in}
+use Rattle.octet_language.proofs.Sequence.{Misses-NoPrefix}
+use Rattle.syslog_frame.proofs.Counts.{NoPrefix-count}
+use Rattle.syslog_frame.proofs.Standing.{HasPrefix-counted, IsBadRest, TakesIn, begins_open, none_open, takes, bad_rest_in}
 
 -- ---- the phase of what a scanner holds
 
@@ -48,10 +48,10 @@ takes_at kind p piece n s Failed e t = absurd t
 -- octets were taken of a piece, and the scanner holds what it then does
 pub record Took (most : ℕ) (s : Scan) (kind : Framing) (p piece : List ℕ) (n : ℕ) : Type 0 where
   pub within : n ≤ length piece
-  pub taken : IsTaken s.phase s.count piece n
+  pub taken : IsProgress s.phase s.count piece n
   pub holds : Holds most kind s.phase s.count s.size s.kept (p ++ take n piece)
 
-pub took : (most : ℕ) (s t : Scan) (kind : Framing) (p piece : List ℕ) (n : ℕ) → s.framing ≡ kind → n ≤ length piece → IsTaken t.phase t.count piece n
+pub took : (most : ℕ) (s t : Scan) (kind : Framing) (p piece : List ℕ) (n : ℕ) → s.framing ≡ kind → n ≤ length piece → IsProgress t.phase t.count piece n
     → ((q : List ℕ) → Holds most s.framing s.phase s.count s.size s.kept q → Holds most s.framing t.phase t.count t.size t.kept (q ++ take n piece))
     → Holds most kind s.phase s.count s.size s.kept p → Took most t kind p piece n
 took most s t kind p piece n e within taken step h =
@@ -69,16 +69,16 @@ pub bad_took : (most : ℕ) (s : Scan) (kind : Framing) (p piece : List ℕ) (n 
 bad_took most s kind p piece n t bad more = bad_rest_in most kind s.phase s.count s.size s.kept p piece n bad t.taken t.holds more
 
 -- neither behind a frame nor in a failed stream: no frame is in front
-none_unless_ended : (most : ℕ) (kind : Framing) (phase : Phase) (count size : ℕ) (kept p : List ℕ) → phase ≢ Ended → Holds most kind phase count size kept p → NoFront (Whole kind) p
+none_unless_ended : (most : ℕ) (kind : Framing) (phase : Phase) (count size : ℕ) (kept p : List ℕ) → phase ≢ Ended → Holds most kind phase count size kept p → NoPrefix (Whole kind) p
 none_unless_ended most Lf BadCount count size kept p e h = absurd h
-none_unless_ended most Counted BadCount count size kept p e h = NoFront-count (Whole Counted) HasFront-counted count p h.0 h.1
+none_unless_ended most Counted BadCount count size kept p e h = NoPrefix-count (Whole Counted) HasPrefix-counted count p h.0 h.1
 none_unless_ended most kind Inside count size kept p e h = none_open most kind Inside count size kept p tt h
 none_unless_ended most kind Counting count size kept p e h = none_open most kind Counting count size kept p tt h
 none_unless_ended most kind Ended count size kept p e h = absurd (e refl)
 none_unless_ended most Lf Failed count size kept p e h = absurd h
 none_unless_ended most Counted Failed count size kept p e h = absurd h
 
-pub none_unless_frame : (most : ℕ) (s : Scan) (kind : Framing) (position : ℕ) (p : List ℕ) → ¬ (HasFrame s) → Stands most s kind position p → NoFront (Whole kind) p
+pub none_unless_frame : (most : ℕ) (s : Scan) (kind : Framing) (position : ℕ) (p : List ℕ) → ¬ (HasFrame s) → Stands most s kind position p → NoPrefix (Whole kind) p
 none_unless_frame most s kind position p other h = none_unless_ended most kind s.phase s.count s.size s.kept p other h.holds
 
 pub begins_reading : (most : ℕ) (s : Scan) (kind : Framing) (position : ℕ) (p : List ℕ) → IsOpen s.phase → Stands most s kind position p → Begins (Whole kind) p
@@ -149,7 +149,7 @@ open_at phase (inl e) = subst IsOpen (sym e) tt
 open_at phase (inr e) = subst IsOpen (sym e) tt
 
 pub not_whole : (most : ℕ) (s : Scan) (kind : Framing) (position : ℕ) (p : List ℕ) → ¬ (HasFrame s) → Stands most s kind position p → ¬ (Whole kind p)
-not_whole most s kind position p e h w = Misses-NoFront (Whole kind) p (none_unless_frame most s kind position p e h) w
+not_whole most s kind position p e h w = Misses-NoPrefix (Whole kind) p (none_unless_frame most s kind position p e h) w
 
 pub bad_not_frame : (s : Scan) → HasBadCount s → ¬ (HasFrame s)
 bad_not_frame s b e = apart s.phase b e

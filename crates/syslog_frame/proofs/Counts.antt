@@ -4,11 +4,11 @@ use Rattle.std.specs.List.{AllByRecursion}
 use Rattle.std.specs.Fmt.{decimal}
 use Rattle.std.proofs.lemmas.Fmt.{decimal_nonempty, first_decimal, decimal_digit}
 use Rattle.std.proofs.lemmas.List.{length-append, append-nil}
-use Rattle.octet_language.specs.Language.{AnyOf, Begins, IsPlace, Language, NoFront, Stops}
+use Rattle.octet_language.specs.Language.{AnyOf, Begins, IsFaultOffset, Language, NoPrefix, Stops}
 use Rattle.syslog_frame.specs.MsgLen.{MsgLen}
 use Rattle.syslog_frame.specs.declared.limits.TheConstants.{COUNT_MAX}
 use Rattle.syslog_frame.specs.Count.{IsCount, IsNextDigit, IsRefused}
-use Rattle.octet_language.proofs.Place.{IsPlace-from_stops}
+use Rattle.octet_language.proofs.FaultOffset.{IsFaultOffset-from_stops}
 use Rattle.octet_language.specs.Digits.{IsDigit}
 use Rattle.octet_language.proofs.Decimal.{digits_decimal, goes_on, one_digit, next_digit}
 use Rattle.octet_language.proofs.Lists.{heads, parted, not_free, AllByRecursion-weaker}
@@ -69,8 +69,8 @@ refused n c x q m f some low small is r e =
     ends (y ∷ w) at here = not_free 32 q (decimal n) w (no_space_count c q small is) (at ∙ ap (λ (k : ℕ). decimal n ++ k ∷ w) (sym (heads 32 y f (w ++ x ∷ m) here)))
 
 -- each text of a language has a count and a space in front
-abbrev pub HasFront : Language → Type 0
-HasFront L = (s : List ℕ) → L s → (n : ℕ) × (f : List ℕ) × (0 < n) × (n ≤ COUNT_MAX) × (s ≡ decimal n ++ 32 ∷ f)
+abbrev pub HasPrefix : Language → Type 0
+HasPrefix L = (s : List ℕ) → L s → (n : ℕ) × (f : List ℕ) × (0 < n) × (n ≤ COUNT_MAX) × (s ≡ decimal n ++ 32 ∷ f)
 
 -- behind the digits of a count, before an octet that it refuses
 pub record Refusal (c : ℕ) (q : List ℕ) (x : ℕ) : Type 0 where
@@ -78,27 +78,27 @@ pub record Refusal (c : ℕ) (q : List ℕ) (x : ℕ) : Type 0 where
   pub digits : IsCount c q
   pub refuses : IsRefused c x
 
-pub NoFront-refusal : (L : Language) → HasFront L → (c x : ℕ) (q rest b : List ℕ) → Refusal c q x → b ≡ q ++ x ∷ rest → NoFront L b
-NoFront-refusal L shape c x q rest b r e u v d h =
+pub NoPrefix-refusal : (L : Language) → HasPrefix L → (c x : ℕ) (q rest b : List ℕ) → Refusal c q x → b ≡ q ++ x ∷ rest → NoPrefix L b
+NoPrefix-refusal L shape c x q rest b r e u v d h =
     let t = shape u h in
     refused t.0 c x q rest (t.1 ++ v) t.2 t.3 r.small r.digits r.refuses (sym e ∙ d ∙ ap (λ (k : List ℕ). k ++ v) t.4 ∙ append_assoc (decimal t.0) (32 ∷ t.1) v)
 
-not_begun : (L : Language) → HasFront L → (c x : ℕ) (q rest : List ℕ) → Refusal c q x → ¬ (Begins L (q ++ x ∷ rest))
+not_begun : (L : Language) → HasPrefix L → (c x : ℕ) (q rest : List ℕ) → Refusal c q x → ¬ (Begins L (q ++ x ∷ rest))
 not_begun L shape c x q rest r (more, h) =
     let t = shape ((q ++ x ∷ rest) ++ more) h in
     refused t.0 c x q (rest ++ more) t.1 t.2 t.3 r.small r.digits r.refuses (sym (append_assoc q (x ∷ rest) more) ∙ t.4)
 
-pub none_begins : (L : Language) → HasFront L → (c x : ℕ) (q rest b : List ℕ) → Refusal c q x → b ≡ q ++ x ∷ rest → ¬ (Begins L b)
+pub none_begins : (L : Language) → HasPrefix L → (c x : ℕ) (q rest b : List ℕ) → Refusal c q x → b ≡ q ++ x ∷ rest → ¬ (Begins L b)
 none_begins L shape c x q rest b r e h = not_begun L shape c x q rest r (subst (Begins L) e h)
 
-pub place_of_refusal : (L : Language) → HasFront L → (c x : ℕ) (q rest b : List ℕ) → Refusal c q x → Begins L q → b ≡ q ++ x ∷ rest → IsPlace L b (length q)
-place_of_refusal L shape c x q rest b r begins e =
+pub offset_of_refusal : (L : Language) → HasPrefix L → (c x : ℕ) (q rest b : List ℕ) → Refusal c q x → Begins L q → b ≡ q ++ x ∷ rest → IsFaultOffset L b (length q)
+offset_of_refusal L shape c x q rest b r begins e =
     let s : Stops L b (length (x ∷ rest)) = record { read = q; rest = x ∷ rest; parts = e; count = refl; begins = begins; refuses = not_begun L shape c x q [] r } in
     let n : length b - length (x ∷ rest) ≡ length q = omega (arith, ap length e, length-append q (x ∷ rest)) in
-    subst (IsPlace L b) n (IsPlace-from_stops L b (length (x ∷ rest)) s)
+    subst (IsFaultOffset L b) n (IsFaultOffset-from_stops L b (length (x ∷ rest)) s)
 
-pub HasFront-msg_len : HasFront (AnyOf MsgLen)
-HasFront-msg_len s (n, h) = (n, [], h.0, h.1, h.2)
+pub HasPrefix-msg_len : HasPrefix (AnyOf MsgLen)
+HasPrefix-msg_len s (n, h) = (n, [], h.0, h.1, h.2)
 
 -- how the digits of a count go on
 pub count_goes_on : (c : ℕ) (q : List ℕ) → c ≤ COUNT_MAX → IsCount c q → (n : ℕ) × (more : List ℕ) × (0 < n) × (n ≤ COUNT_MAX) × (q ++ more ≡ decimal n ++ 32 ∷ [])
@@ -109,7 +109,7 @@ pub Begins-count : (c : ℕ) (q : List ℕ) → c ≤ COUNT_MAX → IsCount c q 
 Begins-count c q small is = let g = count_goes_on c q small is in (g.1, (g.0, (g.2, g.3, g.4)))
 
 -- digits alone begin no text with a count and a space in front
-pub NoFront-count : (L : Language) → HasFront L → (c : ℕ) (q : List ℕ) → c ≤ COUNT_MAX → IsCount c q → NoFront L q
-NoFront-count L shape c q small is u v e h =
+pub NoPrefix-count : (L : Language) → HasPrefix L → (c : ℕ) (q : List ℕ) → c ≤ COUNT_MAX → IsCount c q → NoPrefix L q
+NoPrefix-count L shape c q small is u v e h =
     let t = shape u h in
     not_free 32 q (decimal t.0) (t.1 ++ v) (no_space_count c q small is) (e ∙ ap (λ (k : List ℕ). k ++ v) t.4 ∙ append_assoc (decimal t.0) (32 ∷ t.1) v)

@@ -47,14 +47,14 @@ taken_further octets taken rest piece more n e =
     ∙ sym (append_assoc (octets ++ taken) rest more)
     ∙ ap (λ (u : List ℕ). u ++ more) (append_assoc octets taken rest ∙ ap (λ (u : List ℕ). octets ++ u) (sym e))
 
--- so much of a piece is dealt with, and the rest is left
-abbrev pub DealtWith : ℕ → Scan → Framing → List ℕ → List ℕ → List ℕ → List (Option (List ℕ)) → Type 0
-DealtWith most s kind octets piece rest out = (taken : List ℕ) × (piece ≡ taken ++ rest) × HasDelivered most s kind (octets ++ taken) out
+-- so much of a piece is handled, and the rest is left
+abbrev pub HandledWith : ℕ → Scan → Framing → List ℕ → List ℕ → List ℕ → List (Option (List ℕ)) → Type 0
+HandledWith most s kind octets piece rest out = (taken : List ℕ) × (piece ≡ taken ++ rest) × HasDelivered most s kind (octets ++ taken) out
 
 -- octets were taken, and nothing is ready
-pub dealt_nothing : (most : ℕ) (s t : Scan) (kind : Framing) (octets piece rest : List ℕ) (out new : List (Option (List ℕ))) (n : ℕ) → (d : DealtWith most s kind octets piece rest out)
-    → ReadsOn most t kind 0 (octets ++ d.0) d.2.frames d.2.rest rest n → new ≡ out → DealtWith most t kind octets piece (drop n rest) new
-dealt_nothing most s t kind octets piece rest out new n d on same = (
+pub handled_nothing : (most : ℕ) (s t : Scan) (kind : Framing) (octets piece rest : List ℕ) (out new : List (Option (List ℕ))) (n : ℕ) → (d : HandledWith most s kind octets piece rest out)
+    → ReadsOn most t kind 0 (octets ++ d.0) d.2.frames d.2.rest rest n → new ≡ out → HandledWith most t kind octets piece (drop n rest) new
+handled_nothing most s t kind octets piece rest out new n d on same = (
   d.0 ++ take n rest,
   taken_on d.0 rest piece n d.1,
   record {
@@ -66,9 +66,9 @@ dealt_nothing most s t kind octets piece rest out new n d on same = (
 )
 
 -- a frame was ready, and was delivered and released
-pub dealt_frame : (most : ℕ) (s t : Scan) (kind : Framing) (octets piece rest : List ℕ) (out new : List (Option (List ℕ))) (n : ℕ) (f : List ℕ) → (d : DealtWith most s kind octets piece rest out)
-    → Reads most t kind 0 ((octets ++ d.0) ++ take n rest) (d.2.frames ++ f ∷ []) [] → new ≡ out ++ delivered most f ∷ [] → DealtWith most t kind octets piece (drop n rest) new
-dealt_frame most s t kind octets piece rest out new n f d begun more = (
+pub handled_frame : (most : ℕ) (s t : Scan) (kind : Framing) (octets piece rest : List ℕ) (out new : List (Option (List ℕ))) (n : ℕ) (f : List ℕ) → (d : HandledWith most s kind octets piece rest out)
+    → Reads most t kind 0 ((octets ++ d.0) ++ take n rest) (d.2.frames ++ f ∷ []) [] → new ≡ out ++ delivered most f ∷ [] → HandledWith most t kind octets piece (drop n rest) new
+handled_frame most s t kind octets piece rest out new n f d begun more = (
   d.0 ++ take n rest,
   taken_on d.0 rest piece n d.1,
   record {
@@ -80,12 +80,12 @@ dealt_frame most s t kind octets piece rest out new n f d begun more = (
 )
 
 -- a bad count is ready: so the whole stream stops
-pub dealt_bad : (most : ℕ) (s t : Scan) (kind : Framing) (octets piece rest : List ℕ) (out new : List (Option (List ℕ))) (n at : ℕ) → (d : DealtWith most s kind octets piece rest out)
+pub handled_bad : (most : ℕ) (s t : Scan) (kind : Framing) (octets piece rest : List ℕ) (out new : List (Option (List ℕ))) (n at : ℕ) → (d : HandledWith most s kind octets piece rest out)
     → ReadsOn most t kind 0 (octets ++ d.0) d.2.frames d.2.rest rest n → HasBadCount t → at ≡ length ((octets ++ d.0) ++ take n rest) → new ≡ out
     → (more : List ℕ) → IsRead most kind ((octets ++ piece) ++ more) new (BadCount at)
-dealt_bad most s t kind octets piece rest out new n at d on is place same more =
+handled_bad most s t kind octets piece rest out new n at d on is offset same more =
     let behind = drop (n + 1) rest ++ more in
-    let bad = subst (λ (k : ℕ). IsBadAt kind (((octets ++ d.0) ++ take (n + 1) rest) ++ behind) d.2.frames ((d.2.rest ++ take (n + 1) rest) ++ behind) k) (sym place) (on.bad is behind) in
+    let bad = subst (λ (k : ℕ). IsBadAt kind (((octets ++ d.0) ++ take (n + 1) rest) ++ behind) d.2.frames ((d.2.rest ++ take (n + 1) rest) ++ behind) k) (sym offset) (on.bad is behind) in
     let whole = subst (λ (u : List ℕ). IsBadAt kind u d.2.frames ((d.2.rest ++ take (n + 1) rest) ++ behind) at) (taken_further octets d.0 rest piece more (n + 1) d.1) bad in
     record {
       frames = d.2.frames;
@@ -95,10 +95,10 @@ dealt_bad most s t kind octets piece rest out new n at d on is place same more =
       stops = whole;
     }
 
--- all of the piece is dealt with
-pub dealt_all : (most : ℕ) (s : Scan) (kind : Framing) (octets piece rest : List ℕ) (out : List (Option (List ℕ))) → DealtWith most s kind octets piece rest out → length rest ≡ 0 → HasDelivered most s kind (octets ++ piece) out
-dealt_all most s kind octets piece [] out d none = subst (λ (u : List ℕ). HasDelivered most s kind (octets ++ u) out) (sym (d.1 ∙ append-nil d.0)) d.2
-dealt_all most s kind octets piece (x ∷ rest) out d none = absurd (omega arith)
+-- all of the piece is handled
+pub handled_all : (most : ℕ) (s : Scan) (kind : Framing) (octets piece rest : List ℕ) (out : List (Option (List ℕ))) → HandledWith most s kind octets piece rest out → length rest ≡ 0 → HasDelivered most s kind (octets ++ piece) out
+handled_all most s kind octets piece [] out d none = subst (λ (u : List ℕ). HasDelivered most s kind (octets ++ u) out) (sym (d.1 ∙ append-nil d.0)) d.2
+handled_all most s kind octets piece (x ∷ rest) out d none = absurd (omega arith)
 
 -- ---- a list of pieces
 

@@ -5,14 +5,14 @@ use Rattle.std.specs.Fmt.{decimal}
 use Rattle.std.proofs.lemmas.Fmt.{decimal_injective}
 use Rattle.std.proofs.lemmas.List.{append_cancel_left, append-nil, length-append, take-append-drop, take-append-le, take-take, take_at}
 use Rattle.std.proofs.lemmas.Bool.{cases_lt}
-use Rattle.octet_language.specs.Language.{Begins, IsPlace, Language, NoFront, OneFront}
+use Rattle.octet_language.specs.Language.{Begins, IsFaultOffset, Language, NoPrefix, IsPrefixFree}
 use Rattle.syslog_frame.specs.Frames.{CanCarry, framed, Whole, Frames, IsBadAt}
 use Rattle.syslog_frame.specs.declared.framing.Framing.{Framing}
 use Rattle.syslog_frame.specs.declared.limits.TheConstants.{COUNT_MAX}
 use Rattle.syslog_frame.specs.declared.framing.Framing.TheVariants.{Counted, Lf}
 use Rattle.octet_language.specs.Digits.{IsDigit}
 use Rattle.octet_language.proofs.Decimal.{digits_decimal}
-use Rattle.octet_language.proofs.Lists.{tails, one_more, parted, same_until, AllByRecursion-weaker, same_front}
+use Rattle.octet_language.proofs.Lists.{tails, one_more, parted, same_until, AllByRecursion-weaker, same_prefix}
 
 fits : (n : ℕ) → n ≤ COUNT_MAX → n < 2 ^ 64
 fits n h = omega arith
@@ -28,33 +28,33 @@ same_count m n s t small low e =
     let same = decimal_injective m n (fits m small) (fits n low) digits in
     (same, tails 32 32 s t (append_cancel_left (decimal m) (32 ∷ s) (32 ∷ t) (e ∙ ap (λ (d : List ℕ). d ++ 32 ∷ t) (sym digits))))
 
--- where two frames stand in front, they are one
+-- where two frames come first, they are one
 pub one_frame : (kind : Framing) (f g s t : List ℕ) → CanCarry kind f → CanCarry kind g → framed kind f ++ s ≡ framed kind g ++ t → f ≡ g
 one_frame Lf f g s t a b e = same_until 10 f g s t a b (sym (one_more f 10 s) ∙ e ∙ one_more g 10 t)
 one_frame Counted f g s t a b e =
     let same = same_count (length f) (length g) (f ++ s) (g ++ t) a.1 b.1 (sym (append_assoc (decimal (length f)) (32 ∷ f) s) ∙ e ∙ append_assoc (decimal (length g)) (32 ∷ g) t) in
-    same_front f g s t same.0 same.1
+    same_prefix f g s t same.0 same.1
 
-pub OneFront-whole : (kind : Framing) → OneFront (Whole kind)
-OneFront-whole kind p s q t (f, (a, x)) (g, (b, y)) e =
+pub IsPrefixFree-whole : (kind : Framing) → IsPrefixFree (Whole kind)
+IsPrefixFree-whole kind p s q t (f, (a, x)) (g, (b, y)) e =
     let same = one_frame kind f g s t a b (ap (λ (u : List ℕ). u ++ s) (sym x) ∙ e ∙ ap (λ (u : List ℕ). u ++ t) y) in
     x ∙ ap (framed kind) same ∙ sym y
 
 -- a rest with no frame in front does not begin with one
-not_in_front : (kind : Framing) (rest f s : List ℕ) → NoFront (Whole kind) rest → CanCarry kind f → rest ≡ framed kind f ++ s → ⊥
-not_in_front kind rest f s none a e = none (framed kind f) s e (f, (a, refl))
+not_in_prefix : (kind : Framing) (rest f s : List ℕ) → NoPrefix (Whole kind) rest → CanCarry kind f → rest ≡ framed kind f ++ s → ⊥
+not_in_prefix kind rest f s none a e = none (framed kind f) s e (f, (a, refl))
 
--- where two frames stand in front, the same stands behind them
+-- where two frames come first, the same follows them
 behind_frame : (kind : Framing) (f g s t : List ℕ) → CanCarry kind f → CanCarry kind g → framed kind f ++ s ≡ framed kind g ++ t → (f ≡ g) × (s ≡ t)
 behind_frame kind f g s t a b e =
     let same = one_frame kind f g s t a b e in
     (same, append_cancel_left (framed kind f) s t (e ∙ ap (λ (u : List ℕ). framed kind u ++ t) (sym same)))
 
 -- the frames in front begin those of what is longer
-begun : (kind : Framing) (fs gs : List (List ℕ)) (r q : List ℕ) → AllByRecursion (CanCarry kind) fs → AllByRecursion (CanCarry kind) gs → NoFront (Whole kind) q
+begun : (kind : Framing) (fs gs : List (List ℕ)) (r q : List ℕ) → AllByRecursion (CanCarry kind) fs → AllByRecursion (CanCarry kind) gs → NoPrefix (Whole kind) q
     → flat_map (framed kind) fs ++ r ≡ flat_map (framed kind) gs ++ q → (h : List (List ℕ)) × (gs ≡ fs ++ h)
 begun kind [] gs r q a b none e = (gs, refl)
-begun kind (f ∷ fs) [] r q a b none e = absurd (not_in_front kind q f (flat_map (framed kind) fs ++ r) none a.0 (sym e ∙ append_assoc (framed kind f) (flat_map (framed kind) fs) r))
+begun kind (f ∷ fs) [] r q a b none e = absurd (not_in_prefix kind q f (flat_map (framed kind) fs ++ r) none a.0 (sym e ∙ append_assoc (framed kind f) (flat_map (framed kind) fs) r))
 begun kind (f ∷ fs) (g ∷ gs) r q a b none e =
     let both = behind_frame kind f g (flat_map (framed kind) fs ++ r) (flat_map (framed kind) gs ++ q) a.0 b.0 (sym (append_assoc (framed kind f) (flat_map (framed kind) fs) r) ∙ e ∙ append_assoc (framed kind g) (flat_map (framed kind) gs) q) in
     let later = begun kind fs gs r q a.1 b.1 none both.1 in
@@ -81,16 +81,16 @@ some : (kind : Framing) (f : List ℕ) → 0 < length (framed kind f)
 some Lf f = omega (arith, length-append f (10 ∷ []))
 some Counted f = omega (arith, length-append (decimal (length f)) (32 ∷ f))
 
-pub NoFront-nil : (kind : Framing) → NoFront (Whole kind) []
-NoFront-nil kind x y e (f, (a, b)) = omega (arith, ap length e, length-append x y, ap length b, some kind f)
+pub NoPrefix-nil : (kind : Framing) → NoPrefix (Whole kind) []
+NoPrefix-nil kind x y e (f, (a, b)) = omega (arith, ap length e, length-append x y, ap length b, some kind f)
 
 pub concatenation : (kind : Framing) (f : List (List ℕ)) → AllByRecursion (CanCarry kind) f → Frames kind (flat_map (framed kind) f) f []
-concatenation kind f a = record { whole = sym (append-nil (flat_map (framed kind) f)); each = a; none = NoFront-nil kind }
+concatenation kind f a = record { whole = sym (append-nil (flat_map (framed kind) f)); each = a; none = NoPrefix-nil kind }
 
 -- ---- behind a bad count
 
 -- octets that no text begins with, and that have none in front, have none however they go on
-further : (L : Language) (b more : List ℕ) → NoFront L b → ¬ (Begins L b) → NoFront L (b ++ more)
+further : (L : Language) (b more : List ℕ) → NoPrefix L b → ¬ (Begins L b) → NoPrefix L (b ++ more)
 further L b [] none dead x y e h = none x y (sym (append-nil b) ∙ e) h
 further L b (m ∷ more) none dead x y e h =
     elim (parted x y b m more (sym e)) [
@@ -102,15 +102,15 @@ none_longer : (L : Language) (b more : List ℕ) → ¬ (Begins L b) → ¬ (Beg
 none_longer L b more dead (end, h) = dead (more ++ end, subst L (append_assoc b more end) h)
 
 -- and stop where they did
-place_longer : (L : Language) (b more : List ℕ) (n : ℕ) → ¬ (Begins L b) → IsPlace L b n → IsPlace L (b ++ more) n
-place_longer L b more n dead p = record {
+offset_longer : (L : Language) (b more : List ℕ) (n : ℕ) → ¬ (Begins L b) → IsFaultOffset L b n → IsFaultOffset L (b ++ more) n
+offset_longer L b more n dead p = record {
   within = omega (arith, p.within, length-append b more);
   begins = subst (Begins L) (sym (take-append-le n b more p.within)) p.begins;
   longest = λ m within h.
       elim (cases_lt (length b) m) [
         | inl past ↦
-            let front : take m (b ++ more) ≡ b ++ drop (length b) (take m (b ++ more)) = sym (take-append-drop (length b) (take m (b ++ more))) ∙ ap (λ (u : List ℕ). u ++ drop (length b) (take m (b ++ more))) (take-take (length b) m (b ++ more) (omega (arith, past)) ∙ take_at b more (length b) refl) in
-            absurd (none_longer L b (drop (length b) (take m (b ++ more))) dead (subst (Begins L) front h))
+            let prefix : take m (b ++ more) ≡ b ++ drop (length b) (take m (b ++ more)) = sym (take-append-drop (length b) (take m (b ++ more))) ∙ ap (λ (u : List ℕ). u ++ drop (length b) (take m (b ++ more))) (take-take (length b) m (b ++ more) (omega (arith, past)) ∙ take_at b more (length b) refl) in
+            absurd (none_longer L b (drop (length b) (take m (b ++ more))) dead (subst (Begins L) prefix h))
         | inr le ↦ p.longest m le (subst (Begins L) (take-append-le m b more le) h)
       ];
 }
@@ -123,5 +123,5 @@ bad_longer kind stream more f r at b = record {
     none = further (Whole kind) r more b.frames_are.none b.none;
   };
   none = none_longer (Whole kind) r more b.none;
-  place = (b.place.0, place_longer (Whole kind) r more b.place.0 b.none b.place.1, omega (arith, b.place.2, length-append stream more, length-append r more));
+  offset = (b.offset.0, offset_longer (Whole kind) r more b.offset.0 b.none b.offset.1, omega (arith, b.offset.2, length-append stream more, length-append r more));
 }

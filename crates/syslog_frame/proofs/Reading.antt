@@ -2,14 +2,14 @@
 use Rattle.std.proofs.Common.{◌≡◌, ℕ, ◌+◌, ◌<◌, ◌≤◌, List, [], ◌∷◌, ◌++◌, length, take, sym, ap, subst, ◌∙◌, append_assoc, arith, inl}
 use Rattle.std.specs.List.{AllByRecursion, flat_map}
 use Rattle.std.proofs.lemmas.List.{append-nil, length-append, length-take, flat_map_more}
-use Rattle.octet_language.specs.Language.{Begins, NoFront}
+use Rattle.octet_language.specs.Language.{Begins, NoPrefix}
 use Rattle.syslog_frame.specs.Frames.{CanCarry, Frame, Frames, IsBadAt, Whole, framed}
 use Rattle.syslog_frame.specs.Reads.{Reads, ReadsOn}
 use Rattle.syslog_frame.specs.Scan.{Scan, Stands, Holds, HasBadCount, HasFrame, IsReading}
-use Rattle.syslog_frame.specs.State.{IsTaken}
+use Rattle.syslog_frame.specs.State.{IsProgress}
 use Rattle.syslog_frame.specs.Takes.{Takes}
 use Rattle.syslog_frame.specs.declared.framing.Framing.{Framing}
-use Rattle.syslog_frame.proofs.FrameLaws.{NoFront-nil}
+use Rattle.syslog_frame.proofs.FrameLaws.{NoPrefix-nil}
 use Rattle.syslog_frame.proofs.Standing.{IsBadRest}
 use Rattle.syslog_frame.proofs.Calls.{Took, took, takes_took, bad_took, open_reading, bad_not_frame, none_unless_frame, begins_reading, frame_ready, long_ready}
 
@@ -17,8 +17,8 @@ all_push : (P : List ℕ → Type 0) (fs : List (List ℕ)) (f : List ℕ) → A
 all_push P [] f a h = (h, tt)
 all_push P (g ∷ fs) f a h = (a.0, all_push P fs f a.1 h)
 
--- the frames of what was read, where no frame stands in front of the rest
-pub frames_read : (most : ℕ) (s : Scan) (kind : Framing) (first : ℕ) (octets : List ℕ) (frames : List (List ℕ)) (rest : List ℕ) → Reads most s kind first octets frames rest → NoFront (Whole kind) rest → Frames kind octets frames rest
+-- the frames of what was read, where no frame stands before the rest
+pub frames_read : (most : ℕ) (s : Scan) (kind : Framing) (first : ℕ) (octets : List ℕ) (frames : List (List ℕ)) (rest : List ℕ) → Reads most s kind first octets frames rest → NoPrefix (Whole kind) rest → Frames kind octets frames rest
 frames_read most s kind first octets frames rest r none = record { whole = r.whole; each = r.each; none = none }
 
 whole_with : (kind : Framing) (octets : List ℕ) (frames : List (List ℕ)) (rest f : List ℕ) → octets ≡ flat_map (framed kind) frames ++ rest → rest ≡ framed kind f → octets ≡ flat_map (framed kind) (frames ++ f ∷ []) ++ []
@@ -30,7 +30,7 @@ pub frames_with : (most : ℕ) (s : Scan) (kind : Framing) (first : ℕ) (octets
 frames_with most s kind first octets frames rest f r is = record {
   whole = whole_with kind octets frames rest f r.whole is.1;
   each = all_push (CanCarry kind) frames f r.each is.0;
-  none = NoFront-nil kind;
+  none = NoPrefix-nil kind;
 }
 
 -- a piece is taken
@@ -54,9 +54,9 @@ bad_stream kind octets frames rest taken more n at whole each b far = record {
     none = b.incomplete;
   };
   none = b.none;
-  place = (
+  offset = (
     length rest + n,
-    b.place,
+    b.offset,
     omega (arith, far, length-append (rest ++ taken) more, length-append rest taken, length-append (octets ++ taken) more, length-append octets taken),
   );
 }
@@ -79,7 +79,7 @@ pub record IsMoved (most : ℕ) (s t : Scan) (piece : List ℕ) (n : ℕ) : Type
   pub framing_is : t.framing ≡ s.framing
   pub position_is : t.position ≡ s.position + n
   pub start_is : t.start ≡ s.start
-  pub taken : IsTaken t.phase t.count piece n
+  pub taken : IsProgress t.phase t.count piece n
   pub holds : (q : List ℕ) → Holds most s.framing s.phase s.count s.size s.kept q → Holds most s.framing t.phase t.count t.size t.kept (q ++ take n piece)
 
 moved_took : (most : ℕ) (s t : Scan) (kind : Framing) (position : ℕ) (p piece : List ℕ) (n : ℕ) → IsMoved most s t piece n → Stands most s kind position p → Took most t kind p piece n

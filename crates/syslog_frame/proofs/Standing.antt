@@ -3,11 +3,11 @@ use Rattle.std.proofs.Common.{◌≡◌, ℕ, ◌+◌, ◌-◌, ◌<◌, ◌≤�
 use Rattle.std.specs.Fmt.{decimal}
 use Rattle.std.proofs.lemmas.List.{length-append, length-replicate, take-append-drop, length-take, take_all}
 use Rattle.std.specs.Prelude.{replicate}
-use Rattle.octet_language.specs.Language.{Begins, IsPlace, NoFront}
+use Rattle.octet_language.specs.Language.{Begins, IsFaultOffset, NoPrefix}
 use Rattle.syslog_frame.specs.Frames.{IsLine, Whole}
 use Rattle.syslog_frame.specs.Count.{IsCount, IsRefused}
 use Rattle.syslog_frame.specs.Scan.{Holds}
-use Rattle.syslog_frame.specs.State.{IsOpen, IsTaken}
+use Rattle.syslog_frame.specs.State.{IsOpen, IsProgress}
 use Rattle.syslog_frame.specs.Takes.{Completes, Breaks, GoesOn}
 use Rattle.syslog_frame.specs.declared.limits.TheConstants.{COUNT_MAX}
 use Rattle.syslog_frame.specs.declared.framing.Framing.{Framing}
@@ -16,17 +16,17 @@ use Rattle.syslog_frame.specs.declared.phase.Phase.{Phase}
 use Rattle.syslog_frame.specs.declared.phase.Phase.TheVariants.{Counting, Inside, Ended, BadCount, Failed}
 use Rattle.octet_language.proofs.Lists.{one_more, not_free}
 use Rattle.syslog_frame.proofs.Cuts.{one_taken}
-use Rattle.syslog_frame.proofs.Counts.{HasFront, Refusal, NoFront-count, NoFront-refusal, none_begins, place_of_refusal, count_goes_on}
-use Rattle.syslog_frame.proofs.FrameLaws.{OneFront-whole, same_count}
+use Rattle.syslog_frame.proofs.Counts.{HasPrefix, Refusal, NoPrefix-count, NoPrefix-refusal, none_begins, offset_of_refusal, count_goes_on}
+use Rattle.syslog_frame.proofs.FrameLaws.{IsPrefixFree-whole, same_count}
 
-pub HasFront-counted : HasFront (Whole Counted)
-HasFront-counted s (f, (a, e)) = (length f, f, a.0, a.1, e)
+pub HasPrefix-counted : HasPrefix (Whole Counted)
+HasPrefix-counted s (f, (a, e)) = (length f, f, a.0, a.1, e)
 
 -- a line begins a frame, and has none in front
 begins_line : (p : List ℕ) → IsLine p → Begins (Whole Lf) p
 begins_line p h = (10 ∷ [], (p, (h, refl)))
 
-none_in_line : (p : List ℕ) → IsLine p → NoFront (Whole Lf) p
+none_in_line : (p : List ℕ) → IsLine p → NoPrefix (Whole Lf) p
 none_in_line p h x y e (f, (a, b)) = not_free 10 p f y h (e ∙ ap (λ (u : List ℕ). u ++ y) b ∙ one_more f 10 y)
 
 -- octets behind a count, up to it
@@ -45,7 +45,7 @@ begins_count c q small is =
     let b = begins_counted g.0 [] (q ++ g.1) g.2 g.3 (omega arith) g.4 in
     (g.1 ++ b.0, subst (Whole Counted) (append_assoc q g.1 b.0) b.1)
 
-none_inside : (n : ℕ) (r p : List ℕ) → n ≤ COUNT_MAX → length r < n → p ≡ decimal n ++ 32 ∷ r → NoFront (Whole Counted) p
+none_inside : (n : ℕ) (r p : List ℕ) → n ≤ COUNT_MAX → length r < n → p ≡ decimal n ++ 32 ∷ r → NoPrefix (Whole Counted) p
 none_inside n r p small short e x y d (f, (a, b)) =
     let same = same_count n (length f) r (f ++ y) small a.1 (sym e ∙ d ∙ ap (λ (u : List ℕ). u ++ y) b ∙ append_assoc (decimal (length f)) (32 ∷ f) y) in
     omega (arith, same.0, ap length same.1, length-append f y, short)
@@ -65,11 +65,11 @@ begins_open most kind Ended count size kept p is h = absurd is
 begins_open most kind BadCount count size kept p is h = absurd is
 begins_open most kind Failed count size kept p is h = absurd is
 
-pub none_open : (most : ℕ) (kind : Framing) (phase : Phase) (count size : ℕ) (kept p : List ℕ) → IsOpen phase → Holds most kind phase count size kept p → NoFront (Whole kind) p
+pub none_open : (most : ℕ) (kind : Framing) (phase : Phase) (count size : ℕ) (kept p : List ℕ) → IsOpen phase → Holds most kind phase count size kept p → NoPrefix (Whole kind) p
 none_open most Lf Inside count size kept p is h = none_in_line p h.0
 none_open most Lf Counting count size kept p is h = absurd h
 none_open most Counted Inside count size kept p is (f, h, less) = none_inside count f p h.small (omega (arith, h.keeps.size_is, less)) h.text
-none_open most Counted Counting count size kept p is h = NoFront-count (Whole Counted) HasFront-counted count p h.0 h.1
+none_open most Counted Counting count size kept p is h = NoPrefix-count (Whole Counted) HasPrefix-counted count p h.0 h.1
 none_open most kind Ended count size kept p is h = absurd is
 none_open most kind BadCount count size kept p is h = absurd is
 none_open most kind Failed count size kept p is h = absurd is
@@ -81,7 +81,7 @@ completes kind p piece n within whole = record { within = within; whole = whole;
   where
     least : (m : ℕ) → m < n → ¬ (Whole kind (p ++ take m piece))
     least m less early =
-        let same = OneFront-whole kind (p ++ take m piece) (drop m piece) (p ++ take n piece) (drop n piece) early whole
+        let same = IsPrefixFree-whole kind (p ++ take m piece) (drop m piece) (p ++ take n piece) (drop n piece) early whole
         (append_assoc p (take m piece) (drop m piece) ∙ ap (λ (u : List ℕ). p ++ u) (take-append-drop m piece ∙ sym (take-append-drop n piece)) ∙ sym (append_assoc p (take n piece) (drop n piece))) in
         omega (arith, ap length same, length-append p (take m piece), length-append p (take n piece), length-take m piece, length-take n piece, less, within)
 
@@ -90,23 +90,23 @@ goes_on most kind phase count size kept p piece n is all h =
     let whole : p ++ take n piece ≡ p ++ piece = ap (λ (u : List ℕ). p ++ u) (take_all n piece (omega (arith, all))) in
     record {
       all = all;
-      incomplete = subst (NoFront (Whole kind)) whole (none_open most kind phase count size kept (p ++ take n piece) is h);
+      incomplete = subst (NoPrefix (Whole kind)) whole (none_open most kind phase count size kept (p ++ take n piece) is h);
       begins = subst (Begins (Whole kind)) whole (begins_open most kind phase count size kept (p ++ take n piece) is h);
     }
 
--- octets that hold a bad count at this place: no frame is in front of them, none begins with them, and each stops there
+-- octets that hold a bad count at this offset: no frame is before them, none begins with them, and each stops there
 pub record IsBadRest (kind : Framing) (rest : List ℕ) (n : ℕ) : Type 0 where
-  pub incomplete : NoFront (Whole kind) rest
+  pub incomplete : NoPrefix (Whole kind) rest
   pub none : ¬ (Begins (Whole kind) rest)
-  pub place : IsPlace (Whole kind) rest n
+  pub offset : IsFaultOffset (Whole kind) rest n
 
 bad_behind : (c x : ℕ) (q more : List ℕ) → IsRefused c x → c ≤ COUNT_MAX → IsCount c q → IsBadRest Counted (q ++ x ∷ more) (length q)
 bad_behind c x q more refuses small is =
     let r : Refusal c q x = record { small = small; digits = is; refuses = refuses } in
     record {
-      incomplete = NoFront-refusal (Whole Counted) HasFront-counted c x q more (q ++ x ∷ more) r refl;
-      none = none_begins (Whole Counted) HasFront-counted c x q more (q ++ x ∷ more) r refl;
-      place = place_of_refusal (Whole Counted) HasFront-counted c x q more (q ++ x ∷ more) r (begins_count c q small is) refl;
+      incomplete = NoPrefix-refusal (Whole Counted) HasPrefix-counted c x q more (q ++ x ∷ more) r refl;
+      none = none_begins (Whole Counted) HasPrefix-counted c x q more (q ++ x ∷ more) r refl;
+      offset = offset_of_refusal (Whole Counted) HasPrefix-counted c x q more (q ++ x ∷ more) r (begins_count c q small is) refl;
     }
 
 -- behind n octets of a piece, before one that the count refuses, whatever comes behind that
@@ -121,7 +121,7 @@ breaks : (c : ℕ) (p piece : List ℕ) (n : ℕ) → n < length piece → IsRef
 breaks c p piece n less refuses small is =
     let parts : (p ++ take (n + 1) piece) ++ drop (n + 1) piece ≡ p ++ piece = append_assoc p (take (n + 1) piece) (drop (n + 1) piece) ∙ ap (λ (u : List ℕ). p ++ u) (take-append-drop (n + 1) piece) in
     let b = subst (λ (u : List ℕ). IsBadRest Counted u (length p + n)) parts (bad_further c p piece n less refuses small is (drop (n + 1) piece)) in
-    record { within = less; incomplete = b.incomplete; none = b.none; place = b.place }
+    record { within = less; incomplete = b.incomplete; none = b.none; offset = b.offset }
 
 -- how much of a piece a scanner takes behind p, by the phase in which it is then
 abbrev pub TakesIn : Framing → List ℕ → List ℕ → ℕ → Phase → Type 0
@@ -131,7 +131,7 @@ TakesIn kind p piece n Inside = GoesOn kind p piece n
 TakesIn kind p piece n Counting = GoesOn kind p piece n
 TakesIn kind p piece n Failed = ⊥
 
-pub takes : (most : ℕ) (kind : Framing) (phase : Phase) (count size : ℕ) (kept p piece : List ℕ) (n : ℕ) → n ≤ length piece → IsTaken phase count piece n → Holds most kind phase count size kept (p ++ take n piece) → TakesIn kind p piece n phase
+pub takes : (most : ℕ) (kind : Framing) (phase : Phase) (count size : ℕ) (kept p piece : List ℕ) (n : ℕ) → n ≤ length piece → IsProgress phase count piece n → Holds most kind phase count size kept (p ++ take n piece) → TakesIn kind p piece n phase
 takes most kind Ended count size kept p piece n within t h = completes kind p piece n within (whole_ended most kind count size kept (p ++ take n piece) h)
 takes most kind Inside count size kept p piece n within t h = goes_on most kind Inside count size kept p piece n tt t h
 takes most kind Counting count size kept p piece n within t h = goes_on most kind Counting count size kept p piece n tt t h
@@ -140,8 +140,8 @@ takes most Counted BadCount count size kept p piece n within t h = breaks count 
 takes most Lf Failed count size kept p piece n within t h = absurd h
 takes most Counted Failed count size kept p piece n within t h = absurd h
 
--- what follows a piece that reached a bad place
-pub bad_rest_in : (most : ℕ) (kind : Framing) (phase : Phase) (count size : ℕ) (kept p piece : List ℕ) (n : ℕ) → phase ≡ BadCount → IsTaken phase count piece n → Holds most kind phase count size kept (p ++ take n piece) → (more : List ℕ) → IsBadRest kind ((p ++ take (n + 1) piece) ++ more) (length p + n)
+-- what follows a piece that reached a bad offset
+pub bad_rest_in : (most : ℕ) (kind : Framing) (phase : Phase) (count size : ℕ) (kept p piece : List ℕ) (n : ℕ) → phase ≡ BadCount → IsProgress phase count piece n → Holds most kind phase count size kept (p ++ take n piece) → (more : List ℕ) → IsBadRest kind ((p ++ take (n + 1) piece) ++ more) (length p + n)
 bad_rest_in most Counted BadCount count size kept p piece n e t h more = bad_further count p piece n t.0 t.1 h.0 h.1 more
 bad_rest_in most Lf BadCount count size kept p piece n e t h more = absurd h
 bad_rest_in most kind Ended count size kept p piece n e t h more = absurd cc

@@ -1,4 +1,4 @@
--- A count in front of a record, as far as it was read.
+-- A count before a record, as far as it was read.
 use Rattle.std.specs.Prelude.{◌≡◌, ◌≢◌, ℕ, ◌+◌, ◌*◌, ◌-◌, ◌<◌, ◌≤◌, ◌⊎◌, List, [], ◌∷◌, ◌++◌}
 use Rattle.std.specs.Prelude.{length, take, slice_index, decimal}
 use Rattle.octet_language.specs.Digits.{IsDigit}

@@ -17,7 +17,7 @@ scan_of s = record {
   kept = s.kept.items;
 }
 
--- there is room for a whole record, and the numbers are those of a place in a stream
+-- there is room for a whole record, and the numbers are those of an offset in a stream
 pub record IsSound (s : Inside) : Type 0 where
   pub room : FRAME_MAX ≤ vec_capacity s.kept
   pub known : s.size ≤ FRAME_MAX → vec_len s.kept ≡ s.size

@@ -2,7 +2,7 @@
 use Rattle.std.specs.Prelude.{◌≡◌, ◌≢◌, ℕ, ◌+◌, ◌<◌, ◌≤◌, List, [], ◌∷◌, ◌++◌, length, decimal}
 use Rattle.std.specs.Prelude.{nat_le, if◌then◌else◌, Option, Some, None}
 use Rattle.std.specs.List.{AllByRecursion, flat_map}
-use Rattle.octet_language.specs.Language.{Language, AnyOf, Begins, IsPlace, NoFront}
+use Rattle.octet_language.specs.Language.{Language, AnyOf, Begins, IsFaultOffset, NoPrefix}
 use Rattle.syslog_frame.specs.declared.framing.Framing.{Framing}
 use Rattle.syslog_frame.specs.declared.framing.Framing.TheVariants.{Counted, Lf}
 use Rattle.syslog_frame.specs.declared.limits.TheConstants.{COUNT_MAX}
@@ -34,14 +34,14 @@ pub record Frames (kind : Framing) (stream : List ℕ) (frames : List (List ℕ)
     : Type 0 where
   pub whole : stream ≡ flat_map (framed kind) frames ++ rest
   pub each : AllByRecursion (CanCarry kind) frames
-  pub none : NoFront (Whole kind) rest
+  pub none : NoPrefix (Whole kind) rest
 
--- no frame begins with the rest behind these frames: every one stops at this place of the stream
+-- no frame begins with the rest behind these frames: every one stops at this offset of the stream
 pub record IsBadAt (kind : Framing) (stream : List ℕ) (frames : List (List ℕ)) (rest : List ℕ)
     (at : ℕ) : Type 0 where
   pub frames_are : Frames kind stream frames rest
   pub none : ¬ (Begins (Whole kind) rest)
-  pub place : (n : ℕ) × IsPlace (Whole kind) rest n × (at + length rest ≡ length stream + n)
+  pub offset : (n : ℕ) × IsFaultOffset (Whole kind) rest n × (at + length rest ≡ length stream + n)
 
 -- a frame as it is delivered: nothing but that it came, where it is longer than the limit
 abbrev pub delivered : ℕ → List ℕ → Option (List ℕ)

@@ -11,7 +11,7 @@ use Rattle.syslog_frame.specs.declared.pieces.Step.TheVariants.{Nothing, Bad, De
 use Rattle.syslog_frame.specs.declared.pieces.StreamEnd.{StreamEnd}
 use Rattle.syslog_frame.specs.declared.pieces.StreamEnd.TheVariants.{Whole as end_whole, Unterminated, BadCount}
 
--- how a stream stops behind its frames: with the last; inside a frame; or at a bad place
+-- how a stream stops behind its frames: with the last; inside a frame; or at a bad offset
 abbrev pub StopsAs : Framing → List ℕ → List (List ℕ) → List ℕ → StreamEnd → Type 0
 StopsAs kind stream frames rest end_whole = rest ≡ []
 StopsAs kind stream frames rest (Unterminated start) =
@@ -43,13 +43,13 @@ Delivers most kind octets rest old new (Bad at) = (new ≡ old) × (at ≡ lengt
 Delivers most kind octets rest old new Delivered =
     (f : List ℕ) × Frame kind f rest × (new ≡ old ++ delivered most f ∷ [])
 
--- what a step tells of the scanner
-abbrev pub StepTells : Scan → Step → Type 0
-StepTells s Nothing = IsReading s ⊎ IsFailed s
-StepTells s (Bad at) = HasBadCount s
-StepTells s Delivered = HasFrame s
+-- what a step reports of the scanner
+abbrev pub StepImplies : Scan → Step → Type 0
+StepImplies s Nothing = IsReading s ⊎ IsFailed s
+StepImplies s (Bad at) = HasBadCount s
+StepImplies s Delivered = HasFrame s
 
--- a piece goes on what was delivered; or the stream is bad at this place, however it goes on
+-- a piece goes on what was delivered; or the stream is bad at this offset, however it goes on
 abbrev pub DeliversOn : ℕ → Scan → Framing → List ℕ → List (Option (List ℕ)) → Option ℕ → Type 0
 DeliversOn most s kind octets out None = HasDelivered most s kind octets out
 DeliversOn most s kind octets out (Some at) =

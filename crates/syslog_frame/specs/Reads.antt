@@ -29,7 +29,7 @@ pub record ReadsOn (most : ℕ) (s : Scan) (kind : Framing) (first : ℕ) (octet
       ((rest ++ take (n + 1) piece) ++ more) (length (octets ++ take n piece))
 
 -- what is ready behind the frames that were released: nothing, so that these are the frames of what
--- was read; one frame more, told as it is or as too long; or a bad count
+-- was read; one frame more, reported as it is or as too long; or a bad count
 abbrev pub IsReadyBehind : ℕ → Framing → ℕ → List ℕ → List (List ℕ) → List ℕ → Option Ready → Type 0
 IsReadyBehind most kind first octets frames rest None =
     Frames kind octets frames rest × Begins (Whole kind) rest

@@ -15,7 +15,7 @@ pub record Scan : Type 0 where
   -- the position of its first octet
   pub start : ℕ
   pub phase : Phase
-  -- the count in front of the record, as far as it was read
+  -- the count before the record, as far as it was read
   pub count : ℕ
   -- how many octets of the record came, and these while they are few enough
   pub size : ℕ

@@ -25,9 +25,9 @@ IsState Lf Counting count size = ⊥
 IsState kind phase count size = Unit {0}
 
 -- what the phase behind a piece says of how much was taken
-abbrev pub IsTaken : Phase → ℕ → List ℕ → ℕ → Type 0
-IsTaken Ended count piece n = Unit {0}
-IsTaken BadCount count piece n = (n < length piece) × IsRefused count (slice_index piece n)
-IsTaken Inside count piece n = n ≡ length piece
-IsTaken Counting count piece n = n ≡ length piece
-IsTaken Failed count piece n = ⊥
+abbrev pub IsProgress : Phase → ℕ → List ℕ → ℕ → Type 0
+IsProgress Ended count piece n = Unit {0}
+IsProgress BadCount count piece n = (n < length piece) × IsRefused count (slice_index piece n)
+IsProgress Inside count piece n = n ≡ length piece
+IsProgress Counting count piece n = n ≡ length piece
+IsProgress Failed count piece n = ⊥

@@ -1,4 +1,4 @@
-//! MSG-LEN, the count in front of a record (RFC 6587, 3.4.1): a digit 1 to 9, further digits, at
+//! MSG-LEN, the count before a record (RFC 6587, 3.4.1): a digit 1 to 9, further digits, at
 //! most ten in all, and a space.
 
 ghost use Rattle.std.specs.Prelude.{◌≡◌, ◌≤◌, ◌+◌, ◌-◌, ◌*◌, ℕ, List, MatchOption};
@@ -18,7 +18,7 @@ pub enum CountStep {
     Broken { count: u64, at: usize },
 }
 
-/// A length in front of octets.
+/// A length before octets.
 #[derive(Clone, Copy, Debug, PartialEq, Eq)]
 pub enum MsgLen {
     /// The count, and the number of octets that its digits and the space take.
@@ -62,7 +62,7 @@ pub fn count_on(start: u64, octets: &[u8]) -> CountStep
     CountStep::Unfinished { count }
 }
 
-/// The MSG-LEN and space in front of octets.
+/// The MSG-LEN and space before octets.
 pub fn msg_len(octets: &[u8]) -> MsgLen
     ensures { IsMsgLen octets.now result }
 {

@@ -55,7 +55,7 @@ pub enum PutFault {
     Memory,
 }
 
-/// Why the frames of a stream are not told.
+/// Why the frames of a stream are not reported.
 #[derive(Clone, Copy, Debug, PartialEq, Eq, Error)]
 pub enum PiecesFault {
     /// The pieces reach past `POSITION_MAX`.

@@ -32,7 +32,7 @@ pub fn frames_go_on()
 {}
 
 /// Nothing follows a bad count: where the stream goes on, it has no further frame and the same bad
-/// place.
+/// offset.
 pub fn bad_counts_end_streams()
     ensures { (kind : Framing) (stream more : List ℕ) (f : List (List ℕ)) (r : List ℕ) (at : ℕ)
         → IsBadAt kind stream f r at → IsBadAt kind (stream ++ more) f (r ++ more) at }

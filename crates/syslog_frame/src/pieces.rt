@@ -6,7 +6,7 @@ ghost use Rattle.std.specs.Prelude.{map, option_map, IfErr, IfOk, IsNone, OnOk};
 ghost use Rattle.std.specs.List.{flat_map};
 ghost use Rattle.syslog_frame.specs.Frames.{Frames, delivered};
 ghost use Rattle.syslog_frame.specs.Pieces.{Delivers, DeliversOn, HasDelivered};
-ghost use Rattle.syslog_frame.specs.Pieces.{IsRead, StepTells, StopsAs};
+ghost use Rattle.syslog_frame.specs.Pieces.{IsRead, StepImplies, StopsAs};
 ghost use Rattle.syslog_frame.specs.Reads.{Reads};
 ghost use Rattle.syslog_frame.specs.Scan.{IsReading};
 ghost use Rattle.syslog_frame.specs.declared.framing.Framing.{Framing};
@@ -32,7 +32,7 @@ pub enum StreamEnd {
 /// The frames of a stream.
 #[derive(Debug, Drop)]
 pub struct StreamFrames {
-    /// The frames in order; nothing in place of one above `FRAME_MAX`.
+    /// The frames in order; nothing in offset of one above `FRAME_MAX`.
     pub frames: Vec<Option<Vec<u8>>>,
     /// How the stream stops behind them.
     pub stop: StreamEnd,
@@ -55,7 +55,7 @@ fn deliver(
     scanner: &Scanner,
     out: &mut Vec<Option<Vec<u8>>>,
 ) -> Result<Step, AllocError>
-    ensures tells { IfOk result (λ step. StepTells scanner.now step) }
+    ensures reports { IfOk result (λ step. StepImplies scanner.now step) }
     ensures delivers { IfOk result (λ step. (kind : Framing) (octets : List ℕ)
         (frames : List (List ℕ)) (rest : List ℕ)
         → Reads FRAME_MAX scanner.now kind 0 octets frames rest
@@ -145,7 +145,7 @@ pub fn frames_of_pieces(
     ensures only { IfOk result (λ s. (others : List (List ℕ)) (rest : List ℕ)
         → Frames framing (flat_map (λ piece. piece.items) pieces.now) others rest
         → map (option_map (λ v. v.items)) s.frames.items ≡ map (delivered FRAME_MAX) others) }
-    // The stream is refused only where it is too long, and otherwise only want of memory is told.
+    // The stream is refused only where it is too long, and otherwise only out of memory is reported.
     ensures too_long { result ≡ Err PiecesFault.StreamTooLong
         → POSITION_MAX < length (flat_map (λ piece. piece.items) pieces.now) }
     ensures fits { IfOk result (λ s.

@@ -5,7 +5,7 @@ ghost use Rattle.std.specs.Prelude.{◌≡◌, ◌≢◌, ◌≤◌, ◌<◌, �
 ghost use Rattle.std.specs.Prelude.{vec_capacity, vec_len};
 ghost use Rattle.syslog_frame.specs.Count.{IsCount};
 ghost use Rattle.syslog_frame.specs.Scan.{Holds, Keeps};
-ghost use Rattle.syslog_frame.specs.State.{IsOpen, IsState, IsTaken};
+ghost use Rattle.syslog_frame.specs.State.{IsOpen, IsState, IsProgress};
 ghost use Rattle.syslog_frame.specs.declared.framing.Framing.TheVariants.{Counted, Lf};
 
 use crate::count::{CountStep, count_on};
@@ -16,12 +16,12 @@ use memchr::memchr;
 
 /// How far a piece brought the frame.
 #[derive(Clone, Copy, Debug)]
-pub struct Taken {
+pub struct Progress {
     /// So many octets of the piece were taken.
     pub used: usize,
     /// Where in the frame the scanner is then.
     pub phase: Phase,
-    /// The count in front of the record, as far as it was read.
+    /// The count before the record, as far as it was read.
     pub count: u64,
     /// So many octets of the record came.
     pub size: u64,
@@ -44,7 +44,7 @@ fn keep(kept: &mut Vec<u8>, size: u64, octets: &[u8])
 }
 
 /// Takes a piece of a line, up to its line feed.
-fn take_line(kept: &mut Vec<u8>, size: u64, piece: &[u8]) -> Taken
+fn take_line(kept: &mut Vec<u8>, size: u64, piece: &[u8]) -> Progress
     requires room { FRAME_MAX ≤ vec_capacity kept.old }
     requires known { size ≤ FRAME_MAX → vec_len kept.old ≡ size }
     requires fits { size + length piece.now < 2 ^ 64 }
@@ -53,7 +53,7 @@ fn take_line(kept: &mut Vec<u8>, size: u64, piece: &[u8]) -> Taken
     ensures within { result.used ≤ length piece.now }
     ensures some { 0 < length piece.now → result.phase ≢ Phase.BadCount → 0 < result.used }
     ensures far { result.size ≤ size + result.used }
-    ensures taken { IsTaken result.phase result.count piece.now result.used }
+    ensures taken { IsProgress result.phase result.count piece.now result.used }
     ensures state { IsState Lf result.phase result.count result.size }
     ensures small { result.count ≤ COUNT_MAX }
     ensures holds { (p : List ℕ) → Holds FRAME_MAX Lf Phase.Inside 0 size kept.old.items p
@@ -63,7 +63,7 @@ fn take_line(kept: &mut Vec<u8>, size: u64, piece: &[u8]) -> Taken
     match memchr(b'\n', piece) {
         Some(at) => {
             keep(kept, size, &piece[..at]);
-            Taken {
+            Progress {
                 used: at + 1,
                 phase: Phase::Ended,
                 count: 0,
@@ -72,7 +72,7 @@ fn take_line(kept: &mut Vec<u8>, size: u64, piece: &[u8]) -> Taken
         }
         None => {
             keep(kept, size, piece);
-            Taken {
+            Progress {
                 used: piece.len(),
                 phase: Phase::Inside,
                 count: 0,
@@ -83,7 +83,7 @@ fn take_line(kept: &mut Vec<u8>, size: u64, piece: &[u8]) -> Taken
 }
 
 /// Takes a piece of a record that was counted, up to its last octet.
-fn take_record(kept: &mut Vec<u8>, count: u64, size: u64, piece: &[u8]) -> Taken
+fn take_record(kept: &mut Vec<u8>, count: u64, size: u64, piece: &[u8]) -> Progress
     requires room { FRAME_MAX ≤ vec_capacity kept.old }
     requires known { size ≤ FRAME_MAX → vec_len kept.old ≡ size }
     requires small { count ≤ COUNT_MAX }
@@ -93,7 +93,7 @@ fn take_record(kept: &mut Vec<u8>, count: u64, size: u64, piece: &[u8]) -> Taken
     ensures within { result.used ≤ length piece.now }
     ensures some { 0 < length piece.now → result.phase ≢ Phase.BadCount → 0 < result.used }
     ensures far { result.size ≤ size + result.used }
-    ensures taken { IsTaken result.phase result.count piece.now result.used }
+    ensures taken { IsProgress result.phase result.count piece.now result.used }
     ensures state { IsState Counted result.phase result.count result.size }
     ensures same { result.count ≡ count }
     ensures holds { (p : List ℕ) → Holds FRAME_MAX Counted Phase.Inside count size kept.old.items p
@@ -103,7 +103,7 @@ fn take_record(kept: &mut Vec<u8>, count: u64, size: u64, piece: &[u8]) -> Taken
     let left = count - size;
     if (piece.len() as u64) < left {
         keep(kept, size, piece);
-        return Taken {
+        return Progress {
             used: piece.len(),
             phase: Phase::Inside,
             count,
@@ -112,7 +112,7 @@ fn take_record(kept: &mut Vec<u8>, count: u64, size: u64, piece: &[u8]) -> Taken
     }
     let used = left as usize;
     keep(kept, size, &piece[..used]);
-    Taken {
+    Progress {
         used,
         phase: Phase::Ended,
         count,
@@ -121,7 +121,7 @@ fn take_record(kept: &mut Vec<u8>, count: u64, size: u64, piece: &[u8]) -> Taken
 }
 
 /// Takes a piece that begins in a count.
-fn take_count(kept: &mut Vec<u8>, count: u64, piece: &[u8]) -> Taken
+fn take_count(kept: &mut Vec<u8>, count: u64, piece: &[u8]) -> Progress
     requires room { FRAME_MAX ≤ vec_capacity kept.old }
     requires empty { vec_len kept.old ≡ 0 }
     requires small { count ≤ COUNT_MAX }
@@ -130,7 +130,7 @@ fn take_count(kept: &mut Vec<u8>, count: u64, piece: &[u8]) -> Taken
     ensures within { result.used ≤ length piece.now }
     ensures some { 0 < length piece.now → result.phase ≢ Phase.BadCount → 0 < result.used }
     ensures far { result.size ≤ result.used }
-    ensures taken { IsTaken result.phase result.count piece.now result.used }
+    ensures taken { IsProgress result.phase result.count piece.now result.used }
     ensures state { IsState Counted result.phase result.count result.size }
     ensures small { result.count ≤ COUNT_MAX }
     ensures holds { (p : List ℕ) → IsCount count p
@@ -138,13 +138,13 @@ fn take_count(kept: &mut Vec<u8>, count: u64, piece: &[u8]) -> Taken
         (p ++ take result.used piece.now) }
 {
     match count_on(count, piece) {
-        CountStep::Unfinished { count } => Taken {
+        CountStep::Unfinished { count } => Progress {
             used: piece.len(),
             phase: Phase::Counting,
             count,
             size: 0,
         },
-        CountStep::Broken { count, at } => Taken {
+        CountStep::Broken { count, at } => Progress {
             used: at,
             phase: Phase::BadCount,
             count,
@@ -152,7 +152,7 @@ fn take_count(kept: &mut Vec<u8>, count: u64, piece: &[u8]) -> Taken
         },
         CountStep::Read { count, used } => {
             let record = take_record(kept, count, 0, &piece[used..]);
-            Taken {
+            Progress {
                 used: used + record.used,
                 phase: record.phase,
                 count,
@@ -170,7 +170,7 @@ pub fn take_piece(
     count: u64,
     size: u64,
     piece: &[u8],
-) -> Taken
+) -> Progress
     requires room { FRAME_MAX ≤ vec_capacity kept.old }
     requires known { size ≤ FRAME_MAX → vec_len kept.old ≡ size }
     requires small { count ≤ COUNT_MAX }
@@ -184,7 +184,7 @@ pub fn take_piece(
     ensures far { result.size ≤ size + result.used }
     ensures state { IsState framing result.phase result.count result.size }
     ensures small { result.count ≤ COUNT_MAX }
-    ensures taken { IsTaken result.phase result.count piece.now result.used }
+    ensures taken { IsProgress result.phase result.count piece.now result.used }
     ensures holds { (p : List ℕ) → Holds FRAME_MAX framing phase count size kept.old.items p
         → Holds FRAME_MAX framing result.phase result.count result.size kept.new.items
         (p ++ take result.used piece.now) }

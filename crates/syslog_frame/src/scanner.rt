@@ -3,7 +3,7 @@
 ghost use Rattle.std.specs.Prelude.{◌≡◌, ◌≤◌, ◌<◌, ◌+◌, ◌++◌, ◌∷◌, ◌↔◌, ℕ, List, [], length, take};
 ghost use Rattle.std.specs.Prelude.{IfOk, OnErr, OnOk, IsTrue, false};
 ghost use Rattle.syslog_frame.specs.Frames.{Frame, Whole};
-ghost use Rattle.syslog_frame.specs.Ready.{IsEnd, IsReady, TellsOf};
+ghost use Rattle.syslog_frame.specs.Ready.{IsEnd, IsReady, ImpliedOf};
 ghost use Rattle.syslog_frame.specs.Reads.{IsReadyBehind, Reads, ReadsOn, StopsBehind};
 ghost use Rattle.syslog_frame.specs.Scan.{HasBadCount, HasFrame, HasReady};
 ghost use Rattle.syslog_frame.specs.Scan.{IsFailed, IsReading, Stands};
@@ -150,7 +150,7 @@ impl Scanner {
 
     /// What is ready: a frame once its last octet was taken, or a bad count.
     pub fn ready(&self) -> Option<Ready<'_>>
-        ensures tells { TellsOf self.now result }
+        ensures reports { ImpliedOf self.now result }
         ensures stands { (kind : Framing) (position : ℕ) (p : List ℕ)
             → Stands FRAME_MAX self.now kind position p
             → IsReady FRAME_MAX self.now kind position p result }

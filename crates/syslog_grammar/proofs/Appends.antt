@@ -21,9 +21,9 @@ adds_nothing A old a = ([], a, sym (append-nil old))
 pub adds_is : (A : Language) (old new text : List ℕ) → A text → new ≡ old ++ text → Adds A old new
 adds_is A old new text a e = (text, a, e)
 
--- what stood there stands in front
-pub adds_front : (A : Language) (old new : List ℕ) → Adds A old new → take (length old) new ≡ old
-adds_front A old new (x, a, e) = ap (take (length old)) e ∙ take_at old x (length old) refl
+-- what stood there comes first
+pub adds_prefix : (A : Language) (old new : List ℕ) → Adds A old new → take (length old) new ≡ old
+adds_prefix A old new (x, a, e) = ap (take (length old)) e ∙ take_at old x (length old) refl
 
 -- a step that failed, and the last step
 pub puts_then : {X E : Type 0} (A B : Language) (old mid new : List ℕ) (r : Result X E) → Adds A old mid → Puts B mid new r → Puts (A ⋅ B) old new r
@@ -44,13 +44,13 @@ only_puts a b old mid new (Ok x) h k = only_then a b old mid new h k
 only_puts a b old mid new (Err e) h k = adds_some (Only a) Anything old mid new h k
 
 -- one more item of a list
-pub item_more : {X : Type 0} (f : X → List ℕ) (xs : List X) (i : ℕ) (x : X) (front old mid new : List ℕ) → i < length xs → x ≡ get_or xs i x
-    → Adds (Only (front ++ flat_map f (take i xs))) old mid → Adds (Only (f x)) mid new → Adds (Only (front ++ flat_map f (take (i + 1) xs))) old new
-item_more {X = X} f xs i x front old mid new within is h k =
-    let both = only_then (front ++ flat_map f (take i xs)) (f x) old mid new h k in
-    let more : front ++ flat_map f (take i xs) ++ f x ≡ front ++ flat_map f (take (i + 1) xs) =
-    flat_map_more f front (take i xs) x ∙ ap (λ (ys : List X). front ++ flat_map f ys) (ap (λ (y : X). take i xs ++ y ∷ []) is ∙ sym (take_more xs i x within)) in
-    adds_as (Only (front ++ flat_map f (take i xs) ++ f x)) (Only (front ++ flat_map f (take (i + 1) xs))) old new (λ s e. e ∙ more) both
+pub item_more : {X : Type 0} (f : X → List ℕ) (xs : List X) (i : ℕ) (x : X) (prefix old mid new : List ℕ) → i < length xs → x ≡ get_or xs i x
+    → Adds (Only (prefix ++ flat_map f (take i xs))) old mid → Adds (Only (f x)) mid new → Adds (Only (prefix ++ flat_map f (take (i + 1) xs))) old new
+item_more {X = X} f xs i x prefix old mid new within is h k =
+    let both = only_then (prefix ++ flat_map f (take i xs)) (f x) old mid new h k in
+    let more : prefix ++ flat_map f (take i xs) ++ f x ≡ prefix ++ flat_map f (take (i + 1) xs) =
+    flat_map_more f prefix (take i xs) x ∙ ap (λ (ys : List X). prefix ++ flat_map f ys) (ap (λ (y : X). take i xs ++ y ∷ []) is ∙ sym (take_more xs i x within)) in
+    adds_as (Only (prefix ++ flat_map f (take i xs) ++ f x)) (Only (prefix ++ flat_map f (take (i + 1) xs))) old new (λ s e. e ∙ more) both
 
 -- ---- a step that failed
 
@@ -59,12 +59,12 @@ puts_failed A B old mid new (Ok x) err a b = absurd cc
 puts_failed A B old mid new (Err e) err a b = adds_some A Anything old mid new a b
 
 -- all items of a list, and what ends them
-pub items_end : {X Y E : Type 0} (f : X → List ℕ) (xs : List X) (i : ℕ) (front end old mid new : List ℕ) (r : Result Y E) → length xs ≤ i
-    → Adds (Only (front ++ flat_map f (take i xs))) old mid → Puts (Only end) mid new r → Puts (Only (front ++ flat_map f xs ++ end)) old new r
-items_end f xs i front end old mid new r all h k =
-    only_puts (front ++ flat_map f xs) end old mid new r (rw (take_all i xs all) at h) k
+pub items_end : {X Y E : Type 0} (f : X → List ℕ) (xs : List X) (i : ℕ) (prefix end old mid new : List ℕ) (r : Result Y E) → length xs ≤ i
+    → Adds (Only (prefix ++ flat_map f (take i xs))) old mid → Puts (Only end) mid new r → Puts (Only (prefix ++ flat_map f xs ++ end)) old new r
+items_end f xs i prefix end old mid new r all h k =
+    only_puts (prefix ++ flat_map f xs) end old mid new r (rw (take_all i xs all) at h) k
 
--- whatever the outcome, the old octets stand in front
+-- whatever the outcome, the old octets come first
 pub puts_begun : {X E : Type 0} (A : Language) (old new : List ℕ) (r : Result X E) → Puts A old new r → Adds Anything old new
 puts_begun A old new (Ok x) (text, a, e) = (text, tt, e)
 puts_begun A old new (Err e) a = a

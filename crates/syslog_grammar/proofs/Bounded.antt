@@ -11,12 +11,12 @@ use Rattle.std.proofs.lemmas.List.Sorted.{sum_by-IsPermutation}
 use Rattle.octet_language.specs.Language.{Only, ◌⋅◌, Each}
 use Rattle.syslog_value.specs.declared.civil.Civil.{Civil}
 use Rattle.syslog_value.specs.Parts.{ParamParts, ElementParts, MessageParts, AnyOctets, Utf8Text, Parts}
-use Rattle.syslog_grammar.specs.Canonical.{civil_text, TimeForm, front_form, word_form, needs_escape, escaped, param_form, element_form, data_form, tail_form, SpacedWord, HeaderForm, Canonical}
-use Rattle.syslog_grammar.specs.Grammar.{HeaderParts, Header, header_of, Priority, Nilable, Word, Spaced, Version, Param, Element, Data, Message, Tail}
+use Rattle.syslog_grammar.specs.Canonical.{civil_text, TimeForm, priority_version_form, word_form, needs_escape, escaped, param_form, element_form, structured_data_form, message_form, SpacedWord, HeaderForm, Canonical}
+use Rattle.syslog_grammar.specs.Grammar.{HeaderParts, Header, header_of, Priority, Nilable, Word, Spaced, Version, Param, Element, StructuredDataText, Message, MessagePart}
 use Rattle.syslog_grammar.specs.Time.{CivilTime, TimeText, ZoneText, FractionText, instant, padded}
 use Rattle.syslog_grammar.specs.Values.{Piece, Spells}
 use Rattle.syslog_grammar.specs.WellFormed.{WellFormed, IsMeaning}
-use Rattle.syslog_grammar.proofs.CanonicalSpelled.{bare, special}
+use Rattle.syslog_grammar.proofs.CanonicalParses.{bare, special}
 use Rattle.syslog_grammar.proofs.OneMeaning.{fixed}
 use Rattle.syslog_grammar.proofs.Unescaped.{plain_bare}
 
@@ -70,10 +70,10 @@ elements_bound : (es : List ElementParts) (b : List ℕ) → Each Element es b �
 elements_bound [] b h = omega arith
 elements_bound (e ∷ es) b (x, y, f, h, k) = omega (arith, together x y b f, element_bound e x h, elements_bound es y k, sum_by-cons (λ d. length (element_form d)) e es)
 
-data_len : (e : ElementParts) (es : List ElementParts) → len (data_form (e ∷ es)) ≡ sum_by (λ d. length (element_form d)) (e ∷ es)
+data_len : (e : ElementParts) (es : List ElementParts) → len (structured_data_form (e ∷ es)) ≡ sum_by (λ d. length (element_form d)) (e ∷ es)
 data_len e es = length-flat_map element_form (e ∷ es)
 
-data_bound : (es fs : List ElementParts) (b : List ℕ) → Data es b → IsPermutation es fs → len (data_form fs) ≤ 2 * len b
+data_bound : (es fs : List ElementParts) (b : List ℕ) → StructuredDataText es b → IsPermutation es fs → len (structured_data_form fs) ≤ 2 * len b
 data_bound [] [] b h p = omega (arith, ap length h)
 data_bound (e ∷ es) [] b (x, y, f, h, k) p = omega (arith, together x y b f, element_bound e x h, element_len e)
 data_bound [] (f ∷ fs) b h p = omega (arith, data_len f fs, sum_by-IsPermutation (λ d. length (element_form d)) [] (f ∷ fs) p)
@@ -112,14 +112,14 @@ word_len n (Some w) b h = h.1
 word_bound : (n : ℕ) (w : Option (List ℕ)) (b c : List ℕ) → Spaced (Nilable (Word n) w) b → SpacedWord w c → len c ≡ len b
 word_bound n w b c (x, y, e, h, k) (u, v, f, i, j) = omega (arith, together x y b e, together u v c f, ap length k, ap length j, ap length (word_len n w x h), ap length i)
 
-front_bound : (p : ℕ) (x y : List ℕ) → Priority p x → Spaced Version y → len (front_form p) ≡ len x + len y
-front_bound p x y (a, c, e, h, (d, f, g, (most, i), j)) (u, v, k, l, m) =
+prefix_bound : (p : ℕ) (x y : List ℕ) → Priority p x → Spaced Version y → len (priority_version_form p) ≡ len x + len y
+prefix_bound p x y (a, c, e, h, (d, f, g, (most, i), j)) (u, v, k, l, m) =
     omega (arith, together a c x e, together d f c g, together u v y k, ap length h, ap length i, ap length j, ap length l, ap length m, length-append (decimal p) (62 ∷ 49 ∷ 32 ∷ []))
 
 header_bound : (h : HeaderParts) (b c : List ℕ) → Header h b → HeaderForm h.priority (option_map instant h.time) h.hostname h.app_name h.proc_id h.msg_id c → len c ≤ len b + 7
 unfolding Header HeaderForm
 header_bound h b c (x0, y0, e0, h0, (x1, y1, e1, h1, (x2, y2, e2, h2, (x3, y3, e3, h3, (x4, y4, e4, h4, (x5, y5, e5, h5, h6)))))) (u0, v0, f0, g0, (u2, v2, f2, g2, (u3, v3, f3, g3, (u4, v4, f4, g4, (u5, v5, f5, g5, g6))))) =
-    let front = front_bound h.priority x0 x1 h0 h1 in
+    let prefix = prefix_bound h.priority x0 x1 h0 h1 in
     let time = spaced_time h.time x2 u2 h2 g2 in
     let hostname = word_bound 255 h.hostname x3 u3 h3 g3 in
     let app_name = word_bound 48 h.app_name x4 u4 h4 g4 in
@@ -143,13 +143,13 @@ header_bound h b c (x0, y0, e0, h0, (x1, y1, e1, h1, (x2, y2, e2, h2, (x3, y3, e
 
 -- ---- the message
 
-message_bound : (m : MessageParts) (b : List ℕ) → Message m b → len (tail_form m) ≤ len b + 1
+message_bound : (m : MessageParts) (b : List ℕ) → Message m b → len (message_form m) ≤ len b + 1
 message_bound (AnyOctets []) b h = omega arith
 message_bound (AnyOctets (x ∷ octets)) b h = omega (arith, ap length h.2)
 message_bound (Utf8Text text) b (t, (x, y, e, h, k)) = omega (arith, together x y b e, ap length h, ap length k)
 
-tail_bound : (m : MessageParts) (b : List ℕ) → Tail m b → len (tail_form m) ≤ len b
-tail_bound m b (inl (e, f)) = omega (arith, ap (λ (n : MessageParts). len (tail_form n)) e)
+tail_bound : (m : MessageParts) (b : List ℕ) → MessagePart m b → len (message_form m) ≤ len b
+tail_bound m b (inl (e, f)) = omega (arith, ap (λ (n : MessageParts). len (message_form n)) e)
 tail_bound m b (inr (x, y, e, h, k)) = omega (arith, together x y b e, ap length h, message_bound m y k)
 
 -- ---- the whole
@@ -165,4 +165,4 @@ canonical_bounded r b c n (p, (x, y, e, h, (d, t, f, k, l)), in_range, distinct,
     let header = header_bound (header_of p) x u h (form_meant p r u m i) in
     let elements = data_bound p.elements r.elements d k m.elements in
     let message = tail_bound p.message t l in
-    omega (arith, together x y b e, together d t y f, together u v c g, together w z v j, ap length o, ap length q, ap (λ (a : MessageParts). len (tail_form a)) m.message)
+    omega (arith, together x y b e, together d t y f, together u v c g, together w z v j, ap length o, ap length q, ap (λ (a : MessageParts). len (message_form a)) m.message)

@@ -85,11 +85,11 @@ member_holds P [] e h k = absurd k
 member_holds P (f ∷ es) e h (inl k) = subst P (sym k) h.0
 member_holds P (f ∷ es) e h (inr k) = member_holds P es e h.1 k
 
-not_front : (f g : ElementParts) (gs es : List ElementParts) → f ≡ g → AllByRecursion (λ e. OctetsBelow f.id e.id) es → AllByRecursion (Member (g ∷ gs)) es → AllByRecursion (Member gs) es
-not_front f g gs [] same above h = tt
-not_front f g gs (e ∷ es) same above ((inl k), h) =
+not_prefix : (f g : ElementParts) (gs es : List ElementParts) → f ≡ g → AllByRecursion (λ e. OctetsBelow f.id e.id) es → AllByRecursion (Member (g ∷ gs)) es → AllByRecursion (Member gs) es
+not_prefix f g gs [] same above h = tt
+not_prefix f g gs (e ∷ es) same above ((inl k), h) =
     absurd (below_itself e.id (subst (λ (x : ElementParts). OctetsBelow x.id e.id) (same ∙ sym k) above.0))
-not_front f g gs (e ∷ es) same above ((inr k), h) = (k, not_front f g gs es same above.1 h)
+not_prefix f g gs (e ∷ es) same above ((inr k), h) = (k, not_prefix f g gs es same above.1 h)
 
 same_members : (fs gs : List ElementParts) → IsById fs → IsById gs → AllByRecursion (Member gs) fs → AllByRecursion (Member fs) gs → fs ≡ gs
 same_members [] [] a b h k = refl
@@ -105,7 +105,7 @@ same_members (f ∷ fs) (g ∷ gs) a b h k =
       ]
     ] in
     ap (λ (e : ElementParts). e ∷ fs) first
-    ∙ ap (λ (es : List ElementParts). g ∷ es) (same_members fs gs a.1 b.1 (not_front f g gs fs first a.0 h.1) (not_front g f fs gs (sym first) b.0 k.1))
+    ∙ ap (λ (es : List ElementParts). g ∷ es) (same_members fs gs a.1 b.1 (not_prefix f g gs fs first a.0 h.1) (not_prefix g f fs gs (sym first) b.0 k.1))
 
 -- two orders of one list are one
 pub one_order : (es fs gs : List ElementParts) → IsPermutation es fs → IsPermutation es gs → IsById fs → IsById gs → fs ≡ gs

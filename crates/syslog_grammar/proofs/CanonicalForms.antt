@@ -6,43 +6,43 @@ use Rattle.std.proofs.lemmas.List.Sorted.{IsPermutation-refl}
 use Rattle.std.proofs.Math.Seq.{drop-append_seam}
 use Rattle.octet_language.specs.Language.{Language, ◌⋅◌, AnyOf}
 use Rattle.octet_language.specs.Reading.{Follows}
-use Rattle.octet_language.proofs.Sequence.{OneFront-then}
+use Rattle.octet_language.proofs.Sequence.{IsPrefixFree-then}
 use Rattle.syslog_value.specs.Parts.{ElementParts, Parts, IsById, IsInstant, IsRecord}
-use Rattle.syslog_grammar.specs.Canonical.{front_form, data_form, tail_form, SpacedWord, HeaderForm, Canonical}
+use Rattle.syslog_grammar.specs.Canonical.{priority_version_form, structured_data_form, message_form, SpacedWord, HeaderForm, Canonical}
 use Rattle.syslog_grammar.specs.Dates.{time_of}
 use Rattle.syslog_grammar.specs.Fields.{header_parts, TimeStands}
-use Rattle.syslog_grammar.specs.Grammar.{HeaderParts, Header, Priority, Version, Spaced, Nilable, Word, Data, Tail}
+use Rattle.syslog_grammar.specs.Grammar.{HeaderParts, Header, Priority, Version, Spaced, Nilable, Word, StructuredDataText, MessagePart}
 use Rattle.syslog_grammar.specs.Instants.{IsOutOfRange}
-use Rattle.syslog_grammar.specs.Spellings.{IsSpelling, IsSyntaxFault}
+use Rattle.syslog_grammar.specs.Parsing.{IsParsed, IsSyntaxFault}
 use Rattle.syslog_grammar.specs.Time.{TimeText, instant}
 use Rattle.syslog_grammar.specs.Views.{message_parts}
 use Rattle.syslog_grammar.specs.WellFormed.{WellFormed}
 use Rattle.syslog_grammar.specs.declared.fault.Fault.{Fault}
 use Rattle.syslog_grammar.specs.declared.fault.Fault.TheVariants.{InstantRange}
-use Rattle.syslog_grammar.specs.declared.syntax.Spelling.{Spelling}
+use Rattle.syslog_grammar.specs.declared.syntax.Parsed.{Parsed}
 use Rattle.syslog_grammar.specs.declared.timestamp.Timestamp.{Timestamp}
 use Rattle.syslog_grammar.proofs.ById.{distinct_by_id}
 use Rattle.syslog_grammar.proofs.Bounded.{word_len}
-use Rattle.syslog_grammar.proofs.CanonicalSpelled.{named, header_spelled, data_spelled, tail_spelled, canonical_well_formed}
+use Rattle.syslog_grammar.proofs.CanonicalParses.{named, header_parsed, data_parsed, tail_parsed, canonical_well_formed}
 use Rattle.syslog_grammar.proofs.Excluded.{no_record, no_syntax}
-use Rattle.syslog_grammar.proofs.Fractions.{OneFront-nilable_time}
-use Rattle.syslog_grammar.proofs.Headers.{OneFront-header}
+use Rattle.syslog_grammar.proofs.Fractions.{IsPrefixFree-nilable_time}
+use Rattle.syslog_grammar.proofs.Headers.{IsPrefixFree-header}
 use Rattle.syslog_grammar.proofs.Laws.{header_same}
-use Rattle.syslog_grammar.proofs.Numbers.{OneFront-priority, OneFront-version}
-use Rattle.syslog_grammar.proofs.OneMeaning.{by_front, data_same, tail_same, tail_front}
+use Rattle.syslog_grammar.proofs.Numbers.{IsPrefixFree-priority, IsPrefixFree-version}
+use Rattle.syslog_grammar.proofs.OneMeaning.{by_prefix, data_same, tail_same, tail_prefix}
 use Rattle.syslog_grammar.proofs.TimeForms.{TimeSpace, Begins, any_time}
 use Rattle.syslog_grammar.proofs.Valid.{well_formed_valid}
-use Rattle.syslog_grammar.proofs.Viewing.{parts_of, spelled_by, in_range_by, out_of_range}
+use Rattle.syslog_grammar.proofs.Viewing.{parts_of, parsed_by, in_range_by, out_of_range}
 
 -- ---- the time in a header
 
-abbrev Front : Language
-Front = AnyOf Priority ⋅ Spaced Version
+abbrev Prefix : Language
+Prefix = AnyOf Priority ⋅ Spaced Version
 
-OneFront-front : (p s q t : List ℕ) → Front p → Front q → p ++ s ≡ q ++ t → p ≡ q
-OneFront-front = OneFront-then (AnyOf Priority) (Spaced Version) OneFront-priority OneFront-version
+IsPrefixFree-prefix : (p s q t : List ℕ) → Prefix p → Prefix q → p ++ s ≡ q ++ t → p ≡ q
+IsPrefixFree-prefix = IsPrefixFree-then (AnyOf Priority) (Spaced Version) IsPrefixFree-priority IsPrefixFree-version
 
--- the header of these fields with an instant in the place of the time
+-- the header of these fields with an instant in the offset of the time
 abbrev FormOf : HeaderParts → Language
 FormOf h = HeaderForm h.priority (option_map instant h.time) h.hostname h.app_name h.proc_id h.msg_id
 
@@ -51,43 +51,43 @@ record TimeAt (h : HeaderParts) (header rest from : List ℕ) : Type 0 where
   pub time : List ℕ
   pub others : List ℕ
   pub parts : from ≡ time ++ (others ++ rest)
-  pub spelled : Spaced (Nilable TimeText h.time) time
+  pub parse : Spaced (Nilable TimeText h.time) time
   pub formed : TimeSpace (option_map instant h.time) time → FormOf h header
 
 pub word_formed : (n : ℕ) (w : Option (List ℕ)) (b : List ℕ) → Spaced (Nilable (Word n) w) b → SpacedWord w b
 word_formed n w b (x, y, e, h, k) = (x, y, e, word_len n w x h, k)
 
-front_formed : (p : ℕ) (x y : List ℕ) → Priority p x → Spaced Version y → x ++ y ≡ front_form p
-front_formed p x y (a, c, e, h, (d, f, g, (most, i), j)) (u, v, k, l, m) =
+prefix_formed : (p : ℕ) (x y : List ℕ) → Priority p x → Spaced Version y → x ++ y ≡ priority_version_form p
+prefix_formed p x y (a, c, e, h, (d, f, g, (most, i), j)) (u, v, k, l, m) =
     let first : x ≡ 60 ∷ (decimal p ++ 62 ∷ []) = e ∙ rw (h, g, i, j) refl in
     let second : y ≡ 49 ∷ 32 ∷ [] = k ∙ rw (l, m) refl in
     rw (first, second) (ap (λ (s : List ℕ). 60 ∷ s) (append_assoc (decimal p) (62 ∷ []) (49 ∷ 32 ∷ [])))
 
-time_at : (h : HeaderParts) (header rest from b : List ℕ) → Header h header → b ≡ header ++ rest → Follows Front b from → TimeAt h header rest from
+time_at : (h : HeaderParts) (header rest from b : List ℕ) → Header h header → b ≡ header ++ rest → Follows Prefix b from → TimeAt h header rest from
 unfolding Header HeaderForm
 time_at h header rest from b (x0, y0, e0, h0, (x1, y1, e1, h1, (x2, y2, e2, h2, (x3, y3, e3, h3, (x4, y4, e4, h4, (x5, y5, e5, h5, h6)))))) e (t, f, k) =
     let inner : header ≡ (x0 ++ x1) ++ (x2 ++ y2) = e0 ∙ ap (λ (s : List ℕ). x0 ++ s) (e1 ∙ ap (λ (s : List ℕ). x1 ++ s) e2) ∙ sym (append_assoc x0 x1 (x2 ++ y2)) in
     let whole : b ≡ (x0 ++ x1) ++ (x2 ++ (y2 ++ rest)) =
     e ∙ ap (λ (s : List ℕ). s ++ rest) inner ∙ append_assoc (x0 ++ x1) (x2 ++ y2) rest ∙ ap (λ (s : List ℕ). (x0 ++ x1) ++ s) (append_assoc x2 y2 rest) in
-    let both = by_front Front t from (x0 ++ x1) (x2 ++ (y2 ++ rest)) OneFront-front k (x0, x1, refl, (h.priority, h0), h1) (sym f ∙ whole) in
+    let both = by_prefix Prefix t from (x0 ++ x1) (x2 ++ (y2 ++ rest)) IsPrefixFree-prefix k (x0, x1, refl, (h.priority, h0), h1) (sym f ∙ whole) in
     record {
       time = x2;
       others = y2;
       parts = both.1;
-      spelled = h2;
+      parse = h2;
       formed = λ form. (
         x0 ++ x1,
         x2 ++ y2,
         inner,
-        front_formed h.priority x0 x1 h0 h1,
+        prefix_formed h.priority x0 x1 h0 h1,
         (x2, y2, refl, form, (x3, y3, e3, word_formed 255 h.hostname x3 h3, (x4, y4, e4, word_formed 48 h.app_name x4 h4, (x5, y5, e5, word_formed 128 h.proc_id x5 h5, word_formed 32 h.msg_id y5 h6)))),
       );
     }
 
 -- what is behind PRI and VERSION, by its length
-pub stands_at : (b from : List ℕ) (left : ℕ) (t : TimeStands b left) → from ≡ drop (length b - left) b → from ≡ t.0
-stands_at b from left (rest, (t, e, h), n) f =
-    let count : length b - left ≡ length t = omega (arith, ap length e, length-append t rest, n) in
+pub stands_at : (b from : List ℕ) (remaining : ℕ) (t : TimeStands b remaining) → from ≡ drop (length b - remaining) b → from ≡ t.0
+stands_at b from remaining (rest, (t, e, h), n) f =
+    let count : length b - remaining ≡ length t = omega (arith, ap length e, length-append t rest, n) in
     f ∙ ap (λ (k : ℕ). drop k b) count ∙ ap (drop (length t)) e ∙ drop-append_seam t rest
 
 -- ---- a spelling in its form
@@ -97,47 +97,47 @@ instant_same None = refl
 instant_same (Some t) = refl
 
 -- the instant, what stands at the time, the structured data and the tail
-pub record InForm (b : List ℕ) (s : Spelling) (k : IsSpelling b s) : Type 0 where
+pub record InForm (b : List ℕ) (s : Parsed) (k : IsParsed b s) : Type 0 where
   pub range : IfSome (option_map (λ t. instant (time_of t)) s.fields.time) IsInstant
   pub time : Begins (TimeSpace (option_map (λ t. instant (time_of t)) s.fields.time)) k.time.0
-  pub elements : (s.«data».now ≡ data_form k.elements.0) × IsById k.elements.0
-  pub tail : k.end ≡ tail_form (message_parts s.message)
+  pub elements : (s.«structured_data».now ≡ structured_data_form k.elements.0) × IsById k.elements.0
+  pub message_part : k.end ≡ message_form (message_parts s.message)
 
-pub time_given : (b : List ℕ) (s : Spelling) (k : IsSpelling b s) → Begins (Spaced (Nilable TimeText (option_map time_of s.fields.time))) k.time.0
+pub time_given : (b : List ℕ) (s : Parsed) (k : IsParsed b s) → Begins (Spaced (Nilable TimeText (option_map time_of s.fields.time))) k.time.0
 time_given b s k =
     let t = time_at (header_parts s.fields) k.fields.0 k.rest k.time.0 b k.fields.2 k.fields.1 k.time.1 in
-    (t.others ++ k.rest, (t.time, t.parts, t.spelled))
+    (t.others ++ k.rest, (t.time, t.parts, t.parse))
 
 -- the record of the spelling
-abbrev record_of : (b : List ℕ) (s : Spelling) → IsSpelling b s → Parts ℤ
+abbrev record_of : (b : List ℕ) (s : Parsed) → IsParsed b s → Parts ℤ
 record_of b s k =
     let h = header_parts s.fields in
     record { priority = h.priority; time = option_map instant h.time; hostname = h.hostname; app_name = h.app_name; proc_id = h.proc_id; msg_id = h.msg_id; elements = k.elements.0; message = message_parts s.message }
 
-is_well_formed : (b : List ℕ) (s : Spelling) (k : IsSpelling b s) → InForm b s k → WellFormed (record_of b s k) b
+is_well_formed : (b : List ℕ) (s : Parsed) (k : IsParsed b s) → InForm b s k → WellFormed (record_of b s k) b
 is_well_formed b s k f = (
   parts_of s k.elements.0,
-  spelled_by b s k.elements.0 k k.elements.1,
+  parsed_by b s k.elements.0 k k.elements.1,
   in_range_by s.fields.time (option_map (λ t. instant (time_of t)) s.fields.time) refl f.range,
   distinct_by_id k.elements.0 f.elements.1,
   record { priority = refl; time = refl; hostname = refl; app_name = refl; proc_id = refl; msg_id = refl; elements = IsPermutation-refl k.elements.0; by_id = f.elements.1; message = refl },
 )
 
-is_canonical : (b : List ℕ) (s : Spelling) (k : IsSpelling b s) → InForm b s k → Canonical (record_of b s k) b
+is_canonical : (b : List ℕ) (s : Parsed) (k : IsParsed b s) → InForm b s k → Canonical (record_of b s k) b
 is_canonical b s k f =
     let h = header_parts s.fields in
     let t = time_at h k.fields.0 k.rest k.time.0 b k.fields.2 k.fields.1 k.time.1 in
     let form : TimeSpace (option_map instant h.time) f.time.1.0 = subst (λ (i : Option ℤ). TimeSpace i f.time.1.0) (instant_same s.fields.time) f.time.1.2 in
-    let same : t.time ≡ f.time.1.0 = OneFront-nilable_time t.time (t.others ++ k.rest) f.time.1.0 f.time.0 (h.time, t.spelled) (any_time (option_map instant h.time) f.time.1.0 form) (sym t.parts ∙ f.time.1.1) in
-    (k.fields.0, k.rest, k.fields.1, t.formed (subst (TimeSpace (option_map instant h.time)) (sym same) form), (s.«data».now, k.end, k.parts, f.elements.0, f.tail))
+    let same : t.time ≡ f.time.1.0 = IsPrefixFree-nilable_time t.time (t.others ++ k.rest) f.time.1.0 f.time.0 (h.time, t.parse) (any_time (option_map instant h.time) f.time.1.0 form) (sym t.parts ∙ f.time.1.1) in
+    (k.fields.0, k.rest, k.fields.1, t.formed (subst (TimeSpace (option_map instant h.time)) (sym same) form), (s.«structured_data».now, k.end, k.parts, f.elements.0, f.message_part))
 
-pub in_form : (b : List ℕ) (s : Spelling) (k : IsSpelling b s) → InForm b s k → (r : Parts ℤ) × IsRecord r × Canonical r b
+pub in_form : (b : List ℕ) (s : Parsed) (k : IsParsed b s) → InForm b s k → (r : Parts ℤ) × IsRecord r × Canonical r b
 in_form b s k f = (record_of b s k, well_formed_valid (record_of b s k) b (is_well_formed b s k f), is_canonical b s k f)
 
 -- ---- a canonical text as it is read
 
-priority_front : (p : ℕ) → p ≤ 191 → Front (front_form p)
-priority_front p most = (
+priority_prefix : (p : ℕ) → p ≤ 191 → Prefix (priority_version_form p)
+priority_prefix p most = (
   60 ∷ (decimal p ++ 62 ∷ []),
   49 ∷ 32 ∷ [],
   ap (λ (s : List ℕ). 60 ∷ s) (sym (append_assoc (decimal p) (62 ∷ []) (49 ∷ 32 ∷ []))),
@@ -148,30 +148,30 @@ priority_front p most = (
 range_same : (i j : Option ℤ) → i ≡ j → IfSome i IsInstant → IfSome j IsInstant
 range_same i j e h = subst (λ (o : Option ℤ). IfSome o IsInstant) e h
 
-pub of_canonical : (b : List ℕ) (s : Spelling) (k : IsSpelling b s) (r : Parts ℤ) → IsRecord r → Canonical r b → InForm b s k
+pub of_canonical : (b : List ℕ) (s : Parsed) (k : IsParsed b s) (r : Parts ℤ) → IsRecord r → Canonical r b → InForm b s k
 unfolding HeaderForm
-of_canonical b s k r valid (x, y, e, (front, behind, f, g, (spaced, words, i, (time, space, j, l, m), n)), (d, t, o, p, q)) =
+of_canonical b s k r valid (x, y, e, (prefix, behind, f, g, (spaced, words, i, (time, space, j, l, m), n)), (d, t, o, p, q)) =
     let h = header_parts s.fields in
     let name = named r.time time l in
     let parts : HeaderParts = record { priority = r.priority; time = name.time; hostname = r.hostname; app_name = r.app_name; proc_id = r.proc_id; msg_id = r.msg_id } in
     let header : Header parts x =
-    header_spelled r name.time time words x valid name.text (f ∙ ap (λ (u : List ℕ). u ++ behind) g ∙ ap (λ (u : List ℕ). front_form r.priority ++ u) (i ∙ ap (λ (u : List ℕ). u ++ words) (j ∙ ap (λ (u : List ℕ). time ++ u) m))) n in
-    let headers = by_front (AnyOf Header) x y k.fields.0 k.rest OneFront-header (parts, header) (h, k.fields.2) (sym e ∙ k.fields.1) in
+    header_parsed r name.time time words x valid name.text (f ∙ ap (λ (u : List ℕ). u ++ behind) g ∙ ap (λ (u : List ℕ). priority_version_form r.priority ++ u) (i ∙ ap (λ (u : List ℕ). u ++ words) (j ∙ ap (λ (u : List ℕ). time ++ u) m))) n in
+    let headers = by_prefix (AnyOf Header) x y k.fields.0 k.rest IsPrefixFree-header (parts, header) (h, k.fields.2) (sym e ∙ k.fields.1) in
     let same = header_same parts h k.fields.0 (subst (Header parts) headers.0 header) k.fields.2 in
-    let elements : Data r.elements d = subst (Data r.elements) (sym p) (data_spelled r.elements valid.elements) in
-    let tail : Tail r.message t = subst (Tail r.message) (sym q) (tail_spelled r.message valid.message) in
-    let both = data_same r.elements k.elements.0 d t s.«data».now k.end elements k.elements.1 (tail_front r.message t tail) (tail_front (message_parts s.message) k.end k.tail) (sym o ∙ headers.1 ∙ k.parts) in
-    let message = tail_same r.message (message_parts s.message) t tail (subst (Tail (message_parts s.message)) (sym both.1) k.tail) in
-    let text : d ≡ s.«data».now = append_cancel_right d s.«data».now t (sym o ∙ headers.1 ∙ k.parts ∙ ap (λ (u : List ℕ). s.«data».now ++ u) (sym both.1)) in
+    let elements : StructuredDataText r.elements d = subst (StructuredDataText r.elements) (sym p) (data_parsed r.elements valid.elements) in
+    let message_part : MessagePart r.message t = subst (MessagePart r.message) (sym q) (tail_parsed r.message valid.message) in
+    let both = data_same r.elements k.elements.0 d t s.«structured_data».now k.end elements k.elements.1 (tail_prefix r.message t message_part) (tail_prefix (message_parts s.message) k.end k.message_part) (sym o ∙ headers.1 ∙ k.parts) in
+    let message = tail_same r.message (message_parts s.message) t message_part (subst (MessagePart (message_parts s.message)) (sym both.1) k.message_part) in
+    let text : d ≡ s.«structured_data».now = append_cancel_right d s.«structured_data».now t (sym o ∙ headers.1 ∙ k.parts ∙ ap (λ (u : List ℕ). s.«structured_data».now ++ u) (sym both.1)) in
     let instants : r.time ≡ option_map (λ c. instant (time_of c)) s.fields.time = name.same ∙ same.time ∙ sym (instant_same s.fields.time) in
-    let whole : b ≡ front ++ (spaced ++ (words ++ y)) =
-    e ∙ ap (λ (u : List ℕ). u ++ y) (f ∙ ap (λ (u : List ℕ). front ++ u) i) ∙ append_assoc front (spaced ++ words) y ∙ ap (λ (u : List ℕ). front ++ u) (append_assoc spaced words y) in
-    let times = by_front Front k.time.1.0 k.time.0 front (spaced ++ (words ++ y)) OneFront-front k.time.1.2 (subst Front (sym g) (priority_front r.priority valid.priority)) (sym k.time.1.1 ∙ whole) in
+    let whole : b ≡ prefix ++ (spaced ++ (words ++ y)) =
+    e ∙ ap (λ (u : List ℕ). u ++ y) (f ∙ ap (λ (u : List ℕ). prefix ++ u) i) ∙ append_assoc prefix (spaced ++ words) y ∙ ap (λ (u : List ℕ). prefix ++ u) (append_assoc spaced words y) in
+    let times = by_prefix Prefix k.time.1.0 k.time.0 prefix (spaced ++ (words ++ y)) IsPrefixFree-prefix k.time.1.2 (subst Prefix (sym g) (priority_prefix r.priority valid.priority)) (sym k.time.1.1 ∙ whole) in
     record {
       range = range_same r.time (option_map (λ c. instant (time_of c)) s.fields.time) instants valid.time;
       time = (words ++ y, (spaced, times.1, subst (λ (u : Option ℤ). TimeSpace u spaced) instants (time, space, j, l, m)));
-      elements = (sym text ∙ p ∙ ap data_form both.0, subst IsById both.0 valid.by_id);
-      tail = sym both.1 ∙ q ∙ ap tail_form message;
+      elements = (sym text ∙ p ∙ ap structured_data_form both.0, subst IsById both.0 valid.by_id);
+      message_part = sym both.1 ∙ q ∙ ap message_form message;
     }
 
 -- ---- the tests
@@ -185,52 +185,52 @@ no_canonical b none = (λ u. absurd cc, λ (r, valid, h). absurd (none (r, canon
 pub canon_syntax : (b : List ℕ) (f : Fault) → IsSyntaxFault b f → IsTrue false ↔ IsSomeCanonical b
 canon_syntax b f h = no_canonical b (no_syntax b f h)
 
-pub canon_range : (b : List ℕ) (s : Spelling) → IsSpelling b s → IsOutOfRange s.fields.time → IsTrue false ↔ IsSomeCanonical b
-canon_range b s k out = no_canonical b (no_record b (InstantRange (length b - s.fields.time_left)) (out_of_range b s k out))
+pub canon_range : (b : List ℕ) (s : Parsed) → IsParsed b s → IsOutOfRange s.fields.time → IsTrue false ↔ IsSomeCanonical b
+canon_range b s k out = no_canonical b (no_record b (InstantRange (length b - s.fields.time_remaining)) (out_of_range b s k out))
 
-not_formed : (b : List ℕ) (s : Spelling) (k : IsSpelling b s) → ¬ (InForm b s k) → IsTrue false ↔ IsSomeCanonical b
+not_formed : (b : List ℕ) (s : Parsed) (k : IsParsed b s) → ¬ (InForm b s k) → IsTrue false ↔ IsSomeCanonical b
 not_formed b s k none = (λ u. absurd cc, λ (r, valid, h). absurd (none (of_canonical b s k r valid h)))
 
 refuted : (r : Bool) (P : Type 0) → IsTrue r ↔ P → r ≡ false → ¬ P
 refuted r P test isn p = let i : r ≡ true = test.1 p in absurd cc
 
 -- the test of the time, where it stands
-abbrev pub TimeTest : Bool → Spelling → List ℕ → Type 0
+abbrev pub TimeTest : Bool → Parsed → List ℕ → Type 0
 TimeTest r s from = IsTrue r ↔ Begins (TimeSpace (option_map (λ t. instant (time_of t)) s.fields.time)) from
 
-time_test : (b from : List ℕ) (s : Spelling) (k : IsSpelling b s) (r : Bool) → from ≡ drop (length b - s.fields.time_left) b → TimeTest r s from → TimeTest r s k.time.0
-time_test b from s k r e test = subst (TimeTest r s) (stands_at b from s.fields.time_left k.time e) test
+time_test : (b from : List ℕ) (s : Parsed) (k : IsParsed b s) (r : Bool) → from ≡ drop (length b - s.fields.time_remaining) b → TimeTest r s from → TimeTest r s k.time.0
+time_test b from s k r e test = subst (TimeTest r s) (stands_at b from s.fields.time_remaining k.time e) test
 
-pub canon_given : (b from : List ℕ) (s : Spelling) → IsSpelling b s → from ≡ drop (length b - s.fields.time_left) b → Begins (Spaced (Nilable TimeText (option_map time_of s.fields.time))) from
-canon_given b from s k e = subst (Begins (Spaced (Nilable TimeText (option_map time_of s.fields.time)))) (sym (stands_at b from s.fields.time_left k.time e)) (time_given b s k)
+pub canon_given : (b from : List ℕ) (s : Parsed) → IsParsed b s → from ≡ drop (length b - s.fields.time_remaining) b → Begins (Spaced (Nilable TimeText (option_map time_of s.fields.time))) from
+canon_given b from s k e = subst (Begins (Spaced (Nilable TimeText (option_map time_of s.fields.time)))) (sym (stands_at b from s.fields.time_remaining k.time e)) (time_given b s k)
 
-pub canon_time : (b from : List ℕ) (s : Spelling) → IsSpelling b s → (r : Bool) → from ≡ drop (length b - s.fields.time_left) b → TimeTest r s from → r ≡ false → IsTrue false ↔ IsSomeCanonical b
+pub canon_time : (b from : List ℕ) (s : Parsed) → IsParsed b s → (r : Bool) → from ≡ drop (length b - s.fields.time_remaining) b → TimeTest r s from → r ≡ false → IsTrue false ↔ IsSomeCanonical b
 canon_time b from s k r e test isn = not_formed b s k (λ f. refuted r (Begins (TimeSpace (option_map (λ t. instant (time_of t)) s.fields.time)) k.time.0) (time_test b from s k r e test) isn f.time)
 
 -- the test of the structured data
 abbrev pub DataTest : Bool → List ℕ → Type 0
-DataTest r text = (es : List ElementParts) → Data es text → IsTrue r ↔ ((text ≡ data_form es) × IsById es)
+DataTest r text = (es : List ElementParts) → StructuredDataText es text → IsTrue r ↔ ((text ≡ structured_data_form es) × IsById es)
 
-pub canon_data : (b : List ℕ) (s : Spelling) → IsSpelling b s → (r : Bool) → DataTest r s.«data».now → r ≡ false → IsTrue false ↔ IsSomeCanonical b
+pub canon_data : (b : List ℕ) (s : Parsed) → IsParsed b s → (r : Bool) → DataTest r s.«structured_data».now → r ≡ false → IsTrue false ↔ IsSomeCanonical b
 canon_data b s k r test isn =
-    not_formed b s k (λ f. refuted r ((s.«data».now ≡ data_form k.elements.0) × IsById k.elements.0) (test k.elements.0 k.elements.1) isn f.elements)
+    not_formed b s k (λ f. refuted r ((s.«structured_data».now ≡ structured_data_form k.elements.0) × IsById k.elements.0) (test k.elements.0 k.elements.1) isn f.elements)
 
 -- the test of the tail, by its length
-abbrev pub TailTest : Bool → Spelling → ℕ → Type 0
-TailTest r s count = (tail : List ℕ) → Tail (message_parts s.message) tail → count ≡ length tail → IsTrue r ↔ (tail ≡ tail_form (message_parts s.message))
+abbrev pub TailTest : Bool → Parsed → ℕ → Type 0
+TailTest r s count = (message_part : List ℕ) → MessagePart (message_parts s.message) message_part → count ≡ length message_part → IsTrue r ↔ (message_part ≡ message_form (message_parts s.message))
 
-tail_count : (b : List ℕ) (s : Spelling) (k : IsSpelling b s) → s.data_left - length s.«data».now ≡ length k.end
-tail_count b s k = omega (arith, k.left, ap length k.parts, length-append s.«data».now k.end)
+tail_count : (b : List ℕ) (s : Parsed) (k : IsParsed b s) → s.structured_data_remaining - length s.«structured_data».now ≡ length k.end
+tail_count b s k = omega (arith, k.remaining, ap length k.parts, length-append s.«structured_data».now k.end)
 
-pub canon_tail : (b from : List ℕ) (s : Spelling) (t d r : Bool) (i : Option ℤ) → IsSpelling b s → (i ≡ option_map (λ c. instant (time_of c)) s.fields.time) × IfSome i IsInstant
-    → from ≡ drop (length b - s.fields.time_left) b → TimeTest t s from → t ≡ true → DataTest d s.«data».now → d ≡ true → TailTest r s (s.data_left - length s.«data».now) → IsTrue r ↔ IsSomeCanonical b
-canon_tail b from s t d r i k range e time t_is elements d_is tail =
-    let test = tail k.end k.tail (tail_count b s k) in (
+pub canon_tail : (b from : List ℕ) (s : Parsed) (t d r : Bool) (i : Option ℤ) → IsParsed b s → (i ≡ option_map (λ c. instant (time_of c)) s.fields.time) × IfSome i IsInstant
+    → from ≡ drop (length b - s.fields.time_remaining) b → TimeTest t s from → t ≡ true → DataTest d s.«structured_data».now → d ≡ true → TailTest r s (s.structured_data_remaining - length s.«structured_data».now) → IsTrue r ↔ IsSomeCanonical b
+canon_tail b from s t d r i k range e time t_is elements d_is message_part =
+    let test = message_part k.end k.message_part (tail_count b s k) in (
       λ u. in_form b s k (record {
         range = range_same i (option_map (λ c. instant (time_of c)) s.fields.time) range.0 range.1;
         time = (time_test b from s k t e time).0 t_is;
         elements = (elements k.elements.0 k.elements.1).0 d_is;
-        tail = test.0 u;
+        message_part = test.0 u;
       }),
-      λ (q, valid, h). test.1 (of_canonical b s k q valid h).tail,
+      λ (q, valid, h). test.1 (of_canonical b s k q valid h).message_part,
     )

@@ -3,12 +3,12 @@ use Rattle.std.proofs.Common.{◌≡◌, ℕ, ◌<◌, ◌≤◌, List, [], ◌�
 use Rattle.std.specs.List.{AllByRecursion}
 use Rattle.std.proofs.lemmas.Bool.{cases_lt}
 use Rattle.std.proofs.lemmas.List.{length-append}
-use Rattle.octet_language.specs.Language.{Language, ◌⋅◌, Refuses, OneFront, IfFront}
+use Rattle.octet_language.specs.Language.{Language, ◌⋅◌, Refuses, IsPrefixFree, IfFirst}
 use Rattle.octet_language.specs.Reading.{Fails}
 use Rattle.octet_language.proofs.Lists.{heads, one_more, AllByRecursion-right, parted}
-use Rattle.octet_language.proofs.Marked.{Fails-from_unfinished}
+use Rattle.octet_language.proofs.Delimited.{Fails-from_unfinished}
 use Rattle.syslog_grammar.specs.Spans.{IsRun, StopsInRun}
-use Rattle.syslog_grammar.proofs.Ahead.{OneAhead, StartsIn, same_run, OneFront-ahead}
+use Rattle.syslog_grammar.proofs.Ahead.{OneAhead, StartsIn, same_run, IsPrefixFree-ahead}
 
 -- what ends a run
 abbrev pub Ends : (ℕ → Type 0) → ℕ → Type 0
@@ -30,7 +30,7 @@ goes_on_run C n c A B t (x ∷ p) runs positive here some starts fits octets =
     (k.0, k.1, (x ∷ p, t, ap (λ (u : List ℕ). x ∷ p ++ u) (sym k.2), runs.from (x ∷ p) (record { some = omega arith; fits = fits; octets = octets }), some))
 
 -- no run goes on with the octet behind
-refuses_run : (C : ℕ → Type 0) (n : ℕ) (A B : Language) (read rest : List ℕ) → AreRuns C n A → StartsIn (Ends C) B → AllByRecursion C read → IfFront (λ x. C x → length read ≡ n) rest → IfFront (λ x. Ends C x → length read ≡ 0) rest → Refuses (A ⋅ B) read rest
+refuses_run : (C : ℕ → Type 0) (n : ℕ) (A B : Language) (read rest : List ℕ) → AreRuns C n A → StartsIn (Ends C) B → AllByRecursion C read → IfFirst (λ x. C x → length read ≡ n) rest → IfFirst (λ x. Ends C x → length read ≡ 0) rest → Refuses (A ⋅ B) read rest
 refuses_run C n A B read [] runs starts octets long short = tt
 refuses_run C n A B read (x ∷ rest) runs starts octets long short = λ (more, (w, s, e, h, k)).
     let run = runs.to w h in
@@ -50,24 +50,24 @@ refuses_run C n A B read (x ∷ rest) runs starts octets long short = λ (more, 
         n (subst C (sym (heads y h t (z ++ x ∷ more) f)) (AllByRecursion-right C w (h ∷ z) (subst (AllByRecursion C) e octets)).0)
 
 -- a run that is not whole, whatever ends it
-pub Fails-run : (C : ℕ → Type 0) (n c : ℕ) (A B : Language) (b t : List ℕ) (left : ℕ) → AreRuns C n A → 0 < n → C c → B t → OneFront B → StartsIn (Ends C) B → StopsInRun C n b left → Fails (A ⋅ B) b left
-Fails-run C n c A B b t left runs positive here some one starts f =
+pub Fails-run : (C : ℕ → Type 0) (n c : ℕ) (A B : Language) (b t : List ℕ) (remaining : ℕ) → AreRuns C n A → 0 < n → C c → B t → IsPrefixFree B → StartsIn (Ends C) B → StopsInRun C n b remaining → Fails (A ⋅ B) b remaining
+Fails-run C n c A B b t remaining runs positive here some one starts f =
     let fits : length f.read ≤ n = elim f.ends [ inl h ↦ omega (arith, ap length h.0) | inr h ↦ omega (arith, h.0) ] in
     let k = goes_on_run C n c A B t f.read runs positive here some starts fits f.octets in
     subst (Fails (A ⋅ B) b) f.count
-    (Fails-from_unfinished (A ⋅ B) b f.read f.rest k.1 k.0 (OneFront-ahead A B (Ends C) (OneAhead-runs C n A runs) starts one) f.parts k.2 (refuses_run C n A B f.read f.rest runs starts f.octets (long f.read f.rest f.ends) (short f.read f.rest f.ends)))
+    (Fails-from_unfinished (A ⋅ B) b f.read f.rest k.1 k.0 (IsPrefixFree-ahead A B (Ends C) (OneAhead-runs C n A runs) starts one) f.parts k.2 (refuses_run C n A B f.read f.rest runs starts f.octets (long f.read f.rest f.ends) (short f.read f.rest f.ends)))
   where
-    long : (read rest : List ℕ) → ((read ≡ []) × IfFront (Ends C) rest) ⊎ ((length read ≡ n) × IfFront C rest) → IfFront (λ x. C x → length read ≡ n) rest
+    long : (read rest : List ℕ) → ((read ≡ []) × IfFirst (Ends C) rest) ⊎ ((length read ≡ n) × IfFirst C rest) → IfFirst (λ x. C x → length read ≡ n) rest
     long read [] h = tt
     long read (x ∷ rest) (inl h) = λ k. absurd (h.1 k)
     long read (x ∷ rest) (inr h) = λ k. h.0
 
-    short : (read rest : List ℕ) → ((read ≡ []) × IfFront (Ends C) rest) ⊎ ((length read ≡ n) × IfFront C rest) → IfFront (λ x. Ends C x → length read ≡ 0) rest
+    short : (read rest : List ℕ) → ((read ≡ []) × IfFirst (Ends C) rest) ⊎ ((length read ≡ n) × IfFirst C rest) → IfFirst (λ x. Ends C x → length read ≡ 0) rest
     short read [] h = tt
     short read (x ∷ rest) (inl h) = λ k. ap length h.0
     short read (x ∷ rest) (inr h) = λ k. absurd (k h.1)
 
 -- an octet of the class behind a run that stops at most at the limit: the limit is reached
-pub at_limit : (C : ℕ → Type 0) (most n : ℕ) (rest : List ℕ) → n ≤ most → (n < most → IfFront (Ends C) rest) → IfFront C rest → 0 < length rest → n ≡ most
+pub at_limit : (C : ℕ → Type 0) (most n : ℕ) (rest : List ℕ) → n ≤ most → (n < most → IfFirst (Ends C) rest) → IfFirst C rest → 0 < length rest → n ≡ most
 at_limit C most n [] fits ends goes some = absurd (omega arith)
 at_limit C most n (x ∷ rest) fits ends goes some = elim (cases_lt n most) [ inl h ↦ absurd (ends h goes) | inr h ↦ omega arith ]

@@ -3,30 +3,30 @@ use Rattle.std.proofs.Common.{◌≡◌, ◌≢◌, ℕ, List, [], ◌∷◌, �
 use Rattle.std.specs.Prelude.{◌↔◌, IsTrue, true, false, Option, Some, None}
 use Rattle.std.specs.List.{AllByRecursion, flat_map}
 use Rattle.std.proofs.lemmas.List.{append_cancel_left, append_cancel_right}
-use Rattle.octet_language.specs.Language.{Language, AnyOf, Each, OneFront}
+use Rattle.octet_language.specs.Language.{Language, AnyOf, Each, IsPrefixFree}
 use Rattle.octet_language.specs.Reading.{Fails, Follows}
 use Rattle.octet_language.proofs.Lists.{heads, tails}
 use Rattle.syslog_value.specs.Order.{OctetsBelow}
 use Rattle.syslog_value.specs.Parts.{ParamParts, ElementParts, IsById}
 use Rattle.syslog_value.proofs.Octets.{below_itself, below_trans}
-use Rattle.syslog_grammar.specs.Canonical.{escaped, param_form, element_form, data_form}
-use Rattle.syslog_grammar.specs.Grammar.{Param, Element, Data}
+use Rattle.syslog_grammar.specs.Canonical.{escaped, param_form, element_form, structured_data_form}
+use Rattle.syslog_grammar.specs.Grammar.{Param, Element, StructuredDataText}
 use Rattle.syslog_grammar.specs.Ids.{IsAbove, IsAtMost, IsRisingFrom, ids_of}
 use Rattle.syslog_grammar.specs.Spans.{ParamSpan, SpannedParam, ElementSpan, SpannedElement}
 use Rattle.syslog_grammar.specs.Values.{Spells}
-use Rattle.syslog_grammar.proofs.CanonicalSpelled.{param_spelled, element_spelled}
-use Rattle.syslog_grammar.proofs.OneMeaning.{by_front}
+use Rattle.syslog_grammar.proofs.CanonicalParses.{param_parsed, element_parsed}
+use Rattle.syslog_grammar.proofs.OneMeaning.{by_prefix}
 use Rattle.syslog_grammar.proofs.OwnedParts.{param_same, element_same}
-use Rattle.syslog_grammar.proofs.ParamTexts.{OneFront-param, OneFront-element, spanned_param, spanned_element, param_spanned, element_spanned, param_front, element_front}
+use Rattle.syslog_grammar.proofs.ParamTexts.{IsPrefixFree-param, IsPrefixFree-element, spanned_param, spanned_element, param_spanned, element_spanned, param_prefix, element_prefix}
 use Rattle.syslog_grammar.proofs.Valid.{valid_param, valid_element}
 
 -- ---- one item
 
 -- the first item, where a reader of it took its text
-pub item : {V W : Type 0} (A : V → Language) (S : W → Language) → OneFront (AnyOf A) → ((s : List ℕ) → AnyOf S s → AnyOf A s)
+pub item : {V W : Type 0} (A : V → Language) (S : W → Language) → IsPrefixFree (AnyOf A) → ((s : List ℕ) → AnyOf S s → AnyOf A s)
     → (v : V) (vs : List V) (w : W) (rest behind : List ℕ) → Each A (v ∷ vs) rest → Follows (S w) rest behind → (x : List ℕ) × (rest ≡ x ++ behind) × A v x × S w x × Each A vs behind
 item A S one from v vs w rest behind (x, y, e, h, k) (t, f, s) =
-    let both = by_front (AnyOf A) x y t behind one (v, h) (from t (w, s)) (sym e ∙ f) in
+    let both = by_prefix (AnyOf A) x y t behind one (v, h) (from t (w, s)) (sym e ∙ f) in
     (t, f, subst (A v) both.0 h, s, subst (Each A vs) both.1 k)
 
 -- ---- parameters
@@ -65,7 +65,7 @@ abbrev pub ValueTest : Bool → List ℕ → Type 0
 ValueTest r raw = (text : List ℕ) → Spells text raw → IsTrue r ↔ (raw ≡ escaped text)
 
 pub params_more : (params rest behind after : List ℕ) (x : ℕ) (v : ParamSpan) (r : Bool) → rest ≡ x ∷ after → Follows (SpannedParam v) rest behind → ValueTest r v.raw → r ≡ true → ParamsLeft params rest → ParamsLeft params behind
-params_more params rest behind after x v r e f test is left ps h = go (left ps h)
+params_more params rest behind after x v r e f test is remaining ps h = go (remaining ps h)
   where
     go : ParamsRest params rest ps → ParamsRest params behind ps
     go l = one l.todo l.each l.to l.from
@@ -73,7 +73,7 @@ params_more params rest behind after x v r e f test is left ps h = go (left ps h
         one : (todo : List ParamParts) → Each Param todo rest → (params ≡ flat_map param_form ps → rest ≡ flat_map param_form todo) → (rest ≡ flat_map param_form todo → params ≡ flat_map param_form ps) → ParamsRest params behind ps
         one [] k to from = let i : ◌≡◌ {A = List ℕ} [] (x ∷ after) = sym k ∙ e in absurd cc
         one (q ∷ todo) k to from =
-            let i = item Param SpannedParam OneFront-param spanned_param q todo v rest behind k f in
+            let i = item Param SpannedParam IsPrefixFree-param spanned_param q todo v rest behind k f in
             let raw : v.raw ≡ escaped q.value = (test q.value (param_same q v i.0 i.2 i.3).1).0 is in
             let form : i.0 ≡ param_form q = param_raw q v i.0 i.2 i.3 ∙ ap (λ (s : List ℕ). 32 ∷ (q.name ++ 61 ∷ 34 ∷ (s ++ 34 ∷ []))) raw ∙ sym (form_raw q) in
             record {
@@ -85,30 +85,30 @@ params_more params rest behind after x v r e f test is left ps h = go (left ps h
 
 pub params_bad : (params rest behind after : List ℕ) (x : ℕ) (v : ParamSpan) (r : Bool) → rest ≡ x ∷ after → Follows (SpannedParam v) rest behind → ValueTest r v.raw → r ≡ false → ParamsLeft params rest
     → (ps : List ParamParts) → Each Param ps params → IsTrue false ↔ (params ≡ flat_map param_form ps)
-params_bad params rest behind after x v r e f test isn left ps h = (λ g. absurd cc, λ g. let l = left ps h in one l.todo l.each (l.to g))
+params_bad params rest behind after x v r e f test isn remaining ps h = (λ g. absurd cc, λ g. let l = remaining ps h in one l.todo l.each (l.to g))
   where
     one : (todo : List ParamParts) → Each Param todo rest → rest ≡ flat_map param_form todo → IsTrue false
     one [] k g = let i : ◌≡◌ {A = List ℕ} [] (x ∷ after) = sym k ∙ e in absurd cc
     one (q ∷ todo) k g =
-        let i = item Param SpannedParam OneFront-param spanned_param q todo v rest behind k f in
-        let both = by_front (AnyOf Param) i.0 behind (param_form q) (flat_map param_form todo) OneFront-param (q, i.2) (q, param_spelled q (valid_param q i.0 i.2)) (sym i.1 ∙ g) in
+        let i = item Param SpannedParam IsPrefixFree-param spanned_param q todo v rest behind k f in
+        let both = by_prefix (AnyOf Param) i.0 behind (param_form q) (flat_map param_form todo) IsPrefixFree-param (q, i.2) (q, param_parsed q (valid_param q i.0 i.2)) (sym i.1 ∙ g) in
         let raw = same_raw q.name v.raw (escaped q.value) (sym (param_raw q v i.0 i.2 i.3) ∙ both.0 ∙ form_raw q) in
         sym isn ∙ (test q.value (param_same q v i.0 i.2 i.3).1).1 raw
 
-pub params_stuck : (params rest after : List ℕ) (x left : ℕ) → rest ≡ x ∷ after → Fails (AnyOf SpannedParam) rest left → ParamsLeft params rest → (ps : List ParamParts) → Each Param ps params → IsTrue false ↔ (params ≡ flat_map param_form ps)
-params_stuck params rest after x left e f more ps h = let l = more ps h in absurd (one l.todo l.each)
+pub params_stuck : (params rest after : List ℕ) (x remaining : ℕ) → rest ≡ x ∷ after → Fails (AnyOf SpannedParam) rest remaining → ParamsLeft params rest → (ps : List ParamParts) → Each Param ps params → IsTrue false ↔ (params ≡ flat_map param_form ps)
+params_stuck params rest after x remaining e f more ps h = let l = more ps h in absurd (one l.todo l.each)
   where
     one : (todo : List ParamParts) → Each Param todo rest → ⊥
     one [] k = let i : ◌≡◌ {A = List ℕ} [] (x ∷ after) = sym k ∙ e in absurd cc
     one (q ∷ todo) (y, z, g, k, l) = f.none y z g (param_spanned y (q, k))
 
 pub params_end : (params rest : List ℕ) → rest ≡ [] → ParamsLeft params rest → (ps : List ParamParts) → Each Param ps params → IsTrue true ↔ (params ≡ flat_map param_form ps)
-params_end params rest e left ps h = (λ u. let l = left ps h in one l.todo l.each l.from, λ u. refl)
+params_end params rest e remaining ps h = (λ u. let l = remaining ps h in one l.todo l.each l.from, λ u. refl)
   where
     one : (todo : List ParamParts) → Each Param todo rest → (rest ≡ flat_map param_form todo → params ≡ flat_map param_form ps) → params ≡ flat_map param_form ps
     one [] k from = from e
     one (q ∷ todo) (y, z, g, k, l) from =
-        let s = param_front y (q, k) in
+        let s = param_prefix y (q, k) in
         let i : ◌≡◌ {A = List ℕ} [] (32 ∷ (s.0 ++ z)) = sym e ∙ g ∙ ap (λ (t : List ℕ). t ++ z) s.1 in absurd cc
 
 -- ---- elements by id
@@ -187,24 +187,24 @@ pub record Item (v : ElementSpan) (rest behind : List ℕ) (todo : List ElementP
   pub is : todo ≡ element ∷ others
   pub text : List ℕ
   pub parts : rest ≡ text ++ behind
-  pub spelled : Element element text
+  pub parse : Element element text
   pub spanned : SpannedElement v text
   pub each : Each Element others behind
 
 pub first_item : (rest behind after : List ℕ) (x : ℕ) (v : ElementSpan) (todo : List ElementParts) → rest ≡ x ∷ after → Follows (SpannedElement v) rest behind → Each Element todo rest → Item v rest behind todo
 first_item rest behind after x v [] e f k = let i : ◌≡◌ {A = List ℕ} [] (x ∷ after) = sym k ∙ e in absurd cc
 first_item rest behind after x v (d ∷ todo) e f k =
-    let i = item Element SpannedElement OneFront-element spanned_element d todo v rest behind k f in
-    record { element = d; others = todo; is = refl; text = i.0; parts = i.1; spelled = i.2; spanned = i.3; each = i.4 }
+    let i = item Element SpannedElement IsPrefixFree-element spanned_element d todo v rest behind k f in
+    record { element = d; others = todo; is = refl; text = i.0; parts = i.1; parse = i.2; spanned = i.3; each = i.4 }
 
 pub elements_more : (elements rest behind after : List ℕ) (x : ℕ) (v : ElementSpan) (met : Option (List ℕ)) (r : Bool) → rest ≡ x ∷ after → Follows (SpannedElement v) rest behind → IsAbove v.id met → ParamsTest r v.params → r ≡ true
     → ElementsLeft elements rest met → ElementsLeft elements behind (Some v.id)
-elements_more elements rest behind after x v met r e f above test is left es h =
-    let l = left es h in
+elements_more elements rest behind after x v met r e f above test is remaining es h =
+    let l = remaining es h in
     let i = first_item rest behind after x v l.todo e f l.each in
-    let same = element_same i.element v i.text i.spelled i.spanned in
+    let same = element_same i.element v i.text i.parse i.spanned in
     let params : v.params ≡ flat_map param_form i.element.params = (test i.element.params same.1).0 is in
-    let form : i.text ≡ element_form i.element = element_text i.element v i.text i.spelled i.spanned ∙ ap (λ (s : List ℕ). 91 ∷ (i.element.id ++ (s ++ 93 ∷ []))) params ∙ sym (form_text i.element) in
+    let form : i.text ≡ element_form i.element = element_text i.element v i.text i.parse i.spanned ∙ ap (λ (s : List ℕ). 91 ∷ (i.element.id ++ (s ++ 93 ∷ []))) params ∙ sym (form_text i.element) in
     record {
       todo = i.others;
       each = i.each;
@@ -218,35 +218,35 @@ elements_more elements rest behind after x v met r e f above test is left es h =
 -- a fault of the first of the elements that are left
 refused : (elements rest : List ℕ) (met : Option (List ℕ)) → ElementsLeft elements rest met → ((todo : List ElementParts) → Each Element todo rest → ¬ (InForm rest met todo))
     → (es : List ElementParts) → Each Element es elements → IsTrue false ↔ ((elements ≡ flat_map element_form es) × IsById es)
-refused elements rest met left none es h = (λ u. absurd cc, λ g. let l = left es h in absurd (none l.todo l.each (l.to g)))
+refused elements rest met remaining none es h = (λ u. absurd cc, λ g. let l = remaining es h in absurd (none l.todo l.each (l.to g)))
 
 pub elements_most : (elements rest behind after : List ℕ) (x : ℕ) (v : ElementSpan) (met : Option (List ℕ)) → rest ≡ x ∷ after → Follows (SpannedElement v) rest behind → IsAtMost v.id met → ElementsLeft elements rest met
     → (es : List ElementParts) → Each Element es elements → IsTrue false ↔ ((elements ≡ flat_map element_form es) × IsById es)
-elements_most elements rest behind after x v met e f most left es h = refused elements rest met left none es h
+elements_most elements rest behind after x v met e f most remaining es h = refused elements rest met remaining none es h
   where
     none : (todo : List ElementParts) → Each Element todo rest → ¬ (InForm rest met todo)
     none todo k g =
         let i = first_item rest behind after x v todo e f k in
         let rising = subst (InForm rest met) i.is g in
-        not_above v.id met most (subst (λ (id : List ℕ). IsAbove id met) (element_same i.element v i.text i.spelled i.spanned).0 rising.1.0)
+        not_above v.id met most (subst (λ (id : List ℕ). IsAbove id met) (element_same i.element v i.text i.parse i.spanned).0 rising.1.0)
 
 pub elements_bad : (elements rest behind after : List ℕ) (x : ℕ) (v : ElementSpan) (met : Option (List ℕ)) (r : Bool) → rest ≡ x ∷ after → Follows (SpannedElement v) rest behind → ParamsTest r v.params → r ≡ false → ElementsLeft elements rest met
     → (es : List ElementParts) → Each Element es elements → IsTrue false ↔ ((elements ≡ flat_map element_form es) × IsById es)
-elements_bad elements rest behind after x v met r e f test isn left es h = refused elements rest met left none es h
+elements_bad elements rest behind after x v met r e f test isn remaining es h = refused elements rest met remaining none es h
   where
     none : (todo : List ElementParts) → Each Element todo rest → ¬ (InForm rest met todo)
     none todo k g =
         let i = first_item rest behind after x v todo e f k in
         let whole = (subst (InForm rest met) i.is g).0 in
-        let both = by_front (AnyOf Element) i.text behind (element_form i.element) (flat_map element_form i.others) OneFront-element
-        (i.element, i.spelled) (i.element, element_spelled i.element (valid_element i.element i.text i.spelled)) (sym i.parts ∙ whole) in
-        let params = same_params i.element.id v.params (flat_map param_form i.element.params) (sym (element_text i.element v i.text i.spelled i.spanned) ∙ both.0 ∙ form_text i.element) in
-        let yes : r ≡ true = (test i.element.params (element_same i.element v i.text i.spelled i.spanned).1).1 params in
+        let both = by_prefix (AnyOf Element) i.text behind (element_form i.element) (flat_map element_form i.others) IsPrefixFree-element
+        (i.element, i.parse) (i.element, element_parsed i.element (valid_element i.element i.text i.parse)) (sym i.parts ∙ whole) in
+        let params = same_params i.element.id v.params (flat_map param_form i.element.params) (sym (element_text i.element v i.text i.parse i.spanned) ∙ both.0 ∙ form_text i.element) in
+        let yes : r ≡ true = (test i.element.params (element_same i.element v i.text i.parse i.spanned).1).1 params in
         absurd cc
 
-pub elements_stuck : (elements rest after : List ℕ) (x left : ℕ) (met : Option (List ℕ)) → rest ≡ x ∷ after → Fails (AnyOf SpannedElement) rest left → ElementsLeft elements rest met
+pub elements_stuck : (elements rest after : List ℕ) (x remaining : ℕ) (met : Option (List ℕ)) → rest ≡ x ∷ after → Fails (AnyOf SpannedElement) rest remaining → ElementsLeft elements rest met
     → (es : List ElementParts) → Each Element es elements → IsTrue false ↔ ((elements ≡ flat_map element_form es) × IsById es)
-elements_stuck elements rest after x left met e f more es h = refused elements rest met more none es h
+elements_stuck elements rest after x remaining met e f more es h = refused elements rest met more none es h
   where
     none : (todo : List ElementParts) → Each Element todo rest → ¬ (InForm rest met todo)
     none [] k g = let i : ◌≡◌ {A = List ℕ} [] (x ∷ after) = sym k ∙ e in absurd cc
@@ -254,32 +254,32 @@ elements_stuck elements rest after x left met e f more es h = refused elements r
 
 pub elements_end : (elements rest : List ℕ) (met : Option (List ℕ)) → rest ≡ [] → ElementsLeft elements rest met
     → (es : List ElementParts) → Each Element es elements → IsTrue true ↔ ((elements ≡ flat_map element_form es) × IsById es)
-elements_end elements rest met e left es h = (λ u. let l = left es h in l.from (one l.todo l.each), λ u. refl)
+elements_end elements rest met e remaining es h = (λ u. let l = remaining es h in l.from (one l.todo l.each), λ u. refl)
   where
     one : (todo : List ElementParts) → Each Element todo rest → InForm rest met todo
     one [] k = (e, tt)
     one (q ∷ todo) (y, z, g, k, l) =
-        let s = element_front y (q, k) in
+        let s = element_prefix y (q, k) in
         let i : ◌≡◌ {A = List ℕ} [] (91 ∷ (s.0 ++ z)) = sym e ∙ g ∙ ap (λ (t : List ℕ). t ++ z) s.1 in absurd cc
 
 -- ---- the whole
 
 -- no octet, which is no structured data
-pub data_empty : (text : List ℕ) → text ≡ [] → (es : List ElementParts) → Data es text → IsTrue true ↔ ((text ≡ data_form es) × IsById es)
+pub data_empty : (text : List ℕ) → text ≡ [] → (es : List ElementParts) → StructuredDataText es text → IsTrue true ↔ ((text ≡ structured_data_form es) × IsById es)
 data_empty text e [] h = let i : ◌≡◌ {A = List ℕ} [] (45 ∷ []) = sym e ∙ h in absurd cc
 data_empty text e (d ∷ es) (x, y, g, h, k) =
-    let f = element_front x (d, h) in
+    let f = element_prefix x (d, h) in
     let i : ◌≡◌ {A = List ℕ} [] (91 ∷ (f.0 ++ y)) = sym e ∙ g ∙ ap (λ (u : List ℕ). u ++ y) f.1 in absurd cc
 
 -- no element in front
-pub data_none : (text after : List ℕ) (x : ℕ) → text ≡ x ∷ after → x ≢ 91 → (es : List ElementParts) → Data es text → IsTrue true ↔ ((text ≡ data_form es) × IsById es)
+pub data_none : (text after : List ℕ) (x : ℕ) → text ≡ x ∷ after → x ≢ 91 → (es : List ElementParts) → StructuredDataText es text → IsTrue true ↔ ((text ≡ structured_data_form es) × IsById es)
 data_none text after x e ne [] h = (λ u. (h, tt), λ u. refl)
 data_none text after x e ne (d ∷ es) (y, z, g, h, k) =
-    let f = element_front y (d, h) in
+    let f = element_prefix y (d, h) in
     absurd (ne (heads x 91 after (f.0 ++ z) (sym e ∙ g ∙ ap (λ (u : List ℕ). u ++ z) f.1)))
 
 -- an element in front
 pub data_some : (text after : List ℕ) (x : ℕ) (r : Bool) → text ≡ x ∷ after → x ≡ 91 → ((es : List ElementParts) → Each Element es text → IsTrue r ↔ ((text ≡ flat_map element_form es) × IsById es))
-    → (es : List ElementParts) → Data es text → IsTrue r ↔ ((text ≡ data_form es) × IsById es)
+    → (es : List ElementParts) → StructuredDataText es text → IsTrue r ↔ ((text ≡ structured_data_form es) × IsById es)
 data_some text after x r e f test [] h = let i : x ≡ 45 = heads x 45 after [] (sym e ∙ h) in absurd (omega (arith, i, f))
 data_some text after x r e f test (d ∷ es) h = test (d ∷ es) h

@@ -15,14 +15,14 @@ kept x s h = go (needs_escape x) refl
     go true e = absurd (h e)
     go false e = rw e refl
 
-marked : (x : ℕ) (s : List ℕ) → needs_escape x ≡ true → escaped (x ∷ s) ≡ 92 ∷ x ∷ escaped s
-marked x s h = rw h refl
+escaped_rest : (x : ℕ) (s : List ℕ) → needs_escape x ≡ true → escaped (x ∷ s) ≡ 92 ∷ x ∷ escaped s
+escaped_rest x s h = rw h refl
 
 -- up to an octet that needs a backslash
 up_to : (k : ℕ) (s : List ℕ) → k < length s → ((i : ℕ) → i < k → ¬ (needs_escape (get_or s i 0) ≡ true)) → needs_escape (get_or s k 0) ≡ true
     → escaped s ≡ take k s ++ 92 ∷ take 1 (drop k s) ++ escaped (drop 1 (drop k s))
 up_to k [] h none here = absurd (omega arith)
-up_to zero (x ∷ s) h none here = marked x s here
+up_to zero (x ∷ s) h none here = escaped_rest x s here
 up_to (suc k) (x ∷ s) h none here =
     kept x s (none 0 (omega arith)) ∙ ap (λ (t : List ℕ). x ∷ t) (up_to k s (omega arith) (λ i less. none (suc i) (omega arith)) here)
 

@@ -5,7 +5,7 @@ use Rattle.octet_language.specs.Language.{AnyOf}
 use Rattle.syslog_value.specs.Parts.{Parts, ElementParts, IsInstant}
 use Rattle.syslog_value.specs.Structured.{HasId}
 use Rattle.syslog_grammar.specs.Faults.{AreDistinct, FaultOf}
-use Rattle.syslog_grammar.specs.Spellings.{IsSyntaxFault}
+use Rattle.syslog_grammar.specs.Parsing.{IsSyntaxFault}
 use Rattle.syslog_grammar.specs.Time.{CivilTime, instant}
 use Rattle.syslog_grammar.specs.WellFormed.{WellFormed}
 use Rattle.syslog_grammar.specs.declared.fault.Fault.{Fault}
@@ -43,9 +43,9 @@ not_distinct (d ∷ ds) e behind (inr h) all = not_distinct ds e behind h all.1
 -- ---- the faults
 
 pub fault_excludes : (b : List ℕ) (f : Fault) (r : Parts ℤ) → FaultOf b f → WellFormed r b → ⊥
-fault_excludes b (Syntax f at) r (none, place, field) (s, k, in_range, distinct, m) = none (s, k)
-fault_excludes b (InstantRange at) r (p, h, out, place) (s, k, in_range, distinct, m) = out (same_range p.time s.time (same_parts p s b h k).header.time in_range)
-fault_excludes b (RepeatedId at) r (p, h, in_range, before, found, place) (s, k, in_range', distinct, m) =
+fault_excludes b (Syntax f at) r (none, offset, field) (s, k, in_range, distinct, m) = none (s, k)
+fault_excludes b (InstantRange at) r (p, h, out, offset) (s, k, in_range, distinct, m) = out (same_range p.time s.time (same_parts p s b h k).header.time in_range)
+fault_excludes b (RepeatedId at) r (p, h, in_range, before, found, offset) (s, k, in_range', distinct, m) =
     let same : before ++ found.element ∷ found.behind ≡ s.elements = sym found.parts ∙ (same_parts p s b h k).elements in
     not_distinct before found.element found.behind found.same (subst AreDistinct (sym same) distinct)
 

@@ -4,22 +4,22 @@ use Rattle.std.specs.Prelude.{replicate, ℤ, pos, neg_ℤ, Some, None}
 use Rattle.std.specs.List.{AllByRecursion}
 use Rattle.std.proofs.lemmas.Bool.{cases_eq}
 use Rattle.octet_language.specs.Digits.{IsDigit, read_on}
-use Rattle.octet_language.specs.Language.{Language, Only, ◌⋅◌, AnyOf, OneFront, IfFront}
+use Rattle.octet_language.specs.Language.{Language, Only, ◌⋅◌, AnyOf, IsPrefixFree, IfFirst}
 use Rattle.octet_language.specs.Reading.{Fails, Follows}
-use Rattle.octet_language.proofs.Lists.{heads, tails, same_front}
-use Rattle.octet_language.proofs.Chain.{Fails-first, Fails-later, Fails-same, Follows-then, OneFront-only, OneFront-same}
-use Rattle.octet_language.proofs.Sequence.{OneFront-then}
+use Rattle.octet_language.proofs.Lists.{heads, tails, same_prefix}
+use Rattle.octet_language.proofs.Chain.{Fails-first, Fails-later, Fails-same, Follows-then, IsPrefixFree-only, IsPrefixFree-same}
+use Rattle.octet_language.proofs.Sequence.{IsPrefixFree-then}
 use Rattle.syslog_value.specs.declared.civil.Civil.{Civil}
 use Rattle.syslog_grammar.specs.Dates.{Date, Clock, FractionZone}
 use Rattle.syslog_grammar.specs.Grammar.{Nilable, Spaced}
 use Rattle.syslog_grammar.specs.Spans.{StopsInRun}
 use Rattle.syslog_grammar.specs.Time.{CivilTime, padded, Decimals, FractionText, OffsetText, ZoneText, TimeText}
-use Rattle.syslog_grammar.proofs.Ahead.{StartsIn, OneAhead, same_run, Fails-ahead, OneFront-ahead}
+use Rattle.syslog_grammar.proofs.Ahead.{StartsIn, OneAhead, same_run, Fails-ahead, IsPrefixFree-ahead}
 use Rattle.syslog_grammar.proofs.Classes.{Ends, AreRuns, OneAhead-runs, Fails-run}
-use Rattle.syslog_grammar.proofs.Front.{Fails-behind, Fails-alike, Fails-front}
+use Rattle.syslog_grammar.proofs.Prefix.{Fails-behind, Fails-alike, Fails-prefix}
 use Rattle.syslog_grammar.proofs.Loops.{Fails-empty}
-use Rattle.syslog_grammar.proofs.Separated.{Marked, bad_first, bad_middle, bad_second, OneFront-between}
-use Rattle.syslog_grammar.proofs.Times.{OneFront-date, OneFront-clock, offset_length}
+use Rattle.syslog_grammar.proofs.Separated.{Delimited, bad_first, bad_middle, bad_second, IsPrefixFree-between}
+use Rattle.syslog_grammar.proofs.Times.{IsPrefixFree-date, IsPrefixFree-clock, offset_length}
 
 digit_value : (ds : List ℕ) (i : ℕ) → AllByRecursion IsDigit ds → i < length ds → IsDigit (get_or ds i 0)
 digit_value [] i h l = absurd (omega arith)
@@ -34,7 +34,7 @@ none_here [] i l = refl
 none_here (x ∷ ds) zero l = absurd (omega arith)
 none_here (x ∷ ds) (suc i) l = none_here ds i (omega arith)
 
--- six digits by their places
+-- six digits by their offsets
 pub six_digits : (ds : List ℕ) → length ds ≤ 6 → 100000 * (get_or ds 0 0 - 48) + 10000 * (get_or ds 1 0 - 48) + 1000 * (get_or ds 2 0 - 48) + 100 * (get_or ds 3 0 - 48) + 10 * (get_or ds 4 0 - 48) + (get_or ds 5 0 - 48) ≡ read_on 0 (ds ++ replicate (6 - length ds) 48)
 six_digits [] h = omega arith
 six_digits (a ∷ []) h = omega arith
@@ -66,15 +66,15 @@ zone_some h = elim (zone_cases [] h) [ inl e ↦ absurd cc | inr k ↦ elim k.2 
 abbrev pub IsSign : ℕ → Type 0
 IsSign x = (x ≡ 90) ⊎ ((x ≡ 43) ⊎ (x ≡ 45))
 
-pub zone_front : (x : ℕ) (s : List ℕ) → AnyZone (x ∷ s) → IsSign x
-zone_front x s h = elim (zone_cases (x ∷ s) h) [
+pub zone_prefix : (x : ℕ) (s : List ℕ) → AnyZone (x ∷ s) → IsSign x
+zone_prefix x s h = elim (zone_cases (x ∷ s) h) [
   | inl e ↦ inl (heads x 90 s [] e)
   | inr k ↦ elim k.2 [ inl e ↦ inr (inl (heads x 43 s k.0 e)) | inr e ↦ inr (inr (heads x 45 s k.0 e)) ]
 ]
 
-pub no_zone : (b : List ℕ) → IfFront (λ x. ¬ (IsSign x)) b → Fails AnyZone b (length b)
+pub no_zone : (b : List ℕ) → IfFirst (λ x. ¬ (IsSign x)) b → Fails AnyZone b (length b)
 no_zone [] h = Fails-empty AnyZone [] (90 ∷ []) utc zone_some refl
-no_zone (x ∷ b) h = Fails-front AnyZone (x ∷ b) (90 ∷ []) utc zone_some (λ s k. h (zone_front x s k))
+no_zone (x ∷ b) h = Fails-prefix AnyZone (x ∷ b) (90 ∷ []) utc zone_some (λ s k. h (zone_prefix x s k))
 
 plus_from : (s : List ℕ) → AnyZone (43 ∷ s) → AnyOf OffsetText s
 plus_from s h = elim (zone_cases (43 ∷ s) h) [
@@ -100,11 +100,11 @@ minus_from s h = elim (zone_cases (45 ∷ s) h) [
 minus_to : (s : List ℕ) → AnyOf OffsetText s → AnyZone (45 ∷ s)
 minus_to s (m, h) = (neg_ℤ (pos m), inr (m, inr (refl, (45 ∷ [], s, refl, refl, h))))
 
-pub bad_plus : (b rest : List ℕ) (x left : ℕ) → b ≡ x ∷ rest → x ≡ 43 → Fails (AnyOf OffsetText) rest left → Fails AnyZone b left
-bad_plus b rest x left e f g = Fails-behind (AnyOf OffsetText) AnyZone 43 b rest left plus_from plus_to zone_some (e ∙ ap (λ (n : ℕ). n ∷ rest) f) g
+pub bad_plus : (b rest : List ℕ) (x remaining : ℕ) → b ≡ x ∷ rest → x ≡ 43 → Fails (AnyOf OffsetText) rest remaining → Fails AnyZone b remaining
+bad_plus b rest x remaining e f g = Fails-behind (AnyOf OffsetText) AnyZone 43 b rest remaining plus_from plus_to zone_some (e ∙ ap (λ (n : ℕ). n ∷ rest) f) g
 
-pub bad_minus : (b rest : List ℕ) (x left : ℕ) → b ≡ x ∷ rest → x ≡ 45 → Fails (AnyOf OffsetText) rest left → Fails AnyZone b left
-bad_minus b rest x left e f g = Fails-behind (AnyOf OffsetText) AnyZone 45 b rest left minus_from minus_to zone_some (e ∙ ap (λ (n : ℕ). n ∷ rest) f) g
+pub bad_minus : (b rest : List ℕ) (x remaining : ℕ) → b ≡ x ∷ rest → x ≡ 45 → Fails (AnyOf OffsetText) rest remaining → Fails AnyZone b remaining
+bad_minus b rest x remaining e f g = Fails-behind (AnyOf OffsetText) AnyZone 45 b rest remaining minus_from minus_to zone_some (e ∙ ap (λ (n : ℕ). n ∷ rest) f) g
 
 pub zone_utc : (b rest : List ℕ) (x : ℕ) → b ≡ x ∷ rest → x ≡ 90 → Follows (ZoneText (pos 0)) b rest
 zone_utc b rest x e f = (90 ∷ [], e ∙ ap (λ (n : ℕ). n ∷ rest) f, inl (refl, refl))
@@ -125,14 +125,14 @@ zone_length x s h = elim (zone_cases (x ∷ s) h) [
   ]
 ]
 
-pub OneFront-zone : OneFront AnyZone
-OneFront-zone [] s q t h k e = absurd (zone_some h)
-OneFront-zone (x ∷ p) s [] t h k e = absurd (zone_some k)
-OneFront-zone (x ∷ p) s (y ∷ q) t h k e =
+pub IsPrefixFree-zone : IsPrefixFree AnyZone
+IsPrefixFree-zone [] s q t h k e = absurd (zone_some h)
+IsPrefixFree-zone (x ∷ p) s [] t h k e = absurd (zone_some k)
+IsPrefixFree-zone (x ∷ p) s (y ∷ q) t h k e =
     let same = heads x y (p ++ s) (q ++ t) e in
     let a = zone_length x p h in
     let b = zone_length y q k in
-    same_front (x ∷ p) (y ∷ q) s t
+    same_prefix (x ∷ p) (y ∷ q) s t
     (elim (cases_eq x 90) [
       | inl f ↦ omega (arith, a.0 f, b.0 (sym same ∙ f))
       | inr f ↦ omega (arith, a.1 f, b.1 (λ g. f (same ∙ g)))
@@ -145,7 +145,7 @@ sign_apart x (inr (inr e)) = (λ d. omega (arith, e, d.0), λ f. omega (arith, e
 
 zone_cons : (s : List ℕ) → AnyZone s → (x : ℕ) × (t : List ℕ) × (s ≡ x ∷ t) × IsSign x
 zone_cons [] h = absurd (zone_some h)
-zone_cons (x ∷ t) h = (x, t, refl, zone_front x t h)
+zone_cons (x ∷ t) h = (x, t, refl, zone_prefix x t h)
 
 pub zone_starts : StartsIn (Ends IsDigit) AnyZone
 zone_starts s h = let k = zone_cons s h in (k.0, k.1, k.2, (sign_apart k.0 k.3).0)
@@ -168,15 +168,15 @@ fraction_cases : (s : List ℕ) → Fraction s → (s ≡ []) ⊎ ((t : List ℕ
 fraction_cases s (m, inl (e, f)) = inl f
 fraction_cases s (m, inr (x, y, e, h, k)) = inr (y, e ∙ ap (λ (u : List ℕ). u ++ y) h, (m, k))
 
--- what ends a fraction, or stands in its place
+-- what ends a fraction, or stands in its offset
 abbrev pub EndsFraction : ℕ → Type 0
 EndsFraction x = Ends IsDigit x × (x ≢ 46)
 
-IfFront-weaker : (P Q : ℕ → Type 0) (s : List ℕ) → ((x : ℕ) → P x → Q x) → IfFront P s → IfFront Q s
-IfFront-weaker P Q [] w h = tt
-IfFront-weaker P Q (x ∷ s) w h = w x h
+IfFirst-weaker : (P Q : ℕ → Type 0) (s : List ℕ) → ((x : ℕ) → P x → Q x) → IfFirst P s → IfFirst Q s
+IfFirst-weaker P Q [] w h = tt
+IfFirst-weaker P Q (x ∷ s) w h = w x h
 
-no_point : (s t : List ℕ) → IfFront EndsFraction s → s ≡ 46 ∷ t → ⊥
+no_point : (s t : List ℕ) → IfFirst EndsFraction s → s ≡ 46 ∷ t → ⊥
 no_point [] t h e = absurd cc
 no_point (x ∷ s) t h e = h.1 (heads x 46 s t e)
 
@@ -190,7 +190,7 @@ OneAhead-fraction p s q t h k u v e = elim (fraction_cases p h) [
     | inl b ↦ absurd (no_point t (a.0 ++ s) v (ap (λ (w : List ℕ). w ++ t) (sym b) ∙ sym e ∙ ap (λ (w : List ℕ). w ++ s) a.1))
     | inr b ↦
         let rests : a.0 ++ s ≡ b.0 ++ t = tails 46 46 (a.0 ++ s) (b.0 ++ t) (ap (λ (w : List ℕ). w ++ s) (sym a.1) ∙ e ∙ ap (λ (w : List ℕ). w ++ t) b.1) in
-        let same = same_run IsDigit a.0 b.0 s t (decimals_runs.to a.0 a.2).octets (decimals_runs.to b.0 b.2).octets (IfFront-weaker EndsFraction (Ends IsDigit) s (λ x n. n.0) u) (IfFront-weaker EndsFraction (Ends IsDigit) t (λ x n. n.0) v) rests in
+        let same = same_run IsDigit a.0 b.0 s t (decimals_runs.to a.0 a.2).octets (decimals_runs.to b.0 b.2).octets (IfFirst-weaker EndsFraction (Ends IsDigit) s (λ x n. n.0) u) (IfFirst-weaker EndsFraction (Ends IsDigit) t (λ x n. n.0) v) rests in
         a.1 ∙ ap (λ (w : List ℕ). 46 ∷ w) same ∙ sym b.1
   ]
 ]
@@ -201,11 +201,11 @@ zone_starts_fraction s h = let k = zone_cons s h in (k.0, k.1, k.2, sign_apart k
 abbrev pub AnyFraction : Language
 AnyFraction = AnyOf FractionZone
 
-pub OneFront-fraction : OneFront AnyFraction
-OneFront-fraction =
-    OneFront-same (Fraction ⋅ AnyZone) AnyFraction
+pub IsPrefixFree-fraction : IsPrefixFree AnyFraction
+IsPrefixFree-fraction =
+    IsPrefixFree-same (Fraction ⋅ AnyZone) AnyFraction
     (λ s (f, (x, y, e, h, k)). (x, y, e, (f.0, h), (f.1, k)))
-    (OneFront-ahead Fraction AnyZone EndsFraction OneAhead-fraction zone_starts_fraction OneFront-zone)
+    (IsPrefixFree-ahead Fraction AnyZone EndsFraction OneAhead-fraction zone_starts_fraction IsPrefixFree-zone)
 
 pub only_utc : AnyFraction (90 ∷ [])
 only_utc = ((0, pos 0), ([], 90 ∷ [], refl, inl (refl, refl), inl (refl, refl)))
@@ -219,22 +219,22 @@ Point = AnyDecimals ⋅ AnyZone
 
 point_from : (s : List ℕ) → AnyFraction (46 ∷ s) → Point s
 point_from s (f, (x, y, e, h, k)) = elim (fraction_cases x (f.0, h)) [
-  | inl a ↦ absurd ((sign_apart 46 (zone_front 46 s (f.1, subst (ZoneText f.1) (sym (e ∙ ap (λ (u : List ℕ). u ++ y) a)) k))).1 refl)
+  | inl a ↦ absurd ((sign_apart 46 (zone_prefix 46 s (f.1, subst (ZoneText f.1) (sym (e ∙ ap (λ (u : List ℕ). u ++ y) a)) k))).1 refl)
   | inr a ↦ (a.0, y, tails 46 46 s (a.0 ++ y) (e ∙ ap (λ (u : List ℕ). u ++ y) a.1), a.2, (f.1, k))
 ]
 
 point_to : (s : List ℕ) → Point s → AnyFraction (46 ∷ s)
 point_to s (x, y, e, (m, h), (o, k)) = ((m, o), (46 ∷ x, y, ap (λ (u : List ℕ). 46 ∷ u) e, inr (46 ∷ [], x, refl, refl, h), k))
 
-pub bad_decimals : (b rest : List ℕ) (x left : ℕ) → b ≡ x ∷ rest → x ≡ 46 → StopsInRun IsDigit 6 rest left → Fails AnyFraction b left
-bad_decimals b rest x left e f g =
-    Fails-behind Point AnyFraction 46 b rest left point_from point_to fraction_some (e ∙ ap (λ (n : ℕ). n ∷ rest) f)
-    (Fails-run IsDigit 6 48 AnyDecimals AnyZone rest (90 ∷ []) left decimals_runs (omega arith) (omega arith, omega arith) utc OneFront-zone zone_starts g)
+pub bad_decimals : (b rest : List ℕ) (x remaining : ℕ) → b ≡ x ∷ rest → x ≡ 46 → StopsInRun IsDigit 6 rest remaining → Fails AnyFraction b remaining
+bad_decimals b rest x remaining e f g =
+    Fails-behind Point AnyFraction 46 b rest remaining point_from point_to fraction_some (e ∙ ap (λ (n : ℕ). n ∷ rest) f)
+    (Fails-run IsDigit 6 48 AnyDecimals AnyZone rest (90 ∷ []) remaining decimals_runs (omega arith) (omega arith, omega arith) utc IsPrefixFree-zone zone_starts g)
 
-pub bad_zone : (b rest after : List ℕ) (x m left : ℕ) → b ≡ x ∷ rest → x ≡ 46 → Follows (Decimals m) rest after × IfFront (Ends IsDigit) after → Fails AnyZone after left → Fails AnyFraction b left
-bad_zone b rest after x m left e f g h =
-    Fails-behind Point AnyFraction 46 b rest left point_from point_to fraction_some (e ∙ ap (λ (n : ℕ). n ∷ rest) f)
-    (Fails-ahead AnyDecimals AnyZone (Ends IsDigit) rest after left (OneAhead-runs IsDigit 6 AnyDecimals decimals_runs) zone_starts (g.0.0, g.0.1, (m, g.0.2)) g.1 h)
+pub bad_zone : (b rest after : List ℕ) (x m remaining : ℕ) → b ≡ x ∷ rest → x ≡ 46 → Follows (Decimals m) rest after × IfFirst (Ends IsDigit) after → Fails AnyZone after remaining → Fails AnyFraction b remaining
+bad_zone b rest after x m remaining e f g h =
+    Fails-behind Point AnyFraction 46 b rest remaining point_from point_to fraction_some (e ∙ ap (λ (n : ℕ). n ∷ rest) f)
+    (Fails-ahead AnyDecimals AnyZone (Ends IsDigit) rest after remaining (OneAhead-runs IsDigit 6 AnyDecimals decimals_runs) zone_starts (g.0.0, g.0.1, (m, g.0.2)) g.1 h)
 
 alone_from : (x : ℕ) (s : List ℕ) → x ≢ 46 → AnyFraction (x ∷ s) → AnyZone (x ∷ s)
 alone_from x s ne (f, (y, z, e, h, k)) = elim (fraction_cases y (f.0, h)) [
@@ -245,8 +245,8 @@ alone_from x s ne (f, (y, z, e, h, k)) = elim (fraction_cases y (f.0, h)) [
 alone_to : (s : List ℕ) → AnyZone s → AnyFraction s
 alone_to s (o, h) = ((0, o), ([], s, refl, inl (refl, refl), h))
 
-pub bad_alone : (b rest : List ℕ) (x left : ℕ) → b ≡ x ∷ rest → x ≢ 46 → Fails AnyZone b left → Fails AnyFraction b left
-bad_alone b rest x left e ne f = Fails-alike AnyZone AnyFraction x b rest (90 ∷ []) left (λ s h. alone_from x s ne h) (λ s h. alone_to (x ∷ s) h) zone_some fraction_some only_utc e f
+pub bad_alone : (b rest : List ℕ) (x remaining : ℕ) → b ≡ x ∷ rest → x ≢ 46 → Fails AnyZone b remaining → Fails AnyFraction b remaining
+bad_alone b rest x remaining e ne f = Fails-alike AnyZone AnyFraction x b rest (90 ∷ []) remaining (λ s h. alone_from x s ne h) (λ s h. alone_to (x ∷ s) h) zone_some fraction_some only_utc e f
 
 pub point_read : (b rest after end : List ℕ) (x m : ℕ) (o o' : ℤ) → o' ≡ o → b ≡ x ∷ rest → x ≡ 46 → Follows (Decimals m) rest after → Follows (ZoneText o) after end → Follows (FractionZone (m, o')) b end
 point_read b rest after end x m o o' i e f g h' =
@@ -262,7 +262,7 @@ abbrev ClockZone : Language
 ClockZone = AnyOf Clock ⋅ AnyFraction
 
 abbrev pub Times : Language
-Times = Marked (AnyOf Date) 84 ClockZone
+Times = Delimited (AnyOf Date) 84 ClockZone
 
 abbrev civil_of : ℕ × ℕ × ℕ → ℕ × ℕ × ℕ → ℕ → Civil
 civil_of d c m = record { year = d.0; month = d.1; day = d.2; hour = c.0; minute = c.1; second = c.2; micros = m }
@@ -276,8 +276,8 @@ time_times s (t, (x, y, e, h, (z, w, f, k, (u, v, g, l, (a, b, i, m, n))))) =
     let o = t.civil in
     (x, y, e, ((o.year, o.month, o.day), h), (z, w, f, k, (u, v, g, ((o.hour, o.minute, o.second), l), ((o.micros, t.offset), (a, b, i, m, n)))))
 
-as_time : (b : List ℕ) (left : ℕ) → Fails Times b left → Fails (AnyOf TimeText) b left
-as_time b left f = Fails-same Times (AnyOf TimeText) b left times_time time_times f
+as_time : (b : List ℕ) (remaining : ℕ) → Fails Times b remaining → Fails (AnyOf TimeText) b remaining
+as_time b remaining f = Fails-same Times (AnyOf TimeText) b remaining times_time time_times f
 
 midnight : AnyOf Clock (padded 2 0 ++ 58 ∷ padded 2 0 ++ 58 ∷ padded 2 0)
 midnight = ((0, 0, 0), (padded 2 0, 58 ∷ padded 2 0 ++ 58 ∷ padded 2 0, refl, (omega arith, omega arith, refl), (58 ∷ [], padded 2 0 ++ 58 ∷ padded 2 0, refl, refl, (padded 2 0, 58 ∷ padded 2 0, refl, (omega arith, omega arith, refl), (58 ∷ [], padded 2 0, refl, refl, (omega arith, omega arith, refl))))))
@@ -285,17 +285,17 @@ midnight = ((0, 0, 0), (padded 2 0, 58 ∷ padded 2 0 ++ 58 ∷ padded 2 0, refl
 some_clock : ClockZone ((padded 2 0 ++ 58 ∷ padded 2 0 ++ 58 ∷ padded 2 0) ++ 90 ∷ [])
 some_clock = (padded 2 0 ++ 58 ∷ padded 2 0 ++ 58 ∷ padded 2 0, 90 ∷ [], refl, midnight, only_utc)
 
-pub bad_date : (b : List ℕ) (left : ℕ) → Fails (AnyOf Date) b left → Fails (AnyOf TimeText) b left
-bad_date b left f = as_time b left (bad_first (AnyOf Date) ClockZone 84 b _ left some_clock f)
+pub bad_date : (b : List ℕ) (remaining : ℕ) → Fails (AnyOf Date) b remaining → Fails (AnyOf TimeText) b remaining
+bad_date b remaining f = as_time b remaining (bad_first (AnyOf Date) ClockZone 84 b _ remaining some_clock f)
 
-pub bad_mark : (b rest : List ℕ) (d : ℕ × ℕ × ℕ) (left : ℕ) → Follows (Date d) b rest → Fails (Only (84 ∷ [])) rest left → Fails (AnyOf TimeText) b left
-bad_mark b rest d left g f = as_time b left (bad_middle (AnyOf Date) ClockZone 84 b rest _ left OneFront-date some_clock (g.0, g.1, (d, g.2)) f)
+pub bad_octet : (b rest : List ℕ) (d : ℕ × ℕ × ℕ) (remaining : ℕ) → Follows (Date d) b rest → Fails (Only (84 ∷ [])) rest remaining → Fails (AnyOf TimeText) b remaining
+bad_octet b rest d remaining g f = as_time b remaining (bad_middle (AnyOf Date) ClockZone 84 b rest _ remaining IsPrefixFree-date some_clock (g.0, g.1, (d, g.2)) f)
 
-pub bad_clock : (b rest after : List ℕ) (d : ℕ × ℕ × ℕ) (left : ℕ) → Follows (Date d) b rest → Follows (Only (84 ∷ [])) rest after → Fails (AnyOf Clock) after left → Fails (AnyOf TimeText) b left
-bad_clock b rest after d left g h f = as_time b left (bad_second (AnyOf Date) ClockZone 84 b rest after left OneFront-date (g.0, g.1, (d, g.2)) h (Fails-first (AnyOf Clock) AnyFraction after (90 ∷ []) left only_utc f))
+pub bad_clock : (b rest after : List ℕ) (d : ℕ × ℕ × ℕ) (remaining : ℕ) → Follows (Date d) b rest → Follows (Only (84 ∷ [])) rest after → Fails (AnyOf Clock) after remaining → Fails (AnyOf TimeText) b remaining
+bad_clock b rest after d remaining g h f = as_time b remaining (bad_second (AnyOf Date) ClockZone 84 b rest after remaining IsPrefixFree-date (g.0, g.1, (d, g.2)) h (Fails-first (AnyOf Clock) AnyFraction after (90 ∷ []) remaining only_utc f))
 
-pub bad_fraction : (b rest after end : List ℕ) (d c : ℕ × ℕ × ℕ) (left : ℕ) → Follows (Date d) b rest → Follows (Only (84 ∷ [])) rest after → Follows (Clock c) after end → Fails AnyFraction end left → Fails (AnyOf TimeText) b left
-bad_fraction b rest after end d c left g h i f = as_time b left (bad_second (AnyOf Date) ClockZone 84 b rest after left OneFront-date (g.0, g.1, (d, g.2)) h (Fails-later (AnyOf Clock) AnyFraction after end left OneFront-clock (i.0, i.1, (c, i.2)) f))
+pub bad_fraction : (b rest after end : List ℕ) (d c : ℕ × ℕ × ℕ) (remaining : ℕ) → Follows (Date d) b rest → Follows (Only (84 ∷ [])) rest after → Follows (Clock c) after end → Fails AnyFraction end remaining → Fails (AnyOf TimeText) b remaining
+bad_fraction b rest after end d c remaining g h i f = as_time b remaining (bad_second (AnyOf Date) ClockZone 84 b rest after remaining IsPrefixFree-date (g.0, g.1, (d, g.2)) h (Fails-later (AnyOf Clock) AnyFraction after end remaining IsPrefixFree-clock (i.0, i.1, (c, i.2)) f))
 
 pub time_read : (b rest after end last : List ℕ) (d c : ℕ × ℕ × ℕ) (m : ℕ) (o o' : ℤ) → o' ≡ o → Follows (Date d) b rest → Follows (Only (84 ∷ [])) rest after → Follows (Clock c) after end → Follows (FractionZone (m, o)) end last → Follows (TimeText (record { civil = civil_of d c m; offset = o' })) b last
 time_read b rest after end last d c m o o' same g h i j' =
@@ -304,10 +304,10 @@ time_read b rest after end last d c m o o' same g h i j' =
     Follows-then (Date d) (Only (84 ∷ []) ⋅ (Clock c ⋅ FractionZone f)) b rest last g
     (Follows-then (Only (84 ∷ [])) (Clock c ⋅ FractionZone f) rest after last h (Follows-then (Clock c) (FractionZone f) after end last i j))
 
-pub OneFront-time : OneFront (AnyOf TimeText)
-OneFront-time = OneFront-same Times (AnyOf TimeText) time_times (OneFront-between (AnyOf Date) ClockZone 84 OneFront-date (OneFront-then (AnyOf Clock) AnyFraction OneFront-clock OneFront-fraction))
+pub IsPrefixFree-time : IsPrefixFree (AnyOf TimeText)
+IsPrefixFree-time = IsPrefixFree-same Times (AnyOf TimeText) time_times (IsPrefixFree-between (AnyOf Date) ClockZone 84 IsPrefixFree-date (IsPrefixFree-then (AnyOf Clock) AnyFraction IsPrefixFree-clock IsPrefixFree-fraction))
 
--- ---- a time or the sign for nil
+-- ---- a time or NILVALUE
 
 abbrev pub AnyTime : Language
 AnyTime = AnyOf (λ t. Spaced (Nilable TimeText t))
@@ -335,8 +335,8 @@ nilable_some (None, (x, y, e, h, k)) = let f : [] ≡ 45 ∷ y = e ∙ ap (λ (u
 nilable_some (Some t, ([], y, e, h, k)) = let f : ◌≡◌ {A = List ℕ} [] (32 ∷ []) = e ∙ k in absurd cc
 nilable_some (Some t, (x ∷ z, y, e, h, k)) = absurd cc
 
-pub bad_nil : (b rest : List ℕ) (x left : ℕ) → b ≡ x ∷ rest → x ≡ 45 → Fails (Only (32 ∷ [])) rest left → Fails AnyTime b left
-bad_nil b rest x left e f g = Fails-behind (Only (32 ∷ [])) AnyTime 45 b rest left nil_from nil_to nilable_some (e ∙ ap (λ (n : ℕ). n ∷ rest) f) g
+pub bad_nil : (b rest : List ℕ) (x remaining : ℕ) → b ≡ x ∷ rest → x ≡ 45 → Fails (Only (32 ∷ [])) rest remaining → Fails AnyTime b remaining
+bad_nil b rest x remaining e f g = Fails-behind (Only (32 ∷ [])) AnyTime 45 b rest remaining nil_from nil_to nilable_some (e ∙ ap (λ (n : ℕ). n ∷ rest) f) g
 
 abbrev SpacedTime : Language
 SpacedTime = AnyOf TimeText ⋅ Only (32 ∷ [])
@@ -352,14 +352,14 @@ some_from x s ne (Some t, (y, z, e, h, k)) = (y, z, e, (t, h), k)
 some_to : (s : List ℕ) → SpacedTime s → AnyTime s
 some_to s (y, z, e, (t, h), k) = (Some t, (y, z, e, h, k))
 
-as_some : (b rest : List ℕ) (x left : ℕ) → b ≡ x ∷ rest → x ≢ 45 → Fails SpacedTime b left → Fails AnyTime b left
-as_some b rest x left e ne f = Fails-alike SpacedTime AnyTime x b rest (45 ∷ 32 ∷ []) left (λ s h. some_from x s ne h) (λ s h. some_to (x ∷ s) h) spaced_some nilable_some nil_time e f
+as_some : (b rest : List ℕ) (x remaining : ℕ) → b ≡ x ∷ rest → x ≢ 45 → Fails SpacedTime b remaining → Fails AnyTime b remaining
+as_some b rest x remaining e ne f = Fails-alike SpacedTime AnyTime x b rest (45 ∷ 32 ∷ []) remaining (λ s h. some_from x s ne h) (λ s h. some_to (x ∷ s) h) spaced_some nilable_some nil_time e f
 
-pub bad_time : (b rest : List ℕ) (x left : ℕ) → b ≡ x ∷ rest → x ≢ 45 → Fails (AnyOf TimeText) b left → Fails AnyTime b left
-bad_time b rest x left e ne f = as_some b rest x left e ne (Fails-first (AnyOf TimeText) (Only (32 ∷ [])) b (32 ∷ []) left refl f)
+pub bad_time : (b rest : List ℕ) (x remaining : ℕ) → b ≡ x ∷ rest → x ≢ 45 → Fails (AnyOf TimeText) b remaining → Fails AnyTime b remaining
+bad_time b rest x remaining e ne f = as_some b rest x remaining e ne (Fails-first (AnyOf TimeText) (Only (32 ∷ [])) b (32 ∷ []) remaining refl f)
 
-pub bad_space : (b rest after : List ℕ) (x left : ℕ) (t : CivilTime) → b ≡ x ∷ rest → x ≢ 45 → Follows (TimeText t) b after → Fails (Only (32 ∷ [])) after left → Fails AnyTime b left
-bad_space b rest after x left t e ne g f = as_some b rest x left e ne (Fails-later (AnyOf TimeText) (Only (32 ∷ [])) b after left OneFront-time (g.0, g.1, (t, g.2)) f)
+pub bad_space : (b rest after : List ℕ) (x remaining : ℕ) (t : CivilTime) → b ≡ x ∷ rest → x ≢ 45 → Follows (TimeText t) b after → Fails (Only (32 ∷ [])) after remaining → Fails AnyTime b remaining
+bad_space b rest after x remaining t e ne g f = as_some b rest x remaining e ne (Fails-later (AnyOf TimeText) (Only (32 ∷ [])) b after remaining IsPrefixFree-time (g.0, g.1, (t, g.2)) f)
 
 pub nil_read : (b rest after : List ℕ) (x : ℕ) → b ≡ x ∷ rest → x ≡ 45 → Follows (Only (32 ∷ [])) rest after → Follows (Spaced (Nilable TimeText None)) b after
 nil_read b rest after x e f g = Follows-then (Only (45 ∷ [])) (Only (32 ∷ [])) b rest after (45 ∷ [], e ∙ ap (λ (n : ℕ). n ∷ rest) f, refl) g
@@ -371,8 +371,8 @@ time_free : (s : List ℕ) → AnyTime s → SpacedTime s ⊎ (s ≡ 45 ∷ 32 �
 time_free s (None, (x, y, e, h, k)) = inr (e ∙ ap (λ (u : List ℕ). u ++ y) h ∙ ap (λ (u : List ℕ). 45 ∷ u) k)
 time_free s (Some t, (x, y, e, h, k)) = inl (x, y, e, (t, h), k)
 
-OneFront-spaced_time : OneFront SpacedTime
-OneFront-spaced_time = OneFront-then (AnyOf TimeText) (Only (32 ∷ [])) OneFront-time (OneFront-only (32 ∷ []))
+IsPrefixFree-spaced_time : IsPrefixFree SpacedTime
+IsPrefixFree-spaced_time = IsPrefixFree-then (AnyOf TimeText) (Only (32 ∷ [])) IsPrefixFree-time (IsPrefixFree-only (32 ∷ []))
 
 spaced_digit : (s t r : List ℕ) → SpacedTime s → s ++ t ≡ 45 ∷ r → ⊥
 spaced_digit s t r (x, y, e, (v, h), k) f =
@@ -380,10 +380,10 @@ spaced_digit s t r (x, y, e, (v, h), k) f =
     let same : d.0 ≡ 45 = heads d.0 45 ((d.1 ++ y) ++ t) r (ap (λ (u : List ℕ). (u ++ y) ++ t) (sym d.2) ∙ ap (λ (u : List ℕ). u ++ t) (sym e) ∙ f) in
     omega (arith, same, d.3)
 
-pub OneFront-nilable_time : OneFront AnyTime
-OneFront-nilable_time p s q t h k e = elim (time_free p h) [
+pub IsPrefixFree-nilable_time : IsPrefixFree AnyTime
+IsPrefixFree-nilable_time p s q t h k e = elim (time_free p h) [
   | inl a ↦ elim (time_free q k) [
-    | inl b ↦ OneFront-spaced_time p s q t a b e
+    | inl b ↦ IsPrefixFree-spaced_time p s q t a b e
     | inr b ↦ absurd (spaced_digit p s (32 ∷ t) a (e ∙ ap (λ (u : List ℕ). u ++ t) b))
   ]
   | inr a ↦ elim (time_free q k) [

@@ -2,16 +2,16 @@
 use Rattle.std.proofs.Common.{ℕ, List, [], ◌∷◌, refl, arith}
 use Rattle.std.specs.Prelude.{Option, None}
 use Rattle.std.specs.Fmt.{digits}
-use Rattle.octet_language.specs.Language.{Language, ◌⋅◌, AnyOf, OneFront}
+use Rattle.octet_language.specs.Language.{Language, ◌⋅◌, AnyOf, IsPrefixFree}
 use Rattle.octet_language.specs.Reading.{Fails, Follows}
-use Rattle.octet_language.proofs.Sequence.{OneFront-then}
-use Rattle.octet_language.proofs.Chain.{Fails-same, Follows-then, OneFront-same, Behind, further, fails_here, some_value}
+use Rattle.octet_language.proofs.Sequence.{IsPrefixFree-then}
+use Rattle.octet_language.proofs.Chain.{Fails-same, Follows-then, IsPrefixFree-same, Behind, further, fails_here, some_value}
 use Rattle.syslog_grammar.specs.Fields.{words_of}
 use Rattle.syslog_grammar.specs.Grammar.{HeaderParts, Header, Priority, Version, Word, Spaced, Nilable}
 use Rattle.syslog_grammar.specs.Time.{CivilTime, TimeText}
-use Rattle.syslog_grammar.proofs.Fractions.{AnyTime, nil_time, OneFront-nilable_time}
-use Rattle.syslog_grammar.proofs.Numbers.{OneFront-priority, OneFront-version}
-use Rattle.syslog_grammar.proofs.Words.{OneFront-any_word}
+use Rattle.syslog_grammar.proofs.Fractions.{AnyTime, nil_time, IsPrefixFree-nilable_time}
+use Rattle.syslog_grammar.proofs.Numbers.{IsPrefixFree-priority, IsPrefixFree-version}
+use Rattle.syslog_grammar.proofs.Words.{IsPrefixFree-any_word}
 
 abbrev AnyWord : ℕ → Language
 AnyWord n = AnyOf (λ w. Spaced (Nilable (Word n) w))
@@ -72,24 +72,24 @@ pub some_header : AnyOf Header (60 ∷ 48 ∷ 62 ∷ 49 ∷ 32 ∷ 45 ∷ 32 ∷
 unfolding digits
 some_header = whole_header _ (60 ∷ 48 ∷ 62 ∷ [], 49 ∷ 32 ∷ 45 ∷ 32 ∷ 45 ∷ 32 ∷ 45 ∷ 32 ∷ 45 ∷ 32 ∷ 45 ∷ 32 ∷ [], refl, (0, (60 ∷ [], 48 ∷ 62 ∷ [], refl, refl, (48 ∷ [], 62 ∷ [], refl, (omega arith, refl), refl))), some1)
 
-pub OneFront-header : OneFront (AnyOf Header)
-OneFront-header =
-    OneFront-same Whole (AnyOf Header) header_whole
-    (OneFront-then (AnyOf Priority) From1 OneFront-priority
-    (OneFront-then (Spaced Version) From2 OneFront-version
-    (OneFront-then AnyTime From3 OneFront-nilable_time
-    (OneFront-then (AnyWord 255) From4 (OneFront-any_word 255 (omega arith))
-    (OneFront-then (AnyWord 48) From5 (OneFront-any_word 48 (omega arith))
-    (OneFront-then (AnyWord 128) From6 (OneFront-any_word 128 (omega arith)) (OneFront-any_word 32 (omega arith))))))))
+pub IsPrefixFree-header : IsPrefixFree (AnyOf Header)
+IsPrefixFree-header =
+    IsPrefixFree-same Whole (AnyOf Header) header_whole
+    (IsPrefixFree-then (AnyOf Priority) From1 IsPrefixFree-priority
+    (IsPrefixFree-then (Spaced Version) From2 IsPrefixFree-version
+    (IsPrefixFree-then AnyTime From3 IsPrefixFree-nilable_time
+    (IsPrefixFree-then (AnyWord 255) From4 (IsPrefixFree-any_word 255 (omega arith))
+    (IsPrefixFree-then (AnyWord 48) From5 (IsPrefixFree-any_word 48 (omega arith))
+    (IsPrefixFree-then (AnyWord 128) From6 (IsPrefixFree-any_word 128 (omega arith)) (IsPrefixFree-any_word 32 (omega arith))))))))
 
 at0 : (b : List ℕ) → Behind (AnyOf Header) b Whole b
-at0 b left f = Fails-same Whole (AnyOf Header) b left whole_header header_whole f
+at0 b remaining f = Fails-same Whole (AnyOf Header) b remaining whole_header header_whole f
 
 at1 : (b r1 : List ℕ) (v : ℕ) → Follows (Priority v) b r1 → Behind (AnyOf Header) b From1 r1
-at1 b r1 v h0 = further (AnyOf Header) (AnyOf Priority) From1 b b r1 OneFront-priority (at0 b) (some_value Priority v b r1 h0)
+at1 b r1 v h0 = further (AnyOf Header) (AnyOf Priority) From1 b b r1 IsPrefixFree-priority (at0 b) (some_value Priority v b r1 h0)
 
 at2 : (b r1 r2 : List ℕ) (v : ℕ) → Follows (Priority v) b r1 → Follows (Spaced Version) r1 r2 → Behind (AnyOf Header) b From2 r2
-at2 b r1 r2 v h0 h1 = further (AnyOf Header) (Spaced Version) From2 b r1 r2 OneFront-version (at1 b r1 v h0) h1
+at2 b r1 r2 v h0 h1 = further (AnyOf Header) (Spaced Version) From2 b r1 r2 IsPrefixFree-version (at1 b r1 v h0) h1
 
 abbrev OneTime : Option CivilTime → Language
 OneTime t = Spaced (Nilable TimeText t)
@@ -98,37 +98,37 @@ abbrev OneWord : ℕ → Option (List ℕ) → Language
 OneWord n w = Spaced (Nilable (Word n) w)
 
 at3 : (b r1 r2 r3 : List ℕ) (v : ℕ) (t : Option CivilTime) → Follows (Priority v) b r1 → Follows (Spaced Version) r1 r2 → Follows (OneTime t) r2 r3 → Behind (AnyOf Header) b From3 r3
-at3 b r1 r2 r3 v t h0 h1 h2 = further (AnyOf Header) AnyTime From3 b r2 r3 OneFront-nilable_time (at2 b r1 r2 v h0 h1) (some_value OneTime t r2 r3 h2)
+at3 b r1 r2 r3 v t h0 h1 h2 = further (AnyOf Header) AnyTime From3 b r2 r3 IsPrefixFree-nilable_time (at2 b r1 r2 v h0 h1) (some_value OneTime t r2 r3 h2)
 
 at4 : (b r1 r2 r3 r4 : List ℕ) (v : ℕ) (t : Option CivilTime) (w3 : Option (List ℕ)) → Follows (Priority v) b r1 → Follows (Spaced Version) r1 r2 → Follows (OneTime t) r2 r3 → Follows (OneWord 255 w3) r3 r4 → Behind (AnyOf Header) b From4 r4
-at4 b r1 r2 r3 r4 v t w3 h0 h1 h2 h3 = further (AnyOf Header) (AnyWord 255) From4 b r3 r4 (OneFront-any_word 255 (omega arith)) (at3 b r1 r2 r3 v t h0 h1 h2) (some_value (OneWord 255) w3 r3 r4 h3)
+at4 b r1 r2 r3 r4 v t w3 h0 h1 h2 h3 = further (AnyOf Header) (AnyWord 255) From4 b r3 r4 (IsPrefixFree-any_word 255 (omega arith)) (at3 b r1 r2 r3 v t h0 h1 h2) (some_value (OneWord 255) w3 r3 r4 h3)
 
 at5 : (b r1 r2 r3 r4 r5 : List ℕ) (v : ℕ) (t : Option CivilTime) (w3 w4 : Option (List ℕ)) → Follows (Priority v) b r1 → Follows (Spaced Version) r1 r2 → Follows (OneTime t) r2 r3 → Follows (OneWord 255 w3) r3 r4 → Follows (OneWord 48 w4) r4 r5 → Behind (AnyOf Header) b From5 r5
-at5 b r1 r2 r3 r4 r5 v t w3 w4 h0 h1 h2 h3 h4 = further (AnyOf Header) (AnyWord 48) From5 b r4 r5 (OneFront-any_word 48 (omega arith)) (at4 b r1 r2 r3 r4 v t w3 h0 h1 h2 h3) (some_value (OneWord 48) w4 r4 r5 h4)
+at5 b r1 r2 r3 r4 r5 v t w3 w4 h0 h1 h2 h3 h4 = further (AnyOf Header) (AnyWord 48) From5 b r4 r5 (IsPrefixFree-any_word 48 (omega arith)) (at4 b r1 r2 r3 r4 v t w3 h0 h1 h2 h3) (some_value (OneWord 48) w4 r4 r5 h4)
 
 at6 : (b r1 r2 r3 r4 r5 r6 : List ℕ) (v : ℕ) (t : Option CivilTime) (w3 w4 w5 : Option (List ℕ)) → Follows (Priority v) b r1 → Follows (Spaced Version) r1 r2 → Follows (OneTime t) r2 r3 → Follows (OneWord 255 w3) r3 r4 → Follows (OneWord 48 w4) r4 r5 → Follows (OneWord 128 w5) r5 r6 → Behind (AnyOf Header) b From6 r6
-at6 b r1 r2 r3 r4 r5 r6 v t w3 w4 w5 h0 h1 h2 h3 h4 h5 = further (AnyOf Header) (AnyWord 128) From6 b r5 r6 (OneFront-any_word 128 (omega arith)) (at5 b r1 r2 r3 r4 r5 v t w3 w4 h0 h1 h2 h3 h4) (some_value (OneWord 128) w5 r5 r6 h5)
+at6 b r1 r2 r3 r4 r5 r6 v t w3 w4 w5 h0 h1 h2 h3 h4 h5 = further (AnyOf Header) (AnyWord 128) From6 b r5 r6 (IsPrefixFree-any_word 128 (omega arith)) (at5 b r1 r2 r3 r4 r5 v t w3 w4 h0 h1 h2 h3 h4) (some_value (OneWord 128) w5 r5 r6 h5)
 
-pub bad_priority : (b : List ℕ) (left : ℕ) → Fails (AnyOf Priority) b left → Fails (AnyOf Header) b left
-bad_priority b left f = fails_here (AnyOf Header) (AnyOf Priority) From1 b b _ left some1 (at0 b) f
+pub bad_priority : (b : List ℕ) (remaining : ℕ) → Fails (AnyOf Priority) b remaining → Fails (AnyOf Header) b remaining
+bad_priority b remaining f = fails_here (AnyOf Header) (AnyOf Priority) From1 b b _ remaining some1 (at0 b) f
 
-pub bad_version : (b r1 : List ℕ) (v : ℕ) (left : ℕ) → Follows (Priority v) b r1 → Fails (Spaced Version) r1 left → Fails (AnyOf Header) b left
-bad_version b r1 v left h0 f = fails_here (AnyOf Header) (Spaced Version) From2 b r1 _ left some2 (at1 b r1 v h0) f
+pub bad_version : (b r1 : List ℕ) (v : ℕ) (remaining : ℕ) → Follows (Priority v) b r1 → Fails (Spaced Version) r1 remaining → Fails (AnyOf Header) b remaining
+bad_version b r1 v remaining h0 f = fails_here (AnyOf Header) (Spaced Version) From2 b r1 _ remaining some2 (at1 b r1 v h0) f
 
-pub bad_time : (b r1 r2 : List ℕ) (v : ℕ) (left : ℕ) → Follows (Priority v) b r1 → Follows (Spaced Version) r1 r2 → Fails AnyTime r2 left → Fails (AnyOf Header) b left
-bad_time b r1 r2 v left h0 h1 f = fails_here (AnyOf Header) AnyTime From3 b r2 _ left some3 (at2 b r1 r2 v h0 h1) f
+pub bad_time : (b r1 r2 : List ℕ) (v : ℕ) (remaining : ℕ) → Follows (Priority v) b r1 → Follows (Spaced Version) r1 r2 → Fails AnyTime r2 remaining → Fails (AnyOf Header) b remaining
+bad_time b r1 r2 v remaining h0 h1 f = fails_here (AnyOf Header) AnyTime From3 b r2 _ remaining some3 (at2 b r1 r2 v h0 h1) f
 
-pub bad_hostname : (b r1 r2 r3 : List ℕ) (v : ℕ) (t : Option CivilTime) (left : ℕ) → Follows (Priority v) b r1 → Follows (Spaced Version) r1 r2 → Follows (OneTime t) r2 r3 → Fails (AnyWord 255) r3 left → Fails (AnyOf Header) b left
-bad_hostname b r1 r2 r3 v t left h0 h1 h2 f = fails_here (AnyOf Header) (AnyWord 255) From4 b r3 _ left some4 (at3 b r1 r2 r3 v t h0 h1 h2) f
+pub bad_hostname : (b r1 r2 r3 : List ℕ) (v : ℕ) (t : Option CivilTime) (remaining : ℕ) → Follows (Priority v) b r1 → Follows (Spaced Version) r1 r2 → Follows (OneTime t) r2 r3 → Fails (AnyWord 255) r3 remaining → Fails (AnyOf Header) b remaining
+bad_hostname b r1 r2 r3 v t remaining h0 h1 h2 f = fails_here (AnyOf Header) (AnyWord 255) From4 b r3 _ remaining some4 (at3 b r1 r2 r3 v t h0 h1 h2) f
 
-pub bad_app_name : (b r1 r2 r3 r4 : List ℕ) (v : ℕ) (t : Option CivilTime) (w3 : Option (List ℕ)) (left : ℕ) → Follows (Priority v) b r1 → Follows (Spaced Version) r1 r2 → Follows (OneTime t) r2 r3 → Follows (OneWord 255 w3) r3 r4 → Fails (AnyWord 48) r4 left → Fails (AnyOf Header) b left
-bad_app_name b r1 r2 r3 r4 v t w3 left h0 h1 h2 h3 f = fails_here (AnyOf Header) (AnyWord 48) From5 b r4 _ left some5 (at4 b r1 r2 r3 r4 v t w3 h0 h1 h2 h3) f
+pub bad_app_name : (b r1 r2 r3 r4 : List ℕ) (v : ℕ) (t : Option CivilTime) (w3 : Option (List ℕ)) (remaining : ℕ) → Follows (Priority v) b r1 → Follows (Spaced Version) r1 r2 → Follows (OneTime t) r2 r3 → Follows (OneWord 255 w3) r3 r4 → Fails (AnyWord 48) r4 remaining → Fails (AnyOf Header) b remaining
+bad_app_name b r1 r2 r3 r4 v t w3 remaining h0 h1 h2 h3 f = fails_here (AnyOf Header) (AnyWord 48) From5 b r4 _ remaining some5 (at4 b r1 r2 r3 r4 v t w3 h0 h1 h2 h3) f
 
-pub bad_proc_id : (b r1 r2 r3 r4 r5 : List ℕ) (v : ℕ) (t : Option CivilTime) (w3 w4 : Option (List ℕ)) (left : ℕ) → Follows (Priority v) b r1 → Follows (Spaced Version) r1 r2 → Follows (OneTime t) r2 r3 → Follows (OneWord 255 w3) r3 r4 → Follows (OneWord 48 w4) r4 r5 → Fails (AnyWord 128) r5 left → Fails (AnyOf Header) b left
-bad_proc_id b r1 r2 r3 r4 r5 v t w3 w4 left h0 h1 h2 h3 h4 f = fails_here (AnyOf Header) (AnyWord 128) From6 b r5 _ left some6 (at5 b r1 r2 r3 r4 r5 v t w3 w4 h0 h1 h2 h3 h4) f
+pub bad_proc_id : (b r1 r2 r3 r4 r5 : List ℕ) (v : ℕ) (t : Option CivilTime) (w3 w4 : Option (List ℕ)) (remaining : ℕ) → Follows (Priority v) b r1 → Follows (Spaced Version) r1 r2 → Follows (OneTime t) r2 r3 → Follows (OneWord 255 w3) r3 r4 → Follows (OneWord 48 w4) r4 r5 → Fails (AnyWord 128) r5 remaining → Fails (AnyOf Header) b remaining
+bad_proc_id b r1 r2 r3 r4 r5 v t w3 w4 remaining h0 h1 h2 h3 h4 f = fails_here (AnyOf Header) (AnyWord 128) From6 b r5 _ remaining some6 (at5 b r1 r2 r3 r4 r5 v t w3 w4 h0 h1 h2 h3 h4) f
 
-pub bad_msg_id : (b r1 r2 r3 r4 r5 r6 : List ℕ) (v : ℕ) (t : Option CivilTime) (w3 w4 w5 : Option (List ℕ)) (left : ℕ) → Follows (Priority v) b r1 → Follows (Spaced Version) r1 r2 → Follows (OneTime t) r2 r3 → Follows (OneWord 255 w3) r3 r4 → Follows (OneWord 48 w4) r4 r5 → Follows (OneWord 128 w5) r5 r6 → Fails (AnyWord 32) r6 left → Fails (AnyOf Header) b left
-bad_msg_id b r1 r2 r3 r4 r5 r6 v t w3 w4 w5 left h0 h1 h2 h3 h4 h5 f = at6 b r1 r2 r3 r4 r5 r6 v t w3 w4 w5 h0 h1 h2 h3 h4 h5 left f
+pub bad_msg_id : (b r1 r2 r3 r4 r5 r6 : List ℕ) (v : ℕ) (t : Option CivilTime) (w3 w4 w5 : Option (List ℕ)) (remaining : ℕ) → Follows (Priority v) b r1 → Follows (Spaced Version) r1 r2 → Follows (OneTime t) r2 r3 → Follows (OneWord 255 w3) r3 r4 → Follows (OneWord 48 w4) r4 r5 → Follows (OneWord 128 w5) r5 r6 → Fails (AnyWord 32) r6 remaining → Fails (AnyOf Header) b remaining
+bad_msg_id b r1 r2 r3 r4 r5 r6 v t w3 w4 w5 remaining h0 h1 h2 h3 h4 h5 f = at6 b r1 r2 r3 r4 r5 r6 v t w3 w4 w5 h0 h1 h2 h3 h4 h5 remaining f
 
 pub header_read : (b r1 r2 r3 r4 r5 r6 r7 : List ℕ) (h : HeaderParts) → Follows (Priority h.priority) b r1 → Follows (Spaced Version) r1 r2 → Follows (OneTime h.time) r2 r3 → Follows (OneWord 255 h.hostname) r3 r4 → Follows (OneWord 48 h.app_name) r4 r5 → Follows (OneWord 128 h.proc_id) r5 r6 → Follows (OneWord 32 h.msg_id) r6 r7 → Follows (Header h) b r7
 unfolding Header

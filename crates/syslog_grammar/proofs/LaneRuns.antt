@@ -1,4 +1,4 @@
--- From the mask of one load to the printable octets in front of it.
+-- From the mask of one load to the printable octets before it.
 use Rattle.std.proofs.Common.{take, zero, suc, ◌≡◌, ℕ, ◌+◌, ◌%◌, ◌^◌, ◌<◌, ◌≤◌, Bool, true, false, not, ◌&&◌, List, map, length, get_or, replicate, Fits, w8, sym, ap, ◌∙◌, subst, arith}
 use Rattle.std.specs.Prelude.{nat_le}
 use Rattle.std.specs.List.{AllByRecursion, prefix_len}
@@ -39,7 +39,7 @@ printable_lanes g h d i r z room fits found is agree =
 
 -- octets that are printable one by one go on a printable front
 pub run_on : (P : ℕ → Type 0) (i r : ℕ) (s : List ℕ) → i + r ≤ length s → AllByRecursion P (take i s) → ((k : ℕ) → i ≤ k → k < i + r → P (get_or s k 0)) → AllByRecursion P (take (i + r) s)
-run_on P i zero s room front each = subst (λ n. AllByRecursion P (take n s)) (omega arith) front
-run_on P i (suc r) s room front each =
-    let before = run_on P i r s (omega (arith, room)) front (λ k from to. each k from (omega (arith, to))) in
+run_on P i zero s room prefix each = subst (λ n. AllByRecursion P (take n s)) (omega arith) prefix
+run_on P i (suc r) s room prefix each =
+    let before = run_on P i r s (omega (arith, room)) prefix (λ k from to. each k from (omega (arith, to))) in
     subst (λ n. AllByRecursion P (take n s)) (omega arith) (run_more P (i + r) s (omega (arith, room)) before (each (i + r) (omega arith) (omega arith)))

@@ -1,7 +1,7 @@
 pub mod Runs
 pub mod Numbers
 pub mod Words
-pub mod Front
+pub mod Prefix
 pub mod Characters
 pub mod Ahead
 pub mod Classes
@@ -32,7 +32,7 @@ pub mod RecordsOf
 pub mod OneMeaning
 pub mod LaneRuns
 pub mod Laws
-pub mod CanonicalSpelled
+pub mod CanonicalParses
 pub mod Excluded
 pub mod Bounded
 pub mod ValueForms

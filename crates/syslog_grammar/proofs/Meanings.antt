@@ -8,7 +8,7 @@ use Rattle.octet_language.specs.Language.{AnyOf, Each}
 use Rattle.octet_language.specs.Reading.{Fails, Follows}
 use Rattle.octet_language.proofs.Lists.{tails}
 use Rattle.syslog_grammar.specs.Values.{IsPlain, IsEscape, Piece, Spells}
-use Rattle.syslog_grammar.proofs.Values.{OneFront-piece, no_special, piece_some}
+use Rattle.syslog_grammar.proofs.Values.{IsPrefixFree-piece, no_special, piece_some}
 
 one_piece : (m n b : List ℕ) → Piece m b → Piece n b → m ≡ n
 one_piece m n b (inl (x, k, e, f)) (inl (y, l, g, h)) = e ∙ tails 92 92 (x ∷ []) (y ∷ []) (sym f ∙ h) ∙ sym g
@@ -46,7 +46,7 @@ record First (m spelling behind meaning : List ℕ) : Type 0 where
 first : (m spelling behind meaning after : List ℕ) (x : ℕ) → spelling ≡ x ∷ after → Follows (Piece m) spelling behind → Spells meaning spelling → First m spelling behind meaning
 first m spelling behind meaning after x e f ([], g, h) = let i : ◌≡◌ {A = List ℕ} [] (x ∷ after) = sym h ∙ e in absurd cc
 first m spelling behind meaning after x e (t, f, p) (n ∷ ns, g, (a, b, h, k, l)) =
-    let same : a ≡ t = OneFront-piece a b t behind (n, k) (m, p) (sym h ∙ f) in
+    let same : a ≡ t = IsPrefixFree-piece a b t behind (n, k) (m, p) (sym h ∙ f) in
     let rests : b ≡ behind = append_cancel_left a b behind (sym h ∙ f ∙ ap (λ (u : List ℕ). u ++ behind) (sym same)) in
     let one : n ≡ m = one_piece n m t (subst (Piece n) same k) p in
     record {
@@ -55,12 +55,12 @@ first m spelling behind meaning after x e (t, f, p) (n ∷ ns, g, (a, b, h, k, l
       others = (ns, refl, subst (Each Piece ns) rests l);
     }
 
-no_pieces : (spelling meaning after : List ℕ) (x left : ℕ) → spelling ≡ x ∷ after → Fails (AnyOf Piece) spelling left → ¬ (Spells meaning spelling)
-no_pieces spelling meaning after x left e f ([], g, h) = let i : ◌≡◌ {A = List ℕ} [] (x ∷ after) = sym h ∙ e in absurd cc
-no_pieces spelling meaning after x left e f (n ∷ ns, g, (a, b, h, k, l)) = f.none a b h (n, k)
+no_pieces : (spelling meaning after : List ℕ) (x remaining : ℕ) → spelling ≡ x ∷ after → Fails (AnyOf Piece) spelling remaining → ¬ (Spells meaning spelling)
+no_pieces spelling meaning after x remaining e f ([], g, h) = let i : ◌≡◌ {A = List ℕ} [] (x ∷ after) = sym h ∙ e in absurd cc
+no_pieces spelling meaning after x remaining e f (n ∷ ns, g, (a, b, h, k, l)) = f.none a b h (n, k)
 
-pub matches_stuck : (raw text spelling meaning after : List ℕ) (x left : ℕ) → spelling ≡ x ∷ after → Fails (AnyOf Piece) spelling left → Matches raw text spelling meaning → IsTrue false ↔ Spells text raw
-matches_stuck raw text spelling meaning after x left e f m = (λ u. absurd cc, λ h. absurd (no_pieces spelling meaning after x left e f (m.to h)))
+pub matches_stuck : (raw text spelling meaning after : List ℕ) (x remaining : ℕ) → spelling ≡ x ∷ after → Fails (AnyOf Piece) spelling remaining → Matches raw text spelling meaning → IsTrue false ↔ Spells text raw
+matches_stuck raw text spelling meaning after x remaining e f m = (λ u. absurd cc, λ h. absurd (no_pieces spelling meaning after x remaining e f (m.to h)))
 
 pub matches_other : (raw text spelling meaning behind after n : List ℕ) (x : ℕ) → spelling ≡ x ∷ after → Follows (Piece n) spelling behind → ((t : List ℕ) → meaning ≢ n ++ t) → Matches raw text spelling meaning → IsTrue false ↔ Spells text raw
 matches_other raw text spelling meaning behind after n x e f none m =
@@ -88,5 +88,5 @@ pub empty_test : (r : Bool) (m : List ℕ) (S : Type 0) → r ≡ (length m == 0
 empty_test r [] S e s = (λ u. s.0 refl, λ h. e)
 empty_test r (x ∷ m) S e s = (λ u. let i : length (x ∷ m) ≡ 0 = eqb-true (length (x ∷ m)) 0 (sym e ∙ u) in absurd (omega (arith, i)), λ h. let i : x ∷ m ≡ [] = s.1 h in absurd cc)
 
-pub starts_with : (front octets t : List ℕ) → octets ≡ front ++ t → take (length front) octets ≡ front
-starts_with front octets t e = ap (take (length front)) e ∙ take_at front t (length front) refl
+pub starts_with : (prefix octets t : List ℕ) → octets ≡ prefix ++ t → take (length prefix) octets ≡ prefix
+starts_with prefix octets t e = ap (take (length prefix)) e ∙ take_at prefix t (length prefix) refl

@@ -1,6 +1,6 @@
 -- Where names end and stop.
 use Rattle.std.proofs.Common.{ℕ, List, [], ◌∷◌, refl, sym, subst, arith}
-use Rattle.octet_language.specs.Language.{Language, ◌⋅◌, AnyOf, OneFront}
+use Rattle.octet_language.specs.Language.{Language, ◌⋅◌, AnyOf, IsPrefixFree}
 use Rattle.octet_language.specs.Reading.{Fails}
 use Rattle.syslog_value.specs.Parts.{IsNameOctet}
 use Rattle.syslog_grammar.specs.Grammar.{Name}
@@ -28,5 +28,5 @@ pub letter : AnyOf Name (97 ∷ [])
 letter = (97 ∷ [], (record { some = omega arith; fits = omega arith; octets = (letter_octet, tt) }, refl))
 
 -- a name that is not whole, whatever ends it
-pub Fails-name : (B : Language) (b t : List ℕ) (left : ℕ) → B t → OneFront B → StartsIn EndsName B → StopsInRun IsNameOctet 32 b left → Fails (AnyOf Name ⋅ B) b left
-Fails-name B b t left some one starts f = Fails-run IsNameOctet 32 97 (AnyOf Name) B b t left names (omega arith) letter_octet some one starts f
+pub Fails-name : (B : Language) (b t : List ℕ) (remaining : ℕ) → B t → IsPrefixFree B → StartsIn EndsName B → StopsInRun IsNameOctet 32 b remaining → Fails (AnyOf Name ⋅ B) b remaining
+Fails-name B b t remaining some one starts f = Fails-run IsNameOctet 32 97 (AnyOf Name) B b t remaining names (omega arith) letter_octet some one starts f

@@ -7,28 +7,28 @@ use Rattle.std.proofs.lemmas.Bool.Decides.{nat_tests}
 use Rattle.std.proofs.lemmas.List.{append_cancel_left, append_cancel_right}
 use Rattle.syslog_value.specs.Calendar.{month_length}
 use Rattle.octet_language.specs.Digits.{IsDigit, read_on}
-use Rattle.octet_language.specs.Language.{Language, Only, ◌⋅◌, AnyOf, Each, OneFront, IfFront}
-use Rattle.octet_language.proofs.Lists.{heads, tails, same_front}
-use Rattle.syslog_value.specs.Parts.{ParamParts, ElementParts, MessageParts, AnyOctets, Utf8Text, mark}
-use Rattle.syslog_grammar.specs.Grammar.{Nilable, Word, Spaced, Priority, Param, Element, Data, Message, Tail}
+use Rattle.octet_language.specs.Language.{Language, Only, ◌⋅◌, AnyOf, Each, IsPrefixFree, IfFirst}
+use Rattle.octet_language.proofs.Lists.{heads, tails, same_prefix}
+use Rattle.syslog_value.specs.Parts.{ParamParts, ElementParts, MessageParts, AnyOctets, Utf8Text, bom}
+use Rattle.syslog_grammar.specs.Grammar.{Nilable, Word, Spaced, Priority, Param, Element, StructuredDataText, Message, MessagePart}
 use Rattle.syslog_grammar.specs.Time.{CivilTime, instant, padded, OffsetText, ZoneText, FractionText, TimeText}
 use Rattle.syslog_grammar.proofs.Ahead.{may_start, same_run}
 use Rattle.syslog_grammar.proofs.Classes.{Ends}
-use Rattle.syslog_grammar.proofs.Fractions.{AnyZone, IsSign, zone_front, zone_starts}
+use Rattle.syslog_grammar.proofs.Fractions.{AnyZone, IsSign, zone_prefix, zone_starts}
 use Rattle.syslog_grammar.proofs.OwnedParts.{param_same, param_is, element_same, element_is}
-use Rattle.syslog_grammar.proofs.ParamTexts.{OneFront-param, OneFront-element, param_some, element_front}
+use Rattle.syslog_grammar.proofs.ParamTexts.{IsPrefixFree-param, IsPrefixFree-element, param_some, element_prefix}
 use Rattle.syslog_grammar.proofs.Times.{OneValue-year}
 use Rattle.syslog_grammar.proofs.Unescaped.{meaning}
 use Rattle.syslog_grammar.proofs.Viewing.{time_exists}
 
--- the two parts of a text, by their length or by one front
+-- the two parts of a text, by their length or by one prefix
 by_length : (f g s t : List ℕ) → length f ≡ length g → f ++ s ≡ g ++ t → (f ≡ g) × (s ≡ t)
 by_length f g s t n e =
-    let same = same_front f g s t n e in
+    let same = same_prefix f g s t n e in
     (same, append_cancel_left f s t (e ∙ ap (λ (u : List ℕ). u ++ t) (sym same)))
 
-pub by_front : (L : Language) (x y u v : List ℕ) → OneFront L → L x → L u → x ++ y ≡ u ++ v → (x ≡ u) × (y ≡ v)
-by_front L x y u v one a b e =
+pub by_prefix : (L : Language) (x y u v : List ℕ) → IsPrefixFree L → L x → L u → x ++ y ≡ u ++ v → (x ≡ u) × (y ≡ v)
+by_prefix L x y u v one a b e =
     let same = one x y u v a b e in
     (same, append_cancel_left x y v (e ∙ ap (λ (s : List ℕ). s ++ v) (sym same)))
 
@@ -76,7 +76,7 @@ no_sign (inr (inl e)) = omega (arith, e)
 no_sign (inr (inr e)) = omega (arith, e)
 
 not_point : (y t : List ℕ) → AnyZone y → y ≡ 46 ∷ t → ⊥
-not_point y t h e = no_sign (zone_front 46 t (subst AnyZone e h))
+not_point y t h e = no_sign (zone_prefix 46 t (subst AnyZone e h))
 
 rest_same : (m n : ℕ) (o p : ℤ) (s : List ℕ) → (FractionText m ⋅ ZoneText o) s → (FractionText n ⋅ ZoneText p) s → (m ≡ n) × (o ≡ p)
 rest_same m n o p s (x, y, e, inl (a, f), h) (u, v, g, inl (b, k), l) =
@@ -143,13 +143,13 @@ time_same t u b h k =
     rw (year, month, day, hour, minute, second, last.0, last.1) refl in
     same
 
-no_dash : (t : CivilTime) (b : List ℕ) → TimeText t b → b ≡ 45 ∷ [] → ⊥
-no_dash t b h e = let f = fixed t b h in let i : ◌≡◌ {A = List ℕ} (45 ∷ []) (padded 4 t.civil.year ++ (45 ∷ padded 2 t.civil.month) ++ (45 ∷ padded 2 t.civil.day) ++ (84 ∷ padded 2 t.civil.hour) ++ (58 ∷ padded 2 t.civil.minute) ++ (58 ∷ padded 2 t.civil.second) ++ f.rest) = sym e ∙ f.is in absurd (cc)
+no_nil : (t : CivilTime) (b : List ℕ) → TimeText t b → b ≡ 45 ∷ [] → ⊥
+no_nil t b h e = let f = fixed t b h in let i : ◌≡◌ {A = List ℕ} (45 ∷ []) (padded 4 t.civil.year ++ (45 ∷ padded 2 t.civil.month) ++ (45 ∷ padded 2 t.civil.day) ++ (84 ∷ padded 2 t.civil.hour) ++ (58 ∷ padded 2 t.civil.minute) ++ (58 ∷ padded 2 t.civil.second) ++ f.rest) = sym e ∙ f.is in absurd (cc)
 
 pub nilable_time_same : (t u : Option CivilTime) (b : List ℕ) → Nilable TimeText t b → Nilable TimeText u b → option_map instant t ≡ option_map instant u
 nilable_time_same None None b h k = refl
-nilable_time_same None (Some u) b h k = absurd (no_dash u b k h)
-nilable_time_same (Some t) None b h k = absurd (no_dash t b h k)
+nilable_time_same None (Some u) b h k = absurd (no_nil u b k h)
+nilable_time_same (Some t) None b h k = absurd (no_nil t b h k)
 nilable_time_same (Some t) (Some u) b h k = ap (λ (c : CivilTime). Some (instant c)) (time_same t u b h k)
 
 -- ---- words and the priority
@@ -174,21 +174,21 @@ priority_same v w b (x, y, e, h, (d, m, f, (vs, k), n)) (x', y', e', h', (d', m'
 
 -- ---- elements
 
-each_same : {V : Type 0} (A : V → Language) → OneFront (AnyOf A) → ¬ (AnyOf A []) → ((v w : V) (s : List ℕ) → A v s → A w s → v ≡ w) → (vs ws : List V) (s : List ℕ) → Each A vs s → Each A ws s → vs ≡ ws
-each_same A front some one [] [] s h k = refl
-each_same A front some one [] (w ∷ ws) s h (x, y, e, k, l) = absurd (some (w, nil_front (A w) x y (sym e ∙ h) k))
+each_same : {V : Type 0} (A : V → Language) → IsPrefixFree (AnyOf A) → ¬ (AnyOf A []) → ((v w : V) (s : List ℕ) → A v s → A w s → v ≡ w) → (vs ws : List V) (s : List ℕ) → Each A vs s → Each A ws s → vs ≡ ws
+each_same A prefix some one [] [] s h k = refl
+each_same A prefix some one [] (w ∷ ws) s h (x, y, e, k, l) = absurd (some (w, nil_prefix (A w) x y (sym e ∙ h) k))
   where
-    nil_front : (L : Language) (x y : List ℕ) → x ++ y ≡ [] → L x → L []
-    nil_front L [] y e h = h
-    nil_front L (z ∷ x) y e h = absurd cc
-each_same A front some one (v ∷ vs) [] s (x, y, e, k, l) h = absurd (some (v, nil_front (A v) x y (sym e ∙ h) k))
+    nil_prefix : (L : Language) (x y : List ℕ) → x ++ y ≡ [] → L x → L []
+    nil_prefix L [] y e h = h
+    nil_prefix L (z ∷ x) y e h = absurd cc
+each_same A prefix some one (v ∷ vs) [] s (x, y, e, k, l) h = absurd (some (v, nil_prefix (A v) x y (sym e ∙ h) k))
   where
-    nil_front : (L : Language) (x y : List ℕ) → x ++ y ≡ [] → L x → L []
-    nil_front L [] y e h = h
-    nil_front L (z ∷ x) y e h = absurd cc
-each_same {V = V} A front some one (v ∷ vs) (w ∷ ws) s (x, y, e, h, k) (u, t, f, l, m) =
-    let both = by_front (AnyOf A) x y u t front (v, h) (w, l) (sym e ∙ f) in
-    ap (λ (a : V). a ∷ vs) (one v w u (subst (A v) both.0 h) l) ∙ ap (λ (as' : List V). w ∷ as') (each_same A front some one vs ws t (subst (Each A vs) both.1 k) m)
+    nil_prefix : (L : Language) (x y : List ℕ) → x ++ y ≡ [] → L x → L []
+    nil_prefix L [] y e h = h
+    nil_prefix L (z ∷ x) y e h = absurd cc
+each_same {V = V} A prefix some one (v ∷ vs) (w ∷ ws) s (x, y, e, h, k) (u, t, f, l, m) =
+    let both = by_prefix (AnyOf A) x y u t prefix (v, h) (w, l) (sym e ∙ f) in
+    ap (λ (a : V). a ∷ vs) (one v w u (subst (A v) both.0 h) l) ∙ ap (λ (as' : List V). w ∷ as') (each_same A prefix some one vs ws t (subst (Each A vs) both.1 k) m)
 
 param_values : (p q : ParamParts) (s : List ℕ) → Param p s → Param q s → p ≡ q
 param_values p q s h (x, y, e, i, (z, w, g, k, (u, v, f, l, (a, r, j, (ms, m, c), n)))) =
@@ -199,29 +199,29 @@ param_values p q s h (x, y, e, i, (z, w, g, k, (u, v, f, l, (a, r, j, (ms, m, c)
 element_values : (p q : ElementParts) (s : List ℕ) → Element p s → Element q s → p ≡ q
 element_values p q s h (x, y, e, i, (z, w, g, k, (u, v, f, l, m))) =
     let same = element_same p (record { id = q.id; params = u }) s h (x, y, e, i, (z, w, g, k, (u, v, f, ((q.params, l), refl), m))) in
-    element_is p q.id q.params same.0 (each_same Param OneFront-param param_some param_values p.params q.params u same.1 l)
+    element_is p q.id q.params same.0 (each_same Param IsPrefixFree-param param_some param_values p.params q.params u same.1 l)
 
-no_bracket : (e : ElementParts) (x y s t : List ℕ) → Element e x → IfFront (λ z. z ≢ 91) s → s ≡ (x ++ y) ++ t → ⊥
-no_bracket e x y [] t h u f = let k = element_front x (e, h) in let i : ◌≡◌ {A = List ℕ} [] (91 ∷ ((k.0 ++ y) ++ t)) = f ∙ ap (λ (w : List ℕ). (w ++ y) ++ t) k.1 in absurd cc
-no_bracket e x y (z ∷ s) t h u f = let k = element_front x (e, h) in u (heads z 91 s ((k.0 ++ y) ++ t) (f ∙ ap (λ (w : List ℕ). (w ++ y) ++ t) k.1))
+no_bracket : (e : ElementParts) (x y s t : List ℕ) → Element e x → IfFirst (λ z. z ≢ 91) s → s ≡ (x ++ y) ++ t → ⊥
+no_bracket e x y [] t h u f = let k = element_prefix x (e, h) in let i : ◌≡◌ {A = List ℕ} [] (91 ∷ ((k.0 ++ y) ++ t)) = f ∙ ap (λ (w : List ℕ). (w ++ y) ++ t) k.1 in absurd cc
+no_bracket e x y (z ∷ s) t h u f = let k = element_prefix x (e, h) in u (heads z 91 s ((k.0 ++ y) ++ t) (f ∙ ap (λ (w : List ℕ). (w ++ y) ++ t) k.1))
 
-elements_same : (es fs : List ElementParts) (p s q t : List ℕ) → Each Element es p → Each Element fs q → IfFront (λ x. x ≢ 91) s → IfFront (λ x. x ≢ 91) t → p ++ s ≡ q ++ t → (es ≡ fs) × (s ≡ t)
+elements_same : (es fs : List ElementParts) (p s q t : List ℕ) → Each Element es p → Each Element fs q → IfFirst (λ x. x ≢ 91) s → IfFirst (λ x. x ≢ 91) t → p ++ s ≡ q ++ t → (es ≡ fs) × (s ≡ t)
 elements_same [] [] p s q t h k u v e = (refl, ap (λ (w : List ℕ). w ++ s) (sym h) ∙ e ∙ ap (λ (w : List ℕ). w ++ t) k)
 elements_same [] (f ∷ fs) p s q t h (x, y, g, k, l) u v e = absurd (no_bracket f x y s t k u (ap (λ (w : List ℕ). w ++ s) (sym h) ∙ e ∙ ap (λ (w : List ℕ). w ++ t) g))
 elements_same (f ∷ es) [] p s q t (x, y, g, h, l) k u v e = absurd (no_bracket f x y t s h v (ap (λ (w : List ℕ). w ++ t) (sym k) ∙ sym e ∙ ap (λ (w : List ℕ). w ++ s) g))
 elements_same (f ∷ es) (d ∷ fs) p s q t (x, y, g, h, l) (z, w, i, k, m) u v e =
     let whole : x ++ (y ++ s) ≡ z ++ (w ++ t) = sym (append_assoc x y s) ∙ ap (λ (c : List ℕ). c ++ s) (sym g) ∙ e ∙ ap (λ (c : List ℕ). c ++ t) i ∙ append_assoc z w t in
-    let both = by_front (AnyOf Element) x (y ++ s) z (w ++ t) OneFront-element (f, h) (d, k) whole in
+    let both = by_prefix (AnyOf Element) x (y ++ s) z (w ++ t) IsPrefixFree-element (f, h) (d, k) whole in
     let deeper = elements_same es fs y s w t l m u v both.1 in
     (ap (λ (a : ElementParts). a ∷ es) (element_values f d z (subst (Element f) both.0 h) k) ∙ ap (λ (as' : List ElementParts). d ∷ as') deeper.0, deeper.1)
 
-pub data_same : (es fs : List ElementParts) (p s q t : List ℕ) → Data es p → Data fs q → IfFront (λ x. x ≢ 91) s → IfFront (λ x. x ≢ 91) t → p ++ s ≡ q ++ t → (es ≡ fs) × (s ≡ t)
+pub data_same : (es fs : List ElementParts) (p s q t : List ℕ) → StructuredDataText es p → StructuredDataText fs q → IfFirst (λ x. x ≢ 91) s → IfFirst (λ x. x ≢ 91) t → p ++ s ≡ q ++ t → (es ≡ fs) × (s ≡ t)
 data_same [] [] p s q t h k u v e = (refl, tails 45 45 s t (ap (λ (w : List ℕ). w ++ s) (sym h) ∙ e ∙ ap (λ (w : List ℕ). w ++ t) k))
 data_same [] (f ∷ fs) p s q t h (x, y, g, k, l) u v e =
-    let r = element_front x (f, k) in
+    let r = element_prefix x (f, k) in
     absurd (omega (arith, heads 45 91 s ((r.0 ++ y) ++ t) (ap (λ (w : List ℕ). w ++ s) (sym h) ∙ e ∙ ap (λ (w : List ℕ). w ++ t) (g ∙ ap (λ (w : List ℕ). w ++ y) r.1))))
 data_same (f ∷ es) [] p s q t (x, y, g, k, l) h u v e =
-    let r = element_front x (f, k) in
+    let r = element_prefix x (f, k) in
     absurd (omega (arith, heads 45 91 t ((r.0 ++ y) ++ s) (ap (λ (w : List ℕ). w ++ t) (sym h) ∙ sym e ∙ ap (λ (w : List ℕ). w ++ s) (g ∙ ap (λ (w : List ℕ). w ++ y) r.1))))
 data_same (f ∷ es) (d ∷ fs) p s q t h k u v e = elements_same (f ∷ es) (d ∷ fs) p s q t h k u v e
 
@@ -232,12 +232,12 @@ message_same (AnyOctets a) (AnyOctets c) b h k = ap AnyOctets (sym h.2 ∙ k.2)
 message_same (AnyOctets a) (Utf8Text c) b h (i, (x, y, e, k, l)) = absurd (h.1 (ap (take 3) (sym h.2 ∙ e ∙ ap (λ (t : List ℕ). t ++ y) k)))
 message_same (Utf8Text c) (AnyOctets a) b (i, (x, y, e, k, l)) h = absurd (h.1 (ap (take 3) (sym h.2 ∙ e ∙ ap (λ (t : List ℕ). t ++ y) k)))
 message_same (Utf8Text a) (Utf8Text c) b (i, (x, y, e, k, l)) (j, (u, v, f, m, n)) =
-    ap Utf8Text (sym l ∙ append_cancel_left mark y v (ap (λ (t : List ℕ). t ++ y) (sym k) ∙ sym e ∙ f ∙ ap (λ (t : List ℕ). t ++ v) m) ∙ n)
+    ap Utf8Text (sym l ∙ append_cancel_left bom y v (ap (λ (t : List ℕ). t ++ y) (sym k) ∙ sym e ∙ f ∙ ap (λ (t : List ℕ). t ++ v) m) ∙ n)
 
 spaced_message : (m : MessageParts) (b : List ℕ) → (Only (32 ∷ []) ⋅ Message m) b → (t : List ℕ) × (b ≡ 32 ∷ t) × Message m t
 spaced_message m b (x, y, e, h, k) = (y, e ∙ ap (λ (t : List ℕ). t ++ y) h, k)
 
-pub tail_same : (m n : MessageParts) (b : List ℕ) → Tail m b → Tail n b → m ≡ n
+pub tail_same : (m n : MessageParts) (b : List ℕ) → MessagePart m b → MessagePart n b → m ≡ n
 tail_same m n b (inl (e, f)) (inl (g, h)) = e ∙ sym g
 tail_same m n b (inl (e, f)) (inr k) = let r = spaced_message n b k in let i : ◌≡◌ {A = List ℕ} [] (32 ∷ r.0) = sym f ∙ r.1 in absurd cc
 tail_same m n b (inr k) (inl (e, f)) = let r = spaced_message m b k in let i : ◌≡◌ {A = List ℕ} [] (32 ∷ r.0) = sym f ∙ r.1 in absurd cc
@@ -245,6 +245,6 @@ tail_same m n b (inr k) (inr l) =
     let r = spaced_message m b k in let q = spaced_message n b l in
     message_same m n q.0 (subst (Message m) (tails 32 32 r.0 q.0 (sym r.1 ∙ q.1)) r.2) q.2
 
-pub tail_front : (m : MessageParts) (b : List ℕ) → Tail m b → IfFront (λ x. x ≢ 91) b
-tail_front m b (inl (e, f)) = rw f tt
-tail_front m b (inr k) = let r = spaced_message m b k in rw r.1 (λ e. omega (arith, e))
+pub tail_prefix : (m : MessageParts) (b : List ℕ) → MessagePart m b → IfFirst (λ x. x ≢ 91) b
+tail_prefix m b (inl (e, f)) = rw f tt
+tail_prefix m b (inr k) = let r = spaced_message m b k in rw r.1 (λ e. omega (arith, e))

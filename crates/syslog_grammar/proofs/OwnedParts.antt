@@ -1,21 +1,21 @@
 -- What was read of parameters and elements, as parts of their own.
 use Rattle.std.proofs.Common.{◌≡◌, ◌≢◌, ℕ, List, [], ◌∷◌, ◌++◌, refl, sym, ap, subst, ◌∙◌, append_assoc, arith, inl, inr, ◌⊎◌}
 use Rattle.std.proofs.lemmas.List.{append-nil, append_cancel_left, append_cancel_right}
-use Rattle.octet_language.specs.Language.{Language, AnyOf, Each, OneFront, IfFront}
+use Rattle.octet_language.specs.Language.{Language, AnyOf, Each, IsPrefixFree, IfFirst}
 use Rattle.octet_language.specs.Reading.{Follows}
 use Rattle.octet_language.proofs.Lists.{heads, tails}
 use Rattle.syslog_value.specs.Parts.{ParamParts, ElementParts}
-use Rattle.syslog_grammar.specs.Grammar.{Name, Param, Element, Data}
+use Rattle.syslog_grammar.specs.Grammar.{Name, Param, Element, StructuredDataText}
 use Rattle.syslog_grammar.specs.Spans.{ParamSpan, SpannedParam, ElementSpan, SpannedElement}
 use Rattle.syslog_grammar.specs.Values.{Spells}
 use Rattle.syslog_grammar.proofs.Ahead.{may_start}
 use Rattle.syslog_grammar.proofs.Names.{EndsName, OneAhead-name}
-use Rattle.syslog_grammar.proofs.ParamTexts.{SpannedParams, params_start, OneFront-param, OneFront-element, spanned_param, spanned_element, param_some, element_some, element_front}
+use Rattle.syslog_grammar.proofs.ParamTexts.{SpannedParams, params_start, IsPrefixFree-param, IsPrefixFree-element, spanned_param, spanned_element, param_some, element_some, element_prefix}
 
 -- ---- one item
 
 -- the first item and the others, where a reader of it took its text
-next_item : {V W : Type 0} (A : V → Language) (S : W → Language) → OneFront (AnyOf A) → ((s : List ℕ) → AnyOf S s → AnyOf A s)
+next_item : {V W : Type 0} (A : V → Language) (S : W → Language) → IsPrefixFree (AnyOf A) → ((s : List ℕ) → AnyOf S s → AnyOf A s)
     → (v : V) (vs : List V) (w : W) (rest behind : List ℕ) → Each A (v ∷ vs) rest → Follows (S w) rest behind → (x : List ℕ) × A v x × S w x × Each A vs behind
 next_item A S one from v vs w rest behind (x, y, e, h, k) (t, f, s) =
     let same : x ≡ t = one x y t behind (v, h) (from t (w, s)) (sym e ∙ f) in
@@ -23,15 +23,15 @@ next_item A S one from v vs w rest behind (x, y, e, h, k) (t, f, s) =
     (t, subst (A v) same h, s, subst (Each A vs) rests k)
 
 -- a name and what ends it
-same_names : (n m u v : List ℕ) → AnyOf Name n → AnyOf Name m → IfFront EndsName u → IfFront EndsName v → n ++ u ≡ m ++ v → (n ≡ m) × (u ≡ v)
+same_names : (n m u v : List ℕ) → AnyOf Name n → AnyOf Name m → IfFirst EndsName u → IfFirst EndsName v → n ++ u ≡ m ++ v → (n ≡ m) × (u ≡ v)
 same_names n m u v h k p q e =
     let same : n ≡ m = OneAhead-name n u m v h k p q e in
     (same, append_cancel_left n u v (e ∙ ap (λ (s : List ℕ). s ++ v) (sym same)))
 
-quoted : (w u v : List ℕ) → w ≡ u ++ v → u ≡ 61 ∷ 34 ∷ [] → IfFront EndsName w
+quoted : (w u v : List ℕ) → w ≡ u ++ v → u ≡ 61 ∷ 34 ∷ [] → IfFirst EndsName w
 quoted w u v e h = rw (e, h) (λ n. n.1 refl)
 
-equals : (w u v : List ℕ) → w ≡ u ++ v → u ≡ 61 ∷ [] → IfFront EndsName w
+equals : (w u v : List ℕ) → w ≡ u ++ v → u ≡ 61 ∷ [] → IfFirst EndsName w
 equals w u v e h = rw (e, h) (λ n. n.1 refl)
 
 -- a parameter by its parts and as it lies in the octets
@@ -45,7 +45,7 @@ param_same p s b (x, y, e, h, (z, w, g, (n, k), (u, v, f, l, (q, r, i, m, o)))) 
     let values : q ≡ a = append_cancel_right q a (34 ∷ []) (tails 34 34 (q ++ 34 ∷ []) (a ++ 34 ∷ []) (tails 61 61 (34 ∷ (q ++ 34 ∷ [])) (34 ∷ (a ++ 34 ∷ [])) (sym left ∙ names.1 ∙ right))) in
     (sym k ∙ names.0 ∙ k', subst (Spells p.value) (values ∙ c) m)
 
-closed : (params w : List ℕ) → AnyOf SpannedParams w → IfFront EndsName w
+closed : (params w : List ℕ) → AnyOf SpannedParams w → IfFirst EndsName w
 closed params w h = may_start EndsName (AnyOf SpannedParams) params_start w h
 
 -- an element by its parts and as it lies in the octets
@@ -76,7 +76,7 @@ params_more text rest behind after x done next v read e f is n before ps h = go 
     go : ((todo : List ParamParts) × (ps ≡ done ++ todo) × Each Param todo rest) → (todo : List ParamParts) × (ps ≡ next ++ todo) × Each Param todo behind
     go ([], g, k) = absurd (nothing x rest after e k)
     go (q ∷ todo, g, k) =
-        let item = next_item Param SpannedParam OneFront-param spanned_param q todo v rest behind k f in
+        let item = next_item Param SpannedParam IsPrefixFree-param spanned_param q todo v rest behind k f in
         let same = param_same q v item.0 item.1 item.2 in
         let one : read ≡ q = is q.value same.1 ∙ rw (← same.0) refl in
         (todo, g ∙ sym (rw n (append_assoc done (read ∷ []) todo ∙ ap (λ (r : ParamParts). done ++ r ∷ todo) one)), item.3)
@@ -97,7 +97,7 @@ params_end text rest done e before ps h = go (before ps h)
 -- what was read of structured data, and what is left of it
 abbrev pub ElementsRead : List ℕ → List ℕ → List ElementParts → Type 0
 ElementsRead text rest done =
-    (es : List ElementParts) → Data es text → (todo : List ElementParts) × (es ≡ done ++ todo) × (Each Element todo rest ⊎ ((todo ≡ []) × (rest ≡ 45 ∷ [])))
+    (es : List ElementParts) → StructuredDataText es text → (todo : List ElementParts) × (es ≡ done ++ todo) × (Each Element todo rest ⊎ ((todo ≡ []) × (rest ≡ 45 ∷ [])))
 
 pub elements_all : (text : List ℕ) → ElementsRead text text []
 elements_all text [] h = ([], refl, inr (refl, h))
@@ -111,7 +111,7 @@ elements_more text rest behind after x done next v read e first f is n before es
     go (todo, g, inr (k, l)) = let i : x ≡ 45 = heads x 45 after [] (sym e ∙ l) in absurd (omega (arith, i, first))
     go ([], g, inl k) = absurd (nothing x rest after e k)
     go (q ∷ todo, g, inl k) =
-        let item = next_item Element SpannedElement OneFront-element spanned_element q todo v rest behind k f in
+        let item = next_item Element SpannedElement IsPrefixFree-element spanned_element q todo v rest behind k f in
         let same = element_same q v item.0 item.1 item.2 in
         let one : read ≡ q = is q.params same.1 ∙ rw (← same.0) refl in
         (todo, g ∙ sym (rw n (append_assoc done (read ∷ []) todo ∙ ap (λ (r : ElementParts). done ++ r ∷ todo) one)), inl item.3)
@@ -119,21 +119,21 @@ elements_more text rest behind after x done next v read e first f is n before es
 first_is : (todo : List ElementParts) (rest after : List ℕ) (x : ℕ) → rest ≡ x ∷ after → x ≢ 91 → Each Element todo rest → todo ≡ []
 first_is [] rest after x e ne k = refl
 first_is (q ∷ todo) rest after x e ne (a, b, f, k, l) =
-    let front = element_front a (q, k) in
-    absurd (ne (heads x 91 after (front.0 ++ b) (sym e ∙ f ∙ ap (λ (u : List ℕ). u ++ b) front.1)))
+    let prefix = element_prefix a (q, k) in
+    absurd (ne (heads x 91 after (prefix.0 ++ b) (sym e ∙ f ∙ ap (λ (u : List ℕ). u ++ b) prefix.1)))
 
 finished : (es done todo : List ElementParts) → es ≡ done ++ todo → todo ≡ [] → done ≡ es
 finished es done todo g k = sym (g ∙ ap (λ (ts : List ElementParts). done ++ ts) k ∙ append-nil done)
 
 -- no element is next
-pub elements_dash : (text rest after : List ℕ) (x : ℕ) (done : List ElementParts) → rest ≡ x ∷ after → x ≢ 91 → ElementsRead text rest done → (es : List ElementParts) → Data es text → done ≡ es
-elements_dash text rest after x done e ne before es h = go (before es h)
+pub elements_nil : (text rest after : List ℕ) (x : ℕ) (done : List ElementParts) → rest ≡ x ∷ after → x ≢ 91 → ElementsRead text rest done → (es : List ElementParts) → StructuredDataText es text → done ≡ es
+elements_nil text rest after x done e ne before es h = go (before es h)
   where
     go : ((todo : List ElementParts) × (es ≡ done ++ todo) × (Each Element todo rest ⊎ ((todo ≡ []) × (rest ≡ 45 ∷ [])))) → done ≡ es
     go (todo, g, inl k) = finished es done todo g (first_is todo rest after x e ne k)
     go (todo, g, inr k) = finished es done todo g k.0
 
-pub elements_end : (text rest : List ℕ) (done : List ElementParts) → rest ≡ [] → ElementsRead text rest done → (es : List ElementParts) → Data es text → done ≡ es
+pub elements_end : (text rest : List ℕ) (done : List ElementParts) → rest ≡ [] → ElementsRead text rest done → (es : List ElementParts) → StructuredDataText es text → done ≡ es
 elements_end text rest done e before es h = go (before es h)
   where
     go : ((todo : List ElementParts) × (es ≡ done ++ todo) × (Each Element todo rest ⊎ ((todo ≡ []) × (rest ≡ 45 ∷ [])))) → done ≡ es

@@ -2,7 +2,7 @@
 use Rattle.std.proofs.Common.{ℕ, List, refl}
 use Rattle.std.specs.Prelude.{ℤ, option_map}
 use Rattle.syslog_value.specs.Parts.{Parts}
-use Rattle.syslog_grammar.specs.Shown.{ShownParts, IsShown}
+use Rattle.syslog_grammar.specs.ViewParts.{ViewParts, IsViewOf}
 use Rattle.syslog_grammar.specs.Time.{CivilTime, instant}
 use Rattle.syslog_grammar.specs.WellFormed.{WellFormed}
 use Rattle.syslog_grammar.specs.Faults.{AreDistinct}
@@ -21,13 +21,13 @@ record_of p distinct = record {
 }
 
 -- octets that a view shows are a record
-pub some_record : (b : List ℕ) (s : ShownParts) → IsShown b s → (r : Parts ℤ) × WellFormed r b
+pub some_record : (b : List ℕ) (s : ViewParts) → IsViewOf b s → (r : Parts ℤ) × WellFormed r b
 unfolding record_of
-some_record b s (p, spelled, range, distinct, shows) = (
+some_record b s (p, parse, range, distinct, has_parts) = (
   record_of p distinct,
   (
     p,
-    spelled,
+    parse,
     range,
     distinct,
     record {

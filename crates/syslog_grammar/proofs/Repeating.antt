@@ -6,7 +6,7 @@ use Rattle.std.specs.Ordering.{MatchOrdering}
 use Rattle.std.specs.declared.cmp.Ordering.{Ordering}
 use Rattle.std.specs.declared.cmp.Ordering.TheVariants.{Less, Equal, Greater}
 use Rattle.std.proofs.lemmas.List.{length-append, append_cancel_left, append_cancel_right, take_at, append-nil}
-use Rattle.octet_language.specs.Language.{AnyOf, Each, IfFront}
+use Rattle.octet_language.specs.Language.{AnyOf, Each, IfFirst}
 use Rattle.octet_language.specs.Reading.{Fails, Follows}
 use Rattle.octet_language.proofs.Lists.{heads, tails}
 use Rattle.syslog_value.specs.Order.{OctetsBelow}
@@ -14,23 +14,23 @@ use Rattle.syslog_value.specs.Parts.{ElementParts}
 use Rattle.syslog_value.specs.Structured.{HasId}
 use Rattle.syslog_value.proofs.Octets.{below_itself, below_trans}
 use Rattle.syslog_grammar.specs.Faults.{AreDistinct}
-use Rattle.syslog_grammar.specs.Grammar.{Element, Data}
+use Rattle.syslog_grammar.specs.Grammar.{Element, StructuredDataText}
 use Rattle.syslog_grammar.specs.Ids.{HoldsDistinct, HoldsRepeated, IsAbove, IsAtMost, Known, Skips}
 use Rattle.syslog_grammar.specs.Spans.{ElementSpan, SpannedElement}
 use Rattle.syslog_grammar.proofs.Ahead.{may_start}
 use Rattle.syslog_grammar.proofs.Names.{EndsName, OneAhead-name}
-use Rattle.syslog_grammar.proofs.ParamTexts.{SpannedParams, params_start, OneFront-element, element_spanned, spanned_element, element_front}
+use Rattle.syslog_grammar.proofs.ParamTexts.{SpannedParams, params_start, IsPrefixFree-element, element_spanned, spanned_element, element_prefix}
 
 -- ---- one element
 
-spanned_front : (d : List ℕ) → AnyOf SpannedParams d → IfFront EndsName d
-spanned_front d h = may_start EndsName (AnyOf SpannedParams) params_start d h
+spanned_prefix : (d : List ℕ) → AnyOf SpannedParams d → IfFirst EndsName d
+spanned_prefix d h = may_start EndsName (AnyOf SpannedParams) params_start d h
 
 same_name : (v w : ElementSpan) (x : List ℕ) → SpannedElement v x → SpannedElement w x → v.id ≡ w.id
 same_name v w x (a, b, e, h, (c, d, f, (n, i), l)) (a', b', e', h', (c', d', f', (n', i'), l')) =
     let both : 91 ∷ b ≡ 91 ∷ b' = ap (λ (u : List ℕ). u ++ b) (sym h) ∙ sym e ∙ e' ∙ ap (λ (u : List ℕ). u ++ b') h' in
     let rests : c ++ d ≡ c' ++ d' = sym f ∙ tails 91 91 b b' both ∙ f' in
-    let same : c ≡ c' = OneAhead-name c d c' d' (v.id, (n, i)) (w.id, (n', i')) (spanned_front d (v.params, l)) (spanned_front d' (w.params, l')) rests in
+    let same : c ≡ c' = OneAhead-name c d c' d' (v.id, (n, i)) (w.id, (n', i')) (spanned_prefix d (v.params, l)) (spanned_prefix d' (w.params, l')) rests in
     sym i ∙ same ∙ i'
 
 element_id : (e : ElementParts) (x : List ℕ) → Element e x → (v : ElementSpan) × SpannedElement v x × (v.id ≡ e.id)
@@ -39,19 +39,19 @@ element_id p x (a, y, e, h, (z, w, g, k, (u, v, f, l, m))) =
 
 -- the first element and the others, where one was read
 pub record Split (e : ElementParts) (es : List ElementParts) (rest behind : List ℕ) (v : ElementSpan) : Type 0 where
-  pub front : List ℕ
-  pub parts : rest ≡ front ++ behind
-  pub text : Element e front
+  pub prefix : List ℕ
+  pub parts : rest ≡ prefix ++ behind
+  pub text : Element e prefix
   pub same : e.id ≡ v.id
   pub others : Each Element es behind
 
 pub split : (e : ElementParts) (es : List ElementParts) (rest behind : List ℕ) (v : ElementSpan) → Each Element (e ∷ es) rest → Follows (SpannedElement v) rest behind → Split e es rest behind v
 split e es rest behind v (x, y, g, h, k) (t, f, s) =
-    let same : x ≡ t = OneFront-element x y t behind (e, h) (spanned_element t (v, s)) (sym g ∙ f) in
+    let same : x ≡ t = IsPrefixFree-element x y t behind (e, h) (spanned_element t (v, s)) (sym g ∙ f) in
     let rests : y ≡ behind = append_cancel_left x y behind (sym g ∙ f ∙ ap (λ (u : List ℕ). u ++ behind) (sym same)) in
     let i = element_id e x h in
     record {
-      front = t;
+      prefix = t;
       parts = f;
       text = subst (Element e) same h;
       same = sym i.2 ∙ same_name i.0 v t (subst (SpannedElement i.0) same i.1) s;
@@ -59,9 +59,9 @@ split e es rest behind v (x, y, g, h, k) (t, f, s) =
     }
 
 -- elements where none can be read
-pub no_element : (es : List ElementParts) (rest t : List ℕ) (x left : ℕ) → rest ≡ x ∷ t → Each Element es rest → Fails (AnyOf SpannedElement) rest left → ⊥
-no_element [] rest t x left e h f = let i : ◌≡◌ {A = List ℕ} [] (x ∷ t) = sym h ∙ e in absurd cc
-no_element (d ∷ es) rest t x left e (y, z, g, h, k) f = f.none y z g (element_spanned y (d, h))
+pub no_element : (es : List ElementParts) (rest t : List ℕ) (x remaining : ℕ) → rest ≡ x ∷ t → Each Element es rest → Fails (AnyOf SpannedElement) rest remaining → ⊥
+no_element [] rest t x remaining e h f = let i : ◌≡◌ {A = List ℕ} [] (x ∷ t) = sym h ∙ e in absurd cc
+no_element (d ∷ es) rest t x remaining e (y, z, g, h, k) f = f.none y z g (element_spanned y (d, h))
 
 -- ---- whether some elements have an id
 
@@ -102,12 +102,12 @@ seeks_found elements id rest behind t x v e f g seeks es h =
     let k = seeks es h in
     (λ u. k.from (found_here id k.todo rest behind t x v e k.each f g), λ u. refl)
 
-pub seeks_stuck : (elements id rest t : List ℕ) (x left : ℕ) → rest ≡ x ∷ t → Fails (AnyOf SpannedElement) rest left → Seeks elements id rest → (es : List ElementParts) → Each Element es elements → IsTrue false ↔ HasId id es
-seeks_stuck elements id rest t x left e f seeks es h = let k = seeks es h in absurd (no_element k.todo rest t x left e k.each f)
+pub seeks_stuck : (elements id rest t : List ℕ) (x remaining : ℕ) → rest ≡ x ∷ t → Fails (AnyOf SpannedElement) rest remaining → Seeks elements id rest → (es : List ElementParts) → Each Element es elements → IsTrue false ↔ HasId id es
+seeks_stuck elements id rest t x remaining e f seeks es h = let k = seeks es h in absurd (no_element k.todo rest t x remaining e k.each f)
 
 none_left : (id : List ℕ) (todo : List ElementParts) → Each Element todo [] → HasId id todo → ⊥
 none_left id [] h k = k
-none_left id (d ∷ ds) (x, y, g, h, l) k = let f = element_front x (d, h) in let i : ◌≡◌ {A = List ℕ} [] (91 ∷ (f.0 ++ y)) = g ∙ ap (λ (u : List ℕ). u ++ y) f.1 in absurd cc
+none_left id (d ∷ ds) (x, y, g, h, l) k = let f = element_prefix x (d, h) in let i : ◌≡◌ {A = List ℕ} [] (91 ∷ (f.0 ++ y)) = g ∙ ap (λ (u : List ℕ). u ++ y) f.1 in absurd cc
 
 pub seeks_end : (elements id rest : List ℕ) → rest ≡ [] → Seeks elements id rest → (es : List ElementParts) → Each Element es elements → IsTrue false ↔ HasId id es
 seeks_end elements id rest e seeks es h =
@@ -165,45 +165,45 @@ pub record Rising (text rest : List ℕ) (greatest : Option (List ℕ)) : Type 0
   pub known : Known text rest
   pub most : AllByRecursion (λ e. IsAtMost e.id greatest) known.before
 
-pub rising_none : (text : List ℕ) → AnyOf Data text → Rising text text None
-rising_none text ([], h) = record { known = record { front = []; before = []; parts = refl; each = refl; distinct = tt; more = inr (refl, h) }; most = tt }
-rising_none text (e ∷ es, h) = record { known = record { front = []; before = []; parts = refl; each = refl; distinct = tt; more = inl (e ∷ es, h) }; most = tt }
+pub rising_none : (text : List ℕ) → AnyOf StructuredDataText text → Rising text text None
+rising_none text ([], h) = record { known = record { prefix = []; before = []; parts = refl; each = refl; distinct = tt; more = inr (refl, h) }; most = tt }
+rising_none text (e ∷ es, h) = record { known = record { prefix = []; before = []; parts = refl; each = refl; distinct = tt; more = inl (e ∷ es, h) }; most = tt }
 
-some_data : (es : List ElementParts) (text : List ℕ) → text ≢ [] → Each Element es text → Data es text
+some_data : (es : List ElementParts) (text : List ℕ) → text ≢ [] → Each Element es text → StructuredDataText es text
 some_data [] text some h = absurd (some h)
 some_data (e ∷ es) text some h = h
 
-data_some : (text : List ℕ) → AnyOf Data text → text ≢ []
+data_some : (text : List ℕ) → AnyOf StructuredDataText text → text ≢ []
 data_some text ([], h) e =
     let i : ◌≡◌ {A = List ℕ} [] (45 ∷ []) = sym e ∙ h in absurd cc
 data_some text (d ∷ es, (x, y, g, h, k)) e =
-    let f = element_front x (d, h) in
+    let f = element_prefix x (d, h) in
     let i : ◌≡◌ {A = List ℕ} [] (91 ∷ (f.0 ++ y)) = sym e ∙ g ∙ ap (λ (u : List ℕ). u ++ y) f.1 in absurd cc
 
 not_bracket : (es : List ElementParts) (rest t : List ℕ) (x : ℕ) → rest ≡ x ∷ t → Each Element es rest → x ≡ 91
 not_bracket [] rest t x e h =
     let i : ◌≡◌ {A = List ℕ} [] (x ∷ t) = sym h ∙ e in absurd cc
 not_bracket (d ∷ es) rest t x e (y, z, g, h, k) =
-    let f = element_front y (d, h) in heads x 91 t (f.0 ++ z) (sym e ∙ g ∙ ap (λ (u : List ℕ). u ++ z) f.1)
+    let f = element_prefix y (d, h) in heads x 91 t (f.0 ++ z) (sym e ∙ g ∙ ap (λ (u : List ℕ). u ++ z) f.1)
 
--- no bracket is next: the sign for none
-pub known_dash : (text rest t : List ℕ) (x : ℕ) → rest ≡ x ∷ t → x ≢ 91 → Known text rest → HoldsDistinct text
-known_dash text rest t x e ne s = elim s.more [
+-- no bracket is next: NILVALUE
+pub known_nil : (text rest t : List ℕ) (x : ℕ) → rest ≡ x ∷ t → x ≢ 91 → Known text rest → HoldsDistinct text
+known_nil text rest t x e ne s = elim s.more [
   | inl k ↦ absurd (ne (not_bracket k.0 rest t x e k.1))
-  | inr k ↦ ([], s.parts ∙ ap (λ (u : List ℕ). u ++ rest) (subst (λ (es : List ElementParts). Each Element es s.front) k.0 s.each) ∙ k.1, tt)
+  | inr k ↦ ([], s.parts ∙ ap (λ (u : List ℕ). u ++ rest) (subst (λ (es : List ElementParts). Each Element es s.prefix) k.0 s.each) ∙ k.1, tt)
 ]
 
 -- no element can be read there
-pub known_stuck : (text rest t : List ℕ) (x left : ℕ) → rest ≡ x ∷ t → x ≡ 91 → Fails (AnyOf SpannedElement) rest left → Known text rest → ⊥
-known_stuck text rest t x left e f g s = elim s.more [
-  | inl k ↦ no_element k.0 rest t x left e k.1 g
+pub known_stuck : (text rest t : List ℕ) (x remaining : ℕ) → rest ≡ x ∷ t → x ≡ 91 → Fails (AnyOf SpannedElement) rest remaining → Known text rest → ⊥
+known_stuck text rest t x remaining e f g s = elim s.more [
+  | inl k ↦ no_element k.0 rest t x remaining e k.1 g
   | inr k ↦
       let i : x ≡ 45 = heads x 45 t [] (sym e ∙ k.1) in omega (arith, i, f)
 ]
 
-pub known_end : (text rest : List ℕ) → AnyOf Data text → rest ≡ [] → Known text rest → HoldsDistinct text
+pub known_end : (text rest : List ℕ) → AnyOf StructuredDataText text → rest ≡ [] → Known text rest → HoldsDistinct text
 known_end text rest d e s =
-    (s.before, some_data s.before text (data_some text d) (subst (Each Element s.before) (sym (s.parts ∙ ap (λ (u : List ℕ). s.front ++ u) e ∙ append-nil s.front)) s.each), s.distinct)
+    (s.before, some_data s.before text (data_some text d) (subst (Each Element s.before) (sym (s.parts ∙ ap (λ (u : List ℕ). s.prefix ++ u) e ∙ append-nil s.prefix)) s.each), s.distinct)
 
 -- the element that was read, and the others
 record Next (rest behind : List ℕ) (v : ElementSpan) : Type 0 where
@@ -224,17 +224,17 @@ next text rest behind t x v e g f s = elim s.more [
       let i : x ≡ 45 = heads x 45 t [] (sym e ∙ k.1) in absurd (omega (arith, i, g))
 ]
 
-pub front_is : (text front rest : List ℕ) → text ≡ front ++ rest → take (length text - length rest) text ≡ front
-front_is text front rest e =
-    let n : length text - length rest ≡ length front = omega (arith, ap length e, length-append front rest) in
-    rw (n, e) (take_at front rest (length front) refl)
+pub prefix_is : (text prefix rest : List ℕ) → text ≡ prefix ++ rest → take (length text - length rest) text ≡ prefix
+prefix_is text prefix rest e =
+    let n : length text - length rest ≡ length prefix = omega (arith, ap length e, length-append prefix rest) in
+    rw (n, e) (take_at prefix rest (length prefix) refl)
 
 abbrev keep : (text rest behind : List ℕ) (v : ElementSpan) (s : Known text rest) → Next rest behind v → ¬ (HasId v.id s.before) → Known text behind
 keep text rest behind v s n none = record {
-  front = s.front ++ n.split.front;
+  prefix = s.prefix ++ n.split.prefix;
   before = s.before ++ n.element ∷ [];
-  parts = s.parts ∙ ap (λ (u : List ℕ). s.front ++ u) n.split.parts ∙ sym (append_assoc s.front n.split.front behind);
-  each = each_end s.before n.element s.front n.split.front s.each n.split.text;
+  parts = s.parts ∙ ap (λ (u : List ℕ). s.prefix ++ u) n.split.parts ∙ sym (append_assoc s.prefix n.split.prefix behind);
+  each = each_end s.before n.element s.prefix n.split.prefix s.each n.split.text;
   distinct = distinct_end s.before n.element s.distinct (λ h. none (subst (λ (id : List ℕ). HasId id s.before) n.split.same h));
   more = inl (n.others, n.split.others);
 }
@@ -252,60 +252,60 @@ rising_above text rest behind t x greatest v e g f a s =
 pub known_new : (text rest behind t : List ℕ) (x : ℕ) (v : ElementSpan) (found : Bool) → rest ≡ x ∷ t → x ≡ 91 → Follows (SpannedElement v) rest behind
     → ((es : List ElementParts) → Each Element es (take (length text - length rest) text) → IsTrue found ↔ HasId v.id es) → found ≡ false → Known text rest → Known text behind
 known_new text rest behind t x v found e g f finds isn s =
-    keep text rest behind v s (next text rest behind t x v e g f s) (λ h. apart ((finds s.before (subst (Each Element s.before) (sym (front_is text s.front rest s.parts)) s.each)).1 h))
+    keep text rest behind v s (next text rest behind t x v e g f s) (λ h. apart ((finds s.before (subst (Each Element s.before) (sym (prefix_is text s.prefix rest s.parts)) s.each)).1 h))
   where
     apart : found ≡ true → ⊥
     apart y =
         let i : false ≡ true = sym isn ∙ y in absurd cc
 
 -- an id that is among those before
-pub known_repeated : (text rest behind t : List ℕ) (x : ℕ) (v : ElementSpan) (found : Bool) (at : ℕ) → AnyOf Data text → rest ≡ x ∷ t → x ≡ 91 → Follows (SpannedElement v) rest behind
+pub known_repeated : (text rest behind t : List ℕ) (x : ℕ) (v : ElementSpan) (found : Bool) (at : ℕ) → AnyOf StructuredDataText text → rest ≡ x ∷ t → x ≡ 91 → Follows (SpannedElement v) rest behind
     → ((es : List ElementParts) → Each Element es (take (length text - length rest) text) → IsTrue found ↔ HasId v.id es) → found ≡ true → at ≡ length (take (length text - length rest) text) + 1 → Known text rest → HoldsRepeated text at
-known_repeated text rest behind t x v found at d e g f finds is place s =
+known_repeated text rest behind t x v found at d e g f finds is offset s =
     let n = next text rest behind t x v e g f s in
-    let front = front_is text s.front rest s.parts in
-    let has : HasId v.id s.before = (finds s.before (subst (Each Element s.before) (sym front) s.each)).0 is in
+    let prefix = prefix_is text s.prefix rest s.parts in
+    let has : HasId v.id s.before = (finds s.before (subst (Each Element s.before) (sym prefix) s.each)).0 is in
     let all = s.before ++ n.element ∷ n.others in (
       all,
-      some_data all text (data_some text d) (subst (Each Element all) (sym s.parts) (each_join s.before (n.element ∷ n.others) s.front rest s.each n.whole)),
+      some_data all text (data_some text d) (subst (Each Element all) (sym s.parts) (each_join s.before (n.element ∷ n.others) s.prefix rest s.each n.whole)),
       s.before,
       record { element = n.element; behind = n.others; parts = refl; distinct = s.distinct; same = subst (λ (id : List ℕ). HasId id s.before) (sym n.split.same) has },
-      (s.front ++ 91 ∷ [], t, s.parts ∙ ap (λ (u : List ℕ). s.front ++ u) (e ∙ ap (λ (k : ℕ). k ∷ t) g) ∙ sym (append_assoc s.front (91 ∷ []) t), (s.front, 91 ∷ [], refl, s.each, refl), omega (arith, place, ap length front, length-append s.front (91 ∷ []))),
+      (s.prefix ++ 91 ∷ [], t, s.parts ∙ ap (λ (u : List ℕ). s.prefix ++ u) (e ∙ ap (λ (k : ℕ). k ∷ t) g) ∙ sym (append_assoc s.prefix (91 ∷ []) t), (s.prefix, 91 ∷ [], refl, s.each, refl), omega (arith, offset, ap length prefix, length-append s.prefix (91 ∷ []))),
     )
 
 -- ---- so many elements further
 
 pub skips_none : (elements : List ℕ) → Skips elements elements
-skips_none elements = record { front = []; parts = refl; both = λ es h. ([], es, refl, h) }
+skips_none elements = record { prefix = []; parts = refl; both = λ es h. ([], es, refl, h) }
 
 pub skips_more : (elements rest behind t : List ℕ) (x : ℕ) (v : ElementSpan) → rest ≡ x ∷ t → Follows (SpannedElement v) rest behind → Skips elements rest → Skips elements behind
 skips_more elements rest behind t x v e f s = record {
-  front = s.front ++ f.0;
-  parts = s.parts ∙ ap (λ (u : List ℕ). s.front ++ u) f.1 ∙ sym (append_assoc s.front f.0 behind);
+  prefix = s.prefix ++ f.0;
+  parts = s.parts ∙ ap (λ (u : List ℕ). s.prefix ++ u) f.1 ∙ sym (append_assoc s.prefix f.0 behind);
   both = λ es h. let k = s.both es h in one k.0 k.1 k.2 k.3;
 }
   where
-    one : (us bs : List ElementParts) → Each Element us s.front → Each Element bs rest → (cs : List ElementParts) × (ds : List ElementParts) × Each Element cs (s.front ++ f.0) × Each Element ds behind
+    one : (us bs : List ElementParts) → Each Element us s.prefix → Each Element bs rest → (cs : List ElementParts) × (ds : List ElementParts) × Each Element cs (s.prefix ++ f.0) × Each Element ds behind
     one us [] h k =
         let i : ◌≡◌ {A = List ℕ} [] (x ∷ t) = sym k ∙ e in absurd cc
     one us (d ∷ bs) h k =
         let p = split d bs rest behind v k f in
-        let same : p.front ≡ f.0 = append_cancel_right p.front f.0 behind (sym p.parts ∙ f.1) in
-        (us ++ d ∷ [], bs, each_end us d s.front f.0 h (subst (Element d) same p.text), p.others)
+        let same : p.prefix ≡ f.0 = append_cancel_right p.prefix f.0 behind (sym p.parts ∙ f.1) in
+        (us ++ d ∷ [], bs, each_end us d s.prefix f.0 h (subst (Element d) same p.text), p.others)
 
 -- elements further on, where the ids up to there differ
 pub known_further : (text rest behind t : List ℕ) (x : ℕ) → rest ≡ x ∷ t → x ≡ 91 → Skips rest behind → ((es : List ElementParts) → Each Element es (take (length text - length behind) text) → AreDistinct es) → Known text rest → Known text behind
 known_further text rest behind t x e g k differ s = elim s.more [
   | inl m ↦
       let b = k.both m.0 m.1 in
-      let parts : text ≡ (s.front ++ k.front) ++ behind = s.parts ∙ ap (λ (u : List ℕ). s.front ++ u) k.parts ∙ sym (append_assoc s.front k.front behind) in
-      let each = each_join s.before b.0 s.front k.front s.each b.2 in
+      let parts : text ≡ (s.prefix ++ k.prefix) ++ behind = s.parts ∙ ap (λ (u : List ℕ). s.prefix ++ u) k.parts ∙ sym (append_assoc s.prefix k.prefix behind) in
+      let each = each_join s.before b.0 s.prefix k.prefix s.each b.2 in
       record {
-        front = s.front ++ k.front;
+        prefix = s.prefix ++ k.prefix;
         before = s.before ++ b.0;
         parts = parts;
         each = each;
-        distinct = differ (s.before ++ b.0) (subst (Each Element (s.before ++ b.0)) (sym (front_is text (s.front ++ k.front) behind parts)) each);
+        distinct = differ (s.before ++ b.0) (subst (Each Element (s.before ++ b.0)) (sym (prefix_is text (s.prefix ++ k.prefix) behind parts)) each);
         more = inl (b.1, b.3);
       }
   | inr m ↦

@@ -10,13 +10,13 @@ use Rattle.octet_language.specs.Reading.{Fails, Follows}
 use Rattle.octet_language.proofs.Lists.{tails}
 use Rattle.syslog_value.specs.Parts.{ParamParts, ElementParts, Parts, IsById}
 use Rattle.syslog_grammar.specs.Appending.{Anything, Adds, Puts}
-use Rattle.syslog_grammar.specs.Canonical.{escaped, param_form, element_form, tail_form, HeaderForm, SpacedWord}
+use Rattle.syslog_grammar.specs.Canonical.{escaped, param_form, element_form, message_form, HeaderForm, SpacedWord}
 use Rattle.syslog_grammar.specs.Escapes.{MeansFirst}
 use Rattle.syslog_grammar.specs.Grammar.{Param, Element, WordFields}
-use Rattle.syslog_grammar.specs.Lying.{HasOneTail, LyingForm}
+use Rattle.syslog_grammar.specs.Verbatim.{HasOneMessageForm, VerbatimForm}
 use Rattle.syslog_grammar.specs.Ids.{IsAbove, IsAtMost, IsRisingFrom, ids_of}
-use Rattle.syslog_grammar.specs.Respelled.{ValueOf, ParamOf, ParamsOf, ElementOf, ElementsOf, DataOf, AreUnordered}
-use Rattle.syslog_grammar.specs.Shown.{ShownParts, Shows, IsShown}
+use Rattle.syslog_grammar.specs.Reescaped.{ValueOf, ParamOf, ParamsOf, ElementOf, ElementsOf, StructuredDataOf, AreUnordered}
+use Rattle.syslog_grammar.specs.ViewParts.{ViewParts, HasParts, IsViewOf}
 use Rattle.syslog_grammar.specs.Spans.{ParamSpan, SpannedParam, ElementSpan, SpannedElement}
 use Rattle.syslog_grammar.specs.Time.{CivilTime}
 use Rattle.syslog_grammar.specs.Values.{Piece, Spells}
@@ -25,7 +25,7 @@ use Rattle.syslog_grammar.proofs.Appends.{adds_some}
 use Rattle.syslog_grammar.proofs.CanonicalForms.{word_formed}
 use Rattle.syslog_grammar.proofs.DataForms.{item, form_raw, form_text, first_item, of_rising, rising_of, none_met, not_above}
 use Rattle.syslog_grammar.proofs.OwnedParts.{param_same, element_same}
-use Rattle.syslog_grammar.proofs.ParamTexts.{OneFront-param, spanned_param, element_spanned, param_front, element_front}
+use Rattle.syslog_grammar.proofs.ParamTexts.{IsPrefixFree-param, spanned_param, element_spanned, param_prefix, element_prefix}
 use Rattle.syslog_grammar.proofs.ValueForms.{joined, runs, escape, lone_more, marked_at, at_mark, all_plain, escaped_join, escaped_special, free_rest}
 
 -- ---- values
@@ -53,20 +53,20 @@ mark_next ms t first behind (inr (e, none, f)) h =
     let q = lone_more ms behind (subst (λ (u : List ℕ). Each Piece ms (92 ∷ u)) same h) none in
     (q.0, q.1, ap escaped q.2 ∙ escaped_special 92 (joined q.0) (inr (inl refl)) ∙ ap (λ (u : List ℕ). 92 ∷ (u ++ escaped (joined q.0))) (sym f))
 
-pub written_more : (raw rest old out m1 m2 m3 plain marked first behind : List ℕ) (k : ℕ) → Written raw rest old out → IsFirstByte (is_byte 92) rest (Some k)
-    → plain ≡ take k rest → marked ≡ drop k rest → MeansFirst marked first behind
+pub written_more : (raw rest old out m1 m2 m3 plain escaped_rest first behind : List ℕ) (k : ℕ) → Written raw rest old out → IsFirstByte (is_byte 92) rest (Some k)
+    → plain ≡ take k rest → escaped_rest ≡ drop k rest → MeansFirst escaped_rest first behind
     → Adds (Only plain) out m1 → Adds (Only (92 ∷ [])) m1 m2 → Adds (Only first) m2 m3 → Written raw behind old m3
-written_more raw rest old out m1 m2 m3 plain marked first behind k w f p m b (x, xs, xe) (y, ys, ye) (z, zs, ze) =
-    let t = drop 1 marked in
-    let at = marked_at rest marked t k f m refl in
-    let mark : marked ≡ 92 ∷ t = m ∙ at_mark k rest f.0.high f.1 ∙ ap (λ (u : List ℕ). 92 ∷ drop 1 u) (sym m) in
+written_more raw rest old out m1 m2 m3 plain escaped_rest first behind k w f p m b (x, xs, xe) (y, ys, ye) (z, zs, ze) =
+    let t = drop 1 escaped_rest in
+    let at = marked_at rest escaped_rest t k f m refl in
+    let backslash : escaped_rest ≡ 92 ∷ t = m ∙ at_mark k rest f.0.high f.1 ∙ ap (λ (u : List ℕ). 92 ∷ drop 1 u) (sym m) in
     record {
       done = w.done ++ plain ++ 92 ∷ [] ++ first;
       parts = ze ∙ ap (λ (u : List ℕ). u ++ z) (ye ∙ ap (λ (u : List ℕ). u ++ y) (xe ∙ ap (λ (u : List ℕ). u ++ x) w.parts)) ∙ rw (xs, ys, zs) (simp append_assoc);
       is = λ text h.
           let l = w.is text h in
           let r = runs l.0 rest (take k rest) t l.1 at.parts at.free in
-          let q = mark_next r.behind t first behind (subst (λ (u : List ℕ). MeansFirst u first behind) mark b) r.each in (
+          let q = mark_next r.behind t first behind (subst (λ (u : List ℕ). MeansFirst u first behind) backslash b) r.each in (
             q.0,
             q.1,
             l.2 ∙ ap (λ (u : List ℕ). w.done ++ escaped u) r.means ∙ ap (λ (u : List ℕ). w.done ++ u) (escaped_join (take k rest) (joined r.behind) ∙ ap (λ (u : List ℕ). u ++ escaped (joined r.behind)) (r.same ∙ sym p) ∙ ap (λ (u : List ℕ). plain ++ u) q.2)
@@ -110,7 +110,7 @@ params_more params rest behind after old out mid x v e f (z, zs, ze) w = record 
     one : (ps todo : List ParamParts) → Each Param todo rest → flat_map param_form ps ≡ w.done ++ flat_map param_form todo → (ks : List ParamParts) × Each Param ks behind × (flat_map param_form ps ≡ w.done ++ z ++ flat_map param_form ks)
     one ps [] k g = let i : ◌≡◌ {A = List ℕ} [] (x ∷ after) = sym k ∙ e in absurd cc
     one ps (q ∷ todo) k g =
-        let i = item Param SpannedParam OneFront-param spanned_param q todo v rest behind k f in
+        let i = item Param SpannedParam IsPrefixFree-param spanned_param q todo v rest behind k f in
         let same = param_same q v i.0 i.2 i.3 in
         (todo, i.4, g ∙ ap (λ (u : List ℕ). w.done ++ (u ++ flat_map param_form todo)) (sym (param_written q v z same.0 same.1 zs)) ∙ sym (append_assoc w.done z (flat_map param_form todo)))
 
@@ -120,7 +120,7 @@ params_end params rest old out e w = (w.done, λ ps h. let l = w.is ps h in one 
     one : (ps todo : List ParamParts) → Each Param todo rest → flat_map param_form ps ≡ w.done ++ flat_map param_form todo → w.done ≡ flat_map param_form ps
     one ps [] k g = sym (g ∙ append-nil w.done)
     one ps (q ∷ todo) (y, z, i, k, l) g =
-        let s = param_front y (q, k) in
+        let s = param_prefix y (q, k) in
         let j : ◌≡◌ {A = List ℕ} [] (32 ∷ (s.0 ++ z)) = sym e ∙ i ∙ ap (λ (t : List ℕ). t ++ z) s.1 in absurd cc
 
 -- ---- elements
@@ -151,7 +151,7 @@ elements_more elements rest behind after old out mid x v met e f above (z, zs, z
   is = λ es h.
       let l = w.is es h in
       let i = first_item rest behind after x v l.0 e f l.1 in
-      let same = element_same i.element v i.text i.spelled i.spanned in (
+      let same = element_same i.element v i.text i.parse i.spanned in (
         i.others,
         i.each,
         l.2 ∙ ap (λ (u : List ElementParts). w.done ++ flat_map element_form u) i.is
@@ -170,11 +170,11 @@ elements_end elements rest met old out e w = (w.done, λ es h. let l = w.is es h
     one : (es todo : List ElementParts) → Each Element todo rest → flat_map element_form es ≡ w.done ++ flat_map element_form todo → (IsRisingFrom met (ids_of todo) → IsById es) → (w.done ≡ flat_map element_form es) × IsById es
     one es [] k g by_id = (sym (g ∙ append-nil w.done), by_id tt)
     one es (q ∷ todo) (y, z, i, k, l) g by_id =
-        let s = element_front y (q, k) in
+        let s = element_prefix y (q, k) in
         let j : ◌≡◌ {A = List ℕ} [] (91 ∷ (s.0 ++ z)) = sym e ∙ i ∙ ap (λ (t : List ℕ). t ++ z) s.1 in absurd cc
 
-pub elements_stuck : (elements rest after old out : List ℕ) (x left : ℕ) (met : Option (List ℕ)) → rest ≡ x ∷ after → Fails (AnyOf SpannedElement) rest left → ElementsWritten elements rest met old out → AreUnordered elements
-elements_stuck elements rest after old out x left met e f w es h by_id = let l = w.is es h in one l.0 l.1
+pub elements_stuck : (elements rest after old out : List ℕ) (x remaining : ℕ) (met : Option (List ℕ)) → rest ≡ x ∷ after → Fails (AnyOf SpannedElement) rest remaining → ElementsWritten elements rest met old out → AreUnordered elements
+elements_stuck elements rest after old out x remaining met e f w es h by_id = let l = w.is es h in one l.0 l.1
   where
     one : (todo : List ElementParts) → Each Element todo rest → ⊥
     one [] k = let i : ◌≡◌ {A = List ℕ} [] (x ∷ after) = sym k ∙ e in absurd cc
@@ -185,26 +185,26 @@ elements_most elements rest behind after old out x v met e f most w es h by_id =
     let l = w.is es h in
     let i = first_item rest behind after x v l.0 e f l.1 in
     let rising = subst (λ (u : List ElementParts). IsRisingFrom met (ids_of u)) i.is (l.4 by_id) in
-    not_above v.id met most (subst (λ (id : List ℕ). IsAbove id met) (element_same i.element v i.text i.spelled i.spanned).0 rising.0)
+    not_above v.id met most (subst (λ (id : List ℕ). IsAbove id met) (element_same i.element v i.text i.parse i.spanned).0 rising.0)
 
 -- ---- the record
 
 -- the record that is shown, where its elements stand by id
-abbrev shown_record : ShownParts → List ElementParts → Parts ℤ
-shown_record s es = record { priority = s.priority; time = s.instant; hostname = s.hostname; app_name = s.app_name; proc_id = s.proc_id; msg_id = s.msg_id; elements = es; message = s.message }
+abbrev view_record : ViewParts → List ElementParts → Parts ℤ
+view_record s es = record { priority = s.priority; time = s.instant; hostname = s.hostname; app_name = s.app_name; proc_id = s.proc_id; msg_id = s.msg_id; elements = es; message = s.message }
 
 -- the header of what is shown
-abbrev pub ShownHeader : ShownParts → Language
-ShownHeader s = HeaderForm s.priority s.instant s.hostname s.app_name s.proc_id s.msg_id
+abbrev pub ViewHeader : ViewParts → Language
+ViewHeader s = HeaderForm s.priority s.instant s.hostname s.app_name s.proc_id s.msg_id
 
-shown_is : (s : ShownParts) (p : Parts CivilTime) → Shows p s → IsById p.elements → IsMeaning p (shown_record s p.elements)
-shown_is s p h by_id = record { priority = h.priority; time = h.instant; hostname = h.hostname; app_name = h.app_name; proc_id = h.proc_id; msg_id = h.msg_id; elements = IsPermutation-refl p.elements; by_id = by_id; message = h.message }
+view_is : (s : ViewParts) (p : Parts CivilTime) → HasParts p s → IsById p.elements → IsMeaning p (view_record s p.elements)
+view_is s p h by_id = record { priority = h.priority; time = h.instant; hostname = h.hostname; app_name = h.app_name; proc_id = h.proc_id; msg_id = h.msg_id; elements = IsPermutation-refl p.elements; by_id = by_id; message = h.message }
 
-pub record_written : (s : ShownParts) (old m1 m2 new : List ℕ) → Adds (ShownHeader s) old m1 → Adds (DataOf s.elements) m1 m2 → Adds (Only (tail_form s.message)) m2 new → (b : List ℕ) → IsShown b s → AddsCanonical b old new
-record_written s old m1 m2 new (x, xh, xe) (y, yh, ye) (z, zh, ze) b (p, spelled, range, distinct, h) =
+pub record_written : (s : ViewParts) (old m1 m2 new : List ℕ) → Adds (ViewHeader s) old m1 → Adds (StructuredDataOf s.elements) m1 m2 → Adds (Only (message_form s.message)) m2 new → (b : List ℕ) → IsViewOf b s → AddsCanonical b old new
+record_written s old m1 m2 new (x, xh, xe) (y, yh, ye) (z, zh, ze) b (p, parse, range, distinct, h) =
     let elements = yh p.elements h.elements in (
-      shown_record s p.elements,
-      (p, spelled, range, distinct, shown_is s p h elements.1),
+      view_record s p.elements,
+      (p, parse, range, distinct, view_is s p h elements.1),
       (x ++ (y ++ z), (x, y ++ z, refl, xh, (y, z, refl, elements.0, zh)), ze ∙ ap (λ (u : List ℕ). u ++ z) (ye ∙ ap (λ (u : List ℕ). u ++ y) xe) ∙ append_assoc (old ++ x) y z ∙ append_assoc old x (y ++ z)),
     )
 
@@ -222,15 +222,15 @@ seven o f t g w e l =
     ∙ ap (λ (x : List ℕ). o ++ x) (append_assoc f ((t ++ g) ++ w) (e ++ l)
     ∙ ap (λ (x : List ℕ). f ++ x) (append_assoc (t ++ g) w (e ++ l) ∙ append_assoc t g (w ++ (e ++ l))))
 
-pub record_lying : (s : ShownParts) (old new : List ℕ) → HasOneTail s.message → DataOf s.elements s.elements → Adds (LyingForm s) old new → (b : List ℕ) → IsShown b s → AddsCanonical b old new
-unfolding HeaderForm LyingForm
-record_lying s old new one dataform (text, (front, t1, e1, f, (time, t2, e2, t, (space, behind, e3, sp, be))), whole) b shows =
-    let (ws, t3, e4, words, (d, tl, e5, is, tail)) = shows.4.behind_time in
-    let header : List ℕ = front ++ ((time ++ space) ++ ws) in
-    let told : text ≡ front ++ (time ++ (space ++ (ws ++ (s.elements ++ tl)))) =
-    e1 ∙ ap (λ (x : List ℕ). front ++ x) (e2 ∙ ap (λ (x : List ℕ). time ++ x) (e3 ∙ ap (λ (x : List ℕ). space ++ x) (be ∙ e4 ∙ ap (λ (x : List ℕ). ws ++ x) (e5 ∙ ap (λ (x : List ℕ). x ++ tl) is)))) in
-    let all : new ≡ ((old ++ header) ++ s.elements) ++ tl = whole ∙ ap (λ (x : List ℕ). old ++ x) told ∙ sym (seven old front time space ws s.elements tl) in
+pub record_verbatim : (s : ViewParts) (old new : List ℕ) → HasOneMessageForm s.message → StructuredDataOf s.elements s.elements → Adds (VerbatimForm s) old new → (b : List ℕ) → IsViewOf b s → AddsCanonical b old new
+unfolding HeaderForm VerbatimForm
+record_verbatim s old new one dataform (text, (prefix, t1, e1, f, (time, t2, e2, t, (space, behind, e3, sp, be))), whole) b has_parts =
+    let (ws, t3, e4, words, (d, tl, e5, is, message_part)) = has_parts.4.behind_time in
+    let header : List ℕ = prefix ++ ((time ++ space) ++ ws) in
+    let reported : text ≡ prefix ++ (time ++ (space ++ (ws ++ (s.elements ++ tl)))) =
+    e1 ∙ ap (λ (x : List ℕ). prefix ++ x) (e2 ∙ ap (λ (x : List ℕ). time ++ x) (e3 ∙ ap (λ (x : List ℕ). space ++ x) (be ∙ e4 ∙ ap (λ (x : List ℕ). ws ++ x) (e5 ∙ ap (λ (x : List ℕ). x ++ tl) is)))) in
+    let all : new ≡ ((old ++ header) ++ s.elements) ++ tl = whole ∙ ap (λ (x : List ℕ). old ++ x) reported ∙ sym (seven old prefix time space ws s.elements tl) in
     record_written s old (old ++ header) ((old ++ header) ++ s.elements) new
-    (header, (front, (time ++ space) ++ ws, refl, f, (time ++ space, ws, refl, (time, space, refl, t, sp), words_formed s.hostname s.app_name s.proc_id s.msg_id ws words)), refl)
+    (header, (prefix, (time ++ space) ++ ws, refl, f, (time ++ space, ws, refl, (time, space, refl, t, sp), words_formed s.hostname s.app_name s.proc_id s.msg_id ws words)), refl)
     (s.elements, dataform, refl)
-    (tl, one tl tail, all) b shows
+    (tl, one tl message_part, all) b has_parts

@@ -20,7 +20,7 @@ use Rattle.syslog_grammar.specs.Faults.{AreDistinct}
 use Rattle.syslog_grammar.specs.Grammar.{Element}
 use Rattle.syslog_grammar.specs.Ids.{IsRisingFrom, ids_of}
 use Rattle.syslog_grammar.specs.Spans.{ElementSpan, SpannedElement}
-use Rattle.syslog_grammar.proofs.ParamTexts.{element_front}
+use Rattle.syslog_grammar.proofs.ParamTexts.{element_prefix}
 use Rattle.syslog_grammar.proofs.Repeating.{split}
 
 abbrev pub Lent : Type 0
@@ -29,48 +29,48 @@ Lent = Bor (List ℕ)
 abbrev pub texts : List Lent → List (List ℕ)
 texts ids = map (λ s. s.now) ids
 
--- ---- the places
+-- ---- the offsets
 
--- what the places hold of the ids of elements
+-- what the offsets hold of the ids of elements
 abbrev pub Fills : List ℕ → List ℕ → ℕ → List Lent → Type 0
-Fills elements rest count places = (es : List ElementParts) → Each Element es elements
-    → (todo : List ElementParts) × Each Element todo rest × (ids_of es ≡ texts (take count places) ++ ids_of todo)
+Fills elements rest count offsets = (es : List ElementParts) → Each Element es elements
+    → (todo : List ElementParts) × Each Element todo rest × (ids_of es ≡ texts (take count offsets) ++ ids_of todo)
 
-pub fills_none : (elements : List ℕ) (places : List Lent) → Fills elements elements 0 places
-fills_none elements places es h = (es, h, refl)
+pub fills_none : (elements : List ℕ) (offsets : List Lent) → Fills elements elements 0 offsets
+fills_none elements offsets es h = (es, h, refl)
 
-put_suc : (n : ℕ) (x : Lent) (places : List Lent) → n < length places → texts (take (suc n) (set places n x)) ≡ texts (take n places) ++ x.now ∷ []
+put_suc : (n : ℕ) (x : Lent) (offsets : List Lent) → n < length offsets → texts (take (suc n) (set offsets n x)) ≡ texts (take n offsets) ++ x.now ∷ []
 put_suc n x [] h = absurd (omega arith)
-put_suc zero x (y ∷ places) h = refl
-put_suc (suc n) x (y ∷ places) h = ap (λ (k : List (List ℕ)). y.now ∷ k) (put_suc n x places (omega arith))
+put_suc zero x (y ∷ offsets) h = refl
+put_suc (suc n) x (y ∷ offsets) h = ap (λ (k : List (List ℕ)). y.now ∷ k) (put_suc n x offsets (omega arith))
 
-put : (n : ℕ) (x : Lent) (places : List Lent) → n < length places → texts (take (n + 1) (set places n x)) ≡ texts (take n places) ++ x.now ∷ []
-put n x places h = rw add-one (put_suc n x places h)
+put : (n : ℕ) (x : Lent) (offsets : List Lent) → n < length offsets → texts (take (n + 1) (set offsets n x)) ≡ texts (take n offsets) ++ x.now ∷ []
+put n x offsets h = rw add-one (put_suc n x offsets h)
 
-fill_one : (es todo : List ElementParts) (rest behind after : List ℕ) (x count : ℕ) (places : List Lent) (v : ElementSpan) (id : Lent) → rest ≡ x ∷ after → Each Element todo rest → Follows (SpannedElement v) rest behind → id.now ≡ v.id → count < length places
-    → ids_of es ≡ texts (take count places) ++ ids_of todo → (more : List ElementParts) × Each Element more behind × (ids_of es ≡ texts (take (count + 1) (set places count id)) ++ ids_of more)
-fill_one es [] rest behind after x count places v id e h f i room g = let k : ◌≡◌ {A = List ℕ} [] (x ∷ after) = sym h ∙ e in absurd cc
-fill_one es (d ∷ ds) rest behind after x count places v id e h f i room g =
+fill_one : (es todo : List ElementParts) (rest behind after : List ℕ) (x count : ℕ) (offsets : List Lent) (v : ElementSpan) (id : Lent) → rest ≡ x ∷ after → Each Element todo rest → Follows (SpannedElement v) rest behind → id.now ≡ v.id → count < length offsets
+    → ids_of es ≡ texts (take count offsets) ++ ids_of todo → (more : List ElementParts) × Each Element more behind × (ids_of es ≡ texts (take (count + 1) (set offsets count id)) ++ ids_of more)
+fill_one es [] rest behind after x count offsets v id e h f i room g = let k : ◌≡◌ {A = List ℕ} [] (x ∷ after) = sym h ∙ e in absurd cc
+fill_one es (d ∷ ds) rest behind after x count offsets v id e h f i room g =
     let s = split d ds rest behind v h f in (
       ds,
       s.others,
-      g ∙ ap (λ (k : List ℕ). texts (take count places) ++ k ∷ ids_of ds) (s.same ∙ sym i)
-          ∙ sym (append_assoc (texts (take count places)) (id.now ∷ []) (ids_of ds)) ∙ ap (λ (k : List (List ℕ)). k ++ ids_of ds) (sym (put count id places room)),
+      g ∙ ap (λ (k : List ℕ). texts (take count offsets) ++ k ∷ ids_of ds) (s.same ∙ sym i)
+          ∙ sym (append_assoc (texts (take count offsets)) (id.now ∷ []) (ids_of ds)) ∙ ap (λ (k : List (List ℕ)). k ++ ids_of ds) (sym (put count id offsets room)),
     )
 
-pub fills_more : (elements rest behind after : List ℕ) (x count : ℕ) (places : List Lent) (v : ElementSpan) (id : Lent) → rest ≡ x ∷ after → Follows (SpannedElement v) rest behind → id.now ≡ v.id → count < length places → Fills elements rest count places → Fills elements behind (count + 1) (set places count id)
-fills_more elements rest behind after x count places v id e f i room fills es h =
+pub fills_more : (elements rest behind after : List ℕ) (x count : ℕ) (offsets : List Lent) (v : ElementSpan) (id : Lent) → rest ≡ x ∷ after → Follows (SpannedElement v) rest behind → id.now ≡ v.id → count < length offsets → Fills elements rest count offsets → Fills elements behind (count + 1) (set offsets count id)
+fills_more elements rest behind after x count offsets v id e f i room fills es h =
     let k = fills es h in
-    fill_one es k.0 rest behind after x count places v id e k.1 f i room k.2
+    fill_one es k.0 rest behind after x count offsets v id e k.1 f i room k.2
 
 none_of_end : (todo : List ElementParts) → Each Element todo [] → ids_of todo ≡ []
 none_of_end [] h = refl
-none_of_end (d ∷ ds) (x, y, g, h, l) = let f = element_front x (d, h) in let i : ◌≡◌ {A = List ℕ} [] (91 ∷ (f.0 ++ y)) = g ∙ ap (λ (u : List ℕ). u ++ y) f.1 in absurd cc
+none_of_end (d ∷ ds) (x, y, g, h, l) = let f = element_prefix x (d, h) in let i : ◌≡◌ {A = List ℕ} [] (91 ∷ (f.0 ++ y)) = g ∙ ap (λ (u : List ℕ). u ++ y) f.1 in absurd cc
 
-pub fills_end : (elements rest : List ℕ) (count : ℕ) (places : List Lent) → rest ≡ [] → Fills elements rest count places → (es : List ElementParts) → Each Element es elements → ids_of es ≡ texts (take count places)
-fills_end elements rest count places e fills es h =
+pub fills_end : (elements rest : List ℕ) (count : ℕ) (offsets : List Lent) → rest ≡ [] → Fills elements rest count offsets → (es : List ElementParts) → Each Element es elements → ids_of es ≡ texts (take count offsets)
+fills_end elements rest count offsets e fills es h =
     let k = fills es h in
-    k.2 ∙ ap (λ (u : List (List ℕ)). texts (take count places) ++ u) (none_of_end k.0 (subst (Each Element k.0) e k.1)) ∙ append-nil (texts (take count places))
+    k.2 ∙ ap (λ (u : List (List ℕ)). texts (take count offsets) ++ u) (none_of_end k.0 (subst (Each Element k.0) e k.1)) ∙ append-nil (texts (take count offsets))
 
 -- ---- rising ids
 

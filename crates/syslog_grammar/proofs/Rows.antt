@@ -8,7 +8,7 @@ use Rattle.syslog_value.specs.Parts.{Parts, AnyOctets}
 use Rattle.syslog_grammar.specs.Utf8.{IsCharacter}
 use Rattle.syslog_grammar.specs.Values.{Spells, IsPlain}
 use Rattle.syslog_grammar.specs.Time.{CivilTime, instant, TimeText, OffsetText}
-use Rattle.syslog_grammar.specs.Grammar.{Priority, Spelled, Header, header_of}
+use Rattle.syslog_grammar.specs.Grammar.{Priority, SyslogMsg, Header, header_of}
 
 abbrev at : ℕ → ℕ → ℕ → ℕ → ℕ → ℕ → ℕ → ℤ → CivilTime
 at y mo d h mi s us o = record { civil = record { year = y; month = mo; day = d; hour = h; minute = mi; second = s; micros = us }; offset = o }
@@ -120,5 +120,5 @@ shortest_header =
     (both (codes "- ") (codes "- - - ") nil
     (both (codes "- ") (codes "- - ") nil (both (codes "- ") (codes "- ") nil nil)))))
 
-shortest_text : Spelled shortest (codes "<0>1 - - - - - -")
+shortest_text : SyslogMsg shortest (codes "<0>1 - - - - - -")
 shortest_text = both (codes "<0>1 - - - - - ") (codes "-") shortest_header (both (codes "-") [] refl (inl (refl, refl)))

@@ -1,7 +1,7 @@
 -- The octets in front that a test holds of.
 use Rattle.std.proofs.Common.{◌≡◌, ℕ, zero, suc, ◌+◌, ◌<◌, List, [], ◌∷◌, ◌++◌, length, take, drop, get_or, refl, subst, sym, add-one, arith}
 use Rattle.std.specs.List.{AllByRecursion}
-use Rattle.octet_language.specs.Language.{Language, Only, ◌⋅◌, IfFront}
+use Rattle.octet_language.specs.Language.{Language, Only, ◌⋅◌, IfFirst}
 use Rattle.octet_language.specs.Reading.{Follows}
 use Rattle.octet_language.proofs.Lists.{one_more}
 
@@ -14,27 +14,27 @@ run_suc P (suc i) (x ∷ s) low h p = (h.0, run_suc P i s (omega arith) h.1 p)
 pub run_more : (P : ℕ → Type 0) (i : ℕ) (s : List ℕ) → i < length s → AllByRecursion P (take i s) → P (get_or s i 0) → AllByRecursion P (take (i + 1) s)
 run_more P i s low h p = rw add-one (run_suc P i s low h p)
 
--- what holds of the octet at i holds of the front of what is left there
-pub front_at : (P : ℕ → Type 0) (i : ℕ) (s : List ℕ) → P (get_or s i 0) → IfFront P (drop i s)
-front_at P zero [] p = tt
-front_at P (suc i) [] p = tt
-front_at P zero (x ∷ s) p = p
-front_at P (suc i) (x ∷ s) p = front_at P i s p
+-- what holds of the octet at i holds of the prefix of what is left there
+pub prefix_at : (P : ℕ → Type 0) (i : ℕ) (s : List ℕ) → P (get_or s i 0) → IfFirst P (drop i s)
+prefix_at P zero [] p = tt
+prefix_at P (suc i) [] p = tt
+prefix_at P zero (x ∷ s) p = p
+prefix_at P (suc i) (x ∷ s) p = prefix_at P i s p
 
 -- nothing is left at the end
-pub front_end : (P : ℕ → Type 0) (s : List ℕ) → IfFront P (drop (length s) s)
-front_end P [] = tt
-front_end P (x ∷ s) = front_end P s
+pub prefix_end : (P : ℕ → Type 0) (s : List ℕ) → IfFirst P (drop (length s) s)
+prefix_end P [] = tt
+prefix_end P (x ∷ s) = prefix_end P s
 
-pub IfFront-empty : (P : ℕ → Type 0) (b : List ℕ) → b ≡ [] → IfFront P b
-IfFront-empty P b e = subst (IfFront P) (sym e) tt
+pub IfFirst-empty : (P : ℕ → Type 0) (b : List ℕ) → b ≡ [] → IfFirst P b
+IfFirst-empty P b e = subst (IfFirst P) (sym e) tt
 
-pub IfFront-cons : (P : ℕ → Type 0) (b : List ℕ) (x : ℕ) (rest : List ℕ) → b ≡ x ∷ rest → P x → IfFront P b
-IfFront-cons P b x rest e p = subst (IfFront P) (sym e) p
+pub IfFirst-cons : (P : ℕ → Type 0) (b : List ℕ) (x : ℕ) (rest : List ℕ) → b ≡ x ∷ rest → P x → IfFirst P b
+IfFirst-cons P b x rest e p = subst (IfFirst P) (sym e) p
 
 -- a text, and a mark behind it
-pub marked : (L : Language) (b p behind rest : List ℕ) (x y : ℕ) → L p → b ≡ p ++ behind → behind ≡ x ∷ rest → x ≡ y → Follows (L ⋅ Only (y ∷ [])) b rest
-marked L b p behind rest x y h e f g =
+pub escaped_rest : (L : Language) (b p behind rest : List ℕ) (x y : ℕ) → L p → b ≡ p ++ behind → behind ≡ x ∷ rest → x ≡ y → Follows (L ⋅ Only (y ∷ [])) b rest
+escaped_rest L b p behind rest x y h e f g =
     subst (λ (k : List ℕ). Follows (L ⋅ Only (y ∷ [])) k rest) (sym (e'))
     (p ++ y ∷ [], sym (one_more p y rest), (p, y ∷ [], refl', h, refl'))
   where

@@ -1,49 +1,49 @@
 -- Two fields with a mark between them, and a second field that hangs on the value of the first.
 use Rattle.std.proofs.Common.{◌≡◌, ℕ, List, [], ◌∷◌, ◌++◌, length, refl, sym, ap, subst, ◌∙◌, append_assoc, inl, inr}
 use Rattle.std.proofs.lemmas.List.{append_cancel_left, append-nil}
-use Rattle.octet_language.specs.Language.{Language, Only, ◌⋅◌, AnyOf, Refuses, NoFront, OneFront}
+use Rattle.octet_language.specs.Language.{Language, Only, ◌⋅◌, AnyOf, Refuses, NoPrefix, IsPrefixFree}
 use Rattle.octet_language.specs.Reading.{Fails, Follows}
-use Rattle.octet_language.proofs.Lists.{parted, one_more, same_front}
-use Rattle.octet_language.proofs.Sequence.{OneFront-then}
-use Rattle.octet_language.proofs.Chain.{Fails-first, Fails-later, Fails-same, Follows-then, OneFront-only, OneFront-same}
+use Rattle.octet_language.proofs.Lists.{parted, one_more, same_prefix}
+use Rattle.octet_language.proofs.Sequence.{IsPrefixFree-then}
+use Rattle.octet_language.proofs.Chain.{Fails-first, Fails-later, Fails-same, Follows-then, IsPrefixFree-only, IsPrefixFree-same}
 
 -- texts of one length
-pub OneFront-length : (L : Language) (n : ℕ) → ((p : List ℕ) → L p → length p ≡ n) → OneFront L
-OneFront-length L n long p s q t h k e = same_front p q s t (long p h ∙ sym (long q k)) e
+pub IsPrefixFree-length : (L : Language) (n : ℕ) → ((p : List ℕ) → L p → length p ≡ n) → IsPrefixFree L
+IsPrefixFree-length L n long p s q t h k e = same_prefix p q s t (long p h ∙ sym (long q k)) e
 
 -- ---- a mark between
 
-abbrev pub Marked : Language → ℕ → Language → Language
-Marked A m B = A ⋅ (Only (m ∷ []) ⋅ B)
+abbrev pub Delimited : Language → ℕ → Language → Language
+Delimited A m B = A ⋅ (Only (m ∷ []) ⋅ B)
 
-pub bad_first : (A B : Language) (m : ℕ) (b t : List ℕ) (left : ℕ) → B t → Fails A b left → Fails (Marked A m B) b left
-bad_first A B m b t left some f = Fails-first A (Only (m ∷ []) ⋅ B) b (m ∷ t) left (m ∷ [], t, refl, refl, some) f
+pub bad_first : (A B : Language) (m : ℕ) (b t : List ℕ) (remaining : ℕ) → B t → Fails A b remaining → Fails (Delimited A m B) b remaining
+bad_first A B m b t remaining some f = Fails-first A (Only (m ∷ []) ⋅ B) b (m ∷ t) remaining (m ∷ [], t, refl, refl, some) f
 
-pub bad_middle : (A B : Language) (m : ℕ) (b rest t : List ℕ) (left : ℕ) → OneFront A → B t → Follows A b rest → Fails (Only (m ∷ [])) rest left → Fails (Marked A m B) b left
-bad_middle A B m b rest t left one some f g = Fails-later A (Only (m ∷ []) ⋅ B) b rest left one f (Fails-first (Only (m ∷ [])) B rest t left some g)
+pub bad_middle : (A B : Language) (m : ℕ) (b rest t : List ℕ) (remaining : ℕ) → IsPrefixFree A → B t → Follows A b rest → Fails (Only (m ∷ [])) rest remaining → Fails (Delimited A m B) b remaining
+bad_middle A B m b rest t remaining one some f g = Fails-later A (Only (m ∷ []) ⋅ B) b rest remaining one f (Fails-first (Only (m ∷ [])) B rest t remaining some g)
 
-pub bad_second : (A B : Language) (m : ℕ) (b rest after : List ℕ) (left : ℕ) → OneFront A → Follows A b rest → Follows (Only (m ∷ [])) rest after → Fails B after left → Fails (Marked A m B) b left
-bad_second A B m b rest after left one f g h = Fails-later A (Only (m ∷ []) ⋅ B) b rest left one f (Fails-later (Only (m ∷ [])) B rest after left (OneFront-only (m ∷ [])) g h)
+pub bad_second : (A B : Language) (m : ℕ) (b rest after : List ℕ) (remaining : ℕ) → IsPrefixFree A → Follows A b rest → Follows (Only (m ∷ [])) rest after → Fails B after remaining → Fails (Delimited A m B) b remaining
+bad_second A B m b rest after remaining one f g h = Fails-later A (Only (m ∷ []) ⋅ B) b rest remaining one f (Fails-later (Only (m ∷ [])) B rest after remaining (IsPrefixFree-only (m ∷ [])) g h)
 
-pub both_read : (A B : Language) (m : ℕ) (b rest after end : List ℕ) → Follows A b rest → Follows (Only (m ∷ [])) rest after → Follows B after end → Follows (Marked A m B) b end
+pub both_read : (A B : Language) (m : ℕ) (b rest after end : List ℕ) → Follows A b rest → Follows (Only (m ∷ [])) rest after → Follows B after end → Follows (Delimited A m B) b end
 both_read A B m b rest after end f g h = Follows-then A (Only (m ∷ []) ⋅ B) b rest end f (Follows-then (Only (m ∷ [])) B rest after end g h)
 
-pub OneFront-between : (A B : Language) (m : ℕ) → OneFront A → OneFront B → OneFront (Marked A m B)
-OneFront-between A B m one two = OneFront-then A (Only (m ∷ []) ⋅ B) one (OneFront-then (Only (m ∷ [])) B (OneFront-only (m ∷ [])) two)
+pub IsPrefixFree-between : (A B : Language) (m : ℕ) → IsPrefixFree A → IsPrefixFree B → IsPrefixFree (Delimited A m B)
+IsPrefixFree-between A B m one two = IsPrefixFree-then A (Only (m ∷ []) ⋅ B) one (IsPrefixFree-then (Only (m ∷ [])) B (IsPrefixFree-only (m ∷ [])) two)
 
 -- the values of the two fields, one by one or as a pair
-pub as_pair : {V W : Type 0} (A : V → Language) (B : W → Language) (m : ℕ) (b : List ℕ) (left : ℕ) → Fails (Marked (AnyOf A) m (AnyOf B)) b left → Fails (AnyOf {V = V × W} (λ p. Marked (A p.0) m (B p.1))) b left
-as_pair {V} {W} A B m b left f =
-    Fails-same (Marked (AnyOf A) m (AnyOf B)) (AnyOf {V = V × W} (λ p. Marked (A p.0) m (B p.1))) b left
+pub as_pair : {V W : Type 0} (A : V → Language) (B : W → Language) (m : ℕ) (b : List ℕ) (remaining : ℕ) → Fails (Delimited (AnyOf A) m (AnyOf B)) b remaining → Fails (AnyOf {V = V × W} (λ p. Delimited (A p.0) m (B p.1))) b remaining
+as_pair {V} {W} A B m b remaining f =
+    Fails-same (Delimited (AnyOf A) m (AnyOf B)) (AnyOf {V = V × W} (λ p. Delimited (A p.0) m (B p.1))) b remaining
     (λ s (x, y, e, (v, h), (z, w, g, k, (u, l))). ((v, u), (x, y, e, h, (z, w, g, k, l))))
     (λ s (p, (x, y, e, h, (z, w, g, k, l))). (x, y, e, (p.0, h), (z, w, g, k, (p.1, l))))
     f
 
-pub OneFront-pair : {V W : Type 0} (A : V → Language) (B : W → Language) (m : ℕ) → OneFront (AnyOf A) → OneFront (AnyOf B) → OneFront (AnyOf {V = V × W} (λ p. Marked (A p.0) m (B p.1)))
-OneFront-pair {V} {W} A B m one two =
-    OneFront-same (Marked (AnyOf A) m (AnyOf B)) (AnyOf {V = V × W} (λ p. Marked (A p.0) m (B p.1)))
+pub IsPrefixFree-pair : {V W : Type 0} (A : V → Language) (B : W → Language) (m : ℕ) → IsPrefixFree (AnyOf A) → IsPrefixFree (AnyOf B) → IsPrefixFree (AnyOf {V = V × W} (λ p. Delimited (A p.0) m (B p.1)))
+IsPrefixFree-pair {V} {W} A B m one two =
+    IsPrefixFree-same (Delimited (AnyOf A) m (AnyOf B)) (AnyOf {V = V × W} (λ p. Delimited (A p.0) m (B p.1)))
     (λ s (p, (x, y, e, h, (z, w, g, k, l))). (x, y, e, (p.0, h), (z, w, g, k, (p.1, l))))
-    (OneFront-between (AnyOf A) (AnyOf B) m one two)
+    (IsPrefixFree-between (AnyOf A) (AnyOf B) m one two)
 
 -- ---- a second field that hangs on the value of the first
 
@@ -55,7 +55,7 @@ OneValue {V} A = (v w : V) (s : List ℕ) → A v s → A w s → v ≡ w
 abbrev pub Hangs : {V : Type 0} → (V → Language) → (V → Language) → Language
 Hangs A B = AnyOf (λ v. A v ⋅ B v)
 
-hangs_refuses : {V : Type 0} (A B : V → Language) (b p rest : List ℕ) → b ≡ p ++ rest → NoFront (AnyOf A) b → Refuses (AnyOf A) p rest → Refuses (Hangs A B) p rest
+hangs_refuses : {V : Type 0} (A B : V → Language) (b p rest : List ℕ) → b ≡ p ++ rest → NoPrefix (AnyOf A) b → Refuses (AnyOf A) p rest → Refuses (Hangs A B) p rest
 hangs_refuses A B b p [] e none r = tt
 hangs_refuses A B b p (x ∷ rest) e none r = λ (more, (v, (a, c, f, h, k))).
     elim (parted a c p x more (sym f ∙ one_more p x more)) [
@@ -64,8 +64,8 @@ hangs_refuses A B b p (x ∷ rest) e none r = λ (more, (v, (a, c, f, h, k))).
     ]
 
 -- the first fails, so the two fail there
-pub Fails-hangs_first : {V : Type 0} (A B : V → Language) (b : List ℕ) (left : ℕ) → ((v : V) (s : List ℕ) → A v s → (t : List ℕ) × B v t) → Fails (AnyOf A) b left → Fails (Hangs A B) b left
-Fails-hangs_first A B b left some f =
+pub Fails-hangs_first : {V : Type 0} (A B : V → Language) (b : List ℕ) (remaining : ℕ) → ((v : V) (s : List ℕ) → A v s → (t : List ℕ) × B v t) → Fails (AnyOf A) b remaining → Fails (Hangs A B) b remaining
+Fails-hangs_first A B b remaining some f =
     let s = f.stops in
     let k = some s.begins.1.0 (s.read ++ s.begins.0) s.begins.1.1 in
     record {
@@ -80,13 +80,13 @@ Fails-hangs_first A B b left some f =
       };
     }
 
-behind_value : {V : Type 0} (A B : V → Language) (v : V) (p s x y : List ℕ) (w : V) → OneFront (AnyOf A) → OneValue A → A v p → A w x → B w y → (t : List ℕ) → p ++ s ≡ x ++ (y ++ t) → (s ≡ y ++ t) × B v y
+behind_value : {V : Type 0} (A B : V → Language) (v : V) (p s x y : List ℕ) (w : V) → IsPrefixFree (AnyOf A) → OneValue A → A v p → A w x → B w y → (t : List ℕ) → p ++ s ≡ x ++ (y ++ t) → (s ≡ y ++ t) × B v y
 behind_value {V} A B v p s x y w one value a h k t e =
     let same : p ≡ x = one p s x (y ++ t) (v, a) (w, h) e in
     let rests : s ≡ y ++ t = append_cancel_left p s (y ++ t) (e ∙ ap (λ (u : List ℕ). u ++ (y ++ t)) (sym same)) in
     (rests, subst (λ (u : V). B u y) (value w v p (subst (A w) (sym same) h) a) k)
 
-later_refuses : {V : Type 0} (A B : V → Language) (v : V) (p q rest : List ℕ) → OneFront (AnyOf A) → OneValue A → A v p → Refuses (B v) q rest → Refuses (Hangs A B) (p ++ q) rest
+later_refuses : {V : Type 0} (A B : V → Language) (v : V) (p q rest : List ℕ) → IsPrefixFree (AnyOf A) → OneValue A → A v p → Refuses (B v) q rest → Refuses (Hangs A B) (p ++ q) rest
 later_refuses A B v p q [] one value a r = tt
 later_refuses A B v p q (x ∷ rest) one value a r = λ (more, (w, (y, z, e, h, k))).
     let whole : p ++ (q ++ x ∷ more) ≡ y ++ (z ++ []) = sym (append_assoc p q (x ∷ more)) ∙ sym (one_more (p ++ q) x more) ∙ e ∙ ap (λ (u : List ℕ). y ++ u) (sym (append-nil z)) in
@@ -94,8 +94,8 @@ later_refuses A B v p q (x ∷ rest) one value a r = λ (more, (w, (y, z, e, h, 
     r (more, subst (B v) (sym (one_more q x more ∙ b.0 ∙ append-nil z)) b.1)
 
 -- behind a text of the first, the two fail where the second fails at its value
-pub Fails-hangs_later : {V : Type 0} (A B : V → Language) (v : V) (b rest : List ℕ) (left : ℕ) → OneFront (AnyOf A) → OneValue A → Follows (A v) b rest → Fails (B v) rest left → Fails (Hangs A B) b left
-Fails-hangs_later A B v b rest left one value (p, e, a) f = record {
+pub Fails-hangs_later : {V : Type 0} (A B : V → Language) (v : V) (b rest : List ℕ) (remaining : ℕ) → IsPrefixFree (AnyOf A) → OneValue A → Follows (A v) b rest → Fails (B v) rest remaining → Fails (Hangs A B) b remaining
+Fails-hangs_later A B v b rest remaining one value (p, e, a) f = record {
   none = λ x y d (w, (x', y', g, h, k)).
       let whole : p ++ rest ≡ x' ++ (y' ++ y) = sym e ∙ d ∙ ap (λ (u : List ℕ). u ++ y) g ∙ append_assoc x' y' y in
       let b = behind_value A B v p rest x' y' w one value a h k y whole in
@@ -110,9 +110,9 @@ Fails-hangs_later A B v b rest left one value (p, e, a) f = record {
   };
 }
 
--- one front, where the second has one for each value
-pub OneFront-hangs : {V : Type 0} (A B : V → Language) → OneFront (AnyOf A) → OneValue A → ((v : V) → OneFront (B v)) → OneFront (Hangs A B)
-OneFront-hangs A B one value second p s q t (v, (x, y, e, a, b)) (w, (z, u, f, c, d)) g =
+-- one prefix, where the second has one for each value
+pub IsPrefixFree-hangs : {V : Type 0} (A B : V → Language) → IsPrefixFree (AnyOf A) → OneValue A → ((v : V) → IsPrefixFree (B v)) → IsPrefixFree (Hangs A B)
+IsPrefixFree-hangs A B one value second p s q t (v, (x, y, e, a, b)) (w, (z, u, f, c, d)) g =
     let whole : x ++ (y ++ s) ≡ z ++ (u ++ t) = sym (append_assoc x y s) ∙ ap (λ (k : List ℕ). k ++ s) (sym e) ∙ g ∙ ap (λ (k : List ℕ). k ++ t) f ∙ append_assoc z u t in
     let same : x ≡ z = one x (y ++ s) z (u ++ t) (v, a) (w, c) whole in
     let k = behind_value A B v x (y ++ s) z u w one value a c d t whole in

@@ -6,9 +6,9 @@ use Rattle.octet_language.proofs.Chain.{Fails-same}
 use Rattle.syslog_grammar.specs.Spans.{Text}
 
 -- a text and what is behind it fail alike where the text is lent
-pub Fails-text : (L Z : Language) (b : List ℕ) (left : ℕ) → Fails (L ⋅ Z) b left → Fails (AnyOf (λ t. Text L t ⋅ Z)) b left
-Fails-text L Z b left f =
-    Fails-same (L ⋅ Z) (AnyOf (λ t. Text L t ⋅ Z)) b left
+pub Fails-text : (L Z : Language) (b : List ℕ) (remaining : ℕ) → Fails (L ⋅ Z) b remaining → Fails (AnyOf (λ t. Text L t ⋅ Z)) b remaining
+Fails-text L Z b remaining f =
+    Fails-same (L ⋅ Z) (AnyOf (λ t. Text L t ⋅ Z)) b remaining
     (λ s (x, y, e, h, k). (x, (x, y, e, (h, refl), k)))
     (λ s (t, (x, y, e, (h, g), k)). (x, y, e, subst L (sym g) h, k))
     f

@@ -147,23 +147,23 @@ pub record Unescapes (raw rest done : List ℕ) : Type 0 where
 pub unescapes_all : (raw : List ℕ) → Unescapes raw raw []
 unescapes_all raw = record { is = refl }
 
-pub free_front : (k : ℕ) (s : List ℕ) → ((i : ℕ) → i < k → ¬ ((get_or s i 0 == 92) ≡ true)) → AllByRecursion (λ x. x ≢ 92) (take k s)
-free_front zero s h = tt
-free_front (suc k) [] h = tt
-free_front (suc k) (x ∷ s) h = (λ e. h 0 (omega arith) (eq-eqb x 92 e), free_front k s (λ i less. h (suc i) (omega arith)))
+pub free_prefix : (k : ℕ) (s : List ℕ) → ((i : ℕ) → i < k → ¬ ((get_or s i 0 == 92) ≡ true)) → AllByRecursion (λ x. x ≢ 92) (take k s)
+free_prefix zero s h = tt
+free_prefix (suc k) [] h = tt
+free_prefix (suc k) (x ∷ s) h = (λ e. h 0 (omega arith) (eq-eqb x 92 e), free_prefix k s (λ i less. h (suc i) (omega arith)))
 
-pub unescapes_more : (raw rest out m1 m2 plain marked first behind : List ℕ) (k : ℕ) → Unescapes raw rest out → IsFirstByte (is_byte 92) rest (Some k)
-    → plain ≡ take k rest → marked ≡ drop k rest → MeansFirst marked first behind
+pub unescapes_more : (raw rest out m1 m2 plain escaped_rest first behind : List ℕ) (k : ℕ) → Unescapes raw rest out → IsFirstByte (is_byte 92) rest (Some k)
+    → plain ≡ take k rest → escaped_rest ≡ drop k rest → MeansFirst escaped_rest first behind
     → Adds (Only plain) out m1 → Adds (Only first) m1 m2 → Unescapes raw behind m2
-unescapes_more raw rest out m1 m2 plain marked first behind k u f p m b (x, xs, xe) (y, ys, ye) =
-    let parts : rest ≡ plain ++ marked = sym (take-append-drop k rest) ∙ rw (p, m) refl in
-    let run = kept_all plain marked (subst (AllByRecursion (λ n. n ≢ 92)) (sym p) (free_front k rest (λ i less. f.0.before i (omega arith) less))) in
-    let step : unescaped rest ≡ plain ++ (first ++ unescaped behind) = ap unescaped parts ∙ run ∙ ap (λ (t : List ℕ). plain ++ t) (first_means marked first behind b) in
+unescapes_more raw rest out m1 m2 plain escaped_rest first behind k u f p m b (x, xs, xe) (y, ys, ye) =
+    let parts : rest ≡ plain ++ escaped_rest = sym (take-append-drop k rest) ∙ rw (p, m) refl in
+    let run = kept_all plain escaped_rest (subst (AllByRecursion (λ n. n ≢ 92)) (sym p) (free_prefix k rest (λ i less. f.0.before i (omega arith) less))) in
+    let step : unescaped rest ≡ plain ++ (first ++ unescaped behind) = ap unescaped parts ∙ run ∙ ap (λ (t : List ℕ). plain ++ t) (first_means escaped_rest first behind b) in
     record { is = u.is ∙ ap (λ (t : List ℕ). out ++ t) step ∙ sym (rw (ye, xe, xs, ys) (simp append_assoc)) }
 
 pub unescapes_end : (raw rest out new : List ℕ) → Unescapes raw rest out → IsFirstByte (is_byte 92) rest None → Adds (Only rest) out new → (text : List ℕ) → Spells text raw → new ≡ text
 unfolding unescaped
 unescapes_end raw rest out new u f (x, xs, xe) text h =
-    let free : AllByRecursion (λ n. n ≢ 92) rest = subst (AllByRecursion (λ n. n ≢ 92)) (take_all (length rest) rest (omega arith)) (free_front (length rest) rest (λ i less. f i (omega arith) less)) in
+    let free : AllByRecursion (λ n. n ≢ 92) rest = subst (AllByRecursion (λ n. n ≢ 92)) (take_all (length rest) rest (omega arith)) (free_prefix (length rest) rest (λ i less. f i (omega arith) less)) in
     let whole : unescaped rest ≡ rest = ap unescaped (sym (append-nil rest)) ∙ kept_all rest [] free ∙ append-nil rest in
     xe ∙ ap (λ (t : List ℕ). out ++ t) (xs ∙ sym whole) ∙ sym u.is ∙ meaning text raw h

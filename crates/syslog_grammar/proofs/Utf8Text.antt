@@ -7,7 +7,7 @@ use Rattle.std.proofs.lemmas.Str.{IsUtf8-encode, IsUtf8-append, IsUtf8-nil}
 use lib.Utf8.{encode, encodes, scalar, scalars, scalar_cases}
 use Rattle.octet_language.specs.Language.{Each}
 use Rattle.syslog_grammar.specs.Utf8.{Range, Row, from_to, tail, row, table, Octet, InRow, IsCharacter, Character, IsText}
-use Rattle.syslog_grammar.proofs.Characters.{octet_front, octet_cons, row_to, each_some}
+use Rattle.syslog_grammar.proofs.Characters.{octet_prefix, octet_cons, row_to, each_some}
 
 -- ---- the octets of a scalar value
 
@@ -69,7 +69,7 @@ fits : (rs : List Range) (s : List ℕ) → Each Octet rs s → Fit rs s
 fits [] [] h = tt
 fits [] (x ∷ s) h = absurd cc
 fits (r ∷ rs) [] h = absurd (each_some r rs h)
-fits (r ∷ rs) (x ∷ s) h = let k = octet_front r rs x s h in (k.0, k.1, fits rs s k.2)
+fits (r ∷ rs) (x ∷ s) h = let k = octet_prefix r rs x s h in (k.0, k.1, fits rs s k.2)
 
 utf8_1 : (r : Range) (c : List ℕ) → r.high ≤ 0x7F → Fit (r ∷ []) c → IsUtf8 c
 utf8_1 r [] h f = absurd f

@@ -5,7 +5,7 @@ use Rattle.std.specs.List.{AllByRecursion, flat_map}
 use Rattle.std.proofs.lemmas.Str.{IsUtf8-append, IsUtf8-nil}
 use Rattle.octet_language.specs.Language.{Each}
 use Rattle.syslog_value.specs.Parts.{ParamParts, ElementParts, MessageParts, AnyOctets, Utf8Text, Parts, IsWord, IsParam, IsElement, IsMessage, IsInstant, IsRecord}
-use Rattle.syslog_grammar.specs.Grammar.{HeaderParts, Header, header_of, Nilable, Word, Spaced, Param, Element, Data, Message, Tail}
+use Rattle.syslog_grammar.specs.Grammar.{HeaderParts, Header, header_of, Nilable, Word, Spaced, Param, Element, StructuredDataText, Message, MessagePart}
 use Rattle.syslog_grammar.specs.Time.{CivilTime, instant}
 use Rattle.syslog_grammar.specs.Values.{IsSpecial, Piece, Spells}
 use Rattle.syslog_grammar.specs.WellFormed.{WellFormed}
@@ -47,7 +47,7 @@ valid_elements : (es : List ElementParts) (b : List ℕ) → Each Element es b �
 valid_elements [] b h = tt
 valid_elements (e ∷ es) b (x, y, f, h, k) = (valid_element e x h, valid_elements es y k)
 
-valid_data : (es : List ElementParts) (b : List ℕ) → Data es b → AllByRecursion IsElement es
+valid_data : (es : List ElementParts) (b : List ℕ) → StructuredDataText es b → AllByRecursion IsElement es
 valid_data [] b h = tt
 valid_data (e ∷ es) b h = valid_elements (e ∷ es) b h
 
@@ -79,7 +79,7 @@ valid_message : (m : MessageParts) (b : List ℕ) → Message m b → IsMessage 
 valid_message (AnyOctets octets) b h = (h.0, h.1)
 valid_message (Utf8Text text) b h = IsUtf8-text text h.0
 
-valid_tail : (m : MessageParts) (b : List ℕ) → Tail m b → IsMessage m
+valid_tail : (m : MessageParts) (b : List ℕ) → MessagePart m b → IsMessage m
 valid_tail m b (inl (e, f)) = subst IsMessage (sym e) (tt, λ k. absurd cc)
 valid_tail m b (inr (x, y, e, h, k)) = valid_message m y k
 

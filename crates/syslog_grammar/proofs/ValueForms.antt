@@ -6,14 +6,14 @@ use Rattle.std.proofs.lemmas.Bool.{eqb-true}
 use Rattle.std.proofs.lemmas.Grind.{flat_map-append}
 use Rattle.std.proofs.lemmas.List.{append_cancel_left, take_all, take-append-drop}
 use Rattle.memchr.specs.Find.{IsFirstByte, is_byte}
-use Rattle.octet_language.specs.Language.{Each, IfFront}
+use Rattle.octet_language.specs.Language.{Each, IfFirst}
 use Rattle.octet_language.proofs.Lists.{heads, tails, parted, not_free, AllByRecursion-right}
 use Rattle.syslog_grammar.specs.Canonical.{needs_escape, escaped}
 use Rattle.syslog_grammar.specs.Escapes.{BeginsSpecial}
 use Rattle.syslog_grammar.specs.Values.{IsSpecial, IsPlain, Piece, Spells}
-use Rattle.syslog_grammar.proofs.CanonicalSpelled.{bare}
+use Rattle.syslog_grammar.proofs.CanonicalParses.{bare}
 use Rattle.syslog_grammar.proofs.Characters.{character_some}
-use Rattle.syslog_grammar.proofs.Unescaped.{special_test, plain_bare, plain_free, free_front}
+use Rattle.syslog_grammar.proofs.Unescaped.{special_test, plain_bare, plain_free, free_prefix}
 use Rattle.syslog_grammar.proofs.Values.{no_special}
 
 abbrev pub Free : List ℕ → Type 0
@@ -49,12 +49,12 @@ runs (m ∷ ms) rest (r ∷ run) t (x, y, e, inr (inr (k, f)), j) g free = elim 
   | inl (z, i) ↦ absurd (not_free 92 m (r ∷ run) z (plain_free m k) (sym f ∙ i))
   | inr (w, i, l) ↦
       let deeper = runs ms y w t j l (AllByRecursion-right (λ n. n ≢ 92) x w (subst Free i free)) in
-      let front : r ∷ run ≡ m ++ w = i ∙ ap (λ (u : List ℕ). u ++ w) f in
+      let prefix : r ∷ run ≡ m ++ w = i ∙ ap (λ (u : List ℕ). u ++ w) f in
       record {
         behind = deeper.behind;
         each = deeper.each;
-        means = ap (λ (u : List ℕ). m ++ u) deeper.means ∙ sym (append_assoc m w (joined deeper.behind)) ∙ ap (λ (u : List ℕ). u ++ joined deeper.behind) (sym front);
-        same = ap escaped front ∙ escaped_join m w ∙ ap (λ (u : List ℕ). u ++ escaped w) (bare m (plain_bare m k)) ∙ ap (λ (u : List ℕ). m ++ u) deeper.same ∙ sym front;
+        means = ap (λ (u : List ℕ). m ++ u) deeper.means ∙ sym (append_assoc m w (joined deeper.behind)) ∙ ap (λ (u : List ℕ). u ++ joined deeper.behind) (sym prefix);
+        same = ap escaped prefix ∙ escaped_join m w ∙ ap (λ (u : List ℕ). u ++ escaped w) (bare m (plain_bare m k)) ∙ ap (λ (u : List ℕ). m ++ u) deeper.same ∙ sym prefix;
       }
 ]
 
@@ -86,21 +86,21 @@ escape (m ∷ ms) y after (x, z, e, inr (inr (k, f)), j) s =
     absurd (no_plain m z (y ∷ after) 92 k (inr (inl refl)) (e ∙ ap (λ (u : List ℕ). u ++ z) f))
 
 -- a backslash that is no escape is written with another in the canonical spelling
-lone : (ms : List (List ℕ)) (t : List ℕ) → Each Piece ms (92 ∷ t) → IfFront (λ x. ¬ (IsSpecial x)) t → (s : List ℕ) × (escaped (joined ms) ≡ 92 ∷ 92 ∷ s)
+lone : (ms : List (List ℕ)) (t : List ℕ) → Each Piece ms (92 ∷ t) → IfFirst (λ x. ¬ (IsSpecial x)) t → (s : List ℕ) × (escaped (joined ms) ≡ 92 ∷ 92 ∷ s)
 lone [] t h none = absurd cc
 lone (m ∷ ms) t (x, z, e, inl (q, k, f, i), j) none =
     let rest : t ≡ q ∷ z = tails 92 92 t (q ∷ z) (e ∙ ap (λ (u : List ℕ). u ++ z) i) in
-    absurd (subst (IfFront (λ n. ¬ (IsSpecial n))) rest none k)
+    absurd (subst (IfFirst (λ n. ¬ (IsSpecial n))) rest none k)
 lone (m ∷ ms) t (x, z, e, inr (inl (c, k, f, i)), j) none =
     (escaped (c ++ joined ms), ap (λ (u : List ℕ). escaped (u ++ joined ms)) f ∙ escaped_special 92 (c ++ joined ms) (inr (inl refl)))
 lone (m ∷ ms) t (x, z, e, inr (inr (k, f)), j) none = absurd (no_plain m z t 92 k (inr (inl refl)) (e ∙ ap (λ (u : List ℕ). u ++ z) f))
 
 -- the pieces behind such a backslash
-pub lone_more : (ms : List (List ℕ)) (t : List ℕ) → Each Piece ms (92 ∷ t) → IfFront (λ x. ¬ (IsSpecial x)) t → (ks : List (List ℕ)) × Each Piece ks t × (joined ms ≡ 92 ∷ joined ks)
+pub lone_more : (ms : List (List ℕ)) (t : List ℕ) → Each Piece ms (92 ∷ t) → IfFirst (λ x. ¬ (IsSpecial x)) t → (ks : List (List ℕ)) × Each Piece ks t × (joined ms ≡ 92 ∷ joined ks)
 lone_more [] t h none = absurd cc
 lone_more (m ∷ ms) t (x, z, e, inl (q, k, f, i), j) none =
     let rest : t ≡ q ∷ z = tails 92 92 t (q ∷ z) (e ∙ ap (λ (u : List ℕ). u ++ z) i) in
-    absurd (subst (IfFront (λ n. ¬ (IsSpecial n))) rest none k)
+    absurd (subst (IfFirst (λ n. ¬ (IsSpecial n))) rest none k)
 lone_more (m ∷ ms) t (x, z, e, inr (inl (c, k, f, i)), j) none =
     let rest : t ≡ c ++ z = tails 92 92 t (c ++ z) (e ∙ ap (λ (u : List ℕ). u ++ z) i) in
     (c ∷ ms, (c, z, rest, inr (inr (k, refl)), j), ap (λ (u : List ℕ). u ++ joined ms) f)
@@ -109,7 +109,7 @@ lone_more (m ∷ ms) t (x, z, e, inr (inr (k, f)), j) none = absurd (no_plain m 
 -- ---- no backslash
 
 pub free_rest : (rest : List ℕ) → IsFirstByte (is_byte 92) rest None → Free rest
-free_rest rest f = subst Free (take_all (length rest) rest (omega arith)) (free_front (length rest) rest (λ i less. f i (omega arith) less))
+free_rest rest f = subst Free (take_all (length rest) rest (omega arith)) (free_prefix (length rest) rest (λ i less. f i (omega arith) less))
 
 pub all_plain : (ms : List (List ℕ)) (rest : List ℕ) → Each Piece ms rest → Free rest → rest ≡ escaped (joined ms)
 all_plain [] rest h free = h
@@ -139,17 +139,17 @@ at_mark zero (x ∷ rest) h e = ap (λ (n : ℕ). n ∷ rest) (eqb-true x 92 e)
 at_mark (suc k) (x ∷ rest) h e = at_mark k rest (omega arith) e
 
 -- what stands before the first backslash, and behind it
-pub record Marked (rest run behind : List ℕ) : Type 0 where
+pub record Delimited (rest run behind : List ℕ) : Type 0 where
   pub parts : rest ≡ run ++ 92 ∷ behind
   pub free : Free run
 
-pub marked_at : (rest marked behind : List ℕ) (k : ℕ) → IsFirstByte (is_byte 92) rest (Some k) → marked ≡ drop k rest → behind ≡ drop 1 marked → Marked rest (take k rest) behind
-marked_at rest marked behind k f m b = record {
+pub marked_at : (rest escaped_rest behind : List ℕ) (k : ℕ) → IsFirstByte (is_byte 92) rest (Some k) → escaped_rest ≡ drop k rest → behind ≡ drop 1 escaped_rest → Delimited rest (take k rest) behind
+marked_at rest escaped_rest behind k f m b = record {
   parts = sym (take-append-drop k rest) ∙ ap (λ (u : List ℕ). take k rest ++ u) (at_mark k rest f.0.high f.1 ∙ ap (λ (u : List ℕ). 92 ∷ u) (ap (drop 1) (sym m) ∙ sym b));
-  free = free_front k rest (λ i less. f.0.before i (omega arith) less);
+  free = free_prefix k rest (λ i less. f.0.before i (omega arith) less);
 }
 
-step : (raw rest run behind after text : List ℕ) (y : ℕ) → Marked rest run behind → behind ≡ y ∷ after → IsSpecial y → Left raw text rest → Left raw text after
+step : (raw rest run behind after text : List ℕ) (y : ℕ) → Delimited rest run behind → behind ≡ y ∷ after → IsSpecial y → Left raw text rest → Left raw text after
 step raw rest run behind after text y m e s h =
     let r = runs h.spells.0 rest run behind h.spells.2 m.parts m.free in
     let q = escape r.behind y after (subst (λ (u : List ℕ). Each Piece r.behind (92 ∷ u)) e r.each) s in
@@ -164,25 +164,25 @@ step raw rest run behind after text y m e s h =
       from = λ g. h.from (whole ∙ ap (λ (u : List ℕ). run ++ 92 ∷ y ∷ u) g ∙ sym form);
     }
 
-pub value_more : (raw rest marked behind after : List ℕ) (k : ℕ) → IsFirstByte (is_byte 92) rest (Some k) → marked ≡ drop k rest → behind ≡ drop 1 marked → BeginsSpecial behind → after ≡ drop 1 behind → ValueLeft raw rest → ValueLeft raw after
-value_more raw rest marked behind after k f m b (y, z, e, s) a left text h =
-    step raw rest (take k rest) behind after text y (marked_at rest marked behind k f m b) (e ∙ ap (λ (u : List ℕ). y ∷ u) (ap (drop 1) (sym e) ∙ sym a)) s (left text h)
+pub value_more : (raw rest escaped_rest behind after : List ℕ) (k : ℕ) → IsFirstByte (is_byte 92) rest (Some k) → escaped_rest ≡ drop k rest → behind ≡ drop 1 escaped_rest → BeginsSpecial behind → after ≡ drop 1 behind → ValueLeft raw rest → ValueLeft raw after
+value_more raw rest escaped_rest behind after k f m b (y, z, e, s) a remaining text h =
+    step raw rest (take k rest) behind after text y (marked_at rest escaped_rest behind k f m b) (e ∙ ap (λ (u : List ℕ). y ∷ u) (ap (drop 1) (sym e) ∙ sym a)) s (remaining text h)
 
-pub value_lone : (raw rest marked behind : List ℕ) (k : ℕ) → IsFirstByte (is_byte 92) rest (Some k) → marked ≡ drop k rest → behind ≡ drop 1 marked → IfFront (λ x. ¬ (IsSpecial x)) behind → ValueLeft raw rest
+pub value_lone : (raw rest escaped_rest behind : List ℕ) (k : ℕ) → IsFirstByte (is_byte 92) rest (Some k) → escaped_rest ≡ drop k rest → behind ≡ drop 1 escaped_rest → IfFirst (λ x. ¬ (IsSpecial x)) behind → ValueLeft raw rest
     → (text : List ℕ) → Spells text raw → IsTrue false ↔ (raw ≡ escaped text)
-value_lone raw rest marked behind k f m b none left text h = (λ e. absurd cc, λ g. apart (left text h) g)
+value_lone raw rest escaped_rest behind k f m b none remaining text h = (λ e. absurd cc, λ g. apart (remaining text h) g)
   where
     apart : Left raw text rest → raw ≡ escaped text → IsTrue false
     apart l g =
-        let p = marked_at rest marked behind k f m b in
+        let p = marked_at rest escaped_rest behind k f m b in
         let r = runs l.spells.0 rest (take k rest) behind l.spells.2 p.parts p.free in
         let q = lone r.behind behind r.each none in
         let form : escaped l.meaning ≡ take k rest ++ 92 ∷ 92 ∷ q.0 =
         ap escaped (l.spells.1 ∙ r.means) ∙ escaped_join (take k rest) (joined r.behind) ∙ ap (λ (u : List ℕ). u ++ escaped (joined r.behind)) r.same ∙ ap (λ (u : List ℕ). take k rest ++ u) q.1 in
         let second : behind ≡ 92 ∷ q.0 = tails 92 92 behind (92 ∷ q.0) (append_cancel_left (take k rest) (92 ∷ behind) (92 ∷ 92 ∷ q.0) (sym p.parts ∙ l.to g ∙ form)) in
-        absurd (subst (IfFront (λ n. ¬ (IsSpecial n))) second none (inr (inl refl)))
+        absurd (subst (IfFirst (λ n. ¬ (IsSpecial n))) second none (inr (inl refl)))
 
 pub value_end : (raw rest : List ℕ) → IsFirstByte (is_byte 92) rest None → ValueLeft raw rest → (text : List ℕ) → Spells text raw → IsTrue true ↔ (raw ≡ escaped text)
-value_end raw rest f left text h =
-    let l = left text h in
+value_end raw rest f remaining text h =
+    let l = remaining text h in
     (λ u. l.from (all_plain l.spells.0 rest l.spells.2 (free_rest rest f) ∙ ap escaped (sym l.spells.1)), λ u. refl)

@@ -4,16 +4,16 @@ use Rattle.std.specs.Prelude.{Result}
 use Rattle.std.specs.List.{AllByRecursion}
 use Rattle.std.proofs.lemmas.List.{length-append}
 use Rattle.std.proofs.lemmas.Bool.{cases_eq}
-use Rattle.octet_language.specs.Language.{Language, Only, AnyOf, Refuses, NoFront, OneFront, IfFront}
+use Rattle.octet_language.specs.Language.{Language, Only, AnyOf, Refuses, NoPrefix, IsPrefixFree, IfFirst}
 use Rattle.octet_language.specs.Reading.{Fails, Passes}
 use Rattle.octet_language.proofs.Lists.{heads, tails}
-use Rattle.octet_language.proofs.Chain.{OneFront-only}
-use Rattle.octet_language.proofs.Many.{Many, OneFront-many}
+use Rattle.octet_language.proofs.Chain.{IsPrefixFree-only}
+use Rattle.octet_language.proofs.Many.{Many, IsPrefixFree-many}
 use Rattle.syslog_grammar.specs.Utf8.{table, from_to, IsCharacter}
 use Rattle.syslog_grammar.specs.Values.{IsSpecial, IsPlain, IsPlainOctet, PassesPlain, Piece}
 use Rattle.syslog_grammar.proofs.Loops.{Carries, carries_more}
-use Rattle.syslog_grammar.proofs.Front.{Passes-behind, Passes-alike}
-use Rattle.syslog_grammar.proofs.Characters.{character_some, OneFront-character, octet_cons, width, table_widths}
+use Rattle.syslog_grammar.proofs.Prefix.{Passes-behind, Passes-alike}
+use Rattle.syslog_grammar.proofs.Characters.{character_some, IsPrefixFree-character, octet_cons, width, table_widths}
 
 -- ---- ASCII
 
@@ -92,18 +92,18 @@ other_to x s ne h = elim (plain_or (x ∷ s) h) [
   | inr k ↦ (x ∷ s, inr (inr (k, refl)))
 ]
 
-pub OneFront-piece : OneFront (AnyOf Piece)
-OneFront-piece [] s q t a b e = absurd (piece_some a)
-OneFront-piece (x ∷ p) s [] t a b e = absurd (piece_some b)
-OneFront-piece (x ∷ p) s (y ∷ q) t a b e =
+pub IsPrefixFree-piece : IsPrefixFree (AnyOf Piece)
+IsPrefixFree-piece [] s q t a b e = absurd (piece_some a)
+IsPrefixFree-piece (x ∷ p) s [] t a b e = absurd (piece_some b)
+IsPrefixFree-piece (x ∷ p) s (y ∷ q) t a b e =
     let head = heads x y (p ++ s) (q ++ t) e in
     let rests = tails x y (p ++ s) (q ++ t) e in
     elim (cases_eq x 92) [
       | inl k ↦
           let c = behind_backslash p (subst (λ (n : ℕ). AnyPiece (n ∷ p)) k a) in
           let d = behind_backslash q (subst (λ (n : ℕ). AnyPiece (n ∷ q)) (sym head ∙ k) b) in
-          ap (λ (n : ℕ). n ∷ p) head ∙ ap (λ (u : List ℕ). y ∷ u) (OneFront-character p s q t c d rests)
-      | inr k ↦ OneFront-character (x ∷ p) s (y ∷ q) t (other_from x p k a).0 (other_from y q (λ f. k (head ∙ f)) b).0 e
+          ap (λ (n : ℕ). n ∷ p) head ∙ ap (λ (u : List ℕ). y ∷ u) (IsPrefixFree-character p s q t c d rests)
+      | inr k ↦ IsPrefixFree-character (x ∷ p) s (y ∷ q) t (other_from x p k a).0 (other_from y q (λ f. k (head ∙ f)) b).0 e
     ]
 
 -- ---- the value
@@ -116,17 +116,17 @@ no_piece_from x s (inr k) a = no_special x s (inr (inr k)) (other_from x s (λ e
 some_piece : AnyPiece (97 ∷ [])
 some_piece = (97 ∷ [], inr (inr ((ascii 97 (omega arith), λ e. omega (arith, heads 97 34 [] [] e), λ e. omega (arith, heads 97 92 [] [] e), λ e. omega (arith, heads 97 93 [] [] e)), refl)))
 
-no_piece_refuses : (b : List ℕ) → IfFront (λ x. (x ≡ 34) ⊎ (x ≡ 93)) b → Refuses (AnyOf Piece) [] b
+no_piece_refuses : (b : List ℕ) → IfFirst (λ x. (x ≡ 34) ⊎ (x ≡ 93)) b → Refuses (AnyOf Piece) [] b
 no_piece_refuses [] h = tt
 no_piece_refuses (x ∷ b) h = λ (more, m). no_piece_from x more h m
 
-no_piece_none : (b : List ℕ) → IfFront (λ x. (x ≡ 34) ⊎ (x ≡ 93)) b → NoFront (AnyOf Piece) b
+no_piece_none : (b : List ℕ) → IfFirst (λ x. (x ≡ 34) ⊎ (x ≡ 93)) b → NoPrefix (AnyOf Piece) b
 no_piece_none b h [] v e m = piece_some m
 no_piece_none [] h (z ∷ u) v e m = absurd cc
 no_piece_none (x ∷ b) h (z ∷ u) v e m = no_piece_from x u h (subst (λ (n : ℕ). AnyPiece (n ∷ u)) (sym (heads x z b (u ++ v) e)) m)
 
 -- at the end, or before a quote or a bracket
-pub no_piece : (b : List ℕ) → IfFront (λ x. (x ≡ 34) ⊎ (x ≡ 93)) b → Fails (AnyOf Piece) b (length b)
+pub no_piece : (b : List ℕ) → IfFirst (λ x. (x ≡ 34) ⊎ (x ≡ 93)) b → Fails (AnyOf Piece) b (length b)
 no_piece b h = record {
   none = no_piece_none b h;
   stops = record { read = []; rest = b; parts = refl; count = refl; begins = (97 ∷ [], some_piece); refuses = no_piece_refuses b h };
@@ -151,8 +151,8 @@ apart_piece : (p s q t : List ℕ) → AnyPiece p → q ≡ 34 ∷ [] → p ++ s
 apart_piece [] s q t h k e = piece_some h
 apart_piece (x ∷ p) s q t h k e = no_piece_from x p (inl (heads x 34 (p ++ s) t (e ∙ ap (λ (u : List ℕ). u ++ t) k))) h
 
-pub OneFront-value : OneFront (Many Piece (Only (34 ∷ [])))
-OneFront-value = OneFront-many Piece (Only (34 ∷ [])) OneFront-piece (OneFront-only (34 ∷ [])) apart_piece
+pub IsPrefixFree-value : IsPrefixFree (Many Piece (Only (34 ∷ [])))
+IsPrefixFree-value = IsPrefixFree-many Piece (Only (34 ∷ [])) IsPrefixFree-piece (IsPrefixFree-only (34 ∷ [])) apart_piece
 
 -- ---- octets that mean themselves
 
@@ -162,7 +162,7 @@ plain_piece x p = (x ∷ [], inr (inr ((ascii x (omega (arith, p.0)), (λ e. p.1
 -- behind such octets, what of the rest holds of the whole
 carries_run : (b run rest : List ℕ) → AllByRecursion IsPlainOctet run → Carries Piece (Only (34 ∷ [])) b (run ++ rest) → Carries Piece (Only (34 ∷ [])) b rest
 carries_run b [] rest h k = k
-carries_run b (x ∷ run) rest h k = carries_run b run rest h.1 (carries_more Piece 34 b (x ∷ run ++ rest) (run ++ rest) OneFront-piece h.0.1 (x ∷ [], refl, plain_piece x h.0) k)
+carries_run b (x ∷ run) rest h k = carries_run b run rest h.1 (carries_more Piece 34 b (x ∷ run ++ rest) (run ++ rest) IsPrefixFree-piece h.0.1 (x ∷ [], refl, plain_piece x h.0) k)
 
 pub carries_plain : (b from rest : List ℕ) → PassesPlain from rest → Carries Piece (Only (34 ∷ [])) b from → Carries Piece (Only (34 ∷ [])) b rest
 carries_plain b from rest p k = carries_run b p.run rest p.plain (subst (Carries Piece (Only (34 ∷ [])) b) p.parts k)

@@ -10,32 +10,32 @@ use Rattle.octet_language.specs.Language.{Only, ◌⋅◌, AnyOf}
 use Rattle.syslog_value.specs.Parts.{Parts, ElementParts, IsInstant}
 use Rattle.syslog_value.specs.Instants.{IsCivil, IsOffset}
 use Rattle.syslog_grammar.specs.Dates.{time_of}
-use Rattle.syslog_grammar.specs.Faults.{IsInRange, FrontEnds, FaultOf}
+use Rattle.syslog_grammar.specs.Faults.{IsInRange, PrefixEnds, FaultOf}
 use Rattle.syslog_grammar.specs.Fields.{header_parts, words_of, TimeStands}
-use Rattle.syslog_grammar.specs.Grammar.{HeaderParts, Header, Nilable, Spaced, Priority, Version, Data, Spelled, Tail}
+use Rattle.syslog_grammar.specs.Grammar.{HeaderParts, Header, Nilable, Spaced, Priority, Version, StructuredDataText, SyslogMsg, MessagePart}
 use Rattle.syslog_grammar.specs.Ids.{HoldsRepeated}
 use Rattle.syslog_grammar.specs.Instants.{IsOutOfRange}
-use Rattle.syslog_grammar.specs.Spellings.{IsSpelling}
+use Rattle.syslog_grammar.specs.Parsing.{IsParsed}
 use Rattle.syslog_grammar.specs.Time.{CivilTime, TimeText, FractionText, ZoneText, instant}
 use Rattle.syslog_grammar.specs.Views.{message_parts}
-use Rattle.syslog_grammar.specs.declared.syntax.Spelling.{Spelling}
+use Rattle.syslog_grammar.specs.declared.syntax.Parsed.{Parsed}
 use Rattle.syslog_grammar.specs.declared.timestamp.Timestamp.{Timestamp}
 use Rattle.syslog_grammar.specs.declared.fault.Fault.TheVariants.{InstantRange, RepeatedId}
 use Rattle.syslog_grammar.proofs.Fractions.{six_digits}
 
 -- the parts of a spelling with these elements
-abbrev pub parts_of : Spelling → List ElementParts → Parts CivilTime
+abbrev pub parts_of : Parsed → List ElementParts → Parts CivilTime
 parts_of s es =
     let h = header_parts s.fields in
     record { priority = h.priority; time = h.time; hostname = h.hostname; app_name = h.app_name; proc_id = h.proc_id; msg_id = h.msg_id; elements = es; message = message_parts s.message }
 
-pub spelled_by : (b : List ℕ) (s : Spelling) (es : List ElementParts) → IsSpelling b s → Data es s.«data».now → Spelled (parts_of s es) b
-spelled_by b s es k d = (k.fields.0, k.rest, k.fields.1, k.fields.2, (s.«data».now, k.end, k.parts, d, k.tail))
+pub parsed_by : (b : List ℕ) (s : Parsed) (es : List ElementParts) → IsParsed b s → StructuredDataText es s.«structured_data».now → SyslogMsg (parts_of s es) b
+parsed_by b s es k d = (k.fields.0, k.rest, k.fields.1, k.fields.2, (s.«structured_data».now, k.end, k.parts, d, k.message_part))
 
--- what stands behind the timestamp
-pub behind_time : {b : List ℕ} (s : Spelling) (k : IsSpelling b s) → (words_of (header_parts s.fields) ⋅ Only s.«data».now ⋅ Tail (message_parts s.message)) s.fields.behind_time.now
+-- what follows the timestamp
+pub behind_time : {b : List ℕ} (s : Parsed) (k : IsParsed b s) → (words_of (header_parts s.fields) ⋅ Only s.«structured_data».now ⋅ MessagePart (message_parts s.message)) s.fields.behind_time.now
 behind_time s k =
-    (k.words.0, s.«data».now ++ k.end, k.words.1 ∙ ap (λ (r : List ℕ). k.words.0 ++ r) k.parts, k.words.2, (s.«data».now, k.end, refl, refl, k.tail))
+    (k.words.0, s.«structured_data».now ++ k.end, k.words.1 ∙ ap (λ (r : List ℕ). k.words.0 ++ r) k.parts, k.words.2, (s.«structured_data».now, k.end, refl, refl, k.message_part))
 
 -- ---- the priority and the time of a header
 
@@ -69,17 +69,17 @@ time_exists t b (x, y, e, (a, c, f, (yl, ye), (d, g, h, i, (j, k, l, (ml, mh, me
 
 -- ---- the faults
 
-stands_front : (b : List ℕ) (left : ℕ) → TimeStands b left → FrontEnds (AnyOf Priority ⋅ Spaced Version) b (length b - left)
-stands_front b left (rest, (t, e, h), n) = (t, rest, e, h, omega (arith, ap length e, length-append t rest, n))
+stands_prefix : (b : List ℕ) (remaining : ℕ) → TimeStands b remaining → PrefixEnds (AnyOf Priority ⋅ Spaced Version) b (length b - remaining)
+stands_prefix b remaining (rest, (t, e, h), n) = (t, rest, e, h, omega (arith, ap length e, length-append t rest, n))
 
 not_in_range : (time : Option Timestamp) (u : List ℕ) → Nilable TimeText (option_map time_of time) u → IsOutOfRange time → ¬ (IfSome (option_map time_of time) (λ t. IsInstant (instant t)))
 not_in_range None u h out k = out
 not_in_range (Some t) u h out k = let e = time_exists (time_of t) u h in out e.0 e.1 k
 
-pub out_of_range : (b : List ℕ) (s : Spelling) → IsSpelling b s → IsOutOfRange s.fields.time → FaultOf b (InstantRange (length b - s.fields.time_left))
+pub out_of_range : (b : List ℕ) (s : Parsed) → IsParsed b s → IsOutOfRange s.fields.time → FaultOf b (InstantRange (length b - s.fields.time_remaining))
 out_of_range b s k out =
     let t = header_time (header_parts s.fields) k.fields.0 k.fields.2 in
-    (parts_of s k.elements.0, spelled_by b s k.elements.0 k k.elements.1, not_in_range s.fields.time t.0 t.1 out, stands_front b s.fields.time_left k.time)
+    (parts_of s k.elements.0, parsed_by b s k.elements.0 k k.elements.1, not_in_range s.fields.time t.0 t.1 out, stands_prefix b s.fields.time_remaining k.time)
 
 same_instant : (time : Option Timestamp) → option_map (λ s. instant (time_of s)) time ≡ option_map instant (option_map time_of time)
 same_instant None = refl
@@ -89,16 +89,16 @@ pub in_range_by : (time : Option Timestamp) (m : Option ℤ) → m ≡ option_ma
 in_range_by None m e h = tt
 in_range_by (Some t) m e h = subst (λ (o : Option ℤ). IfSome o IsInstant) e h
 
-pub in_range : (s : Spelling) (es : List ElementParts) (m : Option ℤ) → m ≡ option_map (λ t. instant (time_of t)) s.fields.time → IfSome m IsInstant → IsInRange (parts_of s es)
+pub in_range : (s : Parsed) (es : List ElementParts) (m : Option ℤ) → m ≡ option_map (λ t. instant (time_of t)) s.fields.time → IfSome m IsInstant → IsInRange (parts_of s es)
 in_range s es m e h = in_range_by s.fields.time m e h
 
-pub shown_instant : (s : Spelling) (es : List ElementParts) (m : Option ℤ) → m ≡ option_map (λ t. instant (time_of t)) s.fields.time → m ≡ option_map instant (parts_of s es).time
-shown_instant s es m e = e ∙ same_instant s.fields.time
+pub view_instant : (s : Parsed) (es : List ElementParts) (m : Option ℤ) → m ≡ option_map (λ t. instant (time_of t)) s.fields.time → m ≡ option_map instant (parts_of s es).time
+view_instant s es m e = e ∙ same_instant s.fields.time
 
-pub repeated_id : (b : List ℕ) (s : Spelling) (m : Option ℤ) (place : ℕ) → IsSpelling b s → m ≡ option_map (λ t. instant (time_of t)) s.fields.time → IfSome m IsInstant → HoldsRepeated s.«data».now place → FaultOf b (RepeatedId (length b - s.data_left + place))
-repeated_id b s m place k e h (es, d, before, r, (x, y, f, (u, v, g, l, n), at)) = (
+pub repeated_id : (b : List ℕ) (s : Parsed) (m : Option ℤ) (offset : ℕ) → IsParsed b s → m ≡ option_map (λ t. instant (time_of t)) s.fields.time → IfSome m IsInstant → HoldsRepeated s.«structured_data».now offset → FaultOf b (RepeatedId (length b - s.structured_data_remaining + offset))
+repeated_id b s m offset k e h (es, d, before, r, (x, y, f, (u, v, g, l, n), at)) = (
   parts_of s es,
-  spelled_by b s es k d,
+  parsed_by b s es k d,
   in_range s es m e h,
   before,
   r,
@@ -107,7 +107,7 @@ repeated_id b s m place k e h (es, d, before, r, (x, y, f, (u, v, g, l, n), at))
     y ++ k.end,
     k.fields.1 ∙ ap (λ (w : List ℕ). k.fields.0 ++ w) (k.parts ∙ ap (λ (w : List ℕ). w ++ k.end) f ∙ append_assoc x y k.end) ∙ sym (append_assoc k.fields.0 x (y ++ k.end)),
     (k.fields.0, x, refl, (header_parts s.fields, k.fields.2), (u, v, g, l, n)),
-    omega (arith, ap length k.fields.1, length-append k.fields.0 k.rest, k.left, at, length-append k.fields.0 x),
+    omega (arith, ap length k.fields.1, length-append k.fields.0 k.rest, k.remaining, at, length-append k.fields.0 x),
   ),
 )
 

@@ -4,11 +4,11 @@ use Rattle.std.specs.Prelude.{Some, None}
 use Rattle.std.specs.List.{AllByRecursion}
 use Rattle.std.proofs.lemmas.Bool.{cases_eq}
 use Rattle.std.proofs.lemmas.List.{length-append}
-use Rattle.octet_language.specs.Language.{Only, ◌⋅◌, AnyOf, Refuses, OneFront, IfFront}
+use Rattle.octet_language.specs.Language.{Only, ◌⋅◌, AnyOf, Refuses, IsPrefixFree, IfFirst}
 use Rattle.octet_language.specs.Reading.{Fails}
 use Rattle.octet_language.proofs.Lists.{heads, AllByRecursion-append, AllByRecursion-left, AllByRecursion-right, AllByRecursion-weaker}
-use Rattle.octet_language.proofs.Marked.{Fails-marked, OneFront-marked}
-use Rattle.octet_language.proofs.Chain.{Fails-first_value, OneFront-same}
+use Rattle.octet_language.proofs.Delimited.{Fails-delimited, IsPrefixFree-delimited}
+use Rattle.octet_language.proofs.Chain.{Fails-first_value, IsPrefixFree-same}
 use Rattle.syslog_value.specs.Parts.{IsPrintable}
 use Rattle.syslog_grammar.specs.Grammar.{Nilable, Word, Spaced}
 
@@ -19,16 +19,16 @@ any_word n b positive (None, e) = rw e (omega arith, omega arith, ((omega arith,
 any_word n b positive (Some w, h) = rw h.1 (h.0.some, h.0.fits, h.0.printable)
 
 -- the one octet "-" or not
-cases_dash : (b : List ℕ) → (b ≡ 45 ∷ []) ⊎ (b ≢ 45 ∷ [])
-cases_dash [] = inr (λ e. absurd cc)
-cases_dash (x ∷ y ∷ b) = inr (λ e. absurd cc)
-cases_dash (x ∷ []) = elim (cases_eq x 45) [
+cases_nil : (b : List ℕ) → (b ≡ 45 ∷ []) ⊎ (b ≢ 45 ∷ [])
+cases_nil [] = inr (λ e. absurd cc)
+cases_nil (x ∷ y ∷ b) = inr (λ e. absurd cc)
+cases_nil (x ∷ []) = elim (cases_eq x 45) [
   | inl e ↦ inl (ap (λ (k : ℕ). k ∷ []) e)
   | inr ne ↦ inr (λ e. ne (heads x 45 [] [] e))
 ]
 
 word_any : (n : ℕ) (b : List ℕ) → 0 < length b → length b ≤ n → AllByRecursion IsPrintable b → AnyOf (Nilable (Word n)) b
-word_any n b some fits printable = elim (cases_dash b) [
+word_any n b some fits printable = elim (cases_nil b) [
   | inl e ↦ (None, e)
   | inr ne ↦ (Some b, (record { some = some; fits = fits; printable = printable; not_nil = ne }, refl))
 ]
@@ -36,10 +36,10 @@ word_any n b some fits printable = elim (cases_dash b) [
 free_word : (n : ℕ) → 0 < n → (a : List ℕ) → AnyOf (Nilable (Word n)) a → AllByRecursion (λ y. y ≢ 32) a
 free_word n positive a h = AllByRecursion-weaker IsPrintable (λ y. y ≢ 32) (λ y p. λ e. omega (arith, p.0, e)) a (any_word n a positive h).2
 
-pub OneFront-word : (n : ℕ) → 0 < n → OneFront (AnyOf (Nilable (Word n)) ⋅ Only (32 ∷ []))
-OneFront-word n positive = OneFront-marked (AnyOf (Nilable (Word n))) 32 (free_word n positive)
+pub IsPrefixFree-word : (n : ℕ) → 0 < n → IsPrefixFree (AnyOf (Nilable (Word n)) ⋅ Only (32 ∷ []))
+IsPrefixFree-word n positive = IsPrefixFree-delimited (AnyOf (Nilable (Word n))) 32 (free_word n positive)
 
-Refuses-word : (n : ℕ) (p rest : List ℕ) → 0 < n → (length p < n → IfFront (λ x. IsPrintable x → ⊥) rest) → Refuses (AnyOf (Nilable (Word n))) p rest
+Refuses-word : (n : ℕ) (p rest : List ℕ) → 0 < n → (length p < n → IfFirst (λ x. IsPrintable x → ⊥) rest) → Refuses (AnyOf (Nilable (Word n))) p rest
 Refuses-word n p [] positive ends = tt
 Refuses-word n p (x ∷ rest) positive ends = λ (more, h).
     let a = any_word n ((p ++ x ∷ []) ++ more) positive h in
@@ -51,31 +51,31 @@ goes_on_word : (n : ℕ) (p : List ℕ) → 0 < n → length p ≤ n → AllByRe
 goes_on_word n [] positive fits printable = (45 ∷ [], (None, refl))
 goes_on_word n (x ∷ p) positive fits printable = ([], word_any n ((x ∷ p) ++ []) (omega arith) (omega (arith, length-append (x ∷ p) [])) (AllByRecursion-append IsPrintable (x ∷ p) [] printable tt))
 
-early : (n : ℕ) (p rest : List ℕ) → 0 < n → IfFront (λ y. y ≡ 32 → length p ≡ 0) rest → IfFront (λ y. y ≡ 32 → ¬ (AnyOf (Nilable (Word n)) p)) rest
+early : (n : ℕ) (p rest : List ℕ) → 0 < n → IfFirst (λ y. y ≡ 32 → length p ≡ 0) rest → IfFirst (λ y. y ≡ 32 → ¬ (AnyOf (Nilable (Word n)) p)) rest
 early n p [] positive h = tt
 early n p (x ∷ rest) positive h = λ e w. omega (arith, h e, (any_word n p positive w).0)
 
 -- behind printable octets, nothing that goes on the word or ends it
 pub no_word : (n : ℕ) (b p rest : List ℕ) → 0 < n → b ≡ p ++ rest → length p ≤ n → AllByRecursion IsPrintable p
-    → (length p < n → IfFront (λ x. IsPrintable x → ⊥) rest)
-    → IfFront (λ y. y ≡ 32 → length p ≡ 0) rest
+    → (length p < n → IfFirst (λ x. IsPrintable x → ⊥) rest)
+    → IfFirst (λ y. y ≡ 32 → length p ≡ 0) rest
     → Fails (AnyOf (λ w. Spaced (Nilable (Word n) w))) b (length rest)
 no_word n b p rest positive e fits printable ends space =
     let m = goes_on_word n p positive fits printable in
     Fails-first_value (Nilable (Word n)) (Only (32 ∷ [])) b (length rest)
-    (Fails-marked (AnyOf (Nilable (Word n))) 32 b p rest m.0 (free_word n positive) e m.1 (Refuses-word n p rest positive ends) (early n p rest positive space))
+    (Fails-delimited (AnyOf (Nilable (Word n))) 32 b p rest m.0 (free_word n positive) e m.1 (Refuses-word n p rest positive ends) (early n p rest positive space))
 
 -- with no printable octet in front
-pub no_first : (n : ℕ) (b p rest : List ℕ) → 0 < n → b ≡ p ++ rest → length p ≡ 0 → (length p < n → IfFront (λ x. IsPrintable x → ⊥) rest) → Fails (AnyOf (λ w. Spaced (Nilable (Word n) w))) b (length b)
+pub no_first : (n : ℕ) (b p rest : List ℕ) → 0 < n → b ≡ p ++ rest → length p ≡ 0 → (length p < n → IfFirst (λ x. IsPrintable x → ⊥) rest) → Fails (AnyOf (λ w. Spaced (Nilable (Word n) w))) b (length b)
 no_first n b [] rest positive e empty ends = rw e (no_word n rest [] rest positive refl (omega arith) tt ends (all_empty rest))
   where
-    all_empty : (s : List ℕ) → IfFront (λ y. y ≡ 32 → length {A = ℕ} [] ≡ 0) s
+    all_empty : (s : List ℕ) → IfFirst (λ y. y ≡ 32 → length {A = ℕ} [] ≡ 0) s
     all_empty [] = tt
     all_empty (x ∷ s) = λ f. refl
 no_first n b (x ∷ p) rest positive e empty ends = absurd (omega arith)
 
-pub OneFront-any_word : (n : ℕ) → 0 < n → OneFront (AnyOf (λ w. Spaced (Nilable (Word n) w)))
-OneFront-any_word n positive =
-    OneFront-same (AnyOf (Nilable (Word n)) ⋅ Only (32 ∷ [])) (AnyOf (λ w. Spaced (Nilable (Word n) w)))
+pub IsPrefixFree-any_word : (n : ℕ) → 0 < n → IsPrefixFree (AnyOf (λ w. Spaced (Nilable (Word n) w)))
+IsPrefixFree-any_word n positive =
+    IsPrefixFree-same (AnyOf (Nilable (Word n)) ⋅ Only (32 ∷ [])) (AnyOf (λ w. Spaced (Nilable (Word n) w)))
     (λ s (w, (x, y, e, h, k)). (x, y, e, (w, h), k))
-    (OneFront-word n positive)
+    (IsPrefixFree-word n positive)

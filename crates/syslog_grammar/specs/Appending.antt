@@ -6,7 +6,7 @@ use Rattle.octet_language.specs.Language.{Language}
 abbrev pub Anything : Language
 Anything b = ⊤
 
--- a text of the language stands behind the old octets
+-- a text of the language follows the old octets
 abbrev pub Adds : Language → List ℕ → List ℕ → Type 0
 Adds L old new = (text : List ℕ) × L text × (new ≡ old ++ text)
 

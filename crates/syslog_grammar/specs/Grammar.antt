@@ -1,7 +1,7 @@
 -- The grammar of a syslog record (RFC 5424, section 6): the texts that spell each part.
 use Rattle.std.specs.Prelude.{◌≡◌, ◌≢◌, ℕ, ◌≤◌, List, [], ◌∷◌, Option, Some, None, ◌⊎◌, take, decimal}
 use Rattle.octet_language.specs.Language.{Language, Only, ◌⋅◌, Each}
-use Rattle.syslog_value.specs.Parts.{ParamParts, ElementParts, MessageParts, AnyOctets, Utf8Text, Parts, IsWord, IsName, IsOctets, mark}
+use Rattle.syslog_value.specs.Parts.{ParamParts, ElementParts, MessageParts, AnyOctets, Utf8Text, Parts, IsWord, IsName, IsOctets, bom}
 use Rattle.syslog_grammar.specs.Utf8.{IsText}
 use Rattle.syslog_grammar.specs.Values.{Spells}
 use Rattle.syslog_grammar.specs.Time.{CivilTime, TimeText}
@@ -18,7 +18,7 @@ Priority v = Only (60 ∷ []) ⋅ Number v ⋅ Only (62 ∷ [])
 abbrev pub Version : Language
 Version = Only (49 ∷ [])
 
--- "-" for nil, or a text of the value
+-- NILVALUE, or a text of the value
 abbrev pub Nilable : {V : Type 0} → (V → Language) → Option V → Language
 Nilable A None = Only (45 ∷ [])
 Nilable A (Some v) = A v
@@ -44,18 +44,18 @@ abbrev pub Element : ElementParts → Language
 Element e = Only (91 ∷ []) ⋅ Name e.id ⋅ Each Param e.params ⋅ Only (93 ∷ [])
 
 -- STRUCTURED-DATA: "-" for no elements, else each element
-abbrev pub Data : List ElementParts → Language
-Data [] = Only (45 ∷ [])
-Data (e ∷ es) = Each Element (e ∷ es)
+abbrev pub StructuredDataText : List ElementParts → Language
+StructuredDataText [] = Only (45 ∷ [])
+StructuredDataText (e ∷ es) = Each Element (e ∷ es)
 
 -- MSG: octets that do not start with the mark, or the mark and a text
 abbrev pub Message : MessageParts → Language
-Message (AnyOctets octets) b = IsOctets octets × (take 3 octets ≢ mark) × (b ≡ octets)
-Message (Utf8Text text) b = IsText text × (Only mark ⋅ Only text) b
+Message (AnyOctets octets) b = IsOctets octets × (take 3 octets ≢ bom) × (b ≡ octets)
+Message (Utf8Text text) b = IsText text × (Only bom ⋅ Only text) b
 
 -- [SP MSG]: nothing for the empty message, or a space and a message
-abbrev pub Tail : MessageParts → Language
-Tail m b = ((m ≡ AnyOctets []) × (b ≡ [])) ⊎ (Only (32 ∷ []) ⋅ Message m) b
+abbrev pub MessagePart : MessageParts → Language
+MessagePart m b = ((m ≡ AnyOctets []) × (b ≡ [])) ⊎ (Only (32 ∷ []) ⋅ Message m) b
 
 -- the fields up to the structured data
 pub record HeaderParts : Type 0 where
@@ -83,5 +83,5 @@ abbrev pub header_of : Parts CivilTime → HeaderParts
 header_of p = record { priority = p.priority; time = p.time; hostname = p.hostname; app_name = p.app_name; proc_id = p.proc_id; msg_id = p.msg_id }
 
 -- SYSLOG-MSG: the texts of a record's parts
-abbrev pub Spelled : Parts CivilTime → Language
-Spelled p = Header (header_of p) ⋅ Data p.elements ⋅ Tail p.message
+abbrev pub SyslogMsg : Parts CivilTime → Language
+SyslogMsg p = Header (header_of p) ⋅ StructuredDataText p.elements ⋅ MessagePart p.message

@@ -3,17 +3,17 @@ use Rattle.std.specs.Prelude.{◌≡◌, ℕ, List, [], ◌∷◌, ◌++◌, ◌
 use Rattle.octet_language.specs.Language.{Only, ◌⋅◌, Each}
 use Rattle.syslog_value.specs.Order.{OctetsBelow}
 use Rattle.syslog_value.specs.Parts.{ElementParts}
-use Rattle.syslog_grammar.specs.Faults.{AreDistinct, Repeats, FrontEnds}
-use Rattle.syslog_grammar.specs.Grammar.{Data, Element}
+use Rattle.syslog_grammar.specs.Faults.{AreDistinct, Repeats, PrefixEnds}
+use Rattle.syslog_grammar.specs.Grammar.{StructuredDataText, Element}
 
 -- the text is that of elements with distinct ids
 abbrev pub HoldsDistinct : List ℕ → Type 0
-HoldsDistinct text = (es : List ElementParts) × Data es text × AreDistinct es
+HoldsDistinct text = (es : List ElementParts) × StructuredDataText es text × AreDistinct es
 
--- the text is that of elements of which one, at this place, is the first to repeat an id
+-- the text is that of elements of which one, at this offset, is the first to repeat an id
 abbrev pub HoldsRepeated : List ℕ → ℕ → Type 0
-HoldsRepeated text at = (es : List ElementParts) × Data es text × (before : List ElementParts) × Repeats es before
-    × FrontEnds (Each Element before ⋅ Only (91 ∷ [])) text at
+HoldsRepeated text at = (es : List ElementParts) × StructuredDataText es text × (before : List ElementParts) × Repeats es before
+    × PrefixEnds (Each Element before ⋅ Only (91 ∷ [])) text at
 
 -- the id is above the greatest that was met, if one was met
 abbrev pub IsAbove : List ℕ → Option (List ℕ) → Type 0
@@ -36,15 +36,15 @@ IsRisingFrom met (id ∷ ids) = IsAbove id met × IsRisingFrom (Some id) ids
 
 -- what was read of the data, with distinct ids, and what is left
 pub record Known (text rest : List ℕ) : Type 0 where
-  pub front : List ℕ
+  pub prefix : List ℕ
   pub before : List ElementParts
-  pub parts : text ≡ front ++ rest
-  pub each : Each Element before front
+  pub parts : text ≡ prefix ++ rest
+  pub each : Each Element before prefix
   pub distinct : AreDistinct before
   pub more : ((es : List ElementParts) × Each Element es rest) ⊎ ((before ≡ []) × (rest ≡ 45 ∷ []))
 
--- the elements in front of the rest, and those of the rest
+-- the elements before the rest, and those of the rest
 pub record Skips (elements rest : List ℕ) : Type 0 where
-  pub front : List ℕ
-  pub parts : elements ≡ front ++ rest
-  pub both : (es : List ElementParts) → Each Element es elements → (cs : List ElementParts) × (ds : List ElementParts) × Each Element cs front × Each Element ds rest
+  pub prefix : List ℕ
+  pub parts : elements ≡ prefix ++ rest
+  pub both : (es : List ElementParts) → Each Element es elements → (cs : List ElementParts) × (ds : List ElementParts) × Each Element cs prefix × Each Element ds rest

@@ -7,7 +7,7 @@ use Rattle.syslog_value.specs.Parts.{IsPrintable}
 abbrev pub first_set : ℕ → ℕ
 first_set mask = if mask == 0 then 16 else trailing_zeros w64 mask
 
--- of the sixteen octets at a place the first so many are printable, and the next one is not
+-- of the sixteen octets at an offset the first so many are printable, and the next one is not
 pub record IsPrintableRun (octets : List ℕ) (at run : ℕ) : Type 0 where
   pub most : run ≤ 16
   pub printable : (k : ℕ) → at ≤ k → k < at + run → IsPrintable (slice_index octets k)

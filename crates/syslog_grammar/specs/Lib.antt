@@ -8,11 +8,11 @@ pub mod Spans
 pub mod Views
 pub mod Fields
 pub mod Faults
-pub mod Spellings
+pub mod Parsing
 pub mod Ids
-pub mod Shown
+pub mod ViewParts
 pub mod Lanes
-pub mod Lying
+pub mod Verbatim
 pub mod PartsLeft
 pub mod Instants
 pub mod WellFormed
@@ -20,4 +20,4 @@ pub mod Canonical
 pub mod Appending
 pub mod Escapes
 pub mod DecodeFaults
-pub mod Respelled
+pub mod Reescaped

@@ -1,6 +1,6 @@
 -- What the iterators over elements and parameters give.
 use Rattle.std.specs.Prelude.{◌≡◌, ℕ, List, Option, Some, None}
-use Rattle.octet_language.specs.Language.{AnyOf, NoFront}
+use Rattle.octet_language.specs.Language.{AnyOf, NoPrefix}
 use Rattle.octet_language.specs.Reading.{Follows}
 use Rattle.syslog_grammar.specs.Spans.{SpannedElement, SpannedParam}
 use Rattle.syslog_grammar.specs.Views.{element_span, param_span}
@@ -17,12 +17,12 @@ elements_left s = s.rest.now
 abbrev pub params_left : Params → List ℕ
 params_left s = s.rest.now
 
--- the element in front is given, or none stands in front
+-- the element in front is given, or none comes first
 abbrev pub GivesElement : Elements → Option ElementView → Elements → Type 0
-GivesElement old None new = NoFront (AnyOf SpannedElement) (elements_left old) × (new ≡ old)
+GivesElement old None new = NoPrefix (AnyOf SpannedElement) (elements_left old) × (new ≡ old)
 GivesElement old (Some v) new = Follows (SpannedElement (element_span v)) (elements_left old) (elements_left new)
 
--- the parameter in front is given, or none stands in front
+-- the parameter in front is given, or none comes first
 abbrev pub GivesParam : Params → Option ParamView → Params → Type 0
-GivesParam old None new = NoFront (AnyOf SpannedParam) (params_left old) × (new ≡ old)
+GivesParam old None new = NoPrefix (AnyOf SpannedParam) (params_left old) × (new ≡ old)
 GivesParam old (Some v) new = Follows (SpannedParam (param_span v)) (params_left old) (params_left new)

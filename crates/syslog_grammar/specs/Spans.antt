@@ -1,9 +1,9 @@
 -- What the readers of parts lend: the texts of parts as they lie in the octets.
 use Rattle.std.specs.Prelude.{◌≡◌, ◌≢◌, ℕ, ◌<◌, ◌≤◌, List, [], ◌∷◌, ◌++◌, length, ◌⊎◌}
 use Rattle.std.specs.List.{AllByRecursion}
-use Rattle.octet_language.specs.Language.{Language, Only, ◌⋅◌, AnyOf, Each, IfFront, NoFront}
+use Rattle.octet_language.specs.Language.{Language, Only, ◌⋅◌, AnyOf, Each, IfFirst, NoPrefix}
 use Rattle.octet_language.specs.Reading.{Follows, Misses}
-use Rattle.syslog_grammar.specs.Grammar.{Name, Param, Element, Data, Tail}
+use Rattle.syslog_grammar.specs.Grammar.{Name, Param, Element, StructuredDataText, MessagePart}
 use Rattle.syslog_grammar.specs.Values.{Piece}
 
 -- a text of the language as its own octets
@@ -16,14 +16,14 @@ pub record IsRun (C : ℕ → Type 0) (n : ℕ) (b : List ℕ) : Type 0 where
   pub fits : length b ≤ n
   pub octets : AllByRecursion C b
 
--- a run is not whole: no octet of it stands in front, or more than it may have
-pub record StopsInRun (C : ℕ → Type 0) (n : ℕ) (b : List ℕ) (left : ℕ) : Type 0 where
+-- a run is not whole: no octet of it comes first, or more than it may have
+pub record StopsInRun (C : ℕ → Type 0) (n : ℕ) (b : List ℕ) (remaining : ℕ) : Type 0 where
   pub read : List ℕ
   pub rest : List ℕ
   pub parts : b ≡ read ++ rest
-  pub count : length rest ≡ left
+  pub count : length rest ≡ remaining
   pub octets : AllByRecursion C read
-  pub ends : ((read ≡ []) × IfFront (λ x. C x → ⊥) rest) ⊎ ((length read ≡ n) × IfFront C rest)
+  pub ends : ((read ≡ []) × IfFirst (λ x. C x → ⊥) rest) ⊎ ((length read ≡ n) × IfFirst C rest)
 
 -- a parameter by its name and the spelling of its value
 pub record ParamSpan : Type 0 where
@@ -45,20 +45,20 @@ pub record ElementSpan : Type 0 where
 abbrev pub SpannedElement : ElementSpan → Language
 SpannedElement v = Only (91 ∷ []) ⋅ Name v.id ⋅ Text (AnyOf (Each Param)) v.params ⋅ Only (93 ∷ [])
 
--- elements stand in front, one at least, and none behind them
+-- elements come first, one at least, and none behind them
 abbrev pub EndsElements : List ℕ → List ℕ → Type 0
-EndsElements b rest = Follows (AnyOf Element ⋅ AnyOf (Each Element)) b rest × IfFront (λ x. x ≢ 91) rest
+EndsElements b rest = Follows (AnyOf Element ⋅ AnyOf (Each Element)) b rest × IfFirst (λ x. x ≢ 91) rest
 
--- an element is not whole: with a tail behind the elements the octets are no text, and no elements and a space stand in front
-pub record StopsInElements (b : List ℕ) (left : ℕ) : Type 0 where
-  pub tail : Misses (AnyOf Element ⋅ AnyOf (Each Element) ⋅ AnyOf Tail) b left
-  pub space : NoFront (AnyOf Element ⋅ AnyOf (Each Element) ⋅ Only (32 ∷ [])) b
+-- an element is not whole: with a tail behind the elements the octets are no text, and no elements and a space come first
+pub record StopsInElements (b : List ℕ) (remaining : ℕ) : Type 0 where
+  pub message_part : Misses (AnyOf Element ⋅ AnyOf (Each Element) ⋅ AnyOf MessagePart) b remaining
+  pub space : NoPrefix (AnyOf Element ⋅ AnyOf (Each Element) ⋅ Only (32 ∷ [])) b
 
--- structured data stands in front: the sign for none, or elements with none behind them
-abbrev pub EndsData : List ℕ → List ℕ → List ℕ → Type 0
-EndsData b text rest = (b ≡ text ++ rest) × ((text ≡ 45 ∷ []) ⊎ ((AnyOf Element ⋅ AnyOf (Each Element)) text × IfFront (λ x. x ≢ 91) rest))
+-- structured data comes first: NILVALUE, or elements with none behind them
+abbrev pub EndsStructuredData : List ℕ → List ℕ → List ℕ → Type 0
+EndsStructuredData b text rest = (b ≡ text ++ rest) × ((text ≡ 45 ∷ []) ⊎ ((AnyOf Element ⋅ AnyOf (Each Element)) text × IfFirst (λ x. x ≢ 91) rest))
 
 -- the structured data is not whole
-pub record StopsInData (b : List ℕ) (left : ℕ) : Type 0 where
-  pub tail : Misses (AnyOf Data ⋅ AnyOf Tail) b left
-  pub space : NoFront (AnyOf Data ⋅ Only (32 ∷ [])) b
+pub record StopsInStructuredData (b : List ℕ) (remaining : ℕ) : Type 0 where
+  pub message_part : Misses (AnyOf StructuredDataText ⋅ AnyOf MessagePart) b remaining
+  pub space : NoPrefix (AnyOf StructuredDataText ⋅ Only (32 ∷ [])) b

@@ -3,5 +3,5 @@ use Rattle.std.specs.Prelude.{ℕ}
 use Rattle.syslog_grammar.specs.declared.reading.Stop.{Stop}
 
 -- the octets left there
-abbrev pub left_of : Stop → ℕ
-left_of stop = stop.left
+abbrev pub remaining_of : Stop → ℕ
+remaining_of stop = stop.remaining

@@ -31,7 +31,7 @@ Spells text b = (meanings : List (List ℕ)) × (text ≡ flat_map (λ m. m) mea
 abbrev pub IsPlainOctet : ℕ → Type 0
 IsPlainOctet x = (x < 128) × (x ≢ 34) × (x ≢ 92) × (x ≢ 93)
 
--- such octets stand in front of the rest
+-- such octets stand before the rest
 pub record PassesPlain (b rest : List ℕ) : Type 0 where
   pub run : List ℕ
   pub parts : b ≡ run ++ rest

@@ -6,10 +6,10 @@ use Rattle.syslog_value.specs.Parts.{Parts, IsById}
 use Rattle.syslog_grammar.specs.Appending.{Adds}
 use Rattle.syslog_grammar.specs.Canonical.{Canonical}
 use Rattle.syslog_grammar.specs.Faults.{IsInRange, AreDistinct}
-use Rattle.syslog_grammar.specs.Grammar.{Spelled}
+use Rattle.syslog_grammar.specs.Grammar.{SyslogMsg}
 use Rattle.syslog_grammar.specs.Time.{CivilTime, instant}
 
--- the record of parts: the instant in the place of the time, and the elements by id
+-- the record of parts: the instant in the offset of the time, and the elements by id
 pub record IsMeaning (p : Parts CivilTime) (r : Parts ℤ) : Type 0 where
   pub priority : r.priority ≡ p.priority
   pub time : r.time ≡ option_map instant p.time
@@ -23,8 +23,8 @@ pub record IsMeaning (p : Parts CivilTime) (r : Parts ℤ) : Type 0 where
 
 -- the octets spell parts with an instant in range and distinct ids, and the record is theirs
 abbrev pub WellFormed : Parts ℤ → Language
-WellFormed r b = (p : Parts CivilTime) × Spelled p b × IsInRange p × AreDistinct p.elements × IsMeaning p r
+WellFormed r b = (p : Parts CivilTime) × SyslogMsg p b × IsInRange p × AreDistinct p.elements × IsMeaning p r
 
--- the canonical text of the record that the octets are stands behind the old octets
+-- the canonical text of the record that the octets are follows the old octets
 abbrev pub AddsCanonical : List ℕ → List ℕ → List ℕ → Type 0
 AddsCanonical b old new = (r : Parts ℤ) × WellFormed r b × Adds (Canonical r) old new

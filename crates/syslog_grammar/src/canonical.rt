@@ -7,7 +7,7 @@ ghost use Rattle.syslog_value.specs.Instants.{IsCivil};
 ghost use Rattle.syslog_value.specs.Parts.{AnyOctets, Utf8Text};
 ghost use Rattle.syslog_grammar.specs.Appending.{Puts};
 ghost use Rattle.syslog_grammar.specs.Canonical.{Canonical, HeaderForm, SpacedWord, TimeForm};
-ghost use Rattle.syslog_grammar.specs.Canonical.{front_form, tail_form};
+ghost use Rattle.syslog_grammar.specs.Canonical.{priority_version_form, message_form};
 
 use crate::appending::put;
 use crate::canonical_data::put_elements;
@@ -19,7 +19,7 @@ use syslog_value::{Instant, Priority, Record, Word};
 
 /// The fields before the structured data, as a record or its octets lend them.
 #[derive(Clone, Copy)]
-pub struct FrontFields<'a> {
+pub struct HeaderValues<'a> {
     pub priority: Priority,
     pub instant: Option<Instant>,
     pub hostname: Option<&'a [u8]>,
@@ -30,8 +30,8 @@ pub struct FrontFields<'a> {
 
 /// Appends PRI, VERSION and a space.
 #[inline(always)]
-pub fn put_front(priority: Priority, out: &mut Vec<u8>) -> Result<(), AllocError>
-    ensures { Puts (Only (front_form priority)) out.old.items out.new.items result }
+pub fn put_priority_version(priority: Priority, out: &mut Vec<u8>) -> Result<(), AllocError>
+    ensures { Puts (Only (priority_version_form priority)) out.old.items out.new.items result }
 {
     let mut buffer = Buffer::new();
     put(b"<", out)?;
@@ -66,13 +66,13 @@ fn put_word(word: Option<&[u8]>, out: &mut Vec<u8>) -> Result<(), AllocError>
 }
 
 /// Appends the header and the space behind it.
-pub fn put_header(fields: &FrontFields<'_>, out: &mut Vec<u8>) -> Result<(), AllocError>
+pub fn put_header(fields: &HeaderValues<'_>, out: &mut Vec<u8>) -> Result<(), AllocError>
     ensures { Puts (HeaderForm fields.now.priority fields.now.instant
         (option_map (λ s. s.now) fields.now.hostname) (option_map (λ s. s.now) fields.now.app_name)
         (option_map (λ s. s.now) fields.now.proc_id) (option_map (λ s. s.now) fields.now.msg_id))
         out.old.items out.new.items result }
 {
-    put_front(fields.priority, out)?;
+    put_priority_version(fields.priority, out)?;
     put_time(fields.instant, out)?;
     put(b" ", out)?;
     put_word(fields.hostname, out)?;
@@ -81,9 +81,9 @@ pub fn put_header(fields: &FrontFields<'_>, out: &mut Vec<u8>) -> Result<(), All
     put_word(fields.msg_id, out)
 }
 
-/// Appends what stands behind the structured data.
-pub fn put_tail(octets: &[u8], has_mark: bool, out: &mut Vec<u8>) -> Result<(), AllocError>
-    ensures { Puts (Only (tail_form
+/// Appends what follows the structured data.
+pub fn put_message_part(octets: &[u8], has_mark: bool, out: &mut Vec<u8>) -> Result<(), AllocError>
+    ensures { Puts (Only (message_form
         (if has_mark then Utf8Text octets.now else AnyOctets octets.now)))
         out.old.items out.new.items result }
 {
@@ -112,7 +112,7 @@ fn octets_of<const N: usize>(word: Option<&Word<N>>) -> Option<&[u8]>
 pub fn put_record(record: &Record, out: &mut Vec<u8>) -> Result<(), AllocError>
     ensures { Puts (Canonical record.now) out.old.items out.new.items result }
 {
-    let fields = FrontFields {
+    let fields = HeaderValues {
         priority: record.priority(),
         instant: record.instant(),
         hostname: octets_of(record.hostname()),
@@ -122,7 +122,7 @@ pub fn put_record(record: &Record, out: &mut Vec<u8>) -> Result<(), AllocError>
     };
     put_header(&fields, out)?;
     put_elements(record.structured().elements(), out)?;
-    put_tail(record.message().octets(), record.message().has_mark(), out)
+    put_message_part(record.message().octets(), record.message().has_mark(), out)
 }
 
 /// The canonical octets of a record.

@@ -2,7 +2,7 @@
 
 ghost use Rattle.octet_language.specs.Language.{Only};
 ghost use Rattle.syslog_grammar.specs.Appending.{Puts};
-ghost use Rattle.syslog_grammar.specs.Canonical.{data_form, element_form, escaped, param_form};
+ghost use Rattle.syslog_grammar.specs.Canonical.{structured_data_form, element_form, escaped, param_form};
 
 use crate::appending::put;
 use memchr::memchr3;
@@ -14,8 +14,8 @@ fn put_escaped(text: &[u8], out: &mut Vec<u8>) -> Result<(), AllocError>
     ensures { Puts (Only (escaped text.now)) out.old.items out.new.items result }
 {
     let mut rest = text;
-    while let Some(place) = memchr3(b'"', b'\\', b']', rest) {
-        let (plain, special) = rest.split_at(place);
+    while let Some(offset) = memchr3(b'"', b'\\', b']', rest) {
+        let (plain, special) = rest.split_at(offset);
         let (octet, behind) = special.split_at(1);
         put(plain, out)?;
         put(b"\\", out)?;
@@ -48,9 +48,9 @@ fn put_element(element: &Element, out: &mut Vec<u8>) -> Result<(), AllocError>
     put(b"]", out)
 }
 
-/// Appends the elements, or the sign for none.
+/// Appends the elements, or NILVALUE.
 pub fn put_elements(elements: &[Element], out: &mut Vec<u8>) -> Result<(), AllocError>
-    ensures { Puts (Only (data_form elements.now)) out.old.items out.new.items result }
+    ensures { Puts (Only (structured_data_form elements.now)) out.old.items out.new.items result }
 {
     if elements.is_empty() {
         return put(b"-", out);

@@ -4,17 +4,17 @@ ghost use Rattle.std.specs.Prelude.{◌≡◌, ◌↔◌, ◌∷◌, [], ℕ, �
 ghost use Rattle.octet_language.specs.Language.{◌⋅◌, Only};
 ghost use Rattle.octet_language.specs.Reading.{Follows};
 ghost use Rattle.syslog_value.specs.Parts.{IsRecord, Parts};
-ghost use Rattle.syslog_grammar.specs.Canonical.{Canonical, TimeForm, tail_form};
+ghost use Rattle.syslog_grammar.specs.Canonical.{Canonical, TimeForm, message_form};
 ghost use Rattle.syslog_grammar.specs.Dates.{time_of};
-ghost use Rattle.syslog_grammar.specs.Grammar.{Nilable, Spaced, Tail};
+ghost use Rattle.syslog_grammar.specs.Grammar.{Nilable, Spaced, MessagePart};
 ghost use Rattle.syslog_grammar.specs.Time.{TimeText, instant};
 ghost use Rattle.syslog_grammar.specs.Views.{message_parts};
 
 use crate::civil_text::civil_text;
-use crate::data_form::has_data_form;
 use crate::message::MessageView;
 use crate::reading::next;
-use crate::syntax::spelled;
+use crate::structured_data_form::has_structured_data_form;
+use crate::syntax::parse;
 use crate::timestamp::Timestamp;
 use crate::whole::{OutOfRange, micros_of};
 
@@ -32,7 +32,7 @@ fn has_time_form(time: Option<Timestamp>, octets: &[u8]) -> bool
     if octets.len() < 28 {
         return false;
     }
-    let (front, behind) = octets.split_at(27);
+    let (prefix, behind) = octets.split_at(27);
     let Some((space, _rest)) = next(behind) else {
         return false;
     };
@@ -40,14 +40,14 @@ fn has_time_form(time: Option<Timestamp>, octets: &[u8]) -> bool
         return false;
     }
     let text = civil_text(time.civil);
-    front == text.as_slice()
+    prefix == text.as_slice()
 }
 
-/// Whether what stands behind the structured data, which is so many octets, is in its canonical
+/// Whether what follows the structured data, which is so many octets, is in its canonical
 /// form.
-fn has_tail_form(message: &MessageView<'_>, count: usize) -> bool
-    ensures { (tail : List ℕ) → Tail (message_parts message.now) tail → count ≡ length tail
-        → (IsTrue result ↔ (tail ≡ tail_form (message_parts message.now))) }
+fn has_message_form(message: &MessageView<'_>, count: usize) -> bool
+    ensures { (message_part : List ℕ) → MessagePart (message_parts message.now) message_part → count ≡ length message_part
+        → (IsTrue result ↔ (message_part ≡ message_form (message_parts message.now))) }
 {
     message.has_mark || !message.octets.is_empty() || count == 0
 }
@@ -58,19 +58,22 @@ fn has_tail_form(message: &MessageView<'_>, count: usize) -> bool
 pub fn is_canon(octets: &[u8]) -> bool
     ensures { IsTrue result ↔ ((r : Parts ℤ) × IsRecord r × Canonical r octets.now) }
 {
-    let Ok(spelling) = spelled(octets) else {
+    let Ok(spelling) = parse(octets) else {
         return false;
     };
     let fields = spelling.fields;
     if let Err(OutOfRange) = micros_of(fields.time) {
         return false;
     }
-    let (_, time) = octets.split_at(octets.len() - fields.time_left);
+    let (_, time) = octets.split_at(octets.len() - fields.time_remaining);
     if !has_time_form(fields.time, time) {
         return false;
     }
-    if !has_data_form(spelling.data) {
+    if !has_structured_data_form(spelling.structured_data) {
         return false;
     }
-    has_tail_form(&spelling.message, spelling.data_left - spelling.data.len())
+    has_message_form(
+        &spelling.message,
+        spelling.structured_data_remaining - spelling.structured_data.len(),
+    )
 }

@@ -2,33 +2,35 @@
 
 ghost use Rattle.std.specs.Prelude.{◌≡◌, ℕ, List, IfOk, IsTrue, OnOk, OnErr};
 ghost use Rattle.syslog_grammar.specs.Appending.{Adds, Anything, Puts};
-ghost use Rattle.syslog_grammar.specs.Lying.{HasOneTail, LyingForm};
-ghost use Rattle.syslog_grammar.specs.Respelled.{IsUnordered};
-ghost use Rattle.syslog_grammar.specs.Shown.{IsShown, shown};
+ghost use Rattle.syslog_grammar.specs.Verbatim.{HasOneMessageForm, VerbatimForm};
+ghost use Rattle.syslog_grammar.specs.Reescaped.{IsUnordered};
+ghost use Rattle.syslog_grammar.specs.ViewParts.{IsViewOf, view_parts};
 ghost use Rattle.syslog_grammar.specs.Views.{message_parts};
 ghost use Rattle.syslog_grammar.specs.WellFormed.{AddsCanonical};
 
 use crate::appending::put;
-use crate::canonical::{FrontFields, put_front, put_header, put_record, put_tail, put_time};
-use crate::data_form::has_data_form;
+use crate::canonical::{
+    HeaderValues, put_header, put_message_part, put_priority_version, put_record, put_time,
+};
 use crate::message::MessageView;
 use crate::record_view::RecordView;
-use crate::respelled::put_data;
+use crate::reescaped::put_structured_data;
+use crate::structured_data_form::has_structured_data_form;
 use std::alloc::{AllocError, Global};
 
 /// Whether a message, where there is one, has one tail alone: an empty one may have a space or none.
-fn has_one_tail(message: &MessageView<'_>) -> bool
-    ensures { IsTrue result → HasOneTail (message_parts message.now) }
+fn has_one_message_form(message: &MessageView<'_>) -> bool
+    ensures { IsTrue result → HasOneMessageForm (message_parts message.now) }
 {
     message.has_mark || !message.octets.is_empty()
 }
 
-/// Appends the canonical octets of the record that a view shows, where all that stands behind the
+/// Appends the canonical octets of the record that a view shows, where all that follows the
 /// timestamp is canonical as it lies in the octets.
-fn put_lying(view: &RecordView<'_>, out: &mut Vec<u8>) -> Result<(), AllocError>
-    ensures { Puts (LyingForm (shown view.now)) out.old.items out.new.items result }
+fn copy_verbatim(view: &RecordView<'_>, out: &mut Vec<u8>) -> Result<(), AllocError>
+    ensures { Puts (VerbatimForm (view_parts view.now)) out.old.items out.new.items result }
 {
-    put_front(view.priority(), out)?;
+    put_priority_version(view.priority(), out)?;
     put_time(view.instant(), out)?;
     put(b" ", out)?;
     put(view.behind_time, out)
@@ -38,12 +40,12 @@ fn put_lying(view: &RecordView<'_>, out: &mut Vec<u8>) -> Result<(), AllocError>
 /// Where they do not, the answer is false, and a part may have been appended.
 fn put_parts(view: &RecordView<'_>, out: &mut Vec<u8>) -> Result<bool, AllocError>
     ensures begun { Adds Anything out.old.items out.new.items }
-    ensures ok { (b : List ℕ) → IsShown b (shown view.now)
+    ensures ok { (b : List ℕ) → IsViewOf b (view_parts view.now)
         → IfOk result (λ all. IsTrue all → AddsCanonical b out.old.items out.new.items) }
     ensures order { IfOk result (λ all. (IsTrue all → ⊥)
-        → IsUnordered (shown view.now).elements) }
+        → IsUnordered (view_parts view.now).elements) }
 {
-    let fields = FrontFields {
+    let fields = HeaderValues {
         priority: view.priority(),
         instant: view.instant(),
         hostname: view.hostname,
@@ -52,26 +54,26 @@ fn put_parts(view: &RecordView<'_>, out: &mut Vec<u8>) -> Result<bool, AllocErro
         msg_id: view.msg_id,
     };
     put_header(&fields, out)?;
-    if !put_data(view.data, out)? {
+    if !put_structured_data(view.structured_data, out)? {
         return Ok(false);
     }
-    put_tail(view.message.octets, view.message.has_mark, out)?;
+    put_message_part(view.message.octets, view.message.has_mark, out)?;
     Ok(true)
 }
 
 /// Appends the canonical octets of the record that a view shows, where its elements stand by id: as
 /// they lie where that can be, else part by part.
-fn put_spelled(view: &RecordView<'_>, out: &mut Vec<u8>) -> Result<bool, AllocError>
+fn put_ordered(view: &RecordView<'_>, out: &mut Vec<u8>) -> Result<bool, AllocError>
     ensures begun { Adds Anything out.old.items out.new.items }
-    ensures ok { (b : List ℕ) → IsShown b (shown view.now)
+    ensures ok { (b : List ℕ) → IsViewOf b (view_parts view.now)
         → IfOk result (λ all. IsTrue all → AddsCanonical b out.old.items out.new.items) }
     ensures order { IfOk result (λ all. (IsTrue all → ⊥)
-        → IsUnordered (shown view.now).elements) }
+        → IsUnordered (view_parts view.now).elements) }
 {
-    if !has_one_tail(&view.message) || !has_data_form(view.data) {
+    if !has_one_message_form(&view.message) || !has_structured_data_form(view.structured_data) {
         return put_parts(view, out);
     }
-    put_lying(view, out)?;
+    copy_verbatim(view, out)?;
     Ok(true)
 }
 
@@ -79,7 +81,7 @@ fn put_spelled(view: &RecordView<'_>, out: &mut Vec<u8>) -> Result<bool, AllocEr
 /// parts.
 fn put_owned(alloc: Global, view: &RecordView<'_>, out: &mut Vec<u8>) -> Result<(), AllocError>
     ensures begun { Adds Anything out.old.items out.new.items }
-    ensures ok { (b : List ℕ) → IsShown b (shown view.now)
+    ensures ok { (b : List ℕ) → IsViewOf b (view_parts view.now)
         → OnOk result (AddsCanonical b out.old.items out.new.items) }
 {
     let record = view.to_record(alloc)?;
@@ -87,13 +89,13 @@ fn put_owned(alloc: Global, view: &RecordView<'_>, out: &mut Vec<u8>) -> Result<
 }
 
 /// Appends the canonical octets of the record that a view shows, in one of these two ways.
-fn put_shown(alloc: Global, view: &RecordView<'_>, out: &mut Vec<u8>) -> Result<(), AllocError>
+fn put_view(alloc: Global, view: &RecordView<'_>, out: &mut Vec<u8>) -> Result<(), AllocError>
     ensures begun { Adds Anything out.old.items out.new.items }
-    ensures ok { (b : List ℕ) → IsShown b (shown view.now)
+    ensures ok { (b : List ℕ) → IsViewOf b (view_parts view.now)
         → OnOk result (AddsCanonical b out.old.items out.new.items) }
 {
     let start = out.len();
-    if put_spelled(view, out)? {
+    if put_ordered(view, out)? {
         return Ok(());
     }
     out.truncate(start);
@@ -109,12 +111,12 @@ pub fn put_canonical(
     view: &RecordView<'_>,
     out: &mut Vec<u8>,
 ) -> Result<(), AllocError>
-    ensures ok { (b : List ℕ) → IsShown b (shown view.now)
+    ensures ok { (b : List ℕ) → IsViewOf b (view_parts view.now)
         → OnOk result (AddsCanonical b out.old.items out.new.items) }
     ensures err { OnErr result (out.new.items ≡ out.old.items) }
 {
     let start = out.len();
-    if let Err(refused) = put_shown(alloc, view, out) {
+    if let Err(refused) = put_view(alloc, view, out) {
         out.truncate(start);
         return Err(refused);
     }

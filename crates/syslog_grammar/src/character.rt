@@ -3,7 +3,7 @@
 ghost use Rattle.std.specs.Prelude.{◌≡◌, ◌≤◌, ◌<◌, ◌∷◌, [], length};
 ghost use Rattle.octet_language.specs.Language.{◌⋅◌, Each};
 ghost use Rattle.octet_language.specs.Reading.{Passes, Reads};
-ghost use Rattle.syslog_grammar.specs.Stops.{left_of};
+ghost use Rattle.syslog_grammar.specs.Stops.{remaining_of};
 ghost use Rattle.syslog_grammar.specs.Utf8.{Character, IsCharacter, Octet, from_to, tail};
 
 use crate::reading::{Stop, next};
@@ -12,23 +12,29 @@ use crate::reading::{Stop, next};
 #[inline(always)]
 fn octet(low: u8, high: u8, octets: &[u8]) -> Result<&[u8], Stop>
     requires { low ≤ high }
-    ensures { Passes left_of (Octet (from_to low high)) (λ x. x.now) octets.now result }
+    ensures { Passes remaining_of (Octet (from_to low high)) (λ x. x.now) octets.now result }
 {
     let Some((octet, rest)) = next(octets) else {
-        return Err(Stop { left: octets.len() });
+        return Err(Stop {
+            remaining: octets.len(),
+        });
     };
     if octet < low {
-        return Err(Stop { left: octets.len() });
+        return Err(Stop {
+            remaining: octets.len(),
+        });
     }
     if octet > high {
-        return Err(Stop { left: octets.len() });
+        return Err(Stop {
+            remaining: octets.len(),
+        });
     }
     Ok(rest)
 }
 
 /// Reads what is behind the first octet of a character of two octets.
 fn one_behind(octets: &[u8]) -> Result<&[u8], Stop>
-    ensures { Passes left_of (Each Octet (tail ∷ [])) (λ x. x.now) octets.now result }
+    ensures { Passes remaining_of (Each Octet (tail ∷ [])) (λ x. x.now) octets.now result }
 {
     octet(0x80, 0xbf, octets)
 }
@@ -36,7 +42,7 @@ fn one_behind(octets: &[u8]) -> Result<&[u8], Stop>
 /// Reads what is behind the first octet of a character of three octets.
 fn two_behind(low: u8, high: u8, octets: &[u8]) -> Result<&[u8], Stop>
     requires { low ≤ high }
-    ensures { Passes left_of (Each Octet (from_to low high ∷ tail ∷ []))
+    ensures { Passes remaining_of (Each Octet (from_to low high ∷ tail ∷ []))
         (λ x. x.now) octets.now result }
 {
     let rest = octet(low, high, octets)?;
@@ -46,7 +52,7 @@ fn two_behind(low: u8, high: u8, octets: &[u8]) -> Result<&[u8], Stop>
 /// Reads what is behind the first octet of a character of four octets.
 fn three_behind(low: u8, high: u8, octets: &[u8]) -> Result<&[u8], Stop>
     requires { low ≤ high }
-    ensures { Passes left_of (Each Octet (from_to low high ∷ tail ∷ tail ∷ []))
+    ensures { Passes remaining_of (Each Octet (from_to low high ∷ tail ∷ tail ∷ []))
         (λ x. x.now) octets.now result }
 {
     let rest = octet(low, high, octets)?;
@@ -56,10 +62,12 @@ fn three_behind(low: u8, high: u8, octets: &[u8]) -> Result<&[u8], Stop>
 /// Reads one character, and gives what is behind it.
 #[inline]
 pub fn behind_character(octets: &[u8]) -> Result<&[u8], Stop>
-    ensures { Passes left_of IsCharacter (λ x. x.now) octets.now result }
+    ensures { Passes remaining_of IsCharacter (λ x. x.now) octets.now result }
 {
     let Some((first, rest)) = next(octets) else {
-        return Err(Stop { left: octets.len() });
+        return Err(Stop {
+            remaining: octets.len(),
+        });
     };
     match first {
         0x00..=0x7f => Ok(rest),
@@ -71,6 +79,8 @@ pub fn behind_character(octets: &[u8]) -> Result<&[u8], Stop>
         0xf0 => three_behind(0x90, 0xbf, rest),
         0xf1..=0xf3 => three_behind(0x80, 0xbf, rest),
         0xf4 => three_behind(0x80, 0x8f, rest),
-        _ => Err(Stop { left: octets.len() }),
+        _ => Err(Stop {
+            remaining: octets.len(),
+        }),
     }
 }

@@ -11,11 +11,11 @@ use crate::element::element;
 use crate::reading::next;
 use crate::repeated::is_above;
 
-/// Puts the ids of elements in front of the places, where there are enough.
-fn fill<'a>(elements: &'a [u8], places: &mut [&'a [u8]]) -> Option<usize>
-    ensures { IfSome result (λ n. (n ≤ length places.new)
+/// Puts the ids of elements before the offsets, where there are enough.
+fn fill<'a>(elements: &'a [u8], offsets: &mut [&'a [u8]]) -> Option<usize>
+    ensures { IfSome result (λ n. (n ≤ length offsets.new)
         × ((es : List ElementParts) → Each Element es elements.now
-        → ids_of es ≡ map (λ s. s.now) (take n places.new))) }
+        → ids_of es ≡ map (λ s. s.now) (take n offsets.new))) }
 {
     let mut rest = elements;
     let mut count = 0;
@@ -23,10 +23,10 @@ fn fill<'a>(elements: &'a [u8], places: &mut [&'a [u8]]) -> Option<usize>
         let Ok((found, behind)) = element(rest) else {
             return None;
         };
-        if count >= places.len() {
+        if count >= offsets.len() {
             return None;
         }
-        places[count] = found.id();
+        offsets[count] = found.id();
         count += 1;
         rest = behind;
     }
@@ -65,15 +65,15 @@ fn are_rising(ids: &[&[u8]]) -> bool
     true
 }
 
-/// Whether elements have distinct ids, as far as the places reach. Where they do not it is not told.
-fn differ_in<'a>(elements: &'a [u8], places: &mut [&'a [u8]]) -> bool
+/// Whether elements have distinct ids, as far as the offsets reach. Where they do not it is not reported.
+fn differ_in<'a>(elements: &'a [u8], offsets: &mut [&'a [u8]]) -> bool
     ensures { IsTrue result → (es : List ElementParts) → Each Element es elements.now
         → AreDistinct es }
 {
-    let Some(count) = fill(elements, places) else {
+    let Some(count) = fill(elements, offsets) else {
         return false;
     };
-    let (ids, _) = places.split_at_mut(count);
+    let (ids, _) = offsets.split_at_mut(count);
     ids.sort_unstable();
     are_rising(ids)
 }
@@ -85,8 +85,8 @@ fn few_differ(elements: &[u8]) -> bool
         → AreDistinct es }
 {
     let (none, _) = elements.split_at(0);
-    let mut places = [none; 256];
-    differ_in(elements, &mut places)
+    let mut offsets = [none; 256];
+    differ_in(elements, &mut offsets)
 }
 
 /// Whether at most 16,384 elements have distinct ids.
@@ -96,11 +96,11 @@ fn many_differ(elements: &[u8]) -> bool
         → AreDistinct es }
 {
     let (none, _) = elements.split_at(0);
-    let mut places = [none; 16_384];
-    differ_in(elements, &mut places)
+    let mut offsets = [none; 16_384];
+    differ_in(elements, &mut offsets)
 }
 
-/// Whether elements have distinct ids. Where there are more than 16,384 it is not told.
+/// Whether elements have distinct ids. Where there are more than 16,384 it is not reported.
 pub fn differ(elements: &[u8]) -> bool
     ensures { IsTrue result → (es : List ElementParts) → Each Element es elements.now
         → AreDistinct es }

@@ -5,11 +5,11 @@ ghost use Rattle.octet_language.specs.Language.{◌⋅◌, AnyOf, Each, Only};
 ghost use Rattle.octet_language.specs.Reading.{Passes, Reads};
 ghost use Rattle.syslog_grammar.specs.Grammar.{Param};
 ghost use Rattle.syslog_grammar.specs.Spans.{SpannedElement, SpannedParam, SpannedValue, Text};
-ghost use Rattle.syslog_grammar.specs.Stops.{left_of};
+ghost use Rattle.syslog_grammar.specs.Stops.{remaining_of};
 ghost use Rattle.syslog_grammar.specs.Views.{element_span, param_span};
 
 use crate::name::name;
-use crate::reading::{Stop, mark, next};
+use crate::reading::{Stop, expect, next};
 use crate::value::value;
 
 /// A parameter of an element, as it lies in the octets.
@@ -61,19 +61,19 @@ impl<'a> ElementView<'a> {
 /// Reads `="`, a value and the quotation mark behind it.
 #[inline(always)]
 fn assigned(octets: &[u8]) -> Result<(&[u8], &[u8]), Stop>
-    ensures { Reads left_of SpannedValue (λ x. (x.0.now, x.1.now)) octets.now result }
+    ensures { Reads remaining_of SpannedValue (λ x. (x.0.now, x.1.now)) octets.now result }
 {
-    let rest = mark(b'=', octets)?;
-    let rest = mark(b'"', rest)?;
+    let rest = expect(b'=', octets)?;
+    let rest = expect(b'"', rest)?;
     value(rest)
 }
 
 /// Reads a space and a parameter.
 #[inline]
 pub fn param(octets: &[u8]) -> Result<(ParamView<'_>, &[u8]), Stop>
-    ensures { Reads left_of SpannedParam (λ x. (param_span x.0, x.1.now)) octets.now result }
+    ensures { Reads remaining_of SpannedParam (λ x. (param_span x.0, x.1.now)) octets.now result }
 {
-    let rest = mark(b' ', octets)?;
+    let rest = expect(b' ', octets)?;
     let (name, rest) = name(rest)?;
     let (raw, rest) = assigned(rest)?;
     Ok((ParamView { name, raw }, rest))
@@ -81,7 +81,7 @@ pub fn param(octets: &[u8]) -> Result<(ParamView<'_>, &[u8]), Stop>
 
 /// Reads the parameters of an element and the bracket that ends it.
 fn behind_params(octets: &[u8]) -> Result<&[u8], Stop>
-    ensures { Passes left_of (AnyOf (Each Param) ⋅ Only (93 ∷ [])) (λ x. x.now)
+    ensures { Passes remaining_of (AnyOf (Each Param) ⋅ Only (93 ∷ [])) (λ x. x.now)
         octets.now result }
 {
     let mut rest = octets;
@@ -92,13 +92,15 @@ fn behind_params(octets: &[u8]) -> Result<&[u8], Stop>
         let (_param, behind) = param(rest)?;
         rest = behind;
     }
-    Err(Stop { left: rest.len() })
+    Err(Stop {
+        remaining: rest.len(),
+    })
 }
 
 /// Reads the parameters of an element, whose text is given, and the bracket that ends it.
 #[inline]
 fn params(octets: &[u8]) -> Result<(&[u8], &[u8]), Stop>
-    ensures { Reads left_of (λ text. Text (AnyOf (Each Param)) text ⋅ Only (93 ∷ []))
+    ensures { Reads remaining_of (λ text. Text (AnyOf (Each Param)) text ⋅ Only (93 ∷ []))
         (λ x. (x.0.now, x.1.now)) octets.now result }
 {
     let rest = behind_params(octets)?;
@@ -108,10 +110,10 @@ fn params(octets: &[u8]) -> Result<(&[u8], &[u8]), Stop>
 
 /// Reads an element.
 pub fn element(octets: &[u8]) -> Result<(ElementView<'_>, &[u8]), Stop>
-    ensures { Reads left_of SpannedElement (λ x. (element_span x.0, x.1.now))
+    ensures { Reads remaining_of SpannedElement (λ x. (element_span x.0, x.1.now))
         octets.now result }
 {
-    let rest = mark(b'[', octets)?;
+    let rest = expect(b'[', octets)?;
     let (id, rest) = name(rest)?;
     let (params, rest) = params(rest)?;
     Ok((ElementView { id, params }, rest))

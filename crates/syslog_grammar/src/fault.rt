@@ -16,7 +16,7 @@ pub enum Field {
     Message,
 }
 
-/// Why octets are no well-formed record. An offset counts octets from the front of the record.
+/// Why octets are no well-formed record. An offset counts octets from the prefix of the record.
 #[derive(Clone, Copy, Debug, PartialEq, Eq, Error)]
 pub enum Fault {
     /// The octets are outside the grammar: some record begins with those before the offset, and

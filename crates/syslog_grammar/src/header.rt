@@ -4,7 +4,7 @@ ghost use Rattle.std.specs.Prelude.{IfOk};
 ghost use Rattle.octet_language.specs.Reading.{Follows, Reads};
 ghost use Rattle.syslog_grammar.specs.Fields.{TimeStands, header_parts, words_of};
 ghost use Rattle.syslog_grammar.specs.Grammar.{Header as HeaderText};
-ghost use Rattle.syslog_grammar.specs.Stops.{left_of};
+ghost use Rattle.syslog_grammar.specs.Stops.{remaining_of};
 
 use crate::priority::{priority, version};
 use crate::reading::Stop;
@@ -21,23 +21,23 @@ pub struct HeaderFields<'a> {
     pub proc_id: Option<&'a [u8]>,
     pub msg_id: Option<&'a [u8]>,
     /// How many octets are left where the timestamp begins.
-    pub time_left: usize,
-    /// What stands behind the timestamp and its space.
+    pub time_remaining: usize,
+    /// What follows the timestamp and its space.
     pub behind_time: &'a [u8],
 }
 
 /// Reads the header and the space behind it.
 #[inline(always)]
 pub fn fields(octets: &[u8]) -> Result<(HeaderFields<'_>, &[u8]), Stop>
-    ensures reads { Reads left_of HeaderText (λ x. (header_parts x.0, x.1.now))
+    ensures reads { Reads remaining_of HeaderText (λ x. (header_parts x.0, x.1.now))
         octets.now result }
-    ensures time { IfOk result (λ x. TimeStands octets.now x.0.time_left) }
+    ensures time { IfOk result (λ x. TimeStands octets.now x.0.time_remaining) }
     ensures words { IfOk result (λ x.
         Follows (words_of (header_parts x.0)) x.0.behind_time.now x.1.now) }
 {
     let (priority, rest) = priority(octets)?;
     let rest = version(rest)?;
-    let time_left = rest.len();
+    let time_remaining = rest.len();
     let (time, rest) = nilable_time(rest)?;
     let behind_time = rest;
     let (hostname, rest) = word::<255>(behind_time)?;
@@ -52,7 +52,7 @@ pub fn fields(octets: &[u8]) -> Result<(HeaderFields<'_>, &[u8]), Stop>
             app_name,
             proc_id,
             msg_id,
-            time_left,
+            time_remaining,
             behind_time,
         },
         rest,

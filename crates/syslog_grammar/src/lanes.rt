@@ -20,7 +20,7 @@ fn lanes_before(mask: u64) -> usize
     }
 }
 
-/// How many of the sixteen octets at a place, from the first on, are printable.
+/// How many of the sixteen octets at an offset, from the first on, are printable.
 #[inline(always)]
 pub fn printable_run(octets: &[u8], at: usize) -> usize
     requires { at + LANES ≤ length octets.now }

@@ -3,25 +3,25 @@
 ghost use Rattle.std.specs.Prelude.{◌≡◌, ◌≢◌, ◌++◌, MatchOption, MatchResult, take};
 ghost use Rattle.octet_language.specs.Language.{AnyOf};
 ghost use Rattle.octet_language.specs.Reading.{Misses};
-ghost use Rattle.syslog_value.specs.Parts.{mark as byte_order_mark};
-ghost use Rattle.syslog_grammar.specs.Grammar.{Message, Tail};
+ghost use Rattle.syslog_value.specs.Parts.{bom};
+ghost use Rattle.syslog_grammar.specs.Grammar.{Message, MessagePart};
 ghost use Rattle.syslog_grammar.specs.Views.{message_parts};
 
-use crate::reading::{Stop, mark};
+use crate::reading::{Stop, expect};
 use crate::text::text;
 
-/// A message as it lies in the octets, without the byte order mark.
+/// A message as it lies in the octets, without the BOM.
 #[derive(Clone, Copy, Debug, PartialEq, Eq)]
 pub struct MessageView<'a> {
     pub octets: &'a [u8],
     pub has_mark: bool,
 }
 
-/// What is behind the byte order mark, where the octets start with it.
+/// What is behind the BOM, where the octets start with it.
 #[inline(always)]
-fn behind_mark(octets: &[u8]) -> Option<&[u8]>
-    ensures { MatchOption result (take 3 octets.now ≢ byte_order_mark)
-        (λ x. octets.now ≡ byte_order_mark ++ x.now) }
+fn after_bom(octets: &[u8]) -> Option<&[u8]>
+    ensures { MatchOption result (take 3 octets.now ≢ bom)
+        (λ x. octets.now ≡ bom ++ x.now) }
 {
     match octets {
         [0xef, 0xbb, 0xbf, text @ ..] => Some(text),
@@ -33,9 +33,9 @@ fn behind_mark(octets: &[u8]) -> Option<&[u8]>
 #[inline(always)]
 fn message(octets: &[u8]) -> Result<MessageView<'_>, Stop>
     ensures { MatchResult result (λ m. Message (message_parts m) octets.now)
-        (λ e. Misses (AnyOf Message) octets.now e.left) }
+        (λ e. Misses (AnyOf Message) octets.now e.remaining) }
 {
-    let Some(behind) = behind_mark(octets) else {
+    let Some(behind) = after_bom(octets) else {
         return Ok(MessageView {
             octets,
             has_mark: false,
@@ -52,9 +52,9 @@ fn message(octets: &[u8]) -> Result<MessageView<'_>, Stop>
 
 /// Reads nothing, or a space and a message, up to the end.
 #[inline(always)]
-pub fn tail(octets: &[u8]) -> Result<MessageView<'_>, Stop>
-    ensures { MatchResult result (λ m. Tail (message_parts m) octets.now)
-        (λ e. Misses (AnyOf Tail) octets.now e.left) }
+pub fn message_part(octets: &[u8]) -> Result<MessageView<'_>, Stop>
+    ensures { MatchResult result (λ m. MessagePart (message_parts m) octets.now)
+        (λ e. Misses (AnyOf MessagePart) octets.now e.remaining) }
 {
     if octets.is_empty() {
         return Ok(MessageView {
@@ -62,7 +62,7 @@ pub fn tail(octets: &[u8]) -> Result<MessageView<'_>, Stop>
             has_mark: false,
         });
     }
-    match mark(b' ', octets) {
+    match expect(b' ', octets) {
         Ok(rest) => message(rest),
         Err(stop) => Err(stop),
     }

@@ -2,7 +2,7 @@
 
 ghost use Rattle.std.specs.Prelude.{◌≤◌, ◌<◌, ◌↔◌, length, IsTrue, take, drop, MatchResult};
 ghost use Rattle.std.specs.List.{AllByRecursion};
-ghost use Rattle.octet_language.specs.Language.{IfFront};
+ghost use Rattle.octet_language.specs.Language.{IfFirst};
 ghost use Rattle.octet_language.specs.Reading.{Follows};
 ghost use Rattle.syslog_value.specs.Parts.{IsNameOctet};
 ghost use Rattle.syslog_grammar.specs.Grammar.{Name};
@@ -26,7 +26,7 @@ fn name_len(octets: &[u8]) -> usize
     ensures most { result ≤ 32 }
     ensures within { result ≤ length octets.now }
     ensures octets { AllByRecursion IsNameOctet (take result octets.now) }
-    ensures ends { result < 32 → IfFront (λ x. IsNameOctet x → ⊥) (drop result octets.now) }
+    ensures ends { result < 32 → IfFirst (λ x. IsNameOctet x → ⊥) (drop result octets.now) }
 {
     let most = octets.len().min(NAME_MAX);
     for i in 0..most {
@@ -40,8 +40,8 @@ fn name_len(octets: &[u8]) -> usize
 /// Whether the first octet, if there is one, may stand in a name.
 #[inline(always)]
 fn goes_on(octets: &[u8]) -> bool
-    ensures goes { IsTrue result → IfFront IsNameOctet octets.now × (0 < length octets.now) }
-    ensures ends { (IsTrue result → ⊥) → IfFront (λ x. IsNameOctet x → ⊥) octets.now }
+    ensures goes { IsTrue result → IfFirst IsNameOctet octets.now × (0 < length octets.now) }
+    ensures ends { (IsTrue result → ⊥) → IfFirst (λ x. IsNameOctet x → ⊥) octets.now }
 {
     match octets {
         [] => false,
@@ -53,15 +53,19 @@ fn goes_on(octets: &[u8]) -> bool
 #[inline(always)]
 pub fn name(octets: &[u8]) -> Result<(&[u8], &[u8]), Stop>
     ensures { MatchResult result
-        (λ x. Follows (Name x.0.now) octets.now x.1.now × IfFront (λ y. IsNameOctet y → ⊥) x.1.now)
-        (λ e. StopsInRun IsNameOctet 32 octets.now e.left) }
+        (λ x. Follows (Name x.0.now) octets.now x.1.now × IfFirst (λ y. IsNameOctet y → ⊥) x.1.now)
+        (λ e. StopsInRun IsNameOctet 32 octets.now e.remaining) }
 {
     let (name, rest) = octets.split_at(name_len(octets));
     if name.is_empty() {
-        return Err(Stop { left: octets.len() });
+        return Err(Stop {
+            remaining: octets.len(),
+        });
     }
     if goes_on(rest) {
-        return Err(Stop { left: rest.len() });
+        return Err(Stop {
+            remaining: rest.len(),
+        });
     }
     Ok((name, rest))
 }

@@ -3,8 +3,8 @@
 ghost use Rattle.std.specs.Prelude.{◌≡◌, ℕ, List, IfOk, option_map, string_bytes};
 ghost use Rattle.octet_language.specs.Language.{Each};
 ghost use Rattle.syslog_value.specs.Parts.{ElementParts, ParamParts};
-ghost use Rattle.syslog_grammar.specs.Grammar.{Data, Param as ParamText};
-ghost use Rattle.syslog_grammar.specs.Shown.{IsShown, shown};
+ghost use Rattle.syslog_grammar.specs.Grammar.{StructuredDataText, Param as ParamText};
+ghost use Rattle.syslog_grammar.specs.ViewParts.{IsViewOf, view_parts};
 ghost use Rattle.syslog_grammar.specs.Values.{Spells};
 ghost use Rattle.syslog_grammar.specs.Views.{element_span, message_parts, param_span};
 ghost use Rattle.syslog_grammar.specs.WellFormed.{WellFormed};
@@ -94,7 +94,7 @@ fn to_element(alloc: Global, view: &ElementView<'_>) -> Result<Element, AllocErr
 
 /// The elements of a text of structured data, in their order.
 fn to_elements(alloc: Global, octets: &[u8]) -> Result<Vec<Element>, AllocError>
-    ensures { IfOk result (λ elements. (es : List ElementParts) → Data es octets.now
+    ensures { IfOk result (λ elements. (es : List ElementParts) → StructuredDataText es octets.now
         → elements.items ≡ es) }
 {
     let mut elements = Vec::new(alloc);
@@ -133,13 +133,13 @@ impl<'a> RecordView<'a> {
     ///
     /// A view of well-formed octets is refused for want of memory alone.
     pub fn to_record(&self, alloc: Global) -> Result<Record, AllocError>
-        ensures { IfOk result (λ r. (b : List ℕ) → IsShown b (shown self.now) → WellFormed r b) }
+        ensures { IfOk result (λ r. (b : List ℕ) → IsViewOf b (view_parts self.now) → WellFormed r b) }
     {
         let hostname = to_word(alloc, self.hostname)?;
         let app_name = to_word(alloc, self.app_name)?;
         let proc_id = to_word(alloc, self.proc_id)?;
         let msg_id = to_word(alloc, self.msg_id)?;
-        let elements = to_elements(alloc, self.data)?;
+        let elements = to_elements(alloc, self.structured_data)?;
         let Some(structured) = StructuredData::from_elements(elements) else {
             return Err(AllocError);
         };

@@ -18,18 +18,20 @@ impl<'a> Elements<'a> {
     ghost use Rattle.std.specs.Prelude.{◌≡◌, List};
     ghost use Rattle.octet_language.specs.Language.{Each};
     ghost use Rattle.syslog_value.specs.Parts.{ElementParts};
-    ghost use Rattle.syslog_grammar.specs.Grammar.{Data, Element};
+    ghost use Rattle.syslog_grammar.specs.Grammar.{StructuredDataText, Element};
     ghost use Rattle.syslog_grammar.specs.PartsLeft.{elements_left};
 
     /// The elements of a text of structured data.
-    pub(crate) fn of_data(data: &'a [u8]) -> Elements<'a>
-        ensures { (es : List ElementParts) → Data es data.now
+    pub(crate) fn of_data(structured_data: &'a [u8]) -> Elements<'a>
+        ensures { (es : List ElementParts) → StructuredDataText es structured_data.now
             → Each Element es (elements_left result) }
     {
-        match data {
-            [b'[', ..] => Elements { rest: data },
+        match structured_data {
+            [b'[', ..] => Elements {
+                rest: structured_data,
+            },
             _ => Elements {
-                rest: data.split_at(0).0,
+                rest: structured_data.split_at(0).0,
             },
         }
     }

@@ -4,9 +4,9 @@ ghost use Rattle.std.specs.Prelude.{◌≡◌, ◌≤◌, ◌<◌, ◌+◌, ◌*
 ghost use Rattle.octet_language.specs.Language.{◌⋅◌, Only};
 ghost use Rattle.octet_language.specs.Reading.{Passes, Reads};
 ghost use Rattle.syslog_grammar.specs.Grammar.{Number, Priority, Spaced, Version};
-ghost use Rattle.syslog_grammar.specs.Stops.{left_of};
+ghost use Rattle.syslog_grammar.specs.Stops.{remaining_of};
 
-use crate::reading::{Stop, mark, next};
+use crate::reading::{Stop, expect, next};
 
 fn is_digit(octet: u8) -> bool
     ensures { IsTrue result ↔ ((48 ≤ octet) × (octet ≤ 57)) }
@@ -25,14 +25,18 @@ fn goes_on(value: u8, octet: u8) -> bool
 
 /// Reads a number and the bracket behind it.
 fn number(octets: &[u8]) -> Result<(u8, &[u8]), Stop>
-    ensures { Reads left_of (λ v. Number v ⋅ Only (62 ∷ [])) (λ x. (x.0, x.1.now))
+    ensures { Reads remaining_of (λ v. Number v ⋅ Only (62 ∷ [])) (λ x. (x.0, x.1.now))
         octets.now result }
 {
     let Some((first, behind)) = next(octets) else {
-        return Err(Stop { left: octets.len() });
+        return Err(Stop {
+            remaining: octets.len(),
+        });
     };
     if !is_digit(first) {
-        return Err(Stop { left: octets.len() });
+        return Err(Stop {
+            remaining: octets.len(),
+        });
     }
     let mut value = first - b'0';
     let mut rest = behind;
@@ -41,28 +45,32 @@ fn number(octets: &[u8]) -> Result<(u8, &[u8]), Stop>
             return Ok((value, after));
         }
         if !goes_on(value, octet) {
-            return Err(Stop { left: rest.len() });
+            return Err(Stop {
+                remaining: rest.len(),
+            });
         }
         value = 10 * value + (octet - b'0');
         rest = after;
     }
-    Err(Stop { left: rest.len() })
+    Err(Stop {
+        remaining: rest.len(),
+    })
 }
 
 /// Reads PRI.
 #[inline(always)]
 pub fn priority(octets: &[u8]) -> Result<(u8, &[u8]), Stop>
-    ensures { Reads left_of Priority (λ x. (x.0, x.1.now)) octets.now result }
+    ensures { Reads remaining_of Priority (λ x. (x.0, x.1.now)) octets.now result }
 {
-    let behind = mark(b'<', octets)?;
+    let behind = expect(b'<', octets)?;
     number(behind)
 }
 
 /// Reads VERSION and the space behind it.
 #[inline(always)]
 pub fn version(octets: &[u8]) -> Result<&[u8], Stop>
-    ensures { Passes left_of (Spaced Version) (λ x. x.now) octets.now result }
+    ensures { Passes remaining_of (Spaced Version) (λ x. x.now) octets.now result }
 {
-    let rest = mark(b'1', octets)?;
-    mark(b' ', rest)
+    let rest = expect(b'1', octets)?;
+    expect(b' ', rest)
 }

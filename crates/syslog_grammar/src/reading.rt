@@ -3,13 +3,13 @@
 ghost use Rattle.std.specs.Prelude.{◌≡◌, ◌∷◌, [], MatchOption};
 ghost use Rattle.octet_language.specs.Language.{Only};
 ghost use Rattle.octet_language.specs.Reading.{Passes};
-ghost use Rattle.syslog_grammar.specs.Stops.{left_of};
+ghost use Rattle.syslog_grammar.specs.Stops.{remaining_of};
 
 /// Where no text can go on: so many octets are left there, which is the same number however many
-/// octets stand in front.
+/// octets come first.
 #[derive(Clone, Copy, Debug, PartialEq, Eq)]
 pub struct Stop {
-    pub left: usize,
+    pub remaining: usize,
 }
 
 /// The first octet, and those behind it.
@@ -25,14 +25,18 @@ pub fn next(octets: &[u8]) -> Option<(u8, &[u8])>
 
 /// Reads one octet that has to stand there.
 #[inline(always)]
-pub fn mark(mark: u8, octets: &[u8]) -> Result<&[u8], Stop>
-    ensures { Passes left_of (Only (mark ∷ [])) (λ x. x.now) octets.now result }
+pub fn expect(expected: u8, octets: &[u8]) -> Result<&[u8], Stop>
+    ensures { Passes remaining_of (Only (expected ∷ [])) (λ x. x.now) octets.now result }
 {
     let Some((octet, rest)) = next(octets) else {
-        return Err(Stop { left: octets.len() });
+        return Err(Stop {
+            remaining: octets.len(),
+        });
     };
-    if octet != mark {
-        return Err(Stop { left: octets.len() });
+    if octet != expected {
+        return Err(Stop {
+            remaining: octets.len(),
+        });
     }
     Ok(rest)
 }

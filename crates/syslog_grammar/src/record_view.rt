@@ -17,9 +17,9 @@ pub struct RecordView<'a> {
     pub(crate) app_name: Option<&'a [u8]>,
     pub(crate) proc_id: Option<&'a [u8]>,
     pub(crate) msg_id: Option<&'a [u8]>,
-    pub(crate) data: &'a [u8],
+    pub(crate) structured_data: &'a [u8],
     pub(crate) message: MessageView<'a>,
-    /// What stands behind the timestamp and its space.
+    /// What follows the timestamp and its space.
     pub(crate) behind_time: &'a [u8],
     ghost priority_valid: { priority ≤ 191 },
     ghost micros_valid: { ForSome micros IsInstant },
@@ -29,20 +29,20 @@ impl<'a> RecordView<'a> {
     ghost use Rattle.std.specs.Prelude.{◌≡◌, ◌↔◌, List, IsTrue, option_map};
     ghost use Rattle.octet_language.specs.Language.{Each};
     ghost use Rattle.syslog_value.specs.Parts.{ElementParts};
-    ghost use Rattle.syslog_grammar.specs.Grammar.{Data, Element};
+    ghost use Rattle.syslog_grammar.specs.Grammar.{StructuredDataText, Element};
     ghost use Rattle.syslog_grammar.specs.PartsLeft.{elements_left};
-    ghost use Rattle.syslog_grammar.specs.Shown.{IsMarked, octets_of, shown};
+    ghost use Rattle.syslog_grammar.specs.ViewParts.{HasBom, octets_of, view_parts};
 
     /// Facility and severity.
     pub fn priority(&self) -> Priority
-        ensures { result ≡ (shown self.now).priority }
+        ensures { result ≡ (view_parts self.now).priority }
     {
         Priority::from_value(self.priority).unwrap()
     }
 
     /// The instant of the timestamp, if it has one.
     pub fn instant(&self) -> Option<Instant>
-        ensures { result ≡ (shown self.now).instant }
+        ensures { result ≡ (view_parts self.now).instant }
     {
         match self.micros {
             None => None,
@@ -51,47 +51,47 @@ impl<'a> RecordView<'a> {
     }
 
     pub fn hostname(&self) -> Option<&'a [u8]>
-        ensures { option_map (λ s. s.now) result ≡ (shown self.now).hostname }
+        ensures { option_map (λ s. s.now) result ≡ (view_parts self.now).hostname }
     {
         self.hostname
     }
 
     pub fn app_name(&self) -> Option<&'a [u8]>
-        ensures { option_map (λ s. s.now) result ≡ (shown self.now).app_name }
+        ensures { option_map (λ s. s.now) result ≡ (view_parts self.now).app_name }
     {
         self.app_name
     }
 
     pub fn proc_id(&self) -> Option<&'a [u8]>
-        ensures { option_map (λ s. s.now) result ≡ (shown self.now).proc_id }
+        ensures { option_map (λ s. s.now) result ≡ (view_parts self.now).proc_id }
     {
         self.proc_id
     }
 
     pub fn msg_id(&self) -> Option<&'a [u8]>
-        ensures { option_map (λ s. s.now) result ≡ (shown self.now).msg_id }
+        ensures { option_map (λ s. s.now) result ≡ (view_parts self.now).msg_id }
     {
         self.msg_id
     }
 
     /// The elements of the structured data, in the order of the octets.
     pub fn elements(&self) -> Elements<'a>
-        ensures { (es : List ElementParts) → Data es (shown self.now).elements
+        ensures { (es : List ElementParts) → StructuredDataText es (view_parts self.now).elements
             → Each Element es (elements_left result) }
     {
-        Elements::of_data(self.data)
+        Elements::of_data(self.structured_data)
     }
 
-    /// The octets of the message, without the byte order mark.
+    /// The octets of the message, without the BOM.
     pub fn message(&self) -> &'a [u8]
-        ensures { result.now ≡ octets_of (shown self.now).message }
+        ensures { result.now ≡ octets_of (view_parts self.now).message }
     {
         self.message.octets
     }
 
-    /// Whether the byte order mark stands before the message, which then is a text in UTF-8.
+    /// Whether the BOM stands before the message, which then is a text in UTF-8.
     pub fn has_mark(&self) -> bool
-        ensures { IsTrue result ↔ IsMarked (shown self.now).message }
+        ensures { IsTrue result ↔ HasBom (view_parts self.now).message }
     {
         self.message.has_mark
     }

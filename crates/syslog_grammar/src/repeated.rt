@@ -4,7 +4,7 @@ ghost use Rattle.std.specs.Prelude.{◌≡◌, ◌↔◌, List, IsTrue, MatchOpt
 ghost use Rattle.octet_language.specs.Language.{AnyOf, Each};
 ghost use Rattle.syslog_value.specs.Parts.{ElementParts};
 ghost use Rattle.syslog_value.specs.Structured.{HasId};
-ghost use Rattle.syslog_grammar.specs.Grammar.{Data, Element};
+ghost use Rattle.syslog_grammar.specs.Grammar.{StructuredDataText, Element};
 ghost use Rattle.syslog_grammar.specs.Ids.{HoldsDistinct, HoldsRepeated, IsAbove, IsAtMost, Known, Skips};
 
 use crate::distinct::differ;
@@ -47,11 +47,11 @@ pub fn is_above(id: &[u8], greatest: Option<&[u8]>) -> bool
 }
 
 /// What is behind the elements in front whose ids rise.
-fn behind_rising(data: &[u8]) -> &[u8]
-    requires { AnyOf Data data.now }
-    ensures { Known data.now result.now }
+fn behind_rising(structured_data: &[u8]) -> &[u8]
+    requires { AnyOf StructuredDataText structured_data.now }
+    ensures { Known structured_data.now result.now }
 {
-    let mut rest = data;
+    let mut rest = structured_data;
     let mut greatest: Option<&[u8]> = None;
     while let Some((first, _after)) = next(rest) {
         if first != b'[' {
@@ -87,7 +87,7 @@ fn behind_count(elements: &[u8], count: usize) -> &[u8]
     rest
 }
 
-/// How many elements stand in front.
+/// How many elements come first.
 fn count(elements: &[u8]) -> usize {
     let mut rest = elements;
     for i in 0..elements.len() {
@@ -104,11 +104,11 @@ const FEW: usize = 16;
 
 /// What is behind elements in front whose ids differ: all but a few of the longest such front,
 /// where it has at most 16,384 elements.
-fn behind_distinct(data: &[u8]) -> &[u8]
-    requires { AnyOf Data data.now }
-    ensures { Known data.now result.now }
+fn behind_distinct(structured_data: &[u8]) -> &[u8]
+    requires { AnyOf StructuredDataText structured_data.now }
+    ensures { Known structured_data.now result.now }
 {
-    let mut known = behind_rising(data);
+    let mut known = behind_rising(structured_data);
     let mut step = count(known);
     if step <= FEW {
         return known;
@@ -121,8 +121,8 @@ fn behind_distinct(data: &[u8]) -> &[u8]
             return known;
         }
         let rest = behind_count(known, step);
-        let (front, _) = data.split_at(data.len() - rest.len());
-        if differ(front) {
+        let (prefix, _) = structured_data.split_at(structured_data.len() - rest.len());
+        if differ(prefix) {
             known = rest;
         }
         step /= 2;
@@ -130,15 +130,15 @@ fn behind_distinct(data: &[u8]) -> &[u8]
     known
 }
 
-/// The place of the first id that repeats an earlier one.
+/// The offset of the first id that repeats an earlier one.
 ///
-/// Ids that rise are distinct in one pass. Others are sorted on the stack, in fronts that are
+/// Ids that rise are distinct in one pass. Others are sorted on the stack, in prefixes that are
 /// halved until the repeated id is near; from there on each id is sought among all before it.
-pub fn first_repeated(data: &[u8]) -> Option<usize>
-    requires { AnyOf Data data.now }
-    ensures { MatchOption result (HoldsDistinct data.now) (HoldsRepeated data.now) }
+pub fn first_repeated(structured_data: &[u8]) -> Option<usize>
+    requires { AnyOf StructuredDataText structured_data.now }
+    ensures { MatchOption result (HoldsDistinct structured_data.now) (HoldsRepeated structured_data.now) }
 {
-    let mut rest = behind_distinct(data);
+    let mut rest = behind_distinct(structured_data);
     while let Some((first, _after)) = next(rest) {
         if first != b'[' {
             return None;
@@ -147,7 +147,7 @@ pub fn first_repeated(data: &[u8]) -> Option<usize>
             return None;
         };
         let id = found.id();
-        let (before, _) = data.split_at(data.len() - rest.len());
+        let (before, _) = structured_data.split_at(structured_data.len() - rest.len());
         if holds_id(before, id) {
             return Some(before.len() + 1);
         }

@@ -6,16 +6,16 @@ ghost use Rattle.syslog_grammar.specs.Values.{Spells};
 use crate::reading::next;
 use crate::value::piece;
 
-/// What is behind a front, where the octets have it.
-fn behind_front<'a>(front: &[u8], octets: &'a [u8]) -> Option<&'a [u8]>
-    ensures { MatchOption result ((t : List ℕ) → octets.now ≢ front.now ++ t)
-        (λ x. octets.now ≡ front.now ++ x.now) }
+/// What is behind a prefix, where the octets have it.
+fn behind_prefix<'a>(prefix: &[u8], octets: &'a [u8]) -> Option<&'a [u8]>
+    ensures { MatchOption result ((t : List ℕ) → octets.now ≢ prefix.now ++ t)
+        (λ x. octets.now ≡ prefix.now ++ x.now) }
 {
-    if front.len() > octets.len() {
+    if prefix.len() > octets.len() {
         return None;
     }
-    let (start, rest) = octets.split_at(front.len());
-    if start == front { Some(rest) } else { None }
+    let (start, rest) = octets.split_at(prefix.len());
+    if start == prefix { Some(rest) } else { None }
 }
 
 /// Whether a parameter's value, as it is spelled, means the text.
@@ -28,10 +28,10 @@ pub fn same_value(raw: &[u8], text: &str) -> bool
     let mut spelling = raw;
     let mut meaning = text.as_bytes();
     while let Some((_first, _after)) = next(spelling) {
-        let Ok((front, behind)) = piece(spelling) else {
+        let Ok((prefix, behind)) = piece(spelling) else {
             return false;
         };
-        let Some(rest) = behind_front(front, meaning) else {
+        let Some(rest) = behind_prefix(prefix, meaning) else {
             return false;
         };
         spelling = behind;

@@ -1,22 +1,22 @@
-//! The whole of a record's octets (RFC 5424, section 6), and the place where they are outside the
+//! The whole of a record's octets (RFC 5424, section 6), and the offset where they are outside the
 //! grammar.
 
 ghost use Rattle.std.specs.Prelude.{◌≡◌, ◌-◌, ◌==◌, MatchResult, count_by, length};
-ghost use Rattle.syslog_grammar.specs.Spellings.{IsCounted, IsFaultBehind, IsSpelling, IsSyntaxAt, IsSyntaxFault};
+ghost use Rattle.syslog_grammar.specs.Parsing.{IsCounted, IsFaultBehind, IsParsed, IsSyntaxAt, IsSyntaxFault};
 
-use crate::data::data;
 use crate::fault::{Fault, Field};
 use crate::header::{HeaderFields, fields};
-use crate::message::{MessageView, tail};
+use crate::message::{MessageView, message_part};
+use crate::structured_data::structured_data;
 
 /// The parts of a record, as they lie in the octets.
 #[derive(Clone, Copy, Debug, PartialEq, Eq)]
-pub struct Spelling<'a> {
+pub struct Parsed<'a> {
     pub fields: HeaderFields<'a>,
-    pub data: &'a [u8],
+    pub structured_data: &'a [u8],
     pub message: MessageView<'a>,
     /// How many octets are left where the structured data begins.
-    pub data_left: usize,
+    pub structured_data_remaining: usize,
 }
 
 fn count(octet: u8, octets: &[u8]) -> usize
@@ -25,14 +25,14 @@ fn count(octet: u8, octets: &[u8]) -> usize
     octets.iter().filter(|other| **other == octet).count()
 }
 
-/// The field before the message in which a front of a record ends.
-fn field_before(front: &[u8]) -> Field
-    ensures { IsCounted front.now result }
+/// The field before the message in which a prefix of a record ends.
+fn field_before(prefix: &[u8]) -> Field
+    ensures { IsCounted prefix.now result }
 {
-    if count(b'>', front) == 0 {
+    if count(b'>', prefix) == 0 {
         return Field::Priority;
     }
-    match count(b' ', front) {
+    match count(b' ', prefix) {
         0 => Field::Version,
         1 => Field::Timestamp,
         2 => Field::Hostname,
@@ -45,53 +45,53 @@ fn field_before(front: &[u8]) -> Field
 
 /// The fault before the message, where so many octets are left.
 #[cold]
-fn fault_before(octets: &[u8], left: usize) -> Fault
-    ensures { IsSyntaxAt octets.now left result }
+fn fault_before(octets: &[u8], remaining: usize) -> Fault
+    ensures { IsSyntaxAt octets.now remaining result }
 {
-    let (front, _) = octets.split_at(octets.len().saturating_sub(left));
+    let (prefix, _) = octets.split_at(octets.len().saturating_sub(remaining));
     Fault::Syntax {
-        field: field_before(front),
-        offset: front.len(),
+        field: field_before(prefix),
+        offset: prefix.len(),
     }
 }
 
 /// The fault behind the structured data: a space is missing there, or the message is faulty.
 #[cold]
-fn fault_behind(octets: &[u8], rest: &[u8], left: usize) -> Fault
-    ensures { IsFaultBehind octets.now rest.now left result }
+fn fault_behind(octets: &[u8], rest: &[u8], remaining: usize) -> Fault
+    ensures { IsFaultBehind octets.now rest.now remaining result }
 {
-    let (front, _) = octets.split_at(octets.len().saturating_sub(left));
+    let (prefix, _) = octets.split_at(octets.len().saturating_sub(remaining));
     let field = match rest {
         [b' ', ..] => Field::Message,
-        _ => field_before(front),
+        _ => field_before(prefix),
     };
     Fault::Syntax {
         field,
-        offset: front.len(),
+        offset: prefix.len(),
     }
 }
 
 /// Reads a whole record.
 #[inline(always)]
-pub fn spelled(octets: &[u8]) -> Result<Spelling<'_>, Fault>
-    ensures { MatchResult result (IsSpelling octets.now) (IsSyntaxFault octets.now) }
+pub fn parse(octets: &[u8]) -> Result<Parsed<'_>, Fault>
+    ensures { MatchResult result (IsParsed octets.now) (IsSyntaxFault octets.now) }
 {
     let (fields, rest) = match fields(octets) {
         Ok(read) => read,
-        Err(stop) => return Err(fault_before(octets, stop.left)),
+        Err(stop) => return Err(fault_before(octets, stop.remaining)),
     };
-    let data_left = rest.len();
-    let (data, rest) = match data(rest) {
+    let structured_data_remaining = rest.len();
+    let (structured_data, rest) = match structured_data(rest) {
         Ok(read) => read,
-        Err(stop) => return Err(fault_before(octets, stop.left)),
+        Err(stop) => return Err(fault_before(octets, stop.remaining)),
     };
-    match tail(rest) {
-        Ok(message) => Ok(Spelling {
+    match message_part(rest) {
+        Ok(message) => Ok(Parsed {
             fields,
-            data,
+            structured_data,
             message,
-            data_left,
+            structured_data_remaining,
         }),
-        Err(stop) => Err(fault_behind(octets, rest, stop.left)),
+        Err(stop) => Err(fault_behind(octets, rest, stop.remaining)),
     }
 }

@@ -31,15 +31,15 @@ fn the_example_of_the_standard_is_read(rt: HostRuntime) -> Result<(), Fail> {
 #[test]
 fn each_prefix_of_the_example_stops_at_its_length(rt: HostRuntime) -> Result<(), Fail> {
     for n in 0..65 {
-        let (front, _) = RFC.split_at(RFC.len().min(n));
-        let (_, offset) = at(front).ok_or("no fault")?;
+        let (prefix, _) = RFC.split_at(RFC.len().min(n));
+        let (_, offset) = at(prefix).ok_or("no fault")?;
         assert_eq!(rt; offset, n);
     }
     Ok(())
 }
 
 #[test]
-fn priority_and_version_stop_at_their_places(rt: HostRuntime) -> Result<(), Fail> {
+fn priority_and_version_stop_at_their_offsets(rt: HostRuntime) -> Result<(), Fail> {
     assert!(rt; at(b"<192>1 -") == Some((Field::Priority, 3)));
     assert!(rt; at(b"<007>1 -") == Some((Field::Priority, 2)));
     assert!(rt; at(b"") == Some((Field::Priority, 0)));
@@ -50,7 +50,7 @@ fn priority_and_version_stop_at_their_places(rt: HostRuntime) -> Result<(), Fail
 }
 
 #[test]
-fn a_timestamp_stops_at_its_place(rt: HostRuntime) -> Result<(), Fail> {
+fn a_timestamp_stops_at_its_offset(rt: HostRuntime) -> Result<(), Fail> {
     assert!(rt; at(b"<0>1 2003-02-29T00:00:00Z - - - - -") == Some((Field::Timestamp, 14)));
     assert!(rt; at(b"<0>1 1900-02-29T00:00:00Z - - - - -") == Some((Field::Timestamp, 14)));
     assert!(rt; at(b"<0>1 2003-02-28T00:00:60Z - - - - -") == Some((Field::Timestamp, 22)));
@@ -65,7 +65,7 @@ fn a_timestamp_stops_at_its_place(rt: HostRuntime) -> Result<(), Fail> {
 }
 
 #[test]
-fn a_word_stops_at_its_place(rt: HostRuntime) -> Result<(), Fail> {
+fn a_word_stops_at_its_offset(rt: HostRuntime) -> Result<(), Fail> {
     assert!(rt; at(b"<0>1 - ab") == Some((Field::Hostname, 9)));
     assert!(rt; at(b"<0>1 -  -") == Some((Field::Hostname, 7)));
     assert!(rt; at(b"<0>1 - - - - -") == Some((Field::MsgId, 14)));
@@ -74,7 +74,7 @@ fn a_word_stops_at_its_place(rt: HostRuntime) -> Result<(), Fail> {
 }
 
 #[test]
-fn structured_data_stops_at_its_place(rt: HostRuntime) -> Result<(), Fail> {
+fn structured_data_stops_at_its_offset(rt: HostRuntime) -> Result<(), Fail> {
     let name = b"<0>1 - - - - - [aaaaaaaaaaaaaaaaaaaaaaaaaaaaaaaaa";
     assert!(rt; at(b"<0>1 - - - - - ") == Some((Field::StructuredData, 15)));
     assert!(rt; at(b"<0>1 - - - - - []") == Some((Field::StructuredData, 16)));
@@ -92,7 +92,7 @@ fn structured_data_stops_at_its_place(rt: HostRuntime) -> Result<(), Fail> {
 }
 
 #[test]
-fn a_message_stops_at_its_place(rt: HostRuntime) -> Result<(), Fail> {
+fn a_message_stops_at_its_offset(rt: HostRuntime) -> Result<(), Fail> {
     assert!(rt; at(b"<0>1 - - - - - - \xef\xbb\xbf\xff") == Some((Field::Message, 20)));
     assert!(rt; at(b"<0>1 - - - - - - \xef\xbb\xbf\xe2\x82") == Some((Field::Message, 22)));
     assert!(rt; view(b"<0>1 - - - - - - \xef\xbb").is_ok());
@@ -121,7 +121,7 @@ fn an_id_stands_once(rt: HostRuntime) -> Result<(), Fail> {
 }
 
 #[test]
-fn texts_stop_at_their_places(rt: HostRuntime) -> Result<(), Fail> {
+fn texts_stop_at_their_offsets(rt: HostRuntime) -> Result<(), Fail> {
     assert!(rt; utf8(b"a\xe0\x80") == Err(2));
     assert!(rt; utf8(b"a\xff") == Err(1));
     assert!(rt; utf8(b"a\xe2\x82") == Err(3));

@@ -3,16 +3,16 @@
 ghost use Rattle.std.specs.Prelude.{◌≡◌, ◌≤◌, ◌<◌, ◌+◌, ◌-◌, ◌*◌, ◌∷◌, ◌++◌, ◌↔◌, [], length, replicate, take, drop, slice_index, IsTrue, MatchResult, option_map, IfOk};
 ghost use Rattle.std.specs.List.{AllByRecursion};
 ghost use Rattle.octet_language.specs.Digits.{IsDigit, read_on};
-ghost use Rattle.octet_language.specs.Language.{IfFront};
+ghost use Rattle.octet_language.specs.Language.{IfFirst};
 ghost use Rattle.octet_language.specs.Reading.{Follows, Reads};
 ghost use Rattle.syslog_value.specs.Calendar.{is_leap, month_length};
 ghost use Rattle.syslog_grammar.specs.Dates.{Clock, Date, FractionZone, HourMinute, YearMonth, time_of};
 ghost use Rattle.syslog_grammar.specs.Spans.{StopsInRun};
 ghost use Rattle.syslog_grammar.specs.Grammar.{Nilable, Spaced};
-ghost use Rattle.syslog_grammar.specs.Stops.{left_of};
+ghost use Rattle.syslog_grammar.specs.Stops.{remaining_of};
 ghost use Rattle.syslog_grammar.specs.Time.{Decimals, OffsetText, TimeText, Two, YearText, ZoneText};
 
-use crate::reading::{Stop, mark, next};
+use crate::reading::{Stop, expect, next};
 use syslog_value::Civil;
 
 /// A civil time as it is spelled, and how many minutes it is ahead of UTC.
@@ -34,29 +34,43 @@ fn is_digit(octet: u8) -> bool
 fn two(low: u8, high: u8, octets: &[u8]) -> Result<(u8, &[u8]), Stop>
     requires some { low ≤ high }
     requires two_digits { high ≤ 99 }
-    ensures { Reads left_of (Two low high) (λ x. (x.0, x.1.now)) octets.now result }
+    ensures { Reads remaining_of (Two low high) (λ x. (x.0, x.1.now)) octets.now result }
 {
     let Some((tens, behind)) = next(octets) else {
-        return Err(Stop { left: octets.len() });
+        return Err(Stop {
+            remaining: octets.len(),
+        });
     };
     if tens < b'0' + low / 10 {
-        return Err(Stop { left: octets.len() });
+        return Err(Stop {
+            remaining: octets.len(),
+        });
     }
     if tens > b'0' + high / 10 {
-        return Err(Stop { left: octets.len() });
+        return Err(Stop {
+            remaining: octets.len(),
+        });
     }
     let Some((units, rest)) = next(behind) else {
-        return Err(Stop { left: behind.len() });
+        return Err(Stop {
+            remaining: behind.len(),
+        });
     };
     if !is_digit(units) {
-        return Err(Stop { left: behind.len() });
+        return Err(Stop {
+            remaining: behind.len(),
+        });
     }
     let value = 10 * (tens - b'0') + (units - b'0');
     if value < low {
-        return Err(Stop { left: behind.len() });
+        return Err(Stop {
+            remaining: behind.len(),
+        });
     }
     if value > high {
-        return Err(Stop { left: behind.len() });
+        return Err(Stop {
+            remaining: behind.len(),
+        });
     }
     Ok((value, rest))
 }
@@ -64,7 +78,7 @@ fn two(low: u8, high: u8, octets: &[u8]) -> Result<(u8, &[u8]), Stop>
 /// Reads a year in four digits.
 #[inline(always)]
 fn year(octets: &[u8]) -> Result<(u16, &[u8]), Stop>
-    ensures { Reads left_of YearText (λ x. (x.0, x.1.now)) octets.now result }
+    ensures { Reads remaining_of YearText (λ x. (x.0, x.1.now)) octets.now result }
 {
     let (century, rest) = two(0, 99, octets)?;
     let (year, rest) = two(0, 99, rest)?;
@@ -96,10 +110,10 @@ fn last_day(year: u16, month: u8) -> u8
 /// Reads a year and a month.
 #[inline(always)]
 fn year_month(octets: &[u8]) -> Result<((u16, u8), &[u8]), Stop>
-    ensures { Reads left_of YearMonth (λ x. (x.0, x.1.now)) octets.now result }
+    ensures { Reads remaining_of YearMonth (λ x. (x.0, x.1.now)) octets.now result }
 {
     let (year, rest) = year(octets)?;
-    let rest = mark(b'-', rest)?;
+    let rest = expect(b'-', rest)?;
     let (month, rest) = two(1, 12, rest)?;
     Ok(((year, month), rest))
 }
@@ -107,10 +121,10 @@ fn year_month(octets: &[u8]) -> Result<((u16, u8), &[u8]), Stop>
 /// Reads a date that the calendar has.
 #[inline(always)]
 fn date(octets: &[u8]) -> Result<((u16, u8, u8), &[u8]), Stop>
-    ensures { Reads left_of Date (λ x. (x.0, x.1.now)) octets.now result }
+    ensures { Reads remaining_of Date (λ x. (x.0, x.1.now)) octets.now result }
 {
     let ((year, month), rest) = year_month(octets)?;
-    let rest = mark(b'-', rest)?;
+    let rest = expect(b'-', rest)?;
     let (day, rest) = two(1, last_day(year, month), rest)?;
     Ok(((year, month, day), rest))
 }
@@ -118,10 +132,10 @@ fn date(octets: &[u8]) -> Result<((u16, u8, u8), &[u8]), Stop>
 /// Reads an hour and a minute.
 #[inline(always)]
 fn hour_minute(octets: &[u8]) -> Result<((u8, u8), &[u8]), Stop>
-    ensures { Reads left_of HourMinute (λ x. (x.0, x.1.now)) octets.now result }
+    ensures { Reads remaining_of HourMinute (λ x. (x.0, x.1.now)) octets.now result }
 {
     let (hour, rest) = two(0, 23, octets)?;
-    let rest = mark(b':', rest)?;
+    let rest = expect(b':', rest)?;
     let (minute, rest) = two(0, 59, rest)?;
     Ok(((hour, minute), rest))
 }
@@ -129,21 +143,21 @@ fn hour_minute(octets: &[u8]) -> Result<((u8, u8), &[u8]), Stop>
 /// Reads the time of a day.
 #[inline(always)]
 fn clock(octets: &[u8]) -> Result<((u8, u8, u8), &[u8]), Stop>
-    ensures { Reads left_of Clock (λ x. (x.0, x.1.now)) octets.now result }
+    ensures { Reads remaining_of Clock (λ x. (x.0, x.1.now)) octets.now result }
 {
     let ((hour, minute), rest) = hour_minute(octets)?;
-    let rest = mark(b':', rest)?;
+    let rest = expect(b':', rest)?;
     let (second, rest) = two(0, 59, rest)?;
     Ok(((hour, minute, second), rest))
 }
 
-/// How many digits stand in front, up to six.
+/// How many digits come first, up to six.
 #[inline(always)]
 fn digits_len(octets: &[u8]) -> usize
     ensures most { result ≤ 6 }
     ensures within { result ≤ length octets.now }
     ensures digits { AllByRecursion IsDigit (take result octets.now) }
-    ensures ends { result < 6 → IfFront (λ x. IsDigit x → ⊥) (drop result octets.now) }
+    ensures ends { result < 6 → IfFirst (λ x. IsDigit x → ⊥) (drop result octets.now) }
 {
     let most = octets.len().min(6);
     for i in 0..most {
@@ -154,15 +168,15 @@ fn digits_len(octets: &[u8]) -> usize
     most
 }
 
-/// The digit at a place behind the point, or a zero on the right.
+/// The digit at an offset behind the point, or a zero on the right.
 #[inline(always)]
-fn digit_at(digits: &[u8], place: usize) -> u32
+fn digit_at(digits: &[u8], offset: usize) -> u32
     requires { AllByRecursion IsDigit digits.now }
-    ensures value { result ≡ slice_index digits.now place - 48 }
+    ensures value { result ≡ slice_index digits.now offset - 48 }
     ensures range { result ≤ 9 }
 {
-    if place < digits.len() {
-        u32::from(digits[place] - b'0')
+    if offset < digits.len() {
+        u32::from(digits[offset] - b'0')
     } else {
         0
     }
@@ -181,11 +195,11 @@ fn micros(digits: &[u8]) -> u32
     1000 * thousands + ones
 }
 
-/// Whether a digit stands in front.
+/// Whether a digit comes first.
 #[inline(always)]
 fn goes_on(octets: &[u8]) -> bool
-    ensures goes { IsTrue result → IfFront IsDigit octets.now × (0 < length octets.now) }
-    ensures ends { (IsTrue result → ⊥) → IfFront (λ x. IsDigit x → ⊥) octets.now }
+    ensures goes { IsTrue result → IfFirst IsDigit octets.now × (0 < length octets.now) }
+    ensures ends { (IsTrue result → ⊥) → IfFirst (λ x. IsDigit x → ⊥) octets.now }
 {
     match octets {
         [] => false,
@@ -197,15 +211,19 @@ fn goes_on(octets: &[u8]) -> bool
 #[inline(always)]
 fn decimals(octets: &[u8]) -> Result<(u32, &[u8]), Stop>
     ensures { MatchResult result
-        (λ x. Follows (Decimals x.0) octets.now x.1.now × IfFront (λ y. IsDigit y → ⊥) x.1.now)
-        (λ e. StopsInRun IsDigit 6 octets.now e.left) }
+        (λ x. Follows (Decimals x.0) octets.now x.1.now × IfFirst (λ y. IsDigit y → ⊥) x.1.now)
+        (λ e. StopsInRun IsDigit 6 octets.now e.remaining) }
 {
     let (digits, rest) = octets.split_at(digits_len(octets));
     if digits.is_empty() {
-        return Err(Stop { left: octets.len() });
+        return Err(Stop {
+            remaining: octets.len(),
+        });
     }
     if goes_on(rest) {
-        return Err(Stop { left: rest.len() });
+        return Err(Stop {
+            remaining: rest.len(),
+        });
     }
     Ok((micros(digits), rest))
 }
@@ -213,7 +231,7 @@ fn decimals(octets: &[u8]) -> Result<(u32, &[u8]), Stop>
 /// Reads the hours and minutes of an offset, in minutes.
 #[inline(always)]
 fn offset(octets: &[u8]) -> Result<(u16, &[u8]), Stop>
-    ensures reads { Reads left_of OffsetText (λ x. (x.0, x.1.now)) octets.now result }
+    ensures reads { Reads remaining_of OffsetText (λ x. (x.0, x.1.now)) octets.now result }
     ensures range { IfOk result (λ x. x.0 ≤ 1439) }
 {
     let ((hour, minute), rest) = hour_minute(octets)?;
@@ -223,10 +241,12 @@ fn offset(octets: &[u8]) -> Result<(u16, &[u8]), Stop>
 /// Reads the zone.
 #[inline(always)]
 fn zone(octets: &[u8]) -> Result<(i16, &[u8]), Stop>
-    ensures { Reads left_of ZoneText (λ x. (x.0, x.1.now)) octets.now result }
+    ensures { Reads remaining_of ZoneText (λ x. (x.0, x.1.now)) octets.now result }
 {
     let Some((sign, rest)) = next(octets) else {
-        return Err(Stop { left: octets.len() });
+        return Err(Stop {
+            remaining: octets.len(),
+        });
     };
     if sign == b'Z' {
         return Ok((0, rest));
@@ -239,16 +259,20 @@ fn zone(octets: &[u8]) -> Result<(i16, &[u8]), Stop>
         let (minutes, rest) = offset(rest)?;
         return Ok((-(minutes as i16), rest));
     }
-    Err(Stop { left: octets.len() })
+    Err(Stop {
+        remaining: octets.len(),
+    })
 }
 
 /// Reads the fraction, if there is one, and the zone.
 #[inline(always)]
 fn fraction_and_zone(octets: &[u8]) -> Result<((u32, i16), &[u8]), Stop>
-    ensures { Reads left_of FractionZone (λ x. (x.0, x.1.now)) octets.now result }
+    ensures { Reads remaining_of FractionZone (λ x. (x.0, x.1.now)) octets.now result }
 {
     let Some((first, behind)) = next(octets) else {
-        return Err(Stop { left: octets.len() });
+        return Err(Stop {
+            remaining: octets.len(),
+        });
     };
     if first == b'.' {
         let (micros, rest) = decimals(behind)?;
@@ -262,10 +286,10 @@ fn fraction_and_zone(octets: &[u8]) -> Result<((u32, i16), &[u8]), Stop>
 /// Reads a time.
 #[inline(always)]
 fn time(octets: &[u8]) -> Result<(Timestamp, &[u8]), Stop>
-    ensures { Reads left_of TimeText (λ x. (time_of x.0, x.1.now)) octets.now result }
+    ensures { Reads remaining_of TimeText (λ x. (time_of x.0, x.1.now)) octets.now result }
 {
     let ((year, month, day), rest) = date(octets)?;
-    let rest = mark(b'T', rest)?;
+    let rest = expect(b'T', rest)?;
     let ((hour, minute, second), rest) = clock(rest)?;
     let ((micros, offset_minutes), rest) = fraction_and_zone(rest)?;
     let civil = Civil {
@@ -286,20 +310,22 @@ fn time(octets: &[u8]) -> Result<(Timestamp, &[u8]), Stop>
     ))
 }
 
-/// Reads a time, or the sign for nil, and the space behind it.
+/// Reads a time, or NILVALUE, and the space behind it.
 #[inline(always)]
 pub fn nilable_time(octets: &[u8]) -> Result<(Option<Timestamp>, &[u8]), Stop>
-    ensures { Reads left_of (λ t. Spaced (Nilable TimeText t))
+    ensures { Reads remaining_of (λ t. Spaced (Nilable TimeText t))
         (λ x. (option_map time_of x.0, x.1.now)) octets.now result }
 {
     let Some((first, behind)) = next(octets) else {
-        return Err(Stop { left: octets.len() });
+        return Err(Stop {
+            remaining: octets.len(),
+        });
     };
     if first == b'-' {
-        let rest = mark(b' ', behind)?;
+        let rest = expect(b' ', behind)?;
         return Ok((None, rest));
     }
     let (time, rest) = time(octets)?;
-    let rest = mark(b' ', rest)?;
+    let rest = expect(b' ', rest)?;
     Ok((Some(time), rest))
 }

@@ -1,7 +1,7 @@
 //! What the spelling of a value means (RFC 5424, 6.3.3).
 
 ghost use Rattle.std.specs.Prelude.{◌≡◌, ◌∷◌, ℕ, List, IfOk, IsTrue};
-ghost use Rattle.octet_language.specs.Language.{IfFront};
+ghost use Rattle.octet_language.specs.Language.{IfFirst};
 ghost use Rattle.syslog_grammar.specs.Escapes.{BeginsSpecial, MeansFirst};
 ghost use Rattle.syslog_grammar.specs.Values.{IsSpecial, Spells};
 
@@ -12,7 +12,7 @@ use std::alloc::{AllocError, Global};
 /// Whether a quotation mark, a backslash or a closing bracket is in front.
 pub fn begins_special(octets: &[u8]) -> bool
     ensures special { IsTrue result → BeginsSpecial octets.now }
-    ensures other { (IsTrue result → ⊥) → IfFront (λ x. ¬ (IsSpecial x)) octets.now }
+    ensures other { (IsTrue result → ⊥) → IfFirst (λ x. ¬ (IsSpecial x)) octets.now }
 {
     match octets {
         [] => false,
@@ -38,9 +38,9 @@ pub fn unescape(alloc: Global, raw: &[u8]) -> Result<Vec<u8>, AllocError>
 {
     let mut out = Vec::with_capacity(alloc, raw.len())?;
     let mut rest = raw;
-    while let Some(place) = memchr(b'\\', rest) {
-        let (plain, marked) = rest.split_at(place);
-        let (octet, behind) = split_meaning(marked);
+    while let Some(offset) = memchr(b'\\', rest) {
+        let (plain, escaped_rest) = rest.split_at(offset);
+        let (octet, behind) = split_meaning(escaped_rest);
         put(plain, &mut out)?;
         put(octet, &mut out)?;
         rest = behind;

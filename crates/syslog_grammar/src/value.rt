@@ -5,7 +5,7 @@ ghost use Rattle.std.specs.List.{AllByRecursion};
 ghost use Rattle.octet_language.specs.Language.{◌⋅◌, AnyOf, Each, Only};
 ghost use Rattle.octet_language.specs.Reading.{Passes, Reads};
 ghost use Rattle.syslog_grammar.specs.Spans.{Text};
-ghost use Rattle.syslog_grammar.specs.Stops.{left_of};
+ghost use Rattle.syslog_grammar.specs.Stops.{remaining_of};
 ghost use Rattle.syslog_grammar.specs.Values.{IsEscape, IsPlainOctet, PassesPlain, Piece};
 
 use crate::character::behind_character;
@@ -14,19 +14,25 @@ use crate::reading::{Stop, next};
 /// Reads one piece of a value.
 #[inline(always)]
 fn behind_piece(octets: &[u8]) -> Result<&[u8], Stop>
-    ensures { Passes left_of (AnyOf Piece) (λ x. x.now) octets.now result }
+    ensures { Passes remaining_of (AnyOf Piece) (λ x. x.now) octets.now result }
 {
     let Some((first, rest)) = next(octets) else {
-        return Err(Stop { left: octets.len() });
+        return Err(Stop {
+            remaining: octets.len(),
+        });
     };
     if first == b'\\' {
         return behind_character(rest);
     }
     if first == b'"' {
-        return Err(Stop { left: octets.len() });
+        return Err(Stop {
+            remaining: octets.len(),
+        });
     }
     if first == b']' {
-        return Err(Stop { left: octets.len() });
+        return Err(Stop {
+            remaining: octets.len(),
+        });
     }
     behind_character(octets)
 }
@@ -64,7 +70,7 @@ fn behind_plain(octets: &[u8]) -> &[u8]
 
 /// Reads a value and the quotation mark that ends it.
 fn behind_value(octets: &[u8]) -> Result<&[u8], Stop>
-    ensures { Passes left_of (AnyOf (Each Piece) ⋅ Only (34 ∷ [])) (λ x. x.now)
+    ensures { Passes remaining_of (AnyOf (Each Piece) ⋅ Only (34 ∷ [])) (λ x. x.now)
         octets.now result }
 {
     let mut rest = behind_plain(octets);
@@ -75,12 +81,14 @@ fn behind_value(octets: &[u8]) -> Result<&[u8], Stop>
         let behind = behind_piece(rest)?;
         rest = behind_plain(behind);
     }
-    Err(Stop { left: rest.len() })
+    Err(Stop {
+        remaining: rest.len(),
+    })
 }
 
 /// Reads a value, which is given as it is spelled, and the quotation mark that ends it.
 pub fn value(octets: &[u8]) -> Result<(&[u8], &[u8]), Stop>
-    ensures { Reads left_of (λ raw. Text (AnyOf (Each Piece)) raw ⋅ Only (34 ∷ []))
+    ensures { Reads remaining_of (λ raw. Text (AnyOf (Each Piece)) raw ⋅ Only (34 ∷ []))
         (λ x. (x.0.now, x.1.now)) octets.now result }
 {
     let rest = behind_value(octets)?;
@@ -115,7 +123,7 @@ fn meaning(piece: &[u8]) -> &[u8]
 /// Reads one piece of a value, and gives what it means.
 #[inline(always)]
 pub fn piece(octets: &[u8]) -> Result<(&[u8], &[u8]), Stop>
-    ensures { Reads left_of Piece (λ x. (x.0.now, x.1.now)) octets.now result }
+    ensures { Reads remaining_of Piece (λ x. (x.0.now, x.1.now)) octets.now result }
 {
     let rest = behind_piece(octets)?;
     let (piece, _) = octets.split_at(octets.len() - rest.len());

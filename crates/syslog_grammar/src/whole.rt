@@ -4,13 +4,13 @@ ghost use Rattle.std.specs.Prelude.{MatchResult, OnErr, OnOk};
 ghost use Rattle.octet_language.specs.Language.{AnyOf};
 ghost use Rattle.syslog_grammar.specs.Faults.{FaultOf};
 ghost use Rattle.syslog_grammar.specs.Instants.{IsTimeOf};
-ghost use Rattle.syslog_grammar.specs.Shown.{IsShown, shown};
+ghost use Rattle.syslog_grammar.specs.ViewParts.{IsViewOf, view_parts};
 ghost use Rattle.syslog_grammar.specs.WellFormed.{WellFormed};
 
 use crate::fault::Fault;
 use crate::record_view::RecordView;
 use crate::repeated::first_repeated;
-use crate::syntax::spelled;
+use crate::syntax::parse;
 use crate::timestamp::Timestamp;
 use syslog_value::Instant;
 
@@ -36,22 +36,22 @@ pub fn micros_of(time: Option<Timestamp>) -> Result<Option<i64>, OutOfRange>
 /// stands twice. It takes no memory.
 pub fn view(octets: &[u8]) -> Result<RecordView<'_>, Fault>
     ensures some { OnOk result (AnyOf WellFormed octets.now) }
-    ensures whole { MatchResult result (λ v. IsShown octets.now (shown v)) (FaultOf octets.now) }
+    ensures whole { MatchResult result (λ v. IsViewOf octets.now (view_parts v)) (FaultOf octets.now) }
     ensures none { OnErr result (¬ (AnyOf WellFormed octets.now)) }
 {
-    let spelling = spelled(octets)?;
+    let spelling = parse(octets)?;
     let fields = spelling.fields;
     let micros = match micros_of(fields.time) {
         Ok(micros) => micros,
         Err(OutOfRange) => {
             return Err(Fault::InstantRange {
-                offset: octets.len() - fields.time_left,
+                offset: octets.len() - fields.time_remaining,
             });
         }
     };
-    if let Some(place) = first_repeated(spelling.data) {
+    if let Some(offset) = first_repeated(spelling.structured_data) {
         return Err(Fault::RepeatedId {
-            offset: octets.len() - spelling.data_left + place,
+            offset: octets.len() - spelling.structured_data_remaining + offset,
         });
     }
     Ok(RecordView {
@@ -61,7 +61,7 @@ pub fn view(octets: &[u8]) -> Result<RecordView<'_>, Fault>
         app_name: fields.app_name,
         proc_id: fields.proc_id,
         msg_id: fields.msg_id,
-        data: spelling.data,
+        structured_data: spelling.structured_data,
         message: spelling.message,
         behind_time: fields.behind_time,
     })

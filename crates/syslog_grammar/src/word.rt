@@ -2,11 +2,11 @@
 
 ghost use Rattle.std.specs.Prelude.{◌≡◌, ◌≤◌, ◌<◌, ◌∷◌, ◌++◌, ◌↔◌, [], length, IsTrue, take, drop, option_map};
 ghost use Rattle.std.specs.List.{AllByRecursion};
-ghost use Rattle.octet_language.specs.Language.{IfFront};
+ghost use Rattle.octet_language.specs.Language.{IfFirst};
 ghost use Rattle.octet_language.specs.Reading.{Reads};
 ghost use Rattle.syslog_value.specs.Parts.{IsPrintable};
 ghost use Rattle.syslog_grammar.specs.Grammar.{Nilable, Spaced, Word};
-ghost use Rattle.syslog_grammar.specs.Stops.{left_of};
+ghost use Rattle.syslog_grammar.specs.Stops.{remaining_of};
 
 use crate::lanes::{LANES, printable_run};
 use crate::reading::{Stop, next};
@@ -18,9 +18,9 @@ fn is_printable(octet: u8) -> bool
     octet >= 33 && octet <= 126
 }
 
-/// Whether a word is the sign for nil.
+/// Whether a word is NILVALUE.
 #[inline(always)]
-fn is_dash(word: &[u8]) -> bool
+fn is_nil(word: &[u8]) -> bool
     ensures { IsTrue result ↔ (word.now ≡ 45 ∷ []) }
 {
     match word {
@@ -29,7 +29,7 @@ fn is_dash(word: &[u8]) -> bool
     }
 }
 
-/// A place up to which octets are printable, sixteen of them at a time.
+/// A offset up to which octets are printable, sixteen of them at a time.
 #[inline(always)]
 fn printable_blocks(most: usize, octets: &[u8]) -> usize
     requires { most ≤ length octets.now }
@@ -53,7 +53,7 @@ fn printable_len(limit: usize, octets: &[u8]) -> usize
     ensures most { result ≤ limit }
     ensures within { result ≤ length octets.now }
     ensures printable { AllByRecursion IsPrintable (take result octets.now) }
-    ensures ends { result < limit → IfFront (λ x. IsPrintable x → ⊥) (drop result octets.now) }
+    ensures ends { result < limit → IfFirst (λ x. IsPrintable x → ⊥) (drop result octets.now) }
 {
     let most = octets.len().min(limit);
     for i in printable_blocks(most, octets)..most {
@@ -66,34 +66,40 @@ fn printable_len(limit: usize, octets: &[u8]) -> usize
 
 /// The printable octets in front, up to a limit, and what is behind them.
 #[inline(always)]
-fn printable_front(limit: usize, octets: &[u8]) -> (&[u8], &[u8])
+fn printable_prefix(limit: usize, octets: &[u8]) -> (&[u8], &[u8])
     ensures parts { octets.now ≡ result.0.now ++ result.1.now }
     ensures most { length result.0.now ≤ limit }
     ensures printable { AllByRecursion IsPrintable result.0.now }
     ensures ends { length result.0.now < limit
-        → IfFront (λ x. IsPrintable x → ⊥) result.1.now }
+        → IfFirst (λ x. IsPrintable x → ⊥) result.1.now }
 {
     octets.split_at(printable_len(limit, octets))
 }
 
-/// Reads a word of at most `N` octets, or the sign for nil, and the space behind it.
+/// Reads a word of at most `N` octets, or NILVALUE, and the space behind it.
 #[inline(always)]
 pub fn word<const N: usize>(octets: &[u8]) -> Result<(Option<&[u8]>, &[u8]), Stop>
     requires { 0 < N }
-    ensures { Reads left_of (λ w. Spaced (Nilable (Word N) w))
+    ensures { Reads remaining_of (λ w. Spaced (Nilable (Word N) w))
         (λ x. (option_map (λ s. s.now) x.0, x.1.now)) octets.now result }
 {
-    let (word, behind) = printable_front(N, octets);
+    let (word, behind) = printable_prefix(N, octets);
     if word.is_empty() {
-        return Err(Stop { left: octets.len() });
+        return Err(Stop {
+            remaining: octets.len(),
+        });
     }
     let Some((octet, rest)) = next(behind) else {
-        return Err(Stop { left: behind.len() });
+        return Err(Stop {
+            remaining: behind.len(),
+        });
     };
     if octet != b' ' {
-        return Err(Stop { left: behind.len() });
+        return Err(Stop {
+            remaining: behind.len(),
+        });
     }
-    if is_dash(word) {
+    if is_nil(word) {
         return Ok((None, rest));
     }
     Ok((Some(word), rest))

@@ -88,15 +88,15 @@ pub id_found : (e : ElementParts) (es : List ElementParts) (i : ℕ) → i < len
     → IsBinarySearchResult (λ f. slice_cmp nat_cmp f.id e.id) es (Ok i) → HasId e.id es
 id_found e es i within found = has_at e.id es i e within (octets_ranked (get_or es i e).id e.id Equal (sym (found e)))
 
--- the element fits in at the place: what stands before has ids below, and what stands after above
+-- the element fits in at the offset: what stands before has ids below, and what stands after above
 pub record FitsAt (e : ElementParts) (es : List ElementParts) (i : ℕ) : Type 0 where
   pub below : AllByRecursion (λ f. OctetsBelow f.id e.id) (take i es)
   pub above : AllByRecursion (λ f. OctetsBelow e.id f.id) (drop i es)
 
--- the search found no such id, but its place
-pub place_found : (e : ElementParts) (es : List ElementParts) (i : ℕ) → i ≤ length es → IsById es
+-- the search found no such id, but its offset
+pub offset_found : (e : ElementParts) (es : List ElementParts) (i : ℕ) → i ≤ length es → IsById es
     → IsBinarySearchResult (λ f. slice_cmp nat_cmp f.id e.id) es (Err i) → FitsAt e es i
-place_found e es i within sorted found =
+offset_found e es i within sorted found =
     let point = found (nondecreasing e.id es sorted) in
     record {
       below = weaker _ _ (λ f less. octets_ranked f.id e.id Less (sym less)) (take i es) (within_take _ i es within point.0);
@@ -185,14 +185,14 @@ no_element = record { id = []; params = [] }
 
 pub equal_neighbours : (es : List ElementParts) → HasEqualNeighbours es → ¬ HaveDistinctIds es
 equal_neighbours es equal distinct =
-    neighbours_differ es equal.place no_element distinct (omega (arith, equal.within))
-    (subst (λ n. (get_or es equal.place no_element).id ≡ (get_or es n no_element).id) (add-one equal.place) (equal.same no_element))
+    neighbours_differ es equal.offset no_element distinct (omega (arith, equal.within))
+    (subst (λ n. (get_or es equal.offset no_element).id ≡ (get_or es n no_element).id) (add-one equal.offset) (equal.same no_element))
 
 -- two neighbours that were read have one id
 pub equal_from_reads : (es : List ElementParts) (i : ℕ) (x y : ElementParts) → 1 ≤ i → i < length es → x ≡ get_or es (i - 1) x → y ≡ get_or es i y
     → x.id ≡ y.id → HasEqualNeighbours es
 equal_from_reads es i x y some within is_x is_y same = record {
-  place = i - 1;
+  offset = i - 1;
   within = omega arith;
   same = λ d.
       let next : i ≡ i - 1 + 1 = omega arith in

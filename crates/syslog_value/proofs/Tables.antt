@@ -11,7 +11,7 @@ use Rattle.syslog_value.specs.declared.facility.Facility.TheVariants as facility
 use Rattle.syslog_value.specs.declared.facility.TheConstants.Facility as facilities
 use Rattle.syslog_value.specs.Facilities.{facility_code}
 
--- two texts that `==` tells apart
+-- two texts that `==` reports apart
 pub texts_differ : (a b : List ℕ) → bytes_eq a b ≡ false → a ≢ b
 texts_differ a b unequal same = let equal : bytes_eq a b ≡ true = (bytes_eq-Decides a b).1 same in cc
 

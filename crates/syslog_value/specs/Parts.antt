@@ -13,7 +13,7 @@ pub record ElementParts : Type 0 where
   pub id : List ℕ
   pub params : List ParamParts
 
--- any octets, or a text in UTF-8 behind the byte order mark
+-- any octets, or a text in UTF-8 behind the BOM
 pub data MessageParts : Type 0 where
   AnyOctets : List ℕ → MessageParts
   Utf8Text : List ℕ → MessageParts
@@ -56,9 +56,9 @@ pub record IsName (w : List ℕ) : Type 0 where
 abbrev pub IsOctets : List ℕ → Type 0
 IsOctets = AllByRecursion (λ x. x < 256)
 
--- the byte order mark in UTF-8
-abbrev pub mark : List ℕ
-mark = 0xef ∷ 0xbb ∷ 0xbf ∷ []
+-- the BOM in UTF-8
+abbrev pub bom : List ℕ
+bom = 0xef ∷ 0xbb ∷ 0xbf ∷ []
 
 abbrev pub IsParam : ParamParts → Type 0
 IsParam p = IsName p.name × IsUtf8 p.value
@@ -68,7 +68,7 @@ IsElement e = IsName e.id × AllByRecursion IsParam e.params
 
 -- octets that do not start with the mark, or a text
 abbrev pub IsMessage : MessageParts → Type 0
-IsMessage (AnyOctets octets) = IsOctets octets × (take 3 octets ≢ mark)
+IsMessage (AnyOctets octets) = IsOctets octets × (take 3 octets ≢ bom)
 IsMessage (Utf8Text text) = IsUtf8 text
 
 -- the ids ascend strictly, so none stands twice

@@ -18,9 +18,9 @@ HaveDistinctIds = IsDistinct (on (λ e. e.id) bytes_eq)
 
 -- two elements that follow each other have one id
 pub record HasEqualNeighbours (es : List ElementParts) : Type 0 where
-  pub place : ℕ
-  pub within : place + 1 < length es
-  pub same : (d : ElementParts) → (slice_index_or es place d).id ≡ (slice_index_or es (place + 1) d).id
+  pub offset : ℕ
+  pub within : offset + 1 < length es
+  pub same : (d : ElementParts) → (slice_index_or es offset d).id ≡ (slice_index_or es (offset + 1) d).id
 
 -- the element stands among those that were there, and all by id
 pub record AddsElement (element : ElementParts) (old new : List ElementParts) : Type 0 where

@@ -4,22 +4,22 @@ use Rattle.syslog_value.specs.Parts.{IsPrintable, IsWord, IsNameOctet, IsName}
 use Rattle.syslog_value.specs.declared.word.WordFault.{WordFault}
 use Rattle.syslog_value.specs.declared.word.WordFault.TheVariants.{Empty, Nil, TooLong, BadOctet, Memory}
 
--- the octet at this place is the first that is not allowed
-pub record IsFirstBad (IsAllowed : ℕ → Type 0) (octets : List ℕ) (place : ℕ) : Type 0 where
-  pub within : place < length octets
-  pub bad : ¬ IsAllowed (slice_index octets place)
-  pub before : (k : ℕ) → k < place → IsAllowed (slice_index octets k)
+-- the octet at this offset is the first that is not allowed
+pub record IsFirstBad (IsAllowed : ℕ → Type 0) (octets : List ℕ) (offset : ℕ) : Type 0 where
+  pub within : offset < length octets
+  pub bad : ¬ IsAllowed (slice_index octets offset)
+  pub before : (k : ℕ) → k < offset → IsAllowed (slice_index octets k)
 
 abbrev pub IsWordFault : ℕ → List ℕ → WordFault → Type 0
 IsWordFault most octets Empty = octets ≡ []
 IsWordFault most octets Nil = octets ≡ 45 ∷ []
 IsWordFault most octets TooLong = (octets ≢ []) × (octets ≢ 45 ∷ []) × (most < length octets)
-IsWordFault most octets (BadOctet place) = (octets ≢ []) × (octets ≢ 45 ∷ []) × (length octets ≤ most) × IsFirstBad IsPrintable octets place
+IsWordFault most octets (BadOctet offset) = (octets ≢ []) × (octets ≢ 45 ∷ []) × (length octets ≤ most) × IsFirstBad IsPrintable octets offset
 IsWordFault most octets Memory = IsWord most octets
 
 abbrev pub IsNameFault : List ℕ → WordFault → Type 0
 IsNameFault octets Empty = octets ≡ []
 IsNameFault octets Nil = ⊥
 IsNameFault octets TooLong = 32 < length octets
-IsNameFault octets (BadOctet place) = (octets ≢ []) × (length octets ≤ 32) × IsFirstBad IsNameOctet octets place
+IsNameFault octets (BadOctet offset) = (octets ≢ []) × (length octets ≤ 32) × IsFirstBad IsNameOctet octets offset
 IsNameFault octets Memory = IsName octets

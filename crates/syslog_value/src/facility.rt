@@ -44,7 +44,7 @@ pub enum Facility {
 }
 
 impl Facility {
-    /// Every facility, at the place of its code.
+    /// Every facility, at the offset of its code.
     pub const ALL: [Facility; 24] = [
         Facility::Kern,
         Facility::User,
@@ -77,9 +77,9 @@ impl Facility {
         ensures valid { IsSome result ↔ (code ≤ 23) }
         ensures value { IfSome result (λ facility. facility_code facility ≡ code) }
     {
-        let place = usize::from(code);
-        if place < Facility::ALL.len() {
-            Some(Facility::ALL[place])
+        let offset = usize::from(code);
+        if offset < Facility::ALL.len() {
+            Some(Facility::ALL[offset])
         } else {
             None
         }

@@ -18,10 +18,10 @@ pub trait Input {
     // how often it gave the end: no octet, for a slice that is not empty
     ghost ends: { Self → ℕ };
 
-    // the octets that are left, where the device tells them
+    // the octets that are left, where the device reports them
     ghost left: { Self → Option (List ℕ) };
 
-    /// Reads into the front of the slice, and answers how many octets. None, for a slice that is
+    /// Reads into the prefix of the slice, and answers how many octets. None, for a slice that is
     /// not empty, is the end.
     fn read(&mut self, buf: &mut [u8]) -> Result<usize, DeviceFault>
         ensures bound { IfOk result (λ n. n ≤ length buf.new) }
@@ -33,7 +33,7 @@ pub trait Input {
     ghost few_ends: { (device : Self) → ends device ≤ calls device };
 }
 
-/// A reader of std's as an input. It tells its octets where that reader does, as a slice does.
+/// A reader of std's as an input. It reports its octets where that reader does, as a slice does.
 #[derive(Debug, Drop)]
 pub struct FromRead<R> {
     reader: R,

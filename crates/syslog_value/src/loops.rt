@@ -116,11 +116,11 @@ mod tests {
     use std::test::Fail;
 
     #[test]
-    fn an_input_is_read_to_its_end_and_its_front_is_kept(rt: HostRuntime) -> Result<(), Fail> {
-        for (limit, front) in [(0, ""), (3, "hel"), (5, "hello"), (9, "hello")] {
+    fn an_input_is_read_to_its_end_and_its_prefix_is_kept(rt: HostRuntime) -> Result<(), Fail> {
+        for (limit, prefix) in [(0, ""), (3, "hel"), (5, "hello"), (9, "hello")] {
             let mut reader = FromRead::new(b"hello".as_slice());
             let kept = read_all(rt.alloc(), &mut reader, limit)?;
-            assert_eq!(rt; kept.as_slice(), front.as_bytes());
+            assert_eq!(rt; kept.as_slice(), prefix.as_bytes());
         }
         Ok(())
     }

@@ -47,7 +47,7 @@ impl Mask {
         }
     }
 
-    /// The set of this severity and all that are graver (LOG_UPTO).
+    /// The set of this severity and all that are more severe (LOG_UPTO).
     pub fn up_to(severity: Severity) -> Mask
         ensures { (s : Severity) → Holds result s ↔ (severity_code s ≤ severity_code severity) }
     {
@@ -88,8 +88,8 @@ mod tests {
     fn a_mask_holds_what_was_put_in(rt: HostRuntime) {
         let warning = Mask::up_to(Severity::Warning);
         for severity in Severity::ALL {
-            let graver = severity.code() <= 4;
-            assert_eq!(rt; warning.holds(severity), graver);
+            let more_severe = severity.code() <= 4;
+            assert_eq!(rt; warning.holds(severity), more_severe);
             assert_eq!(rt;
                 Mask::of(Severity::Error).holds(severity),
                 severity.code() == 3

@@ -1,12 +1,12 @@
 //! What an event has to say (RFC 5424, section 6.4).
 ghost use Rattle.std.specs.Prelude.{◌≡◌, ◌≢◌, ◌↔◌, [], take, IsTrue, IfOk, IfErr, string_bytes};
-ghost use Rattle.syslog_value.specs.Parts.{AnyOctets, Utf8Text, IsMessage, mark};
+ghost use Rattle.syslog_value.specs.Parts.{AnyOctets, Utf8Text, IsMessage, bom};
 ghost use Rattle.syslog_value.specs.Messages.{message_octets, HasMark};
 
 use std::alloc::{AllocError, Global};
 use std::marker::Model;
 
-// the byte order mark in UTF-8
+// the BOM in UTF-8
 const MARK: &[u8] = b"\xef\xbb\xbf";
 
 #[derive(Debug, Drop)]
@@ -15,7 +15,7 @@ enum Body {
     Utf8(String),
 }
 
-/// A message: any octets that do not start with the byte order mark, or a text behind that mark.
+/// A message: any octets that do not start with the BOM, or a text behind that mark.
 #[derive(Debug, Drop)]
 pub struct Message {
     body: Body,
@@ -46,8 +46,8 @@ impl Message {
     /// The message of these octets. Octets that start with the mark come back.
     pub fn any(octets: Vec<u8>) -> Result<Message, Vec<u8>>
         ensures ok { IfOk result (λ message.
-            (take 3 octets.items ≢ mark) × (message ≡ AnyOctets octets.items)) }
-        ensures err { IfErr result (λ back. (take 3 octets.items ≡ mark) × (back ≡ octets)) }
+            (take 3 octets.items ≢ bom) × (message ≡ AnyOctets octets.items)) }
+        ensures err { IfErr result (λ back. (take 3 octets.items ≡ bom) × (back ≡ octets)) }
     {
         if octets.as_slice().starts_with(MARK) {
             return Err(octets);
@@ -77,7 +77,7 @@ impl Message {
         }
     }
 
-    /// Whether the message is a text behind the byte order mark.
+    /// Whether the message is a text behind the BOM.
     pub fn has_mark(&self) -> bool
         ensures { IsTrue result ↔ HasMark self.now }
     {

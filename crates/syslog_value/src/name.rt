@@ -91,9 +91,9 @@ fn first_outside_names(octets: &[u8]) -> Option<usize>
     ensures { MatchOption result (AllByRecursion IsNameOctet octets.now)
         (IsFirstBad IsNameOctet octets.now) }
 {
-    for (place, octet) in octets.iter().enumerate() {
+    for (offset, octet) in octets.iter().enumerate() {
         if !octet.is_ascii_graphic() || matches!(octet, b'=' | b']' | b'"') {
-            return Some(place);
+            return Some(offset);
         }
     }
     None

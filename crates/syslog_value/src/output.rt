@@ -15,10 +15,10 @@ pub trait Output {
     // how often it failed, or took no octet of a slice that is not empty
     ghost failures: { Self → ℕ };
 
-    // the octets that it took, where the device tells them
+    // the octets that it took, where the device reports them
     ghost taken: { Self → Option (List ℕ) };
 
-    /// Takes octets from the front of the slice, and answers how many. To take none of a slice
+    /// Takes octets from the prefix of the slice, and answers how many. To take none of a slice
     /// that is not empty is a failure.
     fn write(&mut self, buf: &[u8]) -> Result<usize, DeviceFault>
         ensures bound { IfOk result (λ n. n ≤ length buf.now) }
@@ -28,7 +28,7 @@ pub trait Output {
             (failures self.old) (failures self.new) };
 }
 
-/// A writer of std's as an output. It tells its octets where that writer does, as a vector does.
+/// A writer of std's as an output. It reports its octets where that writer does, as a vector does.
 #[derive(Debug, Drop)]
 pub struct ToWrite<W> {
     writer: W,

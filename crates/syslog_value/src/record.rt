@@ -56,7 +56,7 @@ impl Record {
           message = message;
         } }
     {
-        // Each part is valid by its type, and a look at it tells so.
+        // Each part is valid by its type, and a look at it reports so.
         let _ = priority.value();
         look_at_instant(&instant);
         look_at_word(&hostname);

@@ -19,7 +19,7 @@ pub enum Severity {
 }
 
 impl Severity {
-    /// Every severity, at the place of its code.
+    /// Every severity, at the offset of its code.
     pub const ALL: [Severity; 8] = [
         Severity::Emergency,
         Severity::Alert,
@@ -36,9 +36,9 @@ impl Severity {
         ensures valid { IsSome result ↔ (code ≤ 7) }
         ensures value { IfSome result (λ severity. severity_code severity ≡ code) }
     {
-        let place = usize::from(code);
-        if place < Severity::ALL.len() {
-            Some(Severity::ALL[place])
+        let offset = usize::from(code);
+        if offset < Severity::ALL.len() {
+            Some(Severity::ALL[offset])
         } else {
             None
         }

@@ -74,18 +74,18 @@ impl StructuredData {
         self.elements.as_slice()
     }
 
-    /// Adds an element at its place. It comes back where its id is there, or memory was refused.
+    /// Adds an element at its offset. It comes back where its id is there, or memory was refused.
     pub fn push(&mut self, element: Element) -> Result<(), (Element, PushFault)>
         ensures ok { OnOk result (AddsElement element self.old self.new) }
         ensures err { IfErr result (λ refusal.
             (refusal.0 ≡ element) × IsPushFault self.old element refusal.1
             × (self.new ≡ self.old)) }
     {
-        let place = match place_of(self.elements.as_slice(), element.id()) {
+        let offset = match offset_of(self.elements.as_slice(), element.id()) {
             Ok(_) => return Err((element, PushFault::RepeatedId)),
-            Err(place) => place,
+            Err(offset) => offset,
         };
-        if let Err(refused) = self.elements.insert(place, element) {
+        if let Err(refused) = self.elements.insert(offset, element) {
             return Err((refused.value, PushFault::Memory));
         }
         Ok(())
@@ -130,10 +130,10 @@ impl Eq for StructuredData {
     ghost laws = { decided (pointwise element_eq) elements_decide };
 }
 
-// the element with this id, or the place where one would stand
-fn place_of(elements: &[Element], id: &SdName) -> Result<usize, usize>
+// the element with this id, or the offset where one would stand
+fn offset_of(elements: &[Element], id: &SdName) -> Result<usize, usize>
     ensures bound { IsSearchInRange result (length elements.now) }
-    ensures place { IsBinarySearchResult (λ e. slice_cmp nat_cmp e.id id.now) elements.now result }
+    ensures offset { IsBinarySearchResult (λ e. slice_cmp nat_cmp e.id id.now) elements.now result }
 {
     elements.binary_search_by(|element| element.id().bytes().cmp(id.bytes()))
 }
@@ -158,8 +158,8 @@ fn has_equal_neighbours(elements: &[Element]) -> bool
     ensures { MatchBool result (HasEqualNeighbours elements.now)
         (AllAdjacentBelow (λ e f. e.id ≢ f.id) elements.now (length elements.now)) }
 {
-    for place in 1..elements.len() {
-        if elements[place - 1].id() == elements[place].id() {
+    for offset in 1..elements.len() {
+        if elements[offset - 1].id() == elements[offset].id() {
             return true;
         }
     }

@@ -118,9 +118,9 @@ fn first_unprintable(octets: &[u8]) -> Option<usize>
     ensures { MatchOption result (AllByRecursion IsPrintable octets.now)
         (IsFirstBad IsPrintable octets.now) }
 {
-    for (place, octet) in octets.iter().enumerate() {
+    for (offset, octet) in octets.iter().enumerate() {
         if !octet.is_ascii_graphic() {
-            return Some(place);
+            return Some(offset);
         }
     }
     None

@@ -1,4 +1,4 @@
--- Why a stream was not dealt with to its end, and the status of that.
+-- Why a stream was not handled to its end, and the status of that.
 use Rattle.std.proofs.Common.{◌≡◌, ℕ, ◌<◌, ◌^◌, Result, Ok, Err, inl, inr, ◌⊎◌, arith, refl}
 use Rattle.std.specs.Prelude.{IsErrOf, OnOk}
 use Rattle.syslogbox.specs.Scans.{IsCause}

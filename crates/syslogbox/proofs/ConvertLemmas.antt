@@ -8,20 +8,20 @@ use Rattle.syslog_frame.specs.declared.framing.Framing.{Framing}
 use Rattle.syslog_frame.specs.declared.framing.Framing.TheVariants.{Counted, Lf}
 use Rattle.syslog_frame.specs.declared.limits.TheConstants.{FRAME_MAX}
 use Rattle.syslog_value.specs.Parts.{Parts}
-use Rattle.syslog_grammar.specs.Canonical.{Canonical, HeaderForm, front_form}
+use Rattle.syslog_grammar.specs.Canonical.{Canonical, HeaderForm, priority_version_form}
 use Rattle.syslog_grammar.specs.WellFormed.{AddsCanonical}
-use Rattle.syslogbox.specs.Converted.{Carries, Converts, convert_deals, Framed, GoesOut, goes_out, noted_line}
-use Rattle.syslogbox.specs.declared.request.Carrier.{Carrier}
+use Rattle.syslogbox.specs.Converted.{Carries, Converts, convert_handling, Framed, GoesOut, goes_out, noted_line}
+use Rattle.syslogbox.specs.declared.request.InputFraming.{InputFraming}
 use Rattle.syslogbox.specs.declared.request.Request.{Request}
 use Rattle.syslogbox.specs.declared.request.Request.TheVariants.{Check, Convert, Show}
 use Rattle.syslogbox.specs.declared.line.Line.TheVariants.{CanonicalTooLong, HasLf}
-use Rattle.syslogbox.specs.Dealings.{Adds}
-use Rattle.syslogbox.specs.Dealt.{Done, HasOneOutput, then_done}
+use Rattle.syslogbox.specs.Pending.{Adds}
+use Rattle.syslogbox.specs.Handling.{Done, HasOneOutput, then_done}
 use Rattle.std.specs.Prelude.{Result, Ok, Err, OnOk}
-use Rattle.syslog_grammar.proofs.CanonicalSpelled.{canonical_once}
+use Rattle.syslog_grammar.proofs.CanonicalParses.{canonical_once}
 use Rattle.syslog_grammar.proofs.Excluded.{fault_excludes}
 use Rattle.syslog_grammar.proofs.Laws.{one_meaning}
-use Rattle.syslogbox.proofs.DealtLemmas.{adds_output, same_done}
+use Rattle.syslogbox.proofs.HandlingLemmas.{adds_output, same_done}
 
 pub carries : (kind : Framing) (octets : List ℕ) → CanCarry kind octets → Carries kind octets
 carries Counted octets h = tt
@@ -52,19 +52,19 @@ out_framed kind n c s old new same can few e r o =
 
 pub out_line : (kind : Framing) (n : ℕ) (c s : List ℕ) (fault : PutFault) (old new : Done) → s ≡ c → fault ≡ NotLine → IsPutFault FRAME_MAX kind s fault → new ≡ then_done old (noted_line (HasLf n)) → Adds (Framed kind n c) old new
 out_line kind n c s fault old new same is h e =
-    let told : (kind ≡ Lf) × ¬ (IsLine s) = rw is at h in
-    (noted_line (HasLf n), inr (inl (no_line kind c told.0 (λ l. told.1 (subst IsLine (sym same) l)), refl)), e)
+    let reported : (kind ≡ Lf) × ¬ (IsLine s) = rw is at h in
+    (noted_line (HasLf n), inr (inl (no_line kind c reported.0 (λ l. reported.1 (subst IsLine (sym same) l)), refl)), e)
 
 pub out_long : (kind : Framing) (n : ℕ) (c s : List ℕ) (fault : PutFault) (old new : Done) → s ≡ c → fault ≡ Long → IsPutFault FRAME_MAX kind s fault → new ≡ then_done old (noted_line (CanonicalTooLong n)) → Adds (Framed kind n c) old new
 out_long kind n c s fault old new same is h e =
-    let told : IsFit kind s × (FRAME_MAX < length s) = rw is at h in
-    (noted_line (CanonicalTooLong n), inr (inr (fit_carries kind c (subst (IsFit kind) same told.0), subst (λ (x : List ℕ). FRAME_MAX < length x) same told.1, refl)), e)
+    let reported : IsFit kind s × (FRAME_MAX < length s) = rw is at h in
+    (noted_line (CanonicalTooLong n), inr (inr (fit_carries kind c (subst (IsFit kind) same reported.0), subst (λ (x : List ℕ). FRAME_MAX < length x) same reported.1, refl)), e)
 
 -- canonical octets begin with an angle bracket
 pub some_octets : (b c : List ℕ) → AddsCanonical b [] c → 0 < length c
 unfolding HeaderForm
-some_octets b c (r, h, (text, (x, y, e, (front, behind, f, g, w), t), whole)) =
-    let all : c ≡ (front_form r.priority ++ behind) ++ y = whole ∙ e ∙ ap (λ (s : List ℕ). s ++ y) (f ∙ ap (λ (s : List ℕ). s ++ behind) g) in
+some_octets b c (r, h, (text, (x, y, e, (prefix, behind, f, g, w), t), whole)) =
+    let all : c ≡ (priority_version_form r.priority ++ behind) ++ y = whole ∙ e ∙ ap (λ (s : List ℕ). s ++ y) (f ∙ ap (λ (s : List ℕ). s ++ behind) g) in
     rw all (omega arith)
 
 -- what is added behind what was done, which stands elsewhere
@@ -99,7 +99,7 @@ converts_output to n f a b (r, h, c, k, out) (r', h', c', k', out') =
     let octets : c ≡ c' = canonical_once r' c c' (subst (λ (x : Parts ℤ). Canonical x c) same k) k' in
     out_output to n c' a b (subst (λ (x : List ℕ). GoesOut to n x a) octets out) out'
 
-pub convert_output : (to : Option Framing) → HasOneOutput (convert_deals to)
+pub convert_output : (to : Option Framing) → HasOneOutput (convert_handling to)
 convert_output to n f a b (inl (long, e)) (inl (long', g)) = ap (λ (d : Done). d.output) (e ∙ sym g)
 convert_output to n f a b (inl (long, e)) (inr (inl (few, w))) = absurd (omega (arith, few, long))
 convert_output to n f a b (inl (long, e)) (inr (inr (few, fault, bad, g))) = absurd (omega (arith, few, long))
@@ -112,18 +112,18 @@ convert_output to n f a b (inr (inr (few, fault, bad, e))) (inr (inr (few', faul
 
 -- ---- what the words ask for
 
-carrier_in_request : Carrier → Request → Carrier
-carrier_in_request d (Check c) = d
-carrier_in_request d (Show c) = d
-carrier_in_request d (Convert c to) = c
+input_framing_in_request : InputFraming → Request → InputFraming
+input_framing_in_request d (Check c) = d
+input_framing_in_request d (Show c) = d
+input_framing_in_request d (Convert c to) = c
 
 to_in_request : Option Framing → Request → Option Framing
 to_in_request d (Check c) = d
 to_in_request d (Show c) = d
 to_in_request d (Convert c to) = to
 
-pub same_request : (c d : Carrier) (to into : Option Framing) (asked : Request) (parses : Option Request) → asked ≡ Convert c to → parses ≡ Some asked → parses ≡ Some (Convert d into) → (c ≡ d) × (to ≡ into)
-unfolding carrier_in_request to_in_request
+pub same_request : (c d : InputFraming) (to into : Option Framing) (asked : Request) (parses : Option Request) → asked ≡ Convert c to → parses ≡ Some asked → parses ≡ Some (Convert d into) → (c ≡ d) × (to ≡ into)
+unfolding input_framing_in_request to_in_request
 same_request c d to into asked parses e f g =
     let same : Convert c to ≡ Convert d into = cc in
-    (ap (carrier_in_request d) same, ap (to_in_request into) same)
+    (ap (input_framing_in_request d) same, ap (to_in_request into) same)

@@ -1,7 +1,7 @@
 pub mod AnswerLemmas
 pub mod CauseLemmas
 pub mod ConvertLemmas
-pub mod DealtLemmas
+pub mod HandlingLemmas
 pub mod LineLemmas
 pub mod ScanLemmas
 pub mod ShowLemmas

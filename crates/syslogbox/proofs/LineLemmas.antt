@@ -1,4 +1,4 @@
--- What a parse by `line_app` tells of `parsed`.
+-- What a parse by `line_app` reports of `parsed`.
 use Rattle.std.proofs.Common.{◌≡◌, inl, inr, ◌∙◌, sym, ap, ap₂, refl, true, List, [], ◌∷◌, Option, None, option_and_then}
 use Rattle.clap.specs.Walk.{Text, Row}
 use Rattle.clap.specs.Values.{kind_of}
@@ -9,7 +9,7 @@ use Rattle.clap.specs.declared.error.Error.{Error}
 use Rattle.clap.specs.declared.error.kind.ErrorKind.TheVariants.{OutOfMemory}
 use Rattle.clap.specs.declared.parser.matches.ArgMatches.{ArgMatches}
 use Rattle.clap.proofs.OnLiterals.{clap_on_literals}
-use Rattle.syslogbox.specs.Line.{line_app}
+use Rattle.syslogbox.specs.CommandLine.{line_app}
 use Rattle.syslogbox.specs.Requests.{parsed, read_of, request_of}
 
 line_is_simple : is_simple line_app ≡ true

@@ -9,8 +9,8 @@ use Rattle.syslog_grammar.specs.Canonical.{Canonical}
 use Rattle.syslog_grammar.specs.Faults.{FaultOf}
 use Rattle.syslog_grammar.specs.WellFormed.{WellFormed}
 use Rattle.syslog_grammar.specs.declared.fault.Fault.{Fault}
-use Rattle.syslogbox.specs.Dealt.{Deals, Done}
-use Rattle.syslogbox.specs.Lines.{line_text}
+use Rattle.syslogbox.specs.Handling.{Handling, Done}
+use Rattle.syslogbox.specs.Line.{line_text}
 use Rattle.syslogbox.specs.declared.line.Line.{Line}
 use Rattle.syslogbox.specs.declared.line.Line.TheVariants.{CanonicalTooLong, HasLf, Refused, TooLong}
 
@@ -44,8 +44,8 @@ abbrev pub Converts : Option Framing → ℕ → List ℕ → Done → Type 0
 Converts to n f d = (r : Parts ℤ) × WellFormed r f × (c : List ℕ) × Canonical r c × GoesOut to n c d
 
 -- a frame is too long, or no record for this fault, or its canonical octets go out
-abbrev pub convert_deals : Option Framing → Deals
-convert_deals to n f d =
+abbrev pub convert_handling : Option Framing → Handling
+convert_handling to n f d =
     ((FRAME_MAX < length f) × (d ≡ noted_line (TooLong n)))
     ⊎ (((length f ≤ FRAME_MAX) × Converts to n f d)
     ⊎ ((length f ≤ FRAME_MAX) × (fault : Fault) × FaultOf f fault × (d ≡ noted_line (Refused n fault))))

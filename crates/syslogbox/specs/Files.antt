@@ -1,4 +1,4 @@
--- Files by their names, where what they hold is told.
+-- Files by their names, where what they hold is reported.
 use Rattle.std.specs.Prelude.{◌≡◌, ℕ, List, Option, None, MatchOption, IsSome}
 
 -- a name has a reader exactly where octets are stored under it, and the reader has just these left

@@ -1,10 +1,10 @@
 pub mod Checked
 pub mod Converted
-pub mod Dealings
-pub mod Dealt
+pub mod Pending
+pub mod Handling
 pub mod Files
+pub mod CommandLine
 pub mod Line
-pub mod Lines
 pub mod Memory
 pub mod Requests
 pub mod Scans

@@ -1,29 +1,34 @@
--- The command line: the subcommands, their options and positionals.
-use Rattle.std.specs.Prelude.{[], ◌∷◌, Some, true, codes}
-use Rattle.clap.specs.Walk.{Rule, Text}
-use Rattle.clap.specs.Simple.{App, new_app, new_rule, on_top, with_rule, with_subcommand}
+-- The lines that are printed.
+use Rattle.std.specs.Prelude.{ℕ, List, ◌++◌, codes, decimal}
+use Rattle.syslog_grammar.specs.declared.fault.Fault.{Fault}
+use Rattle.syslog_grammar.specs.declared.fault.Fault.TheVariants.{Syntax, InstantRange, RepeatedId}
+use Rattle.syslog_grammar.specs.declared.fault.Field.{Field}
+use Rattle.syslog_grammar.specs.declared.fault.Field.TheVariants as field
+use Rattle.syslogbox.specs.declared.line.Line.{Line}
+use Rattle.syslogbox.specs.declared.line.Line.TheVariants.{Accepted, Refused, TooLong, BadCount, HasLf, CanonicalTooLong, Unterminated}
 
--- an option that takes a value
-abbrev pub option_rule : Text → Rule
-option_rule id = record (new_rule id) { long = Some id }
+abbrev pub field_name : Field → List ℕ
+field_name field.Priority = codes "priority"
+field_name field.Version = codes "version"
+field_name field.Timestamp = codes "timestamp"
+field_name field.Hostname = codes "hostname"
+field_name field.AppName = codes "app-name"
+field_name field.ProcId = codes "procid"
+field_name field.MsgId = codes "msgid"
+field_name field.StructuredData = codes "structured-data"
+field_name field.Message = codes "message"
 
--- an option with a value where it is not given
-abbrev pub default_rule : Text → Text → Rule
-default_rule id value = record (option_rule id) { defaults = value ∷ [] }
+-- a fault, with its offset
+abbrev pub fault_text : Fault → List ℕ
+fault_text (Syntax f at) = codes "syntax " ++ field_name f ++ codes " " ++ decimal at
+fault_text (InstantRange at) = codes "instant-range " ++ decimal at
+fault_text (RepeatedId at) = codes "repeated-id " ++ decimal at
 
--- a command that reads records
-abbrev pub input_app : Text → App
-input_app name = with_rule (new_app name) (default_rule (codes "framing") (codes "datagram"))
-
--- the command that reads records and writes them
-abbrev pub convert_app : App
-convert_app = with_rule (input_app (codes "convert")) (option_rule (codes "to"))
-
--- the words lack the program's name, and one subcommand is wanted
-abbrev pub empty_app : App
-empty_app = on_top (λ s. record s { no_binary_name = true; subcommand_required = true }) (new_app (codes "syslogbox"))
-
-abbrev pub line_app : App
-line_app =
-    with_subcommand (with_subcommand (with_subcommand empty_app (input_app (codes "show")).top)
-    (input_app (codes "check")).top) convert_app.top
+abbrev pub line_text : Line → List ℕ
+line_text (Accepted n) = decimal n ++ codes " ok\n"
+line_text (Refused n fault) = decimal n ++ codes " " ++ fault_text fault ++ codes "\n"
+line_text (TooLong n) = decimal n ++ codes " too-long\n"
+line_text (BadCount n at) = decimal n ++ codes " bad-count " ++ decimal at ++ codes "\n"
+line_text (HasLf n) = decimal n ++ codes " has-lf\n"
+line_text (CanonicalTooLong n) = decimal n ++ codes " canonical-too-long\n"
+line_text (Unterminated start) = codes "unterminated " ++ decimal start ++ codes "\n"

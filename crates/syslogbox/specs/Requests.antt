@@ -7,9 +7,9 @@ use Rattle.clap.specs.Faults.{fault_of}
 use Rattle.clap.specs.Kinds.{Kinds}
 use Rattle.syslog_frame.specs.declared.framing.Framing.{Framing}
 use Rattle.syslog_frame.specs.declared.framing.Framing.TheVariants.{Counted, Lf}
-use Rattle.syslogbox.specs.Line.{line_app}
-use Rattle.syslogbox.specs.declared.request.Carrier.{Carrier}
-use Rattle.syslogbox.specs.declared.request.Carrier.TheVariants.{Datagram, Stream}
+use Rattle.syslogbox.specs.CommandLine.{line_app}
+use Rattle.syslogbox.specs.declared.request.InputFraming.{InputFraming}
+use Rattle.syslogbox.specs.declared.request.InputFraming.TheVariants.{Datagram, Stream}
 use Rattle.syslogbox.specs.declared.request.Request.{Request}
 use Rattle.syslogbox.specs.declared.request.Request.TheVariants.{Check, Convert, Show}
 use Rattle.syslogbox.specs.declared.words.WordsFault.{WordsFault}
@@ -20,32 +20,32 @@ abbrev pub framing_of : Text → Option Framing
 framing_of name = if bytes_eq name (codes "counted") then Some Counted else (if bytes_eq name (codes "lf") then Some Lf else None)
 
 -- how records stand in an input, by its name
-abbrev pub carrier_of : Text → Option Carrier
-carrier_of name = if bytes_eq name (codes "datagram") then Some Datagram else option_map Stream (framing_of name)
+abbrev pub input_framing_of : Text → Option InputFraming
+input_framing_of name = if bytes_eq name (codes "datagram") then Some Datagram else option_map Stream (framing_of name)
 
 -- the value of `--framing`
-abbrev pub carrier_in : List Row → Option Carrier
-carrier_in rows = option_and_then carrier_of (first_of (codes "framing") rows)
+abbrev pub input_framing_in : List Row → Option InputFraming
+input_framing_in rows = option_and_then input_framing_of (first_of (codes "framing") rows)
 
 abbrev pub read_check : List Row → Option Request
-read_check rows = option_map (λ carrier. Check carrier) (carrier_in rows)
+read_check rows = option_map (λ input_framing. Check input_framing) (input_framing_in rows)
 
 abbrev pub read_show : List Row → Option Request
-read_show rows = option_map (λ carrier. Show carrier) (carrier_in rows)
+read_show rows = option_map (λ input_framing. Show input_framing) (input_framing_in rows)
 
 -- the framing in which records come
-abbrev pub own_framing : Carrier → Option Framing
+abbrev pub own_framing : InputFraming → Option Framing
 own_framing Datagram = None
 own_framing (Stream kind) = Some kind
 
 -- the framing of what goes out, by the value of `--to`: without it, that of what comes
-abbrev pub to_of : Carrier → Option Text → Option (Option Framing)
-to_of carrier None = Some (own_framing carrier)
-to_of carrier (Some name) = option_map (λ kind. Some kind) (framing_of name)
+abbrev pub to_of : InputFraming → Option Text → Option (Option Framing)
+to_of input_framing None = Some (own_framing input_framing)
+to_of input_framing (Some name) = option_map (λ kind. Some kind) (framing_of name)
 
 abbrev pub read_convert : List Row → Option Request
 read_convert rows =
-    option_and_then (λ carrier. option_map (λ to. Convert carrier to) (to_of carrier (first_of (codes "to") rows))) (carrier_in rows)
+    option_and_then (λ input_framing. option_map (λ to. Convert input_framing to) (to_of input_framing (first_of (codes "to") rows))) (input_framing_in rows)
 
 -- what a subcommand with its values asks for
 abbrev pub read_of : Text × List Row → Option Request
@@ -63,7 +63,7 @@ request_of (kind ∷ kinds) rows = None
 unfoldable pub parsed : List Text → Option Request
 parsed words = request_of (fault_of line_app words) (subcommand_of line_app words)
 
--- the fault tells of the words, and not of memory
+-- the fault reports of the words, and not of memory
 abbrev pub IsUsage : WordsFault → Type 0
 IsUsage (Usage text) = ⊤
 IsUsage Memory = ⊥

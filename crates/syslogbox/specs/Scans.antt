@@ -1,4 +1,4 @@
--- Why a stream was not dealt with to its end.
+-- Why a stream was not handled to its end.
 use Rattle.std.specs.Prelude.{Result, Ok, Err, ⊤}
 use Rattle.syslogbox.specs.declared.scan.Stopped.{Stopped}
 use Rattle.syslogbox.specs.declared.scan.Stopped.TheVariants.{Read, Endless, Write, Notes, Memory}

@@ -13,7 +13,7 @@ use Rattle.syslog_grammar.specs.Faults.{FaultOf}
 use Rattle.syslog_grammar.specs.WellFormed.{WellFormed}
 use Rattle.syslog_grammar.specs.declared.fault.Fault.{Fault}
 use Rattle.syslogbox.specs.Converted.{goes_out, noted_line}
-use Rattle.syslogbox.specs.Dealt.{Deals}
+use Rattle.syslogbox.specs.Handling.{Handling}
 use Rattle.syslogbox.specs.declared.line.Line.TheVariants.{Refused, TooLong}
 
 -- a lower-case hexadecimal digit
@@ -21,15 +21,15 @@ abbrev pub hex_digit : ℕ → ℕ
 hex_digit d = if nat_lt d 10 then 48 + d else 87 + d
 
 -- printable octets of ASCII and the space, but for the quotation mark and the backslash
-abbrev pub is_shown_bare : ℕ → Bool
-is_shown_bare x = nat_le 32 x && nat_le x 126 && not (x == 34) && not (x == 92)
+abbrev pub is_unescaped : ℕ → Bool
+is_unescaped x = nat_le 32 x && nat_le x 126 && not (x == 34) && not (x == 92)
 
 -- such an octet as itself, every other as `\x` and two hexadecimal digits
-abbrev pub octet_shown : ℕ → List ℕ
-octet_shown x = if is_shown_bare x then x ∷ [] else 92 ∷ 120 ∷ hex_digit (x / 16) ∷ hex_digit (x % 16) ∷ []
+abbrev pub hex_escaped_octet : ℕ → List ℕ
+hex_escaped_octet x = if is_unescaped x then x ∷ [] else 92 ∷ 120 ∷ hex_digit (x / 16) ∷ hex_digit (x % 16) ∷ []
 
-abbrev pub octets_shown : List ℕ → List ℕ
-octets_shown octets = flat_map octet_shown octets
+abbrev pub hex_escaped : List ℕ → List ℕ
+hex_escaped octets = flat_map hex_escaped_octet octets
 
 -- a name, a space, a text and a line feed
 abbrev pub line_of : List ℕ → List ℕ → List ℕ
@@ -37,7 +37,7 @@ line_of name text = name ++ 32 ∷ text ++ 10 ∷ []
 
 -- a name, a space, shown octets between quotation marks and a line feed
 abbrev pub quoted_line : List ℕ → List ℕ → List ℕ
-quoted_line name octets = name ++ 32 ∷ 34 ∷ octets_shown octets ++ 34 ∷ 10 ∷ []
+quoted_line name octets = name ++ 32 ∷ 34 ∷ hex_escaped octets ++ 34 ∷ 10 ∷ []
 
 abbrev pub param_lines : ParamParts → List ℕ
 param_lines p = quoted_line (codes "param " ++ p.name) p.value
@@ -77,8 +77,8 @@ RecordLines n r =
     ⋅ Only (flat_map element_lines r.elements) ⋅ Only (message_line r.message)
 
 -- a frame is too long, or a record that is shown, or no record for this fault
-abbrev pub show_deals : Deals
-show_deals n f d =
+abbrev pub show_handling : Handling
+show_handling n f d =
     ((FRAME_MAX < length f) × (d ≡ noted_line (TooLong n)))
     ⊎ (((length f ≤ FRAME_MAX) × (r : Parts ℤ) × WellFormed r f × (b : List ℕ) × RecordLines n r b × (d ≡ goes_out b))
     ⊎ ((length f ≤ FRAME_MAX) × (fault : Fault) × FaultOf f fault × (d ≡ noted_line (Refused n fault))))

@@ -1,4 +1,4 @@
--- What comes of a stream whose frames are dealt with in order.
+-- What comes of a stream whose frames are handled in order.
 use Rattle.std.specs.Prelude.{◌≡◌, ℕ, ◌+◌, ◌<◌, List, [], ◌++◌, length, false, ◌⊎◌, Option, Some, None, IfSome, take, if◌then◌else◌}
 use Rattle.std.specs.List.{AllByRecursion, flat_map}
 use Rattle.std.specs.Io.KnownBytes.{Appends, Consumes}
@@ -8,90 +8,90 @@ use Rattle.syslog_frame.specs.Reads.{Reads}
 use Rattle.syslog_frame.specs.Scan.{Scan, HasBadCount, HasFrame, IsFailed, IsReading}
 use Rattle.syslog_frame.specs.declared.framing.Framing.{Framing}
 use Rattle.syslog_frame.specs.declared.limits.TheConstants.{FRAME_MAX}
-use Rattle.syslogbox.specs.Dealings.{Adds}
-use Rattle.syslogbox.specs.Dealt.{Deals, DealtFrom, Done, nothing, then_done}
+use Rattle.syslogbox.specs.Pending.{Adds}
+use Rattle.syslogbox.specs.Handling.{Handling, HandledFrom, Done, nothing, then_done}
 use Rattle.syslogbox.specs.declared.line.Line.{Line}
 use Rattle.syslogbox.specs.declared.line.Line.TheVariants.{BadCount, Unterminated}
-use Rattle.syslogbox.specs.declared.request.Carrier.{Carrier}
-use Rattle.syslogbox.specs.declared.request.Carrier.TheVariants.{Datagram, Stream}
+use Rattle.syslogbox.specs.declared.request.InputFraming.{InputFraming}
+use Rattle.syslogbox.specs.declared.request.InputFraming.TheVariants.{Datagram, Stream}
 use Rattle.syslogbox.specs.declared.stream.Step.{Step}
-use Rattle.syslogbox.specs.declared.stream.Step.TheVariants.{Nothing, Bad, Dealt}
+use Rattle.syslogbox.specs.declared.stream.Step.TheVariants.{Nothing, Bad, Handled}
 
--- what is told of a stream's end: nothing behind its last frame; where an unfinished frame begins; or where a count went bad, with the number that its frame would have
-abbrev pub TellsEnd : (Line → Done) → Framing → List ℕ → List (List ℕ) → List ℕ → Done → Type 0
-TellsEnd T kind stream frames rest d =
+-- what is reported of a stream's end: nothing behind its last frame; where an unfinished frame begins; or where a count went bad, with the number that its frame would have
+abbrev pub ReportsEnd : (Line → Done) → Framing → List ℕ → List (List ℕ) → List ℕ → Done → Type 0
+ReportsEnd T kind stream frames rest d =
     ((rest ≡ []) × (d ≡ nothing))
     ⊎ (((start : ℕ) × (0 < length rest) × Begins (Whole kind) rest × (start + length rest ≡ length stream) × (d ≡ T (Unterminated start)))
     ⊎ ((at : ℕ) × IsBadAt kind stream frames rest at × (d ≡ T (BadCount (length frames + 1) at))))
 
 -- what comes of a stream: of its frames in order, numbered from 1, and then of its end
-pub record StreamDone (D : Deals) (T : Line → Done) (kind : Framing) (stream : List ℕ) (d : Done) : Type 0 where
+pub record StreamDone (D : Handling) (T : Line → Done) (kind : Framing) (stream : List ℕ) (d : Done) : Type 0 where
   pub frames : List (List ℕ)
   pub rest : List ℕ
   pub of_frames : Done
   pub of_end : Done
   pub frames_are : Frames kind stream frames rest
-  pub dealt : DealtFrom D 1 frames of_frames
-  pub told : TellsEnd T kind stream frames rest of_end
+  pub handled : HandledFrom D 1 frames of_frames
+  pub reported : ReportsEnd T kind stream frames rest of_end
   pub whole : d ≡ then_done of_frames of_end
 
 -- octets and lines that were written
 abbrev pub written_out : List ℕ → List ℕ → Done
 written_out output notes = record { refused = false; output = output; notes = notes }
 
--- the scanner read these octets, and the frames that it released were dealt with; the next has this number
-pub record HasDealt (D : Deals) (s : Scan) (kind : Framing) (octets : List ℕ) (number : ℕ) (total : Done) : Type 0 where
+-- the scanner read these octets, and the frames that it released were handled; the next has this number
+pub record HasHandled (D : Handling) (s : Scan) (kind : Framing) (octets : List ℕ) (number : ℕ) (total : Done) : Type 0 where
   pub frames : List (List ℕ)
   pub rest : List ℕ
   pub reads : Reads FRAME_MAX s kind 0 octets frames rest
-  pub dealt : DealtFrom D 1 frames total
+  pub handled : HandledFrom D 1 frames total
   pub number_is : number ≡ length frames + 1
 
--- the stream is bad at a place, and all frames before it were dealt with
-pub record HasBad (D : Deals) (kind : Framing) (stream : List ℕ) (number : ℕ) (total : Done) (at : ℕ) : Type 0 where
+-- the stream is bad at an offset, and all frames before it were handled
+pub record HasBad (D : Handling) (kind : Framing) (stream : List ℕ) (number : ℕ) (total : Done) (at : ℕ) : Type 0 where
   pub frames : List (List ℕ)
   pub rest : List ℕ
   pub bad : IsBadAt kind stream frames rest at
-  pub dealt : DealtFrom D 1 frames total
+  pub handled : HandledFrom D 1 frames total
   pub number_is : number ≡ length frames + 1
 
--- some frames at the front of the stream were dealt with
-pub record HasPart (D : Deals) (kind : Framing) (stream : List ℕ) (total : Done) : Type 0 where
+-- some frames at the prefix of the stream were handled
+pub record HasPart (D : Handling) (kind : Framing) (stream : List ℕ) (total : Done) : Type 0 where
   pub frames : List (List ℕ)
   pub rest : List ℕ
   pub whole : stream ≡ flat_map (framed kind) frames ++ rest
   pub each : AllByRecursion (CanCarry kind) frames
-  pub dealt : DealtFrom D 1 frames total
+  pub handled : HandledFrom D 1 frames total
 
 -- what a step does where the scanner read these octets and stands at the rest
-abbrev pub DealsStep : Deals → ℕ → Framing → List ℕ → List ℕ → Done → Done → Step → Type 0
-DealsStep D number kind octets rest old new Nothing = new ≡ old
-DealsStep D number kind octets rest old new (Bad at) = (new ≡ old) × (at ≡ length octets)
-DealsStep D number kind octets rest old new Dealt = (f : List ℕ) × Frame kind f rest × Adds (D number f) old new
+abbrev pub HandlesStep : Handling → ℕ → Framing → List ℕ → List ℕ → Done → Done → Step → Type 0
+HandlesStep D number kind octets rest old new Nothing = new ≡ old
+HandlesStep D number kind octets rest old new (Bad at) = (new ≡ old) × (at ≡ length octets)
+HandlesStep D number kind octets rest old new Handled = (f : List ℕ) × Frame kind f rest × Adds (D number f) old new
 
--- what a step tells of the scanner
-abbrev pub StepTells : Scan → Step → Type 0
-StepTells s Nothing = IsReading s ⊎ IsFailed s
-StepTells s (Bad at) = HasBadCount s
-StepTells s Dealt = HasFrame s
+-- what a step reports of the scanner
+abbrev pub StepImplies : Scan → Step → Type 0
+StepImplies s Nothing = IsReading s ⊎ IsFailed s
+StepImplies s (Bad at) = HasBadCount s
+StepImplies s Handled = HasFrame s
 
--- a piece goes on what was dealt with; or the stream is bad at this place, however it goes on
-abbrev pub DealsOn : Deals → Scan → Framing → List ℕ → ℕ → Done → Option ℕ → Type 0
-DealsOn D s kind octets number total None = HasDealt D s kind octets number total
-DealsOn D s kind octets number total (Some at) = (more : List ℕ) → HasBad D kind (octets ++ more) number total at
+-- a piece goes on what was handled; or the stream is bad at this offset, however it goes on
+abbrev pub HandlesOn : Handling → Scan → Framing → List ℕ → ℕ → Done → Option ℕ → Type 0
+HandlesOn D s kind octets number total None = HasHandled D s kind octets number total
+HandlesOn D s kind octets number total (Some at) = (more : List ℕ) → HasBad D kind (octets ++ more) number total at
 
 -- a stream was read to its end or up to a bad count, and what comes of it was written, but for what is left to write
-pub record IsAnswered (D : Deals) (T : Line → Done) (kind : Framing) (input : List ℕ) (taken_old taken_new notes_old notes_new : Option (List ℕ)) (left : Done) : Type 0 where
+pub record IsAnswered (D : Handling) (T : Line → Done) (kind : Framing) (input : List ℕ) (taken_old taken_new notes_old notes_new : Option (List ℕ)) (left : Done) : Type 0 where
   pub all : Done
   pub output : List ℕ
   pub notes : List ℕ
   pub is_all : StreamDone D T kind input all
   pub taken : Appends taken_old taken_new output
-  pub told : Appends notes_old notes_new notes
+  pub reported : Appends notes_old notes_new notes
   pub whole : all ≡ then_done (written_out output notes) left
 
--- some of what comes of the stream was written: a front of it together with what is left to write
-pub record IsBegun (D : Deals) (kind : Framing) (input : List ℕ) (taken_old taken_new : Option (List ℕ)) (left : List ℕ) : Type 0 where
+-- some of what comes of the stream was written: a prefix of it together with what is left to write
+pub record IsBegun (D : Handling) (kind : Framing) (input : List ℕ) (taken_old taken_new : Option (List ℕ)) (left : List ℕ) : Type 0 where
   pub total : Done
   pub part : HasPart D kind input total
   pub output : List ℕ
@@ -99,22 +99,22 @@ pub record IsBegun (D : Deals) (kind : Framing) (input : List ℕ) (taken_old ta
   pub taken : Appends taken_old taken_new output
   pub begins : total.output ≡ (output ++ left) ++ behind
 
--- a device gave these octets of a stream, whose whole frames were dealt with; what comes of them was written, but for what is left to write
-pub record IsStreaming (D : Deals) (kind : Framing) (s : Scan) (number : ℕ) (left_old left_new taken_old taken_new notes_old notes_new : Option (List ℕ)) (left : Done) : Type 0 where
+-- a device gave these octets of a stream, whose whole frames were handled; what comes of them was written, but for what is left to write
+pub record IsStreaming (D : Handling) (kind : Framing) (s : Scan) (number : ℕ) (left_old left_new taken_old taken_new notes_old notes_new : Option (List ℕ)) (left : Done) : Type 0 where
   pub given : List ℕ
   pub output : List ℕ
   pub notes : List ℕ
   pub consumed : Consumes left_old left_new given
   pub taken : Appends taken_old taken_new output
-  pub told : Appends notes_old notes_new notes
-  pub dealt : HasDealt D s kind given number (then_done (written_out output notes) left)
+  pub reported : Appends notes_old notes_new notes
+  pub handled : HasHandled D s kind given number (then_done (written_out output notes) left)
 
 -- some of what was left to write was written
 pub record Moves (taken_old taken_new notes_old notes_new : Option (List ℕ)) (old new : Done) : Type 0 where
   pub output : List ℕ
   pub notes : List ℕ
   pub taken : Appends taken_old taken_new output
-  pub told : Appends notes_old notes_new notes
+  pub reported : Appends notes_old notes_new notes
   pub whole : old ≡ then_done (written_out output notes) new
 
 -- the status of what was done
@@ -127,12 +127,12 @@ AnswersWith A left status taken_old taken_new notes_old notes_new =
     IfSome left (λ input. (d : Done) × A input d × (status ≡ status_of d)
     × Appends taken_old taken_new d.output × Appends notes_old notes_new d.notes)
 
--- a front of the output that comes of the input was written
-abbrev pub WritesFrontOf : (List ℕ → Done → Type 0) → Option (List ℕ) → Option (List ℕ) → Option (List ℕ) → Type 0
-WritesFrontOf A left taken_old taken_new =
+-- a prefix of the output that comes of the input was written
+abbrev pub WritesPrefixOf : (List ℕ → Done → Type 0) → Option (List ℕ) → Option (List ℕ) → Option (List ℕ) → Type 0
+WritesPrefixOf A left taken_old taken_new =
     IfSome left (λ input. (d : Done) → A input d → (n : ℕ) × Appends taken_old taken_new (take n d.output))
 
 -- what comes of an input: of the one frame that it is, or of the frames of the stream
-abbrev pub InputDone : Deals → (Line → Done) → Carrier → List ℕ → Done → Type 0
+abbrev pub InputDone : Handling → (Line → Done) → InputFraming → List ℕ → Done → Type 0
 InputDone D T Datagram input d = D 1 input d
 InputDone D T (Stream kind) input d = StreamDone D T kind input d

@@ -2,13 +2,13 @@
 
 ghost use Rattle.std.specs.Prelude.{◌≡◌, OnErr, OnOk};
 ghost use Rattle.syslogbox.specs.Checked.{refused_line};
-ghost use Rattle.syslogbox.specs.Dealings.{done_of};
-ghost use Rattle.syslogbox.specs.Dealt.{then_done};
+ghost use Rattle.syslogbox.specs.Pending.{done_of};
+ghost use Rattle.syslogbox.specs.Handling.{then_done};
 ghost use Rattle.syslogbox.specs.declared.line.Line.{Line};
 
-use crate::dealer::Dealer;
-use crate::dealings::Dealings;
+use crate::frame_handler::FrameHandler;
 use crate::line::{Line, put_line};
+use crate::pending::PendingOutput;
 use std::alloc::AllocError;
 use syslog_frame::FRAME_MAX;
 use syslog_grammar::view;
@@ -17,8 +17,8 @@ use syslog_grammar::view;
 #[derive(Clone, Copy, Debug)]
 pub struct Check;
 
-// Tells a refusal on the output.
-fn refuse(line: Line, done: &mut Dealings) -> Result<(), AllocError>
+// Reports a refusal on the output.
+fn refuse(line: Line, done: &mut PendingOutput) -> Result<(), AllocError>
     ensures ok { OnOk result (done_of done.new ≡ then_done (done_of done.old) (refused_line line)) }
     ensures err { OnErr result (done_of done.new ≡ done_of done.old) }
 {
@@ -27,15 +27,20 @@ fn refuse(line: Line, done: &mut Dealings) -> Result<(), AllocError>
     Ok(())
 }
 
-impl Dealer for Check {
+impl FrameHandler for Check {
     ghost use Rattle.std.proofs.Common.{inl, refl};
-    ghost use Rattle.syslogbox.specs.Checked.{check_deals};
+    ghost use Rattle.syslogbox.specs.Checked.{check_handling};
 
-    ghost deals = { λ _. check_deals };
+    ghost handles = { λ _. check_handling };
 
-    ghost tells = { λ _. refused_line };
+    ghost reports = { λ _. refused_line };
 
-    fn deal(&self, number: u64, frame: &[u8], done: &mut Dealings) -> Result<(), AllocError> {
+    fn on_frame(
+        &self,
+        number: u64,
+        frame: &[u8],
+        done: &mut PendingOutput,
+    ) -> Result<(), AllocError> {
         if frame.len() > FRAME_MAX {
             return refuse(Line::TooLong { number }, done);
         }
@@ -45,7 +50,7 @@ impl Dealer for Check {
         }
     }
 
-    fn tell(&self, line: Line, done: &mut Dealings) -> Result<(), AllocError> {
+    fn report(&self, line: Line, done: &mut PendingOutput) -> Result<(), AllocError> {
         refuse(line, done)
     }
 

@@ -1,14 +1,14 @@
 //! `convert`: the canonical octets of each record.
 
 ghost use Rattle.std.specs.Prelude.{◌≡◌, ◌<◌, List, ℕ, OnErr, OnOk, Some, length};
-ghost use Rattle.syslog_grammar.specs.Shown.{IsShown, shown};
+ghost use Rattle.syslog_grammar.specs.ViewParts.{IsViewOf, view_parts};
 ghost use Rattle.syslogbox.specs.Converted.{Converts, Framed, noted_line};
-ghost use Rattle.syslogbox.specs.Dealings.{Adds, done_of};
-ghost use Rattle.syslogbox.specs.Dealt.{then_done};
+ghost use Rattle.syslogbox.specs.Pending.{Adds, done_of};
+ghost use Rattle.syslogbox.specs.Handling.{then_done};
 
-use crate::dealer::Dealer;
-use crate::dealings::Dealings;
+use crate::frame_handler::FrameHandler;
 use crate::line::{Line, put_line};
+use crate::pending::PendingOutput;
 use std::alloc::{AllocError, Global};
 use syslog_frame::{FRAME_MAX, Framing, PutFault, put_frame};
 use syslog_grammar::{RecordView, put_canonical, view};
@@ -22,8 +22,8 @@ pub struct Convert {
     pub to: Option<Framing>,
 }
 
-/// Tells a refusal on the notes.
-pub fn note_line(line: Line, done: &mut Dealings) -> Result<(), AllocError>
+/// Reports a refusal on the notes.
+pub fn note_line(line: Line, done: &mut PendingOutput) -> Result<(), AllocError>
     ensures ok { OnOk result (done_of done.new ≡ then_done (done_of done.old) (noted_line line)) }
     ensures err { OnErr result (done_of done.new ≡ done_of done.old) }
 {
@@ -33,7 +33,7 @@ pub fn note_line(line: Line, done: &mut Dealings) -> Result<(), AllocError>
 }
 
 // Puts the canonical octets that stand in the scratch behind the output, in a framing.
-fn put_framed(framing: Framing, number: u64, done: &mut Dealings) -> Result<(), AllocError>
+fn put_framed(framing: Framing, number: u64, done: &mut PendingOutput) -> Result<(), AllocError>
     requires { 0 < length done.old.scratch.items }
     ensures ok { OnOk result (Adds (Framed framing number done.old.scratch.items)
         (done_of done.old) (done_of done.new)) }
@@ -54,10 +54,10 @@ impl Convert {
         &self,
         number: u64,
         view: &RecordView<'_>,
-        done: &mut Dealings,
+        done: &mut PendingOutput,
     ) -> Result<(), AllocError>
-        requires { (b : List ℕ) × IsShown b (shown view.now) }
-        ensures ok { OnOk result ((b : List ℕ) → IsShown b (shown view.now) →
+        requires { (b : List ℕ) × IsViewOf b (view_parts view.now) }
+        ensures ok { OnOk result ((b : List ℕ) → IsViewOf b (view_parts view.now) →
             Adds (Converts self.now.to number b) (done_of done.old) (done_of done.new)) }
         ensures err { OnErr result (done_of done.new ≡ done_of done.old) }
     {
@@ -70,15 +70,20 @@ impl Convert {
     }
 }
 
-impl Dealer for Convert {
+impl FrameHandler for Convert {
     ghost use Rattle.std.proofs.Common.{inl, refl};
-    ghost use Rattle.syslogbox.specs.Converted.{convert_deals, noted_line};
+    ghost use Rattle.syslogbox.specs.Converted.{convert_handling, noted_line};
 
-    ghost deals = { λ c. convert_deals c.to };
+    ghost handles = { λ c. convert_handling c.to };
 
-    ghost tells = { λ _. noted_line };
+    ghost reports = { λ _. noted_line };
 
-    fn deal(&self, number: u64, frame: &[u8], done: &mut Dealings) -> Result<(), AllocError> {
+    fn on_frame(
+        &self,
+        number: u64,
+        frame: &[u8],
+        done: &mut PendingOutput,
+    ) -> Result<(), AllocError> {
         if frame.len() > FRAME_MAX {
             return note_line(Line::TooLong { number }, done);
         }
@@ -88,7 +93,7 @@ impl Dealer for Convert {
         }
     }
 
-    fn tell(&self, line: Line, done: &mut Dealings) -> Result<(), AllocError> {
+    fn report(&self, line: Line, done: &mut PendingOutput) -> Result<(), AllocError> {
         note_line(line, done)
     }
 

@@ -10,7 +10,7 @@ pub trait Files {
     /// What a file is read by.
     type Reader: Input + Drop;
 
-    // the octets under each name that has a reader, where they are told
+    // the octets under each name that has a reader, where they are reported
     ghost stored: { Self → Option (List ℕ → Option (List ℕ)) };
 
     /// A new reader of what the name stands for, or None where nothing does. Asking changes no file.

@@ -1,7 +1,7 @@
 //! The lines that tell of frames.
 
 ghost use Rattle.std.specs.Prelude.{◌≡◌, ◌++◌, List, ℕ, OnOk, OnErr, decimal};
-ghost use Rattle.syslogbox.specs.Lines.{fault_text, field_name, line_text};
+ghost use Rattle.syslogbox.specs.Line.{fault_text, field_name, line_text};
 
 use itoa::Buffer;
 use std::alloc::AllocError;
@@ -63,7 +63,7 @@ fn name_of(field: Field) -> &'static [u8]
     }
 }
 
-// Appends a fault with its place; where a growth is refused, perhaps a part of it.
+// Appends a fault with its offset; where a growth is refused, perhaps a part of it.
 fn append_fault(out: &mut Vec<u8>, fault: Fault) -> Result<(), AllocError>
     ensures ok { OnOk result (out.new.items ≡ out.old.items ++ fault_text fault) }
     ensures err { (part : List ℕ) × (out.new.items ≡ out.old.items ++ part) }

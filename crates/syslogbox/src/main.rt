@@ -3,13 +3,13 @@
 
 mod check;
 mod convert;
-mod dealer;
-mod dealings;
 mod disk;
 mod files;
+mod frame_handler;
 mod line;
 mod memory;
 mod notes;
+mod pending;
 mod record_lines;
 mod request;
 mod run;

@@ -8,7 +8,7 @@ ghost use Rattle.octet_language.specs.Language.{Only};
 ghost use Rattle.syslog_grammar.specs.Appending.{Adds, Anything, Puts};
 ghost use Rattle.syslog_grammar.specs.Canonical.{word_form};
 ghost use Rattle.syslogbox.specs.Showing.{PriorityLine, RecordLines, TimeLine, element_lines};
-ghost use Rattle.syslogbox.specs.Showing.{hex_digit, line_of, message_line, number_line, octet_shown, octets_shown, param_lines, priority_line, quoted_line, word_lines};
+ghost use Rattle.syslogbox.specs.Showing.{hex_digit, line_of, message_line, number_line, hex_escaped_octet, hex_escaped, param_lines, priority_line, quoted_line, word_lines};
 
 use itoa::Buffer;
 use std::alloc::AllocError;
@@ -52,7 +52,7 @@ fn hex_digit(digit: u8) -> u8
 // Appends an octet as it is shown: printable octets of ASCII but quotation mark and backslash as
 // themselves.
 fn put_octet(octet: u8, out: &mut Vec<u8>) -> Result<(), AllocError>
-    ensures { Puts (Only (octet_shown octet)) out.old.items out.new.items result }
+    ensures { Puts (Only (hex_escaped_octet octet)) out.old.items out.new.items result }
 {
     match octet {
         b'"' | b'\\' => {}
@@ -66,7 +66,7 @@ fn put_octet(octet: u8, out: &mut Vec<u8>) -> Result<(), AllocError>
 }
 
 fn put_octets(octets: &[u8], out: &mut Vec<u8>) -> Result<(), AllocError>
-    ensures { Puts (Only (octets_shown octets.now)) out.old.items out.new.items result }
+    ensures { Puts (Only (hex_escaped octets.now)) out.old.items out.new.items result }
 {
     for octet in octets {
         put_octet(*octet, out)?;

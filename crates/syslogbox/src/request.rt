@@ -4,7 +4,7 @@ use syslog_frame::Framing;
 
 /// How records stand in an input.
 #[derive(Clone, Copy, Debug, PartialEq, Eq)]
-pub enum Carrier {
+pub enum InputFraming {
     /// The whole input is one record (RFC 5426).
     Datagram,
     /// A stream of frames (RFC 6587).
@@ -16,15 +16,15 @@ pub enum Carrier {
 pub enum Request {
     /// `check`: one line a frame.
     Check {
-        carrier: Carrier,
+        input_framing: InputFraming,
     },
     /// `show`: the fields of each record, a line each.
     Show {
-        carrier: Carrier,
+        input_framing: InputFraming,
     },
     /// `convert`: the canonical octets of each record, in a framing or, where there is none, bare.
     Convert {
-        carrier: Carrier,
+        input_framing: InputFraming,
         to: Option<Framing>,
     },
 }

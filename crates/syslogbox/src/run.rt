@@ -2,13 +2,13 @@
 
 ghost use Rattle.std.specs.Prelude.{◌≡◌, ◌≢◌, ◌≤◌, ◌<◌, ◌+◌, ◌^◌, ◌⊎◌, Option, Some, None, map, string_bytes};
 ghost use Rattle.syslog_value.specs.Device.{AreSmall};
-ghost use Rattle.syslogbox.specs.Checked.{check_deals, refused_line};
-ghost use Rattle.syslogbox.specs.Converted.{convert_deals, noted_line};
+ghost use Rattle.syslogbox.specs.Checked.{check_handling, refused_line};
+ghost use Rattle.syslogbox.specs.Converted.{convert_handling, noted_line};
 ghost use Rattle.syslogbox.specs.Requests.{parsed};
-ghost use Rattle.syslogbox.specs.Showing.{show_deals};
-ghost use Rattle.syslogbox.specs.Streams.{AnswersWith, InputDone, WritesFrontOf};
+ghost use Rattle.syslogbox.specs.Showing.{show_handling};
+ghost use Rattle.syslogbox.specs.Streams.{AnswersWith, InputDone, WritesPrefixOf};
 ghost use Rattle.syslog_frame.specs.declared.framing.Framing.{Framing};
-ghost use Rattle.syslogbox.specs.declared.request.Carrier.{Carrier};
+ghost use Rattle.syslogbox.specs.declared.request.InputFraming.{InputFraming};
 
 use crate::check::Check;
 use crate::convert::Convert;
@@ -23,7 +23,7 @@ use std::alloc::Global;
 use syslog_value::{Input, Output, READER_CALLS};
 
 /// Does what the words ask for and answers the exit status: 0 done, 1 something was refused, 2 the
-/// words or a device are at fault, 3 want of memory. The words lack the program's name.
+/// words or a device are at fault, 3 out of memory. The words lack the program's name.
 ///
 /// Records go to `writer`, what went wrong to `notes`. Words that are no command, and a request for
 /// help, print their text on `notes`; their status is 2.
@@ -39,30 +39,30 @@ pub fn run<R: Input, W: Output, N: Output, F: Files>(
 
     // `convert` without a fault of a device and with the memory that it asked for: the canonical
     // octets of each record in the order of the frames, in the framing that was asked for
-    ensures converted { (carrier : Carrier) (to : Option Framing)
-        → parsed (map string_bytes words.now) ≡ Some (Request.Convert carrier to) → result < 2 →
-        AnswersWith (InputDone (convert_deals to) noted_line carrier) (R.left reader.old) result
+    ensures converted { (input_framing : InputFraming) (to : Option Framing)
+        → parsed (map string_bytes words.now) ≡ Some (Request.Convert input_framing to) → result < 2 →
+        AnswersWith (InputDone (convert_handling to) noted_line input_framing) (R.left reader.old) result
         (W.taken writer.old) (W.taken writer.new) (N.taken notes.old) (N.taken notes.new) }
 
     // `check` the same: one line a frame, and one on how a stream stops
-    ensures checked { (carrier : Carrier)
-        → parsed (map string_bytes words.now) ≡ Some (Request.Check carrier) → result < 2 →
-        AnswersWith (InputDone check_deals refused_line carrier) (R.left reader.old) result
+    ensures checked { (input_framing : InputFraming)
+        → parsed (map string_bytes words.now) ≡ Some (Request.Check input_framing) → result < 2 →
+        AnswersWith (InputDone check_handling refused_line input_framing) (R.left reader.old) result
         (W.taken writer.old) (W.taken writer.new) (N.taken notes.old) (N.taken notes.new) }
 
     // `show` the same: the fields of each record, a line each
-    ensures shown { (carrier : Carrier)
-        → parsed (map string_bytes words.now) ≡ Some (Request.Show carrier) → result < 2 →
-        AnswersWith (InputDone show_deals noted_line carrier) (R.left reader.old) result
+    ensures view_parts { (input_framing : InputFraming)
+        → parsed (map string_bytes words.now) ≡ Some (Request.Show input_framing) → result < 2 →
+        AnswersWith (InputDone show_handling noted_line input_framing) (R.left reader.old) result
         (W.taken writer.old) (W.taken writer.new) (N.taken notes.old) (N.taken notes.new) }
 
-    // under every status a front of the right output of `convert` was written
-    ensures front { (carrier : Carrier) (to : Option Framing)
-        → parsed (map string_bytes words.now) ≡ Some (Request.Convert carrier to) →
-        WritesFrontOf (InputDone (convert_deals to) noted_line carrier) (R.left reader.old)
+    // under every status a prefix of the right output of `convert` was written
+    ensures prefix { (input_framing : InputFraming) (to : Option Framing)
+        → parsed (map string_bytes words.now) ≡ Some (Request.Convert input_framing to) →
+        WritesPrefixOf (InputDone (convert_handling to) noted_line input_framing) (R.left reader.old)
         (W.taken writer.old) (W.taken writer.new) }
 
-    // 2 is told with its cause alone
+    // 2 is reported with its cause alone
     ensures cause { parsed (map string_bytes words.now) ≢ None →
         AreSmall (R.calls reader.old) (R.failures reader.old) →
         W.failures writer.old < 2 ^ 63 → N.failures notes.old < 2 ^ 63 → result ≡ FAULT →
@@ -76,21 +76,21 @@ pub fn run<R: Input, W: Output, N: Output, F: Files>(
     ensures usage { parsed (map string_bytes words.now) ≡ None → (2 ≤ result)
         × (W.taken writer.new ≡ W.taken writer.old) × (R.left reader.new ≡ R.left reader.old) }
 
-    // a device that fails is told so
+    // a device that fails is reported so
     ensures failed { N.failures notes.old < N.failures notes.new → result ≡ FAULT }
     ensures read_failed { R.failures reader.old < R.failures reader.new → result ≡ FAULT }
     ensures write_failed { W.failures writer.old < W.failures writer.new → result ≡ FAULT }
 {
     match read_words(alloc, words) {
-        Ok(Request::Check { carrier }) => {
-            scan_input(alloc, carrier, &Check, reader, writer, notes)
+        Ok(Request::Check { input_framing }) => {
+            scan_input(alloc, input_framing, &Check, reader, writer, notes)
         }
-        Ok(Request::Show { carrier }) => {
-            scan_input(alloc, carrier, &Show { alloc }, reader, writer, notes)
+        Ok(Request::Show { input_framing }) => {
+            scan_input(alloc, input_framing, &Show { alloc }, reader, writer, notes)
         }
-        Ok(Request::Convert { carrier, to }) => {
-            let dealer = Convert { alloc, to };
-            scan_input(alloc, carrier, &dealer, reader, writer, notes)
+        Ok(Request::Convert { input_framing, to }) => {
+            let handler = Convert { alloc, to };
+            scan_input(alloc, input_framing, &handler, reader, writer, notes)
         }
         Err(WordsFault::Usage(text)) => note(notes, text.as_bytes(), FAULT),
         Err(WordsFault::Memory) => note(notes, b"want of memory\n", NO_MEMORY),

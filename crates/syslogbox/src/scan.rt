@@ -1,18 +1,18 @@
-//! A stream read from a device and dealt with frame by frame.
+//! A stream read from a device and handled frame by frame.
 
 ghost use Rattle.std.specs.Prelude.{◌≡◌, ◌≤◌, ◌<◌, ◌+◌, ◌^◌, ℕ, List, [], length, take, OnErr, OnOk, IfErr, IfSome, IsErrOf, IsOk, ◌⊎◌, if◌then◌else◌};
 ghost use Rattle.std.specs.Io.KnownBytes.{Appends};
 ghost use Rattle.syslog_value.specs.Device.{AreSmall};
-ghost use Rattle.syslogbox.specs.Dealings.{done_of};
-ghost use Rattle.syslogbox.specs.Dealt.{HasOneOutput, nothing};
+ghost use Rattle.syslogbox.specs.Pending.{done_of};
+ghost use Rattle.syslogbox.specs.Handling.{HasOneOutput, nothing};
 ghost use Rattle.syslogbox.specs.Scans.{IsCause};
-ghost use Rattle.syslogbox.specs.Streams.{AnswersWith, InputDone, IsAnswered, IsBegun, Moves, StreamDone, WritesFrontOf, status_of};
+ghost use Rattle.syslogbox.specs.Streams.{AnswersWith, InputDone, IsAnswered, IsBegun, Moves, StreamDone, WritesPrefixOf, status_of};
 
-use crate::dealer::Dealer;
-use crate::dealings::Dealings;
+use crate::frame_handler::FrameHandler;
 use crate::line::Line;
 use crate::notes::note;
-use crate::request::Carrier;
+use crate::pending::PendingOutput;
+use crate::request::InputFraming;
 use crate::status::{DONE, FAULT, NO_MEMORY, REFUSED};
 use crate::stream::{end_stream, feed};
 use std::alloc::{AllocError, Global};
@@ -25,7 +25,7 @@ const PIECE: usize = 4096;
 // what is held back before it is written, in octets
 const LARGE: usize = 65_536;
 
-/// Why an input was not dealt with to its end.
+/// Why an input was not handled to its end.
 #[derive(Clone, Copy, Debug, PartialEq, Eq)]
 pub enum Stopped {
     /// The reader failed.
@@ -53,7 +53,7 @@ impl From<AllocError> for Stopped {
 
 /// Writes the notes and then the output, and holds nothing back.
 pub fn flush<W: Output, N: Output>(
-    done: &mut Dealings,
+    done: &mut PendingOutput,
     writer: &mut W,
     notes: &mut N,
 ) -> Result<(), Stopped>
@@ -73,9 +73,9 @@ pub fn flush<W: Output, N: Output>(
     ensures quiet_write { W.failures writer.old < W.failures writer.new →
         IsErrOf result Stopped.Write ⊎ IsErrOf result Stopped.Notes }
 {
-    let told = write_all(notes, done.notes.as_slice());
+    let reported = write_all(notes, done.notes.as_slice());
     done.notes.clear();
-    if told.is_err() {
+    if reported.is_err() {
         let _ = write_all(writer, done.output.as_slice());
         done.output.clear();
         return Err(Stopped::Notes);
@@ -90,7 +90,7 @@ pub fn flush<W: Output, N: Output>(
 
 // Writes what is held back once it is large.
 fn flush_large<W: Output, N: Output>(
-    done: &mut Dealings,
+    done: &mut PendingOutput,
     writer: &mut W,
     notes: &mut N,
 ) -> Result<(), Stopped>
@@ -115,23 +115,23 @@ fn flush_large<W: Output, N: Output>(
     flush(done, writer, notes)
 }
 
-/// Reads a stream to its end, or up to a bad count, and deals with its frames. What is held back in
+/// Reads a stream to its end, or up to a bad count, and handles its frames. What is held back in
 /// `done` is written as it grows large; the rest is left in it.
-pub fn deal_stream<D: Dealer, R: Input, W: Output, N: Output>(
+pub fn handle_stream<D: FrameHandler, R: Input, W: Output, N: Output>(
     alloc: Global,
     framing: Framing,
-    dealer: &D,
+    handler: &D,
     reader: &mut R,
     writer: &mut W,
     notes: &mut N,
-    done: &mut Dealings,
+    done: &mut PendingOutput,
 ) -> Result<(), Stopped>
     requires { done_of done.old ≡ nothing }
     ensures ok { OnOk result (IfSome (R.left reader.old) (λ input.
-        IsAnswered (D.deals dealer.now) (D.tells dealer.now) framing input (W.taken writer.old)
+        IsAnswered (D.handles handler.now) (D.reports handler.now) framing input (W.taken writer.old)
         (W.taken writer.new) (N.taken notes.old) (N.taken notes.new) (done_of done.new))) }
     ensures err { OnErr result (IfSome (R.left reader.old) (λ input.
-        IsBegun (D.deals dealer.now) framing input (W.taken writer.old) (W.taken writer.new)
+        IsBegun (D.handles handler.now) framing input (W.taken writer.old) (W.taken writer.new)
         done.new.output.items)) }
     ensures read { AreSmall (R.calls reader.old) (R.failures reader.old) →
         IsErrOf result Stopped.Read → R.failures reader.old < R.failures reader.new }
@@ -161,11 +161,11 @@ pub fn deal_stream<D: Dealer, R: Input, W: Output, N: Output>(
             return Err(Stopped::Read);
         };
         if n == 0 {
-            end_stream(dealer, &scanner, done)?;
+            end_stream(handler, &scanner, done)?;
             return Ok(());
         }
-        if let Some(at) = feed(dealer, &mut scanner, &mut number, &piece[..n], done)? {
-            dealer.tell(Line::BadCount { number, at }, done)?;
+        if let Some(at) = feed(handler, &mut scanner, &mut number, &piece[..n], done)? {
+            handler.report(Line::BadCount { number, at }, done)?;
             return Ok(());
         }
         flush_large(done, writer, notes)?;
@@ -175,7 +175,7 @@ pub fn deal_stream<D: Dealer, R: Input, W: Output, N: Output>(
 
 // Writes what is held back, and then a line with its status.
 fn close_with<W: Output, N: Output>(
-    done: &mut Dealings,
+    done: &mut PendingOutput,
     writer: &mut W,
     notes: &mut N,
     line: &[u8],
@@ -184,7 +184,7 @@ fn close_with<W: Output, N: Output>(
     requires { 2 ≤ status }
     ensures high { 2 ≤ result }
     ensures known { status ≤ 3 → result ≤ 3 }
-    ensures front { (n : ℕ)
+    ensures prefix { (n : ℕ)
         × Appends (W.taken writer.old) (W.taken writer.new) (take n done.old.output.items) }
     ensures cause { W.failures writer.old < 2 ^ 63 → N.failures notes.old < 2 ^ 63 →
         result ≡ FAULT → (status ≡ FAULT) ⊎ (W.failures writer.old < W.failures writer.new)
@@ -213,7 +213,7 @@ fn status(refused: bool) -> u8
 // Writes what is held back, and answers the status: that of what was done, or that of what stopped it.
 fn close<W: Output, N: Output>(
     outcome: Result<(), Stopped>,
-    done: &mut Dealings,
+    done: &mut PendingOutput,
     writer: &mut W,
     notes: &mut N,
 ) -> u8
@@ -221,7 +221,7 @@ fn close<W: Output, N: Output>(
     ensures answer { result < 2 → IsOk outcome × (result ≡ status_of (done_of done.old))
         × Appends (W.taken writer.old) (W.taken writer.new) done.old.output.items
         × Appends (N.taken notes.old) (N.taken notes.new) done.old.notes.items }
-    ensures front { (n : ℕ)
+    ensures prefix { (n : ℕ)
         × Appends (W.taken writer.old) (W.taken writer.new) (take n done.old.output.items) }
     ensures cause { W.failures writer.old < 2 ^ 63 → N.failures notes.old < 2 ^ 63 →
         result ≡ FAULT → IsCause outcome ⊎ (W.failures writer.old < W.failures writer.new)
@@ -254,22 +254,22 @@ fn close<W: Output, N: Output>(
     }
 }
 
-// Deals with the stream that the reader has left, frame by frame, and writes what comes of it. The
+// Handles the stream that the reader has left, frame by frame, and writes what comes of it. The
 // status is 0 where nothing was refused, else 1; 2 where a device failed; 3 for want of memory.
-fn scan_stream<D: Dealer, R: Input, W: Output, N: Output>(
+fn scan_stream<D: FrameHandler, R: Input, W: Output, N: Output>(
     alloc: Global,
     framing: Framing,
-    dealer: &D,
+    handler: &D,
     reader: &mut R,
     writer: &mut W,
     notes: &mut N,
 ) -> u8
     ensures known { result ≤ 3 }
     ensures answer { result < 2 → AnswersWith
-        (StreamDone (D.deals dealer.now) (D.tells dealer.now) framing) (R.left reader.old) result
+        (StreamDone (D.handles handler.now) (D.reports handler.now) framing) (R.left reader.old) result
         (W.taken writer.old) (W.taken writer.new) (N.taken notes.old) (N.taken notes.new) }
-    ensures front { HasOneOutput (D.deals dealer.now) →
-        WritesFrontOf (StreamDone (D.deals dealer.now) (D.tells dealer.now) framing)
+    ensures prefix { HasOneOutput (D.handles handler.now) →
+        WritesPrefixOf (StreamDone (D.handles handler.now) (D.reports handler.now) framing)
         (R.left reader.old) (W.taken writer.old) (W.taken writer.new) }
     ensures cause { AreSmall (R.calls reader.old) (R.failures reader.old) →
         W.failures writer.old < 2 ^ 63 → N.failures notes.old < 2 ^ 63 → result ≡ FAULT →
@@ -282,21 +282,21 @@ fn scan_stream<D: Dealer, R: Input, W: Output, N: Output>(
     ensures read_failed { R.failures reader.old < R.failures reader.new → result ≡ FAULT }
     ensures write_failed { W.failures writer.old < W.failures writer.new → result ≡ FAULT }
 {
-    let mut done = Dealings::new(alloc);
-    let outcome = deal_stream(alloc, framing, dealer, reader, writer, notes, &mut done);
+    let mut done = PendingOutput::new(alloc);
+    let outcome = handle_stream(alloc, framing, handler, reader, writer, notes, &mut done);
     close(outcome, &mut done, writer, notes)
 }
 
-// Reads the one datagram that the reader has left, and deals with it as the first frame.
-fn deal_datagram<D: Dealer, R: Input>(
+// Reads the one datagram that the reader has left, and handles it as the first frame.
+fn handle_datagram<D: FrameHandler, R: Input>(
     alloc: Global,
-    dealer: &D,
+    handler: &D,
     reader: &mut R,
-    done: &mut Dealings,
+    done: &mut PendingOutput,
 ) -> Result<(), Stopped>
     requires { done_of done.old ≡ nothing }
     ensures ok { OnOk result (IfSome (R.left reader.old) (λ input.
-        D.deals dealer.now 1 input (done_of done.new))) }
+        D.handles handler.now 1 input (done_of done.new))) }
     ensures err { OnErr result (done_of done.new ≡ nothing) }
     ensures read { AreSmall (R.calls reader.old) (R.failures reader.old) →
         IsErrOf result Stopped.Read → R.failures reader.old < R.failures reader.new }
@@ -315,25 +315,25 @@ fn deal_datagram<D: Dealer, R: Input>(
         Err(ReadAllFault::Memory) => return Err(Stopped::Memory),
     };
     if datagram.len() > FRAME_MAX {
-        dealer.tell(Line::TooLong { number: 1 }, done)?;
+        handler.report(Line::TooLong { number: 1 }, done)?;
         return Ok(());
     }
-    dealer.deal(1, datagram.as_slice(), done)?;
+    handler.on_frame(1, datagram.as_slice(), done)?;
     Ok(())
 }
 
-// Deals with the one datagram that the reader has left, and writes what comes of it.
-fn scan_datagram<D: Dealer, R: Input, W: Output, N: Output>(
+// Handles the one datagram that the reader has left, and writes what comes of it.
+fn scan_datagram<D: FrameHandler, R: Input, W: Output, N: Output>(
     alloc: Global,
-    dealer: &D,
+    handler: &D,
     reader: &mut R,
     writer: &mut W,
     notes: &mut N,
 ) -> u8
     ensures known { result ≤ 3 }
-    ensures answer { result < 2 → AnswersWith (D.deals dealer.now 1) (R.left reader.old) result
+    ensures answer { result < 2 → AnswersWith (D.handles handler.now 1) (R.left reader.old) result
         (W.taken writer.old) (W.taken writer.new) (N.taken notes.old) (N.taken notes.new) }
-    ensures front { HasOneOutput (D.deals dealer.now) → WritesFrontOf (D.deals dealer.now 1)
+    ensures prefix { HasOneOutput (D.handles handler.now) → WritesPrefixOf (D.handles handler.now 1)
         (R.left reader.old) (W.taken writer.old) (W.taken writer.new) }
     ensures cause { AreSmall (R.calls reader.old) (R.failures reader.old) →
         W.failures writer.old < 2 ^ 63 → N.failures notes.old < 2 ^ 63 → result ≡ FAULT →
@@ -346,28 +346,28 @@ fn scan_datagram<D: Dealer, R: Input, W: Output, N: Output>(
     ensures read_failed { R.failures reader.old < R.failures reader.new → result ≡ FAULT }
     ensures write_failed { W.failures writer.old < W.failures writer.new → result ≡ FAULT }
 {
-    let mut done = Dealings::new(alloc);
-    let outcome = deal_datagram(alloc, dealer, reader, &mut done);
+    let mut done = PendingOutput::new(alloc);
+    let outcome = handle_datagram(alloc, handler, reader, &mut done);
     close(outcome, &mut done, writer, notes)
 }
 
-/// Deals with what the reader has left, frame by frame, and writes what comes of it. The status is 0
+/// Handles what the reader has left, frame by frame, and writes what comes of it. The status is 0
 /// where nothing was refused, else 1; 2 where a device failed; 3 for want of memory.
-pub fn scan_input<D: Dealer, R: Input, W: Output, N: Output>(
+pub fn scan_input<D: FrameHandler, R: Input, W: Output, N: Output>(
     alloc: Global,
-    carrier: Carrier,
-    dealer: &D,
+    input_framing: InputFraming,
+    handler: &D,
     reader: &mut R,
     writer: &mut W,
     notes: &mut N,
 ) -> u8
     ensures known { result ≤ 3 }
     ensures answer { result < 2 →
-        AnswersWith (InputDone (D.deals dealer.now) (D.tells dealer.now) carrier)
+        AnswersWith (InputDone (D.handles handler.now) (D.reports handler.now) input_framing)
         (R.left reader.old) result (W.taken writer.old) (W.taken writer.new)
         (N.taken notes.old) (N.taken notes.new) }
-    ensures front { HasOneOutput (D.deals dealer.now) →
-        WritesFrontOf (InputDone (D.deals dealer.now) (D.tells dealer.now) carrier)
+    ensures prefix { HasOneOutput (D.handles handler.now) →
+        WritesPrefixOf (InputDone (D.handles handler.now) (D.reports handler.now) input_framing)
         (R.left reader.old) (W.taken writer.old) (W.taken writer.new) }
     ensures cause { AreSmall (R.calls reader.old) (R.failures reader.old) →
         W.failures writer.old < 2 ^ 63 → N.failures notes.old < 2 ^ 63 → result ≡ FAULT →
@@ -380,8 +380,10 @@ pub fn scan_input<D: Dealer, R: Input, W: Output, N: Output>(
     ensures read_failed { R.failures reader.old < R.failures reader.new → result ≡ FAULT }
     ensures write_failed { W.failures writer.old < W.failures writer.new → result ≡ FAULT }
 {
-    match carrier {
-        Carrier::Datagram => scan_datagram(alloc, dealer, reader, writer, notes),
-        Carrier::Stream(framing) => scan_stream(alloc, framing, dealer, reader, writer, notes),
+    match input_framing {
+        InputFraming::Datagram => scan_datagram(alloc, handler, reader, writer, notes),
+        InputFraming::Stream(framing) => scan_stream(
+            alloc, framing, handler, reader, writer, notes,
+        ),
     }
 }

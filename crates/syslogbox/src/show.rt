@@ -1,12 +1,12 @@
 //! `show`: the fields of each record, a line each.
 
 ghost use Rattle.std.specs.Prelude.{◌≡◌, List, ℕ, OnErr, OnOk};
-ghost use Rattle.syslogbox.specs.Dealings.{done_of};
+ghost use Rattle.syslogbox.specs.Pending.{done_of};
 
 use crate::convert::note_line;
-use crate::dealer::Dealer;
-use crate::dealings::Dealings;
+use crate::frame_handler::FrameHandler;
 use crate::line::Line;
+use crate::pending::PendingOutput;
 use crate::record_lines::put_record_lines;
 use std::alloc::{AllocError, Global};
 use syslog_frame::FRAME_MAX;
@@ -19,16 +19,21 @@ pub struct Show {
     pub alloc: Global,
 }
 
-impl Dealer for Show {
+impl FrameHandler for Show {
     ghost use Rattle.std.proofs.Common.{inl, refl};
     ghost use Rattle.syslogbox.specs.Converted.{noted_line};
-    ghost use Rattle.syslogbox.specs.Showing.{show_deals};
+    ghost use Rattle.syslogbox.specs.Showing.{show_handling};
 
-    ghost deals = { λ _. show_deals };
+    ghost handles = { λ _. show_handling };
 
-    ghost tells = { λ _. noted_line };
+    ghost reports = { λ _. noted_line };
 
-    fn deal(&self, number: u64, frame: &[u8], done: &mut Dealings) -> Result<(), AllocError> {
+    fn on_frame(
+        &self,
+        number: u64,
+        frame: &[u8],
+        done: &mut PendingOutput,
+    ) -> Result<(), AllocError> {
         if frame.len() > FRAME_MAX {
             return note_line(Line::TooLong { number }, done);
         }
@@ -41,7 +46,7 @@ impl Dealer for Show {
         }
     }
 
-    fn tell(&self, line: Line, done: &mut Dealings) -> Result<(), AllocError> {
+    fn report(&self, line: Line, done: &mut PendingOutput) -> Result<(), AllocError> {
         note_line(line, done)
     }
 

@@ -5,11 +5,11 @@ ghost use Rattle.clap.specs.Walk.{first_of};
 ghost use Rattle.clap.specs.Words.{app_of, found_of, rows_of, rule_of, subcommand_rows_of};
 ghost use Rattle.clap.specs.Simple.{new_app, with_rule, with_subcommand};
 ghost use Rattle.clap.specs.declared.builder.command.Command.TheViews.{out-Command as fields_of};
-ghost use Rattle.syslogbox.specs.Line.{convert_app, default_rule, empty_app, input_app, line_app, option_rule};
-ghost use Rattle.syslogbox.specs.Requests.{IsUsage, carrier_in, carrier_of, framing_of, own_framing, parsed};
+ghost use Rattle.syslogbox.specs.CommandLine.{convert_app, default_rule, empty_app, input_app, line_app, option_rule};
+ghost use Rattle.syslogbox.specs.Requests.{IsUsage, input_framing_in, input_framing_of, framing_of, own_framing, parsed};
 ghost use Rattle.syslogbox.specs.Requests.{read_check, read_convert, read_of, read_show, to_of};
 
-use crate::request::{Carrier, Request};
+use crate::request::{InputFraming, Request};
 use clap::error::ErrorKind;
 use clap::{Arg, ArgMatches, Command};
 use std::alloc::{AllocError, Global};
@@ -157,45 +157,45 @@ fn framing(name: &str) -> Option<Framing>
     }
 }
 
-fn carrier(name: &str) -> Option<Carrier>
-    ensures { result ≡ carrier_of name.now }
+fn input_framing(name: &str) -> Option<InputFraming>
+    ensures { result ≡ input_framing_of name.now }
 {
     match name {
-        "datagram" => Some(Carrier::Datagram),
-        _ => Some(Carrier::Stream(framing(name)?)),
+        "datagram" => Some(InputFraming::Datagram),
+        _ => Some(InputFraming::Stream(framing(name)?)),
     }
 }
 
 // The value of `--framing`.
-fn carrier_of_matches(matches: &ArgMatches<'_>) -> Option<Carrier>
-    ensures { result ≡ carrier_in (rows_of (found_of matches.now)) }
+fn input_framing_of_matches(matches: &ArgMatches<'_>) -> Option<InputFraming>
+    ensures { result ≡ input_framing_in (rows_of (found_of matches.now)) }
 {
-    carrier(value(matches, "framing")?)
+    input_framing(value(matches, "framing")?)
 }
 
 fn read_check_words(matches: &ArgMatches<'_>) -> Option<Request>
     ensures { result ≡ read_check (rows_of (found_of matches.now)) }
 {
-    let carrier = carrier_of_matches(matches)?;
-    Some(Request::Check { carrier })
+    let input_framing = input_framing_of_matches(matches)?;
+    Some(Request::Check { input_framing })
 }
 
 // The framing in which records come.
-fn own_framing(carrier: Carrier) -> Option<Framing>
-    ensures { result ≡ own_framing carrier }
+fn own_framing(input_framing: InputFraming) -> Option<Framing>
+    ensures { result ≡ own_framing input_framing }
 {
-    match carrier {
-        Carrier::Datagram => None,
-        Carrier::Stream(framing) => Some(framing),
+    match input_framing {
+        InputFraming::Datagram => None,
+        InputFraming::Stream(framing) => Some(framing),
     }
 }
 
 // The framing of what goes out, where the value of `--to` names one or is not given.
-fn to(carrier: Carrier, name: Option<&str>) -> Option<Option<Framing>>
-    ensures { result ≡ to_of carrier (option_map (λ s. s.now) name.entry) }
+fn to(input_framing: InputFraming, name: Option<&str>) -> Option<Option<Framing>>
+    ensures { result ≡ to_of input_framing (option_map (λ s. s.now) name.entry) }
 {
     match name {
-        None => Some(own_framing(carrier)),
+        None => Some(own_framing(input_framing)),
         Some(name) => Some(Some(framing(name)?)),
     }
 }
@@ -203,16 +203,16 @@ fn to(carrier: Carrier, name: Option<&str>) -> Option<Option<Framing>>
 fn read_convert_words(matches: &ArgMatches<'_>) -> Option<Request>
     ensures { result ≡ read_convert (rows_of (found_of matches.now)) }
 {
-    let carrier = carrier_of_matches(matches)?;
-    let to = to(carrier, value(matches, "to"))?;
-    Some(Request::Convert { carrier, to })
+    let input_framing = input_framing_of_matches(matches)?;
+    let to = to(input_framing, value(matches, "to"))?;
+    Some(Request::Convert { input_framing, to })
 }
 
 fn read_show_words(matches: &ArgMatches<'_>) -> Option<Request>
     ensures { result ≡ read_show (rows_of (found_of matches.now)) }
 {
-    let carrier = carrier_of_matches(matches)?;
-    Some(Request::Show { carrier })
+    let input_framing = input_framing_of_matches(matches)?;
+    Some(Request::Show { input_framing })
 }
 
 fn asked_for(matches: &ArgMatches<'_>) -> Option<Request>

@@ -1,5 +1,5 @@
 //! Trials of the libraries, for scripts: a measured run of a call, and a run in which memory may be
-//! refused. No trial tells a time; the script that runs it measures the process.
+//! refused. No trial reports a time; the script that runs it measures the process.
 #![tactic(auto)]
 
 mod grammar;
@@ -15,9 +15,9 @@ const USAGE: &str = "usage: trials time scan counted|lf SIZE ROUNDS
        trials time copy SIZE ROUNDS
        trials grow frame|value|grammar";
 
-/// The word at a place; none is an empty word.
-fn word(words: &[String], place: usize) -> &str {
-    match words.get(place) {
+/// The word at an offset; none is an empty word.
+fn word(words: &[String], offset: usize) -> &str {
+    match words.get(offset) {
         Some(word) => word.as_str(),
         None => "",
     }

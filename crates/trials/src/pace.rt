@@ -80,7 +80,7 @@ pub fn scan(
     println!(rt; "{octets}")
 }
 
-/// Copies the same pieces of the counted stream, each to the front of one room, and prints how many
+/// Copies the same pieces of the counted stream, each to the prefix of one room, and prints how many
 /// octets were copied.
 pub fn copy(rt: &impl Print, alloc: Global, size: &str, rounds: &str) -> io::Result<()> {
     let Some((size, rounds)) = numbers(size, rounds) else {

@@ -1,4 +1,4 @@
-//! Faults of devices, each at its place.
+//! Faults of devices, each at its offset.
 
 use super::{HELLO, Ran};
 use crate::memory::{MemoryFile, MemoryFiles};
@@ -49,7 +49,7 @@ fn run_on_fuses(
 }
 
 #[test]
-fn a_fault_of_a_device_is_told_at_its_place(rt: HostRuntime) -> Result<(), Fail> {
+fn a_fault_of_a_device_is_told_at_its_offset(rt: HostRuntime) -> Result<(), Fail> {
     let most = u64::MAX;
     let rows: [Row<'_>; 11] = [
         // the first or the second read fails, before any octet is out
@@ -69,7 +69,7 @@ fn a_fault_of_a_device_is_told_at_its_place(rt: HostRuntime) -> Result<(), Fail>
         (&["convert"], HELLO, (0, most, 4), b"", b"read"),
         (&["convert"], HELLO, (most, 5, 0), b"<165>", b""),
         (&["konvert"], HELLO, (most, most, 0), b"", b""),
-        // a stream: what was dealt with is written before the fault is told
+        // a stream: what was handled is written before the fault is reported
         (
             &["check", "--framing", "lf"],
             STREAM,

@@ -1,4 +1,4 @@
-//! One datagram: what is written, and what is told.
+//! One datagram: what is written, and what is reported.
 
 use super::{HELLO, run_over};
 use crate::status::{DONE, REFUSED};
@@ -153,7 +153,7 @@ fn a_record_is_converted(rt: HostRuntime) -> Result<(), Fail> {
 }
 
 #[test]
-fn what_is_no_record_is_told_with_its_place(rt: HostRuntime) -> Result<(), Fail> {
+fn what_is_no_record_is_told_with_its_offset(rt: HostRuntime) -> Result<(), Fail> {
     for (input, line) in REFUSED_ROWS {
         let checked = run_over(&rt, &["check"], input)?;
         assert_eq!(rt; checked.status, REFUSED);

@@ -8,7 +8,7 @@ use std::test::Fail;
 type Row<'a> = (&'a [&'a str], &'a [u8], u8, &'a [u8], &'a [u8]);
 
 #[test]
-fn each_frame_of_a_stream_is_dealt_with(rt: HostRuntime) -> Result<(), Fail> {
+fn each_frame_of_a_stream_is_handled_with(rt: HostRuntime) -> Result<(), Fail> {
     let rows: [Row<'_>; 14] = [
         (
             &["convert", "--framing", "counted", "--to", "lf"],

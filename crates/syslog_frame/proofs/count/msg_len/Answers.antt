@@ -1,9 +1,9 @@
 use Rattle.std.proofs.Common.{◌≡◌, ◌+◌, [], length, take, drop, get_or, refl, subst, inl, arith}
 use Rattle.std.proofs.lemmas.List.{length-take}
-use Rattle.octet_language.specs.Language.{AnyOf, IsPlace}
+use Rattle.octet_language.specs.Language.{AnyOf, IsFaultOffset}
 use Rattle.syslog_frame.specs.MsgLen.{MsgLen}
 use Rattle.syslog_frame.proofs.Cuts.{parted_at}
-use Rattle.syslog_frame.proofs.Counts.{Refusal, HasFront-msg_len, Begins-count, NoFront-count, NoFront-refusal, none_begins, place_of_refusal}
+use Rattle.syslog_frame.proofs.Counts.{Refusal, HasPrefix-msg_len, Begins-count, NoPrefix-count, NoPrefix-refusal, none_begins, offset_of_refusal}
 use Rattle.syslog_frame.proofs.count.msg_len.Goals as goal
 
 pub returns-in-Read : goal.returns-in-Read
@@ -13,7 +13,7 @@ pub returns-in-Unfinished : goal.returns-in-Unfinished
 returns-in-Unfinished c =
     let h = c.in-Unfinished.ensures.counts [] (inl (refl, refl)) in
     let s = c.in-Unfinished.ensures.step in
-    (NoFront-count (AnyOf MsgLen) HasFront-msg_len c.in-Unfinished.count c.args.octets.now s h, Begins-count c.in-Unfinished.count c.args.octets.now s h)
+    (NoPrefix-count (AnyOf MsgLen) HasPrefix-msg_len c.in-Unfinished.count c.args.octets.now s h, Begins-count c.in-Unfinished.count c.args.octets.now s h)
 
 pub returns-in-Broken : goal.returns-in-Broken
 returns-in-Broken c =
@@ -23,7 +23,7 @@ returns-in-Broken c =
     let i = c.in-Broken.at in
     let r : Refusal c.in-Broken.count (take i b) (get_or b i 0) = record { small = s.0; digits = h; refuses = s.2 } in
     let n : length (take i b) ≡ i = omega (arith, s.1, length-take i b) in (
-      NoFront-refusal (AnyOf MsgLen) HasFront-msg_len c.in-Broken.count (get_or b i 0) (take i b) (drop (i + 1) b) b r (parted_at b i s.1),
-      none_begins (AnyOf MsgLen) HasFront-msg_len c.in-Broken.count (get_or b i 0) (take i b) (drop (i + 1) b) b r (parted_at b i s.1),
-      subst (IsPlace (AnyOf MsgLen) b) n (place_of_refusal (AnyOf MsgLen) HasFront-msg_len c.in-Broken.count (get_or b i 0) (take i b) (drop (i + 1) b) b r (Begins-count c.in-Broken.count (take i b) s.0 h) (parted_at b i s.1)),
+      NoPrefix-refusal (AnyOf MsgLen) HasPrefix-msg_len c.in-Broken.count (get_or b i 0) (take i b) (drop (i + 1) b) b r (parted_at b i s.1),
+      none_begins (AnyOf MsgLen) HasPrefix-msg_len c.in-Broken.count (get_or b i 0) (take i b) (drop (i + 1) b) b r (parted_at b i s.1),
+      subst (IsFaultOffset (AnyOf MsgLen) b) n (offset_of_refusal (AnyOf MsgLen) HasPrefix-msg_len c.in-Broken.count (get_or b i 0) (take i b) (drop (i + 1) b) b r (Begins-count c.in-Broken.count (take i b) s.0 h) (parted_at b i s.1)),
     )

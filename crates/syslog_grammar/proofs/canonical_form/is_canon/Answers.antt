@@ -14,11 +14,11 @@ pub returns-then-not-has_time_form : goal.returns-then-not-has_time_form
 returns-then-not-has_time_form c =
     canon_time c.args.octets.now c.split_at.result.1.now c.in-Ok.spelling c.in-Ok.ensures c.has_time_form.result c.split_at.ensures.back c.has_time_form.ensures c.if-not-has_time_form.true
 
-pub returns-then-not-has_data_form : goal.returns-then-not-has_data_form
-returns-then-not-has_data_form c =
-    canon_data c.args.octets.now c.in-Ok.spelling c.in-Ok.ensures c.has_data_form.result c.has_data_form.ensures c.if-not-has_data_form.true
+pub returns-then-not-has_structured_data_form : goal.returns-then-not-has_structured_data_form
+returns-then-not-has_structured_data_form c =
+    canon_data c.args.octets.now c.in-Ok.spelling c.in-Ok.ensures c.has_structured_data_form.result c.has_structured_data_form.ensures c.if-not-has_structured_data_form.true
 
 pub returns : goal.returns
 returns c =
-    canon_tail c.args.octets.now c.split_at.result.1.now c.in-Ok.spelling c.has_time_form.result c.has_data_form.result c.has_tail_form.result c.in_default-micros_of.field-0 c.in-Ok.ensures c.in_default-micros_of.ensures
-    c.split_at.ensures.back c.has_time_form.ensures c.if-not-has_time_form.false c.has_data_form.ensures c.if-not-has_data_form.false c.has_tail_form.ensures
+    canon_tail c.args.octets.now c.split_at.result.1.now c.in-Ok.spelling c.has_time_form.result c.has_structured_data_form.result c.has_message_form.result c.in_default-micros_of.field-0 c.in-Ok.ensures c.in_default-micros_of.ensures
+    c.split_at.ensures.back c.has_time_form.ensures c.if-not-has_time_form.false c.has_structured_data_form.ensures c.if-not-has_structured_data_form.false c.has_message_form.ensures

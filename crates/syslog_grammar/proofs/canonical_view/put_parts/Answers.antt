@@ -1,8 +1,8 @@
-use Rattle.syslog_grammar.specs.Shown.{shown}
+use Rattle.syslog_grammar.specs.ViewParts.{view_parts}
 use Rattle.syslog_grammar.proofs.Rewritten.{record_written}
 use Rattle.syslog_grammar.proofs.canonical_view.put_parts.Goals as goal
 
 pub returns-clause-ok : goal.returns-clause-ok
 returns-clause-ok c = λ b h u.
-    record_written (shown c.args.view.now) c.args.out.now.items c.put_header.new.out.items c.put_data.new.out.items c.put_tail.new.out.items
-    (rw (c.priority.ensures, c.instant.ensures) at c.in_ok-put_header.ensures) (rw c.if-not-branch.false at c.in_ok-put_data.ensures) c.in_ok-put_tail.ensures b h
+    record_written (view_parts c.args.view.now) c.args.out.now.items c.put_header.new.out.items c.put_structured_data.new.out.items c.put_message_part.new.out.items
+    (rw (c.priority.ensures, c.instant.ensures) at c.in_ok-put_header.ensures) (rw c.if-not-branch.false at c.in_ok-put_structured_data.ensures) c.in_ok-put_message_part.ensures b h

@@ -3,7 +3,7 @@ use Rattle.syslog_grammar.proofs.Rising.{Fills}
 use Rattle.syslog_grammar.proofs.distinct.fill.Given as goal
 
 abbrev pub invariant-loop-first : goal.invariant-loop-first
-invariant-loop-first l = record { room : l.count ≤ length l.places; fills : Fills l.elements l.rest l.count l.places }
+invariant-loop-first l = record { room : l.count ≤ length l.offsets; fills : Fills l.elements l.rest l.count l.offsets }
 
 abbrev pub decreases-loop-first : goal.decreases-loop-first
 decreases-loop-first l = length l.rest

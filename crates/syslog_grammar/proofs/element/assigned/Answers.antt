@@ -1,5 +1,5 @@
 use Rattle.std.proofs.lemmas.Result.{err_from_is_err_and}
-use Rattle.syslog_grammar.specs.Stops.{left_of}
+use Rattle.syslog_grammar.specs.Stops.{remaining_of}
 use Rattle.syslog_grammar.proofs.ParamTexts.{no_equals, no_quote, behind_marks}
 use Rattle.syslog_grammar.proofs.element.assigned.Goals as goal
 
@@ -14,4 +14,4 @@ returns-in_err-rest-2 c =
     rw (p.1, p.2) (no_quote _ c.in_ok-rest.rest.now _ c.in_ok-rest.ensures c.in_err-rest-2.ensures)
 
 pub returns : goal.returns
-returns c = behind_marks left_of _ c.args.octets.now c.in_ok-rest.rest.now c.in_ok-rest-2.rest.now c.value.result c.in_ok-rest.ensures c.in_ok-rest-2.ensures c.value.ensures
+returns c = behind_marks remaining_of _ c.args.octets.now c.in_ok-rest.rest.now c.in_ok-rest-2.rest.now c.value.result c.in_ok-rest.ensures c.in_ok-rest-2.ensures c.value.ensures

@@ -1,18 +1,18 @@
 use Rattle.std.proofs.lemmas.Result.{err_from_is_err_and}
 use Rattle.octet_language.specs.Language.{AnyOf}
 use Rattle.syslog_grammar.specs.Views.{element_span}
-use Rattle.syslog_grammar.proofs.ParamTexts.{SpannedParams, as_element, bad_mark, bad_name, bad_behind, whole_element, no_params, OneFront-spanned_params, params_start}
+use Rattle.syslog_grammar.proofs.ParamTexts.{SpannedParams, as_element, bad_octet, bad_name, bad_behind, whole_element, no_params, IsPrefixFree-spanned_params, params_start}
 use Rattle.syslog_grammar.proofs.element.element.Goals as goal
 
 pub returns-in_err-rest : goal.returns-in_err-rest
 returns-in_err-rest c =
     let p = err_from_is_err_and c.from_residual.result c.from_residual.ensures.1 in
-    rw (p.1, p.2) (as_element _ _ (bad_mark 91 (AnyOf SpannedParams) _ _ _ no_params c.in_err-rest.ensures))
+    rw (p.1, p.2) (as_element _ _ (bad_octet 91 (AnyOf SpannedParams) _ _ _ no_params c.in_err-rest.ensures))
 
 pub returns-in_err-id : goal.returns-in_err-id
 returns-in_err-id c =
     let p = err_from_is_err_and c.from_residual-in_err-id.result c.from_residual-in_err-id.ensures.1 in
-    rw (p.1, p.2) (as_element _ _ (bad_name 91 (AnyOf SpannedParams) _ c.in_ok-rest.rest.now _ _ no_params OneFront-spanned_params params_start c.in_ok-rest.ensures c.in_err-id.ensures))
+    rw (p.1, p.2) (as_element _ _ (bad_name 91 (AnyOf SpannedParams) _ c.in_ok-rest.rest.now _ _ no_params IsPrefixFree-spanned_params params_start c.in_ok-rest.ensures c.in_err-id.ensures))
 
 pub returns-in_err-params : goal.returns-in_err-params
 returns-in_err-params c =

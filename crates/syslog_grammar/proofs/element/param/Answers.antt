@@ -2,18 +2,18 @@ use Rattle.std.proofs.lemmas.Result.{err_from_is_err_and}
 use Rattle.octet_language.specs.Language.{AnyOf}
 use Rattle.syslog_grammar.specs.Spans.{SpannedValue}
 use Rattle.syslog_grammar.specs.Views.{param_span}
-use Rattle.syslog_grammar.proofs.ParamTexts.{as_param, bad_mark, bad_name, bad_behind, whole_param, empty_value, OneFront-spanned_value, value_starts}
+use Rattle.syslog_grammar.proofs.ParamTexts.{as_param, bad_octet, bad_name, bad_behind, whole_param, empty_value, IsPrefixFree-spanned_value, value_starts}
 use Rattle.syslog_grammar.proofs.element.param.Goals as goal
 
 pub returns-in_err-rest : goal.returns-in_err-rest
 returns-in_err-rest c =
     let p = err_from_is_err_and c.from_residual.result c.from_residual.ensures.1 in
-    rw (p.1, p.2) (as_param _ _ (bad_mark 32 (AnyOf SpannedValue) _ _ _ empty_value c.in_err-rest.ensures))
+    rw (p.1, p.2) (as_param _ _ (bad_octet 32 (AnyOf SpannedValue) _ _ _ empty_value c.in_err-rest.ensures))
 
 pub returns-in_err-name : goal.returns-in_err-name
 returns-in_err-name c =
     let p = err_from_is_err_and c.from_residual-in_err-name.result c.from_residual-in_err-name.ensures.1 in
-    rw (p.1, p.2) (as_param _ _ (bad_name 32 (AnyOf SpannedValue) _ c.in_ok-rest.rest.now _ _ empty_value OneFront-spanned_value value_starts c.in_ok-rest.ensures c.in_err-name.ensures))
+    rw (p.1, p.2) (as_param _ _ (bad_name 32 (AnyOf SpannedValue) _ c.in_ok-rest.rest.now _ _ empty_value IsPrefixFree-spanned_value value_starts c.in_ok-rest.ensures c.in_err-name.ensures))
 
 pub returns-in_err-raw : goal.returns-in_err-raw
 returns-in_err-raw c =

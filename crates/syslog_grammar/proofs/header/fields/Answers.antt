@@ -42,7 +42,7 @@ returns-in_err-msg_id-clause-reads c =
 pub returns-clause-reads : goal.returns-clause-reads
 returns-clause-reads c =
     header_read c.args.octets.now c.in_ok-priority.rest.now c.in_ok-rest.rest.now c.in_ok-time.rest.now c.in_ok-hostname.rest.now c.in_ok-app_name.rest.now c.in_ok-proc_id.rest.now c.in_ok-msg_id.rest.now
-    (header_parts record { priority = c.in_ok-priority.priority; time = c.in_ok-time.time; hostname = c.in_ok-hostname.hostname; app_name = c.in_ok-app_name.app_name; proc_id = c.in_ok-proc_id.proc_id; msg_id = c.in_ok-msg_id.msg_id; time_left = 0; behind_time = c.in_ok-time.rest })
+    (header_parts record { priority = c.in_ok-priority.priority; time = c.in_ok-time.time; hostname = c.in_ok-hostname.hostname; app_name = c.in_ok-app_name.app_name; proc_id = c.in_ok-proc_id.proc_id; msg_id = c.in_ok-msg_id.msg_id; time_remaining = 0; behind_time = c.in_ok-time.rest })
     c.in_ok-priority.ensures c.in_ok-rest.ensures c.in_ok-time.ensures c.in_ok-hostname.ensures c.in_ok-app_name.ensures c.in_ok-proc_id.ensures c.in_ok-msg_id.ensures
 
 pub returns-clause-time : goal.returns-clause-time
@@ -51,5 +51,5 @@ returns-clause-time c = (c.in_ok-rest.rest.now, time_stands c.args.octets.now c.
 pub returns-clause-words : goal.returns-clause-words
 returns-clause-words c =
     words_read c.in_ok-time.rest.now c.in_ok-hostname.rest.now c.in_ok-app_name.rest.now c.in_ok-proc_id.rest.now c.in_ok-msg_id.rest.now
-    (header_parts record { priority = c.in_ok-priority.priority; time = c.in_ok-time.time; hostname = c.in_ok-hostname.hostname; app_name = c.in_ok-app_name.app_name; proc_id = c.in_ok-proc_id.proc_id; msg_id = c.in_ok-msg_id.msg_id; time_left = 0; behind_time = c.in_ok-time.rest })
+    (header_parts record { priority = c.in_ok-priority.priority; time = c.in_ok-time.time; hostname = c.in_ok-hostname.hostname; app_name = c.in_ok-app_name.app_name; proc_id = c.in_ok-proc_id.proc_id; msg_id = c.in_ok-msg_id.msg_id; time_remaining = 0; behind_time = c.in_ok-time.rest })
     c.in_ok-hostname.ensures c.in_ok-app_name.ensures c.in_ok-proc_id.ensures c.in_ok-msg_id.ensures

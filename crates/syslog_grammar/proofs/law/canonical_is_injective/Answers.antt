@@ -1,4 +1,4 @@
-use Rattle.syslog_grammar.proofs.CanonicalSpelled.{canonical_injective}
+use Rattle.syslog_grammar.proofs.CanonicalParses.{canonical_injective}
 use Rattle.syslog_grammar.proofs.law.canonical_is_injective.Goals as goal
 
 pub returns : goal.returns

@@ -1,4 +1,4 @@
-use Rattle.syslog_grammar.proofs.CanonicalSpelled.{canonical_well_formed}
+use Rattle.syslog_grammar.proofs.CanonicalParses.{canonical_well_formed}
 use Rattle.syslog_grammar.proofs.law.canonical_is_well_formed.Goals as goal
 
 pub returns : goal.returns

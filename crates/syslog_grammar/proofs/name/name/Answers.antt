@@ -1,5 +1,5 @@
 use Rattle.std.proofs.Common.{rules, ◌<◌, ◌≤◌, length, inr, refl}
-use Rattle.octet_language.specs.Language.{IfFront}
+use Rattle.octet_language.specs.Language.{IfFirst}
 use Rattle.syslog_grammar.proofs.Classes.{at_limit}
 use Rattle.syslog_grammar.proofs.Names.{EndsName}
 use Rattle.syslog_value.specs.Parts.{IsNameOctet}
@@ -10,7 +10,7 @@ returns-then-goes_on c =
     let goes = c.goes_on.ensures.goes c.if-goes_on.true in
     let n = length c.split_at.result.0.now in
     let most : n ≤ 32 = search rules in
-    let ends : n < 32 → IfFront EndsName c.split_at.result.1.now = search rules in
+    let ends : n < 32 → IfFirst EndsName c.split_at.result.1.now = search rules in
     record {
       read = c.split_at.result.0.now;
       rest = c.split_at.result.1.now;

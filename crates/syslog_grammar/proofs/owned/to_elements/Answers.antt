@@ -1,13 +1,13 @@
 use Rattle.std.proofs.Common.{sym, subst}
 use Rattle.syslog_grammar.specs.Views.{element_span}
-use Rattle.syslog_grammar.proofs.OwnedParts.{ElementsRead, elements_all, elements_more, elements_dash, elements_end}
+use Rattle.syslog_grammar.proofs.OwnedParts.{ElementsRead, elements_all, elements_more, elements_nil, elements_end}
 use Rattle.syslog_grammar.proofs.owned.to_elements.Goals as goal
 
 pub loop-first-init : goal.loop-first-init
 loop-first-init c = subst (ElementsRead c.args.octets.now c.args.octets.now) (sym c.new-elements.ensures.items) (elements_all c.args.octets.now)
 
 pub returns-then-first-ne91 : goal.returns-then-first-ne91
-returns-then-first-ne91 c = elements_dash c.args.octets.now c.loop-first.rest.now c.in-Some._after.now c.in-Some.first c.loop-first.elements.items c.in-Some.ensures c.if-first-ne91.true c.loop-first.invariant
+returns-then-first-ne91 c = elements_nil c.args.octets.now c.loop-first.rest.now c.in-Some._after.now c.in-Some.first c.loop-first.elements.items c.in-Some.ensures c.if-first-ne91.true c.loop-first.invariant
 
 pub loop-first-preserved : goal.loop-first-preserved
 loop-first-preserved c =

@@ -2,8 +2,8 @@ use Rattle.std.proofs.Common.{◌∷◌, []}
 use Rattle.std.proofs.lemmas.Result.{err_from_is_err_and}
 use Rattle.octet_language.specs.Language.{◌⋅◌, Only, AnyOf}
 use Rattle.syslog_grammar.specs.Grammar.{Number}
-use Rattle.octet_language.proofs.Chain.{Fails-second_value, Fails-first, Reads-later, OneFront-only}
-use Rattle.syslog_grammar.specs.Stops.{left_of}
+use Rattle.octet_language.proofs.Chain.{Fails-second_value, Fails-first, Reads-later, IsPrefixFree-only}
+use Rattle.syslog_grammar.specs.Stops.{remaining_of}
 use Rattle.syslog_grammar.proofs.Numbers.{some_number}
 use Rattle.syslog_grammar.proofs.priority.priority.Goals as goal
 
@@ -13,4 +13,4 @@ returns-in_err-behind c =
     rw (p.1, p.2) (Fails-second_value (Only (60 ∷ [])) (λ v. Number v ⋅ Only (62 ∷ [])) _ _ (Fails-first (Only (60 ∷ [])) (AnyOf (λ v. Number v ⋅ Only (62 ∷ []))) _ _ _ some_number c.in_err-behind.ensures))
 
 pub returns : goal.returns
-returns c = Reads-later left_of (Only (60 ∷ [])) (λ v. Number v ⋅ Only (62 ∷ [])) _ c.args.octets.now c.in_ok-behind.behind.now c.number.result (OneFront-only (60 ∷ [])) c.in_ok-behind.ensures c.number.ensures
+returns c = Reads-later remaining_of (Only (60 ∷ [])) (λ v. Number v ⋅ Only (62 ∷ [])) _ c.args.octets.now c.in_ok-behind.behind.now c.number.result (IsPrefixFree-only (60 ∷ [])) c.in_ok-behind.ensures c.number.ensures

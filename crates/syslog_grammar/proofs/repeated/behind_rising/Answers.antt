@@ -5,10 +5,10 @@ use Rattle.syslog_grammar.proofs.Repeating.{rising_none, rising_above}
 use Rattle.syslog_grammar.proofs.repeated.behind_rising.Goals as goal
 
 pub loop-first-init : goal.loop-first-init
-loop-first-init c = rising_none c.args.data.now c.requires
+loop-first-init c = rising_none c.args.structured_data.now c.requires
 
 pub loop-first-preserved : goal.loop-first-preserved
 loop-first-preserved c =
     let v : ElementSpan = record { id = c.id-id.result.now; params = c.in-Ok.found.params.now } in
     let f : Follows (SpannedElement v) c.loop-first.rest.now c.in-Ok.behind.now = rw c.id-id.ensures c.in-Ok.ensures in
-    rising_above c.args.data.now c.loop-first.rest.now c.in-Ok.behind.now c.in-Some._after.now c.in-Some.first _ v c.in-Some.ensures c.if-first-ne91.false f (c.is_above.ensures.above (search rules)) c.loop-first.invariant
+    rising_above c.args.structured_data.now c.loop-first.rest.now c.in-Ok.behind.now c.in-Some._after.now c.in-Some.first _ v c.in-Some.ensures c.if-first-ne91.false f (c.is_above.ensures.above (search rules)) c.loop-first.invariant

@@ -6,7 +6,7 @@ use Rattle.syslog_grammar.proofs.Repeating.{seeks_more, seeks_found, seeks_stuck
 use Rattle.syslog_grammar.proofs.repeated.holds_id.Goals as goal
 
 pub returns-in_default-element : goal.returns-in_default-element
-returns-in_default-element c = seeks_stuck c.args.elements.now c.args.id.now c.loop-first.rest.now c.in-Some._after.now c.in-Some._first c.in_default-element.field-0.left c.in-Some.ensures c.in_default-element.ensures c.loop-first.invariant
+returns-in_default-element c = seeks_stuck c.args.elements.now c.args.id.now c.loop-first.rest.now c.in-Some._after.now c.in-Some._first c.in_default-element.field-0.remaining c.in-Some.ensures c.in_default-element.ensures c.loop-first.invariant
 
 pub returns-then-eq : goal.returns-then-eq
 returns-then-eq c = seeks_found c.args.elements.now c.args.id.now c.loop-first.rest.now c.in-Ok.behind.now c.in-Some._after.now c.in-Some._first (element_span c.in-Ok.found) c.in-Some.ensures c.in-Ok.ensures (sym c.id.ensures ∙ (bytes_eq-Decides c.id.result.now c.args.id.now).0 (sym c.eq.ensures ∙ c.if-eq.true)) c.loop-first.invariant

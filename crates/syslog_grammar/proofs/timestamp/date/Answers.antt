@@ -2,7 +2,7 @@ use Rattle.std.proofs.Common.{subst}
 use Rattle.std.proofs.lemmas.Result.{err_from_is_err_and}
 use Rattle.octet_language.specs.Reading.{Follows}
 use Rattle.syslog_grammar.specs.Time.{Two}
-use Rattle.syslog_grammar.proofs.Times.{bad_year_month, bad_dash, bad_day, date_read}
+use Rattle.syslog_grammar.proofs.Times.{bad_year_month, bad_nil, bad_day, date_read}
 use Rattle.syslog_grammar.proofs.timestamp.date.Goals as goal
 
 pub returns-in_err-year : goal.returns-in_err-year
@@ -13,7 +13,7 @@ returns-in_err-year c =
 pub returns-in_err-rest : goal.returns-in_err-rest
 returns-in_err-rest c =
     let p = err_from_is_err_and c.from_residual-in_err-rest.result c.from_residual-in_err-rest.ensures.1 in
-    rw (p.1, p.2) (bad_dash _ c.in_ok-year.rest.now (c.in_ok-year.year, c.in_ok-year.month) _ c.in_ok-year.ensures c.in_err-rest.ensures)
+    rw (p.1, p.2) (bad_nil _ c.in_ok-year.rest.now (c.in_ok-year.year, c.in_ok-year.month) _ c.in_ok-year.ensures c.in_err-rest.ensures)
 
 pub returns-in_err-day : goal.returns-in_err-day
 returns-in_err-day c =

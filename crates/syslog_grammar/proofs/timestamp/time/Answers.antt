@@ -2,7 +2,7 @@ use Rattle.std.proofs.Common.{rules, w16}
 use Rattle.std.proofs.lemmas.Int.{to_z-of_z}
 use mir.Val.{SFits}
 use Rattle.std.proofs.lemmas.Result.{err_from_is_err_and}
-use Rattle.syslog_grammar.proofs.Fractions.{bad_date, bad_mark, bad_clock, bad_fraction, time_read}
+use Rattle.syslog_grammar.proofs.Fractions.{bad_date, bad_octet, bad_clock, bad_fraction, time_read}
 use Rattle.syslog_grammar.proofs.timestamp.time.Goals as goal
 
 pub returns-in_err-year : goal.returns-in_err-year
@@ -13,7 +13,7 @@ returns-in_err-year c =
 pub returns-in_err-rest : goal.returns-in_err-rest
 returns-in_err-rest c =
     let p = err_from_is_err_and c.from_residual-in_err-rest.result c.from_residual-in_err-rest.ensures.1 in
-    rw (p.1, p.2) (bad_mark _ c.in_ok-year.rest.now (c.in_ok-year.year, c.in_ok-year.month, c.in_ok-year.day) _ c.in_ok-year.ensures c.in_err-rest.ensures)
+    rw (p.1, p.2) (bad_octet _ c.in_ok-year.rest.now (c.in_ok-year.year, c.in_ok-year.month, c.in_ok-year.day) _ c.in_ok-year.ensures c.in_err-rest.ensures)
 
 pub returns-in_err-hour : goal.returns-in_err-hour
 returns-in_err-hour c =

@@ -1,12 +1,12 @@
 use Rattle.std.proofs.Common.{inl, inr, arith, ◌≢◌, ℕ}
 use Rattle.std.proofs.lemmas.Int.{ints}
 use Rattle.std.proofs.lemmas.Result.{err_from_is_err_and}
-use Rattle.syslog_grammar.proofs.Runs.{IfFront-empty, IfFront-cons}
+use Rattle.syslog_grammar.proofs.Runs.{IfFirst-empty, IfFirst-cons}
 use Rattle.syslog_grammar.proofs.Fractions.{IsSign, no_zone, bad_plus, bad_minus, zone_utc, zone_plus, zone_minus}
 use Rattle.syslog_grammar.proofs.timestamp.zone.Goals as goal
 
 pub returns-in_default : goal.returns-in_default
-returns-in_default c = no_zone c.args.octets.now (IfFront-empty _ _ c.in_default.ensures)
+returns-in_default c = no_zone c.args.octets.now (IfFirst-empty _ _ c.in_default.ensures)
 
 pub returns-then-sign-eq90 : goal.returns-then-sign-eq90
 returns-then-sign-eq90 c = zone_utc c.args.octets.now c.in-Some.rest.now c.in-Some.sign c.in-Some.ensures c.if-sign-eq90.true
@@ -33,4 +33,4 @@ no_sign x a b d (inr (inl e)) = b e
 no_sign x a b d (inr (inr e)) = d e
 
 pub returns : goal.returns
-returns c = no_zone c.args.octets.now (IfFront-cons _ _ _ _ c.in-Some.ensures (no_sign c.in-Some.sign c.if-sign-eq90.false c.if-sign-eq43.false c.if-sign-eq45.false))
+returns c = no_zone c.args.octets.now (IfFirst-cons _ _ _ _ c.in-Some.ensures (no_sign c.in-Some.sign c.if-sign-eq90.false c.if-sign-eq43.false c.if-sign-eq45.false))

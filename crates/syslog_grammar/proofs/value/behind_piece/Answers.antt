@@ -1,24 +1,24 @@
 use Rattle.std.proofs.Common.{◌≡◌, ◌∷◌, ◌⊎◌, inl, inr, sym, subst}
-use Rattle.octet_language.specs.Language.{IfFront}
-use Rattle.syslog_grammar.specs.Stops.{left_of}
+use Rattle.octet_language.specs.Language.{IfFirst}
+use Rattle.syslog_grammar.specs.Stops.{remaining_of}
 use Rattle.syslog_grammar.proofs.Values.{no_piece, piece_behind, piece_other}
 use Rattle.syslog_grammar.proofs.value.behind_piece.Goals as goal
 
 pub returns-in_default : goal.returns-in_default
-returns-in_default c = no_piece c.args.octets.now (subst (IfFront _) (sym c.in_default.ensures) tt)
+returns-in_default c = no_piece c.args.octets.now (subst (IfFirst _) (sym c.in_default.ensures) tt)
 
 pub returns-then-first-eq92 : goal.returns-then-first-eq92
-returns-then-first-eq92 c = piece_behind left_of c.args.octets.now c.in-Some.rest.now _ c.behind_character.result c.in-Some.first c.in-Some.ensures c.if-first-eq92.true c.behind_character.ensures
+returns-then-first-eq92 c = piece_behind remaining_of c.args.octets.now c.in-Some.rest.now _ c.behind_character.result c.in-Some.first c.in-Some.ensures c.if-first-eq92.true c.behind_character.ensures
 
 pub returns-then-first-eq34 : goal.returns-then-first-eq34
 returns-then-first-eq34 c =
     let e : c.args.octets.now ≡ c.in-Some.first ∷ c.in-Some.rest.now = c.in-Some.ensures in
-    no_piece c.args.octets.now (subst (IfFront (λ x. (x ≡ 34) ⊎ (x ≡ 93))) (sym e) (inl c.if-first-eq34.true))
+    no_piece c.args.octets.now (subst (IfFirst (λ x. (x ≡ 34) ⊎ (x ≡ 93))) (sym e) (inl c.if-first-eq34.true))
 
 pub returns-then-first-eq93 : goal.returns-then-first-eq93
 returns-then-first-eq93 c =
     let e : c.args.octets.now ≡ c.in-Some.first ∷ c.in-Some.rest.now = c.in-Some.ensures in
-    no_piece c.args.octets.now (subst (IfFront (λ x. (x ≡ 34) ⊎ (x ≡ 93))) (sym e) (inr c.if-first-eq93.true))
+    no_piece c.args.octets.now (subst (IfFirst (λ x. (x ≡ 34) ⊎ (x ≡ 93))) (sym e) (inr c.if-first-eq93.true))
 
 pub returns : goal.returns
-returns c = piece_other left_of c.args.octets.now c.in-Some.rest.now _ c.behind_character-2.result c.in-Some.first c.in-Some.ensures c.if-first-eq34.false c.if-first-eq92.false c.if-first-eq93.false c.behind_character-2.ensures
+returns c = piece_other remaining_of c.args.octets.now c.in-Some.rest.now _ c.behind_character-2.result c.in-Some.first c.in-Some.ensures c.if-first-eq34.false c.if-first-eq92.false c.if-first-eq93.false c.behind_character-2.ensures

@@ -1,10 +1,10 @@
 use Rattle.std.proofs.Common.{◌≡◌, ◌≢◌, ◌<◌, ◌∷◌, [], length, sym, subst, arith}
 use Rattle.std.proofs.lemmas.Result.{err_from_is_err_and}
-use Rattle.octet_language.specs.Language.{IfFront}
+use Rattle.octet_language.specs.Language.{IfFirst}
 use Rattle.syslog_grammar.specs.Values.{Piece}
 use Rattle.octet_language.specs.Language.{AnyOf}
 use Rattle.syslog_grammar.proofs.Loops.{carries_all, carries_more, carried_fails, carried_ends, takes_some}
-use Rattle.syslog_grammar.proofs.Values.{OneFront-piece, no_piece, piece_some, carries_plain, plain_takes}
+use Rattle.syslog_grammar.proofs.Values.{IsPrefixFree-piece, no_piece, piece_some, carries_plain, plain_takes}
 use Rattle.syslog_grammar.proofs.value.behind_value.Goals as goal
 
 pub returns-then-first-eq34 : goal.returns-then-first-eq34
@@ -14,7 +14,7 @@ pub returns-in_err-behind : goal.returns-in_err-behind
 returns-in_err-behind c =
     let p = err_from_is_err_and c.from_residual.result c.from_residual.ensures.1 in
     let e : c.loop-first.rest.now ≡ c.in-Some.first ∷ c.in-Some.after.now = c.in-Some.ensures in
-    rw (p.1, p.2) (carried_fails Piece 34 c.args.octets.now c.loop-first.rest.now _ (subst (IfFront (λ x. x ≢ 34)) (sym e) c.if-first-eq34.false) c.loop-first.invariant c.in_err-behind.ensures)
+    rw (p.1, p.2) (carried_fails Piece 34 c.args.octets.now c.loop-first.rest.now _ (subst (IfFirst (λ x. x ≢ 34)) (sym e) c.if-first-eq34.false) c.loop-first.invariant c.in_err-behind.ensures)
 
 pub loop-first-smaller : goal.loop-first-smaller
 loop-first-smaller c =
@@ -25,12 +25,12 @@ pub loop-first-preserved : goal.loop-first-preserved
 loop-first-preserved c =
     let e : c.loop-first.rest.now ≡ c.in-Some.first ∷ c.in-Some.after.now = c.in-Some.ensures in
     carries_plain c.args.octets.now c.in_ok-behind.behind.now c.behind_plain-rest-in-Some.result.now c.behind_plain-rest-in-Some.ensures
-    (carries_more Piece 34 c.args.octets.now c.loop-first.rest.now c.in_ok-behind.behind.now OneFront-piece (subst (IfFront (λ x. x ≢ 34)) (sym e) c.if-first-eq34.false) c.in_ok-behind.ensures c.loop-first.invariant)
+    (carries_more Piece 34 c.args.octets.now c.loop-first.rest.now c.in_ok-behind.behind.now IsPrefixFree-piece (subst (IfFirst (λ x. x ≢ 34)) (sym e) c.if-first-eq34.false) c.in_ok-behind.ensures c.loop-first.invariant)
 
 pub returns : goal.returns
 returns c =
     let e : c.loop-first.rest.now ≡ [] = c.in_default.ensures in
-    carried_fails Piece 34 c.args.octets.now c.loop-first.rest.now _ (subst (IfFront (λ x. x ≢ 34)) (sym e) tt) c.loop-first.invariant (no_piece c.loop-first.rest.now (subst (IfFront _) (sym e) tt))
+    carried_fails Piece 34 c.args.octets.now c.loop-first.rest.now _ (subst (IfFirst (λ x. x ≢ 34)) (sym e) tt) c.loop-first.invariant (no_piece c.loop-first.rest.now (subst (IfFirst _) (sym e) tt))
 
 pub loop-first-init : goal.loop-first-init
 loop-first-init c = carries_plain c.args.octets.now c.args.octets.now c.behind_plain-rest.result.now c.behind_plain-rest.ensures (carries_all Piece _ c.args.octets.now)

@@ -5,7 +5,7 @@ use Rattle.syslog_value.proofs.structured.has_equal_neighbours.Goals as goal
 
 pub returns-then-eq : goal.returns-then-eq
 returns-then-eq c =
-    let same = (bytes_eq-Decides c.id.result.now c.id-in-loop-place.result.now).0 (sym c.eq.ensures ∙ c.if-eq.true) in
-    let within : c.loop-place.place < length c.args.elements.now = omega arith in
-    equal_from_reads _ c.loop-place.place _ _ c.loop-place.auto.place within c.index-elements-place.is c.index-elements-place-in-loop-place.is
-    (sym c.id.ensures.value ∙ same ∙ c.id-in-loop-place.ensures.value)
+    let same = (bytes_eq-Decides c.id.result.now c.id-in-loop-offset.result.now).0 (sym c.eq.ensures ∙ c.if-eq.true) in
+    let within : c.loop-offset.offset < length c.args.elements.now = omega arith in
+    equal_from_reads _ c.loop-offset.offset _ _ c.loop-offset.auto.offset within c.index-elements-offset.is c.index-elements-offset-in-loop-offset.is
+    (sym c.id.ensures.value ∙ same ∙ c.id-in-loop-offset.ensures.value)

@@ -1,7 +1,7 @@
 use Rattle.std.proofs.Common.{refl}
 use Rattle.std.proofs.lemmas.Result.{on_ok_weaker}
 use Rattle.syslogbox.specs.Converted.{Framed}
-use Rattle.syslogbox.specs.Dealings.{done_of}
+use Rattle.syslogbox.specs.Pending.{done_of}
 use Rattle.syslogbox.proofs.ConvertLemmas.{adds_behind, out_framed, out_line, out_long}
 use Rattle.syslogbox.proofs.convert.put_framed.Goals as goal
 

@@ -1,6 +1,6 @@
 use Rattle.std.proofs.Common.{◌≡◌, ◌∙◌, ℕ, ap, take, length, rules}
 use Rattle.syslogbox.specs.Showing.{RecordLines}
-use Rattle.syslog_grammar.proofs.Appends.{adds_front, puts_begun}
+use Rattle.syslog_grammar.proofs.Appends.{adds_prefix, puts_begun}
 use Rattle.syslog_grammar.specs.Appending.{Anything}
 use Rattle.syslogbox.proofs.ShowLemmas.{always_err}
 use Rattle.syslogbox.proofs.record_lines.put_record_lines.Goals as goal
@@ -11,4 +11,4 @@ returns-then-is_err-clause-err c =
     let new = c.append_record_lines-put.new.out.items in
     let begun = puts_begun (RecordLines c.args.number c.args.record.now) old new c.append_record_lines-put.result c.append_record_lines-put.ensures in
     let len : c.len-before.result ≡ length old = search rules in
-    always_err c.append_record_lines-put.result (c.truncate.new.self.items ≡ old) (c.truncate.ensures.items ∙ ap (λ (n : ℕ). take n new) len ∙ adds_front Anything old new begun)
+    always_err c.append_record_lines-put.result (c.truncate.new.self.items ≡ old) (c.truncate.ensures.items ∙ ap (λ (n : ℕ). take n new) len ∙ adds_prefix Anything old new begun)

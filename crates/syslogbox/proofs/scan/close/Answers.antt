@@ -1,5 +1,5 @@
 use Rattle.std.proofs.Common.{refl}
-use Rattle.syslogbox.specs.Dealings.{done_of}
+use Rattle.syslogbox.specs.Pending.{done_of}
 use Rattle.syslogbox.proofs.ScanLemmas.{moved_out}
 use Rattle.syslogbox.proofs.scan.close.Goals as goal
 

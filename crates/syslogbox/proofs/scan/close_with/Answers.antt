@@ -1,4 +1,4 @@
-use Rattle.syslogbox.specs.Dealings.{done_of}
+use Rattle.syslogbox.specs.Pending.{done_of}
 use Rattle.syslogbox.proofs.ScanLemmas.{moved_out}
 use Rattle.syslogbox.proofs.scan.close_with.Goals as goal
 

@@ -1,9 +1,9 @@
 use Rattle.std.proofs.Common.{refl, sym, subst, inl, inr, arith}
 use Rattle.std.proofs.lemmas.Result.{on_ok_weaker}
 use Rattle.syslog_frame.specs.Frames.{Frames}
-use Rattle.syslogbox.specs.Dealings.{done_of}
-use Rattle.syslogbox.specs.Dealt.{nothing}
-use Rattle.syslogbox.proofs.DealtLemmas.{then_nothing}
+use Rattle.syslogbox.specs.Pending.{done_of}
+use Rattle.syslogbox.specs.Handling.{nothing}
+use Rattle.syslogbox.proofs.HandlingLemmas.{then_nothing}
 use Rattle.syslogbox.proofs.stream.end_stream.Goals as goal
 
 pub returns-in-Ok-clause-ok : goal.returns-in-Ok-clause-ok
@@ -13,8 +13,8 @@ returns-in-Ok-clause-ok g c = λ kind octets frames rest r.
 
 pub returns-in-Err-Unterminated-clause-ok : goal.returns-in-Err-Unterminated-clause-ok
 returns-in-Err-Unterminated-clause-ok g c =
-    on_ok_weaker c.tell.result
+    on_ok_weaker c.report.result
     (λ e kind octets frames rest r.
     let q = rw c.in-Err-Unterminated.field-0-is at (c.in-Err-Unterminated.ensures.reads kind 0 octets frames rest r) in
     (q.0, (_, inr (inl (c.in-Err-Unterminated.start, q.2, q.1, omega (arith, q.3), refl)), e)))
-    c.tell.ensures.ok
+    c.report.ensures.ok

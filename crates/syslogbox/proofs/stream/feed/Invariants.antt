@@ -1,10 +1,10 @@
 use Rattle.std.proofs.Common.{◌≡◌, ◌+◌, ◌≤◌, ℕ, List, length}
 use Rattle.syslog_frame.specs.Scan.{IsReading}
 use Rattle.syslog_frame.specs.declared.framing.Framing.{Framing}
-use Rattle.syslogbox.specs.Dealings.{done_of}
-use Rattle.syslogbox.specs.Dealt.{Done, then_done}
-use Rattle.syslogbox.specs.Streams.{HasDealt}
-use Rattle.syslogbox.proofs.StreamLemmas.{DealtPiece}
+use Rattle.syslogbox.specs.Pending.{done_of}
+use Rattle.syslogbox.specs.Handling.{Done, then_done}
+use Rattle.syslogbox.specs.Streams.{HasHandled}
+use Rattle.syslogbox.proofs.StreamLemmas.{HandledPiece}
 use Rattle.syslogbox.proofs.stream.feed.Given as goal
 
 abbrev pub invariant-loop-rest : goal.invariant-loop-rest
@@ -12,8 +12,8 @@ invariant-loop-rest g l = record {
   reading : IsReading l.scanner;
   position : l.scanner.position + length l.rest ≡ l.fn.scanner.position + length l.piece;
   few : l.number + length l.rest ≤ l.fn.number + length l.piece;
-  dealt : (kind : Framing) (octets : List ℕ) (before : Done) → HasDealt (g.D.Dealer.deals l.dealer) l.fn.scanner kind octets l.fn.number (then_done before (done_of l.fn.done))
-      → DealtPiece (g.D.Dealer.deals l.dealer) l.scanner kind octets l.piece l.rest l.number (then_done before (done_of l.done));
+  handled : (kind : Framing) (octets : List ℕ) (before : Done) → HasHandled (g.D.FrameHandler.handles l.handler) l.fn.scanner kind octets l.fn.number (then_done before (done_of l.fn.done))
+      → HandledPiece (g.D.FrameHandler.handles l.handler) l.scanner kind octets l.piece l.rest l.number (then_done before (done_of l.done));
 }
 
 abbrev pub decreases-loop-rest : goal.decreases-loop-rest

@@ -19,8 +19,8 @@ returns-in-BadCount-clause-reads c = λ kind first octets frames rest r.
     let s = rw (← c.self.view_is) at r in
     read_bad _ _ kind first octets frames rest c.in-BadCount.is s
 
-pub returns-in_default-clause-tells : goal.returns-in_default-clause-tells
-returns-in_default-clause-tells c = rw (← c.self.view_is) (reading_or_failed (scan_of c.self.inside) c.in_default.not-Ended c.in_default.not-BadCount)
+pub returns-in_default-clause-reports : goal.returns-in_default-clause-reports
+returns-in_default-clause-reports c = rw (← c.self.view_is) (reading_or_failed (scan_of c.self.inside) c.in_default.not-Ended c.in_default.not-BadCount)
 
 pub returns-in_default-clause-stands : goal.returns-in_default-clause-stands
 returns-in_default-clause-stands c = λ kind position p h.

@@ -2,12 +2,12 @@ use Rattle.std.proofs.Common.{List, ℕ, refl, sym, subst}
 use Rattle.std.specs.Prelude.{Option}
 use Rattle.std.proofs.lemmas.Result.{on_ok_weaker}
 use Rattle.syslog_frame.specs.declared.framing.Framing.{Framing}
-use Rattle.syslog_grammar.specs.Shown.{IsShown, shown}
+use Rattle.syslog_grammar.specs.ViewParts.{IsViewOf, view_parts}
 use Rattle.syslog_grammar.specs.WellFormed.{AddsCanonical}
 use Rattle.syslogbox.specs.Converted.{Converts}
-use Rattle.syslogbox.specs.Dealings.{Adds, done_of}
+use Rattle.syslogbox.specs.Pending.{Adds, done_of}
 use Rattle.syslogbox.proofs.ConvertLemmas.{at_ok, bare, in_frame, some_octets}
-use Rattle.syslogbox.proofs.DealtLemmas.{build}
+use Rattle.syslogbox.proofs.HandlingLemmas.{build}
 use Rattle.syslogbox.proofs.convert.Convert.put_record.Goals as goal
 
 pub returns-in_default-clause-ok : goal.returns-in_default-clause-ok
@@ -15,7 +15,7 @@ returns-in_default-clause-ok c =
     on_ok_weaker c.put_canonical.result
     (λ h b shows. subst (λ (to : Option Framing). Adds (Converts to c.args.number b) (done_of c.args.done.now) (build c.args.done.now.refused c.put_canonical.new.out.items c.args.done.now.notes.items)) (sym c.in_default.is)
     (bare c.args.number b (done_of c.args.done.now) (build c.args.done.now.refused c.put_canonical.new.out.items c.args.done.now.notes.items) (h b shows) refl refl))
-    (at_ok c.put_canonical.result (λ (b : List ℕ). IsShown b (shown c.args.view.now)) (λ (b : List ℕ). AddsCanonical b c.args.done.now.output.items c.put_canonical.new.out.items) c.put_canonical.ensures.ok)
+    (at_ok c.put_canonical.result (λ (b : List ℕ). IsViewOf b (view_parts c.args.view.now)) (λ (b : List ℕ). AddsCanonical b c.args.done.now.output.items c.put_canonical.new.out.items) c.put_canonical.ensures.ok)
 
 pub put_framed-requires : goal.put_framed-requires
 put_framed-requires c =

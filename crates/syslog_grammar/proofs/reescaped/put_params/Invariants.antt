@@ -1,0 +1,9 @@
+use Rattle.std.proofs.Common.{length}
+use Rattle.syslog_grammar.proofs.Rewritten.{ParamsWritten}
+use Rattle.syslog_grammar.proofs.reescaped.put_params.Given as goal
+
+abbrev pub invariant-loop-first : goal.invariant-loop-first
+invariant-loop-first l = ParamsWritten l.params l.rest l.fn.out.items l.out.items
+
+abbrev pub decreases-loop-first : goal.decreases-loop-first
+decreases-loop-first l = length l.rest

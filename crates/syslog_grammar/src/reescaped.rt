@@ -1,0 +1,100 @@
+//! The canonical octets of structured data, from any octets that spell it.
+
+ghost use Rattle.syslog_grammar.specs.Appending.{Puts};
+ghost use Rattle.syslog_grammar.specs.Reescaped.{AreUnordered, StructuredDataOf, ElementOf, ElementsOf, IsUnordered};
+ghost use Rattle.syslog_grammar.specs.Reescaped.{ParamOf, ParamsOf, PutsUnless, ValueOf};
+ghost use Rattle.syslog_grammar.specs.Views.{element_span, param_span};
+
+use crate::appending::put;
+use crate::element::{ElementView, ParamView, element, param};
+use crate::reading::next;
+use crate::repeated::is_above;
+use crate::structured_data_form::has_structured_data_form;
+use crate::unescape::split_meaning;
+use memchr::memchr;
+use std::alloc::AllocError;
+
+/// Appends the canonical spelling of a value: a backslash that is no escape is written twice.
+fn put_value(raw: &[u8], out: &mut Vec<u8>) -> Result<(), AllocError>
+    ensures { Puts (ValueOf raw.now) out.old.items out.new.items result }
+{
+    let mut rest = raw;
+    while let Some(offset) = memchr(b'\\', rest) {
+        let (plain, escaped_rest) = rest.split_at(offset);
+        let (octet, behind) = split_meaning(escaped_rest);
+        put(plain, out)?;
+        put(b"\\", out)?;
+        put(octet, out)?;
+        rest = behind;
+    }
+    put(rest, out)
+}
+
+/// Appends a space and a parameter.
+fn put_param(param: &ParamView<'_>, out: &mut Vec<u8>) -> Result<(), AllocError>
+    ensures { Puts (ParamOf (param_span param.now)) out.old.items out.new.items result }
+{
+    put(b" ", out)?;
+    put(param.name(), out)?;
+    put(b"=\"", out)?;
+    put_value(param.raw(), out)?;
+    put(b"\"", out)
+}
+
+/// Appends the parameters of a text of parameters.
+fn put_params(params: &[u8], out: &mut Vec<u8>) -> Result<(), AllocError>
+    ensures { Puts (ParamsOf params.now) out.old.items out.new.items result }
+{
+    let mut rest = params;
+    while let Some((_first, _after)) = next(rest) {
+        let Ok((found, behind)) = param(rest) else {
+            return Err(AllocError);
+        };
+        put_param(&found, out)?;
+        rest = behind;
+    }
+    Ok(())
+}
+
+/// Appends an element.
+fn put_element(element: &ElementView<'_>, out: &mut Vec<u8>) -> Result<(), AllocError>
+    ensures { Puts (ElementOf (element_span element.now)) out.old.items out.new.items result }
+{
+    put(b"[", out)?;
+    put(element.id(), out)?;
+    put_params(element.params_text(), out)?;
+    put(b"]", out)
+}
+
+/// Appends elements, up to one whose id is not above those before it.
+fn put_ascending(elements: &[u8], out: &mut Vec<u8>) -> Result<bool, AllocError>
+    ensures { PutsUnless (ElementsOf elements.now) (AreUnordered elements.now) out.old.items out.new.items result }
+{
+    let mut rest = elements;
+    let mut greatest: Option<&[u8]> = None;
+    while let Some((_first, _after)) = next(rest) {
+        let Ok((found, behind)) = element(rest) else {
+            return Ok(false);
+        };
+        let id = found.id();
+        if !is_above(id, greatest) {
+            return Ok(false);
+        }
+        put_element(&found, out)?;
+        greatest = Some(id);
+        rest = behind;
+    }
+    Ok(true)
+}
+
+/// Appends structured data whose elements stand by id. Where they do not, the answer is false, and
+/// a part of them may have been appended.
+pub fn put_structured_data(structured_data: &[u8], out: &mut Vec<u8>) -> Result<bool, AllocError>
+    ensures { PutsUnless (StructuredDataOf structured_data.now) (IsUnordered structured_data.now) out.old.items out.new.items result }
+{
+    if has_structured_data_form(structured_data) {
+        put(structured_data, out)?;
+        return Ok(true);
+    }
+    put_ascending(structured_data, out)
+}

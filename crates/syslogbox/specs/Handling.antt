@@ -1,0 +1,28 @@
+-- What comes of an input whose frames are handled one after the other.
+use Rattle.std.specs.Prelude.{◌≡◌, ℕ, ◌+◌, List, [], ◌∷◌, ◌++◌, Bool, false, ◌||◌}
+
+-- what was done: whether something was refused, what went out, and the lines of notes
+pub record Done : Type 0 where
+  pub refused : Bool
+  pub output : List ℕ
+  pub notes : List ℕ
+
+abbrev pub nothing : Done
+nothing = record { refused = false; output = []; notes = [] }
+
+-- one behind the other
+abbrev pub then_done : Done → Done → Done
+then_done a b = record { refused = a.refused || b.refused; output = a.output ++ b.output; notes = a.notes ++ b.notes }
+
+-- what is done with a frame, by its number
+abbrev pub Handling : Type 1
+Handling = ℕ → List ℕ → Done → Type 0
+
+-- what is done with frames, the first of them with this number
+abbrev pub HandledFrom : Handling → ℕ → List (List ℕ) → Done → Type 0
+HandledFrom D n [] d = d ≡ nothing
+HandledFrom D n (f ∷ fs) d = (a : Done) × (b : Done) × D n f a × HandledFrom D (n + 1) fs b × (d ≡ then_done a b)
+
+-- one frame has one output
+abbrev pub HasOneOutput : Handling → Type 0
+HasOneOutput D = (n : ℕ) (f : List ℕ) (a b : Done) → D n f a → D n f b → a.output ≡ b.output
