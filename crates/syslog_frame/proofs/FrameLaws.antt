@@ -77,7 +77,7 @@ unique_frames kind stream f g r q a b =
     (same, append_cancel_left (flat_map (framed kind) f) r q (sym a.whole ∙ b.whole ∙ ap (λ (fs : List (List ℕ)). flat_map (framed kind) fs ++ q) (sym same)))
 
 -- no frame is nothing
-some : (kind : Framing) (f : List ℕ) → 0 < length (framed kind f)
+pub some : (kind : Framing) (f : List ℕ) → 0 < length (framed kind f)
 some Lf f = omega (arith, length-append f (10 ∷ []))
 some Counted f = omega (arith, length-append (decimal (length f)) (32 ∷ f))
 

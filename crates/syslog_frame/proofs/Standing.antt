@@ -26,7 +26,7 @@ HasPrefix-counted s (f, (a, e)) = (length f, f, a.0, a.1, e)
 begins_line : (p : List ℕ) → IsLine p → Begins (Whole Lf) p
 begins_line p h = (10 ∷ [], (p, (h, refl)))
 
-none_in_line : (p : List ℕ) → IsLine p → NoPrefix (Whole Lf) p
+pub none_in_line : (p : List ℕ) → IsLine p → NoPrefix (Whole Lf) p
 none_in_line p h x y e (f, (a, b)) = not_free 10 p f y h (e ∙ ap (λ (u : List ℕ). u ++ y) b ∙ one_more f 10 y)
 
 -- octets behind a count, up to it
@@ -45,7 +45,7 @@ begins_count c q small is =
     let b = begins_counted g.0 [] (q ++ g.1) g.2 g.3 (omega arith) g.4 in
     (g.1 ++ b.0, subst (Whole Counted) (append_assoc q g.1 b.0) b.1)
 
-none_inside : (n : ℕ) (r p : List ℕ) → n ≤ COUNT_MAX → length r < n → p ≡ decimal n ++ 32 ∷ r → NoPrefix (Whole Counted) p
+pub none_inside : (n : ℕ) (r p : List ℕ) → n ≤ COUNT_MAX → length r < n → p ≡ decimal n ++ 32 ∷ r → NoPrefix (Whole Counted) p
 none_inside n r p small short e x y d (f, (a, b)) =
     let same = same_count n (length f) r (f ++ y) small a.1 (sym e ∙ d ∙ ap (λ (u : List ℕ). u ++ y) b ∙ append_assoc (decimal (length f)) (32 ∷ f) y) in
     omega (arith, same.0, ap length same.1, length-append f y, short)

@@ -12,6 +12,12 @@ pub fn frames_are_unique()
         → Frames kind stream f r → Frames kind stream g q → (f ≡ g) × (r ≡ q) }
 {}
 
+/// Each stream has frames and a rest.
+pub fn streams_have_frames()
+    ensures { (kind : Framing) (stream : List ℕ)
+        → (frames : List (List ℕ)) × (rest : List ℕ) × Frames kind stream frames rest }
+{}
+
 /// The frames of a stream begin those of each longer stream.
 pub fn frames_begin()
     ensures { (kind : Framing) (stream more : List ℕ) (f g : List (List ℕ)) (r q : List ℕ)

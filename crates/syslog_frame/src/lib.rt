@@ -22,7 +22,7 @@ pub use fault::{EndFault, PiecesFault, PutFault, ScanFault, StartFault};
 pub use framing::Framing;
 pub use laws::{
     bad_counts_end_streams, frames_are_unique, frames_begin, frames_go_on,
-    frames_of_a_concatenation,
+    frames_of_a_concatenation, streams_have_frames,
 };
 pub use limits::{COUNT_MAX, FRAME_MAX, POSITION_MAX};
 pub use pieces::{StreamEnd, StreamFrames, frames_of_pieces};
