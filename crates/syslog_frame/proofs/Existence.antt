@@ -50,7 +50,7 @@ first_of_lines b =
 
 -- ---- counted records
 
--- behind a count and its space: enough octets, or too few
+-- after a count and its space: enough octets, or too few
 first_of_record : (n : ℕ) (r b : List ℕ) → 0 < n → n ≤ COUNT_MAX → b ≡ decimal n ++ 32 ∷ r → HasFirst Counted b
 first_of_record n r b positive small e =
     elim (cases_lt (length r) n) [
