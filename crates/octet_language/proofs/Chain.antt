@@ -1,4 +1,4 @@
--- Field behind field: what a failing field says of the whole.
+-- Field after field: what a failing field says of the whole.
 use Rattle.std.proofs.Common.{◌≡◌, ℕ, List, [], ◌∷◌, ◌++◌, ◌<◌, length, refl, sym, ap, subst, ◌∙◌, append_assoc, arith}
 use Rattle.std.specs.Prelude.{Result, Ok, Err}
 use Rattle.std.proofs.lemmas.List.{length-append, append-nil}
@@ -7,7 +7,7 @@ use Rattle.octet_language.specs.Reading.{Fails, Follows, Passes, Reads}
 use Rattle.octet_language.proofs.Lists.{one_more}
 use Rattle.octet_language.proofs.Sequence.{NoPrefix-first, Stops-first, NoPrefix-later, Stops-later}
 
--- the one text has one prefix
+-- a language of one text is prefix-free
 pub IsPrefixFree-only : (a : List ℕ) → IsPrefixFree (Only a)
 IsPrefixFree-only a p s q t g h e = g ∙ sym h
 
@@ -32,7 +32,7 @@ Fails-same L M b remaining to from f = record {
 pub IsPrefixFree-same : (L M : Language) → ((s : List ℕ) → M s → L s) → IsPrefixFree L → IsPrefixFree M
 IsPrefixFree-same L M from one p s q t h k e = one p s q t (from p h) (from q k) e
 
--- ---- where the values stand in a sequence
+-- ---- where the values are in a sequence
 
 pub Fails-first_value : {V : Type 0} (A : V → Language) (B : Language) (b : List ℕ) (remaining : ℕ) → Fails (AnyOf A ⋅ B) b remaining → Fails (AnyOf (λ v. A v ⋅ B)) b remaining
 Fails-first_value A B b remaining f =
@@ -52,18 +52,18 @@ Fails-second_value A B b remaining f =
 pub Fails-first : (A B : Language) (b t : List ℕ) (remaining : ℕ) → B t → Fails A b remaining → Fails (A ⋅ B) b remaining
 Fails-first A B b t remaining some f = record { none = NoPrefix-first A B b f.none; stops = Stops-first A B b remaining t some f.none f.stops }
 
--- behind a text of the first, the two fail where the second fails
+-- after a text of the first, the two fail where the second fails
 pub Fails-later : (A B : Language) (b rest : List ℕ) (remaining : ℕ) → IsPrefixFree A → Follows A b rest → Fails B rest remaining → Fails (A ⋅ B) b remaining
 Fails-later A B b rest remaining one a f = record {
   none = NoPrefix-later A B b a.0 rest one a.2 a.1 f.none;
   stops = Stops-later A B b a.0 rest remaining one a.2 a.1 f.stops;
 }
 
--- a text of each, one behind the other
+-- a text of each, one after the other
 pub Follows-then : (A B : Language) (b behind rest : List ℕ) → Follows A b behind → Follows B behind rest → Follows (A ⋅ B) b rest
 Follows-then A B b behind rest f g = (f.0 ++ g.0, f.1 ∙ ap (λ (k : List ℕ). f.0 ++ k) g.1 ∙ sym (append_assoc f.0 g.0 rest), (f.0, g.0, refl, f.2, g.2))
 
--- a reader of the second, called behind a text of the first, reads the two
+-- a reader of the second, called after a text of the first, reads the two
 pub Reads-later : {V X E : Type 0} (at : E → ℕ) (A : Language) (B : V → Language) (view : X → V × List ℕ) (b behind : List ℕ) (r : Result X E) → IsPrefixFree A → Follows A b behind → Reads at B view behind r → Reads at (λ v. A ⋅ B v) view b r
 Reads-later at A B view b behind (Ok x) one f g = Follows-then A (B (view x).0) b behind (view x).1 f g
 Reads-later at A B view b behind (Err e) one f g = Fails-second_value A B b (at e) (Fails-later A (AnyOf B) b behind (at e) one f g)
@@ -74,7 +74,7 @@ Reads-later at A B view b behind (Err e) one f g = Fails-second_value A B b (at 
 abbrev pub Behind : Language → List ℕ → Language → List ℕ → Type 0
 Behind L b N rest = (remaining : ℕ) → Fails N rest remaining → Fails L b remaining
 
--- behind one more field
+-- after one more field
 pub further : (L A N : Language) (b behind rest : List ℕ) → IsPrefixFree A → Behind L b (A ⋅ N) behind → Follows A behind rest → Behind L b N rest
 further L A N b behind rest one k f = λ remaining g. k remaining (Fails-later A N behind rest remaining one f g)
 
@@ -91,7 +91,7 @@ some_value A v b rest f = (f.0, f.1, (v, f.2))
 
 -- ---- the end of the input
 
--- octets behind a whole text of a language with one prefix
+-- octets after a whole text of a prefix-free language
 Refuses-behind : (L : Language) (t rest : List ℕ) → IsPrefixFree L → L t → Refuses L t rest
 Refuses-behind L t [] one h = tt
 Refuses-behind L t (x ∷ rest) one h = λ (more, k).

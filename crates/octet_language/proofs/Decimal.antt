@@ -37,7 +37,7 @@ no_zero v y z vs e =
       | inr le ↦ omega (arith, ap length (sym (decimal_digit v (omega arith)) ∙ e))
     ]
 
--- a decimal text that goes on behind that of n: n is not 0, a digit follows, and the number is at least that far
+-- a decimal text that continues that of n: n is not 0, a digit follows, and the number is at least that large
 pub goes_on : (v n y : ℕ) (z : List ℕ) → v < 2 ^ 64 → n < 2 ^ 64 → decimal v ≡ decimal n ++ y ∷ z → (0 < n) × IsDigit y × (10 * n + (y - 48) ≤ v)
 goes_on v n y z vs ns e =
     let digits = AllByRecursion-right IsDigit (decimal n) (y ∷ z) (subst (AllByRecursion IsDigit) e (digits_decimal v vs)) in
@@ -57,7 +57,7 @@ one_digit x d =
     let back : 48 + (x - 48) ≡ x = omega arith in
     decimal_digit (x - 48) (omega arith) ∙ ap (λ (k : ℕ). k ∷ []) back
 
--- one more digit behind a number
+-- one more digit after a number
 pub next_digit : (n x : ℕ) → 0 < n → IsDigit x → 10 * n + (x - 48) < 2 ^ 64 → decimal (10 * n + (x - 48)) ≡ decimal n ++ x ∷ []
 next_digit n x positive d fits =
     let m = 10 * n + (x - 48) in

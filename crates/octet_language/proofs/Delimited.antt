@@ -1,4 +1,4 @@
--- Where a text that is not finished stops, and a text up to the mark behind it.
+-- Where an unfinished text stops, and a text up to the delimiter that follows it.
 use Rattle.std.proofs.Common.{◌≡◌, ◌≢◌, ℕ, List, [], ◌∷◌, ◌++◌, length, refl, sym, ap, subst, ◌∙◌, append_assoc, arith, inl, inr}
 use Rattle.std.specs.List.{AllByRecursion}
 use Rattle.std.proofs.lemmas.List.{length-append, append-nil}
@@ -6,7 +6,7 @@ use Rattle.octet_language.specs.Language.{Language, Only, ◌⋅◌, Refuses, No
 use Rattle.octet_language.specs.Reading.{Fails}
 use Rattle.octet_language.proofs.Lists.{parted, one_more, heads, tails, same_until, AllByRecursion-left}
 
--- no text ends within p, where a text goes on behind p
+-- no text ends within p, where a text continues p
 within : (L : Language) (p m a w : List ℕ) (y : ℕ) → IsPrefixFree L → L (p ++ y ∷ m) → p ≡ a ++ w → L a → ⊥
 within L p m a w y one h e la =
     let same : a ≡ p ++ y ∷ m = one a (w ++ y ∷ m) (p ++ y ∷ m) [] la h (sym (append_assoc a w (y ∷ m)) ∙ ap (λ (s : List ℕ). s ++ y ∷ m) (sym e) ∙ sym (append-nil (p ++ y ∷ m))) in
@@ -20,16 +20,16 @@ NoPrefix-from_unfinished L p (x ∷ rest) m y one h r a b e la =
       | inr w ↦ within L p m a w.0 y one h w.1 la
     ]
 
--- a text goes on behind p, but none with what is left: there a text of the language stops
+-- a text continues p, but none with what is left: there a text of the language stops
 pub Fails-from_unfinished : (L : Language) (b p rest m : List ℕ) (y : ℕ) → IsPrefixFree L → b ≡ p ++ rest → L (p ++ y ∷ m) → Refuses L p rest → Fails L b (length rest)
 Fails-from_unfinished L b p rest m y one e h r = record {
   none = subst (NoPrefix L) (sym e) (NoPrefix-from_unfinished L p rest m y one h r);
   stops = record { read = p; rest = rest; parts = e; count = refl; begins = (y ∷ m, h); refuses = r };
 }
 
--- ---- up to a mark
+-- ---- up to a delimiter
 
--- a language whose texts are free of a mark, and the mark behind them
+-- a language whose texts are free of a delimiter, and the delimiter that follows them
 pub IsPrefixFree-delimited : (L : Language) (x : ℕ) → ((a : List ℕ) → L a → AllByRecursion (λ y. y ≢ x) a) → IsPrefixFree (L ⋅ Only (x ∷ []))
 IsPrefixFree-delimited L x free p s q t g h e =
     let left : p ++ s ≡ g.0 ++ x ∷ s = ap (λ (k : List ℕ). k ++ s) (g.2 ∙ ap (λ (k : List ℕ). g.0 ++ k) g.4) ∙ one_more g.0 x s in
@@ -41,7 +41,7 @@ last_octet : (w m : List ℕ) (x y : ℕ) → w ++ y ∷ m ≡ x ∷ [] → (w �
 last_octet [] m x y e = (refl, heads y x m [] e)
 last_octet (c ∷ w) m x y e = absurd (omega (arith, ap length (tails c x (w ++ y ∷ m) [] e), length-append w (y ∷ m)))
 
--- with the mark behind, octets are refused that neither go on nor are the mark at the end of a text
+-- with the delimiter that follows, octets are refused that neither continue a text nor delimit it
 Refuses-delimited : (L : Language) (x : ℕ) (p rest : List ℕ) → Refuses L p rest → IfFirst (λ y. y ≡ x → ¬ (L p)) rest → Refuses (L ⋅ Only (x ∷ [])) p rest
 Refuses-delimited L x p [] r early = tt
 Refuses-delimited L x p (y ∷ rest) r early = λ (more, h).
@@ -56,13 +56,13 @@ unfinished : (L : Language) (x : ℕ) (p m : List ℕ) → L (p ++ m) → (y : �
 unfinished L x p [] h = (x, [], (p ++ [], x ∷ [], sym (append_assoc p [] (x ∷ [])), h, refl))
 unfinished L x p (y ∷ m) h = (y, m ++ x ∷ [], (p ++ y ∷ m, x ∷ [], sym (append_assoc p (y ∷ m) (x ∷ [])), h, refl))
 
--- where a text and the mark behind it stop
+-- where a text and the delimiter that follows it stop
 pub Fails-delimited : (L : Language) (x : ℕ) (b p rest m : List ℕ) → ((a : List ℕ) → L a → AllByRecursion (λ y. y ≢ x) a) → b ≡ p ++ rest → L (p ++ m) → Refuses L p rest → IfFirst (λ y. y ≡ x → ¬ (L p)) rest → Fails (L ⋅ Only (x ∷ [])) b (length rest)
 Fails-delimited L x b p rest m free e h r early =
     let u = unfinished L x p m h in
     Fails-from_unfinished (L ⋅ Only (x ∷ [])) b p rest u.1 u.0 (IsPrefixFree-delimited L x free) e u.2 (Refuses-delimited L x p rest r early)
 
--- what is read of a field before it fails holds no space, where the field's texts hold none
+-- what is read of a field before it fails contains no space, where the field's texts contain none
 pub free_read : (L : Language) (x : ℕ) (b : List ℕ) (remaining : ℕ) → ((a : List ℕ) → L a → AllByRecursion (λ y. y ≢ x) a) → (f : Fails (L ⋅ Only (x ∷ [])) b remaining) → AllByRecursion (λ y. y ≢ x) f.stops.read
 free_read L x b remaining free f =
     let s = f.stops in

@@ -21,3 +21,7 @@ IsFaultOffset-from_stops L b remaining s =
       begins = subst (Begins L) (sym (ap (take (length s.read)) s.parts ∙ take_at s.read s.rest (length s.read) refl)) s.begins;
       longest = λ m within b'. longest L s.read s.rest m s.refuses (subst (λ (t : List ℕ). m ≤ length t) s.parts within) (subst (λ (t : List ℕ). Begins L (take m t)) s.parts b');
     })
+
+-- octets have at most one such offset
+pub IsFaultOffset-unique : (L : Language) (b : List ℕ) (n m : ℕ) → IsFaultOffset L b n → IsFaultOffset L b m → n ≡ m
+IsFaultOffset-unique L b n m h k = omega (arith, h.longest m k.within k.begins, k.longest n h.within h.begins)

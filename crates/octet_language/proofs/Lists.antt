@@ -1,4 +1,4 @@
--- Lists that are one list parted in two ways, and what stands before a mark.
+-- One list split in two ways, and what comes before a delimiter.
 use Rattle.std.proofs.Common.{◌≡◌, ◌≢◌, ℕ, List, [], ◌∷◌, ◌++◌, length, take, refl, sym, ap, ◌∙◌, append_assoc, inl, inr, ◌⊎◌}
 use Rattle.std.specs.List.{AllByRecursion}
 use Rattle.std.proofs.lemmas.List.{take_at}
@@ -9,7 +9,7 @@ heads a b s t e = cc
 pub tails : (a b : ℕ) (s t : List ℕ) → a ∷ s ≡ b ∷ t → s ≡ t
 tails a b s t e = cc
 
--- two ways to part a list: the first front reaches past p, or ends within it
+-- two ways to split a list: the first prefix reaches past p, or ends within it
 pub parted : (a c p : List ℕ) (x : ℕ) (m : List ℕ) → a ++ c ≡ p ++ x ∷ m → ((z : List ℕ) × (a ≡ p ++ x ∷ z)) ⊎ ((w : List ℕ) × (p ≡ a ++ w) × (c ≡ w ++ x ∷ m))
 parted [] c p x m e = inr (p, refl, e)
 parted (a ∷ an) c [] x m e = inl (an, ap (λ (h : ℕ). h ∷ an) (heads a x (an ++ c) m e))
@@ -37,9 +37,9 @@ pub AllByRecursion-right : (P : ℕ → Type 0) (a b : List ℕ) → AllByRecurs
 AllByRecursion-right P [] b p = p
 AllByRecursion-right P (x ∷ a) b p = AllByRecursion-right P a b p.1
 
--- ---- up to a mark
+-- ---- up to a delimiter
 
--- what stands before the first mark is one list
+-- what comes before the first delimiter is one list
 pub same_until : (x : ℕ) (a b s t : List ℕ) → AllByRecursion (λ y. y ≢ x) a → AllByRecursion (λ y. y ≢ x) b → a ++ x ∷ s ≡ b ++ x ∷ t → a ≡ b
 same_until x [] [] s t p q e = refl
 same_until x [] (d ∷ b) s t p q e = absurd (q.0 (sym (heads x d s (b ++ x ∷ t) e)))
@@ -51,13 +51,13 @@ pub AllByRecursion-weaker : (P Q : ℕ → Type 0) → ((x : ℕ) → P x → Q 
 AllByRecursion-weaker P Q w [] h = tt
 AllByRecursion-weaker P Q w (x ∷ s) h = (w x h.0, AllByRecursion-weaker P Q w s h.1)
 
--- a list free of a mark does not hold it
+-- a list free of a delimiter does not contain it
 pub not_free : (x : ℕ) (a b c : List ℕ) → AllByRecursion (λ y. y ≢ x) a → a ≡ b ++ x ∷ c → ⊥
 not_free x [] [] c p e = absurd cc
 not_free x [] (d ∷ b) c p e = absurd cc
 not_free x (h ∷ a) [] c p e = p.0 (heads h x a c e)
 not_free x (h ∷ a) (d ∷ b) c p e = not_free x a b c p.1 (tails h d a (b ++ x ∷ c) e)
 
--- prefixes of one length are one
+-- prefixes of the same length are the same
 pub same_prefix : (f g s t : List ℕ) → length f ≡ length g → f ++ s ≡ g ++ t → f ≡ g
 same_prefix f g s t n e = sym (take_at f s (length f) refl) ∙ ap (take (length f)) e ∙ take_at g t (length f) (sym n)

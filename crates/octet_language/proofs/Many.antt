@@ -1,4 +1,4 @@
--- Items one behind the other, up to what ends them.
+-- Items one after the other, up to what ends them.
 use Rattle.std.proofs.Common.{◌≡◌, ℕ, List, [], ◌∷◌, ◌++◌, refl, sym, ap, subst, ◌∙◌, append_assoc, inl, inr, ◌⊎◌}
 use Rattle.std.proofs.lemmas.List.{append_cancel_left}
 use Rattle.octet_language.specs.Language.{Language, ◌⋅◌, AnyOf, Each, Refuses, IsPrefixFree, IfFirst}
@@ -22,7 +22,7 @@ apart_read Z [] (q ∷ p) r more x a e = absurd cc
 apart_read Z (h ∷ b) [] r more x a e = λ k. a.prefix more (subst (λ (n : ℕ). Z (n ∷ more)) (sym (heads h x b r e)) k)
 apart_read Z (h ∷ b) (q ∷ p) r more x a e = λ k. a.prefix ((p ++ x ∷ []) ++ more) (subst (λ (n : ℕ). Z (n ∷ (p ++ x ∷ []) ++ more)) (sym (heads h q b (p ++ x ∷ r) e)) k)
 
--- with other texts that begin otherwise than b, the same offset
+-- with other texts that begin differently from b, the same offset
 pub Fails-or : (L Z M : Language) (b : List ℕ) (remaining : ℕ) → ((s : List ℕ) → L s → M s) → ((s : List ℕ) → M s → L s ⊎ Z s) → Apart Z b → Fails L b remaining → Fails M b remaining
 Fails-or L Z M b remaining to from a f = record {
   none = λ x y e m. elim (from x m) [ inl h ↦ f.none x y e h | inr z ↦ apart_prefix Z b x y a e z ];
@@ -68,7 +68,7 @@ item_fails A Z b t remaining z a f = Fails-many A Z b remaining a (Fails-first (
 pub behind_item : {V : Type 0} (A : V → Language) (Z : Language) (b rest : List ℕ) (remaining : ℕ) → IsPrefixFree (AnyOf A) → Apart Z b → Follows (AnyOf A) b rest → Fails (Many A Z) rest remaining → Fails (Many A Z) b remaining
 behind_item A Z b rest remaining one a f g = Fails-many A Z b remaining a (Fails-later (AnyOf A) (Many A Z) b rest remaining one f g)
 
--- ---- one prefix
+-- ---- no text is a proper prefix of another
 
 one_many : {V : Type 0} (A : V → Language) (Z : Language) → IsPrefixFree (AnyOf A) → IsPrefixFree Z → ((p s q t : List ℕ) → AnyOf A p → Z q → p ++ s ≡ q ++ t → ⊥)
     → (vs ws : List V) (a c s b d t : List ℕ) → Each A vs a → Z c → Each A ws b → Z d → a ++ (c ++ s) ≡ b ++ (d ++ t) → (a ≡ b) × (c ≡ d)

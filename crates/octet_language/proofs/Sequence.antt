@@ -27,7 +27,7 @@ Stops-first A B b remaining t some none s = record {
   refuses = Refuses-first A B b s.read s.rest s.parts none s.refuses;
 }
 
--- the rest of a list behind a text of the first is a text of the second
+-- the rest of a list after a text of the first is a text of the second
 pub behind : (A B : Language) (p s : List ℕ) → IsPrefixFree A → A p → (A ⋅ B) (p ++ s) → B s
 behind A B p s one a h =
     let same : p ≡ h.0 = one p s h.0 h.1 a h.3 h.2 in
@@ -38,7 +38,7 @@ Refuses-later A B p q [] one a r = tt
 Refuses-later A B p q (x ∷ rest) one a r = λ (more, h).
     r (more, subst B (sym (one_more q x more)) (behind A B p (q ++ x ∷ more) one a (subst (A ⋅ B) (one_more (p ++ q) x more ∙ append_assoc p q (x ∷ more)) h)))
 
--- behind a text of the first, the two stop where the second stops
+-- after a text of the first, the two stop where the second stops
 pub Stops-later : (A B : Language) (b p rest : List ℕ) (remaining : ℕ) → IsPrefixFree A → A p → b ≡ p ++ rest → Stops B rest remaining → Stops (A ⋅ B) b remaining
 Stops-later A B b p rest remaining one a e s = record {
   read = p ++ s.read;
@@ -54,14 +54,14 @@ NoPrefix-later A B b p rest one a e none x y d h =
     let same : h.0 ≡ p = one h.0 (h.1 ++ y) p rest h.3 a (sym (append_assoc h.0 h.1 y) ∙ ap (λ (t : List ℕ). t ++ y) (sym h.2) ∙ sym d ∙ e) in
     none h.1 y (append_cancel_left p rest (h.1 ++ y) (sym e ∙ d ∙ ap (λ (t : List ℕ). t ++ y) h.2 ∙ append_assoc h.0 h.1 y ∙ ap (λ (t : List ℕ). t ++ (h.1 ++ y)) same)) h.4
 
--- behind a text of the first, the two hold no whole text where the second holds none
+-- after a text of the first, the two have no whole text where the second has none
 pub Misses-later : (A B : Language) (b p rest : List ℕ) → IsPrefixFree A → A p → b ≡ p ++ rest → ¬ (B rest) → ¬ ((A ⋅ B) b)
 Misses-later A B b p rest one a e none h = none (behind A B p rest one a (subst (A ⋅ B) e h))
 
 pub Misses-NoPrefix : (L : Language) (b : List ℕ) → NoPrefix L b → ¬ (L b)
 Misses-NoPrefix L b none h = none b [] (sym (append-nil b)) h
 
--- two languages that each have one prefix: so has their sequence
+-- the sequence of two prefix-free languages is prefix-free
 pub IsPrefixFree-then : (A B : Language) → IsPrefixFree A → IsPrefixFree B → IsPrefixFree (A ⋅ B)
 IsPrefixFree-then A B first second p s q t a b e =
     let left : p ++ s ≡ a.0 ++ (a.1 ++ s) = ap (λ (u : List ℕ). u ++ s) a.2 ∙ append_assoc a.0 a.1 s in

@@ -13,14 +13,14 @@ Misses-offset L b remaining m = (m.none, IsFaultOffset-from_stops L b remaining 
 pub Misses-field : (A B : Language) (b t : List ℕ) (remaining : ℕ) → B t → Fails A b remaining → Misses (A ⋅ B) b remaining
 Misses-field A B b t remaining some f = record { none = Misses-NoPrefix (A ⋅ B) b (NoPrefix-first A B b f.none); stops = Stops-first A B b remaining t some f.none f.stops }
 
--- behind a field, the last part misses
+-- after a field, the last part misses
 pub Misses-behind : (A B : Language) (b rest : List ℕ) (remaining : ℕ) → IsPrefixFree A → Follows A b rest → Misses B rest remaining → Misses (A ⋅ B) b remaining
 Misses-behind A B b rest remaining one a m = record {
   none = Misses-later A B b a.0 rest one a.2 a.1 m.none;
   stops = Stops-later A B b a.0 rest remaining one a.2 a.1 m.stops;
 }
 
--- with other texts that begin otherwise than b
+-- with other texts that begin differently from b
 pub Misses-or : (L Z M : Language) (b : List ℕ) (remaining : ℕ) → ((s : List ℕ) → L s → M s) → ((s : List ℕ) → M s → L s ⊎ Z s)
     → ¬ (Z b) → ((p r more : List ℕ) (x : ℕ) → b ≡ p ++ x ∷ r → ¬ (Z ((p ++ x ∷ []) ++ more))) → Misses L b remaining → Misses M b remaining
 Misses-or L Z M b remaining to from not_whole not_prefix m = record {
@@ -39,7 +39,7 @@ Misses-or L Z M b remaining to from not_whole not_prefix m = record {
     refuses_or p [] e r = tt
     refuses_or p (x ∷ rest) e r = λ (more, h). elim (from ((p ++ x ∷ []) ++ more) h) [ inl k ↦ r (more, k) | inr z ↦ not_prefix p rest more x e z ]
 
--- items, then an end that may be empty: where an item fails, or what is behind it misses, all miss
+-- items, then an end that may be empty: where an item fails, or what follows it misses, all miss
 pub Misses-many : {V : Type 0} (A : V → Language) (Z : Language) (b : List ℕ) (remaining : ℕ)
     → ¬ (Z b) → ((p r more : List ℕ) (x : ℕ) → b ≡ p ++ x ∷ r → ¬ (Z ((p ++ x ∷ []) ++ more))) → Misses (AnyOf A ⋅ Many A Z) b remaining → Misses (Many A Z) b remaining
 Misses-many A Z b remaining not_whole not_prefix m = Misses-or (AnyOf A ⋅ Many A Z) Z (Many A Z) b remaining (many_more A Z) (many_cases A Z) not_whole not_prefix m

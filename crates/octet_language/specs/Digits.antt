@@ -5,7 +5,7 @@ use Rattle.std.specs.Prelude.{ℕ, ◌+◌, ◌-◌, ◌*◌, ◌≤◌, List, [
 abbrev pub IsDigit : ℕ → Type 0
 IsDigit x = (48 ≤ x) × (x ≤ 57)
 
--- the number that digits write behind those of n
+-- the number written by the digits of n and then these
 abbrev pub read_on : ℕ → List ℕ → ℕ
 read_on n [] = n
 read_on n (c ∷ cs) = read_on (10 * n + (c - 48)) cs

@@ -33,12 +33,12 @@ pub record IsFaultOffset (L : Language) (b : List ℕ) (n : ℕ) : Type 0 where
   pub begins : Begins L (take n b)
   pub longest : (m : ℕ) → m ≤ length b → Begins L (take m b) → m ≤ n
 
--- no text goes on from p with the next octet
+-- no text continues p with the next octet
 abbrev pub Refuses : Language → List ℕ → List ℕ → Type 0
 Refuses L p [] = ⊤
 Refuses L p (x ∷ rest) = ¬ (Begins L (p ++ x ∷ []))
 
--- b is read up to where no text goes on, and so many octets are left there
+-- b is read up to where no text continues, and so many octets are left there
 pub record Stops (L : Language) (b : List ℕ) (remaining : ℕ) : Type 0 where
   pub read : List ℕ
   pub rest : List ℕ

@@ -1,4 +1,4 @@
--- What is known of a scanner where it stands, at each of its calls.
+-- What is known of a scanner where it is, at each of its calls.
 use Rattle.std.proofs.Common.{◌≡◌, ◌≢◌, ℕ, ◌+◌, ◌<◌, ◌≤◌, List, [], ◌∷◌, ◌++◌, length, take, refl, sym, ap, subst, ◌∙◌, arith, inl, inr, ◌⊎◌}
 use Rattle.std.specs.Fmt.{decimal}
 use Rattle.octet_language.specs.Language.{Begins, NoPrefix}
@@ -68,7 +68,7 @@ takes_took most s kind p piece n t = takes_at kind p piece n s s.phase refl (tak
 pub bad_took : (most : ℕ) (s : Scan) (kind : Framing) (p piece : List ℕ) (n : ℕ) → Took most s kind p piece n → HasBadCount s → (more : List ℕ) → IsBadRest kind ((p ++ take (n + 1) piece) ++ more) (length p + n)
 bad_took most s kind p piece n t bad more = bad_rest_in most kind s.phase s.count s.size s.kept p piece n bad t.taken t.holds more
 
--- neither behind a frame nor in a failed stream: no frame is in front
+-- neither after a frame nor in a failed stream: no frame comes first
 none_unless_ended : (most : ℕ) (kind : Framing) (phase : Phase) (count size : ℕ) (kept p : List ℕ) → phase ≢ Ended → Holds most kind phase count size kept p → NoPrefix (Whole kind) p
 none_unless_ended most Lf BadCount count size kept p e h = absurd h
 none_unless_ended most Counted BadCount count size kept p e h = NoPrefix-count (Whole Counted) HasPrefix-counted count p h.0 h.1
@@ -114,7 +114,7 @@ long_frame most kind Failed count size kept p e lt h = absurd cc
 pub long_ready : (most : ℕ) (s : Scan) (kind : Framing) (position : ℕ) (p : List ℕ) → HasFrame s → most < s.size → Stands most s kind position p → (f : List ℕ) × Frame kind f p × (most < length f)
 long_ready most s kind position p is lt h = long_frame most kind s.phase s.count s.size s.kept p is lt h.holds
 
--- nothing stands in a failed stream
+-- a failed stream holds nothing
 not_failed : (most : ℕ) (kind : Framing) (phase : Phase) (count size : ℕ) (kept p : List ℕ) → phase ≡ Failed → Holds most kind phase count size kept p → ⊥
 not_failed most Lf Failed count size kept p e h = h
 not_failed most Counted Failed count size kept p e h = h
@@ -140,7 +140,7 @@ reading_or_failed s e b = not_ready s.phase e b
 pub none_ready : (s : Scan) → ¬ (HasFrame s) → ¬ (HasBadCount s) → ¬ (HasReady s)
 none_ready s e b r = elim r [ inl f ↦ e f | inr c ↦ b c ]
 
--- one that stands somewhere has not failed
+-- a scanner that is somewhere in a stream has not failed
 pub reading_standing : (most : ℕ) (s : Scan) (kind : Framing) (position : ℕ) (p : List ℕ) → ¬ (HasFrame s) → ¬ (HasBadCount s) → Stands most s kind position p → IsReading s
 reading_standing most s kind position p e b h = (λ r. elim r [ inl f ↦ e f | inr c ↦ b c ], stands_not_failed most s kind position p h)
 

@@ -1,4 +1,4 @@
--- How the digits of a count go on, and where they stop.
+-- How the digits of a count continue, and where they stop.
 use Rattle.std.proofs.Common.{◌≡◌, ◌≢◌, ℕ, ◌+◌, ◌-◌, ◌*◌, ◌^◌, ◌<◌, ◌≤◌, List, [], ◌∷◌, ◌++◌, length, get_or, refl, sym, ap, subst, ◌∙◌, append_assoc, arith, inl, inr}
 use Rattle.std.specs.List.{AllByRecursion}
 use Rattle.std.specs.Fmt.{decimal}
@@ -23,7 +23,7 @@ digits_count c q small (inr h) = rw h.1 (digits_decimal c (fits c small))
 pub no_space_count : (c : ℕ) (q : List ℕ) → c ≤ COUNT_MAX → IsCount c q → AllByRecursion (λ y. y ≢ 32) q
 no_space_count c q small h = AllByRecursion-weaker IsDigit (λ y. y ≢ 32) (λ y d. λ e. omega (arith, d.0, e)) q (digits_count c q small h)
 
--- the space behind a count
+-- the space after a count
 pub count_space : (c x : ℕ) (q : List ℕ) → IsCount c q → 0 < c → x ≡ 32 → q ++ x ∷ [] ≡ decimal c ++ 32 ∷ []
 count_space c x q (inl h) some e = absurd (omega (arith, h.0))
 count_space c x q (inr h) some e = ap (λ (u : List ℕ). u ++ x ∷ []) h.1 ∙ ap (λ (k : ℕ). decimal c ++ k ∷ []) e
@@ -36,7 +36,7 @@ count_digit c x q (inl h) d =
 count_digit c x q (inr h) d =
     inr (d.1, ap (λ (u : List ℕ). u ++ x ∷ []) h.1 ∙ sym (next_digit c x h.0 d.0 (omega (arith, d.2))))
 
--- a count goes on in the digits of a number: that number is at least so large
+-- a count is continued in the digits of a number: that number is at least so large
 digit_in : (n c x : ℕ) (q z : List ℕ) → 0 < n → n ≤ COUNT_MAX → c ≤ COUNT_MAX → IsCount c q → decimal n ≡ q ++ x ∷ z → IsNextDigit c x
 digit_in n c x q z some low small (inr h) e =
     let g = goes_on n c x z (fits n low) (fits c small) (e ∙ ap (λ (u : List ℕ). u ++ x ∷ z) h.1) in
@@ -52,7 +52,7 @@ digit_in n c x q z some low small (inl h) e =
         let d = subst (AllByRecursion IsDigit) whole (digits_decimal n (fits n low)) in
         (d.0, omega (arith, high, x-is), omega (arith, d.0.1, zero-is))
 
--- behind a count's digits an octet that neither goes on nor ends it: no count and space stand there
+-- after a count's digits an octet that neither continues nor ends it: no count and space are there
 pub refused : (n c x : ℕ) (q m f : List ℕ) → 0 < n → n ≤ COUNT_MAX → c ≤ COUNT_MAX → IsCount c q → IsRefused c x → q ++ x ∷ m ≡ decimal n ++ 32 ∷ f → ⊥
 refused n c x q m f some low small is r e =
     elim (parted (decimal n) (32 ∷ f) q x m (sym e)) [
@@ -68,11 +68,11 @@ refused n c x q m f some low small is r e =
         at_space (inr h) at sp = r.1 h.0 (sym sp)
     ends (y ∷ w) at here = not_free 32 q (decimal n) w (no_space_count c q small is) (at ∙ ap (λ (k : ℕ). decimal n ++ k ∷ w) (sym (heads 32 y f (w ++ x ∷ m) here)))
 
--- each text of a language has a count and a space in front
+-- each text of a language begins with a count and a space
 abbrev pub HasPrefix : Language → Type 0
 HasPrefix L = (s : List ℕ) → L s → (n : ℕ) × (f : List ℕ) × (0 < n) × (n ≤ COUNT_MAX) × (s ≡ decimal n ++ 32 ∷ f)
 
--- behind the digits of a count, before an octet that it refuses
+-- after the digits of a count, before an octet that it refuses
 pub record Refusal (c : ℕ) (q : List ℕ) (x : ℕ) : Type 0 where
   pub small : c ≤ COUNT_MAX
   pub digits : IsCount c q
@@ -100,7 +100,7 @@ offset_of_refusal L shape c x q rest b r begins e =
 pub HasPrefix-msg_len : HasPrefix (AnyOf MsgLen)
 HasPrefix-msg_len s (n, h) = (n, [], h.0, h.1, h.2)
 
--- how the digits of a count go on
+-- how the digits of a count can continue
 pub count_goes_on : (c : ℕ) (q : List ℕ) → c ≤ COUNT_MAX → IsCount c q → (n : ℕ) × (more : List ℕ) × (0 < n) × (n ≤ COUNT_MAX) × (q ++ more ≡ decimal n ++ 32 ∷ [])
 count_goes_on c q small (inl h) = (1, 49 ∷ 32 ∷ [], omega arith, omega arith, ap (λ (u : List ℕ). u ++ 49 ∷ 32 ∷ []) h.1 ∙ ap (λ (u : List ℕ). u ++ 32 ∷ []) (sym (decimal_digit 1 (omega arith))))
 count_goes_on c q small (inr h) = (c, 32 ∷ [], h.0, small, ap (λ (u : List ℕ). u ++ 32 ∷ []) h.1)
@@ -108,7 +108,7 @@ count_goes_on c q small (inr h) = (c, 32 ∷ [], h.0, small, ap (λ (u : List �
 pub Begins-count : (c : ℕ) (q : List ℕ) → c ≤ COUNT_MAX → IsCount c q → Begins (AnyOf MsgLen) q
 Begins-count c q small is = let g = count_goes_on c q small is in (g.1, (g.0, (g.2, g.3, g.4)))
 
--- digits alone begin no text with a count and a space in front
+-- no prefix of digits alone is a text that begins with a count and a space
 pub NoPrefix-count : (L : Language) → HasPrefix L → (c : ℕ) (q : List ℕ) → c ≤ COUNT_MAX → IsCount c q → NoPrefix L q
 NoPrefix-count L shape c q small is u v e h =
     let t = shape u h in

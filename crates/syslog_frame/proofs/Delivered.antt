@@ -34,7 +34,7 @@ pub delivered_more : (most : ℕ) (frames : List (List ℕ)) (f : List ℕ) (old
 delivered_more most frames f old new is more =
     more ∙ ap (λ (u : List (Option (List ℕ))). u ++ delivered most f ∷ []) is ∙ sym (map-append (delivered most) frames (f ∷ []))
 
--- ---- a piece: behind what was taken stands the rest
+-- ---- a piece: the rest follows what was taken
 
 pub taken_on : (taken rest piece : List ℕ) (n : ℕ) → piece ≡ taken ++ rest → piece ≡ (taken ++ take n rest) ++ drop n rest
 taken_on taken rest piece n e = e ∙ ap (λ (u : List ℕ). taken ++ u) (sym (take-append-drop n rest)) ∙ sym (append_assoc taken (take n rest) (drop n rest))

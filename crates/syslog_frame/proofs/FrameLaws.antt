@@ -21,14 +21,14 @@ fits n h = omega arith
 pub no_space : (n : ℕ) → n ≤ COUNT_MAX → AllByRecursion (λ y. y ≢ 32) (decimal n)
 no_space n h = AllByRecursion-weaker IsDigit (λ y. y ≢ 32) (λ y d. λ e. omega (arith, d.0, e)) (decimal n) (digits_decimal n (fits n h))
 
--- behind a count and its space
+-- after a count and its space
 pub same_count : (m n : ℕ) (s t : List ℕ) → m ≤ COUNT_MAX → n ≤ COUNT_MAX → decimal m ++ 32 ∷ s ≡ decimal n ++ 32 ∷ t → (m ≡ n) × (s ≡ t)
 same_count m n s t small low e =
     let digits = same_until 32 (decimal m) (decimal n) s t (no_space m small) (no_space n low) e in
     let same = decimal_injective m n (fits m small) (fits n low) digits in
     (same, tails 32 32 s t (append_cancel_left (decimal m) (32 ∷ s) (32 ∷ t) (e ∙ ap (λ (d : List ℕ). d ++ 32 ∷ t) (sym digits))))
 
--- where two frames come first, they are one
+-- two frames that come first are the same
 pub one_frame : (kind : Framing) (f g s t : List ℕ) → CanCarry kind f → CanCarry kind g → framed kind f ++ s ≡ framed kind g ++ t → f ≡ g
 one_frame Lf f g s t a b e = same_until 10 f g s t a b (sym (one_more f 10 s) ∙ e ∙ one_more g 10 t)
 one_frame Counted f g s t a b e =
@@ -40,7 +40,7 @@ IsPrefixFree-whole kind p s q t (f, (a, x)) (g, (b, y)) e =
     let same = one_frame kind f g s t a b (ap (λ (u : List ℕ). u ++ s) (sym x) ∙ e ∙ ap (λ (u : List ℕ). u ++ t) y) in
     x ∙ ap (framed kind) same ∙ sym y
 
--- a rest with no frame in front does not begin with one
+-- a rest of which no prefix is a frame does not begin with one
 not_in_prefix : (kind : Framing) (rest f s : List ℕ) → NoPrefix (Whole kind) rest → CanCarry kind f → rest ≡ framed kind f ++ s → ⊥
 not_in_prefix kind rest f s none a e = none (framed kind f) s e (f, (a, refl))
 
@@ -50,7 +50,7 @@ behind_frame kind f g s t a b e =
     let same = one_frame kind f g s t a b e in
     (same, append_cancel_left (framed kind f) s t (e ∙ ap (λ (u : List ℕ). framed kind u ++ t) (sym same)))
 
--- the frames in front begin those of what is longer
+-- the frames that come first begin those of what is longer
 begun : (kind : Framing) (fs gs : List (List ℕ)) (r q : List ℕ) → AllByRecursion (CanCarry kind) fs → AllByRecursion (CanCarry kind) gs → NoPrefix (Whole kind) q
     → flat_map (framed kind) fs ++ r ≡ flat_map (framed kind) gs ++ q → (h : List (List ℕ)) × (gs ≡ fs ++ h)
 begun kind [] gs r q a b none e = (gs, refl)
@@ -63,7 +63,7 @@ begun kind (f ∷ fs) (g ∷ gs) r q a b none e =
 pub begun_frames : (kind : Framing) (stream more : List ℕ) (f g : List (List ℕ)) (r q : List ℕ) → Frames kind stream f r → Frames kind (stream ++ more) g q → (h : List (List ℕ)) × (g ≡ f ++ h)
 begun_frames kind stream more f g r q a b = begun kind f g (r ++ more) q a.each b.each b.none (sym (append_assoc (flat_map (framed kind) f) r more) ∙ ap (λ (u : List ℕ). u ++ more) (sym a.whole) ∙ b.whole)
 
--- two lists that begin each other are one
+-- two lists that begin each other are the same
 one_list : (f g h k : List (List ℕ)) → g ≡ f ++ h → f ≡ g ++ k → f ≡ g
 one_list f g [] k e d = sym (e ∙ append-nil f)
 one_list f g (x ∷ h) k e d = absurd (omega (arith, ap length e, length-append f (x ∷ h), ap length d, length-append g k))
@@ -76,8 +76,8 @@ unique_frames kind stream f g r q a b =
     let same = one_list f g there.0 back.0 there.1 back.1 in
     (same, append_cancel_left (flat_map (framed kind) f) r q (sym a.whole ∙ b.whole ∙ ap (λ (fs : List (List ℕ)). flat_map (framed kind) fs ++ q) (sym same)))
 
--- no frame is nothing
-some : (kind : Framing) (f : List ℕ) → 0 < length (framed kind f)
+-- no frame is empty on the stream
+pub some : (kind : Framing) (f : List ℕ) → 0 < length (framed kind f)
 some Lf f = omega (arith, length-append f (10 ∷ []))
 some Counted f = omega (arith, length-append (decimal (length f)) (32 ∷ f))
 
@@ -87,9 +87,9 @@ NoPrefix-nil kind x y e (f, (a, b)) = omega (arith, ap length e, length-append x
 pub concatenation : (kind : Framing) (f : List (List ℕ)) → AllByRecursion (CanCarry kind) f → Frames kind (flat_map (framed kind) f) f []
 concatenation kind f a = record { whole = sym (append-nil (flat_map (framed kind) f)); each = a; none = NoPrefix-nil kind }
 
--- ---- behind a bad count
+-- ---- after a bad count
 
--- octets that no text begins with, and that have none in front, have none however they go on
+-- octets that no text begins with, and of which no prefix is one, have none however they continue
 further : (L : Language) (b more : List ℕ) → NoPrefix L b → ¬ (Begins L b) → NoPrefix L (b ++ more)
 further L b [] none dead x y e h = none x y (sym (append-nil b) ∙ e) h
 further L b (m ∷ more) none dead x y e h =

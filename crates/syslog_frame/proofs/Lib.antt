@@ -6,3 +6,4 @@ pub mod Calls
 pub mod Lines
 pub mod Reading
 pub mod Delivered
+pub mod Existence

@@ -17,7 +17,7 @@ all_push : (P : List ℕ → Type 0) (fs : List (List ℕ)) (f : List ℕ) → A
 all_push P [] f a h = (h, tt)
 all_push P (g ∷ fs) f a h = (a.0, all_push P fs f a.1 h)
 
--- the frames of what was read, where no frame stands before the rest
+-- the frames of what was read, where no prefix of the rest is a frame
 pub frames_read : (most : ℕ) (s : Scan) (kind : Framing) (first : ℕ) (octets : List ℕ) (frames : List (List ℕ)) (rest : List ℕ) → Reads most s kind first octets frames rest → NoPrefix (Whole kind) rest → Frames kind octets frames rest
 frames_read most s kind first octets frames rest r none = record { whole = r.whole; each = r.each; none = none }
 
@@ -44,7 +44,7 @@ reads_push most s t kind first octets frames rest piece n within r h =
       stands = subst (λ (k : ℕ). Stands most t kind k (rest ++ take n piece)) far h;
     }
 
--- the stream is bad behind what was read
+-- the stream is bad after what was read
 bad_stream : (kind : Framing) (octets : List ℕ) (frames : List (List ℕ)) (rest taken more : List ℕ) (n at : ℕ) → octets ≡ flat_map (framed kind) frames ++ rest → AllByRecursion (CanCarry kind) frames
     → IsBadRest kind ((rest ++ taken) ++ more) (length rest + n) → at ≡ length octets + n → IsBadAt kind ((octets ++ taken) ++ more) frames ((rest ++ taken) ++ more) at
 bad_stream kind octets frames rest taken more n at whole each b far = record {

@@ -1,4 +1,4 @@
--- What is known of the octets where a scanner stands.
+-- What is known of the octets where a scanner is.
 use Rattle.std.proofs.Common.{◌≡◌, ℕ, ◌+◌, ◌-◌, ◌<◌, ◌≤◌, List, [], ◌∷◌, ◌++◌, length, take, drop, get_or, refl, sym, ap, subst, ◌∙◌, append_assoc, arith}
 use Rattle.std.specs.Fmt.{decimal}
 use Rattle.std.proofs.lemmas.List.{length-append, length-replicate, take-append-drop, length-take, take_all}
@@ -22,14 +22,14 @@ use Rattle.syslog_frame.proofs.FrameLaws.{IsPrefixFree-whole, same_count}
 pub HasPrefix-counted : HasPrefix (Whole Counted)
 HasPrefix-counted s (f, (a, e)) = (length f, f, a.0, a.1, e)
 
--- a line begins a frame, and has none in front
+-- a line begins a frame, and no prefix of it is one
 begins_line : (p : List ℕ) → IsLine p → Begins (Whole Lf) p
 begins_line p h = (10 ∷ [], (p, (h, refl)))
 
-none_in_line : (p : List ℕ) → IsLine p → NoPrefix (Whole Lf) p
+pub none_in_line : (p : List ℕ) → IsLine p → NoPrefix (Whole Lf) p
 none_in_line p h x y e (f, (a, b)) = not_free 10 p f y h (e ∙ ap (λ (u : List ℕ). u ++ y) b ∙ one_more f 10 y)
 
--- octets behind a count, up to it
+-- octets after a count, as many as it says or fewer
 counted_frame : (n : ℕ) (f : List ℕ) → 0 < n → n ≤ COUNT_MAX → length f ≡ n → Whole Counted (decimal n ++ 32 ∷ f)
 counted_frame n f some small e = (f, ((omega (arith, some, e), omega (arith, small, e)), ap (λ (k : ℕ). decimal k ++ 32 ∷ f) (sym e)))
 
@@ -45,7 +45,7 @@ begins_count c q small is =
     let b = begins_counted g.0 [] (q ++ g.1) g.2 g.3 (omega arith) g.4 in
     (g.1 ++ b.0, subst (Whole Counted) (append_assoc q g.1 b.0) b.1)
 
-none_inside : (n : ℕ) (r p : List ℕ) → n ≤ COUNT_MAX → length r < n → p ≡ decimal n ++ 32 ∷ r → NoPrefix (Whole Counted) p
+pub none_inside : (n : ℕ) (r p : List ℕ) → n ≤ COUNT_MAX → length r < n → p ≡ decimal n ++ 32 ∷ r → NoPrefix (Whole Counted) p
 none_inside n r p small short e x y d (f, (a, b)) =
     let same = same_count n (length f) r (f ++ y) small a.1 (sym e ∙ d ∙ ap (λ (u : List ℕ). u ++ y) b ∙ append_assoc (decimal (length f)) (32 ∷ f) y) in
     omega (arith, same.0, ap length same.1, length-append f y, short)
@@ -109,7 +109,7 @@ bad_behind c x q more refuses small is =
       offset = offset_of_refusal (Whole Counted) HasPrefix-counted c x q more (q ++ x ∷ more) r (begins_count c q small is) refl;
     }
 
--- behind n octets of a piece, before one that the count refuses, whatever comes behind that
+-- after n octets of a piece, before one that the count refuses, whatever comes after that
 bad_further : (c : ℕ) (p piece : List ℕ) (n : ℕ) → n < length piece → IsRefused c (get_or piece n 0) → c ≤ COUNT_MAX → IsCount c (p ++ take n piece) → (more : List ℕ) → IsBadRest Counted ((p ++ take (n + 1) piece) ++ more) (length p + n)
 bad_further c p piece n less refuses small is more =
     let q = p ++ take n piece in
@@ -123,7 +123,7 @@ breaks c p piece n less refuses small is =
     let b = subst (λ (u : List ℕ). IsBadRest Counted u (length p + n)) parts (bad_further c p piece n less refuses small is (drop (n + 1) piece)) in
     record { within = less; incomplete = b.incomplete; none = b.none; offset = b.offset }
 
--- how much of a piece a scanner takes behind p, by the phase in which it is then
+-- how much of a piece a scanner takes after p, by the phase in which it is then
 abbrev pub TakesIn : Framing → List ℕ → List ℕ → ℕ → Phase → Type 0
 TakesIn kind p piece n Ended = Completes kind p piece n
 TakesIn kind p piece n BadCount = Breaks kind p piece n
@@ -149,7 +149,7 @@ bad_rest_in most kind Inside count size kept p piece n e t h more = absurd cc
 bad_rest_in most kind Counting count size kept p piece n e t h more = absurd cc
 bad_rest_in most kind Failed count size kept p piece n e t h more = absurd t
 
--- behind a count and its space
+-- after a count and its space
 pub inside_empty : (most count : ℕ) (kept p : List ℕ) → 0 < count → count ≤ COUNT_MAX → length kept ≡ 0 → p ≡ decimal count ++ 32 ∷ [] → Holds most Counted Inside count 0 kept p
 inside_empty most count [] p some small empty e = ([], record { some = some; small = small; keeps = record { size_is = refl; kept_is = λ _. refl }; text = e }, some)
 inside_empty most count (x ∷ kept) p some small empty e = absurd (omega arith)

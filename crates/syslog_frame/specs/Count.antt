@@ -10,15 +10,15 @@ use Rattle.syslog_frame.specs.declared.limits.TheConstants.{COUNT_MAX}
 abbrev pub IsCount : ℕ → List ℕ → Type 0
 IsCount count p = ((count ≡ 0) × (p ≡ [])) ⊎ ((0 < count) × (p ≡ decimal count))
 
--- the digit x goes on behind a count's digits: not as a first zero, nor past the last count
+-- the digit x continues a count's digits: not as a first zero, nor past the largest count
 abbrev pub IsNextDigit : ℕ → ℕ → Type 0
 IsNextDigit count x = IsDigit x × (0 < 10 * count + (x - 48)) × (10 * count + (x - 48) ≤ COUNT_MAX)
 
--- neither a digit that goes on nor the space behind a count
+-- neither a digit that continues the count nor the space after it
 abbrev pub IsRefused : ℕ → ℕ → Type 0
 IsRefused count x = ¬ (IsNextDigit count x) × (0 < count → x ≢ 32)
 
--- where a count stands after octets, and what is known of it there
+-- the state of a count after octets, and what is known of it there
 abbrev pub IsStep : List ℕ → CountStep → Type 0
 IsStep octets (Read count used) =
     (0 < count) × (count ≤ COUNT_MAX) × (used ≤ length octets) × (0 < used)

@@ -1,4 +1,4 @@
--- How records stand on a stream (RFC 6587, 3.4).
+-- How records are framed on a stream (RFC 6587, 3.4).
 use Rattle.std.specs.Prelude.{◌≡◌, ◌≢◌, ℕ, ◌+◌, ◌<◌, ◌≤◌, List, [], ◌∷◌, ◌++◌, length, decimal}
 use Rattle.std.specs.Prelude.{nat_le, if◌then◌else◌, Option, Some, None}
 use Rattle.std.specs.List.{AllByRecursion, flat_map}
@@ -29,14 +29,14 @@ Frame kind frame b = CanCarry kind frame × (b ≡ framed kind frame)
 abbrev pub Whole : Framing → Language
 Whole kind = AnyOf (Frame kind)
 
--- the stream is these frames, and then a rest with no whole frame in front
+-- the stream is these frames, and then a rest of which no prefix is a whole frame
 pub record Frames (kind : Framing) (stream : List ℕ) (frames : List (List ℕ)) (rest : List ℕ)
     : Type 0 where
   pub whole : stream ≡ flat_map (framed kind) frames ++ rest
   pub each : AllByRecursion (CanCarry kind) frames
   pub none : NoPrefix (Whole kind) rest
 
--- no frame begins with the rest behind these frames: every one stops at this offset of the stream
+-- no frame begins with the rest after these frames: every one stops at this offset of the stream
 pub record IsBadAt (kind : Framing) (stream : List ℕ) (frames : List (List ℕ)) (rest : List ℕ)
     (at : ℕ) : Type 0 where
   pub frames_are : Frames kind stream frames rest

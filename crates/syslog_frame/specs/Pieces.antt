@@ -11,7 +11,7 @@ use Rattle.syslog_frame.specs.declared.pieces.Step.TheVariants.{Nothing, Bad, De
 use Rattle.syslog_frame.specs.declared.pieces.StreamEnd.{StreamEnd}
 use Rattle.syslog_frame.specs.declared.pieces.StreamEnd.TheVariants.{Whole as end_whole, Unterminated, BadCount}
 
--- how a stream stops behind its frames: with the last; inside a frame; or at a bad offset
+-- how a stream stops after its frames: with the last; inside a frame; or at a bad offset
 abbrev pub StopsAs : Framing → List ℕ → List (List ℕ) → List ℕ → StreamEnd → Type 0
 StopsAs kind stream frames rest end_whole = rest ≡ []
 StopsAs kind stream frames rest (Unterminated start) =
@@ -35,7 +35,7 @@ pub record HasDelivered (most : ℕ) (s : Scan) (kind : Framing) (octets : List 
   pub reads : Reads most s kind 0 octets frames rest
   pub out_is : out ≡ map (delivered most) frames
 
--- what a step delivers where the scanner read these octets and stands at the rest
+-- what a step delivers where the scanner read these octets and is at the rest
 abbrev pub Delivers : ℕ → Framing → List ℕ → List ℕ → List (Option (List ℕ)) → List (Option (List ℕ))
     → Step → Type 0
 Delivers most kind octets rest old new Nothing = new ≡ old
@@ -49,7 +49,7 @@ StepImplies s Nothing = IsReading s ⊎ IsFailed s
 StepImplies s (Bad at) = HasBadCount s
 StepImplies s Delivered = HasFrame s
 
--- a piece goes on what was delivered; or the stream is bad at this offset, however it goes on
+-- a piece continues what was delivered; or the stream is bad at this offset, however it continues
 abbrev pub DeliversOn : ℕ → Scan → Framing → List ℕ → List (Option (List ℕ)) → Option ℕ → Type 0
 DeliversOn most s kind octets out None = HasDelivered most s kind octets out
 DeliversOn most s kind octets out (Some at) =

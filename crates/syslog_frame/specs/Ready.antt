@@ -10,7 +10,7 @@ use Rattle.syslog_frame.specs.declared.framing.Framing.{Framing}
 use Rattle.syslog_frame.specs.declared.ready.Ready.{Ready}
 use Rattle.syslog_frame.specs.declared.ready.Ready.TheVariants.{Frame as ready_frame, TooLong, BadCount}
 
--- what is ready where the scanner stands at p: the frame that p is, if not too long; or a bad count
+-- what is ready where the scanner is at p: the frame that p is, if not too long; or a bad count
 abbrev pub IsReady : ℕ → Scan → Framing → ℕ → List ℕ → Option Ready → Type 0
 IsReady most s kind position p None = NoPrefix (Whole kind) p × IsReading s
 IsReady most s kind position p (Some (ready_frame f)) = Frame kind f.now p × (length f.now ≤ most)
@@ -24,7 +24,7 @@ ImpliedOf s (Some (ready_frame f)) = HasFrame s
 ImpliedOf s (Some TooLong) = HasFrame s
 ImpliedOf s (Some (BadCount at)) = HasBadCount s × (at ≡ s.position)
 
--- whether the stream may stop where the scanner stands at p
+-- whether the stream may stop where the scanner is at p
 abbrev pub IsEnd : {U : Type 0} → Scan → Framing → ℕ → List ℕ → Result U EndFault → Type 0
 IsEnd s kind position p (Ok _) = p ≡ []
 IsEnd s kind position p (Err Failed) = ⊥

@@ -1,4 +1,4 @@
--- What a scanner holds, and where it stands in a stream.
+-- What a scanner holds, and where it is in a stream.
 use Rattle.std.specs.Prelude.{◌≡◌, ℕ, ◌+◌, ◌<◌, ◌≤◌, List, [], ◌∷◌, ◌++◌, length, decimal, ◌⊎◌}
 use Rattle.syslog_frame.specs.Count.{IsCount}
 use Rattle.syslog_frame.specs.Frames.{IsLine}
@@ -46,7 +46,7 @@ pub record Keeps (most : ℕ) (size : ℕ) (kept : List ℕ) (octets : List ℕ)
   pub size_is : length octets ≡ size
   pub kept_is : size ≤ most → kept ≡ octets
 
--- a count, its space, and octets behind them
+-- a count, its space, and octets after them
 pub record HasCount (most : ℕ) (count size : ℕ) (kept : List ℕ) (octets p : List ℕ) : Type 0 where
   pub some : 0 < count
   pub small : count ≤ COUNT_MAX

@@ -17,14 +17,14 @@ abbrev pub phase_of : Framing → Phase
 phase_of Counted = Counting
 phase_of Lf = Inside
 
--- how size and count stand to each other
+-- how size and count are related
 abbrev pub IsState : Framing → Phase → ℕ → ℕ → Type 0
 IsState Counted Inside count size = size < count
 IsState Counted Counting count size = size ≡ 0
 IsState Lf Counting count size = ⊥
 IsState kind phase count size = Unit {0}
 
--- what the phase behind a piece says of how much was taken
+-- what the phase after a piece says of how much was taken
 abbrev pub IsProgress : Phase → ℕ → List ℕ → ℕ → Type 0
 IsProgress Ended count piece n = Unit {0}
 IsProgress BadCount count piece n = (n < length piece) × IsRefused count (slice_index piece n)

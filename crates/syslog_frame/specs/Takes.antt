@@ -11,7 +11,7 @@ pub record Completes (kind : Framing) (p piece : List ℕ) (n : ℕ) : Type 0 wh
   pub whole : Whole kind (p ++ take n piece)
   pub least : (m : ℕ) → m < n → ¬ (Whole kind (p ++ take m piece))
 
--- no frame is completed, nor begins with p and the piece: every one stops behind n octets of it
+-- no frame is completed, nor begins with p and the piece: every one stops after n octets of it
 pub record Breaks (kind : Framing) (p piece : List ℕ) (n : ℕ) : Type 0 where
   pub within : n < length piece
   pub incomplete : NoPrefix (Whole kind) (p ++ piece)
@@ -24,7 +24,7 @@ pub record GoesOn (kind : Framing) (p piece : List ℕ) (n : ℕ) : Type 0 where
   pub incomplete : NoPrefix (Whole kind) (p ++ piece)
   pub begins : Begins (Whole kind) (p ++ piece)
 
--- what is taken behind p: the least part that completes a frame; else all before a bad offset; else all
+-- what is taken after p: the least part that completes a frame; else all before a bad offset; else all
 abbrev pub Takes : Framing → List ℕ → List ℕ → ℕ → Scan → Type 0
 Takes kind p piece n s =
     (Completes kind p piece n × HasFrame s)

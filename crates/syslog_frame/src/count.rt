@@ -10,11 +10,11 @@ use crate::limits::COUNT_MAX;
 /// What octets make of a count.
 #[derive(Clone, Copy, Debug, PartialEq, Eq)]
 pub enum CountStep {
-    /// The count and its space stand in the first octets.
+    /// The count and its space are the first octets.
     Read { count: u64, used: usize },
     /// All octets are digits of the count.
     Unfinished { count: u64 },
-    /// The count cannot go on with the octet there.
+    /// The count cannot continue with the octet at this offset.
     Broken { count: u64, at: usize },
 }
 
@@ -23,13 +23,13 @@ pub enum CountStep {
 pub enum MsgLen {
     /// The count, and the number of octets that its digits and the space take.
     Whole { count: u64, used: usize },
-    /// The octets are a proper front of a count and its space.
+    /// The octets are a proper prefix of a count and its space.
     Part,
-    /// No count goes on with the octet there.
+    /// No count continues with the octet at this offset.
     Bad { at: usize },
 }
 
-/// The count with one digit more, where MSG-LEN can go on so.
+/// The count with one more digit, where MSG-LEN can continue so.
 fn with_digit(count: u64, octet: u8) -> Option<u64>
     requires { count ≤ COUNT_MAX }
     ensures { MatchOption result (¬ (IsNextDigit count octet))
@@ -43,7 +43,7 @@ fn with_digit(count: u64, octet: u8) -> Option<u64>
     goes_on.then(|| 10 * count + u64::from(octet - b'0'))
 }
 
-/// Goes on with a count whose digits so far are known by their number.
+/// Continues a count from the value of the digits read so far.
 pub fn count_on(start: u64, octets: &[u8]) -> CountStep
     requires { start ≤ COUNT_MAX }
     ensures step { IsStep octets.now result }

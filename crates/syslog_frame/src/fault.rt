@@ -8,7 +8,7 @@ pub enum StartFault {
     /// The position is above `POSITION_MAX`.
     #[error("the position is too large")]
     PositionTooLarge,
-    /// The room for a record was refused.
+    /// The allocation of room for a record failed.
     #[error("out of memory")]
     Memory,
 }
@@ -50,7 +50,7 @@ pub enum PutFault {
     /// More than `FRAME_MAX` octets.
     #[error("the frame is too long")]
     TooLong,
-    /// The growth of the vector was refused.
+    /// The allocation failed.
     #[error("out of memory")]
     Memory,
 }
@@ -61,7 +61,7 @@ pub enum PiecesFault {
     /// The pieces reach past `POSITION_MAX`.
     #[error("the stream is too long")]
     StreamTooLong,
-    /// A growth was refused.
+    /// An allocation failed.
     #[error("out of memory")]
     Memory,
 }

@@ -1,6 +1,6 @@
 //! The two framings.
 
-/// How records stand on a stream (RFC 6587, 3.4).
+/// How records are framed on a stream (RFC 6587, 3.4).
 #[derive(Clone, Copy, Debug, PartialEq, Eq)]
 pub enum Framing {
     /// Octet counting (3.4.1): the record's length in decimal, a space, and the record.

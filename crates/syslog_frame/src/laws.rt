@@ -12,6 +12,12 @@ pub fn frames_are_unique()
         → Frames kind stream f r → Frames kind stream g q → (f ≡ g) × (r ≡ q) }
 {}
 
+/// Each stream has frames and a rest.
+pub fn streams_have_frames()
+    ensures { (kind : Framing) (stream : List ℕ)
+        → (frames : List (List ℕ)) × (rest : List ℕ) × Frames kind stream frames rest }
+{}
+
 /// The frames of a stream begin those of each longer stream.
 pub fn frames_begin()
     ensures { (kind : Framing) (stream more : List ℕ) (f g : List (List ℕ)) (r q : List ℕ)
@@ -25,14 +31,14 @@ pub fn frames_of_a_concatenation()
         → Frames kind (flat_map (framed kind) f) f [] }
 {}
 
-/// Behind a stream of whole frames, a further stream has its own frames and its own rest.
+/// After a stream of whole frames, a further stream has its own frames and its own rest.
 pub fn frames_go_on()
     ensures { (kind : Framing) (stream more : List ℕ) (f g : List (List ℕ)) (q : List ℕ)
         → Frames kind stream f [] → Frames kind more g q → Frames kind (stream ++ more) (f ++ g) q }
 {}
 
-/// Nothing follows a bad count: where the stream goes on, it has no further frame and the same bad
-/// offset.
+/// Nothing follows a bad count: however the stream continues, it has no further frame and the same
+/// bad offset.
 pub fn bad_counts_end_streams()
     ensures { (kind : Framing) (stream more : List ℕ) (f : List (List ℕ)) (r : List ℕ) (at : ℕ)
         → IsBadAt kind stream f r at → IsBadAt kind (stream ++ more) f (r ++ more) at }

@@ -1,8 +1,8 @@
-//! How syslog records stand on a stream (RFC 6587): both framings, a scanner that takes a stream in
-//! pieces of any cut, and the laws of frames.
+//! How syslog records are framed on a stream (RFC 6587): both framings, a scanner that takes a
+//! stream in pieces of any cut, and the laws of frames.
 //!
 //! A [`Scanner`] keeps one unfinished frame. Feed it by [`Scanner::push`] until the piece is empty,
-//! look at [`Scanner::ready`] after each call, and let go what was ready by [`Scanner::release`].
+//! look at [`Scanner::ready`] after each call, and drop what was ready by [`Scanner::release`].
 #![tactic(auto)]
 
 mod count;
@@ -22,7 +22,7 @@ pub use fault::{EndFault, PiecesFault, PutFault, ScanFault, StartFault};
 pub use framing::Framing;
 pub use laws::{
     bad_counts_end_streams, frames_are_unique, frames_begin, frames_go_on,
-    frames_of_a_concatenation,
+    frames_of_a_concatenation, streams_have_frames,
 };
 pub use limits::{COUNT_MAX, FRAME_MAX, POSITION_MAX};
 pub use pieces::{StreamEnd, StreamFrames, frames_of_pieces};

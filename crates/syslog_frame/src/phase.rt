@@ -7,10 +7,10 @@ pub enum Phase {
     Counting,
     /// In the record.
     Inside,
-    /// Behind a whole frame.
+    /// After a whole frame.
     Ended,
-    /// Before an octet with which no count can go on.
+    /// Before an octet with which no count can continue.
     BadCount,
-    /// Behind such a count, for good.
+    /// After such a count, for good.
     Failed,
 }

@@ -18,23 +18,23 @@ use crate::ready::Ready;
 use crate::scanner::Scanner;
 use std::alloc::{AllocError, Global};
 
-/// How a stream stops behind its frames.
+/// How a stream stops after its frames.
 #[derive(Clone, Copy, Debug, PartialEq, Eq)]
 pub enum StreamEnd {
     /// With the last of them.
     Whole,
     /// Inside a frame whose first octet is at this position.
     Unterminated { start: u64 },
-    /// No MSG-LEN can go on with the octet at this position; what follows it is no frame.
+    /// No MSG-LEN can continue with the octet at this position; what follows it is no frame.
     BadCount { at: u64 },
 }
 
 /// The frames of a stream.
 #[derive(Debug, Drop)]
 pub struct StreamFrames {
-    /// The frames in order; nothing in offset of one above `FRAME_MAX`.
+    /// The frames in order; None for one longer than `FRAME_MAX`.
     pub frames: Vec<Option<Vec<u8>>>,
-    /// How the stream stops behind them.
+    /// How the stream stops after them.
     pub stop: StreamEnd,
 }
 
@@ -116,7 +116,7 @@ fn read_piece(
     Ok(None)
 }
 
-/// How a stream stops behind what a scanner read of it.
+/// How a stream stops after what a scanner read of it.
 fn stop_of(scanner: &Scanner) -> StreamEnd
     requires { IsReading scanner.now }
     ensures { (kind : Framing) (octets : List ℕ) (frames : List (List ℕ)) (rest : List ℕ)
@@ -130,7 +130,7 @@ fn stop_of(scanner: &Scanner) -> StreamEnd
     }
 }
 
-/// The frames of a stream that comes in these pieces, and how it stops behind them, by a scanner.
+/// The frames of a stream that comes in these pieces, and how it stops after them, by a scanner.
 /// It does not matter how the stream is cut.
 pub fn frames_of_pieces(
     alloc: Global,

@@ -1,4 +1,4 @@
-//! Frames are written.
+//! Writing of frames.
 
 ghost use Rattle.std.specs.Prelude.{◌≡◌, ◌≤◌, ◌++◌, ◌↔◌, IfErr, IsTrue, OnErr, OnOk, length};
 ghost use Rattle.syslog_frame.specs.Frames.{CanCarry, IsLine, framed};
@@ -21,7 +21,7 @@ fn is_line(octets: &[u8]) -> bool
     }
 }
 
-/// Appends a line. Its room is reserved first, so that a refusal changes nothing.
+/// Appends a line. Its room is reserved first, so that a failed allocation changes nothing.
 fn put_line(octets: &[u8], out: &mut Vec<u8>) -> Result<(), AllocError>
     requires { length octets.now ≤ FRAME_MAX }
     ensures ok { OnOk result (out.new.items ≡ out.old.items ++ framed Lf octets.now) }

@@ -5,8 +5,8 @@
 pub enum Ready<'a> {
     /// The octets of a frame.
     Frame(&'a [u8]),
-    /// A frame above `FRAME_MAX` came to its end.
+    /// A frame longer than `FRAME_MAX` has ended.
     TooLong,
-    /// No MSG-LEN can go on with the octet at this position of the stream, which was not taken.
+    /// No MSG-LEN can continue with the octet at this position of the stream, which was not taken.
     BadCount { at: u64 },
 }

@@ -1,4 +1,4 @@
-//! What a piece brings of one frame. The octets of a record are copied by slices and never looked
+//! What a piece holds of one frame. The octets of a record are copied by slices and never looked
 //! at one by one.
 
 ghost use Rattle.std.specs.Prelude.{◌≡◌, ◌≢◌, ◌≤◌, ◌<◌, ◌+◌, ◌++◌, ◌^◌, ℕ, List, length, take};
@@ -14,7 +14,7 @@ use crate::limits::{COUNT_MAX, FRAME_MAX};
 use crate::phase::Phase;
 use memchr::memchr;
 
-/// How far a piece brought the frame.
+/// How far a piece advanced the frame.
 #[derive(Clone, Copy, Debug)]
 pub struct Progress {
     /// So many octets of the piece were taken.

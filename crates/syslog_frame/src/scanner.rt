@@ -94,8 +94,8 @@ impl Scanner {
         self.position
     }
 
-    /// Takes octets up to the end of the current frame at most, and says how many. While something
-    /// is ready it takes none.
+    /// Takes octets up to the end of the current frame at most, and returns how many. While
+    /// something is ready it takes none.
     pub fn push(&mut self, piece: &[u8]) -> Result<usize, ScanFault>
         // Each refusal, and what it leaves.
         ensures failed { (result ≡ Err ScanFault.Failed) ↔ IsFailed self.old }
@@ -172,8 +172,8 @@ impl Scanner {
         }
     }
 
-    /// Lets go what is ready, and says whether something was. Behind a frame the next one begins;
-    /// behind a bad count the scanner has failed for good.
+    /// Drops what is ready, and returns whether something was. After a frame the next one begins;
+    /// after a bad count the scanner has failed for good.
     pub fn release(&mut self) -> bool
         ensures value { IsTrue result ↔ HasReady self.old }
         ensures same { result ≡ false → self.new ≡ self.old }

@@ -8,7 +8,7 @@ use Rattle.syslog_value.specs.Calendar.{day_number, IsDay}
 use Rattle.syslog_value.specs.Instants.{IsCivil, instant_of, second_of_day}
 use Rattle.syslog_value.proofs.DayNumbers.{day_number-same, month_length-same}
 
--- days, seconds of a day and microseconds of a second are reported apart
+-- days, seconds of a day and microseconds of a second are determined by their sum
 parts_of : (a b : ℤ) (s t m n : ℕ) → s ≤ 86_399 → t ≤ 86_399 → m ≤ 999_999 → n ≤ 999_999
     → (a *ℤ pos 86_400 +ℤ pos s -ℤ pos 0 *ℤ pos 60) *ℤ pos 1_000_000 +ℤ pos m ≡ (b *ℤ pos 86_400 +ℤ pos t -ℤ pos 0 *ℤ pos 60) *ℤ pos 1_000_000 +ℤ pos n
     → (a ≡ b) × (s ≡ t) × (m ≡ n)

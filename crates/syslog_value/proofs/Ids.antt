@@ -88,12 +88,12 @@ pub id_found : (e : ElementParts) (es : List ElementParts) (i : ℕ) → i < len
     → IsBinarySearchResult (λ f. slice_cmp nat_cmp f.id e.id) es (Ok i) → HasId e.id es
 id_found e es i within found = has_at e.id es i e within (octets_ranked (get_or es i e).id e.id Equal (sym (found e)))
 
--- the element fits in at the offset: what stands before has ids below, and what stands after above
+-- the element fits in at the offset: what comes before has ids below, and what comes after above
 pub record FitsAt (e : ElementParts) (es : List ElementParts) (i : ℕ) : Type 0 where
   pub below : AllByRecursion (λ f. OctetsBelow f.id e.id) (take i es)
   pub above : AllByRecursion (λ f. OctetsBelow e.id f.id) (drop i es)
 
--- the search found no such id, but its offset
+-- the search found no such id, but the offset at which to insert it
 pub offset_found : (e : ElementParts) (es : List ElementParts) (i : ℕ) → i ≤ length es → IsById es
     → IsBinarySearchResult (λ f. slice_cmp nat_cmp f.id e.id) es (Err i) → FitsAt e es i
 offset_found e es i within sorted found =

@@ -8,11 +8,11 @@ use Rattle.std.proofs.lemmas.Grind.{common_steps}
 use Rattle.std.specs.Io.KnownBytes.{Appends, Consumes, IsAtEnd}
 use Rattle.syslog_value.proofs.Kept.{KeepsFirst}
 
--- the prefix of what is left of a text, as a slice of it has it
+-- a prefix of what is left of a text, as a slice of it
 pub take-rest : (at n : ℕ) (text : List ℕ) → n ≤ length text - at → take n (take (length text - at) (drop at text)) ≡ take n (drop at text)
 take-rest at n text h = grind (arith, common_steps)
 
--- a writer took the prefix of a text, and then more of it
+-- a writer took a prefix of a text, and then more of it
 pub Appends-prefix : (a b c : Option (List ℕ)) (at n : ℕ) (text : List ℕ) → n ≤ length text - at → Appends a b (take at text)
     → Appends b c (take n (take (length text - at) (drop at text))) → Appends a c (take (at + n) text)
 Appends-prefix a b c at n text h first second =
@@ -51,7 +51,7 @@ room_of_rest limit n room kept given piece is_room is_kept =
     let room_is : room ≡ min n (limit - length given) = omega arith in
     rw room_is (take_of_take n (limit - length given) piece)
 
--- the reader gave the prefix of a piece, and of that what there was room for was kept
+-- the reader gave a prefix of a piece, and of that what there was room for was kept
 pub KeepsFirst-more : (limit n room : ℕ) (a b c : Option (List ℕ)) (kept more piece : List ℕ) → KeepsFirst limit a b kept → Consumes b c (take n piece)
     → room ≡ min n (limit - length kept) → more ≡ kept ++ take room piece → KeepsFirst limit a c more
 KeepsFirst-more limit n room a b c kept more piece h step is_room is_more = record {

@@ -1,4 +1,4 @@
--- The sets of severities that numbers of eight bits stand for.
+-- The sets of severities that numbers of eight bits encode.
 use Rattle.std.proofs.Common.{◌≡◌, ◌↔◌, ◌⊎◌, ◌<◌, ◌^◌, ◌*◌, ℕ, zero, suc, sym, subst, ap, ◌∙◌, refl, inl, inr, arith, IsBitSet, IsTrue, ◌==◌, bit_and, bit_or}
 use Rattle.std.specs.Int.{bit_at}
 use Rattle.std.specs.Int.Bits.{and_zero_l}

@@ -1,4 +1,4 @@
--- The tables of severities and facilities stand in the order of their codes.
+-- The tables of severities and facilities are in the order of their codes.
 use Rattle.std.proofs.Common.{◌≡◌, ◌≢◌, ℕ, ◌<◌, List, get_or, true, false, arith, refl}
 use Rattle.std.specs.Str.{bytes_eq}
 use Rattle.std.proofs.lemmas.Slice.Eq.{bytes_eq-Decides}
@@ -11,7 +11,7 @@ use Rattle.syslog_value.specs.declared.facility.Facility.TheVariants as facility
 use Rattle.syslog_value.specs.declared.facility.TheConstants.Facility as facilities
 use Rattle.syslog_value.specs.Facilities.{facility_code}
 
--- two texts that `==` reports apart
+-- two texts that `==` tells apart
 pub texts_differ : (a b : List ℕ) → bytes_eq a b ≡ false → a ≢ b
 texts_differ a b unequal same = let equal : bytes_eq a b ≡ true = (bytes_eq-Decides a b).1 same in cc
 

@@ -1,4 +1,4 @@
--- The order of octet texts: as unsigned bytes from the prefix, a proper prefix first.
+-- The order of octet texts: as unsigned bytes from the first on, a proper prefix first.
 use Rattle.std.specs.Prelude.{◌≡◌, ℕ, ◌<◌, List, [], ◌∷◌, ⊤, ◌⊎◌}
 
 -- the first octets that differ decide, and a proper prefix is below

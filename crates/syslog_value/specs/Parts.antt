@@ -13,7 +13,7 @@ pub record ElementParts : Type 0 where
   pub id : List ℕ
   pub params : List ParamParts
 
--- any octets, or a text in UTF-8 behind the BOM
+-- any octets, or a text in UTF-8 after the BOM
 pub data MessageParts : Type 0 where
   AnyOctets : List ℕ → MessageParts
   Utf8Text : List ℕ → MessageParts
@@ -66,12 +66,12 @@ IsParam p = IsName p.name × IsUtf8 p.value
 abbrev pub IsElement : ElementParts → Type 0
 IsElement e = IsName e.id × AllByRecursion IsParam e.params
 
--- octets that do not start with the mark, or a text
+-- octets that do not start with the BOM, or a text
 abbrev pub IsMessage : MessageParts → Type 0
 IsMessage (AnyOctets octets) = IsOctets octets × (take 3 octets ≢ bom)
 IsMessage (Utf8Text text) = IsUtf8 text
 
--- the ids ascend strictly, so none stands twice
+-- the ids ascend strictly, so none occurs twice
 abbrev pub IsById : List ElementParts → Type 0
 IsById [] = ⊤
 IsById (e ∷ es) = AllByRecursion (λ f. OctetsBelow e.id f.id) es × IsById es

@@ -1,4 +1,4 @@
--- What the fields of a record stand for.
+-- What the fields of a record represent.
 use Rattle.std.specs.Prelude.{ℤ}
 use Rattle.syslog_value.specs.Parts.{Parts}
 use Rattle.syslog_value.specs.declared.record.Record.TheInside.{Inside}

@@ -1,4 +1,4 @@
--- Structured data, in which an id stands once (RFC 5424, 6.3.2).
+-- Structured data, in which an id occurs once (RFC 5424, 6.3.2).
 use Rattle.std.specs.Prelude.{◌≡◌, ℕ, ◌+◌, ◌<◌, List, [], ◌∷◌, ◌++◌, ◌⊎◌, length, slice_index_or}
 use Rattle.std.specs.List.{IsDistinct}
 use Rattle.std.specs.Ordering.{on}
@@ -22,7 +22,7 @@ pub record HasEqualNeighbours (es : List ElementParts) : Type 0 where
   pub within : offset + 1 < length es
   pub same : (d : ElementParts) → (slice_index_or es offset d).id ≡ (slice_index_or es (offset + 1) d).id
 
--- the element stands among those that were there, and all by id
+-- the element is inserted among those that were there, and all are in the order of their ids
 pub record AddsElement (element : ElementParts) (old new : List ElementParts) : Type 0 where
   pub before : List ElementParts
   pub after : List ElementParts

@@ -81,7 +81,7 @@ impl Eq for Param {
     ghost laws = { decided param_eq param_decides };
 }
 
-/// SD-ELEMENT: an id, and parameters in their order. A name may stand twice among them.
+/// SD-ELEMENT: an id, and parameters in their order. A name may occur more than once among them.
 #[derive(Debug, Drop)]
 pub struct Element {
     id: SdName,

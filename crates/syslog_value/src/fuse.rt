@@ -1,4 +1,4 @@
-//! A device that fails when it is reported to.
+//! A device that fails after a number of octets, and at one call.
 ghost use Rattle.std.specs.Prelude.{◌≡◌, ◌≢◌, ◌≤◌, ◌<◌, ◌+◌, ℕ, length, min};
 ghost use Rattle.std.specs.Prelude.{IfOk, IfSome, IfNone, IsNone, IsErr, OnErr};
 ghost use Rattle.std.specs.Io.KnownBytes.{ReadConsumes, WriteAppends};
@@ -10,7 +10,7 @@ use crate::{DeviceFault, Input, Output};
 
 /// A device over another. It passes at most so many octets in all (a longer call passes what is
 /// left of them), and then every call fails. Besides, the call after the first `calls` ones fails
-/// and passes nothing, and the calls after it go on.
+/// and passes nothing, and the calls after it work again.
 #[derive(Debug, Drop)]
 pub struct Fuse<D> {
     device: D,

@@ -21,7 +21,7 @@ pub trait Input {
     // the octets that are left, where the device reports them
     ghost left: { Self → Option (List ℕ) };
 
-    /// Reads into the prefix of the slice, and answers how many octets. None, for a slice that is
+    /// Reads octets into a prefix of the slice, and returns how many. None, for a slice that is
     /// not empty, is the end.
     fn read(&mut self, buf: &mut [u8]) -> Result<usize, DeviceFault>
         ensures bound { IfOk result (λ n. n ≤ length buf.new) }

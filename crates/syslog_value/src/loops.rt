@@ -1,4 +1,4 @@
-//! The loops over a device that every command stands on.
+//! The loops over a device that every command uses.
 ghost use Rattle.std.specs.Prelude.{◌≡◌, ◌+◌, ◌^◌, ◌≤◌, ◌<◌, length, take};
 ghost use Rattle.std.specs.Prelude.{OnOk, OnErr, IfOk, IfErr, IfSome, IsErrOf, vec_len};
 ghost use Rattle.std.specs.Io.KnownBytes.{Appends, IsAtEnd};
@@ -50,8 +50,8 @@ pub enum ReadAllFault {
     /// It was called `READER_CALLS` times and did not give its end.
     #[error("the input has no end")]
     Endless,
-    /// A growth was refused.
-    #[error("want of memory")]
+    /// An allocation failed.
+    #[error("out of memory")]
     Memory,
 }
 

@@ -15,7 +15,7 @@ enum Body {
     Utf8(String),
 }
 
-/// A message: any octets that do not start with the BOM, or a text behind that mark.
+/// A message: any octets that do not start with the BOM, or a text that follows the BOM.
 #[derive(Debug, Drop)]
 pub struct Message {
     body: Body,
@@ -43,7 +43,7 @@ impl Message {
         }
     }
 
-    /// The message of these octets. Octets that start with the mark come back.
+    /// The message of these octets. Octets that start with the BOM come back.
     pub fn any(octets: Vec<u8>) -> Result<Message, Vec<u8>>
         ensures ok { IfOk result (λ message.
             (take 3 octets.items ≢ bom) × (message ≡ AnyOctets octets.items)) }
@@ -57,7 +57,7 @@ impl Message {
         })
     }
 
-    /// The message of this text, with the mark before it.
+    /// The message of this text, with the BOM before it.
     pub fn utf8(text: String) -> Message
         ensures { result ≡ Utf8Text (string_bytes text) }
     {
@@ -66,7 +66,7 @@ impl Message {
         }
     }
 
-    /// The octets, without the mark where there is one.
+    /// The octets, without the BOM where there is one.
     pub fn octets(&self) -> &[u8]
         ensures value { result.now ≡ message_octets self.now }
         ensures valid { IsMessage self.now }
@@ -77,7 +77,7 @@ impl Message {
         }
     }
 
-    /// Whether the message is a text behind the BOM.
+    /// Whether the message is a text that follows the BOM.
     pub fn has_mark(&self) -> bool
         ensures { IsTrue result ↔ HasMark self.now }
     {

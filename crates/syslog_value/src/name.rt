@@ -86,7 +86,7 @@ impl Eq for SdName {
     ghost laws = { Prim.search (comparing, rules) };
 }
 
-// where the first octet stands that is none of a name's
+// the offset of the first octet that a name may not contain
 fn first_outside_names(octets: &[u8]) -> Option<usize>
     ensures { MatchOption result (AllByRecursion IsNameOctet octets.now)
         (IsFirstBad IsNameOctet octets.now) }

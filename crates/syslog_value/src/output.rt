@@ -18,7 +18,7 @@ pub trait Output {
     // the octets that it took, where the device reports them
     ghost taken: { Self → Option (List ℕ) };
 
-    /// Takes octets from the prefix of the slice, and answers how many. To take none of a slice
+    /// Takes a prefix of the slice, and returns how many octets it took. To take none of a slice
     /// that is not empty is a failure.
     fn write(&mut self, buf: &[u8]) -> Result<usize, DeviceFault>
         ensures bound { IfOk result (λ n. n ≤ length buf.now) }

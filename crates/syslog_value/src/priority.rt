@@ -1,4 +1,4 @@
-//! The number that stands for a facility and a severity (RFC 5424, section 6.2.1).
+//! The number that encodes a facility and a severity (RFC 5424, section 6.2.1).
 ghost use Rattle.std.specs.Prelude.{◌≡◌, ◌+◌, ◌*◌, ◌/◌, ◌%◌, ◌≤◌, ◌↔◌, ℕ, IsSome, IfSome};
 ghost use Rattle.syslog_value.specs.Severities.{severity_code};
 ghost use Rattle.syslog_value.specs.Facilities.{facility_code};

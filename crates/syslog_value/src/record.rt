@@ -7,7 +7,7 @@ use crate::{Instant, Message, Priority, StructuredData, Word};
 use std::alloc::{AllocError, Global};
 use std::marker::Model;
 
-/// A syslog record. What is nil in a text is None.
+/// A syslog record. The NILVALUE of a text is None.
 #[derive(Debug, Drop)]
 pub struct Record {
     priority: Priority,
@@ -56,7 +56,7 @@ impl Record {
           message = message;
         } }
     {
-        // Each part is valid by its type, and a look at it reports so.
+        // Each part is valid by its type; reading it makes that known to the proof.
         let _ = priority.value();
         look_at_instant(&instant);
         look_at_word(&hostname);

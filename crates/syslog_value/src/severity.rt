@@ -1,8 +1,8 @@
-//! How grave an event is (RFC 5424, section 6.2.1, table 2).
+//! How severe an event is (RFC 5424, section 6.2.1, table 2).
 ghost use Rattle.std.specs.Prelude.{◌≡◌, ◌≢◌, ◌≤◌, ◌↔◌, IsSome, IfSome, IfNone};
 ghost use Rattle.syslog_value.specs.Severities.{severity_code, severity_name, IsNoSeverityName};
 
-/// A severity of RFC 5424, the gravest first.
+/// A severity of RFC 5424, the most severe first.
 #[derive(Clone, Copy, Debug, PartialEq, Eq, PartialOrd, Ord)]
 pub enum Severity {
     /// The system is unusable.

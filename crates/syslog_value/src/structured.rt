@@ -1,4 +1,4 @@
-//! Structured data: elements under ids of which none stands twice (RFC 5424, section 6.3).
+//! Structured data: elements whose ids are all different (RFC 5424, section 6.3).
 ghost use Rattle.std.specs.Prelude.{◌≡◌, ◌≢◌, ◌↔◌, List, [], length};
 ghost use Rattle.std.specs.Prelude.{OnOk, IfOk, IfErr, IsSome, IfSome, MatchBool};
 ghost use Rattle.std.specs.Cmp.Lexicographic.{slice_cmp};
@@ -21,8 +21,8 @@ pub enum PushFault {
     /// There is an element with this id.
     #[error("there is an element with this id")]
     RepeatedId,
-    /// A growth was refused.
-    #[error("want of memory")]
+    /// An allocation failed.
+    #[error("out of memory")]
     Memory,
 }
 
@@ -50,7 +50,7 @@ impl StructuredData {
         }
     }
 
-    /// Structured data of elements in any order. None where an id stands twice.
+    /// Structured data of elements in any order. None where an id occurs twice.
     pub fn from_elements(elements: Vec<Element>) -> Option<StructuredData>
         ensures distinct { IsSome result ↔ HaveDistinctIds elements.items }
         ensures value { IfSome result (IsPermutation elements.items) }
@@ -74,7 +74,8 @@ impl StructuredData {
         self.elements.as_slice()
     }
 
-    /// Adds an element at its offset. It comes back where its id is there, or memory was refused.
+    /// Adds an element in the order of the ids. It comes back where its id is already there, or an
+    /// allocation failed.
     pub fn push(&mut self, element: Element) -> Result<(), (Element, PushFault)>
         ensures ok { OnOk result (AddsElement element self.old self.new) }
         ensures err { IfErr result (λ refusal.
@@ -130,7 +131,7 @@ impl Eq for StructuredData {
     ghost laws = { decided (pointwise element_eq) elements_decide };
 }
 
-// the element with this id, or the offset where one would stand
+// the offset of the element with this id, or the offset at which to insert one
 fn offset_of(elements: &[Element], id: &SdName) -> Result<usize, usize>
     ensures bound { IsSearchInRange result (length elements.now) }
     ensures offset { IsBinarySearchResult (λ e. slice_cmp nat_cmp e.id id.now) elements.now result }

@@ -14,7 +14,7 @@ pub enum WordFault {
     /// There are no octets.
     #[error("there are no octets")]
     Empty,
-    /// The one octet "-", which stands for a word that is not there.
+    /// The one octet "-", the NILVALUE, which a missing word is written as.
     #[error("the one octet - is no word")]
     Nil,
     #[error("there are too many octets")]
@@ -22,8 +22,8 @@ pub enum WordFault {
     /// The first octet that is not allowed, counted from 0.
     #[error("the octet at {offset} is not allowed")]
     BadOctet { offset: usize },
-    /// A growth was refused.
-    #[error("want of memory")]
+    /// An allocation failed.
+    #[error("out of memory")]
     Memory,
 }
 
@@ -113,7 +113,7 @@ impl<const N: usize> Eq for Word<N> {
     ghost laws = { Prim.search (comparing, rules) };
 }
 
-// where the first octet stands that is no printable one
+// the offset of the first octet that is not printable
 fn first_unprintable(octets: &[u8]) -> Option<usize>
     ensures { MatchOption result (AllByRecursion IsPrintable octets.now)
         (IsFirstBad IsPrintable octets.now) }
