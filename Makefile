@@ -4,9 +4,9 @@ PREFIX = /usr/local
 DESTDIR =
 PROGRAM = crates/syslogbox
 
-.PHONY: all trials check bench install clean
+.PHONY: all trials check edits bench install clean
 
-# Proves the program and what it stands on, and builds build/syslogbox.
+# Proves the program and the crates below it, and builds build/syslogbox.
 all:
 	@mkdir -p build
 	cd $(PROGRAM) && rt run -- convert < stdin > ../../build/first-run
@@ -19,9 +19,13 @@ trials:
 	cd crates/trials && rt run > ../../build/first-trial
 	@cmp -s crates/trials/out/trials build/trials || cp crates/trials/out/trials build/trials
 
-# Proves every crate from nothing, runs every test, and tries the real program.
+# Proves every crate from nothing, runs every test, and runs the real program.
 check:
 	bash .ci/run
+
+# Tries the wrong bodies in edits/, which the prover must refuse; CRATES names the crates, all by default.
+edits:
+	python3 tests/edits.py $(CRATES)
 
 # Measures check and convert beside cat and wc.
 bench: all

@@ -1,8 +1,1 @@
-pub mod AnswerLemmas
-pub mod CauseLemmas
-pub mod ConvertLemmas
-pub mod HandlingLemmas
-pub mod LineLemmas
-pub mod ScanLemmas
-pub mod ShowLemmas
-pub mod StreamLemmas
+pub mod RequestLemmas

@@ -1,6 +1,6 @@
--- Files by their names, where what they hold is reported.
+-- Files by their names, where what they hold is known.
 use Rattle.std.specs.Prelude.{◌≡◌, ℕ, List, Option, None, MatchOption, IsSome}
 
--- a name has a reader exactly where octets are stored under it, and the reader has just these left
+-- a name has a reader exactly where octets are stored under it, and exactly these are left to read
 abbrev pub Finds : {R : Type 0} → (R → Option (List ℕ)) → Option (List ℕ) → Option R → Type 0
 Finds left octets reader = MatchOption reader (octets ≡ None) (λ r. IsSome (left r) × (octets ≡ left r))

@@ -1,12 +1,2 @@
-pub mod Checked
-pub mod Converted
-pub mod Pending
-pub mod Handling
 pub mod Files
-pub mod CommandLine
-pub mod Line
 pub mod Memory
-pub mod Requests
-pub mod Scans
-pub mod Showing
-pub mod Streams

@@ -7,7 +7,7 @@ use std::fs::File;
 use std::rt;
 use syslog_value::FromRead;
 
-/// The files of the system. They do not tell their octets.
+/// The files of the system. No contract knows their octets.
 #[derive(Drop)]
 pub struct DiskFiles<'a, R> {
     rt: &'a R,

@@ -5,15 +5,15 @@ ghost use Rattle.syslogbox.specs.Files.{Finds};
 
 use syslog_value::Input;
 
-/// Readers by name.
+/// A store of readers by name.
 pub trait Files {
-    /// What a file is read by.
+    /// The reader of a file.
     type Reader: Input + Drop;
 
-    // the octets under each name that has a reader, where they are reported
+    // the octets under each name that has a reader, where they are known
     ghost stored: { Self → Option (List ℕ → Option (List ℕ)) };
 
-    /// A new reader of what the name stands for, or None where nothing does. Asking changes no file.
+    /// A new reader of the file with this name, or None where there is none. No file changes.
     fn reader(&mut self, name: &str) -> Option<Self::Reader>
         ensures found { IfSome (stored self.old) (λ octets.
             Finds (λ reader. Self.Reader.left reader) (octets name.now) result) }

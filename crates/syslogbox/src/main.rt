@@ -1,35 +1,21 @@
 //! Reads syslog records and writes them in their one canonical form.
 #![tactic(auto)]
 
-mod check;
-mod convert;
 mod disk;
 mod files;
-mod frame_handler;
-mod line;
 mod memory;
-mod notes;
-mod pending;
-mod record_lines;
-mod request;
 mod run;
-mod scan;
-mod show;
-mod status;
-mod stream;
 #[cfg(test)]
 mod tests;
-mod words;
 
 use disk::DiskFiles;
-use notes::note;
+use frame_engine::{FAULT, NO_MEMORY, note};
 use run::run;
-use status::{FAULT, NO_MEMORY};
 use std::process::ExitCode;
 use std::{env, io};
 use syslog_value::{FromRead, ToWrite};
 
-// The words without the program's name, or the status where they cannot be had.
+// The words without the program's name, or the exit status where they cannot be read.
 fn program_words(rt: &HostRuntime) -> Result<Vec<String>, u8> {
     let words = match env::args(rt) {
         Ok(words) => words,

@@ -1,4 +1,4 @@
-//! Files over memory, which tell their octets.
+//! Files in memory, whose octets contracts know.
 
 use crate::files::Files;
 use syslog_value::FromRead;
@@ -10,7 +10,7 @@ pub struct MemoryFile<'a> {
     pub octets: &'a [u8],
 }
 
-/// Files over memory. Of two with one name the first counts.
+/// Files in memory. Of two with one name the first counts.
 #[derive(Drop)]
 pub struct MemoryFiles<'a> {
     files: &'a [MemoryFile<'a>],
@@ -21,7 +21,8 @@ impl<'a> MemoryFiles<'a> {
     ghost use Rattle.syslogbox.specs.Memory.{stored_in};
 
     pub fn new(files: &'a [MemoryFile<'a>]) -> MemoryFiles<'a>
-        ensures { ⟦<MemoryFiles<'a> as Files>⟧.stored result ≡ Some (λ name. stored_in name files.entry.now) }
+        ensures { ⟦<MemoryFiles<'a> as Files>⟧.stored result
+            ≡ Some (λ name. stored_in name files.entry.now) }
     {
         MemoryFiles { files }
     }

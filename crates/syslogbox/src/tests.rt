@@ -6,13 +6,13 @@ mod streams;
 
 use super::memory::{MemoryFile, MemoryFiles};
 use super::run::run;
-use super::status::{DONE, FAULT, NO_MEMORY, REFUSED};
+use frame_engine::{DONE, FAULT, NO_MEMORY, REFUSED};
 use std::test::Fail;
 use syslog_value::{FromRead, ToWrite};
 
 const HELLO: &[u8] = b"<165>1 - - - - - - hello";
 
-// what a run over memory answers and writes
+// what a run over memory returns and writes
 #[derive(Drop)]
 struct Ran {
     status: u8,

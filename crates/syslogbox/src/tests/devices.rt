@@ -1,20 +1,20 @@
-//! Faults of devices, each at its offset.
+//! Devices that fail, each at some offset.
 
 use super::{HELLO, Ran};
 use crate::memory::{MemoryFile, MemoryFiles};
 use crate::run::run;
-use crate::status::{DONE, FAULT};
+use frame_engine::{DONE, FAULT};
 use std::test::Fail;
 use syslog_value::{FromRead, Fuse, ToWrite};
 
 // two records, and a line between them that is none
 const STREAM: &[u8] = b"<0>1 - - - - - -\nx\n<1>1 - - - - - -\n";
 
-// words and an input; how many calls of the reader go well, and how many octets pass into the
-// writer and into the notes; the output and the notes
+// words and an input; how many calls of the reader succeed, and how many octets the writer and the
+// notes accept; the output and the notes
 type Row<'a> = (&'a [&'a str], &'a [u8], (u64, u64, u64), &'a [u8], &'a [u8]);
 
-// a run whose reader fails at a call, and whose writer and notes fail behind so many octets
+// a run whose reader fails at a call, and whose writer and notes fail after so many octets
 fn run_on_fuses(
     rt: &HostRuntime,
     words: &[&str],
@@ -49,10 +49,10 @@ fn run_on_fuses(
 }
 
 #[test]
-fn a_fault_of_a_device_is_told_at_its_offset(rt: HostRuntime) -> Result<(), Fail> {
+fn a_device_that_fails_is_reported(rt: HostRuntime) -> Result<(), Fail> {
     let most = u64::MAX;
     let rows: [Row<'_>; 11] = [
-        // the first or the second read fails, before any octet is out
+        // the first or the second read fails, before any octet is written
         (&["convert"], HELLO, (0, most, most), b"", b"read fault\n"),
         (&["convert"], HELLO, (1, most, most), b"", b"read fault\n"),
         // the writer takes five octets, or none

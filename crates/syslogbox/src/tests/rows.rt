@@ -1,7 +1,7 @@
 //! One datagram: what is written, and what is reported.
 
 use super::{HELLO, run_over};
-use crate::status::{DONE, REFUSED};
+use frame_engine::{DONE, REFUSED};
 use std::test::Fail;
 
 // a record and its canonical form
@@ -153,7 +153,7 @@ fn a_record_is_converted(rt: HostRuntime) -> Result<(), Fail> {
 }
 
 #[test]
-fn what_is_no_record_is_told_with_its_offset(rt: HostRuntime) -> Result<(), Fail> {
+fn what_is_no_record_is_refused_with_its_offset(rt: HostRuntime) -> Result<(), Fail> {
     for (input, line) in REFUSED_ROWS {
         let checked = run_over(&rt, &["check"], input)?;
         assert_eq!(rt; checked.status, REFUSED);

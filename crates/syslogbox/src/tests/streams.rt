@@ -1,14 +1,14 @@
-//! Streams of frames, and records on their way from one framing to another.
+//! Streams of frames, and records that are converted from one framing to another.
 
 use super::run_over;
-use crate::status::{DONE, REFUSED};
+use frame_engine::{DONE, REFUSED};
 use std::test::Fail;
 
 // words and an input, and the status, the output and the notes
 type Row<'a> = (&'a [&'a str], &'a [u8], u8, &'a [u8], &'a [u8]);
 
 #[test]
-fn each_frame_of_a_stream_is_handled_with(rt: HostRuntime) -> Result<(), Fail> {
+fn each_frame_of_a_stream_is_handled(rt: HostRuntime) -> Result<(), Fail> {
     let rows: [Row<'_>; 14] = [
         (
             &["convert", "--framing", "counted", "--to", "lf"],

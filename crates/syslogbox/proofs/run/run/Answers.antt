@@ -1,4 +1,5 @@
-use Rattle.syslogbox.proofs.ConvertLemmas.{convert_output, same_request}
+use Rattle.frame_engine.proofs.ConvertLemmas.{convert_output}
+use Rattle.syslogbox.proofs.RequestLemmas.{same_request}
 use Rattle.syslogbox.proofs.run.run.Goals as goal
 
 pub returns-in-Ok-Convert-clause-converted : goal.returns-in-Ok-Convert-clause-converted

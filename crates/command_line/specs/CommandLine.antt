@@ -1,0 +1,30 @@
+-- The command line: the subcommands, their options and positionals.
+use Rattle.std.specs.Prelude.{[], ◌∷◌, Some, true, codes}
+use Rattle.clap.specs.Walk.{Rule, Text}
+use Rattle.clap.specs.Simple.{App, new_app, new_rule, on_top, with_rule, with_subcommand}
+
+-- an option that takes a value
+abbrev pub option_rule : Text → Rule
+option_rule id = record (new_rule id) { long = Some id }
+
+-- an option with a default value
+abbrev pub default_rule : Text → Text → Rule
+default_rule id value = record (option_rule id) { defaults = value ∷ [] }
+
+-- a command that reads records
+abbrev pub input_app : Text → App
+input_app name = with_rule (new_app name) (default_rule (codes "framing") (codes "datagram"))
+
+-- the command that reads records and writes them in canonical form
+abbrev pub convert_app : App
+convert_app = with_rule (input_app (codes "convert")) (option_rule (codes "to"))
+
+-- the words do not begin with the program's name, and a subcommand is required
+abbrev pub empty_app : App
+empty_app = on_top (λ s. record s { no_binary_name = true; subcommand_required = true }) (new_app (codes "syslogbox"))
+
+-- the whole command line
+abbrev pub line_app : App
+line_app =
+    with_subcommand (with_subcommand (with_subcommand empty_app (input_app (codes "show")).top)
+    (input_app (codes "check")).top) convert_app.top

@@ -1,0 +1,72 @@
+-- What the words of a command line ask for.
+use Rattle.std.specs.Prelude.{⊤, List, [], ◌∷◌, Some, None, Option, codes, if◌then◌else◌, option_and_then, option_map}
+use Rattle.std.specs.Str.{bytes_eq}
+use Rattle.clap.specs.Walk.{Text, Row, first_of}
+use Rattle.clap.specs.Simple.{subcommand_of}
+use Rattle.clap.specs.Faults.{fault_of}
+use Rattle.clap.specs.Kinds.{Kinds}
+use Rattle.syslog_frame.specs.declared.framing.Framing.{Framing}
+use Rattle.syslog_frame.specs.declared.framing.Framing.TheVariants.{Counted, Lf}
+use Rattle.command_line.specs.CommandLine.{line_app}
+use Rattle.frame_engine.specs.declared.input_framing.InputFraming.{InputFraming}
+use Rattle.frame_engine.specs.declared.input_framing.InputFraming.TheVariants.{Datagram, Stream}
+use Rattle.command_line.specs.declared.request.Request.{Request}
+use Rattle.command_line.specs.declared.request.Request.TheVariants.{Check, Convert, Show}
+use Rattle.command_line.specs.declared.words.WordsFault.{WordsFault}
+use Rattle.command_line.specs.declared.words.WordsFault.TheVariants.{Usage, Memory}
+
+-- the framing with this name
+abbrev pub framing_of : Text → Option Framing
+framing_of name = if bytes_eq name (codes "counted") then Some Counted else (if bytes_eq name (codes "lf") then Some Lf else None)
+
+-- the framing of an input, by its name
+abbrev pub input_framing_of : Text → Option InputFraming
+input_framing_of name = if bytes_eq name (codes "datagram") then Some Datagram else option_map Stream (framing_of name)
+
+-- the value of `--framing`
+abbrev pub input_framing_in : List Row → Option InputFraming
+input_framing_in rows = option_and_then input_framing_of (first_of (codes "framing") rows)
+
+-- `check` with the values of its options
+abbrev pub read_check : List Row → Option Request
+read_check rows = option_map (λ input_framing. Check input_framing) (input_framing_in rows)
+
+-- `show` with the values of its options
+abbrev pub read_show : List Row → Option Request
+read_show rows = option_map (λ input_framing. Show input_framing) (input_framing_in rows)
+
+-- the framing of an input, as one of frames
+abbrev pub own_framing : InputFraming → Option Framing
+own_framing Datagram = None
+own_framing (Stream kind) = Some kind
+
+-- the framing of the output, by the value of `--to`: without it, that of the input
+abbrev pub to_of : InputFraming → Option Text → Option (Option Framing)
+to_of input_framing None = Some (own_framing input_framing)
+to_of input_framing (Some name) = option_map (λ kind. Some kind) (framing_of name)
+
+-- `convert` with the values of its options
+abbrev pub read_convert : List Row → Option Request
+read_convert rows =
+    option_and_then (λ input_framing. option_map (λ to. Convert input_framing to) (to_of input_framing (first_of (codes "to") rows))) (input_framing_in rows)
+
+-- the request of a subcommand with the values of its options
+abbrev pub read_of : Text × List Row → Option Request
+read_of (name, rows) =
+    if bytes_eq name (codes "check") then read_check rows
+    else (if bytes_eq name (codes "convert") then read_convert rows
+    else (if bytes_eq name (codes "show") then read_show rows else None))
+
+-- the request, where the parse has no fault
+abbrev pub request_of : Kinds → Option (Text × List Row) → Option Request
+request_of [] rows = option_and_then read_of rows
+request_of (kind ∷ kinds) rows = None
+
+-- the request of the words, where they parse and their values are accepted: a function of the words alone
+unfoldable pub parsed : List Text → Option Request
+parsed words = request_of (fault_of line_app words) (subcommand_of line_app words)
+
+-- the fault is one of the words, and not of memory
+abbrev pub IsUsage : WordsFault → Type 0
+IsUsage (Usage text) = ⊤
+IsUsage Memory = ⊥

@@ -1,0 +1,267 @@
+//! The command line, parsed by `clap`. The request is a function of the words alone.
+
+ghost use Rattle.std.specs.Prelude.{◌≡◌, codes, false, map, option_map, option_and_then, IfOk, IfErr, Some, None};
+ghost use Rattle.clap.specs.Walk.{first_of};
+ghost use Rattle.clap.specs.Words.{app_of, found_of, rows_of, rule_of, subcommand_rows_of};
+ghost use Rattle.clap.specs.Simple.{new_app, with_rule, with_subcommand};
+ghost use Rattle.clap.specs.declared.builder.command.Command.TheViews.{out-Command as fields_of};
+ghost use Rattle.command_line.specs.CommandLine.{convert_app, default_rule, empty_app, input_app, line_app, option_rule};
+ghost use Rattle.command_line.specs.Requests.{IsUsage, input_framing_in, input_framing_of, framing_of, own_framing, parsed};
+ghost use Rattle.command_line.specs.Requests.{read_check, read_convert, read_of, read_show, to_of};
+
+use crate::request::Request;
+use clap::error::ErrorKind;
+use clap::{Arg, ArgMatches, Command};
+use frame_engine::InputFraming;
+use std::alloc::{AllocError, Global};
+use std::convert::AsStr;
+use syslog_frame::Framing;
+
+/// Why words are no request.
+#[derive(Debug, Drop)]
+pub enum WordsFault {
+    /// The words do not parse, or they ask for help: the text to print.
+    Usage(String),
+    /// Out of memory.
+    Memory,
+}
+
+impl From<AllocError> for WordsFault {
+    ghost use Rattle.std.specs.Prelude.{◌≡◌};
+    ghost use Rattle.command_line.specs.declared.words.WordsFault.TheVariants.{Memory};
+
+    ghost from_gives = { λ _ fault. fault ≡ Memory };
+
+    fn from(_: AllocError) -> WordsFault {
+        WordsFault::Memory
+    }
+}
+
+// An option that takes a value.
+fn option<'a>(alloc: Global, id: &'a str) -> Arg<'a>
+    ensures rule { rule_of result ≡ option_rule id.entry.now }
+    ensures local { result.global ≡ false }
+{
+    Arg::new(alloc, id).long(id)
+}
+
+// An option with its help text.
+fn described<'a>(option: Arg<'a>, help: &'a str) -> Arg<'a>
+    ensures rule { rule_of result ≡ rule_of option.entry }
+    ensures local { result.global ≡ option.entry.global }
+{
+    option.help(help)
+}
+
+// An option that takes the name of a framing.
+fn framing_option<'a>(alloc: Global, id: &'a str, help: &'a str) -> Arg<'a>
+    ensures rule { rule_of result ≡ option_rule id.entry.now }
+    ensures local { result.global ≡ false }
+{
+    described(option(alloc, id), help)
+}
+
+// `--framing`, the framing of the input: a datagram by default.
+fn input_option<'a>(alloc: Global) -> Arg<'a>
+    ensures rule { rule_of result ≡ default_rule (codes "framing") (codes "datagram") }
+    ensures local { result.global ≡ false }
+{
+    let help = "Framing of the input: datagram, counted or lf";
+    framing_option(alloc, "framing", help).default_value("datagram")
+}
+
+// The command with one more argument.
+fn with_arg<'a>(command: Command<'a>, arg: Arg<'a>) -> Result<Command<'a>, AllocError>
+    requires arg_local { arg.global ≡ false }
+    requires local { (fields_of command).has_globals ≡ false }
+    ensures app { IfOk result (λ c.
+        app_of c ≡ with_rule (app_of command.entry) (rule_of arg.entry)) }
+    ensures local { IfOk result (λ c. (fields_of c).has_globals ≡ false) }
+{
+    command.arg(arg)
+}
+
+// A command with its help text.
+fn command<'a>(alloc: Global, name: &'a str, about: &'a str) -> Command<'a>
+    ensures app { app_of result ≡ new_app name.entry.now }
+    ensures local { (fields_of result).has_globals ≡ false }
+{
+    Command::new(alloc, name).about(about)
+}
+
+// A command that reads records.
+fn input_command<'a>(
+    alloc: Global,
+    name: &'a str,
+    about: &'a str,
+) -> Result<Command<'a>, AllocError>
+    ensures app { IfOk result (λ c. app_of c ≡ input_app name.entry.now) }
+    ensures local { IfOk result (λ c. (fields_of c).has_globals ≡ false) }
+{
+    with_arg(command(alloc, name, about), input_option(alloc))
+}
+
+// The command that reads records and writes them in canonical form.
+fn convert_command<'a>(alloc: Global) -> Result<Command<'a>, AllocError>
+    ensures app { IfOk result (λ c. app_of c ≡ convert_app) }
+    ensures local { IfOk result (λ c. (fields_of c).has_globals ≡ false) }
+{
+    let about = "Write the canonical octets of each record";
+    let help = "Framing of the output: counted or lf [default: that of the input]";
+    with_arg(
+        input_command(alloc, "convert", about)?,
+        framing_option(alloc, "to", help),
+    )
+}
+
+// The command line with no subcommand yet.
+fn empty_line<'a>(alloc: Global) -> Command<'a>
+    ensures { app_of result ≡ empty_app }
+{
+    Command::new(alloc, "syslogbox")
+        .no_binary_name(true)
+        .subcommand_required(true)
+}
+
+// The command line with one more subcommand.
+fn with_command<'a>(line: Command<'a>, command: Command<'a>) -> Result<Command<'a>, AllocError>
+    requires { (fields_of command).has_globals ≡ false }
+    ensures { IfOk result (λ c.
+        app_of c ≡ with_subcommand (app_of line.entry) (app_of command.entry).top) }
+{
+    line.subcommand(command)
+}
+
+fn whole_line<'a>(alloc: Global) -> Result<Command<'a>, AllocError>
+    ensures { IfOk result (λ c. app_of c ≡ line_app) }
+{
+    let show = input_command(alloc, "show", "Write the fields of each record")?;
+    let line = with_command(empty_line(alloc), show)?;
+    let about = "Say for each frame whether it is a record, and if not, where it stops being one";
+    let check = input_command(alloc, "check", about)?;
+    with_command(with_command(line, check)?, convert_command(alloc)?)
+}
+
+fn value<'a>(matches: &ArgMatches<'a>, id: &str) -> Option<&'a str>
+    ensures { option_map (λ s. s.now) result ≡ first_of id.now (rows_of (found_of matches.now)) }
+{
+    matches.get_str(id)
+}
+
+fn framing(name: &str) -> Option<Framing>
+    ensures { result ≡ framing_of name.now }
+{
+    match name {
+        "counted" => Some(Framing::Counted),
+        "lf" => Some(Framing::Lf),
+        _ => None,
+    }
+}
+
+fn input_framing(name: &str) -> Option<InputFraming>
+    ensures { result ≡ input_framing_of name.now }
+{
+    match name {
+        "datagram" => Some(InputFraming::Datagram),
+        _ => Some(InputFraming::Stream(framing(name)?)),
+    }
+}
+
+// The value of `--framing`.
+fn input_framing_of_matches(matches: &ArgMatches<'_>) -> Option<InputFraming>
+    ensures { result ≡ input_framing_in (rows_of (found_of matches.now)) }
+{
+    input_framing(value(matches, "framing")?)
+}
+
+fn read_check_words(matches: &ArgMatches<'_>) -> Option<Request>
+    ensures { result ≡ read_check (rows_of (found_of matches.now)) }
+{
+    let input_framing = input_framing_of_matches(matches)?;
+    Some(Request::Check { input_framing })
+}
+
+// The framing of an input, as one of frames; a datagram has none.
+fn own_framing(input_framing: InputFraming) -> Option<Framing>
+    ensures { result ≡ own_framing input_framing }
+{
+    match input_framing {
+        InputFraming::Datagram => None,
+        InputFraming::Stream(framing) => Some(framing),
+    }
+}
+
+// The framing of the output, by the value of `--to`: None where the value names no framing. Without
+// `--to` the output has the framing of the input.
+fn to(input_framing: InputFraming, name: Option<&str>) -> Option<Option<Framing>>
+    ensures { result ≡ to_of input_framing (option_map (λ s. s.now) name.entry) }
+{
+    match name {
+        None => Some(own_framing(input_framing)),
+        Some(name) => Some(Some(framing(name)?)),
+    }
+}
+
+fn read_convert_words(matches: &ArgMatches<'_>) -> Option<Request>
+    ensures { result ≡ read_convert (rows_of (found_of matches.now)) }
+{
+    let input_framing = input_framing_of_matches(matches)?;
+    let to = to(input_framing, value(matches, "to"))?;
+    Some(Request::Convert { input_framing, to })
+}
+
+fn read_show_words(matches: &ArgMatches<'_>) -> Option<Request>
+    ensures { result ≡ read_show (rows_of (found_of matches.now)) }
+{
+    let input_framing = input_framing_of_matches(matches)?;
+    Some(Request::Show { input_framing })
+}
+
+fn asked_for(matches: &ArgMatches<'_>) -> Option<Request>
+    ensures { result ≡ option_and_then read_of (subcommand_rows_of matches.now) }
+{
+    let (name, inner) = matches.subcommand()?;
+    match name {
+        "check" => read_check_words(inner),
+        "convert" => read_convert_words(inner),
+        "show" => read_show_words(inner),
+        _ => None,
+    }
+}
+
+// The text of an error of `clap`.
+fn refused(alloc: Global, error: &clap::Error) -> WordsFault {
+    match format!(in alloc; "{error}") {
+        Ok(text) => WordsFault::Usage(text),
+        Err(_) => WordsFault::Memory,
+    }
+}
+
+// The text for a value that `clap` accepts and this program does not.
+fn unknown(alloc: Global) -> WordsFault {
+    match String::from_str(
+        alloc,
+        "error: --framing is datagram, counted or lf, and --to is counted or lf\n",
+    ) {
+        Ok(text) => WordsFault::Usage(text),
+        Err(_) => WordsFault::Memory,
+    }
+}
+
+/// Reads the words of a command line, which do not begin with the program's name.
+pub fn read_words<S: AsStr>(alloc: Global, words: &[S]) -> Result<Request, WordsFault>
+    ensures ok { IfOk result (λ r. parsed (map S.text words.now) ≡ Some r) }
+    ensures err { IfErr result (λ fault. IsUsage fault → parsed (map S.text words.now) ≡ None) }
+{
+    let line = whole_line(alloc)?;
+    match line.try_get_matches_from(words) {
+        Ok(matches) => match asked_for(&matches) {
+            Some(request) => Ok(request),
+            None => Err(unknown(alloc)),
+        },
+        Err(error) => match error.kind() {
+            ErrorKind::OutOfMemory => Err(WordsFault::Memory),
+            _ => Err(refused(alloc, &error)),
+        },
+    }
+}

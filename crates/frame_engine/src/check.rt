@@ -1,0 +1,58 @@
+//! `check`: one line for each frame.
+
+ghost use Rattle.std.specs.Prelude.{◌≡◌, OnErr, OnOk};
+ghost use Rattle.frame_engine.specs.Checked.{refused_line};
+ghost use Rattle.frame_engine.specs.Pending.{done_of};
+ghost use Rattle.frame_engine.specs.Handling.{then_done};
+ghost use Rattle.frame_engine.specs.declared.line.Line.{Line};
+
+use crate::frame_handler::FrameHandler;
+use crate::line::{Line, put_line};
+use crate::pending::PendingOutput;
+use std::alloc::AllocError;
+use syslog_frame::FRAME_MAX;
+use syslog_grammar::view;
+
+/// Writes for each frame whether it is a record, and if not, why not. No frame is copied.
+#[derive(Clone, Copy, Debug)]
+pub struct Check;
+
+// Reports a refusal on the output.
+fn refuse(line: Line, done: &mut PendingOutput) -> Result<(), AllocError>
+    ensures ok { OnOk result (done_of done.new ≡ then_done (done_of done.old) (refused_line line)) }
+    ensures err { OnErr result (done_of done.new ≡ done_of done.old) }
+{
+    put_line(&mut done.output, line)?;
+    done.refused = true;
+    Ok(())
+}
+
+impl FrameHandler for Check {
+    ghost use Rattle.std.proofs.Common.{inl, refl};
+    ghost use Rattle.frame_engine.specs.Checked.{check_handling};
+
+    ghost handles = { λ _. check_handling };
+
+    ghost reports = { λ _. refused_line };
+
+    fn on_frame(
+        &self,
+        number: u64,
+        frame: &[u8],
+        done: &mut PendingOutput,
+    ) -> Result<(), AllocError> {
+        if frame.len() > FRAME_MAX {
+            return refuse(Line::TooLong { number }, done);
+        }
+        match view(frame) {
+            Ok(_) => put_line(&mut done.output, Line::Accepted { number }),
+            Err(fault) => refuse(Line::Refused { number, fault }, done),
+        }
+    }
+
+    fn report(&self, line: Line, done: &mut PendingOutput) -> Result<(), AllocError> {
+        refuse(line, done)
+    }
+
+    ghost long = { λ d n f h. inl (h, refl) };
+}

@@ -1,0 +1,101 @@
+//! `convert`: the canonical octets of each record.
+
+ghost use Rattle.std.specs.Prelude.{◌≡◌, ◌<◌, List, ℕ, OnErr, OnOk, Some, length};
+ghost use Rattle.syslog_grammar.specs.ViewParts.{IsViewOf, view_parts};
+ghost use Rattle.frame_engine.specs.Converted.{Converts, Framed, noted_line};
+ghost use Rattle.frame_engine.specs.Pending.{Adds, done_of};
+ghost use Rattle.frame_engine.specs.Handling.{then_done};
+
+use crate::frame_handler::FrameHandler;
+use crate::line::{Line, put_line};
+use crate::pending::PendingOutput;
+use std::alloc::{AllocError, Global};
+use syslog_frame::{FRAME_MAX, Framing, PutFault, put_frame};
+use syslog_grammar::{RecordView, put_canonical, view};
+
+/// Writes the canonical octets of each record, and notes why a frame has none.
+#[derive(Clone, Copy, Debug)]
+pub struct Convert {
+    /// The allocator for a record whose element ids do not ascend.
+    pub alloc: Global,
+    /// The framing of the output; None: bare octets.
+    pub to: Option<Framing>,
+}
+
+/// Notes a refusal.
+pub fn note_line(line: Line, done: &mut PendingOutput) -> Result<(), AllocError>
+    ensures ok { OnOk result (done_of done.new ≡ then_done (done_of done.old) (noted_line line)) }
+    ensures err { OnErr result (done_of done.new ≡ done_of done.old) }
+{
+    put_line(&mut done.notes, line)?;
+    done.refused = true;
+    Ok(())
+}
+
+// Appends the canonical octets in the scratch buffer to the output, in a framing.
+fn put_framed(framing: Framing, number: u64, done: &mut PendingOutput) -> Result<(), AllocError>
+    requires { 0 < length done.old.scratch.items }
+    ensures ok { OnOk result (Adds (Framed framing number done.old.scratch.items)
+        (done_of done.old) (done_of done.new)) }
+    ensures err { OnErr result (done_of done.new ≡ done_of done.old) }
+{
+    match put_frame(framing, done.scratch.as_slice(), &mut done.output) {
+        Ok(()) => Ok(()),
+        Err(PutFault::HasLf) => note_line(Line::HasLf { number }, done),
+        Err(PutFault::TooLong) => note_line(Line::CanonicalTooLong { number }, done),
+        Err(PutFault::Memory) => Err(AllocError),
+        Err(PutFault::Empty) => unreachable!(),
+    }
+}
+
+impl Convert {
+    // Appends the canonical octets of a record to the output.
+    fn put_record(
+        &self,
+        number: u64,
+        view: &RecordView<'_>,
+        done: &mut PendingOutput,
+    ) -> Result<(), AllocError>
+        requires { (b : List ℕ) × IsViewOf b (view_parts view.now) }
+        ensures ok { OnOk result ((b : List ℕ) → IsViewOf b (view_parts view.now) →
+            Adds (Converts self.now.to number b) (done_of done.old) (done_of done.new)) }
+        ensures err { OnErr result (done_of done.new ≡ done_of done.old) }
+    {
+        let Some(framing) = self.to else {
+            return put_canonical(self.alloc, view, &mut done.output);
+        };
+        done.scratch.clear();
+        put_canonical(self.alloc, view, &mut done.scratch)?;
+        put_framed(framing, number, done)
+    }
+}
+
+impl FrameHandler for Convert {
+    ghost use Rattle.std.proofs.Common.{inl, refl};
+    ghost use Rattle.frame_engine.specs.Converted.{convert_handling, noted_line};
+
+    ghost handles = { λ c. convert_handling c.to };
+
+    ghost reports = { λ _. noted_line };
+
+    fn on_frame(
+        &self,
+        number: u64,
+        frame: &[u8],
+        done: &mut PendingOutput,
+    ) -> Result<(), AllocError> {
+        if frame.len() > FRAME_MAX {
+            return note_line(Line::TooLong { number }, done);
+        }
+        match view(frame) {
+            Ok(view) => self.put_record(number, &view, done),
+            Err(fault) => note_line(Line::Refused { number, fault }, done),
+        }
+    }
+
+    fn report(&self, line: Line, done: &mut PendingOutput) -> Result<(), AllocError> {
+        note_line(line, done)
+    }
+
+    ghost long = { λ d n f h. inl (h, refl) };
+}

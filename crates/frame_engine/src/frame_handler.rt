@@ -1,0 +1,50 @@
+//! What a command does with each frame of its input.
+
+ghost use Rattle.std.specs.Prelude.{◌≡◌, ◌<◌, ℕ, List, length, OnOk, OnErr};
+ghost use Rattle.syslog_frame.specs.declared.limits.TheConstants.{FRAME_MAX};
+ghost use Rattle.frame_engine.specs.Pending.{Adds, done_of};
+ghost use Rattle.frame_engine.specs.Handling.{Handling, Done, then_done};
+ghost use Rattle.frame_engine.specs.declared.line.Line.{Line};
+ghost use Rattle.frame_engine.specs.declared.line.Line.TheVariants.{TooLong};
+
+use crate::line::Line;
+use crate::pending::PendingOutput;
+use std::alloc::AllocError;
+
+/// What a command does with each frame of its input. Both calls append to what was done, or change
+/// nothing where memory runs out.
+pub trait FrameHandler {
+    // what is done with a frame, by its number and its octets
+    ghost handles: { Self → Handling };
+
+    // what is done with a line on the stream, or on a frame that was not delivered
+    ghost reports: { Self → Line → Done };
+
+    /// Handles a frame, which has this number. A frame above `FRAME_MAX` octets is reported as too
+    /// long.
+    ///
+    /// # Errors
+    /// Out of memory.
+    fn on_frame(
+        &self,
+        number: u64,
+        frame: &[u8],
+        done: &mut PendingOutput,
+    ) -> Result<(), AllocError>
+        ensures ok { OnOk result (Adds (handles self.now number frame.now)
+            (done_of done.old) (done_of done.new)) }
+        ensures err { OnErr result (done_of done.new ≡ done_of done.old) };
+
+    /// Reports a line.
+    ///
+    /// # Errors
+    /// Out of memory.
+    fn report(&self, line: Line, done: &mut PendingOutput) -> Result<(), AllocError>
+        ensures ok { OnOk result
+            (done_of done.new ≡ then_done (done_of done.old) (reports self.now line)) }
+        ensures err { OnErr result (done_of done.new ≡ done_of done.old) };
+
+    // a frame that is too long is reported as such, whatever its octets
+    ghost long: { (d : Self) (n : ℕ) (f : List ℕ) → FRAME_MAX < length f →
+        handles d n f (reports d (TooLong n)) };
+}

@@ -1,0 +1,122 @@
+//! A stream handled frame by frame, as its pieces arrive.
+
+ghost use Rattle.std.specs.Prelude.{◌≡◌, ◌≤◌, ◌<◌, ◌+◌, ◌++◌, ◌^◌, ℕ, List, length, IfOk, OnErr, OnOk, IsNone};
+ghost use Rattle.syslog_frame.specs.Frames.{Frames};
+ghost use Rattle.syslog_frame.specs.Reads.{Reads};
+ghost use Rattle.syslog_frame.specs.Scan.{IsReading};
+ghost use Rattle.syslog_frame.specs.declared.framing.Framing.{Framing};
+ghost use Rattle.frame_engine.specs.Pending.{done_of};
+ghost use Rattle.frame_engine.specs.Handling.{Done, then_done};
+ghost use Rattle.frame_engine.specs.Streams.{HandlesOn, HandlesStep, HasHandled, HasPart, StepImplies, ReportsEnd};
+
+use crate::frame_handler::FrameHandler;
+use crate::line::Line;
+use crate::pending::PendingOutput;
+use std::alloc::AllocError;
+use syslog_frame::{EndFault, FRAME_MAX, POSITION_MAX, Ready, Scanner};
+
+/// What was ready, and what was done with it.
+#[derive(Clone, Copy, Debug)]
+pub enum Step {
+    /// Nothing was ready.
+    Nothing,
+    /// A MSG-LEN is bad at this position.
+    Bad { at: u64 },
+    /// A frame was ready, and was handled.
+    Handled,
+}
+
+/// Handles the frame that is ready, if one is.
+fn handle_next<D: FrameHandler>(
+    handler: &D,
+    scanner: &Scanner,
+    number: u64,
+    done: &mut PendingOutput,
+) -> Result<Step, AllocError>
+    ensures reports { IfOk result (λ step. StepImplies scanner.now step) }
+    ensures handles { IfOk result (λ step. (kind : Framing) (octets : List ℕ)
+        (frames : List (List ℕ)) (rest : List ℕ)
+        → Reads FRAME_MAX scanner.now kind 0 octets frames rest
+        → HandlesStep (D.handles handler.now) number kind octets rest
+        (done_of done.old) (done_of done.new) step) }
+    ensures err { OnErr result (done_of done.new ≡ done_of done.old) }
+{
+    match scanner.ready() {
+        None => Ok(Step::Nothing),
+        Some(Ready::BadCount { at }) => Ok(Step::Bad { at }),
+        Some(Ready::TooLong) => {
+            handler.report(Line::TooLong { number }, done)?;
+            Ok(Step::Handled)
+        }
+        Some(Ready::Frame(frame)) => {
+            handler.on_frame(number, frame, done)?;
+            Ok(Step::Handled)
+        }
+    }
+}
+
+/// Reads a piece, up to a bad MSG-LEN, and handles each frame that ends in it. `number` is that of
+/// the next frame. Returns the position of the bad MSG-LEN, if there is one.
+pub fn feed<D: FrameHandler>(
+    handler: &D,
+    scanner: &mut Scanner,
+    number: &mut u64,
+    piece: &[u8],
+    done: &mut PendingOutput,
+) -> Result<Option<u64>, AllocError>
+    requires reading { IsReading scanner.old }
+    requires near { scanner.old.position + length piece.now ≤ POSITION_MAX }
+    requires few { number.old + length piece.now < 2 ^ 64 }
+    ensures reading { IfOk result (λ bad. IsNone bad → IsReading scanner.new) }
+    ensures position { IfOk result (λ bad. IsNone bad →
+        scanner.new.position ≡ scanner.old.position + length piece.now) }
+    ensures number { number.new ≤ number.old + length piece.now }
+    ensures handles { IfOk result (λ bad. (kind : Framing) (octets : List ℕ) (before : Done)
+        → HasHandled (D.handles handler.now) scanner.old kind octets number.old
+        (then_done before (done_of done.old))
+        → HandlesOn (D.handles handler.now) scanner.new kind (octets ++ piece.now) number.new
+        (then_done before (done_of done.new)) bad) }
+    ensures err { OnErr result ((kind : Framing) (octets : List ℕ) (before : Done)
+        → HasHandled (D.handles handler.now) scanner.old kind octets number.old
+        (then_done before (done_of done.old))
+        → HasPart (D.handles handler.now) kind (octets ++ piece.now)
+        (then_done before (done_of done.new))) }
+{
+    let mut rest = piece;
+    while !rest.is_empty() {
+        let Ok(used) = scanner.push(rest) else {
+            unreachable!()
+        };
+        rest = &rest[used..];
+        match handle_next(handler, scanner, *number, done)? {
+            Step::Nothing => {}
+            Step::Bad { at } => return Ok(Some(at)),
+            Step::Handled => {
+                let _ = scanner.release();
+                *number += 1;
+            }
+        }
+    }
+    Ok(None)
+}
+
+/// Reports whether a stream that was read to its end stops inside a frame.
+pub fn end_stream<D: FrameHandler>(
+    handler: &D,
+    scanner: &Scanner,
+    done: &mut PendingOutput,
+) -> Result<(), AllocError>
+    requires { IsReading scanner.now }
+    ensures ok { OnOk result ((kind : Framing) (octets : List ℕ) (frames : List (List ℕ))
+        (rest : List ℕ) → Reads FRAME_MAX scanner.now kind 0 octets frames rest
+        → Frames kind octets frames rest × ((d : Done)
+        × ReportsEnd (D.reports handler.now) kind octets frames rest d
+        × (done_of done.new ≡ then_done (done_of done.old) d))) }
+    ensures err { OnErr result (done_of done.new ≡ done_of done.old) }
+{
+    match scanner.end() {
+        Ok(()) => Ok(()),
+        Err(EndFault::Unterminated { start }) => handler.report(Line::Unterminated { start }, done),
+        Err(EndFault::Failed | EndFault::Unreleased) => unreachable!(),
+    }
+}

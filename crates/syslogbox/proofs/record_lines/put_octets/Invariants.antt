@@ -1,8 +1,0 @@
-use Rattle.std.proofs.Common.{take}
-use Rattle.octet_language.specs.Language.{Only}
-use Rattle.syslog_grammar.specs.Appending.{Adds}
-use Rattle.syslogbox.specs.Showing.{hex_escaped}
-use Rattle.syslogbox.proofs.record_lines.put_octets.Given as goal
-
-abbrev pub invariant-loop-octet : goal.invariant-loop-octet
-invariant-loop-octet l = Adds (Only (hex_escaped (take l.octet-index l.octets))) l.fn.out.items l.out.items
