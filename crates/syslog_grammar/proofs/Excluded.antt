@@ -25,7 +25,8 @@ to_instant : (t : Option CivilTime) → IfSome t (λ c. IsInstant (instant c)) �
 to_instant None h = tt
 to_instant (Some c) h = h
 
-same_range : (t u : Option CivilTime) → option_map instant t ≡ option_map instant u → IfSome u (λ c. IsInstant (instant c)) → IfSome t (λ c. IsInstant (instant c))
+-- two times of one instant are both in range, or neither is
+pub same_range : (t u : Option CivilTime) → option_map instant t ≡ option_map instant u → IfSome u (λ c. IsInstant (instant c)) → IfSome t (λ c. IsInstant (instant c))
 same_range t u e h = of_instant t (subst IsRange (sym e) (to_instant u h))
 
 -- ---- the ids

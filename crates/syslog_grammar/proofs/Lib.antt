@@ -34,6 +34,7 @@ pub mod LaneRuns
 pub mod Laws
 pub mod CanonicalParses
 pub mod Excluded
+pub mod OneFault
 pub mod Bounded
 pub mod ValueForms
 pub mod Valid

@@ -3,7 +3,9 @@
 ghost use Rattle.std.specs.Prelude.{◌≡◌, ◌↔◌, ◌+◌, ◌*◌, ◌≤◌, ℤ, List, ℕ, length};
 ghost use Rattle.syslog_value.specs.Parts.{IsRecord, Parts};
 ghost use Rattle.syslog_grammar.specs.Canonical.{Canonical};
+ghost use Rattle.syslog_grammar.specs.Faults.{FaultOf};
 ghost use Rattle.syslog_grammar.specs.WellFormed.{WellFormed};
+ghost use Rattle.syslog_grammar.specs.declared.fault.Fault.{Fault};
 
 /// Octets are one record at most.
 pub fn octets_are_one_record()
@@ -31,4 +33,9 @@ pub fn canonical_is_injective()
 pub fn canonical_is_bounded()
     ensures { (r : Parts ℤ) (b : List ℕ) (c : List ℕ) (n : ℕ) → WellFormed r b → Canonical r c
         → length b ≤ n → length c ≤ 2 * n + 7 }
+{}
+
+/// Octets have at most one fault.
+pub fn octets_have_one_fault()
+    ensures { (b : List ℕ) (f : Fault) (g : Fault) → FaultOf b f → FaultOf b g → f ≡ g }
 {}

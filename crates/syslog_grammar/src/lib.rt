@@ -45,7 +45,7 @@ pub use element::{ElementView, ParamView};
 pub use fault::{Fault, Field};
 pub use law::{
     canonical_is_bounded, canonical_is_injective, canonical_is_well_formed, octets_are_one_record,
-    well_formed_is_a_record,
+    octets_have_one_fault, well_formed_is_a_record,
 };
 pub use parts::{Elements, Params};
 pub use record_view::RecordView;
