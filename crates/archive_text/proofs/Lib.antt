@@ -1,0 +1,4 @@
+pub mod Orders
+pub mod Reading
+pub mod Members
+pub mod Ascending

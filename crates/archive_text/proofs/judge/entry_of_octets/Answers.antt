@@ -1,0 +1,8 @@
+use Rattle.std.proofs.Common.{refl}
+use Rattle.syslog_grammar.specs.ViewParts.{view_parts}
+use Rattle.archive_text.proofs.Reading.{canonical_entry}
+use Rattle.archive_text.proofs.judge.entry_of_octets.Goals as goal
+
+pub returns-clause-entry : goal.returns-clause-entry
+returns-clause-entry c =
+    (canonical_entry (record { instant = c.instant.result; octets = c.args.octets.now }) (view_parts c.in-Ok.seen) c.in-Ok.ensures.whole c.instant.ensures (c.is_canon.ensures.0 c.if-not-is_canon.false), refl)

@@ -1,0 +1,6 @@
+pub mod Entries
+pub mod EntryViews
+pub mod Text
+pub mod Faults
+pub mod Stores
+pub mod Sets

@@ -1,0 +1,36 @@
+//! Why a text is no archive.
+
+use syslog_grammar::Fault;
+use thiserror::Error;
+
+/// Why octets are no entry of an archive.
+#[derive(Clone, Copy, Debug, PartialEq, Eq, Error)]
+pub enum EntryFault {
+    /// The octets are no well-formed record.
+    #[error("{0}")]
+    Bad(Fault),
+    /// The octets are a record, and not its canonical form.
+    #[error("not canonical")]
+    NotCanonical,
+}
+
+/// Why a text is no archive. Positions count octets from the start of the text; `at` of the last
+/// four is the first digit of the entry.
+#[derive(Clone, Copy, Debug, PartialEq, Eq, Error)]
+pub enum ArchiveFault {
+    /// No MSG-LEN goes on with the octet there, or the text ends inside an entry.
+    #[error("bad frame at {at}")]
+    BadFrame { at: u64 },
+    /// The entry has more octets than an archive may hold.
+    #[error("entry too long at {at}")]
+    EntryTooLong { at: u64 },
+    /// The octets of the entry are no record. The offset in `fault` counts from the entry's octets.
+    #[error("bad entry at {at}: {fault}")]
+    BadEntry { at: u64, fault: Fault },
+    /// The octets of the entry are a record, and not its canonical form.
+    #[error("not canonical at {at}")]
+    NotCanonical { at: u64 },
+    /// The entry is not above the one before it.
+    #[error("not ascending at {at}")]
+    NotAscending { at: u64 },
+}

@@ -1,0 +1,61 @@
+//! Entries are read from the text of an archive.
+
+ghost use Rattle.std.specs.Prelude.{◌≡◌, IfOk, MatchResult};
+ghost use Rattle.archive_text.specs.Entries.{IsEntry};
+ghost use Rattle.archive_text.specs.EntryViews.{entry_of};
+ghost use Rattle.archive_text.specs.Faults.{IsEntryFault, IsFaultBefore};
+ghost use Rattle.archive_text.specs.Text.{BeginsWithEntry};
+
+use crate::entry::EntryView;
+use crate::fault::{ArchiveFault, EntryFault};
+use syslog_frame::{MsgLen, msg_len};
+use syslog_grammar::{is_canon, view};
+
+/// The entry that the octets are: they are the canonical form of a record.
+pub fn entry_of_octets(octets: &[u8]) -> Result<EntryView<'_>, EntryFault>
+    ensures entry { IfOk result (λ v. IsEntry (entry_of v) × (v.octets.now ≡ octets.now)) }
+    ensures fault { MatchResult result (λ _. Unit {0}) (IsEntryFault octets.now) }
+{
+    let seen = match view(octets) {
+        Ok(seen) => seen,
+        Err(fault) => return Err(EntryFault::Bad(fault)),
+    };
+    if !is_canon(octets) {
+        return Err(EntryFault::NotCanonical);
+    }
+    Ok(EntryView {
+        instant: seen.instant(),
+        octets,
+    })
+}
+
+/// Reads the entry of at most `most` octets that a text begins with, and gives what follows it. The
+/// fault's positions count from the start of this text.
+pub fn read_entry(most: u64, text: &[u8]) -> Result<(EntryView<'_>, &[u8]), ArchiveFault>
+    ensures { MatchResult result
+        (λ x. BeginsWithEntry most text.now (entry_of x.0) x.1.now)
+        (IsFaultBefore most text.now) }
+{
+    let (count, used) = match msg_len(text) {
+        MsgLen::Whole { count, used } => (count, used),
+        MsgLen::Part => return Err(ArchiveFault::BadFrame {
+            at: text.len() as u64,
+        }),
+        MsgLen::Bad { at } => return Err(ArchiveFault::BadFrame { at: at as u64 }),
+    };
+    if count > most {
+        return Err(ArchiveFault::EntryTooLong { at: 0 });
+    }
+    let (_, behind) = text.split_at(used);
+    if count > behind.len() as u64 {
+        return Err(ArchiveFault::BadFrame {
+            at: text.len() as u64,
+        });
+    }
+    let (octets, rest) = behind.split_at(count as usize);
+    match entry_of_octets(octets) {
+        Ok(entry) => Ok((entry, rest)),
+        Err(EntryFault::Bad(fault)) => Err(ArchiveFault::BadEntry { at: 0, fault }),
+        Err(EntryFault::NotCanonical) => Err(ArchiveFault::NotCanonical { at: 0 }),
+    }
+}

@@ -1,0 +1,18 @@
+//! The text of an archive: a finite set of syslog records, written as the canonical octets of each,
+//! once, in one order, each with its length before it. Equal sets are equal texts.
+//!
+//! [`EntryView`] is an entry as it is lent, [`read_entry`] reads one from a text, [`compare`] orders
+//! two. [`Store`] is what an archive in memory offers.
+#![tactic(auto)]
+
+mod entry;
+mod fault;
+mod judge;
+mod limits;
+mod store;
+
+pub use entry::{EntryView, compare};
+pub use fault::{ArchiveFault, EntryFault};
+pub use judge::{entry_of_octets, read_entry};
+pub use limits::ENTRY_MAX;
+pub use store::{AddFault, Added, Store};

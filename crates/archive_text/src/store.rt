@@ -1,0 +1,86 @@
+//! What an archive in memory offers.
+
+ghost use Rattle.std.specs.Prelude.{◌≡◌, ◌<◌, ◌≤◌, ◌↔◌, ◌^◌, List, ℕ, ℤ, length, take, IfErr, IfOk, IsErrOf, IsTrue, OnErr, OnOk};
+ghost use Rattle.std.specs.Io.KnownBytes.{Appends};
+ghost use Rattle.syslog_value.specs.Parts.{Parts};
+ghost use Rattle.syslog_grammar.specs.ViewParts.{IsViewOf, view_parts};
+ghost use Rattle.syslog_grammar.specs.WellFormed.{WellFormed};
+ghost use Rattle.archive_text.specs.Entries.{Entry, Has, IsEntryOf};
+ghost use Rattle.archive_text.specs.Text.{IsArchive, text_of};
+ghost use Rattle.archive_text.specs.Stores.{AddsRecord};
+
+use std::alloc::{AllocError, Global};
+use syslog_grammar::RecordView;
+use syslog_value::{Output, Record, WriteFault};
+use thiserror::Error;
+
+/// What became of a record that was added.
+#[derive(Clone, Copy, Debug, PartialEq, Eq)]
+pub enum Added {
+    /// It was not held before, and is now.
+    New,
+    /// It was held already.
+    Held,
+}
+
+/// Why a record was not added.
+#[derive(Clone, Copy, Debug, PartialEq, Eq, Error)]
+pub enum AddFault {
+    /// Its canonical form has more than `ENTRY_MAX` octets.
+    #[error("the canonical record is too long for an archive")]
+    TooLong,
+    /// A growth was refused.
+    #[error("out of memory")]
+    Memory,
+}
+
+/// A finite set of records, kept as the entries of an archive.
+pub trait Store {
+    ghost use Rattle.archive_text.specs.declared.limits.TheConstants.{ENTRY_MAX};
+
+    // the entries of the records that are held, in order
+    ghost entries: { Self → List Entry };
+
+    // they are an archive: strictly ascending entries of records, each within the limit
+    ghost archive: { (s : Self) → IsArchive ENTRY_MAX (entries s) };
+
+    /// Adds a record. A refusal leaves the set as it was.
+    fn add(&mut self, alloc: Global, record: &Record) -> Result<Added, AddFault>
+        ensures ok { IfOk result (λ added.
+            AddsRecord record.now (entries self.old) (entries self.new) added) }
+        ensures err { OnErr result (entries self.new ≡ entries self.old) }
+        ensures long { IsErrOf result AddFault.TooLong →
+            (e : Entry) → IsEntryOf record.now e → ENTRY_MAX < length e.octets };
+
+    /// Adds the record that a view shows, without a copy of its parts, as `add` does.
+    fn add_view(&mut self, alloc: Global, view: &RecordView<'_>) -> Result<Added, AddFault>
+        ensures ok { IfOk result (λ added. (b : List ℕ) → IsViewOf b (view_parts view.now) →
+            (r : Parts ℤ) × WellFormed r b
+            × AddsRecord r (entries self.old) (entries self.new) added) }
+        ensures err { OnErr result (entries self.new ≡ entries self.old) }
+        ensures long { IsErrOf result AddFault.TooLong →
+            (b : List ℕ) → IsViewOf b (view_parts view.now) →
+            (r : Parts ℤ) (e : Entry) → WellFormed r b → IsEntryOf r e
+            → ENTRY_MAX < length e.octets };
+
+    /// Whether a record is held.
+    fn holds(&self, alloc: Global, record: &Record) -> Result<bool, AllocError>
+        ensures { IfOk result (λ held. (e : Entry) → IsEntryOf record.now e →
+            (IsTrue held ↔ Has (entries self.now) e)) };
+
+    /// How many records are held.
+    fn len(&self) -> usize
+        ensures { result ≡ length (entries self.now) };
+
+    /// Writes the text of the archive. Under a fault its first octets were written, so many as the
+    /// fault says.
+    fn write<W: Output>(&self, writer: &mut W) -> Result<(), WriteFault>
+        ensures ok { OnOk result (Appends (W.taken writer.old) (W.taken writer.new)
+            (text_of (entries self.now))) }
+        ensures no_failure { OnOk result (W.failures writer.new ≡ W.failures writer.old) }
+        ensures some_left { IfErr result (λ fault. fault.sent < length (text_of (entries self.now))) }
+        ensures sent { IfErr result (λ fault. Appends (W.taken writer.old) (W.taken writer.new)
+            (take fault.sent (text_of (entries self.now)))) }
+        ensures cause { W.failures writer.old < 2 ^ 63 →
+            OnErr result (W.failures writer.old < W.failures writer.new) };
+}
