@@ -15,7 +15,7 @@ use crate::canonical::{
 use crate::message::MessageView;
 use crate::record_view::RecordView;
 use crate::reescaped::put_structured_data;
-use crate::structured_data_form::has_structured_data_form;
+use crate::structured_data_form::{ElementOrder, has_structured_data_form};
 use std::alloc::{AllocError, Global};
 
 /// Whether a message, where there is one, has one tail alone: an empty one may have a space or none.
@@ -70,7 +70,9 @@ fn put_ordered(view: &RecordView<'_>, out: &mut Vec<u8>) -> Result<bool, AllocEr
     ensures order { IfOk result (λ all. (IsTrue all → ⊥)
         → IsUnordered (view_parts view.now).elements) }
 {
-    if !has_one_message_form(&view.message) || !has_structured_data_form(view.structured_data) {
+    if !has_one_message_form(&view.message)
+        || !has_structured_data_form(view.structured_data, ElementOrder::ById)
+    {
         return put_parts(view, out);
     }
     copy_verbatim(view, out)?;

@@ -37,7 +37,7 @@ mod whole;
 mod word;
 
 pub use canonical::canon;
-pub use canonical_form::is_canon;
+pub use canonical_form::{is_canon, is_canon_unsorted};
 pub use canonical_view::put_canonical;
 pub use civil_text::canonical_timestamp;
 pub use decoding::{DecodeFault, decode};
