@@ -52,8 +52,3 @@ pub use record_view::RecordView;
 pub use same::same_value;
 pub use text::utf8;
 pub use whole::view;
-
-#[cfg(test)]
-mod canonical_tests;
-#[cfg(test)]
-mod tests;

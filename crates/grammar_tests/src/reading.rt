@@ -1,8 +1,7 @@
-use crate::fault::{Fault, Field};
-use crate::same::same_value;
-use crate::text::utf8;
-use crate::whole::view;
+//! What octets are read as, and where they stop being a record.
+
 use std::test::Fail;
+use syslog_grammar::{Fault, Field, same_value, utf8, view};
 
 fn at(octets: &[u8]) -> Option<(Field, usize)> {
     match view(octets) {

@@ -1,12 +1,10 @@
-use crate::canonical::canon;
-use crate::canonical_form::is_canon;
-use crate::canonical_view::put_canonical;
-use crate::decoding::{DecodeFault, decode};
-use crate::fault::Fault;
-use crate::same::same_value;
-use crate::whole::view;
+//! The canonical octets of records.
+
 use std::alloc::Global;
 use std::test::Fail;
+use syslog_grammar::{
+    DecodeFault, Fault, canon, decode, is_canon, is_canon_unsorted, put_canonical, view,
+};
 
 /// The canonical octets by way of the record, which are those of the view, with what stood before;
 /// they alone are known as canonical.
@@ -21,7 +19,7 @@ fn canonical(alloc: Global, octets: &[u8]) -> Result<Vec<u8>, Fail> {
     if appended.as_slice() != expected.as_slice() {
         return Err(Fail::from("the view and the record differ"));
     }
-    if !is_canon(by_record.as_slice()) {
+    if !is_canon(by_record.as_slice()) || !is_canon_unsorted(by_record.as_slice()) {
         return Err(Fail::from("canonical octets are not known as such"));
     }
     let same = octets == by_record.as_slice();
@@ -173,13 +171,6 @@ fn octets_that_are_no_record_are_refused_with_their_fault(rt: HostRuntime) -> Re
 }
 
 #[test]
-fn both_spellings_of_a_backslash_mean_the_same(rt: HostRuntime) -> Result<(), Fail> {
-    assert!(rt; same_value(b"x\\n", "x\\n"));
-    assert!(rt; same_value(b"x\\\\n", "x\\n"));
-    Ok(())
-}
-
-#[test]
 fn octets_that_are_no_record_are_not_canonical(rt: HostRuntime) -> Result<(), Fail> {
     for octets in [
         b"".as_slice(),
@@ -189,6 +180,37 @@ fn octets_that_are_no_record_are_not_canonical(rt: HostRuntime) -> Result<(), Fa
         b"<0>1 - - - - - -x",
     ] {
         assert!(rt; !is_canon(octets));
+        assert!(rt; !is_canon_unsorted(octets));
+    }
+    Ok(())
+}
+
+#[test]
+fn elements_in_any_order_are_canonical_but_for_the_order(rt: HostRuntime) -> Result<(), Fail> {
+    for octets in [
+        b"<0>1 - - - - - [b][a]".as_slice(),
+        b"<191>1 9999-12-31T23:59:59.999999Z - - - - [b k=\"\\]\"][c][a] \xef\xbb\xbf",
+    ] {
+        assert!(rt; is_canon_unsorted(octets));
+        assert!(rt; !is_canon(octets));
+    }
+    for octets in [
+        b"<0>1 - - - - - [b][a][b]".as_slice(),
+        b"<0>1 - - - - - [b][a] ",
+        b"<0>1 - - - - - [b k=\"\\n\"][a]",
+        b"<0>1 2024-02-29T23:30:00.0Z - - - - [b][a]",
+        b"<0>1 2024-02-29T23:30:00.000000+00:00 - - - - [b][a]",
+        b"<00>1 - - - - - [b][a]",
+    ] {
+        assert!(rt; !is_canon_unsorted(octets));
+    }
+    for octets in [
+        b"<0>1 - - - - - -".as_slice(),
+        b"<0>1 - - - - - [a][b]",
+        b"<0>1 - - - - - [a k=\"x\\\\n\"] x",
+    ] {
+        assert!(rt; is_canon_unsorted(octets));
+        assert!(rt; is_canon(octets));
     }
     Ok(())
 }
