@@ -51,7 +51,7 @@ IsPrefixFree-prefix = IsPrefixFree-then (AnyOf Priority) (Spaced Version) IsPref
 abbrev FormOf : HeaderParts → Language
 FormOf h = HeaderForm h.priority (option_map instant h.time) h.hostname h.app_name h.proc_id h.msg_id
 
--- the time of a header and what is behind it
+-- the time of a header and what follows it
 record TimeAt (h : HeaderParts) (header rest from : List ℕ) : Type 0 where
   pub time : List ℕ
   pub others : List ℕ
@@ -89,7 +89,7 @@ time_at h header rest from b (x0, y0, e0, h0, (x1, y1, e1, h1, (x2, y2, e2, h2, 
       );
     }
 
--- what is behind PRI and VERSION, by its length
+-- what follows PRI and VERSION, by its length
 pub stands_at : (b from : List ℕ) (remaining : ℕ) (t : TimeStands b remaining) → from ≡ drop (length b - remaining) b → from ≡ t.0
 stands_at b from remaining (rest, (t, e, h), n) f =
     let count : length b - remaining ≡ length t = omega (arith, ap length e, length-append t rest, n) in
@@ -101,7 +101,7 @@ instant_same : (time : Option Timestamp) → option_map (λ s. instant (time_of 
 instant_same None = refl
 instant_same (Some t) = refl
 
--- the instant, what stands at the time, the structured data and the tail
+-- the instant, what is at the time, the structured data and the tail
 pub record InForm (order : ElementOrder) (b : List ℕ) (s : Parsed) (k : IsParsed b s) : Type 0 where
   pub range : IfSome (option_map (λ t. instant (time_of t)) s.fields.time) IsInstant
   pub time : Begins (TimeSpace (option_map (λ t. instant (time_of t)) s.fields.time)) k.time.0
@@ -195,7 +195,7 @@ form_range order b s k out (r, (valid, ordered, h)) =
 refuted : (r : Bool) (P : Type 0) → IsTrue r ↔ P → r ≡ false → ¬ P
 refuted r P test isn p = let i : r ≡ true = test.1 p in absurd cc
 
--- the test of the time, where it stands
+-- the test of the time, where it is
 abbrev pub TimeTest : Bool → Parsed → List ℕ → Type 0
 TimeTest r s from = IsTrue r ↔ Begins (TimeSpace (option_map (λ t. instant (time_of t)) s.fields.time)) from
 

@@ -1,4 +1,4 @@
--- Whether structured data stands in its canonical form, part by part.
+-- Whether structured data is in its canonical form, part by part.
 use Rattle.std.proofs.Common.{◌≡◌, ◌≢◌, ℕ, List, [], ◌∷◌, ◌++◌, refl, sym, ap, subst, ◌∙◌, append_assoc, arith, inl, inr, Bool}
 use Rattle.std.specs.Prelude.{◌↔◌, IsTrue, true, false, Option, Some, None}
 use Rattle.std.specs.List.{AllByRecursion, flat_map}

@@ -1,4 +1,4 @@
--- The order that elements stand in.
+-- The order of elements.
 use Rattle.std.specs.Prelude.{ℕ, List, Option, ⊤}
 use Rattle.syslog_value.specs.Parts.{ElementParts, IsById}
 use Rattle.syslog_grammar.specs.Ids.{IsAbove, IsRisingFrom}

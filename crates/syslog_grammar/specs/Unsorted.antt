@@ -1,4 +1,4 @@
--- Canonical octets whose elements stand in any order.
+-- Canonical octets whose elements are in any order.
 use Rattle.std.specs.Prelude.{ℕ, ℤ, ◌≤◌, List, IfSome}
 use Rattle.std.specs.List.{AllByRecursion}
 use Rattle.syslog_value.specs.Parts.{Parts, IsElement, IsInstant, IsMessage, IsWord}

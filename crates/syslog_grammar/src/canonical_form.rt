@@ -20,7 +20,7 @@ use crate::syntax::parse;
 use crate::timestamp::Timestamp;
 use crate::whole::{OutOfRange, micros_of};
 
-/// Whether the timestamp that the octets begin with stands in its canonical form.
+/// Whether the timestamp that the octets begin with is in its canonical form.
 fn has_time_form(time: Option<Timestamp>, octets: &[u8]) -> bool
     requires { (rest : List ℕ)
         × Follows (Spaced (Nilable TimeText (option_map time_of time))) octets.now rest }
@@ -90,8 +90,8 @@ pub fn is_canon(octets: &[u8]) -> bool
     canonical_structured_data(octets, ElementOrder::ById).is_some()
 }
 
-/// Whether the octets are the canonical form of some record, but that its elements may stand in any
-/// order: their ids are distinct, and need not ascend.
+/// Whether the octets are the canonical form of some record whose elements are kept in the order of
+/// the octets: their ids are distinct, and need not ascend.
 ///
 /// It takes no memory.
 pub fn is_canon_unsorted(octets: &[u8]) -> bool

@@ -87,8 +87,8 @@ fn put_ascending(elements: &[u8], out: &mut Vec<u8>) -> Result<bool, AllocError>
     Ok(true)
 }
 
-/// Appends structured data whose elements stand by id. Where they do not, the answer is false, and
-/// a part of them may have been appended.
+/// Appends structured data whose elements are sorted by id. Where they are not, the answer is false,
+/// and a part of them may have been appended.
 pub fn put_structured_data(structured_data: &[u8], out: &mut Vec<u8>) -> Result<bool, AllocError>
     ensures { PutsUnless (StructuredDataOf structured_data.now) (IsUnordered structured_data.now) out.old.items out.new.items result }
 {

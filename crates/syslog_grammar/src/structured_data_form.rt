@@ -1,4 +1,4 @@
-//! Whether structured data stands in its canonical form.
+//! Whether structured data is in its canonical form.
 
 ghost use Rattle.std.specs.Prelude.{◌≡◌, ◌↔◌, ℕ, List, IsTrue, option_map};
 ghost use Rattle.std.specs.List.{flat_map};
@@ -15,7 +15,7 @@ use crate::repeated::is_above;
 use crate::unescape::begins_special;
 use memchr::memchr;
 
-/// Whether a value is spelled as in a canonical record: each backslash stands before a quotation
+/// Whether a value is spelled as in a canonical record: each backslash is followed by a quotation
 /// mark, a backslash or a closing bracket.
 fn has_value_form(raw: &[u8]) -> bool
     ensures { (text : List ℕ) → Spells text raw.now → (IsTrue result ↔ (raw.now ≡ escaped text)) }
@@ -33,7 +33,7 @@ fn has_value_form(raw: &[u8]) -> bool
     true
 }
 
-/// Whether parameters stand in their canonical form.
+/// Whether parameters are in their canonical form.
 fn has_params_form(params: &[u8]) -> bool
     ensures { (ps : List ParamParts) → Each Param ps params.now
         → (IsTrue result ↔ (params.now ≡ flat_map param_form ps)) }
@@ -51,7 +51,7 @@ fn has_params_form(params: &[u8]) -> bool
     true
 }
 
-/// The order that elements have to stand in.
+/// The order that is asked of elements.
 #[derive(Clone, Copy)]
 pub enum ElementOrder {
     ById,
@@ -69,7 +69,7 @@ fn may_follow(order: ElementOrder, id: &[u8], greatest: Option<&[u8]>) -> bool
     }
 }
 
-/// Whether elements stand in their canonical form, and in this order.
+/// Whether elements are in their canonical form, and in this order.
 fn has_elements_form(elements: &[u8], order: ElementOrder) -> bool
     ensures { (es : List ElementParts) → Each Element es elements.now
         → (IsTrue result ↔ ((elements.now ≡ flat_map element_form es) × IsInOrder order es)) }
@@ -93,8 +93,8 @@ fn has_elements_form(elements: &[u8], order: ElementOrder) -> bool
     true
 }
 
-/// Whether structured data stands in its canonical form: its elements in this order, and each
-/// backslash in a value before a quotation mark, a backslash or a closing bracket.
+/// Whether structured data is in its canonical form: its elements in this order, and each backslash
+/// in a value followed by a quotation mark, a backslash or a closing bracket.
 pub fn has_structured_data_form(structured_data: &[u8], order: ElementOrder) -> bool
     ensures { (es : List ElementParts) → StructuredDataText es structured_data.now
         → (IsTrue result
