@@ -1,4 +1,4 @@
--- A text whose end shows only in the octet behind it.
+-- A text whose end shows only in the octet after it.
 use Rattle.std.proofs.Common.{◌≡◌, ℕ, List, [], ◌∷◌, ◌++◌, refl, sym, ap, subst, ◌∙◌, append_assoc}
 use Rattle.std.specs.List.{AllByRecursion}
 use Rattle.std.proofs.lemmas.List.{append_cancel_left}
@@ -6,7 +6,7 @@ use Rattle.octet_language.specs.Language.{Language, ◌⋅◌, Refuses, IsPrefix
 use Rattle.octet_language.specs.Reading.{Fails, Follows, Misses}
 use Rattle.octet_language.proofs.Lists.{heads, tails, one_more}
 
--- where a text comes first, and behind it an octet that may follow, no other does
+-- where a text comes first, and after it an octet that may follow, no other does
 abbrev pub OneAhead : Language → (ℕ → Type 0) → Type 0
 OneAhead A N = (p s q t : List ℕ) → A p → A q → IfFirst N s → IfFirst N t → p ++ s ≡ q ++ t → p ≡ q
 
@@ -38,7 +38,7 @@ Refuses-ahead A B N p r (x ∷ rest) one may a f h = λ (more, (q, s, e, k, l)).
     let rests : r ++ x ∷ more ≡ s = append_cancel_left p (r ++ x ∷ more) s (whole ∙ ap (λ (u : List ℕ). u ++ s) (sym same)) in
     h (more, subst B (sym rests ∙ sym (one_more r x more)) l)
 
--- behind a text of the first, the two fail where the second fails
+-- after a text of the first, the two fail where the second fails
 pub Fails-ahead : (A B : Language) (N : ℕ → Type 0) (b rest : List ℕ) (remaining : ℕ) → OneAhead A N → StartsIn N B → Follows A b rest → IfFirst N rest → Fails B rest remaining → Fails (A ⋅ B) b remaining
 Fails-ahead A B N b rest remaining one starts (p, e, a) n f = record {
   none = λ x y d (q, s, g, k, l).
@@ -55,7 +55,7 @@ Fails-ahead A B N b rest remaining one starts (p, e, a) n f = record {
   };
 }
 
--- behind a text of the first, the two hold no whole text where the second holds none
+-- after a text of the first, the two hold no whole text where the second holds none
 pub Misses-ahead : (A B : Language) (N : ℕ → Type 0) (b rest : List ℕ) (remaining : ℕ) → OneAhead A N → MayStartIn N B → Follows A b rest → IfFirst N rest → Misses B rest remaining → Misses (A ⋅ B) b remaining
 Misses-ahead A B N b rest remaining one may (p, e, a) n f = record {
   none = λ (q, s, g, k, l).

@@ -21,7 +21,7 @@ adds_nothing A old a = ([], a, sym (append-nil old))
 pub adds_is : (A : Language) (old new text : List ℕ) → A text → new ≡ old ++ text → Adds A old new
 adds_is A old new text a e = (text, a, e)
 
--- what stood there comes first
+-- what was there comes first
 pub adds_prefix : (A : Language) (old new : List ℕ) → Adds A old new → take (length old) new ≡ old
 adds_prefix A old new (x, a, e) = ap (take (length old)) e ∙ take_at old x (length old) refl
 

@@ -1,37 +1,42 @@
 -- The canonical form of a record, part by part.
-use Rattle.std.proofs.Common.{◌≡◌, ℕ, ◌-◌, ◌≤◌, List, [], ◌∷◌, ◌++◌, length, drop, refl, sym, ap, subst, ◌∙◌, append_assoc, arith, Bool, true, false}
-use Rattle.std.specs.Prelude.{◌↔◌, IsTrue, ℤ, Option, Some, None, IfSome, option_map, decimal}
+use Rattle.std.proofs.Common.{◌≡◌, ℕ, ◌-◌, ◌≤◌, List, [], ◌∷◌, ◌++◌, length, drop, refl, sym, ap, subst, ◌∙◌, append_assoc, arith, Bool, true, false, not}
+use Rattle.std.specs.Prelude.{◌↔◌, IsTrue, ℤ, Option, Some, None, IfSome, MatchOption, option_map, decimal}
+use Rattle.std.specs.Option.{is_some}
 use Rattle.std.proofs.lemmas.List.{length-append, append_cancel_right}
-use Rattle.std.proofs.lemmas.List.Sorted.{IsPermutation-refl}
 use Rattle.std.proofs.Math.Seq.{drop-append_seam}
 use Rattle.octet_language.specs.Language.{Language, ◌⋅◌, AnyOf}
 use Rattle.octet_language.specs.Reading.{Follows}
 use Rattle.octet_language.proofs.Sequence.{IsPrefixFree-then}
-use Rattle.syslog_value.specs.Parts.{ElementParts, Parts, IsById, IsInstant, IsRecord}
+use Rattle.syslog_value.specs.Parts.{ElementParts, Parts, IsInstant}
 use Rattle.syslog_grammar.specs.Canonical.{priority_version_form, structured_data_form, message_form, SpacedWord, HeaderForm, Canonical}
 use Rattle.syslog_grammar.specs.Dates.{time_of}
+use Rattle.syslog_grammar.specs.ElementOrders.{IsInOrder}
+use Rattle.syslog_grammar.specs.Faults.{AreDistinct}
 use Rattle.syslog_grammar.specs.Fields.{header_parts, TimeStands}
 use Rattle.syslog_grammar.specs.Grammar.{HeaderParts, Header, Priority, Version, Spaced, Nilable, Word, StructuredDataText, MessagePart}
+use Rattle.syslog_grammar.specs.Ids.{HoldsDistinct, HoldsRepeated}
 use Rattle.syslog_grammar.specs.Instants.{IsOutOfRange}
 use Rattle.syslog_grammar.specs.Parsing.{IsParsed, IsSyntaxFault}
 use Rattle.syslog_grammar.specs.Time.{TimeText, instant}
+use Rattle.syslog_grammar.specs.Unsorted.{HasRecordParts, IsUnsortedRecord, IsFormOf, HoldsForm}
 use Rattle.syslog_grammar.specs.Views.{message_parts}
-use Rattle.syslog_grammar.specs.WellFormed.{WellFormed}
 use Rattle.syslog_grammar.specs.declared.fault.Fault.{Fault}
-use Rattle.syslog_grammar.specs.declared.fault.Fault.TheVariants.{InstantRange}
+use Rattle.syslog_grammar.specs.declared.fault.Fault.TheVariants.{Syntax, InstantRange, RepeatedId}
+use Rattle.syslog_grammar.specs.declared.structured_data_form.ElementOrder.{ElementOrder}
+use Rattle.syslog_grammar.specs.declared.structured_data_form.ElementOrder.TheVariants.{AsGiven}
 use Rattle.syslog_grammar.specs.declared.syntax.Parsed.{Parsed}
 use Rattle.syslog_grammar.specs.declared.timestamp.Timestamp.{Timestamp}
-use Rattle.syslog_grammar.proofs.ById.{distinct_by_id}
 use Rattle.syslog_grammar.proofs.Bounded.{word_len}
-use Rattle.syslog_grammar.proofs.CanonicalParses.{named, header_parsed, data_parsed, tail_parsed, canonical_well_formed}
-use Rattle.syslog_grammar.proofs.Excluded.{no_record, no_syntax}
+use Rattle.syslog_grammar.proofs.CanonicalParses.{named, header_parsed, data_parsed, tail_parsed, canonical_spelled, timed}
+use Rattle.syslog_grammar.proofs.DataForms.{DataAnswer}
+use Rattle.syslog_grammar.proofs.Excluded.{not_distinct, same_range}
 use Rattle.syslog_grammar.proofs.Fractions.{IsPrefixFree-nilable_time}
 use Rattle.syslog_grammar.proofs.Headers.{IsPrefixFree-header}
-use Rattle.syslog_grammar.proofs.Laws.{header_same}
+use Rattle.syslog_grammar.proofs.Laws.{header_same, same_parts}
 use Rattle.syslog_grammar.proofs.Numbers.{IsPrefixFree-priority, IsPrefixFree-version}
 use Rattle.syslog_grammar.proofs.OneMeaning.{by_prefix, data_same, tail_same, tail_prefix}
 use Rattle.syslog_grammar.proofs.TimeForms.{TimeSpace, Begins, any_time}
-use Rattle.syslog_grammar.proofs.Valid.{well_formed_valid}
+use Rattle.syslog_grammar.proofs.Valid.{parsed_valid}
 use Rattle.syslog_grammar.proofs.Viewing.{parts_of, parsed_by, in_range_by, out_of_range}
 
 -- ---- the time in a header
@@ -46,7 +51,7 @@ IsPrefixFree-prefix = IsPrefixFree-then (AnyOf Priority) (Spaced Version) IsPref
 abbrev FormOf : HeaderParts → Language
 FormOf h = HeaderForm h.priority (option_map instant h.time) h.hostname h.app_name h.proc_id h.msg_id
 
--- the time of a header and what is behind it
+-- the time of a header and what follows it
 record TimeAt (h : HeaderParts) (header rest from : List ℕ) : Type 0 where
   pub time : List ℕ
   pub others : List ℕ
@@ -84,7 +89,7 @@ time_at h header rest from b (x0, y0, e0, h0, (x1, y1, e1, h1, (x2, y2, e2, h2, 
       );
     }
 
--- what is behind PRI and VERSION, by its length
+-- what follows PRI and VERSION, by its length
 pub stands_at : (b from : List ℕ) (remaining : ℕ) (t : TimeStands b remaining) → from ≡ drop (length b - remaining) b → from ≡ t.0
 stands_at b from remaining (rest, (t, e, h), n) f =
     let count : length b - remaining ≡ length t = omega (arith, ap length e, length-append t rest, n) in
@@ -96,11 +101,11 @@ instant_same : (time : Option Timestamp) → option_map (λ s. instant (time_of 
 instant_same None = refl
 instant_same (Some t) = refl
 
--- the instant, what stands at the time, the structured data and the tail
-pub record InForm (b : List ℕ) (s : Parsed) (k : IsParsed b s) : Type 0 where
+-- the instant, what is at the time, the structured data and the tail
+pub record InForm (order : ElementOrder) (b : List ℕ) (s : Parsed) (k : IsParsed b s) : Type 0 where
   pub range : IfSome (option_map (λ t. instant (time_of t)) s.fields.time) IsInstant
   pub time : Begins (TimeSpace (option_map (λ t. instant (time_of t)) s.fields.time)) k.time.0
-  pub elements : (s.«structured_data».now ≡ structured_data_form k.elements.0) × IsById k.elements.0
+  pub elements : (s.«structured_data».now ≡ structured_data_form k.elements.0) × IsInOrder order k.elements.0
   pub message_part : k.end ≡ message_form (message_parts s.message)
 
 pub time_given : (b : List ℕ) (s : Parsed) (k : IsParsed b s) → Begins (Spaced (Nilable TimeText (option_map time_of s.fields.time))) k.time.0
@@ -114,25 +119,20 @@ record_of b s k =
     let h = header_parts s.fields in
     record { priority = h.priority; time = option_map instant h.time; hostname = h.hostname; app_name = h.app_name; proc_id = h.proc_id; msg_id = h.msg_id; elements = k.elements.0; message = message_parts s.message }
 
-is_well_formed : (b : List ℕ) (s : Parsed) (k : IsParsed b s) → InForm b s k → WellFormed (record_of b s k) b
-is_well_formed b s k f = (
-  parts_of s k.elements.0,
-  parsed_by b s k.elements.0 k k.elements.1,
-  in_range_by s.fields.time (option_map (λ t. instant (time_of t)) s.fields.time) refl f.range,
-  distinct_by_id k.elements.0 f.elements.1,
-  record { priority = refl; time = refl; hostname = refl; app_name = refl; proc_id = refl; msg_id = refl; elements = IsPermutation-refl k.elements.0; by_id = f.elements.1; message = refl },
-)
+has_parts : (order : ElementOrder) (b : List ℕ) (s : Parsed) (k : IsParsed b s) → InForm order b s k → HasRecordParts (record_of b s k)
+has_parts order b s k f =
+    parsed_valid (parts_of s k.elements.0) b (parsed_by b s k.elements.0 k k.elements.1) (in_range_by s.fields.time (option_map (λ t. instant (time_of t)) s.fields.time) refl f.range)
 
-is_canonical : (b : List ℕ) (s : Parsed) (k : IsParsed b s) → InForm b s k → Canonical (record_of b s k) b
-is_canonical b s k f =
+is_canonical : (order : ElementOrder) (b : List ℕ) (s : Parsed) (k : IsParsed b s) → InForm order b s k → Canonical (record_of b s k) b
+is_canonical order b s k f =
     let h = header_parts s.fields in
     let t = time_at h k.fields.0 k.rest k.time.0 b k.fields.2 k.fields.1 k.time.1 in
     let form : TimeSpace (option_map instant h.time) f.time.1.0 = subst (λ (i : Option ℤ). TimeSpace i f.time.1.0) (instant_same s.fields.time) f.time.1.2 in
     let same : t.time ≡ f.time.1.0 = IsPrefixFree-nilable_time t.time (t.others ++ k.rest) f.time.1.0 f.time.0 (h.time, t.parse) (any_time (option_map instant h.time) f.time.1.0 form) (sym t.parts ∙ f.time.1.1) in
     (k.fields.0, k.rest, k.fields.1, t.formed (subst (TimeSpace (option_map instant h.time)) (sym same) form), (s.«structured_data».now, k.end, k.parts, f.elements.0, f.message_part))
 
-pub in_form : (b : List ℕ) (s : Parsed) (k : IsParsed b s) → InForm b s k → (r : Parts ℤ) × IsRecord r × Canonical r b
-in_form b s k f = (record_of b s k, well_formed_valid (record_of b s k) b (is_well_formed b s k f), is_canonical b s k f)
+in_form : (order : ElementOrder) (b : List ℕ) (s : Parsed) (k : IsParsed b s) → InForm order b s k → HoldsForm order b s.«structured_data».now
+in_form order b s k f = (record_of b s k, (has_parts order b s k f, f.elements.1, is_canonical order b s k f), k.elements.1)
 
 -- ---- a canonical text as it is read
 
@@ -148,9 +148,9 @@ priority_prefix p most = (
 range_same : (i j : Option ℤ) → i ≡ j → IfSome i IsInstant → IfSome j IsInstant
 range_same i j e h = subst (λ (o : Option ℤ). IfSome o IsInstant) e h
 
-pub of_canonical : (b : List ℕ) (s : Parsed) (k : IsParsed b s) (r : Parts ℤ) → IsRecord r → Canonical r b → InForm b s k
+of_canonical : (order : ElementOrder) (b : List ℕ) (s : Parsed) (k : IsParsed b s) (r : Parts ℤ) → IsFormOf order b r → InForm order b s k
 unfolding HeaderForm
-of_canonical b s k r valid (x, y, e, (prefix, behind, f, g, (spaced, words, i, (time, space, j, l, m), n)), (d, t, o, p, q)) =
+of_canonical order b s k r (valid, ordered, (x, y, e, (prefix, behind, f, g, (spaced, words, i, (time, space, j, l, m), n)), (d, t, o, p, q))) =
     let h = header_parts s.fields in
     let name = named r.time time l in
     let parts : HeaderParts = record { priority = r.priority; time = name.time; hostname = r.hostname; app_name = r.app_name; proc_id = r.proc_id; msg_id = r.msg_id } in
@@ -170,50 +170,48 @@ of_canonical b s k r valid (x, y, e, (prefix, behind, f, g, (spaced, words, i, (
     record {
       range = range_same r.time (option_map (λ c. instant (time_of c)) s.fields.time) instants valid.time;
       time = (words ++ y, (spaced, times.1, subst (λ (u : Option ℤ). TimeSpace u spaced) instants (time, space, j, l, m)));
-      elements = (sym text ∙ p ∙ ap structured_data_form both.0, subst IsById both.0 valid.by_id);
+      elements = (sym text ∙ p ∙ ap structured_data_form both.0, subst (IsInOrder order) both.0 ordered);
       message_part = sym both.1 ∙ q ∙ ap message_form message;
     }
 
 -- ---- the tests
 
-abbrev pub IsSomeCanonical : List ℕ → Type 0
-IsSomeCanonical b = (r : Parts ℤ) × IsRecord r × Canonical r b
+abbrev IsForm : ElementOrder → List ℕ → Type 0
+IsForm order b = AnyOf (λ r c. IsFormOf order c r) b
 
-no_canonical : (b : List ℕ) → ¬ (AnyOf WellFormed b) → IsTrue false ↔ IsSomeCanonical b
-no_canonical b none = (λ u. absurd cc, λ (r, valid, h). absurd (none (r, canonical_well_formed r b valid h)))
+-- octets outside the grammar
+pub form_syntax : (order : ElementOrder) (b : List ℕ) (f : Fault) → IsSyntaxFault b f → ¬ (IsForm order b)
+form_syntax order b (Syntax f at) (none, offset, field) (r, (valid, ordered, h)) = let s = canonical_spelled r b valid h in none (timed r s.time, s.text)
+form_syntax order b (InstantRange at) h k = h
+form_syntax order b (RepeatedId at) h k = h
 
-pub canon_syntax : (b : List ℕ) (f : Fault) → IsSyntaxFault b f → IsTrue false ↔ IsSomeCanonical b
-canon_syntax b f h = no_canonical b (no_syntax b f h)
-
-pub canon_range : (b : List ℕ) (s : Parsed) → IsParsed b s → IsOutOfRange s.fields.time → IsTrue false ↔ IsSomeCanonical b
-canon_range b s k out = no_canonical b (no_record b (InstantRange (length b - s.fields.time_remaining)) (out_of_range b s k out))
-
-not_formed : (b : List ℕ) (s : Parsed) (k : IsParsed b s) → ¬ (InForm b s k) → IsTrue false ↔ IsSomeCanonical b
-not_formed b s k none = (λ u. absurd cc, λ (r, valid, h). absurd (none (of_canonical b s k r valid h)))
+-- a time that is out of range
+pub form_range : (order : ElementOrder) (b : List ℕ) (s : Parsed) → IsParsed b s → IsOutOfRange s.fields.time → ¬ (IsForm order b)
+form_range order b s k out (r, (valid, ordered, h)) =
+    let t = canonical_spelled r b valid h in
+    let fault = out_of_range b s k out in
+    fault.2 (same_range fault.0.time t.time (same_parts fault.0 (timed r t.time) b fault.1 t.text).header.time t.range)
 
 refuted : (r : Bool) (P : Type 0) → IsTrue r ↔ P → r ≡ false → ¬ P
 refuted r P test isn p = let i : r ≡ true = test.1 p in absurd cc
 
--- the test of the time, where it stands
+-- the test of the time, where it is
 abbrev pub TimeTest : Bool → Parsed → List ℕ → Type 0
 TimeTest r s from = IsTrue r ↔ Begins (TimeSpace (option_map (λ t. instant (time_of t)) s.fields.time)) from
 
 time_test : (b from : List ℕ) (s : Parsed) (k : IsParsed b s) (r : Bool) → from ≡ drop (length b - s.fields.time_remaining) b → TimeTest r s from → TimeTest r s k.time.0
 time_test b from s k r e test = subst (TimeTest r s) (stands_at b from s.fields.time_remaining k.time e) test
 
-pub canon_given : (b from : List ℕ) (s : Parsed) → IsParsed b s → from ≡ drop (length b - s.fields.time_remaining) b → Begins (Spaced (Nilable TimeText (option_map time_of s.fields.time))) from
-canon_given b from s k e = subst (Begins (Spaced (Nilable TimeText (option_map time_of s.fields.time)))) (sym (stands_at b from s.fields.time_remaining k.time e)) (time_given b s k)
+pub time_begins : (b from : List ℕ) (s : Parsed) → IsParsed b s → from ≡ drop (length b - s.fields.time_remaining) b → Begins (Spaced (Nilable TimeText (option_map time_of s.fields.time))) from
+time_begins b from s k e = subst (Begins (Spaced (Nilable TimeText (option_map time_of s.fields.time)))) (sym (stands_at b from s.fields.time_remaining k.time e)) (time_given b s k)
 
-pub canon_time : (b from : List ℕ) (s : Parsed) → IsParsed b s → (r : Bool) → from ≡ drop (length b - s.fields.time_remaining) b → TimeTest r s from → r ≡ false → IsTrue false ↔ IsSomeCanonical b
-canon_time b from s k r e test isn = not_formed b s k (λ f. refuted r (Begins (TimeSpace (option_map (λ t. instant (time_of t)) s.fields.time)) k.time.0) (time_test b from s k r e test) isn f.time)
+pub form_time : (order : ElementOrder) (b from : List ℕ) (s : Parsed) → IsParsed b s → (r : Bool) → from ≡ drop (length b - s.fields.time_remaining) b → TimeTest r s from → r ≡ false → ¬ (IsForm order b)
+form_time order b from s k r e test isn (q, h) =
+    refuted r (Begins (TimeSpace (option_map (λ t. instant (time_of t)) s.fields.time)) k.time.0) (time_test b from s k r e test) isn (of_canonical order b s k q h).time
 
--- the test of the structured data
-abbrev pub DataTest : Bool → List ℕ → Type 0
-DataTest r text = (es : List ElementParts) → StructuredDataText es text → IsTrue r ↔ ((text ≡ structured_data_form es) × IsById es)
-
-pub canon_data : (b : List ℕ) (s : Parsed) → IsParsed b s → (r : Bool) → DataTest r s.«structured_data».now → r ≡ false → IsTrue false ↔ IsSomeCanonical b
-canon_data b s k r test isn =
-    not_formed b s k (λ f. refuted r ((s.«structured_data».now ≡ structured_data_form k.elements.0) × IsById k.elements.0) (test k.elements.0 k.elements.1) isn f.elements)
+pub form_data : (order : ElementOrder) (b : List ℕ) (s : Parsed) → IsParsed b s → (r : Bool) → DataAnswer order r s.«structured_data».now → r ≡ false → ¬ (IsForm order b)
+form_data order b s k r test isn (q, h) =
+    refuted r ((s.«structured_data».now ≡ structured_data_form k.elements.0) × IsInOrder order k.elements.0) (test k.elements.0 k.elements.1) isn (of_canonical order b s k q h).elements
 
 -- the test of the tail, by its length
 abbrev pub TailTest : Bool → Parsed → ℕ → Type 0
@@ -222,15 +220,44 @@ TailTest r s count = (message_part : List ℕ) → MessagePart (message_parts s.
 tail_count : (b : List ℕ) (s : Parsed) (k : IsParsed b s) → s.structured_data_remaining - length s.«structured_data».now ≡ length k.end
 tail_count b s k = omega (arith, k.remaining, ap length k.parts, length-append s.«structured_data».now k.end)
 
-pub canon_tail : (b from : List ℕ) (s : Parsed) (t d r : Bool) (i : Option ℤ) → IsParsed b s → (i ≡ option_map (λ c. instant (time_of c)) s.fields.time) × IfSome i IsInstant
-    → from ≡ drop (length b - s.fields.time_remaining) b → TimeTest t s from → t ≡ true → DataTest d s.«structured_data».now → d ≡ true → TailTest r s (s.structured_data_remaining - length s.«structured_data».now) → IsTrue r ↔ IsSomeCanonical b
-canon_tail b from s t d r i k range e time t_is elements d_is message_part =
-    let test = message_part k.end k.message_part (tail_count b s k) in (
-      λ u. in_form b s k (record {
-        range = range_same i (option_map (λ c. instant (time_of c)) s.fields.time) range.0 range.1;
-        time = (time_test b from s k t e time).0 t_is;
-        elements = (elements k.elements.0 k.elements.1).0 d_is;
-        message_part = test.0 u;
-      }),
-      λ (q, valid, h). test.1 (of_canonical b s k q valid h).message_part,
-    )
+pub form_tail : (order : ElementOrder) (b : List ℕ) (s : Parsed) → IsParsed b s → (r : Bool) → TailTest r s (s.structured_data_remaining - length s.«structured_data».now) → r ≡ false → ¬ (IsForm order b)
+form_tail order b s k r test isn (q, h) =
+    refuted r (k.end ≡ message_form (message_parts s.message)) (test k.end k.message_part (tail_count b s k)) isn (of_canonical order b s k q h).message_part
+
+pub form_whole : (order : ElementOrder) (b from : List ℕ) (s : Parsed) (t d r : Bool) (i : Option ℤ) → IsParsed b s → (i ≡ option_map (λ c. instant (time_of c)) s.fields.time) × IfSome i IsInstant
+    → from ≡ drop (length b - s.fields.time_remaining) b → TimeTest t s from → t ≡ true → DataAnswer order d s.«structured_data».now → d ≡ true → TailTest r s (s.structured_data_remaining - length s.«structured_data».now) → r ≡ true → HoldsForm order b s.«structured_data».now
+form_whole order b from s t d r i k range e time t_is elements d_is message_part r_is =
+    in_form order b s k (record {
+      range = range_same i (option_map (λ c. instant (time_of c)) s.fields.time) range.0 range.1;
+      time = (time_test b from s k t e time).0 t_is;
+      elements = (elements k.elements.0 k.elements.1).0 d_is;
+      message_part = (message_part k.end k.message_part (tail_count b s k)).0 r_is;
+    })
+
+-- ---- distinct ids
+
+abbrev IsUnsorted : List ℕ → Type 0
+IsUnsorted b = (r : Parts ℤ) × IsUnsortedRecord r × Canonical r b
+
+-- one text of structured data has one list of elements
+one_data : (es fs : List ElementParts) (text : List ℕ) → StructuredDataText es text → StructuredDataText fs text → es ≡ fs
+one_data es fs text h k = (data_same es fs text [] text [] h k tt tt refl).0
+
+-- two records of one canonical form have the same elements
+same_elements : (b : List ℕ) (r q : Parts ℤ) → HasRecordParts r → Canonical r b → HasRecordParts q → Canonical q b → r.elements ≡ q.elements
+same_elements b r q k h l i =
+    let s = canonical_spelled r b k h in
+    let t = canonical_spelled q b l i in
+    (same_parts (timed r s.time) (timed q t.time) b s.text t.text).elements
+
+pub unsorted_some : (b text : List ℕ) (o : Option ℕ) (r : Bool) → HoldsForm AsGiven b text → MatchOption o (HoldsDistinct text) (HoldsRepeated text) → is_some o ≡ not r → IsTrue r ↔ IsUnsorted b
+unsorted_some b text None true (q, (valid, ordered, h), d) (es, k, distinct) e =
+    (λ u. (q, (valid, subst AreDistinct (one_data es q.elements text k d) distinct), h), λ u. refl)
+unsorted_some b text None false form all e = absurd cc
+unsorted_some b text (Some at) true form all e = absurd cc
+unsorted_some b text (Some at) false (q, (valid, ordered, h), d) (es, k, before, found, offset) e = (
+  λ u. absurd cc,
+  λ (s, (valid', distinct), i).
+      let same : s.elements ≡ before ++ found.element ∷ found.behind = same_elements b s q valid' i valid h ∙ one_data q.elements es text d k ∙ found.parts in
+      absurd (not_distinct before found.element found.behind found.same (subst AreDistinct same distinct)),
+)

@@ -10,8 +10,10 @@ use Rattle.syslog_value.specs.Instants.{IsCivil}
 use Rattle.syslog_value.specs.Parts.{ParamParts, ElementParts, MessageParts, AnyOctets, Utf8Text, Parts, IsWord, IsParam, IsElement, IsMessage, IsInstant, IsRecord, bom}
 use Rattle.syslog_value.specs.declared.civil.Civil.{Civil}
 use Rattle.syslog_grammar.specs.Canonical.{civil_text, TimeForm, priority_version_form, word_form, needs_escape, escaped, param_form, element_form, structured_data_form, message_form, SpacedWord, HeaderForm, Canonical}
-use Rattle.syslog_grammar.specs.Grammar.{Header, Spaced, Nilable, Word, Param, Element, StructuredDataText, MessagePart}
+use Rattle.syslog_grammar.specs.Faults.{IsInRange}
+use Rattle.syslog_grammar.specs.Grammar.{Header, Spaced, Nilable, Word, Param, Element, StructuredDataText, MessagePart, SyslogMsg}
 use Rattle.syslog_grammar.specs.Time.{CivilTime, TimeText, Decimals, instant, padded}
+use Rattle.syslog_grammar.specs.Unsorted.{HasRecordParts}
 use Rattle.syslog_grammar.specs.Utf8.{Character, IsCharacter}
 use Rattle.syslog_grammar.specs.Values.{IsSpecial, Piece, Spells}
 use Rattle.syslog_grammar.specs.WellFormed.{WellFormed}
@@ -71,7 +73,7 @@ word_parsed : (n : ℕ) (w : Option (List ℕ)) (b : List ℕ) → IfSome w (IsW
 word_parsed n None b h s = s
 word_parsed n (Some w) b h (x, y, e, f, g) = (x, y, e, (h, f), g)
 
-pub header_parsed : (r : Parts ℤ) (t : Option CivilTime) (time rest b : List ℕ) → IsRecord r → Nilable TimeText t time → b ≡ priority_version_form r.priority ++ ((time ++ 32 ∷ []) ++ rest)
+pub header_parsed : (r : Parts ℤ) (t : Option CivilTime) (time rest b : List ℕ) → HasRecordParts r → Nilable TimeText t time → b ≡ priority_version_form r.priority ++ ((time ++ 32 ∷ []) ++ rest)
     → (SpacedWord r.hostname ⋅ SpacedWord r.app_name ⋅ SpacedWord r.proc_id ⋅ SpacedWord r.msg_id) rest
     → Header (record { priority = r.priority; time = t; hostname = r.hostname; app_name = r.app_name; proc_id = r.proc_id; msg_id = r.msg_id }) b
 unfolding Header
@@ -166,22 +168,41 @@ in_range : (i : Option ℤ) (t : Option CivilTime) → i ≡ option_map instant 
 in_range i None e h = tt
 in_range i (Some t) e h = subst (λ (o : Option ℤ). IfSome o IsInstant) e h
 
-pub canonical_well_formed : (r : Parts ℤ) (b : List ℕ) → IsRecord r → Canonical r b → WellFormed r b
+-- these parts with a time
+abbrev pub timed : Parts ℤ → Option CivilTime → Parts CivilTime
+timed r t = record { priority = r.priority; time = t; hostname = r.hostname; app_name = r.app_name; proc_id = r.proc_id; msg_id = r.msg_id; elements = r.elements; message = r.message }
+
+-- what a canonical text spells
+pub record Spelled (r : Parts ℤ) (b : List ℕ) : Type 0 where
+  pub time : Option CivilTime
+  pub same : r.time ≡ option_map instant time
+  pub text : SyslogMsg (timed r time) b
+  pub range : IsInRange (timed r time)
+
+pub canonical_spelled : (r : Parts ℤ) (b : List ℕ) → HasRecordParts r → Canonical r b → Spelled r b
 unfolding HeaderForm
-canonical_well_formed r b k (x, y, e, (prefix, behind, f, g, (spaced, words, i, (time, space, j, l, m), n)), (d, t, o, p, q)) =
-    let named_time = named r.time time l in (
-      record { priority = r.priority; time = named_time.time; hostname = r.hostname; app_name = r.app_name; proc_id = r.proc_id; msg_id = r.msg_id; elements = r.elements; message = r.message },
-      (
+canonical_spelled r b k (x, y, e, (prefix, behind, f, g, (spaced, words, i, (time, space, j, l, m), n)), (d, t, o, p, q)) =
+    let named_time = named r.time time l in
+    record {
+      time = named_time.time;
+      same = named_time.same;
+      text = (
         x,
         y,
         e,
         header_parsed r named_time.time time words x k named_time.text (f ∙ ap (λ (s : List ℕ). s ++ behind) g ∙ ap (λ (s : List ℕ). priority_version_form r.priority ++ s) (i ∙ ap (λ (s : List ℕ). s ++ words) (j ∙ ap (λ (s : List ℕ). time ++ s) m))) n,
         (d, t, o, subst (StructuredDataText r.elements) (sym p) (data_parsed r.elements k.elements), subst (MessagePart r.message) (sym q) (tail_parsed r.message k.message)),
-      ),
-      in_range r.time named_time.time named_time.same k.time,
-      distinct_by_id r.elements k.by_id,
-      record { priority = refl; time = named_time.same; hostname = refl; app_name = refl; proc_id = refl; msg_id = refl; elements = IsPermutation-refl r.elements; by_id = k.by_id; message = refl },
-    )
+      );
+      range = in_range r.time named_time.time named_time.same k.time;
+    }
+
+pub record_parts : (r : Parts ℤ) → IsRecord r → HasRecordParts r
+record_parts r k = record { priority = k.priority; time = k.time; hostname = k.hostname; app_name = k.app_name; proc_id = k.proc_id; msg_id = k.msg_id; elements = k.elements; message = k.message }
+
+pub canonical_well_formed : (r : Parts ℤ) (b : List ℕ) → IsRecord r → Canonical r b → WellFormed r b
+canonical_well_formed r b k h =
+    let s = canonical_spelled r b (record_parts r k) h in
+    (timed r s.time, s.text, s.range, distinct_by_id r.elements k.by_id, record { priority = refl; time = s.same; hostname = refl; app_name = refl; proc_id = refl; msg_id = refl; elements = IsPermutation-refl r.elements; by_id = k.by_id; message = refl })
 
 -- ---- one canonical text
 

@@ -12,7 +12,7 @@ use Rattle.syslog_grammar.proofs.Prefix.{Passes-behind}
 
 -- ---- rows
 
--- an octet and what is behind it
+-- an octet and what follows it
 pub octet_prefix : (r : Range) (rs : List Range) (x : ℕ) (s : List ℕ) → Each Octet (r ∷ rs) (x ∷ s) → (r.low ≤ x) × (x ≤ r.high) × Each Octet rs s
 octet_prefix r rs x s (p, q, e, (y, f, low, high), h) =
     let both : x ∷ s ≡ y ∷ q = e ∙ ap (λ (k : List ℕ). k ++ q) f in
@@ -142,7 +142,7 @@ no_octet r b some out = record {
 pub some_octet : (r : Range) (b : List ℕ) (x : ℕ) (rest : List ℕ) → b ≡ x ∷ rest → r.low ≤ x → x ≤ r.high → Follows (Octet r) b rest
 some_octet r b x rest e l h = (x ∷ [], e, (x, refl, l, h))
 
--- ranges one behind the other
+-- ranges one after the other
 pub Passes-last : {X E : Type 0} (at : E → ℕ) (r : Range) (view : X → List ℕ) (b : List ℕ) (res : Result X E) → Passes at (Octet r) view b res → Passes at (Each Octet (r ∷ [])) view b res
 Passes-last at r view b (Ok x) (t, e, h) = (t, e, (t, [], sym (append-nil t), h, refl))
 Passes-last at r view b (Err s) f =

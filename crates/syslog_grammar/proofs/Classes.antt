@@ -29,7 +29,7 @@ goes_on_run C n c A B t (x ∷ p) runs positive here some starts fits octets =
     let k = starts t some in
     (k.0, k.1, (x ∷ p, t, ap (λ (u : List ℕ). x ∷ p ++ u) (sym k.2), runs.from (x ∷ p) (record { some = omega arith; fits = fits; octets = octets }), some))
 
--- no run goes on with the octet behind
+-- no run goes on with the octet after it
 refuses_run : (C : ℕ → Type 0) (n : ℕ) (A B : Language) (read rest : List ℕ) → AreRuns C n A → StartsIn (Ends C) B → AllByRecursion C read → IfFirst (λ x. C x → length read ≡ n) rest → IfFirst (λ x. Ends C x → length read ≡ 0) rest → Refuses (A ⋅ B) read rest
 refuses_run C n A B read [] runs starts octets long short = tt
 refuses_run C n A B read (x ∷ rest) runs starts octets long short = λ (more, (w, s, e, h, k)).
@@ -67,7 +67,7 @@ Fails-run C n c A B b t remaining runs positive here some one starts f =
     short read (x ∷ rest) (inl h) = λ k. ap length h.0
     short read (x ∷ rest) (inr h) = λ k. absurd (k h.1)
 
--- an octet of the class behind a run that stops at most at the limit: the limit is reached
+-- an octet of the class after a run that stops at most at the limit: the limit is reached
 pub at_limit : (C : ℕ → Type 0) (most n : ℕ) (rest : List ℕ) → n ≤ most → (n < most → IfFirst (Ends C) rest) → IfFirst C rest → 0 < length rest → n ≡ most
 at_limit C most n [] fits ends goes some = absurd (omega arith)
 at_limit C most n (x ∷ rest) fits ends goes some = elim (cases_lt n most) [ inl h ↦ absurd (ends h goes) | inr h ↦ omega arith ]

@@ -1,4 +1,4 @@
--- Whether structured data stands in its canonical form, part by part.
+-- Whether structured data is in its canonical form, part by part.
 use Rattle.std.proofs.Common.{◌≡◌, ◌≢◌, ℕ, List, [], ◌∷◌, ◌++◌, refl, sym, ap, subst, ◌∙◌, append_assoc, arith, inl, inr, Bool}
 use Rattle.std.specs.Prelude.{◌↔◌, IsTrue, true, false, Option, Some, None}
 use Rattle.std.specs.List.{AllByRecursion, flat_map}
@@ -10,10 +10,13 @@ use Rattle.syslog_value.specs.Order.{OctetsBelow}
 use Rattle.syslog_value.specs.Parts.{ParamParts, ElementParts, IsById}
 use Rattle.syslog_value.proofs.Octets.{below_itself, below_trans}
 use Rattle.syslog_grammar.specs.Canonical.{escaped, param_form, element_form, structured_data_form}
+use Rattle.syslog_grammar.specs.ElementOrders.{IsInOrder, MayFollow, MayAllFollow}
 use Rattle.syslog_grammar.specs.Grammar.{Param, Element, StructuredDataText}
 use Rattle.syslog_grammar.specs.Ids.{IsAbove, IsAtMost, IsRisingFrom, ids_of}
 use Rattle.syslog_grammar.specs.Spans.{ParamSpan, SpannedParam, ElementSpan, SpannedElement}
 use Rattle.syslog_grammar.specs.Values.{Spells}
+use Rattle.syslog_grammar.specs.declared.structured_data_form.ElementOrder.{ElementOrder}
+use Rattle.syslog_grammar.specs.declared.structured_data_form.ElementOrder.TheVariants.{ById, AsGiven}
 use Rattle.syslog_grammar.proofs.CanonicalParses.{param_parsed, element_parsed}
 use Rattle.syslog_grammar.proofs.OneMeaning.{by_prefix}
 use Rattle.syslog_grammar.proofs.OwnedParts.{param_same, element_same}
@@ -140,6 +143,37 @@ not_above id None h a = h
 not_above id (Some g) (inl same) a = below_itself id (subst (λ (l : List ℕ). OctetsBelow l id) (sym same) a)
 not_above id (Some g) (inr less) a = below_itself id (below_trans id g id less a)
 
+-- ---- elements in order
+
+-- the test of an id, by what it means
+pub follows_above : (id : List ℕ) (met : Option (List ℕ)) (r : Bool) → (IsTrue r → IsAbove id met) → ((IsTrue r → ⊥) → IsAtMost id met) → IsTrue r ↔ MayFollow ById id met
+follows_above id met true above most = (λ u. above u, λ a. refl)
+follows_above id met false above most = (λ u. absurd cc, λ a. absurd (not_above id met (most (λ u. absurd cc)) a))
+
+order_all : (order : ElementOrder) (es : List ElementParts) → IsInOrder order es → MayAllFollow order None (ids_of es)
+order_all ById es h = rising_of None es (none_met es) h
+order_all AsGiven es h = tt
+
+all_order : (order : ElementOrder) (es : List ElementParts) → MayAllFollow order None (ids_of es) → IsInOrder order es
+all_order ById es h = (of_rising None es h).1
+all_order AsGiven es h = tt
+
+no_more : (order : ElementOrder) (met : Option (List ℕ)) → MayAllFollow order met []
+no_more ById met = tt
+no_more AsGiven met = tt
+
+follows_first : (order : ElementOrder) (met : Option (List ℕ)) (id : List ℕ) (ids : List (List ℕ)) → MayAllFollow order met (id ∷ ids) → MayFollow order id met
+follows_first ById met id ids h = h.0
+follows_first AsGiven met id ids h = tt
+
+follows_others : (order : ElementOrder) (met : Option (List ℕ)) (id : List ℕ) (ids : List (List ℕ)) → MayAllFollow order met (id ∷ ids) → MayAllFollow order (Some id) ids
+follows_others ById met id ids h = h.1
+follows_others AsGiven met id ids h = tt
+
+follows_both : (order : ElementOrder) (met : Option (List ℕ)) (id : List ℕ) (ids : List (List ℕ)) → MayFollow order id met → MayAllFollow order (Some id) ids → MayAllFollow order met (id ∷ ids)
+follows_both ById met id ids h k = (h, k)
+follows_both AsGiven met id ids h k = tt
+
 -- ---- elements
 
 spanned_element_text : (v : ElementSpan) (x : List ℕ) → SpannedElement v x → x ≡ 91 ∷ (v.id ++ (v.params ++ 93 ∷ []))
@@ -156,24 +190,28 @@ same_params : (id r s : List ℕ) → 91 ∷ (id ++ (r ++ 93 ∷ [])) ≡ 91 ∷
 same_params id r s e = append_cancel_right r s (93 ∷ []) (append_cancel_left id (r ++ 93 ∷ []) (s ++ 93 ∷ []) (tails 91 91 (id ++ (r ++ 93 ∷ [])) (id ++ (s ++ 93 ∷ [])) e))
 
 -- the elements stand in their form where those that are left do
-abbrev InForm : List ℕ → Option (List ℕ) → List ElementParts → Type 0
-InForm text met es = (text ≡ flat_map element_form es) × IsRisingFrom met (ids_of es)
+abbrev InForm : ElementOrder → List ℕ → Option (List ℕ) → List ElementParts → Type 0
+InForm order text met es = (text ≡ flat_map element_form es) × MayAllFollow order met (ids_of es)
 
-pub record ElementsRest (elements rest : List ℕ) (met : Option (List ℕ)) (es : List ElementParts) : Type 0 where
+-- the answer of the test of elements
+abbrev pub ElementsAnswer : ElementOrder → Bool → List ℕ → Type 0
+ElementsAnswer order r elements = (es : List ElementParts) → Each Element es elements → IsTrue r ↔ ((elements ≡ flat_map element_form es) × IsInOrder order es)
+
+pub record ElementsRest (order : ElementOrder) (elements rest : List ℕ) (met : Option (List ℕ)) (es : List ElementParts) : Type 0 where
   pub todo : List ElementParts
   pub each : Each Element todo rest
-  pub to : (elements ≡ flat_map element_form es) × IsById es → (rest ≡ flat_map element_form todo) × IsRisingFrom met (ids_of todo)
-  pub from : (rest ≡ flat_map element_form todo) × IsRisingFrom met (ids_of todo) → (elements ≡ flat_map element_form es) × IsById es
+  pub to : (elements ≡ flat_map element_form es) × IsInOrder order es → (rest ≡ flat_map element_form todo) × MayAllFollow order met (ids_of todo)
+  pub from : (rest ≡ flat_map element_form todo) × MayAllFollow order met (ids_of todo) → (elements ≡ flat_map element_form es) × IsInOrder order es
 
-abbrev pub ElementsLeft : List ℕ → List ℕ → Option (List ℕ) → Type 0
-ElementsLeft elements rest met = (es : List ElementParts) → Each Element es elements → ElementsRest elements rest met es
+abbrev pub ElementsLeft : ElementOrder → List ℕ → List ℕ → Option (List ℕ) → Type 0
+ElementsLeft order elements rest met = (es : List ElementParts) → Each Element es elements → ElementsRest order elements rest met es
 
-pub elements_all : (elements : List ℕ) → ElementsLeft elements elements None
-elements_all elements es h = record {
+pub elements_all : (order : ElementOrder) (elements : List ℕ) → ElementsLeft order elements elements None
+elements_all order elements es h = record {
   todo = es;
   each = h;
-  to = λ k. (k.0, rising_of None es (none_met es) k.1);
-  from = λ k. (k.0, (of_rising None es k.1).1);
+  to = λ k. (k.0, order_all order es k.1);
+  from = λ k. (k.0, all_order order es k.1);
 }
 
 -- the test of parameters, by what they are
@@ -197,9 +235,9 @@ first_item rest behind after x v (d ∷ todo) e f k =
     let i = item Element SpannedElement IsPrefixFree-element spanned_element d todo v rest behind k f in
     record { element = d; others = todo; is = refl; text = i.0; parts = i.1; parse = i.2; spanned = i.3; each = i.4 }
 
-pub elements_more : (elements rest behind after : List ℕ) (x : ℕ) (v : ElementSpan) (met : Option (List ℕ)) (r : Bool) → rest ≡ x ∷ after → Follows (SpannedElement v) rest behind → IsAbove v.id met → ParamsTest r v.params → r ≡ true
-    → ElementsLeft elements rest met → ElementsLeft elements behind (Some v.id)
-elements_more elements rest behind after x v met r e f above test is remaining es h =
+pub elements_more : (order : ElementOrder) (elements rest behind after : List ℕ) (x : ℕ) (v : ElementSpan) (met : Option (List ℕ)) (r : Bool) → rest ≡ x ∷ after → Follows (SpannedElement v) rest behind → MayFollow order v.id met → ParamsTest r v.params → r ≡ true
+    → ElementsLeft order elements rest met → ElementsLeft order elements behind (Some v.id)
+elements_more order elements rest behind after x v met r e f above test is remaining es h =
     let l = remaining es h in
     let i = first_item rest behind after x v l.todo e f l.each in
     let same = element_same i.element v i.text i.parse i.spanned in
@@ -209,77 +247,83 @@ elements_more elements rest behind after x v met r e f above test is remaining e
       todo = i.others;
       each = i.each;
       to = λ g.
-          let k = subst (InForm rest met) i.is (l.to g) in
-          (append_cancel_left (element_form i.element) behind (flat_map element_form i.others) (ap (λ (s : List ℕ). s ++ behind) (sym form) ∙ sym i.parts ∙ k.0), subst (λ (id : List ℕ). IsRisingFrom (Some id) (ids_of i.others)) same.0 k.1.1);
+          let k = subst (InForm order rest met) i.is (l.to g) in
+          let others = follows_others order met i.element.id (ids_of i.others) k.1 in
+          (append_cancel_left (element_form i.element) behind (flat_map element_form i.others) (ap (λ (s : List ℕ). s ++ behind) (sym form) ∙ sym i.parts ∙ k.0), subst (λ (id : List ℕ). MayAllFollow order (Some id) (ids_of i.others)) same.0 others);
       from = λ g.
-          l.from (subst (InForm rest met) (sym i.is) (i.parts ∙ ap (λ (s : List ℕ). s ++ behind) form ∙ ap (λ (s : List ℕ). element_form i.element ++ s) g.0, (subst (λ (id : List ℕ). IsAbove id met) (sym same.0) above, subst (λ (id : List ℕ). IsRisingFrom (Some id) (ids_of i.others)) (sym same.0) g.1)));
+          let first : MayFollow order i.element.id met = subst (λ (id : List ℕ). MayFollow order id met) (sym same.0) above in
+          let others : MayAllFollow order (Some i.element.id) (ids_of i.others) = subst (λ (id : List ℕ). MayAllFollow order (Some id) (ids_of i.others)) (sym same.0) g.1 in
+          l.from (subst (InForm order rest met) (sym i.is) (i.parts ∙ ap (λ (s : List ℕ). s ++ behind) form ∙ ap (λ (s : List ℕ). element_form i.element ++ s) g.0, follows_both order met i.element.id (ids_of i.others) first others));
     }
 
 -- a fault of the first of the elements that are left
-refused : (elements rest : List ℕ) (met : Option (List ℕ)) → ElementsLeft elements rest met → ((todo : List ElementParts) → Each Element todo rest → ¬ (InForm rest met todo))
-    → (es : List ElementParts) → Each Element es elements → IsTrue false ↔ ((elements ≡ flat_map element_form es) × IsById es)
-refused elements rest met remaining none es h = (λ u. absurd cc, λ g. let l = remaining es h in absurd (none l.todo l.each (l.to g)))
+refused : (order : ElementOrder) (elements rest : List ℕ) (met : Option (List ℕ)) → ElementsLeft order elements rest met → ((todo : List ElementParts) → Each Element todo rest → ¬ (InForm order rest met todo)) → ElementsAnswer order false elements
+refused order elements rest met remaining none es h = (λ u. absurd cc, λ g. let l = remaining es h in absurd (none l.todo l.each (l.to g)))
 
-pub elements_most : (elements rest behind after : List ℕ) (x : ℕ) (v : ElementSpan) (met : Option (List ℕ)) → rest ≡ x ∷ after → Follows (SpannedElement v) rest behind → IsAtMost v.id met → ElementsLeft elements rest met
-    → (es : List ElementParts) → Each Element es elements → IsTrue false ↔ ((elements ≡ flat_map element_form es) × IsById es)
-elements_most elements rest behind after x v met e f most remaining es h = refused elements rest met remaining none es h
+pub elements_most : (order : ElementOrder) (elements rest behind after : List ℕ) (x : ℕ) (v : ElementSpan) (met : Option (List ℕ)) → rest ≡ x ∷ after → Follows (SpannedElement v) rest behind → ¬ (MayFollow order v.id met) → ElementsLeft order elements rest met → ElementsAnswer order false elements
+elements_most order elements rest behind after x v met e f most remaining es h = refused order elements rest met remaining none es h
   where
-    none : (todo : List ElementParts) → Each Element todo rest → ¬ (InForm rest met todo)
+    none : (todo : List ElementParts) → Each Element todo rest → ¬ (InForm order rest met todo)
     none todo k g =
         let i = first_item rest behind after x v todo e f k in
-        let rising = subst (InForm rest met) i.is g in
-        not_above v.id met most (subst (λ (id : List ℕ). IsAbove id met) (element_same i.element v i.text i.parse i.spanned).0 rising.1.0)
+        let first = follows_first order met i.element.id (ids_of i.others) (subst (InForm order rest met) i.is g).1 in
+        most (subst (λ (id : List ℕ). MayFollow order id met) (element_same i.element v i.text i.parse i.spanned).0 first)
 
-pub elements_bad : (elements rest behind after : List ℕ) (x : ℕ) (v : ElementSpan) (met : Option (List ℕ)) (r : Bool) → rest ≡ x ∷ after → Follows (SpannedElement v) rest behind → ParamsTest r v.params → r ≡ false → ElementsLeft elements rest met
-    → (es : List ElementParts) → Each Element es elements → IsTrue false ↔ ((elements ≡ flat_map element_form es) × IsById es)
-elements_bad elements rest behind after x v met r e f test isn remaining es h = refused elements rest met remaining none es h
+pub elements_bad : (order : ElementOrder) (elements rest behind after : List ℕ) (x : ℕ) (v : ElementSpan) (met : Option (List ℕ)) (r : Bool) → rest ≡ x ∷ after → Follows (SpannedElement v) rest behind → ParamsTest r v.params → r ≡ false → ElementsLeft order elements rest met → ElementsAnswer order false elements
+elements_bad order elements rest behind after x v met r e f test isn remaining es h = refused order elements rest met remaining none es h
   where
-    none : (todo : List ElementParts) → Each Element todo rest → ¬ (InForm rest met todo)
+    none : (todo : List ElementParts) → Each Element todo rest → ¬ (InForm order rest met todo)
     none todo k g =
         let i = first_item rest behind after x v todo e f k in
-        let whole = (subst (InForm rest met) i.is g).0 in
+        let whole = (subst (InForm order rest met) i.is g).0 in
         let both = by_prefix (AnyOf Element) i.text behind (element_form i.element) (flat_map element_form i.others) IsPrefixFree-element
         (i.element, i.parse) (i.element, element_parsed i.element (valid_element i.element i.text i.parse)) (sym i.parts ∙ whole) in
         let params = same_params i.element.id v.params (flat_map param_form i.element.params) (sym (element_text i.element v i.text i.parse i.spanned) ∙ both.0 ∙ form_text i.element) in
         let yes : r ≡ true = (test i.element.params (element_same i.element v i.text i.parse i.spanned).1).1 params in
         absurd cc
 
-pub elements_stuck : (elements rest after : List ℕ) (x remaining : ℕ) (met : Option (List ℕ)) → rest ≡ x ∷ after → Fails (AnyOf SpannedElement) rest remaining → ElementsLeft elements rest met
-    → (es : List ElementParts) → Each Element es elements → IsTrue false ↔ ((elements ≡ flat_map element_form es) × IsById es)
-elements_stuck elements rest after x remaining met e f more es h = refused elements rest met more none es h
+pub elements_stuck : (order : ElementOrder) (elements rest after : List ℕ) (x remaining : ℕ) (met : Option (List ℕ)) → rest ≡ x ∷ after → Fails (AnyOf SpannedElement) rest remaining → ElementsLeft order elements rest met → ElementsAnswer order false elements
+elements_stuck order elements rest after x remaining met e f more es h = refused order elements rest met more none es h
   where
-    none : (todo : List ElementParts) → Each Element todo rest → ¬ (InForm rest met todo)
+    none : (todo : List ElementParts) → Each Element todo rest → ¬ (InForm order rest met todo)
     none [] k g = let i : ◌≡◌ {A = List ℕ} [] (x ∷ after) = sym k ∙ e in absurd cc
     none (q ∷ todo) (y, z, i, k, l) g = f.none y z i (element_spanned y (q, k))
 
-pub elements_end : (elements rest : List ℕ) (met : Option (List ℕ)) → rest ≡ [] → ElementsLeft elements rest met
-    → (es : List ElementParts) → Each Element es elements → IsTrue true ↔ ((elements ≡ flat_map element_form es) × IsById es)
-elements_end elements rest met e remaining es h = (λ u. let l = remaining es h in l.from (one l.todo l.each), λ u. refl)
+pub elements_end : (order : ElementOrder) (elements rest : List ℕ) (met : Option (List ℕ)) → rest ≡ [] → ElementsLeft order elements rest met → ElementsAnswer order true elements
+elements_end order elements rest met e remaining es h = (λ u. let l = remaining es h in l.from (one l.todo l.each), λ u. refl)
   where
-    one : (todo : List ElementParts) → Each Element todo rest → InForm rest met todo
-    one [] k = (e, tt)
+    one : (todo : List ElementParts) → Each Element todo rest → InForm order rest met todo
+    one [] k = (e, no_more order met)
     one (q ∷ todo) (y, z, g, k, l) =
         let s = element_prefix y (q, k) in
         let i : ◌≡◌ {A = List ℕ} [] (91 ∷ (s.0 ++ z)) = sym e ∙ g ∙ ap (λ (t : List ℕ). t ++ z) s.1 in absurd cc
 
 -- ---- the whole
 
+-- the answer of the test of structured data
+abbrev pub DataAnswer : ElementOrder → Bool → List ℕ → Type 0
+DataAnswer order r text = (es : List ElementParts) → StructuredDataText es text → IsTrue r ↔ ((text ≡ structured_data_form es) × IsInOrder order es)
+
+-- NILVALUE has no elements, in any order
+no_elements : (order : ElementOrder) → IsInOrder order []
+no_elements ById = tt
+no_elements AsGiven = tt
+
 -- no octet, which is no structured data
-pub data_empty : (text : List ℕ) → text ≡ [] → (es : List ElementParts) → StructuredDataText es text → IsTrue true ↔ ((text ≡ structured_data_form es) × IsById es)
-data_empty text e [] h = let i : ◌≡◌ {A = List ℕ} [] (45 ∷ []) = sym e ∙ h in absurd cc
-data_empty text e (d ∷ es) (x, y, g, h, k) =
+pub data_empty : (order : ElementOrder) (text : List ℕ) → text ≡ [] → DataAnswer order true text
+data_empty order text e [] h = let i : ◌≡◌ {A = List ℕ} [] (45 ∷ []) = sym e ∙ h in absurd cc
+data_empty order text e (d ∷ es) (x, y, g, h, k) =
     let f = element_prefix x (d, h) in
     let i : ◌≡◌ {A = List ℕ} [] (91 ∷ (f.0 ++ y)) = sym e ∙ g ∙ ap (λ (u : List ℕ). u ++ y) f.1 in absurd cc
 
--- no element in front
-pub data_none : (text after : List ℕ) (x : ℕ) → text ≡ x ∷ after → x ≢ 91 → (es : List ElementParts) → StructuredDataText es text → IsTrue true ↔ ((text ≡ structured_data_form es) × IsById es)
-data_none text after x e ne [] h = (λ u. (h, tt), λ u. refl)
-data_none text after x e ne (d ∷ es) (y, z, g, h, k) =
+-- no element comes first
+pub data_none : (order : ElementOrder) (text after : List ℕ) (x : ℕ) → text ≡ x ∷ after → x ≢ 91 → DataAnswer order true text
+data_none order text after x e ne [] h = (λ u. (h, no_elements order), λ u. refl)
+data_none order text after x e ne (d ∷ es) (y, z, g, h, k) =
     let f = element_prefix y (d, h) in
     absurd (ne (heads x 91 after (f.0 ++ z) (sym e ∙ g ∙ ap (λ (u : List ℕ). u ++ z) f.1)))
 
--- an element in front
-pub data_some : (text after : List ℕ) (x : ℕ) (r : Bool) → text ≡ x ∷ after → x ≡ 91 → ((es : List ElementParts) → Each Element es text → IsTrue r ↔ ((text ≡ flat_map element_form es) × IsById es))
-    → (es : List ElementParts) → StructuredDataText es text → IsTrue r ↔ ((text ≡ structured_data_form es) × IsById es)
-data_some text after x r e f test [] h = let i : x ≡ 45 = heads x 45 after [] (sym e ∙ h) in absurd (omega (arith, i, f))
-data_some text after x r e f test (d ∷ es) h = test (d ∷ es) h
+-- an element comes first
+pub data_some : (order : ElementOrder) (text after : List ℕ) (x : ℕ) (r : Bool) → text ≡ x ∷ after → x ≡ 91 → ElementsAnswer order r text → DataAnswer order r text
+data_some order text after x r e f test [] h = let i : x ≡ 45 = heads x 45 after [] (sym e ∙ h) in absurd (omega (arith, i, f))
+data_some order text after x r e f test (d ∷ es) h = test (d ∷ es) h

@@ -1,4 +1,4 @@
--- Structured data: where it ends and stops, and what the tail behind it says of both.
+-- Structured data: where it ends and stops, and what the tail after it says of both.
 use Rattle.std.proofs.Common.{◌≡◌, ◌≢◌, ℕ, List, [], ◌∷◌, ◌++◌, length, refl, sym, ap, subst, ◌∙◌, append_assoc, arith, inl, inr, ◌⊎◌}
 use Rattle.std.proofs.lemmas.List.{append_cancel_left, append-nil}
 use Rattle.octet_language.specs.Language.{Language, Only, ◌⋅◌, AnyOf, Each, Refuses, NoPrefix, IfFirst}
@@ -53,7 +53,7 @@ no_tail_prefix b x t (z ∷ p) r more y e f g h = elim (tail_prefix (z ∷ (p ++
   | inr k ↦ let i : z ≡ 32 = heads z 32 ((p ++ y ∷ []) ++ more) k.0 k.1 in let j : x ≡ z = heads x z t (p ++ y ∷ r) (sym e ∙ g) in omega (arith, i, j, f)
 ]
 
--- what is behind the first elements, and the whole
+-- what follows the first elements, and the whole
 pub record Goes (b rest : List ℕ) : Type 0 where
   pub good : Follows (AnyOf Element ⋅ Elements) b rest
   pub message_part : (remaining : ℕ) → Misses (Many Element AnyMessagePart) rest remaining → Misses WithTail b remaining
@@ -123,7 +123,7 @@ data_none Z t z = (45 ∷ [], t, refl, ([], refl), z)
 data_some : (Z : Language) (s : List ℕ) → (AnyOf Element ⋅ Many Element Z) s → (AnyOf StructuredDataText ⋅ Z) s
 data_some Z s (u, w, f, (d, h), (v, y, g, (ds, k), z)) = (u ++ v, y, f ∙ ap (λ (q : List ℕ). u ++ q) g ∙ sym (append_assoc u v y), (d ∷ ds, (u, v, refl, h, k)), z)
 
--- with a dash in front no element begins
+-- no element begins with a dash
 nil_element : (Z : Language) (s t : List ℕ) → (AnyOf Element ⋅ Z) s → s ≡ 45 ∷ t → ⊥
 nil_element Z s t (x, y, e, h, z) f =
     let k = element_prefix x h in
@@ -251,7 +251,7 @@ ungroup_many Z s (p, z, e, (x, y, f, h, k), l) = (x, y ++ z, e ∙ ap (λ (u : L
 some_prefix : (s : List ℕ) → Some s → (t : List ℕ) × (s ≡ 91 ∷ t)
 some_prefix s (x, y, e, h, k) = let f = element_prefix x h in (f.0 ++ y, e ∙ ap (λ (u : List ℕ). u ++ y) f.1)
 
--- behind the structured data the tail misses
+-- after the structured data the tail misses
 pub data_misses : (b text rest : List ℕ) (remaining : ℕ) → EndsStructuredData b text rest → Misses AnyMessagePart rest remaining → Misses (AnyOf StructuredDataText ⋅ AnyMessagePart) b remaining
 data_misses b text rest remaining (e, inl f) m = Misses-after AnyMessagePart (AnyOf StructuredDataText ⋅ AnyMessagePart) 45 b rest remaining (from_nil AnyMessagePart) (data_none AnyMessagePart) (e ∙ ap (λ (u : List ℕ). u ++ rest) f) m
 data_misses b text rest remaining (e, inr (h, n)) m =
@@ -265,7 +265,7 @@ pub data_text : (b text rest : List ℕ) → EndsStructuredData b text rest → 
 data_text b text rest (e, inl f) = ([], f)
 data_text b text rest (e, inr ((x, y, g, (v, h), (vs, k)), n)) = (v ∷ vs, (x, y, g, h, k))
 
--- where no space is behind the structured data, no structured data and a space come first
+-- where no space follows the structured data, no structured data and a space come first
 pub no_space : (b text rest : List ℕ) → EndsStructuredData b text rest → IfFirst (λ x. x ≢ 32) rest → NoPrefix (AnyOf StructuredDataText ⋅ Space) b
 no_space b text rest (e, inl f) n x y d h = elim (data_cases Space x h) [
   | inl k ↦ spaced_rest rest y k.0 n (tails 45 45 rest (k.0 ++ y) (ap (λ (u : List ℕ). u ++ rest) (sym f) ∙ sym e ∙ d ∙ ap (λ (u : List ℕ). u ++ y) k.1)) k.2

@@ -1,4 +1,4 @@
--- The digits behind the point, and the zone behind them.
+-- The digits after the point, and the zone after them.
 use Rattle.std.proofs.Common.{◌≡◌, ◌≢◌, ℕ, zero, suc, ◌+◌, ◌-◌, ◌*◌, ◌/◌, ◌%◌, ◌<◌, ◌≤◌, List, [], ◌∷◌, ◌++◌, length, get_or, refl, sym, ap, subst, ◌∙◌, arith, inl, inr, ◌⊎◌}
 use Rattle.std.specs.Prelude.{replicate, ℤ, pos, neg_ℤ, Some, None}
 use Rattle.std.specs.List.{AllByRecursion}
@@ -168,7 +168,7 @@ fraction_cases : (s : List ℕ) → Fraction s → (s ≡ []) ⊎ ((t : List ℕ
 fraction_cases s (m, inl (e, f)) = inl f
 fraction_cases s (m, inr (x, y, e, h, k)) = inr (y, e ∙ ap (λ (u : List ℕ). u ++ y) h, (m, k))
 
--- what ends a fraction, or stands in its offset
+-- what ends a fraction, or is at its offset
 abbrev pub EndsFraction : ℕ → Type 0
 EndsFraction x = Ends IsDigit x × (x ≢ 46)
 

@@ -37,7 +37,7 @@ printable_lanes g h d i r z room fits found is agree =
       ends = λ short. other_true (get_or d (i + r) 0) (sym (agree_below_at p is_other 256 (get_or d (i + r) 0) agree (fits (i + r)).fits) ∙ run_in_chunk_stops p d i 16 r 0 room counted short);
     }
 
--- octets that are printable one by one go on a printable front
+-- octets that are printable one by one continue a printable prefix
 pub run_on : (P : ℕ → Type 0) (i r : ℕ) (s : List ℕ) → i + r ≤ length s → AllByRecursion P (take i s) → ((k : ℕ) → i ≤ k → k < i + r → P (get_or s k 0)) → AllByRecursion P (take (i + r) s)
 run_on P i zero s room prefix each = subst (λ n. AllByRecursion P (take n s)) (omega arith) prefix
 run_on P i (suc r) s room prefix each =

@@ -7,7 +7,7 @@ use Rattle.octet_language.proofs.Lists.{heads}
 use Rattle.octet_language.proofs.Chain.{Follows-then}
 use Rattle.octet_language.proofs.Many.{Apart, Many, many_none, many_more, item_fails, behind_item}
 
--- what is behind the first items, and the whole
+-- what follows the first items, and the whole
 pub record Carries {V : Type 0} (A : V → Language) (Z : Language) (b rest : List ℕ) : Type 0 where
   pub good : (after : List ℕ) → Follows (Many A Z) rest after → Follows (Many A Z) b after
   pub bad : (remaining : ℕ) → Fails (Many A Z) rest remaining → Fails (Many A Z) b remaining
@@ -15,7 +15,7 @@ pub record Carries {V : Type 0} (A : V → Language) (Z : Language) (b rest : Li
 pub carries_all : {V : Type 0} (A : V → Language) (Z : Language) (b : List ℕ) → Carries A Z b b
 carries_all A Z b = record { good = λ after f. f; bad = λ remaining f. f }
 
--- one mark, where it does not come first
+-- one delimiter, where it does not come first
 pub apart_mark : (m : ℕ) (b : List ℕ) → IfFirst (λ x. x ≢ m) b → Apart (Only (m ∷ [])) b
 apart_mark m [] h = record { some = λ e. absurd cc; prefix = tt }
 apart_mark m (x ∷ b) h = record { some = λ e. absurd cc; prefix = λ w e. h (heads x m w [] e) }
@@ -31,7 +31,7 @@ carries_more A m b rest after one h p k = record {
 pub carried_fails : {V : Type 0} (A : V → Language) (m : ℕ) (b rest : List ℕ) (remaining : ℕ) → IfFirst (λ x. x ≢ m) rest → Carries A (Only (m ∷ [])) b rest → Fails (AnyOf A) rest remaining → Fails (Many A (Only (m ∷ []))) b remaining
 carried_fails A m b rest remaining h k f = k.bad remaining (item_fails A (Only (m ∷ [])) rest (m ∷ []) remaining refl (apart_mark m rest h) f)
 
--- the mark that ends the items
+-- the delimiter that ends the items
 pub carried_ends : {V : Type 0} (A : V → Language) (m : ℕ) (b rest after : List ℕ) (x : ℕ) → Carries A (Only (m ∷ [])) b rest → rest ≡ x ∷ after → x ≡ m → Follows (Many A (Only (m ∷ []))) b after
 carried_ends A m b rest after x k e f = k.good after (m ∷ [], e ∙ ap (λ (n : ℕ). n ∷ after) f, many_none A (Only (m ∷ [])) (m ∷ []) refl)
 

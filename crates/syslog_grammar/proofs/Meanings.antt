@@ -30,7 +30,7 @@ other_means piece none (m, inl (x, k, e, f)) = absurd (none (x, k, f))
 other_means piece none (m, inr (inl (c, k, e, f))) = inr (inl (c, k, f, f))
 other_means piece none (m, inr (inr (k, e))) = inr (inr (subst IsPlain (sym e) k, refl))
 
--- what is behind the first pieces, and the whole
+-- what follows the first pieces, and the whole
 pub record Matches (raw text spelling meaning : List ℕ) : Type 0 where
   pub to : Spells text raw → Spells meaning spelling
   pub from : Spells meaning spelling → Spells text raw

@@ -46,7 +46,7 @@ from_character s (c, (h, e)) = subst IsCharacter (sym e) h
 IsPrefixFree-any_character : IsPrefixFree (AnyOf Character)
 IsPrefixFree-any_character p s q t h k e = IsPrefixFree-character p s q t (from_character p h) (from_character q k) e
 
--- what is behind the first characters, and the whole
+-- what follows the first characters, and the whole
 pub record Goes (b rest : List ℕ) : Type 0 where
   pub good : IsText rest → IsText b
   pub bad : (remaining : ℕ) → Misses IsText rest remaining → Misses IsText b remaining
@@ -104,7 +104,7 @@ message_read s (Utf8Text text, (h, (x, y, e, f, g))) =
     let same : s ≡ text = cc in
     subst IsText (sym same) h
 
--- behind the mark no text
+-- after the BOM no text
 pub message_misses : (b rest : List ℕ) (remaining : ℕ) → b ≡ bom ++ rest → Misses IsText rest remaining → Misses (AnyOf Message) b remaining
 message_misses b rest remaining e m = record {
   none = λ h. m.none (message_read rest (subst (AnyOf Message) e h));

@@ -31,11 +31,11 @@ no_empty : (rest : List ℕ) → IfFirst (λ y. y ≡ 62 → ¬ (AnyOf Number []
 no_empty [] = tt
 no_empty (x ∷ rest) = λ e h. omega (arith, ap length h.1.1, decimal_nonempty h.0 (small h.0 h.1.0))
 
--- without a digit in front no number begins
+-- no number begins without a digit
 pub no_number : (b : List ℕ) → IfFirst (λ x. ¬ (IsDigit x)) b → Fails (AnyOf Number ⋅ Only (62 ∷ [])) b (length b)
 no_number b not_digit = Fails-delimited (AnyOf Number) 62 b [] b (decimal 0) free_number refl (0, (omega arith, refl)) (Refuses-first_digit b not_digit) (no_empty b)
 
--- the digit x goes on behind those of n
+-- the digit x goes on after those of n
 abbrev pub GoesOn : ℕ → ℕ → Type 0
 GoesOn n x = (0 < n) × (48 ≤ x) × (x ≤ 57) × (10 * n + (x - 48) ≤ 191)
 
@@ -49,12 +49,12 @@ no_bom : (n : ℕ) (rest : List ℕ) → IfFirst (λ x. (x ≢ 62) × ¬ (GoesOn
 no_bom n [] ends = tt
 no_bom n (x ∷ rest) ends = λ e h. ends.0 e
 
--- behind a number neither the bracket nor a digit that keeps it below 192
+-- after a number neither the bracket nor a digit that keeps it below 192
 pub no_digit : (b : List ℕ) (n : ℕ) (rest : List ℕ) → n ≤ 191 → b ≡ decimal n ++ rest → IfFirst (λ x. (x ≢ 62) × ¬ (GoesOn n x)) rest → Fails (AnyOf Number ⋅ Only (62 ∷ [])) b (length rest)
 no_digit b n rest low e ends =
     Fails-delimited (AnyOf Number) 62 b (decimal n) rest [] free_number e (n, (low, append-nil (decimal n))) (Refuses-next_digit n rest low ends) (no_bom n rest ends)
 
--- a number and the bracket behind it
+-- a number and the bracket that follows it
 pub closed : (b : List ℕ) (n : ℕ) (rest : List ℕ) (x : ℕ) (after : List ℕ) → n ≤ 191 → b ≡ decimal n ++ rest → rest ≡ x ∷ after → x ≡ 62 → Follows (Number n ⋅ Only (62 ∷ [])) b after
 closed b n rest x after low e f g =
     (decimal n ++ 62 ∷ [], e ∙ ap (λ (k : List ℕ). decimal n ++ k) (f ∙ ap (λ (k : ℕ). k ∷ after) g) ∙ sym (one_more (decimal n) 62 after), (decimal n, 62 ∷ [], refl, (low, refl), refl))

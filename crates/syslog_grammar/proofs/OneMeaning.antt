@@ -49,7 +49,7 @@ offset_same m n s (h, i, e, (x, y, f, (l0, l1, l2), (z, w, g, k, (p0, p1, p2))))
     let minutes = two_same i i' (omega arith) (omega arith) (tails 58 58 (padded 2 i) (padded 2 i') both.1) in
     omega (arith, e, e', hours, minutes)
 
--- the octet of a sign, and the offset behind it
+-- the octet of a sign, and the offset after it
 signed : (k : ℕ) (m : ℕ) (s : List ℕ) → (Only (k ∷ []) ⋅ OffsetText m) s → (t : List ℕ) × (s ≡ k ∷ t) × OffsetText m t
 signed k m s (x, y, e, h, o) = (y, e ∙ ap (λ (u : List ℕ). u ++ y) h, o)
 
@@ -160,7 +160,7 @@ word_same n None (Some w) b h k = absurd (k.0.not_nil (sym k.1 ∙ h))
 word_same n (Some v) None b h k = absurd (h.0.not_nil (sym h.1 ∙ k))
 word_same n (Some v) (Some w) b h k = ap Some (sym h.1 ∙ k.1)
 
--- a field and the space behind it
+-- a field and the space that follows it
 pub spaced : {V : Type 0} (A : V → Language) (v w : V) (b : List ℕ) → Spaced (A v) b → Spaced (A w) b → (x : List ℕ) × A v x × A w x
 spaced A v w b (x, y, e, h, k) (u, s, f, l, m) =
     let same : x ≡ u = append_cancel_right x u (32 ∷ []) (ap (λ (t : List ℕ). x ++ t) (sym k) ∙ sym e ∙ f ∙ ap (λ (t : List ℕ). u ++ t) m) in

@@ -16,7 +16,7 @@ use Rattle.syslog_grammar.proofs.Ahead.{StartsIn, Fails-ahead, IsPrefixFree-ahea
 use Rattle.syslog_grammar.proofs.Names.{EndsName, OneAhead-name, Fails-name, letter}
 use Rattle.syslog_grammar.proofs.Values.{IsPrefixFree-value}
 
--- ---- a mark, a name and what is behind it
+-- ---- a delimiter, a name and what follows it
 
 abbrev pub Named : ℕ → Language → Language
 Named m B = Only (m ∷ []) ⋅ (AnyOf Name ⋅ B)
@@ -64,7 +64,7 @@ no_quote b rest remaining g f =
     (Fails-later (Only (61 ∷ [])) (AnyOf Quoted) b rest remaining (IsPrefixFree-only (61 ∷ [])) g
     (Fails-second_value (Only (34 ∷ [])) Parsed rest remaining (Fails-first (Only (34 ∷ [])) (AnyOf Parsed) rest (34 ∷ []) remaining empty_spelling f)))
 
--- the marks, and what a reader of the spelling answers behind them
+-- the delimiters, and what a reader of the spelling answers after them
 pub behind_marks : {X E : Type 0} (at : E → ℕ) (view : X → List ℕ × List ℕ) (b rest after : List ℕ) (r : Result X E) → Follows (Only (61 ∷ [])) b rest → Follows (Only (34 ∷ [])) rest after → Reads at Parsed view after r → Reads at SpannedValue view b r
 behind_marks at view b rest after r f g h =
     Reads-later at (Only (61 ∷ [])) Quoted view b rest r (IsPrefixFree-only (61 ∷ [])) f

@@ -92,7 +92,7 @@ take_add (x ∷ p) rest k =
     let e : suc (length p) + k ≡ suc (length p + k) = omega arith in
     ap (λ (n : ℕ). take n (x ∷ p ++ rest)) e ∙ ap (λ (s : List ℕ). x ∷ s) (take_add p rest k)
 
--- the offset in a whole lies behind the texts that were read
+-- the offset in a whole lies after the texts that were read
 take_offset : (b p rest : List ℕ) (remaining : ℕ) → b ≡ p ++ rest → remaining ≤ length rest → take (length b - remaining) b ≡ p ++ take (length rest - remaining) rest
 take_offset b p rest remaining e l =
     let n : length b - remaining ≡ length p + (length rest - remaining) = omega (arith, ap length e, length-append p rest) in
@@ -101,7 +101,7 @@ take_offset b p rest remaining e l =
 space_begins : (m : List ℕ) → Begins (AnyOf MessagePart) (32 ∷ [])
 space_begins m = ([], (AnyOctets [], inr (32 ∷ [], [], refl, refl, empty_message)))
 
--- behind a space a tail is not refused before the message
+-- after a space a tail is not refused before the message
 in_message : (rest m : List ℕ) (remaining : ℕ) → rest ≡ 32 ∷ m → Misses (AnyOf MessagePart) rest remaining → remaining ≤ length m
 in_message rest m remaining e k = go k.stops.read k.stops.rest k.stops.parts k.stops.count k.stops.refuses
   where

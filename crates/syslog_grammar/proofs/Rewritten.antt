@@ -42,7 +42,7 @@ written_all raw old = record { done = []; parts = sym (append-nil old); is = λ 
 pub written_begun : (raw rest old out : List ℕ) → Written raw rest old out → Adds Anything old out
 written_begun raw rest old out w = (w.done, tt, w.parts)
 
--- the pieces behind a backslash and what it means with the octet behind it
+-- the pieces after a backslash and what it means with the octet after it
 mark_next : (ms : List (List ℕ)) (t first behind : List ℕ) → MeansFirst (92 ∷ t) first behind → Each Piece ms (92 ∷ t) → (ks : List (List ℕ)) × Each Piece ks behind × (escaped (joined ms) ≡ 92 ∷ (first ++ escaped (joined ks)))
 mark_next ms t first behind (inl (x, s, e, f)) h =
     let same : t ≡ x ∷ behind = tails 92 92 t (x ∷ behind) e in
@@ -215,7 +215,7 @@ words_formed : (h a p m : Option (List ℕ)) (b : List ℕ) → WordFields h a p
 words_formed h a p m b (x, y, e, k, (x', y', e', k', (x'', y'', e'', k'', l))) =
     (x, y, e, word_formed 255 h x k, (x', y', e', word_formed 48 a x' k', (x'', y'', e'', word_formed 128 p x'' k'', word_formed 32 m y'' l)))
 
--- seven texts, one behind the other
+-- seven texts, one after the other
 seven : (o f t g w e l : List ℕ) → ((o ++ (f ++ ((t ++ g) ++ w))) ++ e) ++ l ≡ o ++ (f ++ (t ++ (g ++ (w ++ (e ++ l)))))
 seven o f t g w e l =
     append_assoc (o ++ (f ++ ((t ++ g) ++ w))) e l ∙ append_assoc o (f ++ ((t ++ g) ++ w)) (e ++ l)

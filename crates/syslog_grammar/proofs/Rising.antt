@@ -1,4 +1,4 @@
--- Ids that rise are distinct, in whatever order they stood before.
+-- Ids that rise are distinct, in whatever order they were before.
 use Rattle.std.proofs.Common.{◌≡◌, ℕ, zero, suc, ◌+◌, ◌<◌, List, [], ◌∷◌, ◌++◌, length, take, set, map, refl, sym, ap, subst, ◌∙◌, append_assoc, add-one, arith, inl, inr, Bor, Bool, true, false}
 use Rattle.std.specs.Prelude.{Option, Some, None}
 use Rattle.std.specs.List.{AllByRecursion, IsDistinct}

@@ -30,7 +30,7 @@ last_second : instant (at 9999 12 31 23 59 59 999999 (pos 0)) ≡ pos 2534023007
 unfolding day_number days_of_years days_of_months
 last_second = refl
 
--- a text of two languages, one behind the other
+-- a text of two languages, one after the other
 both : {A B : Language} → (x y : List ℕ) → A x → B y → (A ⋅ B) (x ++ y)
 both x y a b = (x, y, refl, a, b)
 

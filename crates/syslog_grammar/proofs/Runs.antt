@@ -1,4 +1,4 @@
--- The octets in front that a test holds of.
+-- The octets at the start that a test holds of.
 use Rattle.std.proofs.Common.{◌≡◌, ℕ, zero, suc, ◌+◌, ◌<◌, List, [], ◌∷◌, ◌++◌, length, take, drop, get_or, refl, subst, sym, add-one, arith}
 use Rattle.std.specs.List.{AllByRecursion}
 use Rattle.octet_language.specs.Language.{Language, Only, ◌⋅◌, IfFirst}
@@ -32,7 +32,7 @@ IfFirst-empty P b e = subst (IfFirst P) (sym e) tt
 pub IfFirst-cons : (P : ℕ → Type 0) (b : List ℕ) (x : ℕ) (rest : List ℕ) → b ≡ x ∷ rest → P x → IfFirst P b
 IfFirst-cons P b x rest e p = subst (IfFirst P) (sym e) p
 
--- a text, and a mark behind it
+-- a text, and a delimiter after it
 pub escaped_rest : (L : Language) (b p behind rest : List ℕ) (x y : ℕ) → L p → b ≡ p ++ behind → behind ≡ x ∷ rest → x ≡ y → Follows (L ⋅ Only (y ∷ [])) b rest
 escaped_rest L b p behind rest x y h e f g =
     subst (λ (k : List ℕ). Follows (L ⋅ Only (y ∷ [])) k rest) (sym (e'))

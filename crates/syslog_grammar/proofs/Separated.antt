@@ -1,4 +1,4 @@
--- Two fields with a mark between them, and a second field that hangs on the value of the first.
+-- Two fields with a delimiter between them, and a second field that hangs on the value of the first.
 use Rattle.std.proofs.Common.{◌≡◌, ℕ, List, [], ◌∷◌, ◌++◌, length, refl, sym, ap, subst, ◌∙◌, append_assoc, inl, inr}
 use Rattle.std.proofs.lemmas.List.{append_cancel_left, append-nil}
 use Rattle.octet_language.specs.Language.{Language, Only, ◌⋅◌, AnyOf, Refuses, NoPrefix, IsPrefixFree}
@@ -11,7 +11,7 @@ use Rattle.octet_language.proofs.Chain.{Fails-first, Fails-later, Fails-same, Fo
 pub IsPrefixFree-length : (L : Language) (n : ℕ) → ((p : List ℕ) → L p → length p ≡ n) → IsPrefixFree L
 IsPrefixFree-length L n long p s q t h k e = same_prefix p q s t (long p h ∙ sym (long q k)) e
 
--- ---- a mark between
+-- ---- a delimiter between
 
 abbrev pub Delimited : Language → ℕ → Language → Language
 Delimited A m B = A ⋅ (Only (m ∷ []) ⋅ B)
@@ -51,7 +51,7 @@ IsPrefixFree-pair {V} {W} A B m one two =
 abbrev pub OneValue : {V : Type 0} → (V → Language) → Type 0
 OneValue {V} A = (v w : V) (s : List ℕ) → A v s → A w s → v ≡ w
 
--- a value, and a text for it and behind it
+-- a value, and a text for it and after it
 abbrev pub Hangs : {V : Type 0} → (V → Language) → (V → Language) → Language
 Hangs A B = AnyOf (λ v. A v ⋅ B v)
 
@@ -93,7 +93,7 @@ later_refuses A B v p q (x ∷ rest) one value a r = λ (more, (w, (y, z, e, h, 
     let b = behind_value A B v p (q ++ x ∷ more) y z w one value a h k [] whole in
     r (more, subst (B v) (sym (one_more q x more ∙ b.0 ∙ append-nil z)) b.1)
 
--- behind a text of the first, the two fail where the second fails at its value
+-- after a text of the first, the two fail where the second fails at its value
 pub Fails-hangs_later : {V : Type 0} (A B : V → Language) (v : V) (b rest : List ℕ) (remaining : ℕ) → IsPrefixFree (AnyOf A) → OneValue A → Follows (A v) b rest → Fails (B v) rest remaining → Fails (Hangs A B) b remaining
 Fails-hangs_later A B v b rest remaining one value (p, e, a) f = record {
   none = λ x y d (w, (x', y', g, h, k)).

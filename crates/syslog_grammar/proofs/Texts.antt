@@ -5,7 +5,7 @@ use Rattle.octet_language.specs.Reading.{Fails}
 use Rattle.octet_language.proofs.Chain.{Fails-same}
 use Rattle.syslog_grammar.specs.Spans.{Text}
 
--- a text and what is behind it fail alike where the text is lent
+-- a text and what follows it fail alike where the text is lent
 pub Fails-text : (L Z : Language) (b : List ℕ) (remaining : ℕ) → Fails (L ⋅ Z) b remaining → Fails (AnyOf (λ t. Text L t ⋅ Z)) b remaining
 Fails-text L Z b remaining f =
     Fails-same (L ⋅ Z) (AnyOf (λ t. Text L t ⋅ Z)) b remaining

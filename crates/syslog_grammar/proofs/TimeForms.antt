@@ -1,4 +1,4 @@
--- Whether a timestamp stands in its canonical form.
+-- Whether a timestamp is in its canonical form.
 use Rattle.std.proofs.Common.{◌≡◌, ◌≢◌, ℕ, ◌<◌, List, [], ◌∷◌, ◌++◌, length, take, drop, refl, sym, ap, subst, ◌∙◌, append_assoc, arith, Bool, true, false}
 use Rattle.std.specs.Prelude.{◌↔◌, IsTrue, ℤ, Option, Some, None}
 use Rattle.std.proofs.lemmas.List.{length-append, take_at, append_cancel_right, take-append-drop}
@@ -27,7 +27,7 @@ TimeSpace i = TimeForm i ⋅ Only (32 ∷ [])
 abbrev pub Begins : Language → List ℕ → Type 0
 Begins L octets = (rest : List ℕ) × Follows L octets rest
 
--- a canonical time and the space behind it are a time and its space
+-- a canonical time and the space that follows it are a time and its space
 pub any_time : (i : Option ℤ) (x : List ℕ) → TimeSpace i x → AnyTime x
 any_time i x (s, y, e, h, k) = let n = named i s h in (n.time, (s, y, e, n.text, k))
 

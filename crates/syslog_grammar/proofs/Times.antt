@@ -138,7 +138,7 @@ OneValue-year_month v w s (x, y, e, h, (z, u, f, k, l)) (x', y', e', h', (z', u'
     let months : 45 ∷ u ≡ 45 ∷ u' = ap (λ (t : List ℕ). t ++ u) (sym k) ∙ sym f ∙ rests ∙ f' ∙ ap (λ (t : List ℕ). t ++ u') k' in
     pair_ap v.0 w.0 v.1 w.1 (OneValue-year v.0 w.0 x' (subst (YearText v.0) same h) h') (OneValue-two 1 12 (omega arith) v.1 w.1 u' (subst (Two 1 12 v.1) (tails 45 45 u u' months) l) l')
 
--- the days behind a year and a month
+-- the days after a year and a month
 abbrev pub Days : ℕ × ℕ → Language
 Days d = Only (45 ∷ []) ⋅ AnyOf (Two 1 (month_length d.0 d.1))
 

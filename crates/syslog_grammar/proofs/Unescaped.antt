@@ -134,7 +134,7 @@ meaning text raw (ms, e, h) = of_pieces ms raw h ∙ sym e
 
 -- ---- run by run
 
--- what a backslash and the octets behind it mean
+-- what a backslash and the octets after it mean
 pub first_means : (octets first rest : List ℕ) → MeansFirst octets first rest → unescaped octets ≡ first ++ unescaped rest
 first_means octets first rest (inl (x, k, e, f)) = rw (e, f) (left_out x rest (special_test x k))
 first_means octets first [] (inr (e, h, f)) = rw (e, f) last

@@ -5,8 +5,10 @@ use Rattle.std.specs.List.{AllByRecursion, flat_map}
 use Rattle.std.proofs.lemmas.Str.{IsUtf8-append, IsUtf8-nil}
 use Rattle.octet_language.specs.Language.{Each}
 use Rattle.syslog_value.specs.Parts.{ParamParts, ElementParts, MessageParts, AnyOctets, Utf8Text, Parts, IsWord, IsParam, IsElement, IsMessage, IsInstant, IsRecord}
-use Rattle.syslog_grammar.specs.Grammar.{HeaderParts, Header, header_of, Nilable, Word, Spaced, Param, Element, StructuredDataText, Message, MessagePart}
+use Rattle.syslog_grammar.specs.Faults.{IsInRange}
+use Rattle.syslog_grammar.specs.Grammar.{HeaderParts, Header, header_of, Nilable, Word, Spaced, Param, Element, StructuredDataText, Message, MessagePart, SyslogMsg}
 use Rattle.syslog_grammar.specs.Time.{CivilTime, instant}
+use Rattle.syslog_grammar.specs.Unsorted.{HasRecordParts}
 use Rattle.syslog_grammar.specs.Values.{IsSpecial, Piece, Spells}
 use Rattle.syslog_grammar.specs.WellFormed.{WellFormed}
 use Rattle.syslog_grammar.proofs.ById.{all_permuted}
@@ -88,6 +90,25 @@ valid_tail m b (inr (x, y, e, h, k)) = valid_message m y k
 valid_time : (t : Option CivilTime) → IfSome t (λ c. IsInstant (instant c)) → IfSome (option_map instant t) IsInstant
 valid_time None h = tt
 valid_time (Some c) h = h
+
+-- the parts with the instant of their time
+abbrev pub at_instant : Parts CivilTime → Parts ℤ
+at_instant p = record { priority = p.priority; time = option_map instant p.time; hostname = p.hostname; app_name = p.app_name; proc_id = p.proc_id; msg_id = p.msg_id; elements = p.elements; message = p.message }
+
+-- what octets spell has the parts of a record
+pub parsed_valid : (p : Parts CivilTime) (b : List ℕ) → SyslogMsg p b → IsInRange p → HasRecordParts (at_instant p)
+parsed_valid p b (x, y, e, h, (d, t, f, k, l)) in_range =
+    let w = words (header_of p) x h in
+    record {
+      priority = header_priority (header_of p) x h;
+      time = valid_time p.time in_range;
+      hostname = w.hostname;
+      app_name = w.app_name;
+      proc_id = w.proc_id;
+      msg_id = w.msg_id;
+      elements = valid_data p.elements d k;
+      message = valid_tail p.message t l;
+    }
 
 -- what octets are is a record
 pub well_formed_valid : (r : Parts ℤ) (b : List ℕ) → WellFormed r b → IsRecord r

@@ -30,7 +30,7 @@ escaped_special x s h = rw (special_test x h) refl
 
 -- ---- up to a backslash
 
--- the pieces from a backslash on, behind a run that means itself
+-- the pieces from a backslash on, after a run that means itself
 pub record Run (ms : List (List ℕ)) (run t : List ℕ) : Type 0 where
   pub behind : List (List ℕ)
   pub each : Each Piece behind (92 ∷ t)
@@ -64,7 +64,7 @@ no_plain : (m z t : List ℕ) (x : ℕ) → IsPlain m → IsSpecial x → x ∷ 
 no_plain [] z t x k s e = character_some k.0
 no_plain (y ∷ m) z t x k s e = no_special y m (subst IsSpecial (heads x y t (m ++ z) e) s) k
 
--- an escape, and the pieces behind it
+-- an escape, and the pieces after it
 pub record Escape (ms : List (List ℕ)) (y : ℕ) (after : List ℕ) : Type 0 where
   pub behind : List (List ℕ)
   pub each : Each Piece behind after
@@ -95,7 +95,7 @@ lone (m ∷ ms) t (x, z, e, inr (inl (c, k, f, i)), j) none =
     (escaped (c ++ joined ms), ap (λ (u : List ℕ). escaped (u ++ joined ms)) f ∙ escaped_special 92 (c ++ joined ms) (inr (inl refl)))
 lone (m ∷ ms) t (x, z, e, inr (inr (k, f)), j) none = absurd (no_plain m z t 92 k (inr (inl refl)) (e ∙ ap (λ (u : List ℕ). u ++ z) f))
 
--- the pieces behind such a backslash
+-- the pieces after such a backslash
 pub lone_more : (ms : List (List ℕ)) (t : List ℕ) → Each Piece ms (92 ∷ t) → IfFirst (λ x. ¬ (IsSpecial x)) t → (ks : List (List ℕ)) × Each Piece ks t × (joined ms ≡ 92 ∷ joined ks)
 lone_more [] t h none = absurd cc
 lone_more (m ∷ ms) t (x, z, e, inl (q, k, f, i), j) none =
@@ -138,7 +138,7 @@ at_mark k [] h e = absurd (omega arith)
 at_mark zero (x ∷ rest) h e = ap (λ (n : ℕ). n ∷ rest) (eqb-true x 92 e)
 at_mark (suc k) (x ∷ rest) h e = at_mark k rest (omega arith) e
 
--- what stands before the first backslash, and behind it
+-- what comes before the first backslash, and after it
 pub record Delimited (rest run behind : List ℕ) : Type 0 where
   pub parts : rest ≡ run ++ 92 ∷ behind
   pub free : Free run

@@ -68,7 +68,7 @@ piece_some (m, inl (x, k, e, f)) = absurd cc
 piece_some (m, inr (inl (c, k, e, f))) = absurd cc
 piece_some (m, inr (inr (k, e))) = character_some (subst IsCharacter (sym e) k.0)
 
--- behind a backslash any character
+-- after a backslash any character
 behind_backslash : (s : List ℕ) → AnyPiece (92 ∷ s) → IsCharacter s
 behind_backslash s (m, inl (x, k, e, f)) = subst IsCharacter (sym (tails 92 92 s (x ∷ []) f)) (ascii x (special_low x k))
 behind_backslash s (m, inr (inl (c, k, e, f))) = subst IsCharacter (sym (tails 92 92 s c f)) k.0
@@ -159,7 +159,7 @@ IsPrefixFree-value = IsPrefixFree-many Piece (Only (34 ∷ [])) IsPrefixFree-pie
 plain_piece : (x : ℕ) → IsPlainOctet x → AnyPiece (x ∷ [])
 plain_piece x p = (x ∷ [], inr (inr ((ascii x (omega (arith, p.0)), (λ e. p.1 (heads x 34 [] [] e)), (λ e. p.2 (heads x 92 [] [] e)), (λ e. p.3 (heads x 93 [] [] e))), refl)))
 
--- behind such octets, what of the rest holds of the whole
+-- after such octets, what of the rest holds of the whole
 carries_run : (b run rest : List ℕ) → AllByRecursion IsPlainOctet run → Carries Piece (Only (34 ∷ [])) b (run ++ rest) → Carries Piece (Only (34 ∷ [])) b rest
 carries_run b [] rest h k = k
 carries_run b (x ∷ run) rest h k = carries_run b run rest h.1 (carries_more Piece 34 b (x ∷ run ++ rest) (run ++ rest) IsPrefixFree-piece h.0.1 (x ∷ [], refl, plain_piece x h.0) k)

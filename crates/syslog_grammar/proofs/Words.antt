@@ -55,7 +55,7 @@ early : (n : ℕ) (p rest : List ℕ) → 0 < n → IfFirst (λ y. y ≡ 32 → 
 early n p [] positive h = tt
 early n p (x ∷ rest) positive h = λ e w. omega (arith, h e, (any_word n p positive w).0)
 
--- behind printable octets, nothing that goes on the word or ends it
+-- after printable octets, nothing that goes on the word or ends it
 pub no_word : (n : ℕ) (b p rest : List ℕ) → 0 < n → b ≡ p ++ rest → length p ≤ n → AllByRecursion IsPrintable p
     → (length p < n → IfFirst (λ x. IsPrintable x → ⊥) rest)
     → IfFirst (λ y. y ≡ 32 → length p ≡ 0) rest
@@ -65,7 +65,7 @@ no_word n b p rest positive e fits printable ends space =
     Fails-first_value (Nilable (Word n)) (Only (32 ∷ [])) b (length rest)
     (Fails-delimited (AnyOf (Nilable (Word n))) 32 b p rest m.0 (free_word n positive) e m.1 (Refuses-word n p rest positive ends) (early n p rest positive space))
 
--- with no printable octet in front
+-- with no printable octet at the start
 pub no_first : (n : ℕ) (b p rest : List ℕ) → 0 < n → b ≡ p ++ rest → length p ≡ 0 → (length p < n → IfFirst (λ x. IsPrintable x → ⊥) rest) → Fails (AnyOf (λ w. Spaced (Nilable (Word n) w))) b (length b)
 no_first n b [] rest positive e empty ends = rw e (no_word n rest [] rest positive refl (omega arith) tt ends (all_empty rest))
   where

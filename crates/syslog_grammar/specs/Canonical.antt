@@ -1,4 +1,4 @@
--- The canonical form of a record: of the texts that spell it (RFC 5424, section 6) the one that stands for it.
+-- The canonical form of a record: of the texts that spell it (RFC 5424, section 6) the one that is written.
 use Rattle.std.specs.Prelude.{◌≡◌, ℕ, ℤ, pos, List, [], ◌∷◌, ◌++◌, Option, Some, None, Bool, ◌||◌, ◌==◌, if◌then◌else◌, decimal}
 use Rattle.std.specs.List.{flat_map}
 use Rattle.octet_language.specs.Language.{Language, Only, ◌⋅◌}
@@ -52,7 +52,7 @@ structured_data_form (e ∷ es) = flat_map element_form (e ∷ es)
 
 -- ---- the message
 
--- nothing for the empty message without a mark, else a space and the message
+-- nothing for the empty message without a BOM, else a space and the message
 abbrev pub message_form : MessageParts → List ℕ
 message_form (AnyOctets []) = []
 message_form (AnyOctets (x ∷ octets)) = 32 ∷ x ∷ octets
@@ -60,11 +60,11 @@ message_form (Utf8Text text) = 32 ∷ bom ++ text
 
 -- ---- the record
 
--- a word and the space behind it
+-- a word and the space that follows it
 abbrev pub SpacedWord : Option (List ℕ) → Language
 SpacedWord w = Only (word_form w) ⋅ Only (32 ∷ [])
 
--- the header of these fields, and the space behind it
+-- the header of these fields, and the space that follows it
 unfoldable pub HeaderForm : ℕ → Option ℤ → Option (List ℕ) → Option (List ℕ) → Option (List ℕ) → Option (List ℕ) → Language
 HeaderForm priority time hostname app_name proc_id msg_id =
     Only (priority_version_form priority) ⋅ (TimeForm time ⋅ Only (32 ∷ [])) ⋅ SpacedWord hostname ⋅ SpacedWord app_name ⋅ SpacedWord proc_id ⋅ SpacedWord msg_id

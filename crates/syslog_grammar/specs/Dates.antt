@@ -1,4 +1,4 @@
--- The parts of a timestamp as they are read, one behind the other.
+-- The parts of a timestamp as they are read, one after the other.
 use Rattle.std.specs.Prelude.{ℕ, ℤ, [], ◌∷◌}
 use Rattle.octet_language.specs.Language.{Language, Only, ◌⋅◌}
 use Rattle.syslog_grammar.specs.declared.timestamp.Timestamp.{Timestamp}

@@ -14,12 +14,12 @@ use Rattle.syslog_grammar.specs.declared.fault.Fault.TheVariants.{Syntax, Instan
 abbrev pub IsInRange : Parts CivilTime → Type 0
 IsInRange p = IfSome p.time (λ t. IsInstant (instant t))
 
--- no id stands twice
+-- no id is repeated
 abbrev pub AreDistinct : List ElementParts → Type 0
 AreDistinct [] = ⊤
 AreDistinct (e ∷ es) = ¬ (HasId e.id es) × AreDistinct es
 
--- how often an octet stands in a text
+-- how often an octet occurs in a text
 abbrev pub times : ℕ → List ℕ → ℕ
 times x b = count_by (λ y. y == x) b
 

@@ -20,6 +20,6 @@ header_parts h = record {
 abbrev pub words_of : HeaderParts → Language
 words_of h = WordFields h.hostname h.app_name h.proc_id h.msg_id
 
--- so many octets are left behind PRI, VERSION and the space
+-- so many octets are left after PRI, VERSION and the space
 abbrev pub TimeStands : List ℕ → ℕ → Type 0
 TimeStands b remaining = (rest : List ℕ) × Follows (AnyOf Priority ⋅ Spaced Version) b rest × (length rest ≡ remaining)

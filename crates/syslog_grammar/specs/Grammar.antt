@@ -31,7 +31,7 @@ Word n w b = IsWord n w × (b ≡ w)
 abbrev pub Name : List ℕ → Language
 Name w b = IsName w × (b ≡ w)
 
--- a field and the space behind it
+-- a field and the space that follows it
 abbrev pub Spaced : Language → Language
 Spaced A = A ⋅ Only (32 ∷ [])
 
@@ -48,7 +48,7 @@ abbrev pub StructuredDataText : List ElementParts → Language
 StructuredDataText [] = Only (45 ∷ [])
 StructuredDataText (e ∷ es) = Each Element (e ∷ es)
 
--- MSG: octets that do not start with the mark, or the mark and a text
+-- MSG: octets that do not start with the BOM, or the BOM and a text
 abbrev pub Message : MessageParts → Language
 Message (AnyOctets octets) b = IsOctets octets × (take 3 octets ≢ bom) × (b ≡ octets)
 Message (Utf8Text text) b = IsText text × (Only bom ⋅ Only text) b

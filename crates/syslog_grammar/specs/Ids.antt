@@ -1,4 +1,4 @@
--- Ids that stand twice in the structured data.
+-- Ids that are repeated in the structured data.
 use Rattle.std.specs.Prelude.{◌≡◌, ℕ, List, [], ◌∷◌, ◌++◌, ◌⊎◌, Option, Some, None, ⊤, map}
 use Rattle.octet_language.specs.Language.{Only, ◌⋅◌, Each}
 use Rattle.syslog_value.specs.Order.{OctetsBelow}

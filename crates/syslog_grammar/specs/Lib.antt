@@ -10,6 +10,7 @@ pub mod Fields
 pub mod Faults
 pub mod Parsing
 pub mod Ids
+pub mod ElementOrders
 pub mod ViewParts
 pub mod Lanes
 pub mod Verbatim
@@ -21,3 +22,4 @@ pub mod Appending
 pub mod Escapes
 pub mod DecodeFaults
 pub mod Reescaped
+pub mod Unsorted

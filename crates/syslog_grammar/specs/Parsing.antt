@@ -30,7 +30,7 @@ IsSyntaxAt b remaining (Syntax f at) = (at ≡ length b - remaining) × IsCounte
 IsSyntaxAt b remaining (InstantRange at) = ⊥
 IsSyntaxAt b remaining (RepeatedId at) = ⊥
 
--- a fault of the syntax behind the structured data: in the message where a space is next
+-- a fault of the syntax after the structured data: in the message where a space is next
 abbrev pub IsFaultBehind : List ℕ → List ℕ → ℕ → Fault → Type 0
 IsFaultBehind b rest remaining (Syntax f at) = (at ≡ length b - remaining)
     × (((f ≡ field.Message) × (m : List ℕ) × (rest ≡ 32 ∷ m)) ⊎ (IfFirst (λ x. x ≢ 32) rest × IsCounted (take (length b - remaining) b) f))

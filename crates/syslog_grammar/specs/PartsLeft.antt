@@ -17,12 +17,12 @@ elements_left s = s.rest.now
 abbrev pub params_left : Params → List ℕ
 params_left s = s.rest.now
 
--- the element in front is given, or none comes first
+-- the first element is given, or no element comes first
 abbrev pub GivesElement : Elements → Option ElementView → Elements → Type 0
 GivesElement old None new = NoPrefix (AnyOf SpannedElement) (elements_left old) × (new ≡ old)
 GivesElement old (Some v) new = Follows (SpannedElement (element_span v)) (elements_left old) (elements_left new)
 
--- the parameter in front is given, or none comes first
+-- the first parameter is given, or no parameter comes first
 abbrev pub GivesParam : Params → Option ParamView → Params → Type 0
 GivesParam old None new = NoPrefix (AnyOf SpannedParam) (params_left old) × (new ≡ old)
 GivesParam old (Some v) new = Follows (SpannedParam (param_span v)) (params_left old) (params_left new)

@@ -55,7 +55,7 @@ ZoneText offset b = ((offset ≡ pos 0) × (b ≡ 90 ∷ []))
     ⊎ ((minutes : ℕ) × (((offset ≡ pos minutes) × (Only (43 ∷ []) ⋅ OffsetText minutes) b)
     ⊎ ((offset ≡ neg_ℤ (pos minutes)) × (Only (45 ∷ []) ⋅ OffsetText minutes) b)))
 
--- TIMESTAMP, but for nil
+-- TIMESTAMP, but for NILVALUE
 abbrev pub TimeText : CivilTime → Language
 TimeText t =
     DateText t.civil.year t.civil.month t.civil.day ⋅ Only (84 ∷ []) ⋅ ClockText t.civil.hour t.civil.minute t.civil.second

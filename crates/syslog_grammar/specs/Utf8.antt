@@ -14,11 +14,11 @@ from_to a b = record { low = a; high = b }
 abbrev pub Octet : Range → Language
 Octet r b = (x : ℕ) × (b ≡ x ∷ []) × (r.low ≤ x) × (x ≤ r.high)
 
--- UTF8-tail: an octet behind the first, and the second, of a character
+-- UTF8-tail: an octet after the first, and the second, of a character
 abbrev pub tail : Range
 tail = from_to 0x80 0xbf
 
--- a row of the table: the range of the first octet, and those of the octets behind it
+-- a row of the table: the range of the first octet, and those of the octets after it
 pub record Row : Type 0 where
   pub first : Range
   pub behind : List Range
@@ -53,6 +53,6 @@ IsCharacter = InRow table
 abbrev pub Character : List ℕ → Language
 Character c b = IsCharacter c × (b ≡ c)
 
--- UTF8-octets: characters one behind the other
+-- UTF8-octets: characters one after the other
 abbrev pub IsText : Language
 IsText = AnyOf (Each Character)

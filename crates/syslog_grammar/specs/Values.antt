@@ -12,11 +12,11 @@ IsSpecial x = (x ≡ 34) ⊎ ((x ≡ 92) ⊎ (x ≡ 93))
 abbrev pub IsPlain : Language
 IsPlain c = IsCharacter c × (c ≢ 34 ∷ []) × (c ≢ 92 ∷ []) × (c ≢ 93 ∷ [])
 
--- a special character behind a backslash
+-- a special character after a backslash
 abbrev pub IsEscape : Language
 IsEscape b = (x : ℕ) × IsSpecial x × (b ≡ 92 ∷ x ∷ [])
 
--- a piece of a spelling by its meaning: a special character behind a backslash means itself,
+-- a piece of a spelling by its meaning: a special character after a backslash means itself,
 -- a backslash before any other character means both, and any other character means itself
 abbrev pub Piece : List ℕ → Language
 Piece m b = ((x : ℕ) × IsSpecial x × (m ≡ x ∷ []) × (b ≡ 92 ∷ x ∷ []))

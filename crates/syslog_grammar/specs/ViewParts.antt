@@ -54,12 +54,12 @@ pub record HasParts (p : Parts CivilTime) (s : ViewParts) : Type 0 where
 abbrev pub IsViewOf : List ℕ → ViewParts → Type 0
 IsViewOf b s = (p : Parts CivilTime) × SyslogMsg p b × IsInRange p × AreDistinct p.elements × HasParts p s
 
--- the octets of a message, without the mark
+-- the octets of a message, without the BOM
 abbrev pub octets_of : MessageParts → List ℕ
 octets_of (AnyOctets octets) = octets
 octets_of (Utf8Text text) = text
 
--- the mark stands before the message
+-- the message starts with the BOM
 abbrev pub HasBom : MessageParts → Type 0
 HasBom (AnyOctets octets) = ⊥
 HasBom (Utf8Text text) = ⊤

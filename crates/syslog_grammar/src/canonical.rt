@@ -65,7 +65,7 @@ fn put_word(word: Option<&[u8]>, out: &mut Vec<u8>) -> Result<(), AllocError>
     }
 }
 
-/// Appends the header and the space behind it.
+/// Appends the header and the space that follows it.
 pub fn put_header(fields: &HeaderValues<'_>, out: &mut Vec<u8>) -> Result<(), AllocError>
     ensures { Puts (HeaderForm fields.now.priority fields.now.instant
         (option_map (λ s. s.now) fields.now.hostname) (option_map (λ s. s.now) fields.now.app_name)

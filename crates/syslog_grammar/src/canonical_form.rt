@@ -1,24 +1,26 @@
 //! Whether octets are the canonical form of a record.
 
-ghost use Rattle.std.specs.Prelude.{◌≡◌, ◌↔◌, ◌∷◌, [], ℕ, ℤ, List, IsTrue, length, option_map};
-ghost use Rattle.octet_language.specs.Language.{◌⋅◌, Only};
+ghost use Rattle.std.specs.Prelude.{◌≡◌, ◌↔◌, ◌∷◌, [], ℕ, ℤ, List, IsTrue, MatchOption, length, option_map};
+ghost use Rattle.octet_language.specs.Language.{◌⋅◌, AnyOf, Only};
 ghost use Rattle.octet_language.specs.Reading.{Follows};
 ghost use Rattle.syslog_value.specs.Parts.{IsRecord, Parts};
 ghost use Rattle.syslog_grammar.specs.Canonical.{Canonical, TimeForm, message_form};
 ghost use Rattle.syslog_grammar.specs.Dates.{time_of};
 ghost use Rattle.syslog_grammar.specs.Grammar.{Nilable, Spaced, MessagePart};
 ghost use Rattle.syslog_grammar.specs.Time.{TimeText, instant};
+ghost use Rattle.syslog_grammar.specs.Unsorted.{HoldsForm, IsFormOf, IsUnsortedRecord};
 ghost use Rattle.syslog_grammar.specs.Views.{message_parts};
 
 use crate::civil_text::civil_text;
 use crate::message::MessageView;
 use crate::reading::next;
-use crate::structured_data_form::has_structured_data_form;
+use crate::repeated::first_repeated;
+use crate::structured_data_form::{ElementOrder, has_structured_data_form};
 use crate::syntax::parse;
 use crate::timestamp::Timestamp;
 use crate::whole::{OutOfRange, micros_of};
 
-/// Whether the timestamp that the octets begin with stands in its canonical form.
+/// Whether the timestamp that the octets begin with is in its canonical form.
 fn has_time_form(time: Option<Timestamp>, octets: &[u8]) -> bool
     requires { (rest : List ℕ)
         × Follows (Spaced (Nilable TimeText (option_map time_of time))) octets.now rest }
@@ -52,28 +54,51 @@ fn has_message_form(message: &MessageView<'_>, count: usize) -> bool
     message.has_mark || !message.octets.is_empty() || count == 0
 }
 
+/// The structured data of octets that are a canonical form, with the elements in this order. Ids
+/// may repeat where the order is any.
+fn canonical_structured_data(octets: &[u8], order: ElementOrder) -> Option<&[u8]>
+    ensures { MatchOption result (¬ (AnyOf (λ r b. IsFormOf order b r) octets.now))
+        (λ text. HoldsForm order octets.now text.now) }
+{
+    let Ok(parsed) = parse(octets) else {
+        return None;
+    };
+    let fields = parsed.fields;
+    if let Err(OutOfRange) = micros_of(fields.time) {
+        return None;
+    }
+    let (_, time) = octets.split_at(octets.len() - fields.time_remaining);
+    if !has_time_form(fields.time, time) {
+        return None;
+    }
+    if !has_structured_data_form(parsed.structured_data, order) {
+        return None;
+    }
+    let count = parsed.structured_data_remaining - parsed.structured_data.len();
+    if !has_message_form(&parsed.message, count) {
+        return None;
+    }
+    Some(parsed.structured_data)
+}
+
 /// Whether the octets are the canonical form of some record.
 ///
 /// It takes no memory, and reads each octet a few times at most.
 pub fn is_canon(octets: &[u8]) -> bool
     ensures { IsTrue result ↔ ((r : Parts ℤ) × IsRecord r × Canonical r octets.now) }
 {
-    let Ok(spelling) = parse(octets) else {
-        return false;
-    };
-    let fields = spelling.fields;
-    if let Err(OutOfRange) = micros_of(fields.time) {
-        return false;
+    canonical_structured_data(octets, ElementOrder::ById).is_some()
+}
+
+/// Whether the octets are the canonical form of some record whose elements are kept in the order of
+/// the octets: their ids are distinct, and need not ascend.
+///
+/// It takes no memory.
+pub fn is_canon_unsorted(octets: &[u8]) -> bool
+    ensures { IsTrue result ↔ ((r : Parts ℤ) × IsUnsortedRecord r × Canonical r octets.now) }
+{
+    match canonical_structured_data(octets, ElementOrder::AsGiven) {
+        None => false,
+        Some(structured_data) => first_repeated(structured_data).is_none(),
     }
-    let (_, time) = octets.split_at(octets.len() - fields.time_remaining);
-    if !has_time_form(fields.time, time) {
-        return false;
-    }
-    if !has_structured_data_form(spelling.structured_data) {
-        return false;
-    }
-    has_message_form(
-        &spelling.message,
-        spelling.structured_data_remaining - spelling.structured_data.len(),
-    )
 }

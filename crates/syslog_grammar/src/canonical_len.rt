@@ -48,7 +48,8 @@ fn word_len<const N: usize>(word: Option<&Word<N>>) -> usize {
     }
 }
 
-/// The octets of the canonical form, or up to 32 more where the timestamp is nil or PRI is short.
+/// The octets of the canonical form, or up to 32 more where the timestamp is NILVALUE or PRI is
+/// short.
 pub fn canonical_len(record: &Record) -> usize {
     FIXED
         .saturating_add(word_len(record.hostname()))

@@ -15,7 +15,7 @@ use crate::canonical::{
 use crate::message::MessageView;
 use crate::record_view::RecordView;
 use crate::reescaped::put_structured_data;
-use crate::structured_data_form::has_structured_data_form;
+use crate::structured_data_form::{ElementOrder, has_structured_data_form};
 use std::alloc::{AllocError, Global};
 
 /// Whether a message, where there is one, has one tail alone: an empty one may have a space or none.
@@ -36,8 +36,8 @@ fn copy_verbatim(view: &RecordView<'_>, out: &mut Vec<u8>) -> Result<(), AllocEr
     put(view.behind_time, out)
 }
 
-/// Appends the canonical octets of the record that a view shows, where its elements stand by id.
-/// Where they do not, the answer is false, and a part may have been appended.
+/// Appends the canonical octets of the record that a view shows, where its elements are sorted by
+/// id. Where they are not, the answer is false, and a part may have been appended.
 fn put_parts(view: &RecordView<'_>, out: &mut Vec<u8>) -> Result<bool, AllocError>
     ensures begun { Adds Anything out.old.items out.new.items }
     ensures ok { (b : List ℕ) → IsViewOf b (view_parts view.now)
@@ -61,8 +61,8 @@ fn put_parts(view: &RecordView<'_>, out: &mut Vec<u8>) -> Result<bool, AllocErro
     Ok(true)
 }
 
-/// Appends the canonical octets of the record that a view shows, where its elements stand by id: as
-/// they lie where that can be, else part by part.
+/// Appends the canonical octets of the record that a view shows, where its elements are sorted by
+/// id: as they lie where that can be, else part by part.
 fn put_ordered(view: &RecordView<'_>, out: &mut Vec<u8>) -> Result<bool, AllocError>
     ensures begun { Adds Anything out.old.items out.new.items }
     ensures ok { (b : List ℕ) → IsViewOf b (view_parts view.now)
@@ -70,7 +70,9 @@ fn put_ordered(view: &RecordView<'_>, out: &mut Vec<u8>) -> Result<bool, AllocEr
     ensures order { IfOk result (λ all. (IsTrue all → ⊥)
         → IsUnordered (view_parts view.now).elements) }
 {
-    if !has_one_message_form(&view.message) || !has_structured_data_form(view.structured_data) {
+    if !has_one_message_form(&view.message)
+        || !has_structured_data_form(view.structured_data, ElementOrder::ById)
+    {
         return put_parts(view, out);
     }
     copy_verbatim(view, out)?;

@@ -32,14 +32,14 @@ fn octet(low: u8, high: u8, octets: &[u8]) -> Result<&[u8], Stop>
     Ok(rest)
 }
 
-/// Reads what is behind the first octet of a character of two octets.
+/// Reads what follows the first octet of a character of two octets.
 fn one_behind(octets: &[u8]) -> Result<&[u8], Stop>
     ensures { Passes remaining_of (Each Octet (tail ∷ [])) (λ x. x.now) octets.now result }
 {
     octet(0x80, 0xbf, octets)
 }
 
-/// Reads what is behind the first octet of a character of three octets.
+/// Reads what follows the first octet of a character of three octets.
 fn two_behind(low: u8, high: u8, octets: &[u8]) -> Result<&[u8], Stop>
     requires { low ≤ high }
     ensures { Passes remaining_of (Each Octet (from_to low high ∷ tail ∷ []))
@@ -49,7 +49,7 @@ fn two_behind(low: u8, high: u8, octets: &[u8]) -> Result<&[u8], Stop>
     one_behind(rest)
 }
 
-/// Reads what is behind the first octet of a character of four octets.
+/// Reads what follows the first octet of a character of four octets.
 fn three_behind(low: u8, high: u8, octets: &[u8]) -> Result<&[u8], Stop>
     requires { low ≤ high }
     ensures { Passes remaining_of (Each Octet (from_to low high ∷ tail ∷ tail ∷ []))
@@ -59,7 +59,7 @@ fn three_behind(low: u8, high: u8, octets: &[u8]) -> Result<&[u8], Stop>
     two_behind(0x80, 0xbf, rest)
 }
 
-/// Reads one character, and gives what is behind it.
+/// Reads one character, and gives what follows it.
 #[inline]
 pub fn behind_character(octets: &[u8]) -> Result<&[u8], Stop>
     ensures { Passes remaining_of IsCharacter (λ x. x.now) octets.now result }

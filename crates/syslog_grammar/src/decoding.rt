@@ -23,7 +23,7 @@ pub enum DecodeFault {
 
 /// The record that all of the octets spell, with memory of its own (RFC 5424, section 6).
 ///
-/// A fault of the octets comes before out of memory.
+/// A fault of the octets is reported before a lack of memory.
 pub fn decode(alloc: Global, octets: &[u8]) -> Result<Record, DecodeFault>
     ensures { MatchResult result (λ r. WellFormed r octets.now) (IsDecodeFault octets.now) }
 {

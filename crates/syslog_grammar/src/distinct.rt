@@ -33,7 +33,7 @@ fn fill<'a>(elements: &'a [u8], offsets: &mut [&'a [u8]]) -> Option<usize>
     Some(count)
 }
 
-/// The first id, and those behind it.
+/// The first id, and those after it.
 #[inline(always)]
 fn next_id<'a, 'b>(ids: &'b [&'a [u8]]) -> Option<(&'a [u8], &'b [&'a [u8]])>
     ensures next { MatchOption result (ids.now ≡ [])

@@ -58,7 +58,7 @@ impl<'a> ElementView<'a> {
     }
 }
 
-/// Reads `="`, a value and the quotation mark behind it.
+/// Reads `="`, a value and the quotation mark that follows it.
 #[inline(always)]
 fn assigned(octets: &[u8]) -> Result<(&[u8], &[u8]), Stop>
     ensures { Reads remaining_of SpannedValue (λ x. (x.0.now, x.1.now)) octets.now result }

@@ -2,7 +2,7 @@
 
 use thiserror::Error;
 
-/// The field of a record in which a fault of the syntax stands.
+/// The field of a record in which a fault of the syntax lies.
 #[derive(Clone, Copy, Debug, PartialEq, Eq)]
 pub enum Field {
     Priority,
@@ -16,7 +16,7 @@ pub enum Field {
     Message,
 }
 
-/// Why octets are no well-formed record. An offset counts octets from the prefix of the record.
+/// Why octets are no well-formed record. An offset counts octets from the start of the record.
 #[derive(Clone, Copy, Debug, PartialEq, Eq, Error)]
 pub enum Fault {
     /// The octets are outside the grammar: some record begins with those before the offset, and
@@ -27,7 +27,7 @@ pub enum Fault {
     /// timestamp.
     #[error("the instant at octet {offset} is out of range")]
     InstantRange { offset: usize },
-    /// An id of the structured data stands twice. The offset is that of the first id that repeats
+    /// An id of the structured data is repeated. The offset is that of the first id that repeats
     /// an earlier one.
     #[error("the id at octet {offset} stands there a second time")]
     RepeatedId { offset: usize },

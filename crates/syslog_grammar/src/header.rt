@@ -26,7 +26,7 @@ pub struct HeaderFields<'a> {
     pub behind_time: &'a [u8],
 }
 
-/// Reads the header and the space behind it.
+/// Reads the header and the space that follows it.
 #[inline(always)]
 pub fn fields(octets: &[u8]) -> Result<(HeaderFields<'_>, &[u8]), Stop>
     ensures reads { Reads remaining_of HeaderText (λ x. (header_parts x.0, x.1.now))

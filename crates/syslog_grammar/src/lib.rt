@@ -37,7 +37,7 @@ mod whole;
 mod word;
 
 pub use canonical::canon;
-pub use canonical_form::is_canon;
+pub use canonical_form::{is_canon, is_canon_unsorted};
 pub use canonical_view::put_canonical;
 pub use civil_text::canonical_timestamp;
 pub use decoding::{DecodeFault, decode};
@@ -52,8 +52,3 @@ pub use record_view::RecordView;
 pub use same::same_value;
 pub use text::utf8;
 pub use whole::view;
-
-#[cfg(test)]
-mod canonical_tests;
-#[cfg(test)]
-mod tests;

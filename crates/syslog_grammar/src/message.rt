@@ -1,4 +1,4 @@
-//! The message behind the structured data (RFC 5424, 6.4).
+//! The message, which follows the structured data (RFC 5424, 6.4).
 
 ghost use Rattle.std.specs.Prelude.{◌≡◌, ◌≢◌, ◌++◌, MatchOption, MatchResult, take};
 ghost use Rattle.octet_language.specs.Language.{AnyOf};
@@ -17,7 +17,7 @@ pub struct MessageView<'a> {
     pub has_mark: bool,
 }
 
-/// What is behind the BOM, where the octets start with it.
+/// What follows the BOM, where the octets start with it.
 #[inline(always)]
 fn after_bom(octets: &[u8]) -> Option<&[u8]>
     ensures { MatchOption result (take 3 octets.now ≢ bom)

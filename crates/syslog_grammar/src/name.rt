@@ -20,7 +20,7 @@ fn is_name_octet(octet: u8) -> bool
     octet >= 33 && octet <= 126 && octet != b'=' && octet != b']' && octet != b'"'
 }
 
-/// How many octets in front may stand in a name, up to the most that a name has.
+/// How many octets at the start may be part of a name, up to the most that a name has.
 #[inline(always)]
 fn name_len(octets: &[u8]) -> usize
     ensures most { result ≤ 32 }
@@ -37,7 +37,7 @@ fn name_len(octets: &[u8]) -> usize
     most
 }
 
-/// Whether the first octet, if there is one, may stand in a name.
+/// Whether the first octet, if there is one, may be part of a name.
 #[inline(always)]
 fn goes_on(octets: &[u8]) -> bool
     ensures goes { IsTrue result → IfFirst IsNameOctet octets.now × (0 < length octets.now) }

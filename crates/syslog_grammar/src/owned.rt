@@ -112,7 +112,7 @@ fn to_elements(alloc: Global, octets: &[u8]) -> Result<Vec<Element>, AllocError>
     Ok(elements)
 }
 
-/// The message of a text behind the mark, or of any octets.
+/// The message of a text after the BOM, or of any octets.
 fn to_message(alloc: Global, view: &MessageView<'_>) -> Result<Message, AllocError>
     ensures { IfOk result (λ message. message ≡ message_parts view.now) }
 {
@@ -129,9 +129,9 @@ fn to_message(alloc: Global, view: &MessageView<'_>) -> Result<Message, AllocErr
 }
 
 impl<'a> RecordView<'a> {
-    /// The record that the octets spell, with memory of its own. Its elements stand by id.
+    /// The record that the octets spell, with memory of its own. Its elements are sorted by id.
     ///
-    /// A view of well-formed octets is refused for want of memory alone.
+    /// For a view of well-formed octets it fails only when out of memory.
     pub fn to_record(&self, alloc: Global) -> Result<Record, AllocError>
         ensures { IfOk result (λ r. (b : List ℕ) → IsViewOf b (view_parts self.now) → WellFormed r b) }
     {

@@ -23,7 +23,7 @@ fn goes_on(value: u8, octet: u8) -> bool
     value > 0 && value <= 19 && is_digit(octet) && 10 * value + (octet - b'0') <= 191
 }
 
-/// Reads a number and the bracket behind it.
+/// Reads a number and the bracket that follows it.
 fn number(octets: &[u8]) -> Result<(u8, &[u8]), Stop>
     ensures { Reads remaining_of (λ v. Number v ⋅ Only (62 ∷ [])) (λ x. (x.0, x.1.now))
         octets.now result }
@@ -66,7 +66,7 @@ pub fn priority(octets: &[u8]) -> Result<(u8, &[u8]), Stop>
     number(behind)
 }
 
-/// Reads VERSION and the space behind it.
+/// Reads VERSION and the space that follows it.
 #[inline(always)]
 pub fn version(octets: &[u8]) -> Result<&[u8], Stop>
     ensures { Passes remaining_of (Spaced Version) (λ x. x.now) octets.now result }

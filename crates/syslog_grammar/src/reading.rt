@@ -1,4 +1,4 @@
-//! What every reader stands on: where it stops, the next octet, a mark.
+//! What every reader builds on: where it stops, the next octet, an expected octet.
 
 ghost use Rattle.std.specs.Prelude.{◌≡◌, ◌∷◌, [], MatchOption};
 ghost use Rattle.octet_language.specs.Language.{Only};
@@ -12,7 +12,7 @@ pub struct Stop {
     pub remaining: usize,
 }
 
-/// The first octet, and those behind it.
+/// The first octet, and those after it.
 #[inline(always)]
 pub fn next(octets: &[u8]) -> Option<(u8, &[u8])>
     ensures { MatchOption result (octets.now ≡ []) (λ x. octets.now ≡ x.0 ∷ x.1.now) }
@@ -23,7 +23,7 @@ pub fn next(octets: &[u8]) -> Option<(u8, &[u8])>
     }
 }
 
-/// Reads one octet that has to stand there.
+/// Reads one octet, which has to be the expected one.
 #[inline(always)]
 pub fn expect(expected: u8, octets: &[u8]) -> Result<&[u8], Stop>
     ensures { Passes remaining_of (Only (expected ∷ [])) (λ x. x.now) octets.now result }

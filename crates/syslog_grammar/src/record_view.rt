@@ -89,7 +89,7 @@ impl<'a> RecordView<'a> {
         self.message.octets
     }
 
-    /// Whether the BOM stands before the message, which then is a text in UTF-8.
+    /// Whether the message starts with the BOM, and so is a text in UTF-8.
     pub fn has_mark(&self) -> bool
         ensures { IsTrue result ↔ HasBom (view_parts self.now).message }
     {

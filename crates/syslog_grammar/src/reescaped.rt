@@ -9,7 +9,7 @@ use crate::appending::put;
 use crate::element::{ElementView, ParamView, element, param};
 use crate::reading::next;
 use crate::repeated::is_above;
-use crate::structured_data_form::has_structured_data_form;
+use crate::structured_data_form::{ElementOrder, has_structured_data_form};
 use crate::unescape::split_meaning;
 use memchr::memchr;
 use std::alloc::AllocError;
@@ -87,12 +87,12 @@ fn put_ascending(elements: &[u8], out: &mut Vec<u8>) -> Result<bool, AllocError>
     Ok(true)
 }
 
-/// Appends structured data whose elements stand by id. Where they do not, the answer is false, and
-/// a part of them may have been appended.
+/// Appends structured data whose elements are sorted by id. Where they are not, the answer is false,
+/// and a part of them may have been appended.
 pub fn put_structured_data(structured_data: &[u8], out: &mut Vec<u8>) -> Result<bool, AllocError>
     ensures { PutsUnless (StructuredDataOf structured_data.now) (IsUnordered structured_data.now) out.old.items out.new.items result }
 {
-    if has_structured_data_form(structured_data) {
+    if has_structured_data_form(structured_data, ElementOrder::ById) {
         put(structured_data, out)?;
         return Ok(true);
     }

@@ -46,7 +46,7 @@ pub fn is_above(id: &[u8], greatest: Option<&[u8]>) -> bool
     }
 }
 
-/// What is behind the elements in front whose ids rise.
+/// What follows the elements at the start whose ids ascend.
 fn behind_rising(structured_data: &[u8]) -> &[u8]
     requires { AnyOf StructuredDataText structured_data.now }
     ensures { Known structured_data.now result.now }
@@ -70,7 +70,7 @@ fn behind_rising(structured_data: &[u8]) -> &[u8]
     rest
 }
 
-/// What is behind so many elements.
+/// What follows so many elements.
 fn behind_count(elements: &[u8], count: usize) -> &[u8]
     ensures { Skips elements.now result.now }
 {
@@ -102,7 +102,7 @@ fn count(elements: &[u8]) -> usize {
 /// So many ids are sought one by one.
 const FEW: usize = 16;
 
-/// What is behind elements in front whose ids differ: all but a few of the longest such front,
+/// What follows elements at the start whose ids differ: all but a few of the longest such prefix,
 /// where it has at most 16,384 elements.
 fn behind_distinct(structured_data: &[u8]) -> &[u8]
     requires { AnyOf StructuredDataText structured_data.now }
@@ -132,7 +132,7 @@ fn behind_distinct(structured_data: &[u8]) -> &[u8]
 
 /// The offset of the first id that repeats an earlier one.
 ///
-/// Ids that rise are distinct in one pass. Others are sorted on the stack, in prefixes that are
+/// Ids that ascend are distinct, which takes one pass. Others are sorted on the stack, in prefixes that are
 /// halved until the repeated id is near; from there on each id is sought among all before it.
 pub fn first_repeated(structured_data: &[u8]) -> Option<usize>
     requires { AnyOf StructuredDataText structured_data.now }

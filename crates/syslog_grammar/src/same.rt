@@ -6,7 +6,7 @@ ghost use Rattle.syslog_grammar.specs.Values.{Spells};
 use crate::reading::next;
 use crate::value::piece;
 
-/// What is behind a prefix, where the octets have it.
+/// What follows a prefix, where the octets start with it.
 fn behind_prefix<'a>(prefix: &[u8], octets: &'a [u8]) -> Option<&'a [u8]>
     ensures { MatchOption result ((t : List ℕ) → octets.now ≢ prefix.now ++ t)
         (λ x. octets.now ≡ prefix.now ++ x.now) }

@@ -1,10 +1,11 @@
-//! Whether structured data stands in its canonical form.
+//! Whether structured data is in its canonical form.
 
-ghost use Rattle.std.specs.Prelude.{◌≡◌, ◌↔◌, ℕ, List, IsTrue};
+ghost use Rattle.std.specs.Prelude.{◌≡◌, ◌↔◌, ℕ, List, IsTrue, option_map};
 ghost use Rattle.std.specs.List.{flat_map};
 ghost use Rattle.octet_language.specs.Language.{Each};
-ghost use Rattle.syslog_value.specs.Parts.{ElementParts, IsById, ParamParts};
+ghost use Rattle.syslog_value.specs.Parts.{ElementParts, ParamParts};
 ghost use Rattle.syslog_grammar.specs.Canonical.{structured_data_form, element_form, escaped, param_form};
+ghost use Rattle.syslog_grammar.specs.ElementOrders.{IsInOrder, MayFollow};
 ghost use Rattle.syslog_grammar.specs.Grammar.{StructuredDataText, Element, Param};
 ghost use Rattle.syslog_grammar.specs.Values.{Spells};
 
@@ -14,7 +15,7 @@ use crate::repeated::is_above;
 use crate::unescape::begins_special;
 use memchr::memchr;
 
-/// Whether a value is spelled as in a canonical record: each backslash stands before a quotation
+/// Whether a value is spelled as in a canonical record: each backslash is followed by a quotation
 /// mark, a backslash or a closing bracket.
 fn has_value_form(raw: &[u8]) -> bool
     ensures { (text : List ℕ) → Spells text raw.now → (IsTrue result ↔ (raw.now ≡ escaped text)) }
@@ -32,7 +33,7 @@ fn has_value_form(raw: &[u8]) -> bool
     true
 }
 
-/// Whether parameters stand in their canonical form.
+/// Whether parameters are in their canonical form.
 fn has_params_form(params: &[u8]) -> bool
     ensures { (ps : List ParamParts) → Each Param ps params.now
         → (IsTrue result ↔ (params.now ≡ flat_map param_form ps)) }
@@ -50,10 +51,28 @@ fn has_params_form(params: &[u8]) -> bool
     true
 }
 
-/// Whether elements stand in their canonical form, by id.
-fn has_elements_form(elements: &[u8]) -> bool
+/// The order that is asked of elements.
+#[derive(Clone, Copy)]
+pub enum ElementOrder {
+    ById,
+    /// Any order.
+    AsGiven,
+}
+
+/// Whether an element with this id may follow those whose greatest id is given.
+fn may_follow(order: ElementOrder, id: &[u8], greatest: Option<&[u8]>) -> bool
+    ensures { IsTrue result ↔ MayFollow order id.now (option_map (λ s. s.now) greatest.entry) }
+{
+    match order {
+        ElementOrder::ById => is_above(id, greatest),
+        ElementOrder::AsGiven => true,
+    }
+}
+
+/// Whether elements are in their canonical form, and in this order.
+fn has_elements_form(elements: &[u8], order: ElementOrder) -> bool
     ensures { (es : List ElementParts) → Each Element es elements.now
-        → (IsTrue result ↔ ((elements.now ≡ flat_map element_form es) × IsById es)) }
+        → (IsTrue result ↔ ((elements.now ≡ flat_map element_form es) × IsInOrder order es)) }
 {
     let mut rest = elements;
     let mut greatest: Option<&[u8]> = None;
@@ -62,7 +81,7 @@ fn has_elements_form(elements: &[u8]) -> bool
             return false;
         };
         let id = found.id();
-        if !is_above(id, greatest) {
+        if !may_follow(order, id, greatest) {
             return false;
         }
         if !has_params_form(found.params_text()) {
@@ -74,11 +93,12 @@ fn has_elements_form(elements: &[u8]) -> bool
     true
 }
 
-/// Whether structured data stands in its canonical form: its elements by id, and each backslash in
-/// a value before a quotation mark, a backslash or a closing bracket.
-pub fn has_structured_data_form(structured_data: &[u8]) -> bool
+/// Whether structured data is in its canonical form: its elements in this order, and each backslash
+/// in a value followed by a quotation mark, a backslash or a closing bracket.
+pub fn has_structured_data_form(structured_data: &[u8], order: ElementOrder) -> bool
     ensures { (es : List ElementParts) → StructuredDataText es structured_data.now
-        → (IsTrue result ↔ ((structured_data.now ≡ structured_data_form es) × IsById es)) }
+        → (IsTrue result
+        ↔ ((structured_data.now ≡ structured_data_form es) × IsInOrder order es)) }
 {
     let Some((first, _after)) = next(structured_data) else {
         return true;
@@ -86,5 +106,5 @@ pub fn has_structured_data_form(structured_data: &[u8]) -> bool
     if first != b'[' {
         return true;
     }
-    has_elements_form(structured_data)
+    has_elements_form(structured_data, order)
 }

@@ -55,7 +55,7 @@ fn fault_before(octets: &[u8], remaining: usize) -> Fault
     }
 }
 
-/// The fault behind the structured data: a space is missing there, or the message is faulty.
+/// The fault after the structured data: a space is missing there, or the message is faulty.
 #[cold]
 fn fault_behind(octets: &[u8], rest: &[u8], remaining: usize) -> Fault
     ensures { IsFaultBehind octets.now rest.now remaining result }

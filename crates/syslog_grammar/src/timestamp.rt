@@ -168,7 +168,7 @@ fn digits_len(octets: &[u8]) -> usize
     most
 }
 
-/// The digit at an offset behind the point, or a zero on the right.
+/// The digit at an offset after the point, or a zero on the right.
 #[inline(always)]
 fn digit_at(digits: &[u8], offset: usize) -> u32
     requires { AllByRecursion IsDigit digits.now }
@@ -182,7 +182,7 @@ fn digit_at(digits: &[u8], offset: usize) -> u32
     }
 }
 
-/// The microseconds that digits behind the point stand for.
+/// The microseconds that the digits after the point mean.
 #[inline(always)]
 fn micros(digits: &[u8]) -> u32
     requires most { length digits.now ≤ 6 }
@@ -207,7 +207,7 @@ fn goes_on(octets: &[u8]) -> bool
     }
 }
 
-/// Reads the digits behind the point, and leaves what ends them.
+/// Reads the digits after the point, and leaves what ends them.
 #[inline(always)]
 fn decimals(octets: &[u8]) -> Result<(u32, &[u8]), Stop>
     ensures { MatchResult result
@@ -310,7 +310,7 @@ fn time(octets: &[u8]) -> Result<(Timestamp, &[u8]), Stop>
     ))
 }
 
-/// Reads a time, or NILVALUE, and the space behind it.
+/// Reads a time, or NILVALUE, and the space that follows it.
 #[inline(always)]
 pub fn nilable_time(octets: &[u8]) -> Result<(Option<Timestamp>, &[u8]), Stop>
     ensures { Reads remaining_of (λ t. Spaced (Nilable TimeText t))

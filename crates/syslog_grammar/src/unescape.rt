@@ -9,7 +9,7 @@ use crate::appending::put;
 use memchr::memchr;
 use std::alloc::{AllocError, Global};
 
-/// Whether a quotation mark, a backslash or a closing bracket is in front.
+/// Whether a quotation mark, a backslash or a closing bracket comes first.
 pub fn begins_special(octets: &[u8]) -> bool
     ensures special { IsTrue result → BeginsSpecial octets.now }
     ensures other { (IsTrue result → ⊥) → IfFirst (λ x. ¬ (IsSpecial x)) octets.now }
@@ -20,7 +20,7 @@ pub fn begins_special(octets: &[u8]) -> bool
     }
 }
 
-/// The octet that a backslash with those behind it means, and what is left.
+/// The octet that a backslash and what follows it mean, and what is left.
 pub fn split_meaning(octets: &[u8]) -> (&[u8], &[u8])
     requires { (behind : List ℕ) × (octets.now ≡ 92 ∷ behind) }
     ensures { MeansFirst octets.now result.0.now result.1.now }

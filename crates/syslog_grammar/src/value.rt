@@ -45,7 +45,7 @@ fn is_plain(octet: u8) -> bool
     octet < 0x80 && octet != b'"' && octet != b'\\' && octet != b']'
 }
 
-/// How many octets in front are pieces of a value that mean themselves.
+/// How many octets at the start are pieces of a value that mean themselves.
 #[inline(always)]
 fn plain_len(octets: &[u8]) -> usize
     ensures within { result ≤ length octets.now }
@@ -59,7 +59,7 @@ fn plain_len(octets: &[u8]) -> usize
     octets.len()
 }
 
-/// What is behind the octets in front that mean themselves.
+/// What follows the octets at the start that mean themselves.
 #[inline(always)]
 fn behind_plain(octets: &[u8]) -> &[u8]
     ensures { PassesPlain octets.now result.now }
@@ -96,7 +96,7 @@ pub fn value(octets: &[u8]) -> Result<(&[u8], &[u8]), Stop>
     Ok((raw, rest))
 }
 
-/// Whether a piece is a special character behind a backslash.
+/// Whether a piece is a special character after a backslash.
 #[inline(always)]
 fn is_escape(piece: &[u8]) -> bool
     ensures escape { IsTrue result → IsEscape piece.now }

@@ -32,8 +32,8 @@ pub fn micros_of(time: Option<Timestamp>) -> Result<Option<i64>, OutOfRange>
 
 /// Reads a record from all of the octets: a view exactly where they are a well-formed record.
 ///
-/// A fault of the syntax comes before an instant that is out of range, and that before an id that
-/// stands twice. It takes no memory.
+/// A fault of the syntax is reported before an instant that is out of range, and that before an id
+/// that is repeated. It takes no memory.
 pub fn view(octets: &[u8]) -> Result<RecordView<'_>, Fault>
     ensures some { OnOk result (AnyOf WellFormed octets.now) }
     ensures whole { MatchResult result (λ v. IsViewOf octets.now (view_parts v)) (FaultOf octets.now) }

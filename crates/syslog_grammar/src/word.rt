@@ -47,7 +47,7 @@ fn printable_blocks(most: usize, octets: &[u8]) -> usize
     at
 }
 
-/// How many octets in front are printable, up to a limit.
+/// How many octets at the start are printable, up to a limit.
 #[inline(always)]
 fn printable_len(limit: usize, octets: &[u8]) -> usize
     ensures most { result ≤ limit }
@@ -64,7 +64,7 @@ fn printable_len(limit: usize, octets: &[u8]) -> usize
     most
 }
 
-/// The printable octets in front, up to a limit, and what is behind them.
+/// The printable octets at the start, up to a limit, and what follows them.
 #[inline(always)]
 fn printable_prefix(limit: usize, octets: &[u8]) -> (&[u8], &[u8])
     ensures parts { octets.now ≡ result.0.now ++ result.1.now }
@@ -76,7 +76,7 @@ fn printable_prefix(limit: usize, octets: &[u8]) -> (&[u8], &[u8])
     octets.split_at(printable_len(limit, octets))
 }
 
-/// Reads a word of at most `N` octets, or NILVALUE, and the space behind it.
+/// Reads a word of at most `N` octets, or NILVALUE, and the space that follows it.
 #[inline(always)]
 pub fn word<const N: usize>(octets: &[u8]) -> Result<(Option<&[u8]>, &[u8]), Stop>
     requires { 0 < N }

@@ -1,0 +1,7 @@
+//! Tests of `syslog_grammar` by its public calls: tables of octets with what they mean.
+#![tactic(auto)]
+
+#[cfg(test)]
+mod canonical;
+#[cfg(test)]
+mod reading;
