@@ -2,3 +2,5 @@ pub mod Orders
 pub mod Reading
 pub mod Members
 pub mod Ascending
+pub mod Texts
+pub mod Fronts
