@@ -4,3 +4,6 @@ pub mod Members
 pub mod Ascending
 pub mod Texts
 pub mod Fronts
+pub mod FaultLaws
+pub mod Places
+pub mod Sets
