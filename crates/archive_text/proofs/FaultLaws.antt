@@ -1,5 +1,5 @@
 -- The fault of what is left of a text, at its position in the whole.
-use Rattle.std.proofs.Common.{◌≡◌, ℕ, ◌+◌, ◌<◌, ◌≤◌, ◌∙◌, refl, sym, ap, subst, arith, List, [], ◌∷◌, ◌++◌, length}
+use Rattle.std.proofs.Common.{ℕ, ◌+◌, refl, arith, List, [], ◌∷◌, ◌++◌, length}
 use Rattle.archive_text.specs.Entries.{Entry, IsAscending, IsBelow}
 use Rattle.archive_text.specs.Faults.{BeginsWithOctets, IsFaultBefore, IsFaultBehind}
 use Rattle.archive_text.specs.Text.{BeginsWithEntry, text_of}
