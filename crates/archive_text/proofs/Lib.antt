@@ -2,3 +2,8 @@ pub mod Orders
 pub mod Reading
 pub mod Members
 pub mod Ascending
+pub mod Texts
+pub mod Fronts
+pub mod FaultLaws
+pub mod Places
+pub mod Sets

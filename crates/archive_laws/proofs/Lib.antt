@@ -1,0 +1,5 @@
+pub mod Civils
+pub mod CanonicalOctets
+pub mod Collected
+pub mod Merged
+pub mod Limits

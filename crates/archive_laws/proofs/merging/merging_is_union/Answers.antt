@@ -1,0 +1,12 @@
+use Rattle.archive_laws.proofs.Collected.{union_text}
+use Rattle.archive_laws.proofs.Merged.{one_union, union_of_sets}
+use Rattle.archive_laws.proofs.merging.merging_is_union.Goals as goal
+
+pub returns-clause-some : goal.returns-clause-some
+returns-clause-some c = union_text
+
+pub returns-clause-one : goal.returns-clause-one
+returns-clause-one c = one_union
+
+pub returns-clause-sets : goal.returns-clause-sets
+returns-clause-sets c = union_of_sets
