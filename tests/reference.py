@@ -1,9 +1,8 @@
-"""A second reading of syslog records (RFC 5424, section 6) and of streams (RFC 6587, section 3.4), written apart
-from the program and beside it in tests only: what `check` tells of octets, their canonical form, and what `show`
-prints.
+"""A second reader of syslog records (RFC 5424, section 6) and of streams (RFC 6587, section 3.4), for tests only and
+independent of the program: what `check` says of octets, their canonical form, and what `show` prints.
 
-Whether octets are a record is told by one regular expression, with the calendar and UTF-8 of Python. The place
-of a fault is found by reading on as far as some record goes on.
+One regular expression decides whether octets are a record, with the calendar and UTF-8 of Python. The offset of a
+fault is the length of the longest prefix that some record begins with.
 """
 import re
 from datetime import date
@@ -77,7 +76,7 @@ def timestamp(micros):
 
 
 class Record:
-    """What stands in well-formed octets."""
+    """The fields of well-formed octets."""
 
     def __init__(self, priority, micros, words, elements, message):
         self.priority = priority
@@ -88,7 +87,7 @@ class Record:
 
 
 def raw_elements(data):
-    """The elements of structured data in the octets' order, with the place of each id in the data."""
+    """The elements of structured data in the order of the octets, with the offset of each id in the data."""
     return [(seen.group(1), seen.start(1), PARAMS_OF.findall(seen.group(2))) for seen in ELEMENTS_OF.finditer(data)]
 
 
@@ -97,7 +96,7 @@ def unescaped(raw):
 
 
 def parsed(octets):
-    """The match of the octets where they are of the grammar, else None."""
+    """The match of the octets where the grammar accepts them, else None."""
     seen = RECORD.fullmatch(octets)
     if not seen:
         return None
@@ -112,7 +111,7 @@ def parsed(octets):
 
 
 def repeated(seen):
-    """The place of the first id that repeats an earlier one, or None."""
+    """The offset of the first id that repeats an earlier one, or None."""
     known = set()
     for name, at, _ in raw_elements(seen.group(7)):
         if name in known:
@@ -122,7 +121,7 @@ def repeated(seen):
 
 
 def read(octets):
-    """The record, or the refusal as `check` prints it behind the number."""
+    """The record, or the refusal as `check` prints it after the number."""
     seen = parsed(octets)
     if not seen:
         return syntax(octets)
@@ -146,8 +145,8 @@ def canonical(record):
     data = b"".join(
         b"[%b%b]" % (name, b"".join(b' %b="%b"' % (param, re.sub(rb'(["\\\]])', rb"\\\1", value)) for param, value in params))
         for name, params in record.elements)
-    front = b"<%d>1 %b %b %b" % (record.priority, time, b" ".join(record.words), data or b"-")
-    return front + b" " + record.message if record.message else front
+    prefix = b"<%d>1 %b %b %b" % (record.priority, time, b" ".join(record.words), data or b"-")
+    return prefix + b" " + record.message if record.message else prefix
 
 
 def shown(octets):
@@ -169,24 +168,24 @@ def show(number, record):
     return b"".join(line + b"\n" for line in lines)
 
 
-# ---------------------------------------------------------------- the place of a fault
+# ---------------------------------------------------------------- the offset of a fault
 
 def syntax(octets):
     """The refusal of octets outside the grammar."""
-    field, place = fault(octets)
-    return f"syntax {field} {place}".encode()
+    field, offset = fault(octets)
+    return f"syntax {field} {offset}".encode()
 
 
-FRONT = re.compile(rb'(?:<(?:(?:1[0-8]\d|19[01]|[1-9]\d|\d)(?:>(?:1(?: )?)?)?)?)?')
+PREFIX = re.compile(rb'(?:<(?:(?:1[0-8]\d|19[01]|[1-9]\d|\d)(?:>(?:1(?: )?)?)?)?)?')
 
 
 def fault(octets):
-    """The field, and the length of the longest front that some record begins with."""
-    at = FRONT.match(octets).end()
-    front = octets[:at]
-    if not front.endswith(b" "):
-        return ("version" if b">" in front else "priority"), at
-    at, whole = (at + 1, True) if octets[at:at + 1] == b"-" else time_place(octets, at)
+    """The field, and the length of the longest prefix that some record begins with."""
+    at = PREFIX.match(octets).end()
+    prefix = octets[:at]
+    if not prefix.endswith(b" "):
+        return ("version" if b">" in prefix else "priority"), at
+    at, whole = (at + 1, True) if octets[at:at + 1] == b"-" else time_offset(octets, at)
     if not whole or octets[at:at + 1] != b" ":
         return "timestamp", at
     for field, most in zip(FIELDS[1:5], [255, 48, 128, 32]):
@@ -194,43 +193,43 @@ def fault(octets):
         at = re.compile(rb"[!-~]{0,%d}" % most).match(octets, begin).end()
         if at == begin or octets[at:at + 1] != b" ":
             return field, at
-    at, whole = (at + 2, True) if octets[at + 1:at + 2] == b"-" else elements_place(octets, at + 1)
+    at, whole = (at + 2, True) if octets[at + 1:at + 2] == b"-" else elements_offset(octets, at + 1)
     if not whole or octets[at:at + 1] != b" ":
         return "structured-data", at
     assert octets[at + 1:at + 4] == MARK
-    return "message", utf8_place(octets, at + 4)
+    return "message", utf8_offset(octets, at + 4)
 
 
-def days_first(front):
-    """The digits that can begin the day behind `YYYY-MM-`."""
-    return b"012" if front[5:7] == b"02" else b"0123"
+def days_first(prefix):
+    """The digits that can begin the day after `YYYY-MM-`."""
+    return b"012" if prefix[5:7] == b"02" else b"0123"
 
 
-def days_second(front):
-    last = days_of(int(front[:4]), int(front[5:7]))
-    return bytes(octet for octet in b"0123456789" if 1 <= int(front[8:9] + bytes([octet])) <= last)
+def days_second(prefix):
+    last = days_of(int(prefix[:4]), int(prefix[5:7]))
+    return bytes(octet for octet in b"0123456789" if 1 <= int(prefix[8:9] + bytes([octet])) <= last)
 
 
 DIGITS = b"0123456789"
-# what can stand at each place of `YYYY-MM-DDThh:mm:ss`: octets, or a function of the front before the place
-PLACES = [DIGITS, DIGITS, DIGITS, DIGITS, b"-", b"01", lambda front: b"123456789" if front[5:6] == b"0" else b"012", b"-",
-          days_first, days_second, b"T", b"012", lambda front: DIGITS if front[11:12] != b"2" else b"0123", b":", b"012345",
-          DIGITS, b":", b"012345", DIGITS]
-AHEAD = [b"012", lambda front: DIGITS if front[0:1] != b"2" else b"0123", b":", b"012345", DIGITS]
+# what can be at each offset of `YYYY-MM-DDThh:mm:ss`: octets, or a function of the octets before it
+CLOCK = [DIGITS, DIGITS, DIGITS, DIGITS, b"-", b"01", lambda prefix: b"123456789" if prefix[5:6] == b"0" else b"012", b"-",
+         days_first, days_second, b"T", b"012", lambda prefix: DIGITS if prefix[11:12] != b"2" else b"0123", b":", b"012345",
+         DIGITS, b":", b"012345", DIGITS]
+AHEAD = [b"012", lambda prefix: DIGITS if prefix[0:1] != b"2" else b"0123", b":", b"012345", DIGITS]
 
 
-def follow(places, octets, begin):
-    """How far the octets follow, and whether to the end."""
-    for n, place in enumerate(places):
-        can = place if isinstance(place, bytes) else place(octets[begin:begin + n])
+def follow(pattern, octets, begin):
+    """How far the octets follow the pattern, and whether to its end."""
+    for n, expected in enumerate(pattern):
+        can = expected if isinstance(expected, bytes) else expected(octets[begin:begin + n])
         octet = octets[begin + n:begin + n + 1]
         if not octet or octet not in can:
             return begin + n, False
-    return begin + len(places), True
+    return begin + len(pattern), True
 
 
-def time_place(octets, begin):
-    at, whole = follow(PLACES, octets, begin)
+def time_offset(octets, begin):
+    at, whole = follow(CLOCK, octets, begin)
     if not whole:
         return at, False
     if octets[at:at + 1] == b".":
@@ -244,41 +243,41 @@ def time_place(octets, begin):
     return follow(AHEAD, octets, at + 1) if sign in (b"+", b"-") else (at, False)
 
 
-NAME_FRONT = re.compile(rb'[!#-<>-\\^-~]{0,32}')
-VALUE_FRONT = re.compile(VALUE, re.DOTALL)
+NAME_PREFIX = re.compile(rb'[!#-<>-\\^-~]{0,32}')
+VALUE_PREFIX = re.compile(VALUE, re.DOTALL)
 
 
-def elements_place(octets, at):
-    """Elements as far as they go; at least one is wanted."""
+def elements_offset(octets, at):
+    """The offset up to which there are elements, and whether they are whole; at least one is required."""
     whole = False
     while octets[at:at + 1] == b"[":
-        at, whole = element_place(octets, at + 1)
+        at, whole = element_offset(octets, at + 1)
         if not whole:
             return at, False
     return at, whole
 
 
-def element_place(octets, begin):
-    at = NAME_FRONT.match(octets, begin).end()
+def element_offset(octets, begin):
+    at = NAME_PREFIX.match(octets, begin).end()
     if at == begin:
         return at, False
     while octets[at:at + 1] == b" ":
-        at, whole = param_place(octets, at + 1)
+        at, whole = param_offset(octets, at + 1)
         if not whole:
             return at, False
     return (at + 1, True) if octets[at:at + 1] == b"]" else (at, False)
 
 
-def param_place(octets, begin):
-    at = NAME_FRONT.match(octets, begin).end()
+def param_offset(octets, begin):
+    at = NAME_PREFIX.match(octets, begin).end()
     if at == begin:
         return at, False
     for octet in (b"=", b'"'):
         if octets[at:at + 1] != octet:
             return at, False
         at += 1
-    end = VALUE_FRONT.match(octets, at).end()
-    stop = utf8_place(octets, at)
+    end = VALUE_PREFIX.match(octets, at).end()
+    stop = utf8_offset(octets, at)
     if stop <= end and not is_utf8(octets[at:end]):
         return stop, False
     if octets[end:end + 1] == b'"':
@@ -286,7 +285,7 @@ def param_place(octets, begin):
     return (len(octets) if octets[end:] == b"\\" else end), False
 
 
-# RFC 3629, section 4: the first octets, and what can stand behind them
+# RFC 3629, section 4: the first octets, and what can follow them
 FOLLOWERS = ([(range(0xC2, 0xE0), [range(0x80, 0xC0)]), (range(0xE0, 0xE1), [range(0xA0, 0xC0), range(0x80, 0xC0)]),
               (range(0xED, 0xEE), [range(0x80, 0xA0), range(0x80, 0xC0)]),
               (range(0xE1, 0xF0), [range(0x80, 0xC0)] * 2),
@@ -295,8 +294,8 @@ FOLLOWERS = ([(range(0xC2, 0xE0), [range(0x80, 0xC0)]), (range(0xE0, 0xE1), [ran
               (range(0xF4, 0xF5), [range(0x80, 0x90)] + [range(0x80, 0xC0)] * 2)])
 
 
-def utf8_place(octets, begin):
-    """How far the octets go on as UTF-8."""
+def utf8_offset(octets, begin):
+    """The offset up to which the octets are UTF-8."""
     try:
         octets[begin:].decode()
         return len(octets)
@@ -314,16 +313,16 @@ def utf8_place(octets, begin):
 
 FRAME_MAX = 65_535
 COUNT = re.compile(rb"([1-9]\d{0,9}) ")
-COUNT_FRONT = re.compile(rb"(?:[1-9]\d{0,9})?")
+COUNT_PREFIX = re.compile(rb"(?:[1-9]\d{0,9})?")
 
 
 def counted_frames(octets):
-    """The frames, None for one that is too long, and how the stream stops: a line behind the number or without one."""
+    """The frames, None for one that is too long, and the line on how the stream ends, if there is one."""
     frames, at = [], 0
     while at < len(octets):
         seen = COUNT.match(octets, at)
         if not seen:
-            stop = COUNT_FRONT.match(octets, at).end()
+            stop = COUNT_PREFIX.match(octets, at).end()
             return frames, f"unterminated {at}" if stop == len(octets) else f"{len(frames) + 1} bad-count {stop}"
         count = int(seen.group(1))
         if len(octets) - seen.end() < count:
@@ -344,23 +343,23 @@ def framed(framing, octets):
 
 
 def run_of(octets, framing, to):
-    """What `check` writes, and what `convert` writes to its output and tells."""
+    """The output of `check`, and the output and the notes of `convert`."""
     frames, stop = counted_frames(octets) if framing == "counted" else line_frames(octets)
-    checked, output, told = [], [], []
+    checked, output, notes = [], [], []
     for n, frame in enumerate(frames, 1):
         one = b"too-long" if frame is None else read(frame)
         checked.append(b"%d %b" % (n, one if isinstance(one, bytes) else b"ok"))
         if isinstance(one, bytes):
-            told.append(checked[-1])
+            notes.append(checked[-1])
             continue
         octets = canonical(one)
         if to == "lf" and b"\n" in octets:
-            told.append(b"%d has-lf" % n)
+            notes.append(b"%d has-lf" % n)
         elif len(octets) > FRAME_MAX:
-            told.append(b"%d canonical-too-long" % n)
+            notes.append(b"%d canonical-too-long" % n)
         else:
             output.append(framed(to, octets))
     if stop:
         checked.append(stop.encode())
-        told.append(stop.encode())
-    return b"".join(line + b"\n" for line in checked), b"".join(output), b"".join(line + b"\n" for line in told)
+        notes.append(stop.encode())
+    return b"".join(line + b"\n" for line in checked), b"".join(output), b"".join(line + b"\n" for line in notes)

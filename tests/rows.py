@@ -1,4 +1,4 @@
-"""Tables of what the program is given and must give."""
+"""Tables of what the program is given and what it must write."""
 
 HELLO = b"<165>1 - - - - - - hello"
 EXAMPLE = (b"<165>1 2003-08-24T05:14:15.000003-07:00 192.0.2.1 myproc 8710 - - "
@@ -42,7 +42,7 @@ RECORDS = [
     ("the longest canonical form", LARGEST, NIL + b'[a k="' + b"\\\\n" * 32_756 + b'"]'),
 ]
 
-# octets that are no record, and what is told behind the number
+# octets that are no record, and what follows the number on the line
 REFUSED = [
     ("no octets", b"", b"syntax priority 0"),
     ("no priority", b"<>", b"syntax priority 1"),
@@ -58,15 +58,15 @@ REFUSED = [
     ("a fraction of no digits", b"<0>1 2003-02-28T00:00:00.Z", b"syntax timestamp 25"),
     ("a fraction of seven digits", b"<0>1 2003-02-28T00:00:00.1234567Z", b"syntax timestamp 31"),
     ("hour 24 of an offset", b"<0>1 2003-02-28T00:00:00+24:00", b"syntax timestamp 26"),
-    ("an instant behind the last", b"<0>1 9999-12-31T23:59:59-00:01 - - - - -", b"instant-range 5"),
+    ("an instant after the last", b"<0>1 9999-12-31T23:59:59-00:01 - - - - -", b"instant-range 5"),
     ("an instant before the first", b"<0>1 0000-01-01T00:00:59+00:01 - - - - -", b"instant-range 5"),
     ("a fault comes before the instant's range", b"<0>1 9999-12-31T23:59:59-00:01 - - - - x", b"syntax structured-data 39"),
     ("two spaces", b"<0>1 -  -", b"syntax hostname 7"),
     ("an end inside the host", b"<0>1 - ab", b"syntax hostname 9"),
     ("a host of 256 octets", b"<0>1 - " + b"a" * 256 + b" - - - -", b"syntax hostname 262"),
-    ("an end behind the message id", b"<0>1 - - - - -", b"syntax msgid 14"),
+    ("an end after the message id", b"<0>1 - - - - -", b"syntax msgid 14"),
     ("no structured data", NIL, b"syntax structured-data 15"),
-    ("octets behind the structured data", NIL + b"-x", b"syntax structured-data 16"),
+    ("octets after the structured data", NIL + b"-x", b"syntax structured-data 16"),
     ("an element without an id", NIL + b"[]", b"syntax structured-data 16"),
     ("a parameter without a name", NIL + b"[a ]", b"syntax structured-data 18"),
     ("an id of 33 octets", NIL + b"[" + b"a" * 33, b"syntax structured-data 48"),
@@ -83,7 +83,7 @@ REFUSED = [
 ]
 
 LINES = b"\nx\n" + b"a" * 65_536 + b"\n<0>1 - - - - - -"
-TOLD = b"1 syntax priority 0\n2 syntax priority 0\n3 too-long\n"
+REPORTED = b"1 syntax priority 0\n2 syntax priority 0\n3 too-long\n"
 
 # words, standard input, status, standard output, standard error (None: any text, but some)
 WORDS = [
@@ -92,11 +92,11 @@ WORDS = [
     ("a count of zero", ["check", "--framing", "counted"], b"0 ", 1, b"1 bad-count 0\n", b""),
     ("a count without its space", ["check", "--framing", "counted"], b"16<", 1, b"1 bad-count 2\n", b""),
     ("a count of eleven digits", ["check", "--framing", "counted"], b"12345678901 ", 1, b"1 bad-count 10\n", b""),
-    ("a bad count behind a frame", ["check", "--framing=counted"], b"16 <0>1 - - - - - -x", 1, b"1 ok\n2 bad-count 19\n", b""),
+    ("a bad count after a frame", ["check", "--framing=counted"], b"16 <0>1 - - - - - -x", 1, b"1 ok\n2 bad-count 19\n", b""),
     ("an unfinished frame", ["check", "--framing", "counted"], b"16 <0>", 1, b"unterminated 0\n", b""),
     ("an unfinished count", ["check", "--framing", "counted"], b"16 <0>1 - - - - - -16", 1, b"1 ok\nunterminated 19\n", b""),
-    ("lines", ["check", "--framing", "lf"], LINES + b"\n", 1, TOLD + b"4 ok\n", b""),
-    ("an unfinished line", ["check", "--framing", "lf"], LINES, 1, TOLD + b"unterminated 65540\n", b""),
+    ("lines", ["check", "--framing", "lf"], LINES + b"\n", 1, REPORTED + b"4 ok\n", b""),
+    ("an unfinished line", ["check", "--framing", "lf"], LINES, 1, REPORTED + b"unterminated 65540\n", b""),
     ("no lines", ["check", "--framing", "lf"], b"", 0, b"", b""),
     ("no counted frames", ["check", "--framing", "counted"], b"", 0, b"", b""),
     ("the framing of datagrams", ["check", "--framing", "datagram"], b"", 1, b"1 syntax priority 0\n", b""),
@@ -139,9 +139,9 @@ STREAMS = [
     ("a line feed comes before the length", ["convert", "--to", "lf"], LARGEST[:-3] + b'\n"]', 1, b"", b"1 has-lf\n"),
     ("a stream whose canonical form is too long", ["convert", *LF], LARGEST + b"\n" + HELLO + b"\n", 1, HELLO + b"\n",
      b"1 canonical-too-long\n"),
-    ("what is refused is told and passed over", ["convert", *LF], LINES + b"\n", 1, NIL + b"-\n", TOLD),
-    ("an unfinished line is not converted", ["convert", *LF], LINES, 1, b"", TOLD + b"unterminated 65540\n"),
-    ("nothing is read behind a bad count", ["convert", *COUNTED], b"16 <0>1 - - - - - -x16 <0>1 - - - - - -", 1,
+    ("what is refused is reported and passed over", ["convert", *LF], LINES + b"\n", 1, NIL + b"-\n", REPORTED),
+    ("an unfinished line is not converted", ["convert", *LF], LINES, 1, b"", REPORTED + b"unterminated 65540\n"),
+    ("nothing is read after a bad count", ["convert", *COUNTED], b"16 <0>1 - - - - - -x16 <0>1 - - - - - -", 1,
      b"16 <0>1 - - - - - -", b"2 bad-count 19\n"),
     ("no lines to convert", ["convert", *LF], b"", 0, b"", b""),
     ("unordered elements", ["convert"], NIL + b"[b][a]", 0, NIL + b"[a][b]", b""),

@@ -1,5 +1,5 @@
 #!/usr/bin/env python3
-"""Runs the real program on tables of inputs, with faulty devices and with refused memory.
+"""Runs the real program on tables of inputs, with devices that fail and with allocations that fail.
 
 usage: tests/run.py PROGRAM TRIALS
 
@@ -68,8 +68,8 @@ def rows(program, results):
     for length in range(65):
         line = b"1 " + reference.read(EXAMPLE[:length]) + b"\n"
         right = line.endswith(b" %d\n" % length)
-        results.check(f"the place of a front of {length} octets, read a second time", right, str(line))
-        row(program, results, f"a front of {length} octets", ["check"], EXAMPLE[:length], 1, line, b"")
+        results.check(f"the offset of a prefix of {length} octets, by the second reader", right, str(line))
+        row(program, results, f"a prefix of {length} octets", ["check"], EXAMPLE[:length], 1, line, b"")
 
 
 def unescaped(text):
@@ -78,7 +78,7 @@ def unescaped(text):
 
 
 def manual(program, results):
-    """Each example of the manual, as a shell runs it, prints what stands behind it."""
+    """Each example of the manual, run by a shell, prints what follows it."""
     examples = MANUAL.read_text().split(".Sh EXAMPLES")[1].split(".Sh ")[0]
     blocks = [unescaped(block) for block in re.findall(r"\.Bd -literal.*?\n(.*?)\.Ed\n", examples, re.DOTALL)]
     if shutil.which("groff"):
@@ -114,25 +114,25 @@ def devices(program, results):
     for words in (["check"], ["check", "--framing", "counted"], ["check", "--framing", "lf"]):
         with open("/dev/zero", "rb") as zeros:
             seen = run(program, words, stdin=zeros)
-        told = (1, b"1 bad-count 0\n", b"") if "counted" in words else (2, b"", b"endless input\n")
-        results.check(f"an input that does not end: {' '.join(words)}", seen == told, str(seen))
+        expected = (1, b"1 bad-count 0\n", b"") if "counted" in words else (2, b"", b"endless input\n")
+        results.check(f"an input that does not end: {' '.join(words)}", seen == expected, str(seen))
 
 
 def counts(program, words, octets, shim, where):
-    """How many growths, reads and writes a run makes."""
+    """How many allocations, reads and writes a run makes."""
     run(program, words, octets, {"LD_PRELOAD": shim, "SHIM_COUNTS": where})
     return [int(word) for word in Path(where).read_text().split()]
 
 
 def is_refused(seen, ample):
-    """Whether want of memory is told, behind a front of what ample memory gives."""
-    told = b"want of memory\n"
-    return (seen[0] == 3 and ample[1].startswith(seen[1]) and seen[2].endswith(told)
-            and ample[2].startswith(seen[2].removesuffix(told)))
+    """Whether the run reports that memory ran out, after a prefix of what it writes with ample memory."""
+    line = b"want of memory\n"
+    return (seen[0] == 3 and ample[1].startswith(seen[1]) and seen[2].endswith(line)
+            and ample[2].startswith(seen[2].removesuffix(line)))
 
 
 def memory(program, results, shim, where):
-    """Each growth refused in turn: status 3 and a front of the output, or the full answer once the
+    """Each allocation fails in turn: status 3 and a prefix of the output, or the whole output once the
     number is past the last."""
     mixed = (EXAMPLE + b"\n") * 40 + b"x\n" + ELEMENTS + b"\n"
     for name, words, octets in [
@@ -148,22 +148,22 @@ def memory(program, results, shim, where):
         ("show of a stream", ["show", "--framing", "lf"], mixed),
     ]:
         ample = run(program, words, octets)
-        growths = counts(program, words, octets, shim, where)[0]
-        results.check(f"{name}: memory is asked for", growths > 0, str(growths))
+        allocations = counts(program, words, octets, shim, where)[0]
+        results.check(f"{name}: allocates", allocations > 0, str(allocations))
         refused = 0
-        for n in range(1, growths + 3):
+        for n in range(1, allocations + 3):
             seen = run(program, words, octets, {"LD_PRELOAD": shim, "SHIM_MALLOC": str(n)})
-            if n > growths:
-                results.check(f"{name}: past the last growth", seen == ample, f"{n} {seen}")
+            if n > allocations:
+                results.check(f"{name}: past the last allocation", seen == ample, f"{n} {seen}")
             elif is_refused(seen, ample):
                 refused += 1
             else:
-                results.check(f"{name}: growth {n} refused", seen == ample, f"{seen}")
-        results.check(f"{name}: a refused growth is told", refused > 0)
+                results.check(f"{name}: allocation {n} fails", seen == ample, f"{seen}")
+        results.check(f"{name}: an allocation that fails is reported", refused > 0)
 
 
 def pieces(program, results, shim, where):
-    """What is written goes out by large pieces, not by a call a record."""
+    """Output is written in large pieces, not by a call for each record."""
     stream = (EXAMPLE + b"\n") * 20_000
     for command in ["check", "convert", "show"]:
         words = [command, "--framing", "lf"]
@@ -180,25 +180,25 @@ def name_of(n):
 
 def many_ids(program, results):
     """A record of 64 KiB with some 13,000 ids, in any order, costs milliseconds."""
-    front, count = b"<0>1 - - - - - ", 13_000
+    prefix, count = b"<0>1 - - - - - ", 13_000
     orders = {"ascending": range(count), "descending": range(count - 1, -1, -1),
               "scattered": [n * 7_919 % count for n in range(count)]}
     for name, order in orders.items():
         ids = [b"[" + name_of(n) + b"]" for n in order]
-        for ending, line in [(b"", b"ok"), (ids[0], b"repeated-id %d" % (len(front) + 5 * count + 1)),
-                             (ids[-1], b"repeated-id %d" % (len(front) + 5 * count + 1))]:
-            octets = front + b"".join(ids) + ending
+        for ending, line in [(b"", b"ok"), (ids[0], b"repeated-id %d" % (len(prefix) + 5 * count + 1)),
+                             (ids[-1], b"repeated-id %d" % (len(prefix) + 5 * count + 1))]:
+            octets = prefix + b"".join(ids) + ending
             before = os.times()
             seen = run(program, ["check", "--framing", "lf"], (octets + b"\n") * 20)
             after = os.times()
-            told = b"".join(b"%d %b\n" % (n, line) for n in range(1, 21))
-            results.check(f"13,000 ids {name}, {line}", seen[1:] == (told, b""), f"{seen[0]} {seen[1][:60]!r}")
+            lines = b"".join(b"%d %b\n" % (n, line) for n in range(1, 21))
+            results.check(f"13,000 ids {name}, {line}", seen[1:] == (lines, b""), f"{seen[0]} {seen[1][:60]!r}")
             took = (after.children_user + after.children_system - before.children_user - before.children_system) / 20
             results.check(f"the time of 13,000 ids {name}, {line}", took < 0.15, f"{took:.3f} s a record")
 
 
 def calls(program, results, shim, where):
-    """Each read and each write fails, comes short or is interrupted in turn."""
+    """Each read and each write fails, is short or is interrupted in turn."""
     octets = HELLO + b"x" * 9_000
     for fd, kind, line in [("0", "READ", b"read fault\n"), ("1", "WRITE", b"write fault\n")]:
         plain = {"LD_PRELOAD": shim, "SHIM_FD": fd}
@@ -210,7 +210,7 @@ def calls(program, results, shim, where):
             right = seen[0] == 2 and octets.startswith(seen[1]) and seen[2] == line
             results.check(f"{kind.lower()} {n} fails", right, f"{seen[0]} {len(seen[1])} {seen[2]!r}")
             seen = run(program, ["convert"], octets, {**plain, f"SHIM_{kind}_SHORT": str(n)})
-            results.check(f"{kind.lower()} {n} comes short", seen == (0, octets, b""), f"{seen[0]} {len(seen[1])} {seen[2]!r}")
+            results.check(f"{kind.lower()} {n} is short", seen == (0, octets, b""), f"{seen[0]} {len(seen[1])} {seen[2]!r}")
             if kind == "READ":
                 seen = run(program, ["convert"], octets, {**plain, "SHIM_READ_AGAIN": str(n)})
                 right = seen == (0, octets, b"") or (seen[0] == 2 and octets.startswith(seen[1]) and seen[2] == line)
@@ -223,29 +223,29 @@ def calls(program, results, shim, where):
         results.check(f"write {n} of the notes fails", right, str(seen))
 
 
-# what a trial tells of a refused growth: what was there before is unchanged
-REFUSED_GROWTH = re.compile(r": (memory(, unchanged( at 7 octets)?| for .*)?|ok, memory for its copy)$")
+# what a trial says of an allocation that fails: what was there before is unchanged
+FAILED_ALLOCATION = re.compile(r": (memory(, unchanged( at 7 octets)?| for .*)?|ok, memory for its copy)$")
 
 
 def trials(program, results, shim, where):
-    """Each growth that the libraries ask for refused in turn: `memory`, or what ample memory gives."""
+    """Each allocation of the libraries fails in turn: `memory`, or what ample memory gives."""
     for part in ["frame", "value", "grammar"]:
         words = ["grow", part]
         status, ample, _ = run(program, words)
         right = status == 0 and not re.search(rb"memory|other|another|refused|syntax", ample)
         results.check(f"trials of {part} run", right, ample.decode())
-        growths = counts(program, words, b"", shim, where)[0]
-        told = 0
-        for n in range(1, growths + 2):
+        allocations = counts(program, words, b"", shim, where)[0]
+        reported = 0
+        for n in range(1, allocations + 2):
             status, output, _ = run(program, words, environment={"LD_PRELOAD": shim, "SHIM_MALLOC": str(n)})
             lines = output.decode().splitlines()
             known = set(ample.decode().splitlines())
-            wrong = [line for line in lines if line not in known and not REFUSED_GROWTH.search(line)]
-            told += any("memory" in line for line in lines)
-            # a growth for the words themselves ends the program before any line
+            wrong = [line for line in lines if line not in known and not FAILED_ALLOCATION.search(line)]
+            reported += any("memory" in line for line in lines)
+            # an allocation for the words themselves ends the program before any line
             right = not wrong and (status == 0 or not lines)
-            results.check(f"trials of {part}: growth {n}", right, f"{status} {wrong}")
-        results.check(f"trials of {part}: a refused growth is told", told > 0)
+            results.check(f"trials of {part}: allocation {n}", right, f"{status} {wrong}")
+        results.check(f"trials of {part}: an allocation that fails is reported", reported > 0)
 
 
 SEEDS = [
@@ -255,12 +255,12 @@ SEEDS = [
     b"<165>1 2024-02-29T12:30:00.25+05:30 h.example.com app 1 ID1 [id@32473 k=\"\\\\n\" l=\"say \\\"x\\\"\"] text",
     b"<7>1 - - - - - - " + MARK + "été".encode(), b"<86>1 2023-11-30T00:00:00-08:00 - - - - - \x00\xff",
 ]
-# octets that the grammar speaks of stand in for others more often than chance would have them
+# octets with a meaning in the grammar, which replace others more often than random ones do
 MARKS = b'<>[]="\\ -:.TZ+0123456789ab\xef\xbb\xbf\xc3\xa9\x80\xff\n'
 
 
 def mutations(count):
-    """So many octet texts: random ones, seeds, and seeds with one or two changes."""
+    """As many frames: random octets, seeds, and seeds with one or two changes."""
     random = Random(5424)
     draw = random.random
     frames = []
@@ -304,8 +304,8 @@ def counted(frames):
 
 
 def mutated(program, results, count=1_000_000):
-    """A million random and mutated records as one stream: each line, each place and each canonical record is that
-    of the second reading, and what was written is converted to itself."""
+    """A million random and mutated records as one stream: each line, each offset and each canonical record is that
+    of the second reader, and what was written is converted to itself."""
     frames = mutations(count)
     known = {frame: reference.read(frame) for frame in set(frames)}
     read = [known[frame] for frame in frames]
@@ -318,7 +318,7 @@ def mutated(program, results, count=1_000_000):
     canonical = counted([reference.canonical(one) for one in read if not isinstance(one, bytes)])
     status, output, notes = run(program, ["convert", "--framing", "counted"], stream)
     results.check("mutated records are converted", status == 1 and output == canonical, f"{status} {len(output)}")
-    results.check("mutated records that are refused are told", notes == refusals, notes[:60])
+    results.check("mutated records that are refused are reported", notes == refusals, notes[:60])
     seen = run(program, ["convert", "--framing", "counted", "--to", "counted"], output)
     results.check("what was converted converts to itself", seen == (0, output, b""), f"{seen[0]} {len(seen[1])}")
     status, lines, notes = run(program, ["check", "--framing", "counted"], output)
@@ -354,13 +354,13 @@ def streams(program, results, count=400):
                 del octets[at:at + 1]
             else:
                 del octets[at:]
-        checked, output, told = reference.run_of(bytes(octets), framing, to)
+        checked, output, notes = reference.run_of(bytes(octets), framing, to)
         seen = run(program, ["check", "--framing", framing], octets)
         good["check"] += seen == (int(bool(re.search(rb"(?<! ok)\n", checked))), checked, b"")
         seen = run(program, ["convert", "--framing", framing, "--to", to], octets)
-        good["convert"] += seen == (int(bool(told)), output, told)
-    results.check("each changed stream is checked as it is read a second time", good["check"] == count, str(good))
-    results.check("each changed stream is converted as it is read a second time", good["convert"] == count, str(good))
+        good["convert"] += seen == (int(bool(notes)), output, notes)
+    results.check("each changed stream is checked as by the second reader", good["check"] == count, str(good))
+    results.check("each changed stream is converted as by the second reader", good["convert"] == count, str(good))
 
 
 def main():

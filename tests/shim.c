@@ -1,7 +1,7 @@
-/* Preloaded before the program: refuses one growth of memory, or lets one read or write fail or come
+/* Preloaded before the program: lets one allocation, read or write fail, or one read or write be
    short. Each is chosen by a number counted from 1:
 
-     SHIM_MALLOC=N        the Nth call of malloc, realloc or calloc answers a null pointer
+     SHIM_MALLOC=N        the Nth call of malloc, realloc or calloc returns a null pointer
      SHIM_READ=N          the Nth read fails with EIO
      SHIM_READ_SHORT=N    the Nth read gives at most one octet
      SHIM_READ_AGAIN=N    the Nth read is interrupted (EINTR)
@@ -20,7 +20,7 @@
 #include <string.h>
 #include <unistd.h>
 
-static unsigned long growths, reads, writes;
+static unsigned long allocations, reads, writes;
 static int quiet;
 
 static unsigned long chosen(const char *name) {
@@ -35,8 +35,8 @@ static int counted(int fd) {
 
 static int refused(void) {
   if (quiet) return 0;
-  growths++;
-  return growths == chosen("SHIM_MALLOC");
+  allocations++;
+  return allocations == chosen("SHIM_MALLOC");
 }
 
 void *malloc(size_t size) {
@@ -74,14 +74,14 @@ ssize_t write(int fd, const void *octets, size_t size) {
   return next(fd, octets, size);
 }
 
-__attribute__((destructor)) static void tell(void) {
+__attribute__((destructor)) static void report(void) {
   const char *name = getenv("SHIM_COUNTS");
   if (!name) return;
   quiet++;
   int fd = open(name, O_WRONLY | O_CREAT | O_TRUNC, 0644);
   if (fd < 0) return;
   char text[128];
-  int n = snprintf(text, sizeof text, "%lu %lu %lu\n", growths, reads, writes);
+  int n = snprintf(text, sizeof text, "%lu %lu %lu\n", allocations, reads, writes);
   ssize_t (*next)(int, const void *, size_t) = (ssize_t (*)(int, const void *, size_t))dlsym(RTLD_NEXT, "write");
   if (next(fd, text, (size_t)n) != n) _exit(99);
   close(fd);

@@ -7,6 +7,6 @@ use syslog_frame::Framing;
 pub enum InputFraming {
     /// The whole input is one record (RFC 5426).
     Datagram,
-    /// A stream of frames (RFC 6587).
+    /// A stream of frames (RFC 6587, section 3.4).
     Stream(Framing),
 }

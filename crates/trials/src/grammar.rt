@@ -1,5 +1,5 @@
-//! Each call of `syslog_grammar` that takes memory, and the copy of a record, with its outcome on a
-//! line: `ok` and what came of it, or `memory` and what was left.
+//! Each call of `syslog_grammar` that allocates, and the copy of a record, with its outcome on a
+//! line: `ok` and its result, or `memory` and what is left.
 
 use std::alloc::{AllocError, Global};
 use std::io;
@@ -14,7 +14,7 @@ const OCTETS: &[u8] =
 const CANONICAL: &[u8] =
     b"<34>1 2003-10-11T20:14:15.003000Z host su 77 ID47 [a m=\"\xc3\xa9\"][b k=\"x\\\\n\\\"\\]\" l=\"\"] \xef\xbb\xbfgr\xc3\xb6\xc3\x9fe";
 
-/// What stands in the vector before.
+/// The octets that are in the vector before.
 const BEFORE: &[u8] = b"before ";
 
 /// `canon` and `copy` of the record.
@@ -34,10 +34,10 @@ fn whole(rt: &impl Print, alloc: Global, record: &Record) -> io::Result<()> {
     }
 }
 
-/// `put_canonical` behind octets that were there before.
+/// `put_canonical` after octets that were there before.
 fn put(rt: &impl Print, alloc: Global, seen: &RecordView<'_>) -> io::Result<()> {
     let Ok(mut out) = BEFORE.to_vec(alloc) else {
-        return println!(rt; "put_canonical: memory for what stands before");
+        return println!(rt; "put_canonical: memory for the octets before");
     };
     let outcome = put_canonical(alloc, seen, &mut out);
     let octets = out.len();
@@ -50,7 +50,7 @@ fn put(rt: &impl Print, alloc: Global, seen: &RecordView<'_>) -> io::Result<()> 
     }
 }
 
-/// Every call of `syslog_grammar` that takes memory.
+/// Every call of `syslog_grammar` that allocates.
 pub fn grammar(rt: &impl Print, alloc: Global) -> io::Result<()> {
     match decode(alloc, OCTETS) {
         Ok(record) => {

@@ -1,5 +1,5 @@
-//! Each call that takes memory, once, with its outcome on a line: `ok` and what came of it, or
-//! `memory` and what was left.
+//! Each call of `syslog_frame` that allocates, once, with its outcome on a line: `ok` and its
+//! result, or `memory` and what is left.
 
 use std::alloc::Global;
 use std::io;
@@ -7,10 +7,10 @@ use syslog_frame::{
     Framing, PiecesFault, PutFault, Scanner, StartFault, frames_of_pieces, put_frame,
 };
 
-/// `put_frame` behind two octets that were there before.
+/// `put_frame` after two octets that were there before.
 fn put(rt: &impl Print, alloc: Global, name: &str, framing: Framing) -> io::Result<()> {
     let Ok(mut out) = b"ab".as_slice().to_vec(alloc) else {
-        return println!(rt; "{name}: memory for what stands before");
+        return println!(rt; "{name}: memory for the octets before");
     };
     let outcome = put_frame(framing, b"record", &mut out);
     let octets = out.len();
@@ -39,7 +39,7 @@ fn pieces(rt: &impl Print, alloc: Global) -> io::Result<()> {
     }
 }
 
-/// Every call of `syslog_frame` that takes memory.
+/// Every call of `syslog_frame` that allocates.
 pub fn frame(rt: &impl Print, alloc: Global) -> io::Result<()> {
     match Scanner::new(alloc, Framing::Counted) {
         Ok(_) => println!(rt; "new: ok")?,

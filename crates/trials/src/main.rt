@@ -1,5 +1,5 @@
-//! Trials of the libraries, for scripts: a measured run of a call, and a run in which memory may be
-//! refused. No trial reports a time; the script that runs it measures the process.
+//! Trials of the libraries, for scripts: a call to be timed, and a run in which an allocation may
+//! fail. No trial reports a time; the script that runs it measures the process.
 #![tactic(auto)]
 
 mod grammar;
@@ -15,9 +15,9 @@ const USAGE: &str = "usage: trials time scan counted|lf SIZE ROUNDS
        trials time copy SIZE ROUNDS
        trials grow frame|value|grammar";
 
-/// The word at an offset; none is an empty word.
-fn word(words: &[String], offset: usize) -> &str {
-    match words.get(offset) {
+/// The word at an index, or an empty word where there is none.
+fn word(words: &[String], index: usize) -> &str {
+    match words.get(index) {
         Some(word) => word.as_str(),
         None => "",
     }

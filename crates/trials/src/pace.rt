@@ -7,22 +7,23 @@ use syslog_frame::{Framing, Ready, Scanner, put_frame};
 /// The octets of a piece.
 const PIECE: usize = 4_096;
 
-/// The octets that the stream of one round has about: too many for a processor's nearest caches.
+/// About how many octets the stream of one round has: too many for a processor's nearest caches.
 const ROUND: usize = 4_096 * PIECE;
 
-/// The greatest size and number of rounds that are tried.
+/// The greatest size of a frame.
 const SIZE_MAX: usize = 65_535;
 
+/// The greatest number of rounds.
 const ROUNDS_MAX: u32 = 10_000_000;
 
-/// The size of a frame and the number of rounds, where the words are such.
+/// The size of a frame and the number of rounds, where the words are numbers in range.
 fn numbers(size: &str, rounds: &str) -> Option<(usize, u32)> {
     let size: usize = size.parse().ok()?;
     let rounds: u32 = rounds.parse().ok()?;
     (size <= SIZE_MAX && rounds <= ROUNDS_MAX).then_some((size, rounds))
 }
 
-/// Whole frames of so many octets, as many as a round has, at least one.
+/// Frames of this size, as many as a round has, at least one.
 fn stream(alloc: Global, framing: Framing, size: usize) -> Result<Vec<u8>, AllocError> {
     let record = vec![in alloc; b'a'; size]?;
     let mut out = Vec::with_capacity(alloc, ROUND)?;
@@ -34,7 +35,7 @@ fn stream(alloc: Global, framing: Framing, size: usize) -> Result<Vec<u8>, Alloc
     Ok(out)
 }
 
-/// Takes a piece, and counts the octets of the frames that end in it.
+/// Scans a piece, and counts the octets of the frames that end in it.
 fn take(scanner: &mut Scanner, piece: &[u8]) -> u64 {
     let mut rest = piece;
     let mut octets: u64 = 0;
@@ -53,7 +54,7 @@ fn take(scanner: &mut Scanner, piece: &[u8]) -> u64 {
     octets
 }
 
-/// Scans the stream in pieces, and prints how many octets of frames came.
+/// Scans the stream in pieces, and prints how many octets its frames had.
 pub fn scan(
     rt: &impl Print,
     alloc: Global,
@@ -80,20 +81,20 @@ pub fn scan(
     println!(rt; "{octets}")
 }
 
-/// Copies the same pieces of the counted stream, each to the prefix of one room, and prints how many
-/// octets were copied.
+/// Copies the pieces of the counted stream, each to the start of the same buffer, and prints how
+/// many octets were copied.
 pub fn copy(rt: &impl Print, alloc: Global, size: &str, rounds: &str) -> io::Result<()> {
     let Some((size, rounds)) = numbers(size, rounds) else {
         return println!(rt; "no such numbers");
     };
     let stream = stream(alloc, Framing::Counted, size)?;
-    let mut room = Vec::with_capacity(alloc, PIECE)?;
+    let mut buffer = Vec::with_capacity(alloc, PIECE)?;
     let mut octets: u64 = 0;
     for _ in 0..rounds {
         for piece in stream.chunks(PIECE) {
-            room.clear();
-            room.extend_from_slice(piece)?;
-            octets = octets.wrapping_add(room.len() as u64);
+            buffer.clear();
+            buffer.extend_from_slice(piece)?;
+            octets = octets.wrapping_add(buffer.len() as u64);
         }
     }
     println!(rt; "{octets}")

@@ -1,5 +1,5 @@
-//! Each call of `syslog_value` that takes memory, with its outcome on a line: `ok`, or `memory` and
-//! what was left.
+//! Each call of `syslog_value` that allocates, with its outcome on a line: `ok`, or `memory` and
+//! what is left.
 
 use std::alloc::{AllocError, Global};
 use std::io;
@@ -45,7 +45,7 @@ fn words(rt: &impl Print, alloc: Global) -> io::Result<()> {
     }
 }
 
-/// One element more, which comes back where a growth is refused.
+/// One element more, which is returned where memory runs out.
 fn push(rt: &impl Print, data: &mut StructuredData, element: Element) -> io::Result<()> {
     let before = data.elements().len();
     match data.push(element) {
@@ -88,7 +88,7 @@ fn copies(rt: &impl Print, alloc: Global, data: StructuredData) -> io::Result<()
     }
 }
 
-/// Every call of `syslog_value` that takes memory.
+/// Every call of `syslog_value` that allocates.
 pub fn value(rt: &impl Print, alloc: Global) -> io::Result<()> {
     words(rt, alloc)?;
     let mut data = StructuredData::empty(alloc);
