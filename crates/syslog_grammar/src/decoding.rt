@@ -17,7 +17,7 @@ pub enum DecodeFault {
     #[error("{0}")]
     Bad(Fault),
     /// A growth was refused. The octets are a well-formed record.
-    #[error("want of memory")]
+    #[error("out of memory")]
     Memory,
 }
 
