@@ -37,56 +37,89 @@ fn each_prefix_of_the_example_stops_at_its_length(rt: HostRuntime) -> Result<(),
     Ok(())
 }
 
+const PRIORITIES_AND_VERSIONS: [(&[u8], Field, usize); 6] = [
+    (b"<192>1 -", Field::Priority, 3),
+    (b"<007>1 -", Field::Priority, 2),
+    (b"", Field::Priority, 0),
+    (b"<>", Field::Priority, 1),
+    (b"<0>10 -", Field::Version, 4),
+    (b"<0>2", Field::Version, 3),
+];
+
 #[test]
 fn priority_and_version_stop_at_their_offsets(rt: HostRuntime) -> Result<(), Fail> {
-    assert!(rt; at(b"<192>1 -") == Some((Field::Priority, 3)));
-    assert!(rt; at(b"<007>1 -") == Some((Field::Priority, 2)));
-    assert!(rt; at(b"") == Some((Field::Priority, 0)));
-    assert!(rt; at(b"<>") == Some((Field::Priority, 1)));
-    assert!(rt; at(b"<0>10 -") == Some((Field::Version, 4)));
-    assert!(rt; at(b"<0>2") == Some((Field::Version, 3)));
+    for (octets, field, offset) in PRIORITIES_AND_VERSIONS {
+        assert!(rt; at(octets) == Some((field, offset)));
+    }
     Ok(())
 }
+
+const TIMESTAMPS: [(&[u8], Field, usize); 10] = [
+    (b"<0>1 2003-02-29T00:00:00Z - - - - -", Field::Timestamp, 14),
+    (b"<0>1 1900-02-29T00:00:00Z - - - - -", Field::Timestamp, 14),
+    (b"<0>1 2003-02-28T00:00:60Z - - - - -", Field::Timestamp, 22),
+    (b"<0>1 2024-13", Field::Timestamp, 11),
+    (b"<0>1 2023-02-3", Field::Timestamp, 13),
+    (b"<0>1 2023-04-31", Field::Timestamp, 14),
+    (b"<0>1 2003-02-28T00:00:00.Z", Field::Timestamp, 25),
+    (b"<0>1 2003-02-28T00:00:00.1234567Z", Field::Timestamp, 31),
+    (b"<0>1 2003-02-28T00:00:00+24:00", Field::Timestamp, 26),
+    (b"<13>1 x", Field::Timestamp, 6),
+];
 
 #[test]
 fn a_timestamp_stops_at_its_offset(rt: HostRuntime) -> Result<(), Fail> {
-    assert!(rt; at(b"<0>1 2003-02-29T00:00:00Z - - - - -") == Some((Field::Timestamp, 14)));
-    assert!(rt; at(b"<0>1 1900-02-29T00:00:00Z - - - - -") == Some((Field::Timestamp, 14)));
-    assert!(rt; at(b"<0>1 2003-02-28T00:00:60Z - - - - -") == Some((Field::Timestamp, 22)));
-    assert!(rt; at(b"<0>1 2024-13") == Some((Field::Timestamp, 11)));
-    assert!(rt; at(b"<0>1 2023-02-3") == Some((Field::Timestamp, 13)));
-    assert!(rt; at(b"<0>1 2023-04-31") == Some((Field::Timestamp, 14)));
-    assert!(rt; at(b"<0>1 2003-02-28T00:00:00.Z") == Some((Field::Timestamp, 25)));
-    assert!(rt; at(b"<0>1 2003-02-28T00:00:00.1234567Z") == Some((Field::Timestamp, 31)));
-    assert!(rt; at(b"<0>1 2003-02-28T00:00:00+24:00") == Some((Field::Timestamp, 26)));
-    assert!(rt; at(b"<13>1 x") == Some((Field::Timestamp, 6)));
+    for (octets, field, offset) in TIMESTAMPS {
+        assert!(rt; at(octets) == Some((field, offset)));
+    }
     Ok(())
 }
+
+const WORDS: [(&[u8], Field, usize); 4] = [
+    (b"<0>1 - ab", Field::Hostname, 9),
+    (b"<0>1 -  -", Field::Hostname, 7),
+    (b"<0>1 - - - - -", Field::MsgId, 14),
+    (b"<0>1 - - - - - -x", Field::StructuredData, 16),
+];
 
 #[test]
 fn a_word_stops_at_its_offset(rt: HostRuntime) -> Result<(), Fail> {
-    assert!(rt; at(b"<0>1 - ab") == Some((Field::Hostname, 9)));
-    assert!(rt; at(b"<0>1 -  -") == Some((Field::Hostname, 7)));
-    assert!(rt; at(b"<0>1 - - - - -") == Some((Field::MsgId, 14)));
-    assert!(rt; at(b"<0>1 - - - - - -x") == Some((Field::StructuredData, 16)));
+    for (octets, field, offset) in WORDS {
+        assert!(rt; at(octets) == Some((field, offset)));
+    }
     Ok(())
 }
 
+const STRUCTURED_DATA: [(&[u8], Field, usize); 10] = [
+    (b"<0>1 - - - - - ", Field::StructuredData, 15),
+    (b"<0>1 - - - - - []", Field::StructuredData, 16),
+    (b"<0>1 - - - - - [a ]", Field::StructuredData, 18),
+    (
+        b"<0>1 - - - - - [aaaaaaaaaaaaaaaaaaaaaaaaaaaaaaaaa",
+        Field::StructuredData,
+        48,
+    ),
+    (b"<0>1 - - - - - [a k=\"]\"]", Field::StructuredData, 21),
+    (b"<0>1 - - - - - [a k=\"x\\\"]", Field::StructuredData, 24),
+    (b"<0>1 - - - - - [a k=\"\\\xff", Field::StructuredData, 22),
+    (
+        b"<0>1 - - - - - [a k=\"\xe0\x80\"]",
+        Field::StructuredData,
+        22,
+    ),
+    (b"<0>1 - - - - - [a][a]x", Field::StructuredData, 21),
+    (
+        b"<0>1 9999-12-31T23:59:59-00:01 - - - - x",
+        Field::StructuredData,
+        39,
+    ),
+];
+
 #[test]
 fn structured_data_stops_at_its_offset(rt: HostRuntime) -> Result<(), Fail> {
-    let name = b"<0>1 - - - - - [aaaaaaaaaaaaaaaaaaaaaaaaaaaaaaaaa";
-    assert!(rt; at(b"<0>1 - - - - - ") == Some((Field::StructuredData, 15)));
-    assert!(rt; at(b"<0>1 - - - - - []") == Some((Field::StructuredData, 16)));
-    assert!(rt; at(b"<0>1 - - - - - [a ]") == Some((Field::StructuredData, 18)));
-    assert!(rt; at(name) == Some((Field::StructuredData, 48)));
-    assert!(rt; at(b"<0>1 - - - - - [a k=\"]\"]") == Some((Field::StructuredData, 21)));
-    assert!(rt; at(b"<0>1 - - - - - [a k=\"x\\\"]") == Some((Field::StructuredData, 24)));
-    assert!(rt; at(b"<0>1 - - - - - [a k=\"\\\xff") == Some((Field::StructuredData, 22)));
-    assert!(rt; at(b"<0>1 - - - - - [a k=\"\xe0\x80\"]") == Some((Field::StructuredData, 22)));
-    assert!(rt; at(b"<0>1 - - - - - [a][a]x") == Some((Field::StructuredData, 21)));
-    assert!(rt;
-        at(b"<0>1 9999-12-31T23:59:59-00:01 - - - - x") == Some((Field::StructuredData, 39))
-    );
+    for (octets, field, offset) in STRUCTURED_DATA {
+        assert!(rt; at(octets) == Some((field, offset)));
+    }
     Ok(())
 }
 
