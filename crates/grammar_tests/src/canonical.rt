@@ -100,7 +100,7 @@ const ELEMENTS: [(&[u8], &[u8]); 7] = [
 ];
 
 #[test]
-fn elements_stand_by_id_and_exactly_three_octets_are_escaped(rt: HostRuntime) -> Result<(), Fail> {
+fn elements_are_sorted_by_id_and_three_octets_are_escaped(rt: HostRuntime) -> Result<(), Fail> {
     for (octets, expected) in ELEMENTS {
         assert_eq!(rt; canonical(rt.alloc(), octets)?.as_slice(), expected);
     }
@@ -123,7 +123,7 @@ const MESSAGES: [(&[u8], &[u8]); 6] = [
 ];
 
 #[test]
-fn the_empty_message_is_left_out_and_the_mark_is_kept(rt: HostRuntime) -> Result<(), Fail> {
+fn the_empty_message_is_left_out_and_the_bom_is_kept(rt: HostRuntime) -> Result<(), Fail> {
     for (octets, expected) in MESSAGES {
         assert_eq!(rt; canonical(rt.alloc(), octets)?.as_slice(), expected);
     }

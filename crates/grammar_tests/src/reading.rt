@@ -142,7 +142,7 @@ fn the_instant_comes_before_the_ids(rt: HostRuntime) -> Result<(), Fail> {
 }
 
 #[test]
-fn an_id_stands_once(rt: HostRuntime) -> Result<(), Fail> {
+fn an_id_is_not_repeated(rt: HostRuntime) -> Result<(), Fail> {
     let twice = view(b"<0>1 - - - - - [a][b][a]");
     assert!(rt; twice.err() == Some(Fault::RepeatedId { offset: 22 }));
     let down = view(b"<0>1 - - - - - [c][b][a][b]");
