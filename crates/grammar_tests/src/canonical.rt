@@ -29,7 +29,9 @@ fn canonical(alloc: Global, octets: &[u8]) -> Result<Vec<u8>, Fail> {
     Ok(by_record)
 }
 
-const INSTANTS: [(&[u8], &[u8]); 7] = [
+/// Octets and their canonical form: an instant is written in UTC with six digits, elements are sorted
+/// by id, three octets are escaped, the empty message is left out and the BOM is kept.
+const FORMS: [(&[u8], &[u8]); 20] = [
     (
         b"<165>1 2003-08-24T05:14:15.000003-07:00 192.0.2.1 myproc 8710 - - %% It's time to make the do-nuts.",
         b"<165>1 2003-08-24T12:14:15.000003Z 192.0.2.1 myproc 8710 - - %% It's time to make the do-nuts.",
@@ -58,17 +60,6 @@ const INSTANTS: [(&[u8], &[u8]); 7] = [
         b"<191>1 9999-12-31T23:59:59.999999Z - - - - -",
         b"<191>1 9999-12-31T23:59:59.999999Z - - - - -",
     ),
-];
-
-#[test]
-fn an_instant_is_written_in_utc_with_six_digits(rt: HostRuntime) -> Result<(), Fail> {
-    for (octets, expected) in INSTANTS {
-        assert_eq!(rt; canonical(rt.alloc(), octets)?.as_slice(), expected);
-    }
-    Ok(())
-}
-
-const ELEMENTS: [(&[u8], &[u8]); 7] = [
     (
         b"<0>1 - - - - - [b][a x=\"\\n\\\"\\]\\\\\"][B]",
         b"<0>1 - - - - - [B][a x=\"\\\\n\\\"\\]\\\\\"][b]",
@@ -97,17 +88,6 @@ const ELEMENTS: [(&[u8], &[u8]); 7] = [
         b"<0>1 - - - - - [a k=\"\\\xc3\xa9\\\"\"]",
         b"<0>1 - - - - - [a k=\"\\\\\xc3\xa9\\\"\"]",
     ),
-];
-
-#[test]
-fn elements_stand_by_id_and_exactly_three_octets_are_escaped(rt: HostRuntime) -> Result<(), Fail> {
-    for (octets, expected) in ELEMENTS {
-        assert_eq!(rt; canonical(rt.alloc(), octets)?.as_slice(), expected);
-    }
-    Ok(())
-}
-
-const MESSAGES: [(&[u8], &[u8]); 6] = [
     (b"<0>1 - - - - - -", b"<0>1 - - - - - -"),
     (b"<0>1 - - - - - - ", b"<0>1 - - - - - -"),
     (
@@ -123,8 +103,8 @@ const MESSAGES: [(&[u8], &[u8]); 6] = [
 ];
 
 #[test]
-fn the_empty_message_is_left_out_and_the_mark_is_kept(rt: HostRuntime) -> Result<(), Fail> {
-    for (octets, expected) in MESSAGES {
+fn a_record_has_one_canonical_form(rt: HostRuntime) -> Result<(), Fail> {
+    for (octets, expected) in FORMS {
         assert_eq!(rt; canonical(rt.alloc(), octets)?.as_slice(), expected);
     }
     Ok(())
@@ -175,55 +155,39 @@ fn octets_that_are_no_record_are_refused_with_their_fault(rt: HostRuntime) -> Re
     Ok(())
 }
 
-const NO_RECORDS: [&[u8]; 5] = [
-    b"",
-    b"<0>1 - - - - - [a][a]",
-    b"<0>1 - - - - - [a k=\"]\"]",
-    b"<0>1 9999-12-31T23:59:59-00:01 - - - - -",
-    b"<0>1 - - - - - -x",
+/// Octets, whether they are canonical, and whether they are but for the order of the elements.
+const CANONICAL: [(&[u8], bool, bool); 16] = [
+    (b"<0>1 - - - - - -", true, true),
+    (b"<0>1 - - - - - [a][b]", true, true),
+    (b"<0>1 - - - - - [a k=\"x\\\\n\"] x", true, true),
+    (b"<0>1 - - - - - [b][a]", false, true),
+    (
+        b"<191>1 9999-12-31T23:59:59.999999Z - - - - [b k=\"\\]\"][c][a] \xef\xbb\xbf",
+        false,
+        true,
+    ),
+    (b"<0>1 - - - - - [a][a]", false, false),
+    (b"<0>1 - - - - - [b][a][b]", false, false),
+    (b"<0>1 - - - - - [b][a] ", false, false),
+    (b"<0>1 - - - - - [b k=\"\\n\"][a]", false, false),
+    (b"<0>1 2024-02-29T23:30:00.0Z - - - - [b][a]", false, false),
+    (
+        b"<0>1 2024-02-29T23:30:00.000000+00:00 - - - - [b][a]",
+        false,
+        false,
+    ),
+    (b"<00>1 - - - - - [b][a]", false, false),
+    (b"", false, false),
+    (b"<0>1 - - - - - [a k=\"]\"]", false, false),
+    (b"<0>1 9999-12-31T23:59:59-00:01 - - - - -", false, false),
+    (b"<0>1 - - - - - -x", false, false),
 ];
 
 #[test]
-fn octets_that_are_no_record_are_not_canonical(rt: HostRuntime) -> Result<(), Fail> {
-    for octets in NO_RECORDS {
-        assert!(rt; !is_canon(octets));
-        assert!(rt; !is_canon_unsorted(octets));
-    }
-    Ok(())
-}
-
-const CANONICAL_BUT_FOR_THE_ORDER: [&[u8]; 2] = [
-    b"<0>1 - - - - - [b][a]",
-    b"<191>1 9999-12-31T23:59:59.999999Z - - - - [b k=\"\\]\"][c][a] \xef\xbb\xbf",
-];
-
-const NOT_CANONICAL: [&[u8]; 6] = [
-    b"<0>1 - - - - - [b][a][b]",
-    b"<0>1 - - - - - [b][a] ",
-    b"<0>1 - - - - - [b k=\"\\n\"][a]",
-    b"<0>1 2024-02-29T23:30:00.0Z - - - - [b][a]",
-    b"<0>1 2024-02-29T23:30:00.000000+00:00 - - - - [b][a]",
-    b"<00>1 - - - - - [b][a]",
-];
-
-const CANONICAL: [&[u8]; 3] = [
-    b"<0>1 - - - - - -",
-    b"<0>1 - - - - - [a][b]",
-    b"<0>1 - - - - - [a k=\"x\\\\n\"] x",
-];
-
-#[test]
-fn elements_in_any_order_are_canonical_but_for_the_order(rt: HostRuntime) -> Result<(), Fail> {
-    for octets in CANONICAL_BUT_FOR_THE_ORDER {
-        assert!(rt; is_canon_unsorted(octets));
-        assert!(rt; !is_canon(octets));
-    }
-    for octets in NOT_CANONICAL {
-        assert!(rt; !is_canon_unsorted(octets));
-    }
-    for octets in CANONICAL {
-        assert!(rt; is_canon_unsorted(octets));
-        assert!(rt; is_canon(octets));
+fn canonical_octets_are_known_as_such(rt: HostRuntime) -> Result<(), Fail> {
+    for (octets, sorted, unsorted) in CANONICAL {
+        assert!(rt; is_canon(octets) == sorted);
+        assert!(rt; is_canon_unsorted(octets) == unsorted);
     }
     Ok(())
 }

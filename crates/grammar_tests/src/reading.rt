@@ -37,24 +37,13 @@ fn each_prefix_of_the_example_stops_at_its_length(rt: HostRuntime) -> Result<(),
     Ok(())
 }
 
-const PRIORITIES_AND_VERSIONS: [(&[u8], Field, usize); 6] = [
+const SYNTAX_FAULTS: [(&[u8], Field, usize); 32] = [
     (b"<192>1 -", Field::Priority, 3),
     (b"<007>1 -", Field::Priority, 2),
     (b"", Field::Priority, 0),
     (b"<>", Field::Priority, 1),
     (b"<0>10 -", Field::Version, 4),
     (b"<0>2", Field::Version, 3),
-];
-
-#[test]
-fn priority_and_version_stop_at_their_offsets(rt: HostRuntime) -> Result<(), Fail> {
-    for (octets, field, offset) in PRIORITIES_AND_VERSIONS {
-        assert!(rt; at(octets) == Some((field, offset)));
-    }
-    Ok(())
-}
-
-const TIMESTAMPS: [(&[u8], Field, usize); 10] = [
     (b"<0>1 2003-02-29T00:00:00Z - - - - -", Field::Timestamp, 14),
     (b"<0>1 1900-02-29T00:00:00Z - - - - -", Field::Timestamp, 14),
     (b"<0>1 2003-02-28T00:00:60Z - - - - -", Field::Timestamp, 22),
@@ -65,32 +54,10 @@ const TIMESTAMPS: [(&[u8], Field, usize); 10] = [
     (b"<0>1 2003-02-28T00:00:00.1234567Z", Field::Timestamp, 31),
     (b"<0>1 2003-02-28T00:00:00+24:00", Field::Timestamp, 26),
     (b"<13>1 x", Field::Timestamp, 6),
-];
-
-#[test]
-fn a_timestamp_stops_at_its_offset(rt: HostRuntime) -> Result<(), Fail> {
-    for (octets, field, offset) in TIMESTAMPS {
-        assert!(rt; at(octets) == Some((field, offset)));
-    }
-    Ok(())
-}
-
-const WORDS: [(&[u8], Field, usize); 4] = [
     (b"<0>1 - ab", Field::Hostname, 9),
     (b"<0>1 -  -", Field::Hostname, 7),
     (b"<0>1 - - - - -", Field::MsgId, 14),
     (b"<0>1 - - - - - -x", Field::StructuredData, 16),
-];
-
-#[test]
-fn a_word_stops_at_its_offset(rt: HostRuntime) -> Result<(), Fail> {
-    for (octets, field, offset) in WORDS {
-        assert!(rt; at(octets) == Some((field, offset)));
-    }
-    Ok(())
-}
-
-const STRUCTURED_DATA: [(&[u8], Field, usize); 10] = [
     (b"<0>1 - - - - - ", Field::StructuredData, 15),
     (b"<0>1 - - - - - []", Field::StructuredData, 16),
     (b"<0>1 - - - - - [a ]", Field::StructuredData, 18),
@@ -113,42 +80,47 @@ const STRUCTURED_DATA: [(&[u8], Field, usize); 10] = [
         Field::StructuredData,
         39,
     ),
+    (b"<0>1 - - - - - - \xef\xbb\xbf\xff", Field::Message, 20),
+    (b"<0>1 - - - - - - \xef\xbb\xbf\xe2\x82", Field::Message, 22),
 ];
 
 #[test]
-fn structured_data_stops_at_its_offset(rt: HostRuntime) -> Result<(), Fail> {
-    for (octets, field, offset) in STRUCTURED_DATA {
+fn a_fault_of_the_syntax_has_its_field_and_offset(rt: HostRuntime) -> Result<(), Fail> {
+    for (octets, field, offset) in SYNTAX_FAULTS {
         assert!(rt; at(octets) == Some((field, offset)));
     }
     Ok(())
 }
 
-#[test]
-fn a_message_stops_at_its_offset(rt: HostRuntime) -> Result<(), Fail> {
-    assert!(rt; at(b"<0>1 - - - - - - \xef\xbb\xbf\xff") == Some((Field::Message, 20)));
-    assert!(rt; at(b"<0>1 - - - - - - \xef\xbb\xbf\xe2\x82") == Some((Field::Message, 22)));
-    assert!(rt; view(b"<0>1 - - - - - - \xef\xbb").is_ok());
-    assert!(rt; view(b"<0>1 - - - - - - \xff").is_ok());
-    Ok(())
-}
+const OTHER_FAULTS: [(&[u8], Option<Fault>); 9] = [
+    (
+        b"<0>1 9999-12-31T23:59:59-00:01 - - - - [a][a]",
+        Some(Fault::InstantRange { offset: 5 }),
+    ),
+    (b"<0>1 0000-01-01T00:00:00Z - - - - -", None),
+    (
+        b"<0>1 0000-01-01T00:00:00+00:01 - - - - -",
+        Some(Fault::InstantRange { offset: 5 }),
+    ),
+    (
+        b"<0>1 - - - - - [a][b][a]",
+        Some(Fault::RepeatedId { offset: 22 }),
+    ),
+    (
+        b"<0>1 - - - - - [c][b][a][b]",
+        Some(Fault::RepeatedId { offset: 25 }),
+    ),
+    (b"<0>1 - - - - - [a k=\"1\" k=\"2\"]", None),
+    (b"<0>1 - - - - - [b][a][c]", None),
+    (b"<0>1 - - - - - - \xef\xbb", None),
+    (b"<0>1 - - - - - - \xff", None),
+];
 
 #[test]
-fn the_instant_comes_before_the_ids(rt: HostRuntime) -> Result<(), Fail> {
-    let late = view(b"<0>1 9999-12-31T23:59:59-00:01 - - - - [a][a]");
-    assert!(rt; late.err() == Some(Fault::InstantRange { offset: 5 }));
-    assert!(rt; view(b"<0>1 0000-01-01T00:00:00Z - - - - -").is_ok());
-    assert!(rt; view(b"<0>1 0000-01-01T00:00:00+00:01 - - - - -").is_err());
-    Ok(())
-}
-
-#[test]
-fn an_id_stands_once(rt: HostRuntime) -> Result<(), Fail> {
-    let twice = view(b"<0>1 - - - - - [a][b][a]");
-    assert!(rt; twice.err() == Some(Fault::RepeatedId { offset: 22 }));
-    let down = view(b"<0>1 - - - - - [c][b][a][b]");
-    assert!(rt; down.err() == Some(Fault::RepeatedId { offset: 25 }));
-    assert!(rt; view(b"<0>1 - - - - - [a k=\"1\" k=\"2\"]").is_ok());
-    assert!(rt; view(b"<0>1 - - - - - [b][a][c]").is_ok());
+fn the_instant_is_judged_before_the_ids(rt: HostRuntime) -> Result<(), Fail> {
+    for (octets, fault) in OTHER_FAULTS {
+        assert!(rt; view(octets).err() == fault);
+    }
     Ok(())
 }
 

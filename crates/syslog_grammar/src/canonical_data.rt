@@ -2,7 +2,8 @@
 
 ghost use Rattle.octet_language.specs.Language.{Only};
 ghost use Rattle.syslog_grammar.specs.Appending.{Puts};
-ghost use Rattle.syslog_grammar.specs.Canonical.{structured_data_form, element_form, escaped, param_form};
+ghost use Rattle.syslog_grammar.specs.Canonical.{structured_data_form, element_form, escaped};
+ghost use Rattle.syslog_grammar.specs.Canonical.{param_form};
 
 use crate::appending::put;
 use memchr::memchr3;

@@ -1,6 +1,7 @@
 //! Whether octets are the canonical form of a record.
 
-ghost use Rattle.std.specs.Prelude.{◌≡◌, ◌↔◌, ◌∷◌, [], ℕ, ℤ, List, IsTrue, MatchOption, length, option_map};
+ghost use Rattle.std.specs.Prelude.{◌≡◌, ◌↔◌, ◌∷◌, [], ℕ, ℤ, List, IsTrue, MatchOption, length};
+ghost use Rattle.std.specs.Prelude.{option_map};
 ghost use Rattle.octet_language.specs.Language.{◌⋅◌, AnyOf, Only};
 ghost use Rattle.octet_language.specs.Reading.{Follows};
 ghost use Rattle.syslog_value.specs.Parts.{IsRecord, Parts};
@@ -48,7 +49,8 @@ fn has_time_form(time: Option<Timestamp>, octets: &[u8]) -> bool
 /// Whether what follows the structured data, which is so many octets, is in its canonical
 /// form.
 fn has_message_form(message: &MessageView<'_>, count: usize) -> bool
-    ensures { (message_part : List ℕ) → MessagePart (message_parts message.now) message_part → count ≡ length message_part
+    ensures { (message_part : List ℕ) → MessagePart (message_parts message.now) message_part
+        → count ≡ length message_part
         → (IsTrue result ↔ (message_part ≡ message_form (message_parts message.now))) }
 {
     message.has_mark || !message.octets.is_empty() || count == 0

@@ -18,7 +18,8 @@ use crate::reescaped::put_structured_data;
 use crate::structured_data_form::{ElementOrder, has_structured_data_form};
 use std::alloc::{AllocError, Global};
 
-/// Whether a message, where there is one, has one tail alone: an empty one may have a space or none.
+/// Whether a message, where there is one, has one tail alone: an empty one may have a space or
+/// none.
 fn has_one_message_form(message: &MessageView<'_>) -> bool
     ensures { IsTrue result → HasOneMessageForm (message_parts message.now) }
 {

@@ -1,6 +1,7 @@
 //! Whether ids are distinct, in less than quadratic time and without memory.
 
-ghost use Rattle.std.specs.Prelude.{◌≡◌, ◌≤◌, ◌<◌, ◌∷◌, [], List, None, IsTrue, IfSome, MatchOption, length, take, map};
+ghost use Rattle.std.specs.Prelude.{◌≡◌, ◌≤◌, ◌<◌, ◌∷◌, [], List, None, IsTrue, IfSome};
+ghost use Rattle.std.specs.Prelude.{MatchOption, length, take, map};
 ghost use Rattle.octet_language.specs.Language.{Each};
 ghost use Rattle.syslog_value.specs.Parts.{ElementParts};
 ghost use Rattle.syslog_grammar.specs.Faults.{AreDistinct};
@@ -65,7 +66,8 @@ fn are_rising(ids: &[&[u8]]) -> bool
     true
 }
 
-/// Whether elements have distinct ids, as far as the offsets reach. Where they do not it is not reported.
+/// Whether elements have distinct ids. Where they have more than there are offsets for, the answer
+/// is false.
 fn differ_in<'a>(elements: &'a [u8], offsets: &mut [&'a [u8]]) -> bool
     ensures { IsTrue result → (es : List ElementParts) → Each Element es elements.now
         → AreDistinct es }

@@ -133,7 +133,8 @@ impl<'a> RecordView<'a> {
     ///
     /// For a view of well-formed octets it fails only when out of memory.
     pub fn to_record(&self, alloc: Global) -> Result<Record, AllocError>
-        ensures { IfOk result (λ r. (b : List ℕ) → IsViewOf b (view_parts self.now) → WellFormed r b) }
+        ensures { IfOk result (λ r. (b : List ℕ) → IsViewOf b (view_parts self.now)
+            → WellFormed r b) }
     {
         let hostname = to_word(alloc, self.hostname)?;
         let app_name = to_word(alloc, self.app_name)?;

@@ -1,7 +1,8 @@
 //! The canonical octets of structured data, from any octets that spell it.
 
 ghost use Rattle.syslog_grammar.specs.Appending.{Puts};
-ghost use Rattle.syslog_grammar.specs.Reescaped.{AreUnordered, StructuredDataOf, ElementOf, ElementsOf, IsUnordered};
+ghost use Rattle.syslog_grammar.specs.Reescaped.{AreUnordered, StructuredDataOf, ElementOf};
+ghost use Rattle.syslog_grammar.specs.Reescaped.{ElementsOf, IsUnordered};
 ghost use Rattle.syslog_grammar.specs.Reescaped.{ParamOf, ParamsOf, PutsUnless, ValueOf};
 ghost use Rattle.syslog_grammar.specs.Views.{element_span, param_span};
 
@@ -68,7 +69,8 @@ fn put_element(element: &ElementView<'_>, out: &mut Vec<u8>) -> Result<(), Alloc
 
 /// Appends elements, up to one whose id is not above those before it.
 fn put_ascending(elements: &[u8], out: &mut Vec<u8>) -> Result<bool, AllocError>
-    ensures { PutsUnless (ElementsOf elements.now) (AreUnordered elements.now) out.old.items out.new.items result }
+    ensures { PutsUnless (ElementsOf elements.now) (AreUnordered elements.now)
+        out.old.items out.new.items result }
 {
     let mut rest = elements;
     let mut greatest: Option<&[u8]> = None;
@@ -87,10 +89,11 @@ fn put_ascending(elements: &[u8], out: &mut Vec<u8>) -> Result<bool, AllocError>
     Ok(true)
 }
 
-/// Appends structured data whose elements are sorted by id. Where they are not, the answer is false,
-/// and a part of them may have been appended.
+/// Appends structured data whose elements are sorted by id. Where they are not, the answer is
+/// false, and a part of them may have been appended.
 pub fn put_structured_data(structured_data: &[u8], out: &mut Vec<u8>) -> Result<bool, AllocError>
-    ensures { PutsUnless (StructuredDataOf structured_data.now) (IsUnordered structured_data.now) out.old.items out.new.items result }
+    ensures { PutsUnless (StructuredDataOf structured_data.now) (IsUnordered structured_data.now)
+        out.old.items out.new.items result }
 {
     if has_structured_data_form(structured_data, ElementOrder::ById) {
         put(structured_data, out)?;

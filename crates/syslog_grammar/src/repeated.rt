@@ -5,7 +5,8 @@ ghost use Rattle.octet_language.specs.Language.{AnyOf, Each};
 ghost use Rattle.syslog_value.specs.Parts.{ElementParts};
 ghost use Rattle.syslog_value.specs.Structured.{HasId};
 ghost use Rattle.syslog_grammar.specs.Grammar.{StructuredDataText, Element};
-ghost use Rattle.syslog_grammar.specs.Ids.{HoldsDistinct, HoldsRepeated, IsAbove, IsAtMost, Known, Skips};
+ghost use Rattle.syslog_grammar.specs.Ids.{HoldsDistinct, HoldsRepeated, IsAbove, IsAtMost, Known};
+ghost use Rattle.syslog_grammar.specs.Ids.{Skips};
 
 use crate::distinct::differ;
 use crate::element::element;
@@ -132,11 +133,13 @@ fn behind_distinct(structured_data: &[u8]) -> &[u8]
 
 /// The offset of the first id that repeats an earlier one.
 ///
-/// Ids that ascend are distinct, which takes one pass. Others are sorted on the stack, in prefixes that are
-/// halved until the repeated id is near; from there on each id is sought among all before it.
+/// Ids that ascend are distinct, which takes one pass. Others are sorted on the stack, in prefixes
+/// that are halved until the repeated id is near; from there on each id is sought among all before
+/// it.
 pub fn first_repeated(structured_data: &[u8]) -> Option<usize>
     requires { AnyOf StructuredDataText structured_data.now }
-    ensures { MatchOption result (HoldsDistinct structured_data.now) (HoldsRepeated structured_data.now) }
+    ensures { MatchOption result (HoldsDistinct structured_data.now)
+        (HoldsRepeated structured_data.now) }
 {
     let mut rest = behind_distinct(structured_data);
     while let Some((first, _after)) = next(rest) {

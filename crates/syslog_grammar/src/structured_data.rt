@@ -1,7 +1,8 @@
 //! STRUCTURED-DATA (RFC 5424, 6.3).
 
 ghost use Rattle.std.specs.Prelude.{MatchResult};
-ghost use Rattle.syslog_grammar.specs.Spans.{EndsStructuredData, EndsElements, StopsInStructuredData, StopsInElements};
+ghost use Rattle.syslog_grammar.specs.Spans.{EndsStructuredData, EndsElements};
+ghost use Rattle.syslog_grammar.specs.Spans.{StopsInStructuredData, StopsInElements};
 
 use crate::element::element;
 use crate::reading::{Stop, next};

@@ -4,7 +4,8 @@ ghost use Rattle.std.specs.Prelude.{◌≡◌, ◌↔◌, ℕ, List, IsTrue, opt
 ghost use Rattle.std.specs.List.{flat_map};
 ghost use Rattle.octet_language.specs.Language.{Each};
 ghost use Rattle.syslog_value.specs.Parts.{ElementParts, ParamParts};
-ghost use Rattle.syslog_grammar.specs.Canonical.{structured_data_form, element_form, escaped, param_form};
+ghost use Rattle.syslog_grammar.specs.Canonical.{structured_data_form, element_form, escaped};
+ghost use Rattle.syslog_grammar.specs.Canonical.{param_form};
 ghost use Rattle.syslog_grammar.specs.ElementOrders.{IsInOrder, MayFollow};
 ghost use Rattle.syslog_grammar.specs.Grammar.{StructuredDataText, Element, Param};
 ghost use Rattle.syslog_grammar.specs.Values.{Spells};

@@ -2,7 +2,8 @@
 //! grammar.
 
 ghost use Rattle.std.specs.Prelude.{◌≡◌, ◌-◌, ◌==◌, MatchResult, count_by, length};
-ghost use Rattle.syslog_grammar.specs.Parsing.{IsCounted, IsFaultBehind, IsParsed, IsSyntaxAt, IsSyntaxFault};
+ghost use Rattle.syslog_grammar.specs.Parsing.{IsCounted, IsFaultBehind, IsParsed, IsSyntaxAt};
+ghost use Rattle.syslog_grammar.specs.Parsing.{IsSyntaxFault};
 
 use crate::fault::{Fault, Field};
 use crate::header::{HeaderFields, fields};

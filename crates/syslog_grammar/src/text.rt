@@ -11,7 +11,8 @@ use crate::reading::{Stop, next};
 /// Reads characters up to the end.
 #[cold]
 fn characters(octets: &[u8]) -> Result<(), Stop>
-    ensures { MatchResult result (λ _. IsText octets.now) (λ e. Misses IsText octets.now e.remaining) }
+    ensures { MatchResult result (λ _. IsText octets.now)
+        (λ e. Misses IsText octets.now e.remaining) }
 {
     let mut rest = octets;
     while let Some((_octet, _after)) = next(rest) {

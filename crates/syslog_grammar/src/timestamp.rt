@@ -1,16 +1,20 @@
 //! TIMESTAMP (RFC 5424, 6.2.3).
 
-ghost use Rattle.std.specs.Prelude.{◌≡◌, ◌≤◌, ◌<◌, ◌+◌, ◌-◌, ◌*◌, ◌∷◌, ◌++◌, ◌↔◌, [], length, replicate, take, drop, slice_index, IsTrue, MatchResult, option_map, IfOk};
+ghost use Rattle.std.specs.Prelude.{◌≡◌, ◌≤◌, ◌<◌, ◌+◌, ◌-◌, ◌*◌, ◌∷◌, ◌++◌, ◌↔◌, [], length};
+ghost use Rattle.std.specs.Prelude.{replicate, take, drop, slice_index, IsTrue, MatchResult};
+ghost use Rattle.std.specs.Prelude.{option_map, IfOk};
 ghost use Rattle.std.specs.List.{AllByRecursion};
 ghost use Rattle.octet_language.specs.Digits.{IsDigit, read_on};
 ghost use Rattle.octet_language.specs.Language.{IfFirst};
 ghost use Rattle.octet_language.specs.Reading.{Follows, Reads};
 ghost use Rattle.syslog_value.specs.Calendar.{is_leap, month_length};
-ghost use Rattle.syslog_grammar.specs.Dates.{Clock, Date, FractionZone, HourMinute, YearMonth, time_of};
+ghost use Rattle.syslog_grammar.specs.Dates.{Clock, Date, FractionZone, HourMinute, YearMonth};
+ghost use Rattle.syslog_grammar.specs.Dates.{time_of};
 ghost use Rattle.syslog_grammar.specs.Spans.{StopsInRun};
 ghost use Rattle.syslog_grammar.specs.Grammar.{Nilable, Spaced};
 ghost use Rattle.syslog_grammar.specs.Stops.{remaining_of};
-ghost use Rattle.syslog_grammar.specs.Time.{Decimals, OffsetText, TimeText, Two, YearText, ZoneText};
+ghost use Rattle.syslog_grammar.specs.Time.{Decimals, OffsetText, TimeText, Two, YearText};
+ghost use Rattle.syslog_grammar.specs.Time.{ZoneText};
 
 use crate::reading::{Stop, expect, next};
 use syslog_value::Civil;

@@ -36,7 +36,8 @@ pub fn micros_of(time: Option<Timestamp>) -> Result<Option<i64>, OutOfRange>
 /// that is repeated. It takes no memory.
 pub fn view(octets: &[u8]) -> Result<RecordView<'_>, Fault>
     ensures some { OnOk result (AnyOf WellFormed octets.now) }
-    ensures whole { MatchResult result (λ v. IsViewOf octets.now (view_parts v)) (FaultOf octets.now) }
+    ensures whole { MatchResult result (λ v. IsViewOf octets.now (view_parts v))
+        (FaultOf octets.now) }
     ensures none { OnErr result (¬ (AnyOf WellFormed octets.now)) }
 {
     let spelling = parse(octets)?;
