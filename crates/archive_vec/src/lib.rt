@@ -1,10 +1,16 @@
 //! A sorted archive in memory: a finite set of syslog records, each kept as its canonical octets.
+//!
+//! [`VecArchive`] is a [`archive_text::Store`]. [`VecArchive::read`] reads one from the text of an
+//! archive, and [`merge`] makes one of two.
 #![tactic(auto)]
 
 mod entry_list;
 mod merging;
 mod reading;
 mod span;
+mod store;
+#[cfg(test)]
+mod tests;
 mod vec_archive;
 mod writing;
 
