@@ -1,0 +1,11 @@
+use Rattle.std.proofs.lemmas.Bool.{false≢true}
+use Rattle.archive_text.specs.declared.limits.TheConstants.{ENTRY_MAX}
+use Rattle.archive_vec.proofs.ReadingSteps.{fault_behind, not_ascending}
+use Rattle.archive_vec.proofs.entry_list.EntryList.push_read.Goals as goal
+
+pub returns-in-Err-clause-err : goal.returns-in-Err-clause-err
+returns-in-Err-clause-err c = rw c.shifted.ensures (fault_behind ENTRY_MAX _ _ _ _ c.requires.offset c.in-Err.ensures)
+
+pub returns-then-not-is_below-clause-err : goal.returns-then-not-is_below-clause-err
+returns-then-not-is_below-clause-err c =
+    not_ascending ENTRY_MAX _ _ _ _ _ c.requires.offset c.in-Ok.ensures (λ all. false≢true (c.if-not-is_below.ensures.1 all))

@@ -1,0 +1,80 @@
+//! An archive is read from its text.
+
+ghost use Rattle.std.specs.Prelude.{◌≡◌, ◌+◌, ◌<◌, ◌^◌, ◌++◌, ◌∷◌, [], length, IfErr, IfOk};
+ghost use Rattle.archive_text.specs.Entries.{Entry};
+ghost use Rattle.archive_text.specs.Text.{entry_text, text_of};
+ghost use Rattle.archive_vec.specs.Reads.{IsFaultOn, IsReadFault, position_of, shift};
+
+use crate::entry_list::EntryList;
+use archive_text::{ArchiveFault, ENTRY_MAX, read_entry};
+use std::alloc::Global;
+use thiserror::Error;
+
+/// Why no archive was read.
+#[derive(Clone, Copy, Debug, PartialEq, Eq, Error)]
+pub enum ReadFault {
+    /// The text is no archive.
+    #[error("{0}")]
+    Bad(ArchiveFault),
+    /// A growth was refused.
+    #[error("out of memory")]
+    Memory,
+}
+
+// A fault, with its position counted from so many octets before.
+fn shifted(fault: ArchiveFault, offset: u64) -> ArchiveFault
+    requires { offset + position_of fault < 2 ^ 64 }
+    ensures { result ≡ shift offset fault }
+{
+    match fault {
+        ArchiveFault::BadFrame { at } => ArchiveFault::BadFrame { at: offset + at },
+        ArchiveFault::EntryTooLong { at } => ArchiveFault::EntryTooLong { at: offset + at },
+        ArchiveFault::BadEntry { at, fault } => ArchiveFault::BadEntry {
+            at: offset + at,
+            fault,
+        },
+        ArchiveFault::NotCanonical { at } => ArchiveFault::NotCanonical { at: offset + at },
+        ArchiveFault::NotAscending { at } => ArchiveFault::NotAscending { at: offset + at },
+    }
+}
+
+impl EntryList {
+    // Puts the entry that a text begins with behind the others, and gives what follows it. The
+    // text of the others has `offset` octets.
+    fn push_read<'a>(&mut self, text: &'a [u8], offset: u64) -> Result<&'a [u8], ReadFault>
+        requires offset { offset ≡ length (text_of self.old) }
+        requires fits { offset + length text.now < 2 ^ 64 }
+        ensures ok { IfOk result (λ rest. (e : Entry) × (text.now ≡ entry_text e ++ rest.now)
+            × (self.new ≡ self.old ++ e ∷ [])) }
+        ensures err { IfErr result (λ fault. IsFaultOn self.old text.now fault) }
+    {
+        let (entry, rest) = match read_entry(ENTRY_MAX as u64, text) {
+            Ok(read) => read,
+            Err(fault) => return Err(ReadFault::Bad(shifted(fault, offset))),
+        };
+        if !self.is_below(&entry) {
+            return Err(ReadFault::Bad(ArchiveFault::NotAscending { at: offset }));
+        }
+        match self.push(&entry) {
+            Ok(()) => Ok(rest),
+            Err(_) => Err(ReadFault::Memory),
+        }
+    }
+
+    /// Reads the entries that a text is of.
+    pub fn read(alloc: Global, text: &[u8]) -> Result<EntryList, ReadFault>
+        ensures ok { IfOk result (λ list. text.now ≡ text_of list) }
+        ensures err { IfErr result (IsReadFault text.now) }
+    {
+        let mut list = EntryList::new(alloc);
+        let mut rest = text;
+        while !rest.is_empty() {
+            let _archive = list.len();
+            rest = match list.push_read(rest, (text.len() - rest.len()) as u64) {
+                Ok(behind) => behind,
+                Err(fault) => return Err(fault),
+            };
+        }
+        Ok(list)
+    }
+}

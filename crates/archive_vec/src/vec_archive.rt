@@ -1,0 +1,163 @@
+//! A sorted archive in memory.
+
+ghost use Rattle.std.specs.Prelude.{◌≡◌, ◌<◌, ◌≤◌, ◌↔◌, ◌⊎◌, ◌^◌, List, ℕ, ℤ, [], length, take, option_map, slice_get};
+ghost use Rattle.std.specs.Prelude.{IfErr, IfOk, IsErrOf, IsTrue, OnErr, OnOk};
+ghost use Rattle.std.specs.Io.KnownBytes.{Appends};
+ghost use Rattle.syslog_value.specs.Parts.{Parts};
+ghost use Rattle.syslog_grammar.specs.ViewParts.{IsViewOf, view_parts};
+ghost use Rattle.syslog_grammar.specs.WellFormed.{WellFormed};
+ghost use Rattle.archive_text.specs.Entries.{Entry, Has, IsEntryOf};
+ghost use Rattle.archive_text.specs.Text.{IsArchive, text_of};
+ghost use Rattle.archive_text.specs.Stores.{AddsRecord};
+ghost use Rattle.archive_vec.specs.Reads.{IsReadFault};
+
+use crate::entry_list::EntryList;
+use crate::reading::ReadFault;
+use archive_text::{AddFault, Added, ENTRY_MAX, EntryView, entry_of_octets};
+use std::alloc::{AllocError, Global};
+use std::marker::Model;
+use syslog_grammar::{RecordView, canon, put_canonical};
+use syslog_value::{Output, Record, WriteFault};
+
+/// A finite set of records: the entries of an archive, in order.
+#[derive(Drop)]
+pub struct VecArchive {
+    pub(crate) list: EntryList,
+    pub(crate) scratch: Vec<u8>,
+}
+
+impl Model for VecArchive {
+    ghost use Rattle.std.specs.Prelude.{List};
+    ghost use Rattle.archive_text.specs.Entries.{Entry};
+
+    ghost Value = { List Entry };
+
+    ghost view = { λ a. a.list };
+}
+
+impl VecArchive {
+    /// No records.
+    pub fn new(alloc: Global) -> VecArchive
+        ensures { result ≡ [] }
+    {
+        VecArchive {
+            list: EntryList::new(alloc),
+            scratch: Vec::new(alloc),
+        }
+    }
+
+    /// The canonical octets of the entry with so many below it.
+    pub fn get(&self, index: usize) -> Option<&[u8]>
+        ensures { option_map (λ s. s.now) result
+            ≡ option_map (λ e. e.octets) (slice_get self.now index) }
+    {
+        if index < self.list.len() {
+            Some(self.list.at(index).octets)
+        } else {
+            None
+        }
+    }
+
+    /// Adds a record. A refusal leaves the set as it was.
+    pub fn add(&mut self, alloc: Global, record: &Record) -> Result<Added, AddFault>
+        ensures ok { IfOk result (λ added. AddsRecord record.now self.old self.new added) }
+        ensures err { OnErr result (self.new ≡ self.old) }
+        ensures long { IsErrOf result AddFault.TooLong →
+            (e : Entry) → IsEntryOf record.now e → ENTRY_MAX < length e.octets }
+    {
+        let Ok(octets) = canon(alloc, record) else {
+            return Err(AddFault::Memory);
+        };
+        let _valid = record.priority();
+        self.list.add(&EntryView {
+            instant: record.instant(),
+            octets: octets.as_slice(),
+        })
+    }
+
+    /// Adds the record that a view shows, without a copy of its parts, as `add` does.
+    pub fn add_view(&mut self, alloc: Global, view: &RecordView<'_>) -> Result<Added, AddFault>
+        ensures ok { IfOk result (λ added. (b : List ℕ) → IsViewOf b (view_parts view.now) →
+            (r : Parts ℤ) × WellFormed r b × AddsRecord r self.old self.new added) }
+        ensures err { OnErr result (self.new ≡ self.old) }
+        ensures long { IsErrOf result AddFault.TooLong →
+            (b : List ℕ) → IsViewOf b (view_parts view.now) →
+            (r : Parts ℤ) (e : Entry) → WellFormed r b → IsEntryOf r e
+            → ENTRY_MAX < length e.octets }
+    {
+        self.scratch.clear();
+        if put_canonical(alloc, view, &mut self.scratch).is_err() {
+            return Err(AddFault::Memory);
+        }
+        // of a view of octets they are an entry
+        match entry_of_octets(self.scratch.as_slice()) {
+            Ok(entry) => self.list.add(&entry),
+            Err(_) => Err(AddFault::Memory),
+        }
+    }
+
+    /// Whether a record is held.
+    pub fn holds(&self, alloc: Global, record: &Record) -> Result<bool, AllocError>
+        ensures { IfOk result (λ held. (e : Entry) → IsEntryOf record.now e →
+            (IsTrue held ↔ Has self.now e)) }
+    {
+        let octets = canon(alloc, record)?;
+        let _valid = record.priority();
+        let entry = EntryView {
+            instant: record.instant(),
+            octets: octets.as_slice(),
+        };
+        Ok(self.list.find(&entry).is_ok())
+    }
+
+    /// How many records are held.
+    pub fn len(&self) -> usize
+        ensures value { result ≡ length self.now }
+        ensures archive { IsArchive ENTRY_MAX self.now }
+    {
+        self.list.len()
+    }
+
+    /// Writes the text of the archive. Under a fault its first octets were written, so many as the
+    /// fault says.
+    pub fn write<W: Output>(&self, writer: &mut W) -> Result<(), WriteFault>
+        ensures ok { OnOk result (Appends (W.taken writer.old) (W.taken writer.new)
+            (text_of self.now)) }
+        ensures no_failure { OnOk result (W.failures writer.new ≡ W.failures writer.old) }
+        ensures some_left { IfErr result (λ fault. fault.sent < length (text_of self.now)) }
+        ensures sent { IfErr result (λ fault. Appends (W.taken writer.old) (W.taken writer.new)
+            (take fault.sent (text_of self.now))) }
+        ensures cause { W.failures writer.old < 2 ^ 63 →
+            OnErr result (W.failures writer.old < W.failures writer.new) }
+    {
+        self.list.write(writer)
+    }
+
+    /// Reads an archive from its text, whose entries are then the archive's.
+    pub fn read(alloc: Global, text: &[u8]) -> Result<VecArchive, ReadFault>
+        ensures ok { IfOk result (λ archive. text.now ≡ text_of archive) }
+        ensures err { IfErr result (IsReadFault text.now) }
+    {
+        match EntryList::read(alloc, text) {
+            Ok(list) => Ok(VecArchive {
+                list,
+                scratch: Vec::new(alloc),
+            }),
+            Err(fault) => Err(fault),
+        }
+    }
+}
+
+/// The archive of the records of two archives.
+pub fn merge(alloc: Global, left: &VecArchive, right: &VecArchive) -> Result<VecArchive, AllocError>
+    ensures members { IfOk result (λ merged. (e : Entry) →
+        Has merged e ↔ (Has left.now e ⊎ Has right.now e)) }
+    ensures archive { IfOk result (λ merged. IsArchive ENTRY_MAX merged) }
+{
+    let list = left.list.merged(alloc, &right.list)?;
+    let _archive = list.len();
+    Ok(VecArchive {
+        list,
+        scratch: Vec::new(alloc),
+    })
+}
