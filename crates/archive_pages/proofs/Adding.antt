@@ -3,8 +3,8 @@ use Rattle.std.proofs.Common.{◌≡◌, ℕ, ◌+◌, ◌≤◌, List, [], ◌�
 use Rattle.std.proofs.lemmas.Bool.{false≢true}
 use Rattle.std.proofs.lemmas.List.{length-map}
 use Rattle.std.specs.List.{AllByRecursion}
-use Rattle.std.specs.Prelude.{◌↔◌, Bool, IsTrue, Option, Some, None}
-use Rattle.std.specs.Option.{is_none}
+use Rattle.std.specs.Prelude.{◌↔◌, Bool, true, false, not, IsTrue, Option, Some, None}
+use Rattle.std.specs.Option.{is_some}
 use Rattle.archive_text.specs.Entries.{Entry, Has, IsBelow, IsEntry}
 use Rattle.archive_text.specs.Stores.{AddsEntry}
 use Rattle.archive_text.specs.Text.{IsArchive}
@@ -159,6 +159,8 @@ pub count_held : (old new : Blocks) (pages more : List (List Span)) (e : Entry) 
 count_held old new pages more e (has, same) = count_same old new pages more same
 
 -- where no place is found the entry is held
-pub none_held : (blocks : Blocks) (pages : List (List Span)) (e : Entry) (o : Option (ℕ × ℕ)) (r : Bool) → r ≡ is_none o → IsPlace blocks pages e o → IsTrue r ↔ Has (entries_of blocks pages) e
-none_held blocks pages e None r is h = (λ t. h, λ has. is)
-none_held blocks pages e (Some p) r is h = (λ t. absurd (false≢true (sym is ∙ t)), λ has. absurd (not_held blocks pages e p.0 p.1 h has))
+pub none_held : (blocks : Blocks) (pages : List (List Span)) (e : Entry) (o : Option (ℕ × ℕ)) (r : Bool) → is_some o ≡ not r → IsPlace blocks pages e o → IsTrue r ↔ Has (entries_of blocks pages) e
+none_held blocks pages e None true h is = (λ t. is, λ has. refl)
+none_held blocks pages e None false h is = absurd (false≢true h)
+none_held blocks pages e (Some p) true h is = absurd (false≢true (sym h))
+none_held blocks pages e (Some p) false h is = (λ t. absurd (false≢true t), λ has. absurd (not_held blocks pages e p.0 p.1 is has))
