@@ -1,0 +1,39 @@
+use Rattle.std.proofs.Common.{arith}
+use Rattle.archive_text.specs.EntryViews.{entry_of}
+use Rattle.archive_pages.specs.Spans.{blocks_of, entry_at}
+use Rattle.archive_pages.proofs.Searching.{above_index, below_index, has_index, order_above, order_below, order_same}
+use Rattle.archive_pages.proofs.search.search_page.Goals as goal
+
+pub loop-low-preserved-in-Less : goal.loop-low-preserved-in-Less
+loop-low-preserved-in-Less c =
+    let blocks = blocks_of c.args.arena.now in
+    let e = entry_of c.args.entry.now in
+    let s = c.index-page-middle.result in
+    record {
+      ordered = omega arith;
+      within = omega arith;
+      below = below_index blocks e c.args.page.now _ s (omega arith) c.index-page-middle.is c.requires.ascending
+          (order_below (entry_of c.entry.result) (entry_at blocks s) e c.compare.result c.entry.ensures c.compare.ensures c.in-Less.is);
+      above = c.loop-low.invariant.above;
+    }
+
+pub returns-in-Equal : goal.returns-in-Equal
+returns-in-Equal c =
+    let blocks = blocks_of c.args.arena.now in
+    let e = entry_of c.args.entry.now in
+    let s = c.index-page-middle.result in
+    has_index blocks e c.args.page.now _ s (omega arith) c.index-page-middle.is
+    (order_same (entry_of c.entry.result) (entry_at blocks s) e c.compare.result c.entry.ensures c.compare.ensures c.in-Equal.is)
+
+pub loop-low-preserved : goal.loop-low-preserved
+loop-low-preserved c =
+    let blocks = blocks_of c.args.arena.now in
+    let e = entry_of c.args.entry.now in
+    let s = c.index-page-middle.result in
+    record {
+      ordered = omega arith;
+      within = omega arith;
+      below = c.loop-low.invariant.below;
+      above = above_index blocks e c.args.page.now _ s (omega arith) c.index-page-middle.is c.requires.ascending
+          (order_above (entry_of c.entry.result) (entry_at blocks s) e c.compare.result c.entry.ensures c.compare.ensures c.in-Greater.is);
+    }

@@ -1,0 +1,42 @@
+-- Pages of spans.
+use Rattle.std.specs.Prelude.{◌≡◌, ℕ, ◌+◌, ◌<◌, ◌≤◌, List, [], ◌++◌, length, take, drop, slice_index_or}
+use Rattle.std.specs.List.{AllByRecursion, flat_map}
+use Rattle.archive_text.specs.Entries.{Entry, IsAscending}
+use Rattle.archive_text.specs.Text.{IsArchive}
+use Rattle.archive_text.specs.declared.limits.TheConstants.{ENTRY_MAX}
+use Rattle.archive_pages.specs.Spans.{IsWithin, entries_at}
+use Rattle.archive_pages.specs.declared.arena.Span.{Span}
+use Rattle.archive_pages.specs.declared.page.TheConstants.{PAGE_MAX}
+
+-- one page behind the other
+abbrev pub joined : List (List Span) → List Span
+joined pages = flat_map (λ p. p) pages
+
+abbrev pub page_at : List (List Span) → ℕ → List Span
+page_at pages k = slice_index_or pages k []
+
+-- the spans in front of one place of a page, and those behind it
+abbrev pub before : List (List Span) → ℕ → ℕ → List Span
+before pages k at = joined (take k pages) ++ take at (page_at pages k)
+
+abbrev pub after : List (List Span) → ℕ → ℕ → List Span
+after pages k at = drop at (page_at pages k) ++ joined (drop (k + 1) pages)
+
+-- each page has one to 256 spans
+abbrev pub HaveSizes : List (List Span) → Type 0
+HaveSizes pages = AllByRecursion (λ p. (0 < length p) × (length p ≤ PAGE_MAX)) pages
+
+abbrev pub entries_of : List (List ℕ) → List (List Span) → List Entry
+entries_of blocks pages = entries_at blocks (joined pages)
+
+-- what a search needs of pages
+pub record AreSearchable (blocks : List (List ℕ)) (pages : List (List Span)) : Type 0 where
+  pub sizes : HaveSizes pages
+  pub within : AllByRecursion (IsWithin blocks) (joined pages)
+  pub ascending : IsAscending (entries_of blocks pages)
+
+-- the pages of an archive
+pub record ArePaged (blocks : List (List ℕ)) (pages : List (List Span)) : Type 0 where
+  pub sizes : HaveSizes pages
+  pub within : AllByRecursion (IsWithin blocks) (joined pages)
+  pub archive : IsArchive ENTRY_MAX (entries_of blocks pages)

@@ -1,0 +1,130 @@
+//! The octets of entries, in few large blocks that only grow at their end.
+
+ghost use Rattle.std.specs.Prelude.{◌≡◌, ◌<◌, ◌≤◌, ◌+◌, ◌++◌, ◌^◌, ℕ, [], length, IfOk};
+ghost use Rattle.archive_text.specs.EntryViews.{entry_of};
+ghost use Rattle.archive_pages.specs.Spans.{IsWithin, Keeps, block_at, blocks_of, entry_at, lists_of, span_with};
+
+use archive_text::{ENTRY_MAX, EntryView};
+use std::alloc::{AllocError, Global};
+use syslog_value::Instant;
+
+// the capacity of a block, which each entry fits
+const BLOCK: usize = 1_048_576;
+
+/// An entry: its instant, if it has one, and where its octets are in an arena.
+#[derive(Clone, Copy, Debug)]
+pub struct Span {
+    pub instant: Option<Instant>,
+    pub block: u32,
+    pub start: u32,
+    pub len: u32,
+}
+
+/// Where octets are in an arena.
+#[derive(Clone, Copy, Debug)]
+pub struct Extent {
+    pub block: u32,
+    pub start: u32,
+    pub len: u32,
+}
+
+/// The span of an entry whose octets are there.
+pub fn span_of(entry: &EntryView<'_>, extent: Extent) -> Span
+    ensures { result ≡ span_with entry.now.instant extent }
+{
+    Span {
+        instant: entry.instant,
+        block: extent.block,
+        start: extent.start,
+        len: extent.len,
+    }
+}
+
+/// Blocks of octets.
+#[derive(Debug, Drop)]
+pub struct Arena {
+    blocks: Vec<Vec<u8>>,
+}
+
+// The index of a block with room for so many octets: the last one, or a new one.
+fn block_with_room(
+    alloc: Global,
+    blocks: &mut Vec<Vec<u8>>,
+    len: usize,
+) -> Result<usize, AllocError>
+    requires { len ≤ ENTRY_MAX }
+    ensures index { IfOk result (λ k. (k < length blocks.new.items) × (k < 2 ^ 32)) }
+    ensures room { IfOk result (λ k.
+        length (block_at (lists_of blocks.new.items) k) + len ≤ BLOCK) }
+    ensures keeps { Keeps (lists_of blocks.old.items) (lists_of blocks.new.items) }
+{
+    let count = blocks.len();
+    if count > u32::MAX as usize {
+        return Err(AllocError);
+    }
+    if count > 0 && blocks[count - 1].len() <= BLOCK - len {
+        return Ok(count - 1);
+    }
+    let block = Vec::with_capacity(alloc, BLOCK)?;
+    blocks.push(block)?;
+    Ok(count)
+}
+
+// Appends octets to a block, and answers where they start in it.
+fn append(blocks: &mut Vec<Vec<u8>>, k: usize, octets: &[u8]) -> Result<usize, AllocError>
+    requires { k < length blocks.old.items }
+    ensures start { IfOk result (λ start.
+        start ≡ length (block_at (lists_of blocks.old.items) k)) }
+    ensures count { length blocks.new.items ≡ length blocks.old.items }
+    ensures octets { IfOk result (λ _. block_at (lists_of blocks.new.items) k
+        ≡ block_at (lists_of blocks.old.items) k ++ octets.now) }
+    ensures keeps { Keeps (lists_of blocks.old.items) (lists_of blocks.new.items) }
+{
+    let block = &mut blocks[k];
+    let start = block.len();
+    block.extend_from_slice(octets)?;
+    Ok(start)
+}
+
+impl Arena {
+    /// An arena of no blocks, which takes no memory.
+    pub fn new(alloc: Global) -> Arena
+        ensures { blocks_of result ≡ [] }
+    {
+        Arena {
+            blocks: Vec::new(alloc),
+        }
+    }
+
+    /// The entry of a span.
+    pub fn entry(&self, span: Span) -> EntryView<'_>
+        requires { IsWithin (blocks_of self.now) span }
+        ensures { entry_of result ≡ entry_at (blocks_of self.now) span }
+    {
+        let start = span.start as usize;
+        let end = start + span.len as usize;
+        EntryView {
+            instant: span.instant,
+            octets: &self.blocks[span.block as usize][start..end],
+        }
+    }
+
+    /// Copies the octets of an entry, and answers where they are. All entries stay where they are.
+    pub fn push(&mut self, alloc: Global, entry: &EntryView<'_>) -> Result<Extent, AllocError>
+        requires { length entry.now.octets.now ≤ ENTRY_MAX }
+        ensures within { IfOk result (λ x.
+            IsWithin (blocks_of self.new) (span_with entry.now.instant x)) }
+        ensures value { IfOk result (λ x.
+            entry_at (blocks_of self.new) (span_with entry.now.instant x) ≡ entry_of entry.now) }
+        ensures keeps { Keeps (blocks_of self.old) (blocks_of self.new) }
+    {
+        let len = entry.octets.len();
+        let block = block_with_room(alloc, &mut self.blocks, len)?;
+        let start = append(&mut self.blocks, block, entry.octets)?;
+        Ok(Extent {
+            block: block as u32,
+            start: start as u32,
+            len: len as u32,
+        })
+    }
+}

@@ -1,0 +1,120 @@
+//! Entries are added to pages.
+
+ghost use Rattle.std.specs.Prelude.{◌≡◌, ◌≤◌, ◌↔◌, ℕ, [], ◌∷◌, length, IfOk, OnErr, OnOk, IsTrue};
+ghost use Rattle.archive_text.specs.Entries.{Has, IsEntry};
+ghost use Rattle.archive_text.specs.EntryViews.{entry_of};
+ghost use Rattle.archive_text.specs.Stores.{AddsEntry};
+ghost use Rattle.archive_pages.specs.Spans.{blocks_of, lists_of};
+ghost use Rattle.archive_pages.specs.Pages.{ArePaged, entries_of};
+ghost use Rattle.archive_pages.specs.Places.{GoesTo};
+ghost use Rattle.archive_text.specs.declared.store.Added.TheVariants.{New};
+
+use crate::arena::{Arena, Span, span_of};
+use crate::page::{insert_span, page_of};
+use crate::search::place_of;
+use archive_text::{Added, ENTRY_MAX, EntryView};
+use std::alloc::{AllocError, Global};
+
+// Makes the first page, of one span.
+fn push_first(alloc: Global, pages: &mut Vec<Vec<Span>>, span: Span) -> Result<(), AllocError>
+    requires { pages.old.items ≡ [] }
+    ensures ok { OnOk result (lists_of pages.new.items ≡ (span ∷ []) ∷ []) }
+    ensures err { OnErr result (pages.new.items ≡ []) }
+{
+    let page = page_of(alloc, &[span], &[])?;
+    pages.push(page)?;
+    Ok(())
+}
+
+// Adds the first entry.
+fn add_first(
+    alloc: Global,
+    arena: &mut Arena,
+    pages: &mut Vec<Vec<Span>>,
+    entry: &EntryView<'_>,
+) -> Result<(), AllocError>
+    requires none { pages.old.items ≡ [] }
+    requires paged { ArePaged (blocks_of arena.old) (lists_of pages.old.items) }
+    requires entry { IsEntry (entry_of entry.now) }
+    requires fits { length entry.now.octets.now ≤ ENTRY_MAX }
+    ensures paged { ArePaged (blocks_of arena.new) (lists_of pages.new.items) }
+    ensures ok { OnOk result (AddsEntry (entry_of entry.now)
+        (entries_of (blocks_of arena.old) (lists_of pages.old.items))
+        (entries_of (blocks_of arena.new) (lists_of pages.new.items)) New) }
+    ensures err { OnErr result (entries_of (blocks_of arena.new) (lists_of pages.new.items)
+        ≡ entries_of (blocks_of arena.old) (lists_of pages.old.items)) }
+{
+    let extent = arena.push(alloc, entry)?;
+    let span = span_of(entry, extent);
+    push_first(alloc, pages, span)
+}
+
+// Adds an entry to a page, in front of the span of this index.
+fn add_at(
+    alloc: Global,
+    arena: &mut Arena,
+    pages: &mut Vec<Vec<Span>>,
+    entry: &EntryView<'_>,
+    page: usize,
+    index: usize,
+) -> Result<(), AllocError>
+    requires place { GoesTo (blocks_of arena.old) (lists_of pages.old.items)
+        (entry_of entry.now) page index }
+    requires paged { ArePaged (blocks_of arena.old) (lists_of pages.old.items) }
+    requires entry { IsEntry (entry_of entry.now) }
+    requires fits { length entry.now.octets.now ≤ ENTRY_MAX }
+    ensures paged { ArePaged (blocks_of arena.new) (lists_of pages.new.items) }
+    ensures ok { OnOk result (AddsEntry (entry_of entry.now)
+        (entries_of (blocks_of arena.old) (lists_of pages.old.items))
+        (entries_of (blocks_of arena.new) (lists_of pages.new.items)) New) }
+    ensures err { OnErr result (entries_of (blocks_of arena.new) (lists_of pages.new.items)
+        ≡ entries_of (blocks_of arena.old) (lists_of pages.old.items)) }
+{
+    let extent = arena.push(alloc, entry)?;
+    let span = span_of(entry, extent);
+    insert_span(alloc, pages, page, index, span)
+}
+
+/// Adds an entry. All growths come before a change of a page or of the index, and a refused one
+/// leaves the entries as they were.
+pub fn add_entry(
+    alloc: Global,
+    arena: &mut Arena,
+    pages: &mut Vec<Vec<Span>>,
+    entry: &EntryView<'_>,
+) -> Result<Added, AllocError>
+    requires paged { ArePaged (blocks_of arena.old) (lists_of pages.old.items) }
+    requires entry { IsEntry (entry_of entry.now) }
+    requires fits { length entry.now.octets.now ≤ ENTRY_MAX }
+    ensures paged { ArePaged (blocks_of arena.new) (lists_of pages.new.items) }
+    ensures ok { IfOk result (AddsEntry (entry_of entry.now)
+        (entries_of (blocks_of arena.old) (lists_of pages.old.items))
+        (entries_of (blocks_of arena.new) (lists_of pages.new.items))) }
+    ensures err { OnErr result (entries_of (blocks_of arena.new) (lists_of pages.new.items)
+        ≡ entries_of (blocks_of arena.old) (lists_of pages.old.items)) }
+{
+    if pages.len() == 0 {
+        add_first(alloc, arena, pages, entry)?;
+        return Ok(Added::New);
+    }
+    match place_of(arena, pages, entry) {
+        None => Ok(Added::Held),
+        Some((page, index)) => {
+            add_at(alloc, arena, pages, entry, page, index)?;
+            Ok(Added::New)
+        }
+    }
+}
+
+/// Whether pages hold an entry.
+pub fn holds_entry(arena: &Arena, pages: &[Vec<Span>], entry: &EntryView<'_>) -> bool
+    requires { ArePaged (blocks_of arena.now) (lists_of pages.now) }
+    ensures { IsTrue result
+        ↔ Has (entries_of (blocks_of arena.now) (lists_of pages.now)) (entry_of entry.now) }
+{
+    if pages.len() == 0 {
+        return false;
+    }
+    let place = place_of(arena, pages, entry);
+    place.is_none()
+}

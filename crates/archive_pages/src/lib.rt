@@ -1,0 +1,15 @@
+//! An archive in memory for large sets: pages of entries in ascending order under an ordered index,
+//! and their octets in few large blocks.
+#![tactic(auto)]
+
+mod arena;
+mod index;
+mod page;
+mod paged;
+mod search;
+mod writing;
+
+pub use paged::PagedArchive;
+
+#[cfg(test)]
+mod tests;

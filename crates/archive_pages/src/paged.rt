@@ -1,0 +1,146 @@
+//! Archives of pages.
+
+ghost use Rattle.std.specs.Prelude.{◌≡◌, ◌<◌, ◌≤◌, ℕ, [], length, IfOk, OnErr, IsErrOf};
+ghost use Rattle.archive_text.specs.Entries.{IsEntry};
+ghost use Rattle.archive_text.specs.EntryViews.{entry_of};
+ghost use Rattle.archive_text.specs.Stores.{AddsEntry};
+ghost use Rattle.archive_pages.specs.Spans.{blocks_of, lists_of};
+ghost use Rattle.archive_pages.specs.Pages.{ArePaged, entries_of, joined};
+ghost use Rattle.archive_pages.specs.Props.{ArePaged-prop};
+ghost use Rattle.archive_pages.specs.declared.paged.TheConstants.{RECORDS_MAX};
+
+use crate::arena::{Arena, Span};
+use crate::index::{add_entry, holds_entry};
+use crate::writing::write_pages;
+use archive_text::{AddFault, Added, ENTRY_MAX, EntryView, Store, entry_of_octets};
+use std::alloc::{AllocError, Global};
+use syslog_grammar::{RecordView, canon, put_canonical};
+use syslog_value::{Output, Record, WriteFault};
+
+// more records than any memory holds
+const RECORDS_MAX: usize = 1_099_511_627_776;
+
+/// A set of records in memory, made for millions of them. Its entries lie in pages of at most 256,
+/// in ascending order, under an index in order.
+#[derive(Debug, Drop)]
+pub struct PagedArchive {
+    arena: Arena,
+    pages: Vec<Vec<Span>>,
+    count: usize,
+    // the canonical octets of the view that is added
+    scratch: Vec<u8>,
+    ghost paged: { ArePaged (blocks_of arena) (lists_of pages.items) } by { ArePaged-prop (blocks_of arena) (lists_of pages.items) },
+    ghost counted: { count ≡ length (joined (lists_of pages.items)) },
+    ghost few: { count ≤ RECORDS_MAX },
+}
+
+impl PagedArchive {
+    /// An empty set, which takes no memory.
+    pub fn new(alloc: Global) -> PagedArchive
+        ensures { ⟦<PagedArchive as Store>⟧.entries result ≡ [] }
+    {
+        PagedArchive {
+            arena: Arena::new(alloc),
+            pages: Vec::new(alloc),
+            count: 0,
+            scratch: Vec::new(alloc),
+        }
+    }
+}
+
+// Adds an entry, and counts it where it is new.
+fn add_counted(
+    alloc: Global,
+    arena: &mut Arena,
+    pages: &mut Vec<Vec<Span>>,
+    count: &mut usize,
+    entry: &EntryView<'_>,
+) -> Result<Added, AddFault>
+    requires paged { ArePaged (blocks_of arena.old) (lists_of pages.old.items) }
+    requires counted { count.old ≡ length (joined (lists_of pages.old.items)) }
+    requires few { count.old ≤ RECORDS_MAX }
+    requires entry { IsEntry (entry_of entry.now) }
+    ensures paged { ArePaged (blocks_of arena.new) (lists_of pages.new.items) }
+    ensures counted { count.new ≡ length (joined (lists_of pages.new.items)) }
+    ensures few { count.new ≤ RECORDS_MAX }
+    ensures ok { IfOk result (AddsEntry (entry_of entry.now)
+        (entries_of (blocks_of arena.old) (lists_of pages.old.items))
+        (entries_of (blocks_of arena.new) (lists_of pages.new.items))) }
+    ensures err { OnErr result (entries_of (blocks_of arena.new) (lists_of pages.new.items)
+        ≡ entries_of (blocks_of arena.old) (lists_of pages.old.items)) }
+    ensures long { IsErrOf result AddFault.TooLong → ENTRY_MAX < length entry.now.octets.now }
+{
+    if entry.octets.len() > ENTRY_MAX {
+        return Err(AddFault::TooLong);
+    }
+    if *count >= RECORDS_MAX {
+        return Err(AddFault::Memory);
+    }
+    match add_entry(alloc, arena, pages, entry) {
+        Ok(Added::New) => {
+            *count += 1;
+            Ok(Added::New)
+        }
+        Ok(Added::Held) => Ok(Added::Held),
+        Err(AllocError) => Err(AddFault::Memory),
+    }
+}
+
+impl Store for PagedArchive {
+    ghost entries = { λ s. entries_of (blocks_of s.arena) (lists_of s.pages.items) };
+
+    ghost archive = { λ s. s.paged.archive };
+
+    fn add(&mut self, alloc: Global, record: &Record) -> Result<Added, AddFault> {
+        let octets = match canon(alloc, record) {
+            Ok(octets) => octets,
+            Err(AllocError) => return Err(AddFault::Memory),
+        };
+        let _ = record.priority();
+        let entry = EntryView {
+            instant: record.instant(),
+            octets: octets.as_slice(),
+        };
+        add_counted(
+            alloc,
+            &mut self.arena,
+            &mut self.pages,
+            &mut self.count,
+            &entry,
+        )
+    }
+
+    fn add_view(&mut self, alloc: Global, view: &RecordView<'_>) -> Result<Added, AddFault> {
+        self.scratch.clear();
+        if put_canonical(alloc, view, &mut self.scratch).is_err() {
+            return Err(AddFault::Memory);
+        }
+        match entry_of_octets(&self.scratch) {
+            Ok(entry) => add_counted(
+                alloc,
+                &mut self.arena,
+                &mut self.pages,
+                &mut self.count,
+                &entry,
+            ),
+            Err(_) => Err(AddFault::Memory),
+        }
+    }
+
+    fn holds(&self, alloc: Global, record: &Record) -> Result<bool, AllocError> {
+        let octets = canon(alloc, record)?;
+        let entry = EntryView {
+            instant: record.instant(),
+            octets: octets.as_slice(),
+        };
+        Ok(holds_entry(&self.arena, &self.pages, &entry))
+    }
+
+    fn len(&self) -> usize {
+        self.count
+    }
+
+    fn write<W: Output>(&self, writer: &mut W) -> Result<(), WriteFault> {
+        write_pages(writer, &self.arena, &self.pages)
+    }
+}

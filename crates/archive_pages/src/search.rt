@@ -1,0 +1,91 @@
+//! Where an entry is among pages.
+
+ghost use Rattle.std.specs.Prelude.{◌≡◌, ◌<◌, ◌≤◌, ◌+◌, ℕ, length};
+ghost use Rattle.std.specs.Bool.{MatchBool};
+ghost use Rattle.std.specs.List.{AllByRecursion};
+ghost use Rattle.archive_text.specs.Entries.{IsAscending};
+ghost use Rattle.archive_text.specs.EntryViews.{entry_of};
+ghost use Rattle.archive_pages.specs.Spans.{IsWithin, blocks_of, entries_at, lists_of};
+ghost use Rattle.archive_pages.specs.Pages.{AreSearchable};
+ghost use Rattle.archive_pages.specs.Places.{BeginsAbove, BeginsUpTo, IsInsertion, IsLastOrder, IsPage, IsPlace};
+
+use crate::arena::{Arena, Span};
+use archive_text::{EntryView, compare};
+use std::cmp::Ordering;
+
+// Where an entry goes in a page: in front of the span of this index. None where it is held.
+fn search_page(arena: &Arena, page: &[Span], entry: &EntryView<'_>) -> Option<usize>
+    requires within { AllByRecursion (IsWithin (blocks_of arena.now)) page.now }
+    requires ascending { IsAscending (entries_at (blocks_of arena.now) page.now) }
+    ensures { IsInsertion (blocks_of arena.now) page.now (entry_of entry.now) result }
+{
+    let mut low = 0;
+    let mut high = page.len();
+    while low < high {
+        let middle = low + (high - low) / 2;
+        match compare(&arena.entry(page[middle]), entry) {
+            Ordering::Less => low = middle + 1,
+            Ordering::Equal => return None,
+            Ordering::Greater => high = middle,
+        }
+    }
+    Some(low)
+}
+
+// Whether a page begins above an entry.
+fn begins_above(arena: &Arena, page: &[Span], entry: &EntryView<'_>) -> bool
+    requires some { 0 < length page.now }
+    requires within { AllByRecursion (IsWithin (blocks_of arena.now)) page.now }
+    ensures { MatchBool result
+        (BeginsAbove (blocks_of arena.now) page.now (entry_of entry.now))
+        (BeginsUpTo (blocks_of arena.now) page.now (entry_of entry.now)) }
+{
+    compare(&arena.entry(page[0]), entry) == Ordering::Greater
+}
+
+// How the last entry of a page compares with an entry.
+fn compare_last(arena: &Arena, page: &[Span], entry: &EntryView<'_>) -> Ordering
+    requires some { 0 < length page.now }
+    requires within { AllByRecursion (IsWithin (blocks_of arena.now)) page.now }
+    ensures { IsLastOrder (blocks_of arena.now) page.now (entry_of entry.now) result }
+{
+    let last = page.len() - 1;
+    compare(&arena.entry(page[last]), entry)
+}
+
+// The page for an entry: all entries of earlier pages are below it, all of later ones above it.
+fn page_for(arena: &Arena, pages: &[Vec<Span>], entry: &EntryView<'_>) -> usize
+    requires some { 0 < length pages.now }
+    requires pages { AreSearchable (blocks_of arena.now) (lists_of pages.now) }
+    ensures { IsPage (blocks_of arena.now) (lists_of pages.now) (entry_of entry.now) result }
+{
+    let mut low = 0;
+    let mut high = pages.len();
+    while low < high {
+        let middle = low + (high - low) / 2;
+        if begins_above(arena, &pages[middle], entry) {
+            high = middle;
+        } else {
+            low = middle + 1;
+        }
+    }
+    low.saturating_sub(1)
+}
+
+/// Where an entry goes among pages: into this page, in front of the span of this index. None where
+/// it is held. An entry above all others takes one comparison.
+pub fn place_of(arena: &Arena, pages: &[Vec<Span>], entry: &EntryView<'_>) -> Option<(usize, usize)>
+    requires some { 0 < length pages.now }
+    requires pages { AreSearchable (blocks_of arena.now) (lists_of pages.now) }
+    ensures { IsPlace (blocks_of arena.now) (lists_of pages.now) (entry_of entry.now) result }
+{
+    let end = pages.len() - 1;
+    match compare_last(arena, &pages[end], entry) {
+        Ordering::Less => return Some((end, pages[end].len())),
+        Ordering::Equal => return None,
+        Ordering::Greater => {}
+    }
+    let page = page_for(arena, pages, entry);
+    let index = search_page(arena, &pages[page], entry)?;
+    Some((page, index))
+}

@@ -1,0 +1,103 @@
+//! The text of pages.
+
+ghost use Rattle.std.specs.Prelude.{◌≡◌, ◌<◌, ◌^◌, length, take, IfErr, OnErr, OnOk};
+ghost use Rattle.std.specs.Io.KnownBytes.{Appends};
+ghost use Rattle.std.specs.List.{AllByRecursion};
+ghost use Rattle.archive_text.specs.EntryViews.{entry_of};
+ghost use Rattle.archive_text.specs.Text.{entry_text, text_of};
+ghost use Rattle.archive_pages.specs.Pages.{entries_of, joined};
+ghost use Rattle.archive_pages.specs.Spans.{IsWithin, blocks_of, entries_at, lists_of};
+ghost use Rattle.archive_pages.specs.Writing.{Puts, StopsPutting};
+
+use crate::arena::{Arena, Span};
+use archive_text::EntryView;
+use held_output::HeldOutput;
+use itoa::Buffer;
+use syslog_value::{Output, WriteFault};
+
+// Puts the text of an entry: its length, a space and its octets.
+fn put_entry<W: Output>(
+    held: &mut HeldOutput,
+    writer: &mut W,
+    entry: &EntryView<'_>,
+) -> Result<(), WriteFault>
+    ensures ok { OnOk result (Puts (W.taken writer.old) (W.taken writer.new) held.old held.new
+        (entry_text (entry_of entry.now))) }
+    ensures no_failure { OnOk result (W.failures writer.new ≡ W.failures writer.old) }
+    ensures err { IfErr result (λ fault. StopsPutting (W.taken writer.old) (W.taken writer.new)
+        held.old (entry_text (entry_of entry.now)) fault.sent) }
+    ensures cause { W.failures writer.old < 2 ^ 63 →
+        OnErr result (W.failures writer.old < W.failures writer.new) }
+{
+    let mut buffer = Buffer::new();
+    held.put(writer, buffer.format(entry.octets.len()).as_bytes())?;
+    held.put(writer, b" ")?;
+    held.put(writer, entry.octets)
+}
+
+// Puts the text of a page's entries.
+fn put_page<W: Output>(
+    held: &mut HeldOutput,
+    writer: &mut W,
+    arena: &Arena,
+    page: &[Span],
+) -> Result<(), WriteFault>
+    requires { AllByRecursion (IsWithin (blocks_of arena.now)) page.now }
+    ensures ok { OnOk result (Puts (W.taken writer.old) (W.taken writer.new) held.old held.new
+        (text_of (entries_at (blocks_of arena.now) page.now))) }
+    ensures no_failure { OnOk result (W.failures writer.new ≡ W.failures writer.old) }
+    ensures err { IfErr result (λ fault. StopsPutting (W.taken writer.old) (W.taken writer.new)
+        held.old (text_of (entries_at (blocks_of arena.now) page.now)) fault.sent) }
+    ensures cause { W.failures writer.old < 2 ^ 63 →
+        OnErr result (W.failures writer.old < W.failures writer.new) }
+{
+    for span in page {
+        put_entry(held, writer, &arena.entry(*span))?;
+    }
+    Ok(())
+}
+
+// Puts the text of the entries of all pages.
+fn put_pages<W: Output>(
+    held: &mut HeldOutput,
+    writer: &mut W,
+    arena: &Arena,
+    pages: &[Vec<Span>],
+) -> Result<(), WriteFault>
+    requires { AllByRecursion (IsWithin (blocks_of arena.now)) (joined (lists_of pages.now)) }
+    ensures ok { OnOk result (Puts (W.taken writer.old) (W.taken writer.new) held.old held.new
+        (text_of (entries_of (blocks_of arena.now) (lists_of pages.now)))) }
+    ensures no_failure { OnOk result (W.failures writer.new ≡ W.failures writer.old) }
+    ensures err { IfErr result (λ fault. StopsPutting (W.taken writer.old) (W.taken writer.new)
+        held.old (text_of (entries_of (blocks_of arena.now) (lists_of pages.now))) fault.sent) }
+    ensures cause { W.failures writer.old < 2 ^ 63 →
+        OnErr result (W.failures writer.old < W.failures writer.new) }
+{
+    for page in pages {
+        put_page(held, writer, arena, page)?;
+    }
+    Ok(())
+}
+
+/// Writes the text of the entries of all pages.
+pub fn write_pages<W: Output>(
+    writer: &mut W,
+    arena: &Arena,
+    pages: &[Vec<Span>],
+) -> Result<(), WriteFault>
+    requires within { AllByRecursion (IsWithin (blocks_of arena.now)) (joined (lists_of pages.now)) }
+    requires fits { length (text_of (entries_of (blocks_of arena.now) (lists_of pages.now))) < 2 ^ 64 }
+    ensures ok { OnOk result (Appends (W.taken writer.old) (W.taken writer.new)
+        (text_of (entries_of (blocks_of arena.now) (lists_of pages.now)))) }
+    ensures no_failure { OnOk result (W.failures writer.new ≡ W.failures writer.old) }
+    ensures some_left { IfErr result (λ fault.
+        fault.sent < length (text_of (entries_of (blocks_of arena.now) (lists_of pages.now)))) }
+    ensures sent { IfErr result (λ fault. Appends (W.taken writer.old) (W.taken writer.new)
+        (take fault.sent (text_of (entries_of (blocks_of arena.now) (lists_of pages.now))))) }
+    ensures cause { W.failures writer.old < 2 ^ 63 →
+        OnErr result (W.failures writer.old < W.failures writer.new) }
+{
+    let mut held = HeldOutput::new();
+    put_pages(&mut held, writer, arena, pages)?;
+    held.finish(writer)
+}
