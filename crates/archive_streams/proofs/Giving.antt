@@ -1,0 +1,81 @@
+-- What a reader gives, call by call.
+use Rattle.std.proofs.Common.{◌≡◌, ℕ, ◌+◌, ◌-◌, ◌*◌, ◌^◌, ◌<◌, ◌≤◌, List, [], ◌++◌, Option, length, take, drop, refl, sym, ap, ◌∙◌, append-nil, append_assoc, subst, arith}
+use Rattle.std.proofs.lemmas.List.{drop-take, drop-drop, length-append, length-take, length-drop, take-append-drop}
+use Rattle.std.proofs.KnownBytes.{Consumes-nil, Consumes-trans, Consumes-kept}
+use Rattle.std.specs.Io.KnownBytes.{Consumes, IsAtEnd, Keeps}
+use Rattle.archive_streams.specs.Pieces.{ReadsOn, Reader}
+use Rattle.archive_streams.specs.declared.pieces.Pieces.{Pieces}
+use Rattle.archive_streams.specs.declared.pieces.TheConstants.{PIECE}
+
+-- octets of a piece are used
+pub used_of : (start end used : ℕ) (piece : List ℕ) → used ≤ length (take (end - start) (drop start piece)) → take (end - (start + used)) (drop (start + used) piece) ≡ drop used (take (end - start) (drop start piece))
+used_of start end used piece within =
+    let len = length-take (end - start) (drop start piece) in
+    let room : end - start ≡ used + (end - (start + used)) = omega (arith, within, len) in
+    let drops : drop used (take (used + (end - (start + used))) (drop start piece)) ≡ take (end - (start + used)) (drop (start + used) piece) =
+    drop-take used (end - (start + used)) (drop start piece) ∙ ap (take (end - (start + used))) (drop-drop used start piece) in
+    sym (ap (λ (n : ℕ). drop used (take n (drop start piece))) room ∙ drops)
+
+-- nothing was read
+pub ReadsOn-same : (p : Pieces) (d : Reader) (s : List ℕ) → ReadsOn p p d d s s
+ReadsOn-same p d s = record {
+  more = [];
+  consumed = Consumes-nil d.left;
+  grown = sym (append-nil s);
+  far = omega arith;
+  calls = λ h. omega arith;
+  ends = λ h. omega arith;
+  at_end = λ h. h;
+}
+
+-- one call after the other
+pub ReadsOn-then : (p q r : Pieces) (d e f : Reader) (a b c : List ℕ) → ReadsOn p q d e a b → ReadsOn q r e f b c → ReadsOn p r d f a c
+ReadsOn-then p q r d e f a b c x y = record {
+  more = x.more ++ y.more;
+  consumed = Consumes-trans d.left e.left f.left _ _ x.consumed y.consumed;
+  grown = y.grown ∙ ap (λ (s : List ℕ). s ++ y.more) x.grown ∙ append_assoc a x.more y.more;
+  far = omega (arith, x.far, y.far, length-append x.more y.more);
+  calls = λ h.
+      let first = x.calls h in
+      let second = y.calls (omega (arith, h, first)) in
+      omega (arith, first, second);
+  ends = λ h.
+      let first = x.calls h in
+      omega (arith, x.ends h, y.ends (omega (arith, h, first)));
+  at_end = λ h. y.at_end (x.at_end h);
+}
+
+-- some of what stands before goes behind a text
+pub ReadsOn-moved : (p q r : Pieces) (d e : Reader) (a b text after rest : List ℕ) (n : ℕ) → ReadsOn p q d e a b → r.calls ≡ q.calls → r.ends ≡ q.ends
+    → after ≡ text ++ take n b → rest ≡ drop n b → ReadsOn p r d e (text ++ a) (after ++ rest)
+ReadsOn-moved p q r d e a b text after rest n x calls ends is_after is_rest = record {
+  more = x.more;
+  consumed = x.consumed;
+  grown =
+      ap (λ (s : List ℕ). s ++ rest) is_after ∙ ap (λ (s : List ℕ). (text ++ take n b) ++ s) is_rest ∙ append_assoc text (take n b) (drop n b) ∙ ap (λ (s : List ℕ). text ++ s) (take-append-drop n b ∙ x.grown)
+      ∙ sym (append_assoc text a x.more);
+  far = omega (arith, x.far, calls);
+  calls = λ h. omega (arith, x.calls h, calls);
+  ends = λ h. omega (arith, x.ends h, ends);
+  at_end = λ h k. x.at_end h (omega (arith, k, ends));
+}
+
+-- nothing goes behind a text
+pub ReadsOn-behind : (p q : Pieces) (d e : Reader) (a b text : List ℕ) → ReadsOn p q d e a b → ReadsOn p q d e (text ++ a) (text ++ b)
+ReadsOn-behind p q d e a b text x = record {
+  more = x.more;
+  consumed = x.consumed;
+  grown = ap (λ (s : List ℕ). text ++ s) x.grown ∙ sym (append_assoc text a x.more);
+  far = x.far;
+  calls = x.calls;
+  ends = x.ends;
+  at_end = x.at_end;
+}
+
+-- known octets stay as they were: none was given
+pub Consumes-none : (a b : Option (List ℕ)) → Keeps a b → Consumes a b []
+Consumes-none a b h = Consumes-kept a a b [] (Consumes-nil a) h
+
+-- no octet is unused
+pub none_unused : (start end : ℕ) (piece : List ℕ) → end ≤ start → take (end - start) (drop start piece) ≡ []
+none_unused start end piece h = let none : end - start ≡ 0 = omega arith in rw none refl

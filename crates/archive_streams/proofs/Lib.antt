@@ -1,0 +1,5 @@
+pub mod Giving
+pub mod Counting
+pub mod Joining
+pub mod NextEntries
+pub mod SideSteps

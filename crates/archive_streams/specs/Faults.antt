@@ -1,0 +1,31 @@
+-- Why no entry comes next.
+use Rattle.std.specs.Prelude.{◌≡◌, ℕ, ◌<◌, List, length, Result, Ok, Err}
+use Rattle.syslog_value.specs.Device.{count_on}
+use Rattle.syslog_value.specs.declared.loops.TheConstants.{READER_CALLS}
+use Rattle.archive_text.specs.Faults.{IsFaultBefore}
+use Rattle.archive_text.specs.declared.limits.TheConstants.{ENTRY_MAX}
+use Rattle.archive_streams.specs.Judging.{at_of}
+use Rattle.archive_streams.specs.declared.fault.InputFault.TheVariants.{Device, Endless}
+use Rattle.archive_streams.specs.declared.fault.SideFault.{SideFault}
+use Rattle.archive_streams.specs.declared.fault.SideFault.TheVariants.{Archive, Input}
+use Rattle.archive_streams.specs.declared.pieces.Pieces.{Pieces}
+
+-- the octets go on with no entry, and where they stop too early the end was given; or the reader gave
+-- no end in so many calls
+abbrev pub IsSideFault : SideFault → List ℕ → Pieces → Type 0
+IsSideFault (Archive fault) rest p =
+    IsFaultBefore ENTRY_MAX rest fault × (0 < length rest) × (at_of fault ≡ length rest → 0 < p.ends)
+IsSideFault (Input Device) rest p = Unit {0}
+IsSideFault (Input Endless) rest p = (p.calls ≡ READER_CALLS) × (p.ends ≡ 0)
+
+-- the reader failed at this fault alone
+abbrev pub SideFailures : {X : Type 0} → Result X SideFault → ℕ → ℕ → Type 0
+SideFailures (Ok x) old new = new ≡ old
+SideFailures (Err (Archive fault)) old new = new ≡ old
+SideFailures (Err (Input Device)) old new = new ≡ count_on old
+SideFailures (Err (Input Endless)) old new = new ≡ old
+
+-- the reader gave no end in so many calls, at this fault
+abbrev pub EndlessAt : {X : Type 0} → Result X SideFault → Pieces → Type 0
+EndlessAt (Err (Input Endless)) p = (p.calls ≡ READER_CALLS) × (p.ends ≡ 0)
+EndlessAt r p = Unit {0}

@@ -1,0 +1,45 @@
+-- What a reader gave and was not yet used, and what its calls do to its counts.
+use Rattle.std.specs.Prelude.{◌≡◌, ℕ, ◌+◌, ◌-◌, ◌*◌, ◌^◌, ◌<◌, ◌≤◌, List, ◌++◌, length, take, drop, Option, Result, Ok, Err}
+use Rattle.std.specs.Io.KnownBytes.{Consumes, IsAtEnd}
+use Rattle.syslog_value.specs.Device.{count_on}
+use Rattle.archive_streams.specs.declared.fault.InputFault.{InputFault}
+use Rattle.archive_streams.specs.declared.fault.InputFault.TheVariants.{Device, Endless}
+use Rattle.archive_streams.specs.declared.pieces.Pieces.{Pieces}
+use Rattle.archive_streams.specs.declared.pieces.TheConstants.{PIECE}
+
+-- the octets that are not yet used
+abbrev pub unused : Pieces → List ℕ
+unused p = take (p.end - p.start) (drop p.start p.piece)
+
+-- what a reader tells: its octets, its calls, and how often it gave the end
+pub record Reader : Type 0 where
+  pub left : Option (List ℕ)
+  pub calls : ℕ
+  pub ends : ℕ
+
+abbrev pub device : Option (List ℕ) → ℕ → ℕ → Reader
+device left calls ends = record { left = left; calls = calls; ends = ends }
+
+-- a reader gave octets, which stand behind those before; its calls and the ends that it gave were
+-- counted, where its own count cannot come to its last value; and behind an end nothing is left
+pub record ReadsOn (p q : Pieces) (d e : Reader) (before after : List ℕ) : Type 0 where
+  pub more : List ℕ
+  pub consumed : Consumes d.left e.left more
+  pub grown : after ≡ before ++ more
+  pub far : length more + PIECE * p.calls ≤ PIECE * q.calls
+  pub calls : d.calls < 2 ^ 63 + p.calls → e.calls + p.calls ≡ d.calls + q.calls
+  pub ends : d.calls < 2 ^ 63 + p.calls → e.ends + p.ends ≡ d.ends + q.ends
+  pub at_end : (0 < p.ends → IsAtEnd d.left) → 0 < q.ends → IsAtEnd e.left
+
+-- the reader failed at this fault alone
+abbrev pub FailuresOf : {X : Type 0} → Result X InputFault → ℕ → ℕ → Type 0
+FailuresOf (Ok x) old new = new ≡ old
+FailuresOf (Err Device) old new = new ≡ count_on old
+FailuresOf (Err Endless) old new = new ≡ old
+
+-- some octets stand behind those before, so many at most
+pub record TakesMore (most : ℕ) (before after : List ℕ) : Type 0 where
+  pub more : List ℕ
+  pub grown : after ≡ before ++ more
+  pub some : 0 < length more
+  pub few : length more ≤ most

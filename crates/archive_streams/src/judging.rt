@@ -1,0 +1,37 @@
+//! The octets of an entry are judged.
+
+ghost use Rattle.std.specs.Prelude.{◌+◌, ◌^◌, ◌<◌, IfErr, IfOk};
+ghost use Rattle.archive_text.specs.Entries.{IsEntry};
+ghost use Rattle.archive_streams.specs.Judging.{at_of, IsJudged, IsMoved};
+
+use archive_text::{ArchiveFault, EntryFault, entry_of_octets};
+use syslog_value::Instant;
+
+/// The instant of the entry that the octets are. The fault counts from the entry's first digit.
+pub fn instant_of(octets: &[u8]) -> Result<Option<Instant>, ArchiveFault>
+    ensures entry { IfOk result (λ i. IsEntry (record { instant = i; octets = octets.now })) }
+    ensures fault { IfErr result (λ fault. IsJudged octets.now fault) }
+{
+    match entry_of_octets(octets) {
+        Ok(entry) => Ok(entry.instant),
+        Err(EntryFault::Bad(fault)) => Err(ArchiveFault::BadEntry { at: 0, fault }),
+        Err(EntryFault::NotCanonical) => Err(ArchiveFault::NotCanonical { at: 0 }),
+    }
+}
+
+/// A fault behind an offset.
+pub fn fault_behind(position: u64, fault: ArchiveFault) -> ArchiveFault
+    requires { position + at_of fault < 2 ^ 64 }
+    ensures { IsMoved position fault result }
+{
+    match fault {
+        ArchiveFault::BadFrame { at } => ArchiveFault::BadFrame { at: position + at },
+        ArchiveFault::EntryTooLong { at } => ArchiveFault::EntryTooLong { at: position + at },
+        ArchiveFault::BadEntry { at, fault } => ArchiveFault::BadEntry {
+            at: position + at,
+            fault,
+        },
+        ArchiveFault::NotCanonical { at } => ArchiveFault::NotCanonical { at: position + at },
+        ArchiveFault::NotAscending { at } => ArchiveFault::NotAscending { at: position + at },
+    }
+}

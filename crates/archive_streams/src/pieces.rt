@@ -1,0 +1,143 @@
+//! What a reader gave and was not yet used.
+
+ghost use Rattle.std.specs.Prelude.{◌≡◌, ◌≤◌, ◌<◌, ◌+◌, ◌++◌, [], length, drop, false};
+ghost use Rattle.std.specs.Prelude.{IfOk, IsTrue, IsErrOf, vec_capacity, vec_len};
+ghost use Rattle.syslog_value.specs.declared.loops.TheConstants.{READER_CALLS};
+ghost use Rattle.archive_streams.specs.declared.pieces.TheConstants.{PIECE};
+
+use crate::fault::InputFault;
+use syslog_value::{DeviceFault, Input, READER_CALLS};
+
+// octets asked of a reader at a time
+pub const PIECE: usize = 4096;
+
+/// A reader's octets, a piece at a time: from `start` to `end` they were given and not yet used.
+/// `calls` of the reader were made, and `ends` of them gave the end.
+#[derive(Drop)]
+pub struct Pieces {
+    pub piece: [u8; PIECE],
+    pub start: usize,
+    pub end: usize,
+    pub calls: u64,
+    pub ends: u64,
+    pub ghost order: { start ≤ end },
+    pub ghost within: { end ≤ PIECE },
+    pub ghost few: { calls ≤ READER_CALLS },
+    pub ghost once: { ends ≤ calls },
+}
+
+impl Pieces {
+    ghost use Rattle.archive_streams.specs.Pieces.{unused, FailuresOf, ReadsOn, TakesMore, device};
+
+    /// Before the first call.
+    pub fn new() -> Pieces
+        ensures unused { unused result ≡ [] }
+        ensures calls { result.calls ≡ 0 }
+        ensures ends { result.ends ≡ 0 }
+    {
+        Pieces {
+            piece: [0u8; PIECE],
+            start: 0,
+            end: 0,
+            calls: 0,
+            ends: 0,
+        }
+    }
+
+    /// The octets that are not yet used.
+    pub fn rest(&self) -> &[u8]
+        ensures { result.now ≡ unused self.now }
+    {
+        &self.piece[self.start..self.end]
+    }
+
+    /// Uses octets.
+    pub fn skip(&mut self, used: usize)
+        requires { used ≤ length (unused self.old) }
+        ensures unused { unused self.new ≡ drop used (unused self.old) }
+        ensures calls { self.new.calls ≡ self.old.calls }
+        ensures ends { self.new.ends ≡ self.old.ends }
+    {
+        self.start += used;
+    }
+
+    /// Calls the reader where all octets are used, and says whether there are any then. At the end
+    /// there are none, and the reader is not called again.
+    pub fn fill<R: Input>(&mut self, reader: &mut R) -> Result<bool, InputFault>
+        ensures reads { ReadsOn self.old self.new
+            (device (R.left reader.old) (R.calls reader.old) (R.ends reader.old))
+            (device (R.left reader.new) (R.calls reader.new) (R.ends reader.new))
+            (unused self.old) (unused self.new) }
+        ensures failures { FailuresOf result (R.failures reader.old) (R.failures reader.new) }
+        ensures some { IfOk result (λ some. IsTrue some → 0 < length (unused self.new)) }
+        ensures end { IfOk result (λ some. some ≡ false →
+            (unused self.new ≡ []) × (0 < self.new.ends)) }
+        ensures endless { IsErrOf result InputFault.Endless →
+            (self.new.calls ≡ READER_CALLS) × (self.new.ends ≡ 0) }
+    {
+        if self.start < self.end {
+            return Ok(true);
+        }
+        if self.ends > 0 {
+            return Ok(false);
+        }
+        if self.calls == READER_CALLS {
+            return Err(InputFault::Endless);
+        }
+        self.start = 0;
+        self.end = 0;
+        self.calls += 1;
+        match reader.read(&mut self.piece) {
+            Ok(n) => {
+                self.end = n;
+                if n == 0 {
+                    self.ends = 1;
+                }
+                Ok(n > 0)
+            }
+            Err(DeviceFault) => Err(InputFault::Device),
+        }
+    }
+
+    /// Moves octets behind a text, `most` at most, and says whether there were any. Only at the end
+    /// there are none.
+    pub fn take<R: Input>(
+        &mut self,
+        reader: &mut R,
+        text: &mut Vec<u8>,
+        most: usize,
+    ) -> Result<bool, InputFault>
+        requires some { 0 < most }
+        requires room { vec_len text.old + most ≤ vec_capacity text.old }
+        ensures reads { ReadsOn self.old self.new
+            (device (R.left reader.old) (R.calls reader.old) (R.ends reader.old))
+            (device (R.left reader.new) (R.calls reader.new) (R.ends reader.new))
+            (text.old.items ++ unused self.old) (text.new.items ++ unused self.new) }
+        ensures failures { FailuresOf result (R.failures reader.old) (R.failures reader.new) }
+        ensures room { vec_capacity text.old ≤ vec_capacity text.new }
+        ensures some { IfOk result (λ some. IsTrue some →
+            TakesMore most text.old.items text.new.items) }
+        ensures end { IfOk result (λ some. some ≡ false → (unused self.new ≡ [])
+            × (0 < self.new.ends) × (text.new.items ≡ text.old.items)) }
+        ensures endless { IsErrOf result InputFault.Endless →
+            (self.new.calls ≡ READER_CALLS) × (self.new.ends ≡ 0) }
+    {
+        if !self.fill(reader)? {
+            return Ok(false);
+        }
+        let rest = self.rest();
+        let used = rest.len().min(most);
+        append(text, &rest[..used]);
+        self.skip(used);
+        Ok(true)
+    }
+}
+
+// Copies octets behind a text that has room for them.
+fn append(text: &mut Vec<u8>, octets: &[u8])
+    requires { vec_len text.old + length octets.now ≤ vec_capacity text.old }
+    ensures items { text.new.items ≡ text.old.items ++ octets.now }
+    ensures room { vec_capacity text.old ≤ vec_capacity text.new }
+{
+    let _ = text.extend_from_slice(octets);
+}

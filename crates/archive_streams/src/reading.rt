@@ -1,0 +1,172 @@
+//! One entry is read from the text of an archive, as its octets come in pieces of any cut.
+
+ghost use Rattle.std.specs.Prelude.{◌≡◌, ◌<◌, ◌≤◌, ◌+◌, ◌++◌, [], false, IsTrue};
+ghost use Rattle.std.specs.Prelude.{IfErr, IfOk, IfSome, IsNone, OnOk};
+ghost use Rattle.std.specs.Prelude.{vec_capacity, vec_len};
+ghost use Rattle.syslog_frame.specs.MsgLen.{MsgLen as Counts};
+ghost use Rattle.archive_streams.specs.Pieces.{ReadsOn, device, unused};
+ghost use Rattle.archive_streams.specs.Counting.{IsStep, IsUnfinished};
+ghost use Rattle.archive_streams.specs.EntryTexts.{HasCounted, HoldsEntry};
+ghost use Rattle.archive_streams.specs.Faults.{IsSideFault, SideFailures};
+
+use crate::entry::{COUNT_TEXT, EntryText, TEXT_MAX};
+use crate::fault::SideFault;
+use crate::judging::instant_of;
+use crate::pieces::Pieces;
+use archive_text::{ArchiveFault, ENTRY_MAX};
+use syslog_frame::{MsgLen, msg_len};
+use syslog_value::Input;
+
+/// What one octet more makes of a length.
+#[derive(Clone, Copy, Debug)]
+pub enum CountStep {
+    /// There is none, at the end before the first digit.
+    End,
+    /// It goes on.
+    More,
+    /// It is whole, with its space.
+    Whole(u64),
+}
+
+/// Reads one octet of a length.
+fn next_digit<R: Input>(
+    pieces: &mut Pieces,
+    reader: &mut R,
+    text: &mut Vec<u8>,
+) -> Result<CountStep, SideFault>
+    requires unfinished { IsUnfinished text.old.items }
+    requires room { COUNT_TEXT ≤ vec_capacity text.old }
+    ensures reads { ReadsOn pieces.old pieces.new
+        (device (R.left reader.old) (R.calls reader.old) (R.ends reader.old))
+        (device (R.left reader.new) (R.calls reader.new) (R.ends reader.new))
+        (text.old.items ++ unused pieces.old) (text.new.items ++ unused pieces.new) }
+    ensures failures { SideFailures result (R.failures reader.old) (R.failures reader.new) }
+    ensures room { vec_capacity text.old ≤ vec_capacity text.new }
+    ensures short { OnOk result (vec_len text.new ≤ COUNT_TEXT) }
+    ensures step { IfOk result (λ step. IsStep text.old.items text.new.items pieces.new step) }
+    ensures fault { IfErr result (λ fault.
+        IsSideFault fault (text.new.items ++ unused pieces.new) pieces.new) }
+{
+    let some = match pieces.take(reader, text, 1) {
+        Ok(some) => some,
+        Err(fault) => return Err(SideFault::Input(fault)),
+    };
+    if !some {
+        if text.is_empty() {
+            return Ok(CountStep::End);
+        }
+        let at = text.len() as u64;
+        return Err(SideFault::Archive(ArchiveFault::BadFrame { at }));
+    }
+    match msg_len(text) {
+        MsgLen::Part => Ok(CountStep::More),
+        MsgLen::Whole { count, used: _ } => Ok(CountStep::Whole(count)),
+        MsgLen::Bad { at } => {
+            let at = at as u64;
+            Err(SideFault::Archive(ArchiveFault::BadFrame { at }))
+        }
+    }
+}
+
+/// Reads the length of an entry and its space, or finds the end before it.
+fn read_count<R: Input>(
+    pieces: &mut Pieces,
+    reader: &mut R,
+    text: &mut Vec<u8>,
+) -> Result<Option<u64>, SideFault>
+    requires empty { text.old.items ≡ [] }
+    requires room { COUNT_TEXT ≤ vec_capacity text.old }
+    ensures reads { ReadsOn pieces.old pieces.new
+        (device (R.left reader.old) (R.calls reader.old) (R.ends reader.old))
+        (device (R.left reader.new) (R.calls reader.new) (R.ends reader.new))
+        (unused pieces.old) (text.new.items ++ unused pieces.new) }
+    ensures failures { SideFailures result (R.failures reader.old) (R.failures reader.new) }
+    ensures room { vec_capacity text.old ≤ vec_capacity text.new }
+    ensures short { OnOk result (vec_len text.new ≤ COUNT_TEXT) }
+    ensures count { IfOk result (λ found. IfSome found (λ count. Counts count text.new.items)) }
+    ensures end { IfOk result (λ found. IsNone found →
+        (text.new.items ≡ []) × (unused pieces.new ≡ []) × (0 < pieces.new.ends)) }
+    ensures fault { IfErr result (λ fault.
+        IsSideFault fault (text.new.items ++ unused pieces.new) pieces.new) }
+{
+    'digits: loop {
+        match next_digit(pieces, reader, text)? {
+            CountStep::More => {}
+            CountStep::End => return Ok(None),
+            CountStep::Whole(count) => return Ok(Some(count)),
+        }
+    }
+}
+
+/// Reads so many octets behind a text.
+fn read_octets<R: Input>(
+    pieces: &mut Pieces,
+    reader: &mut R,
+    text: &mut Vec<u8>,
+    count: usize,
+) -> Result<(), SideFault>
+    requires counted { Counts count text.old.items }
+    requires fits { count ≤ ENTRY_MAX }
+    requires room { vec_len text.old + count ≤ vec_capacity text.old }
+    ensures reads { ReadsOn pieces.old pieces.new
+        (device (R.left reader.old) (R.calls reader.old) (R.ends reader.old))
+        (device (R.left reader.new) (R.calls reader.new) (R.ends reader.new))
+        (text.old.items ++ unused pieces.old) (text.new.items ++ unused pieces.new) }
+    ensures failures { SideFailures result (R.failures reader.old) (R.failures reader.new) }
+    ensures room { vec_capacity text.old ≤ vec_capacity text.new }
+    ensures ok { OnOk result (HasCounted count text.old.items text.new.items) }
+    ensures fault { IfErr result (λ fault.
+        IsSideFault fault (text.new.items ++ unused pieces.new) pieces.new) }
+{
+    let size = text.len() + count;
+    'octets: while text.len() < size {
+        let most = size - text.len();
+        let some = match pieces.take(reader, text, most) {
+            Ok(some) => some,
+            Err(fault) => return Err(SideFault::Input(fault)),
+        };
+        if !some {
+            let at = text.len() as u64;
+            return Err(SideFault::Archive(ArchiveFault::BadFrame { at }));
+        }
+    }
+    Ok(())
+}
+
+/// Reads the next entry, or finds the end before it.
+pub fn read_entry<R: Input>(
+    pieces: &mut Pieces,
+    reader: &mut R,
+    entry: &mut EntryText,
+) -> Result<bool, SideFault>
+    requires room { TEXT_MAX ≤ vec_capacity entry.old.text }
+    ensures reads { ReadsOn pieces.old pieces.new
+        (device (R.left reader.old) (R.calls reader.old) (R.ends reader.old))
+        (device (R.left reader.new) (R.calls reader.new) (R.ends reader.new))
+        (unused pieces.old) (entry.new.text.items ++ unused pieces.new) }
+    ensures failures { SideFailures result (R.failures reader.old) (R.failures reader.new) }
+    ensures room { TEXT_MAX ≤ vec_capacity entry.new.text }
+    ensures entry { IfOk result (λ some. IsTrue some → HoldsEntry entry.new) }
+    ensures end { IfOk result (λ some. some ≡ false → (entry.new.text.items ≡ [])
+        × (unused pieces.new ≡ []) × (0 < pieces.new.ends)) }
+    ensures fault { IfErr result (λ fault.
+        IsSideFault fault (entry.new.text.items ++ unused pieces.new) pieces.new) }
+{
+    entry.text.clear();
+    let Some(count) = read_count(pieces, reader, &mut entry.text)? else {
+        return Ok(false);
+    };
+    if count > ENTRY_MAX as u64 {
+        return Err(SideFault::Archive(ArchiveFault::EntryTooLong { at: 0 }));
+    }
+    entry.start = entry.text.len();
+    read_octets(pieces, reader, &mut entry.text, count as usize)?;
+    let (_, octets) = entry.text.split_at(entry.start);
+    match instant_of(octets) {
+        Ok(instant) => {
+            entry.instant = instant;
+            Ok(true)
+        }
+        Err(fault) => Err(SideFault::Archive(fault)),
+    }
+}

@@ -1,0 +1,117 @@
+//! An archive is read entry by entry.
+
+ghost use Rattle.std.specs.Prelude.{◌≡◌, ◌≢◌, ◌<◌, ◌≤◌, ◌+◌, ◌*◌, ◌++◌, [], false, length};
+ghost use Rattle.std.specs.Prelude.{vec_capacity, vec_len, List, IfErr, IfOk, IsTrue, OnOk};
+ghost use Rattle.archive_streams.specs.Pieces.{ReadsOn, device, unused};
+ghost use Rattle.archive_streams.specs.EntryTexts.{entry_in, HoldsEntry, IsAbove};
+ghost use Rattle.archive_streams.specs.Faults.{EndlessAt, SideFailures};
+ghost use Rattle.archive_streams.specs.declared.pieces.TheConstants.{PIECE};
+ghost use Rattle.archive_streams.specs.declared.entry.TheConstants.{TEXT_MAX};
+
+use crate::entry::{EntryText, TEXT_MAX};
+use crate::fault::SideFault;
+use crate::judging::fault_behind;
+use crate::pieces::{PIECE, Pieces};
+use crate::reading::read_entry;
+use archive_text::ArchiveFault;
+use std::alloc::{AllocError, Global};
+use syslog_value::Input;
+
+/// An archive that is read entry by entry: the entry that was read last, or none at the end, and
+/// the position of the first octet behind it.
+#[derive(Drop)]
+pub struct ArchiveReader {
+    pub pieces: Pieces,
+    pub position: u64,
+    pub entry: EntryText,
+}
+
+impl ArchiveReader {
+    ghost use Rattle.archive_text.specs.Entries.{Entry, IsAscending};
+    ghost use Rattle.archive_streams.specs.Pieces.{Reader};
+    ghost use Rattle.archive_streams.specs.Sides.{Due, EndsWith, IsNear, IsNextFault, IsSideStop, Ready};
+
+    /// Before the first entry.
+    pub fn new(alloc: Global) -> Result<ArchiveReader, AllocError>
+        ensures unused { IfOk result (λ r. unused r.pieces ≡ []) }
+        ensures calls { IfOk result (λ r. r.pieces.calls ≡ 0) }
+        ensures ends { IfOk result (λ r. r.pieces.ends ≡ 0) }
+        ensures position { IfOk result (λ r. r.position ≡ 0) }
+        ensures room { IfOk result (λ r. TEXT_MAX ≤ vec_capacity r.entry.text) }
+    {
+        Ok(ArchiveReader {
+            pieces: Pieces::new(),
+            position: 0,
+            entry: EntryText::new(alloc)?,
+        })
+    }
+
+    /// Reads the next entry, which must be above the last one, or finds the end.
+    pub fn next<R: Input>(&mut self, reader: &mut R, last: &EntryText) -> Result<bool, SideFault>
+        requires room { TEXT_MAX ≤ vec_capacity self.old.entry.text }
+        requires last { last.now.start ≤ vec_len last.now.text }
+        requires near { IsNear self.old }
+        ensures reads { ReadsOn self.old.pieces self.new.pieces
+            (device (R.left reader.old) (R.calls reader.old) (R.ends reader.old))
+            (device (R.left reader.new) (R.calls reader.new) (R.ends reader.new))
+            (unused self.old.pieces) (self.new.entry.text.items ++ unused self.new.pieces) }
+        ensures failures { SideFailures result (R.failures reader.old) (R.failures reader.new) }
+        ensures room { TEXT_MAX ≤ vec_capacity self.new.entry.text }
+        ensures near { IfOk result (λ _. IsNear self.new) }
+        ensures entry { IfOk result (λ some. IsTrue some → HoldsEntry self.new.entry) }
+        ensures above { IfOk result (λ some. IsTrue some →
+            IsAbove last.now (entry_in self.new.entry)) }
+        ensures position { IfOk result (λ _.
+            self.new.position ≡ self.old.position + vec_len self.new.entry.text) }
+        ensures end { IfOk result (λ some. some ≡ false → (self.new.entry.text.items ≡ [])
+            × (unused self.new.pieces ≡ []) × (0 < self.new.pieces.ends)) }
+        ensures fault { IfErr result (λ fault. IsNextFault fault last.now self.old.position
+            (self.new.entry.text.items ++ unused self.new.pieces) self.new.pieces) }
+    {
+        match read_entry(&mut self.pieces, reader, &mut self.entry) {
+            Ok(false) => Ok(false),
+            Ok(true) => {
+                if !self.entry.is_above(last) {
+                    let at = self.position;
+                    return Err(SideFault::Archive(ArchiveFault::NotAscending { at }));
+                }
+                self.position += self.entry.text.len() as u64;
+                Ok(true)
+            }
+            Err(SideFault::Archive(fault)) => {
+                Err(SideFault::Archive(fault_behind(self.position, fault)))
+            }
+            Err(SideFault::Input(fault)) => Err(SideFault::Input(fault)),
+        }
+    }
+    /// Reads the next entry behind the last one, which was joined, or finds the end.
+    pub fn advance<R: Input>(&mut self, reader: &mut R, last: &EntryText) -> Result<(), SideFault>
+        requires room { TEXT_MAX ≤ vec_capacity self.old.entry.text }
+        requires last { last.now.start ≤ vec_len last.now.text }
+        requires near { IsNear self.old }
+        ensures failures { SideFailures result (R.failures reader.old) (R.failures reader.new) }
+        ensures room { TEXT_MAX ≤ vec_capacity self.new.entry.text }
+        ensures near { OnOk result (IsNear self.new) }
+        ensures start { OnOk result (self.new.entry.text.items ≢ [] →
+            self.new.entry.start ≤ vec_len self.new.entry.text) }
+        ensures position { OnOk result
+            (self.new.position ≡ self.old.position + vec_len self.new.entry.text) }
+        ensures ready { OnOk result ((d : Reader) (es ws : List Entry) →
+            Due self.old d (device (R.left reader.old) (R.calls reader.old) (R.ends reader.old))
+            es last.now → EndsWith ws last.now → IsAscending ws →
+            Ready self.new d (device (R.left reader.new) (R.calls reader.new) (R.ends reader.new))
+            es ws) }
+        ensures stop { IfErr result (λ fault. (d : Reader) (es : List Entry) →
+            Due self.old d (device (R.left reader.old) (R.calls reader.old) (R.ends reader.old))
+            es last.now →
+            IsSideStop fault self.new d
+            (device (R.left reader.new) (R.calls reader.new) (R.ends reader.new)) es) }
+        ensures endless { EndlessAt result self.new.pieces }
+    {
+        match self.next(reader, last) {
+            Ok(true) => Ok(()),
+            Ok(false) => Ok(()),
+            Err(fault) => Err(fault),
+        }
+    }
+}
