@@ -107,19 +107,6 @@ advance_found c n x y ls kept now first es None outcomes is item moves was =
 advance_found c n x y ls kept now first es (Some o) outcomes is item moves was =
     advance_step c n x y ls kept now first es o outcomes (found_here c n x ls is item) moves was
 
--- what an advance reports
-reported_by : (accepted : Option (List ℕ)) (x y : Connection) (kept now : List Entry) (outcomes : List Outcome) (s : Stream) (d : List (List ℕ)) → MovesBy accepted x y kept now outcomes s d
-    → (fresh : List (List ℕ)) × AreReported kept now fresh outcomes
-reported_by None x y kept now outcomes s d (same, kept_same, none) = ([], subst (λ (z : List Outcome). AreReported kept now [] z) (sym none) (refl, kept_same))
-reported_by (Some o) x y kept now outcomes s d moves = (moves.fresh, moves.reported)
-
-pub reported_found : (c n : ℕ) (x y : Connection) (ls : List Connection) (kept now first : List Entry) (es : List Told) (accepted : Option (List ℕ)) (outcomes : List Outcome)
-    → place_from c 0 ls ≡ Some n → x ≡ get_or ls n x → ((s : Stream) (d : List (List ℕ)) → IsAt x s d → MovesBy accepted x y kept now outcomes s d)
-    → Stands ls kept first es → (fresh : List (List ℕ)) × AreReported kept now fresh outcomes
-reported_found c n x y ls kept now first es accepted outcomes is item moves was =
-    let there = opening_at c n x ls (after nothing es).streams was.stands_at.handled was.stands_at.follow (found_here c n x ls is item) in
-    reported_by accepted x y kept now outcomes there.opening there.handled (moves there.opening there.handled there.at)
-
 -- why an advance is refused
 answer_at : (c : ℕ) (piece : List ℕ) (r : Result Advance CollectFault) (h : History) (s : Stream) → stream_of c h.streams ≡ Some s → IsCause piece r s → IsAnswerAt c piece r h
 answer_at c piece (Ok a) h s is cause = rw is cause

@@ -12,6 +12,7 @@ use Rattle.syslog_collect.specs.declared.fault.CollectFault.TheVariants.{Already
 use Rattle.syslog_collect.specs.declared.limits.TheConstants.{CONNECTIONS_MAX}
 use Rattle.syslog_collect.specs.declared.outcome.Outcome.{Outcome}
 use Rattle.syslog_collect.specs.declared.outcome.Outcome.TheVariants.{New, Held, Refused, TooLong, BadCount}
+use Rattle.syslog_collect.specs.Frames.{IsFramesOf}
 use Rattle.syslog_collect.specs.History.{History, IsBad, MayGrow, Stream, Told, Opened, Piece, Ended, Datagram, longer, stream_of}
 use Rattle.syslog_collect.specs.Outcomes.{AreReported, IsRecordFrame, outcomes_of}
 use Rattle.syslog_collect.specs.Standing.{IsAt}
@@ -33,6 +34,10 @@ IsBadCount (Some Held) = ⊥
 IsBadCount (Some (Refused fault)) = ⊥
 IsBadCount (Some TooLong) = ⊥
 IsBadCount (Some (BadCount at)) = Unit {0}
+
+-- the octets of a piece that an advance accepted where it answered Ok
+abbrev pub used_octets : List ℕ → Advance → List ℕ
+used_octets piece a = take (accepted_count (a.used + 1) a.used a.outcome) piece
 
 -- the octets of a piece that an advance accepted, if it accepted any piece: those used, and the bad one
 abbrev pub accepted_octets : List ℕ → Result Advance CollectFault → Option (List ℕ)
@@ -121,6 +126,11 @@ IsAnswerAt c piece (Err AlreadyOpen) h = ⊥
 IsAnswerAt c piece (Err TooManyOpen) h = ⊥
 IsAnswerAt c piece (Err Unreleased) h = ⊥
 IsAnswerAt c piece (Err (Unterminated start)) h = ⊥
+
+-- octets of a number complete these last frames of its opening, and the outcomes report them
+abbrev pub Reports : ℕ → List ℕ → History → List Entry → List Entry → List Outcome → Type 0
+Reports c octets h kept_old kept_new outcomes = IsSomeAnd (stream_of c h.streams) (λ s. (before : List (List ℕ)) × (last : List (List ℕ))
+    × IsFramesOf (longer s octets) (before ++ last) × AreReported kept_old kept_new last outcomes)
 
 -- the event that an opening adds
 abbrev pub told_opening : {U : Type 0} → ℕ → Framing → Result U CollectFault → List Told

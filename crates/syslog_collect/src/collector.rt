@@ -5,12 +5,12 @@ ghost use Rattle.std.specs.List.{position_from};
 ghost use Rattle.archive_text.specs.Entries.{Entry, Has};
 ghost use Rattle.archive_text.specs.Text.{IsArchive, text_of};
 ghost use Rattle.syslog_collect.specs.Answers.{IsAnswerAt, IsEnding, IsOpening, IsUsedWithin};
-ghost use Rattle.syslog_collect.specs.Answers.{accepted_octets, answered, dropped_octets};
+ghost use Rattle.syslog_collect.specs.Answers.{Reports, accepted_octets, dropped_octets, used_octets};
 ghost use Rattle.syslog_collect.specs.Answers.{told_datagram, told_ending, told_opening, told_piece};
 ghost use Rattle.syslog_collect.specs.Frames.{IsReceived};
 ghost use Rattle.syslog_collect.specs.Headline.{IsSettled, IsUnion, ReceivedBoth, ReceivedSame};
 ghost use Rattle.syslog_collect.specs.History.{Told, after, nothing};
-ghost use Rattle.syslog_collect.specs.Outcomes.{AreReported, IsOutcome, IsRecordFrame};
+ghost use Rattle.syslog_collect.specs.Outcomes.{IsOutcome, IsRecordFrame, outcomes_of};
 ghost use Rattle.syslog_collect.specs.Standing.{Stands};
 
 use crate::advancing::advance_connection;
@@ -118,11 +118,11 @@ impl<S: Store> Collector<S> {
             → Stands self.old.connections.items (S.entries self.old.store) first events
             → Stands self.new.connections.items (S.entries self.new.store) first
             (events ++ told_piece conn (dropped_octets piece.now result)) }
-        // What is reported, and why the piece is refused.
+        // The outcome is that of the last frame of the octets so far; and why the piece is refused.
         ensures outcome { (first : List Entry) (events : List Told)
             → Stands self.old.connections.items (S.entries self.old.store) first events
-            → (frames : List (List ℕ)) × AreReported (S.entries self.old.store)
-            (S.entries self.new.store) frames (answered result) }
+            → IfOk result (λ a. Reports conn (used_octets piece.now a) (after nothing events)
+            (S.entries self.old.store) (S.entries self.new.store) (outcomes_of a.outcome)) }
         ensures cause { (first : List Entry) (events : List Told)
             → Stands self.old.connections.items (S.entries self.old.store) first events
             → IsAnswerAt conn piece.now result (after nothing events) }
