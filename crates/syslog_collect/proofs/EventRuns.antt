@@ -1,0 +1,156 @@
+-- A run, event by event.
+use Rattle.std.proofs.Common.{◌≡◌, ℕ, zero, suc, ◌+◌, ◌<◌, true, false, cond, eqb, List, [], ◌∷◌, ◌++◌, length, take, drop, get_or, set as set_at, inl, inr, append_assoc, refl, sym, ◌∙◌, ap, subst, arith}
+use Rattle.std.specs.Prelude.{Option, Some, None, Result, Ok, Err}
+use Rattle.std.proofs.lemmas.List.{append-nil}
+use denote.Bor.{Bor}
+use Rattle.syslog_frame.specs.declared.framing.Framing.{Framing}
+use Rattle.archive_text.specs.Entries.{Entry}
+use Rattle.syslog_collect.specs.declared.connection.Connection.{Connection}
+use Rattle.syslog_collect.specs.declared.event.Event.{Event}
+use Rattle.syslog_collect.specs.declared.event.Event.TheVariants.{Opened as event_Opened, Piece as event_Piece, Ended as event_Ended, Datagram as event_Datagram}
+use Rattle.syslog_collect.specs.declared.event.EventEnd.{EventEnd}
+use Rattle.syslog_collect.specs.declared.event.EventEnd.TheVariants.{Done as end_Done, Stopped as end_Stopped}
+use Rattle.syslog_collect.specs.declared.fault.CollectFault.{CollectFault}
+use Rattle.syslog_collect.specs.declared.fault.CollectFault.TheVariants.{AlreadyOpen, TooManyOpen, NotOpen, ConnFailed, StreamTooLong, Unreleased, Unterminated, Memory}
+use Rattle.syslog_collect.specs.declared.outcome.Outcome.{Outcome}
+use Rattle.syslog_collect.specs.Answers.{told_ending, told_opening}
+use Rattle.syslog_collect.specs.History.{History, MayGrow, Piece, Stream, Told, after, hear, joined, longer, nothing}
+use Rattle.syslog_collect.specs.Outcomes.{AreReported, IsOutcome, IsReported, outcomes_of}
+use Rattle.syslog_collect.specs.declared.outcome.Outcome.TheVariants.{New, Held, Refused, TooLong, BadCount}
+use Rattle.syslog_collect.specs.Runs.{Logs, LogsFrames, event_end, piece_octets, told_all, told_by, told_datagram_end, told_event, told_first, told_octets, told_part}
+use Rattle.syslog_collect.specs.Standing.{IsAt, Stands, StandsAt}
+use Rattle.syslog_collect.proofs.Pieces.{reported_then}
+use Rattle.syslog_collect.proofs.Places.{AtPlace, MovesOn, found_here, opening_at, place_from}
+use Rattle.syslog_collect.proofs.Steps.{moved, step}
+
+-- ---- a piece, by what was logged of it
+
+drop_past : (l os : List Outcome) → drop (length l) (l ++ os) ≡ os
+drop_past [] os = refl
+drop_past (x ∷ l) os = drop_past l os
+
+grown : (l m os : List Outcome) → m ≡ l ++ os → os ≡ drop (length l) m
+grown l m os e = sym (ap (λ (u : List Outcome). drop (length l) u) e ∙ drop_past l os)
+
+longer_none : (s : Stream) → longer s [] ≡ s
+longer_none s = ap (λ (z : List ℕ). let t : Stream = record { number = s.number; framing = s.framing; octets = z } in t) (append-nil s.octets)
+
+on_of : (x y : Connection) (a b : List Entry) (o : List ℕ) (l m : List Outcome) (s : Stream) (d : List (List ℕ)) → IsAt x s d → Logs x y a b o l m s d → MovesOn x y a b o (drop (length l) m) s d
+on_of x y a b o l m s d at (os, log, inl (none, same, kept, quiet)) = record {
+  fresh = [];
+  now_at = subst (λ (u : List ℕ). IsAt y (longer s u) (d ++ [])) (sym none) (subst (λ (t : Stream). IsAt y t (d ++ [])) (sym (longer_none s))
+      (subst (λ (fs : List (List ℕ)). IsAt y s fs) (sym (append-nil d)) (subst (λ (w : Connection). IsAt w s d) (sym same) at)));
+  reported = subst (λ (u : List Outcome). AreReported a b [] u) (sym quiet ∙ grown l m os log) (refl, kept);
+}
+on_of x y a b o l m s d at (os, log, inr moves) = record {
+  fresh = moves.fresh;
+  now_at = moves.now_at;
+  reported = subst (λ (u : List Outcome). AreReported a b moves.fresh u) (grown l m os log) moves.reported;
+}
+
+may_of : (x y : Connection) (a b : List Entry) (z : ℕ) (zs : List ℕ) (l m : List Outcome) (s : Stream) (d : List (List ℕ)) → Logs x y a b (z ∷ zs) l m s d → MayGrow (z ∷ zs) s
+may_of x y a b z zs l m s d (os, log, inl (none, same, kept, quiet)) = absurd (cc)
+may_of x y a b z zs l m s d (os, log, inr moves) = moves.may
+
+joined_nothing : (c : ℕ) (ss : List Stream) → joined c [] ss ≡ ss
+joined_nothing c [] = refl
+joined_nothing c (s ∷ ss) =
+    elim (eqb s.number c) as (λ b. cond b (longer s [] ∷ ss) (s ∷ joined c [] ss) ≡ s ∷ ss) [
+      | true ↦ ap (λ (t : Stream). t ∷ ss) (longer_none s)
+      | false ↦ ap (λ (zs : List Stream). s ∷ zs) (joined_nothing c ss)
+    ]
+
+pub logged_found : (c n : ℕ) (x y : Connection) (ls : List Connection) (kept now first : List Entry) (es : List Told) (o : List ℕ) (l m : List Outcome)
+    → place_from c 0 ls ≡ Some n → x ≡ get_or ls n x → ((s : Stream) (d : List (List ℕ)) → IsAt x s d → Logs x y kept now o l m s d)
+    → Stands ls kept first es → Stands (set_at ls n y) now first (es ++ told_octets c o)
+logged_found c n x y ls kept now first es [] l m is item logs was =
+    let h = after nothing es in
+    let next = moved c n x y ls kept now first h [] (drop (length l) m) (found_here c n x ls is item) (λ s d at. on_of x y kept now [] l m s d at (logs s d at)) was.stands_at in
+    let same : hear h (Piece c []) ≡ h = ap (λ (ss : List Stream). let g : History = record { streams = ss; ended = h.ended; datagrams = h.datagrams } in g) (joined_nothing c h.streams) in
+    rw append-nil (record { acceptable = was.acceptable; stands_at = subst (λ (g : History). StandsAt (set_at ls n y) now first g) same next })
+logged_found c n x y ls kept now first es (z ∷ zs) l m is item logs was =
+    let h = after nothing es in
+    let at = found_here c n x ls is item in
+    let there = opening_at c n x ls h.streams was.stands_at.handled was.stands_at.follow at in
+    step ls (set_at ls n y) kept now first es (Piece c (z ∷ zs)) was (rw there.is (may_of x y kept now z zs l m there.opening there.handled (logs there.opening there.handled there.at)))
+    (moved c n x y ls kept now first h (z ∷ zs) (drop (length l) m) at (λ s d a. on_of x y kept now (z ∷ zs) l m s d a (logs s d a)) was.stands_at)
+
+frames_of_logs : (x y : Connection) (a b : List Entry) (o : List ℕ) (l m : List Outcome) (s : Stream) (d : List (List ℕ)) → Logs x y a b o l m s d → LogsFrames a b l m
+frames_of_logs x y a b o l m s d (os, log, inl (none, same, kept, quiet)) = (os, [], log, subst (λ (u : List Outcome). AreReported a b [] u) (sym quiet) (refl, kept))
+frames_of_logs x y a b o l m s d (os, log, inr moves) = (os, moves.fresh, log, moves.reported)
+
+pub frames_found : (c n : ℕ) (x y : Connection) (ls : List Connection) (kept now first : List Entry) (es : List Told) (o : List ℕ) (l m : List Outcome)
+    → place_from c 0 ls ≡ Some n → x ≡ get_or ls n x → ((s : Stream) (d : List (List ℕ)) → IsAt x s d → Logs x y kept now o l m s d)
+    → Stands ls kept first es → LogsFrames kept now l m
+frames_found c n x y ls kept now first es o l m is item logs was =
+    let there = opening_at c n x ls (after nothing es).streams was.stands_at.handled was.stands_at.follow (found_here c n x ls is item) in
+    frames_of_logs x y kept now o l m there.opening there.handled (logs there.opening there.handled there.at)
+
+-- ---- logs
+
+pub logs_none : (a b : List Entry) (l m : List Outcome) → b ≡ a → m ≡ l → LogsFrames a b l m
+logs_none a b l m kept same = ([], [], same ∙ sym (append-nil l), (refl, kept))
+
+logs_one : (a b : List Entry) (f : List ℕ) (o : Outcome) → IsOutcome a b f o → IsReported a b (f ∷ []) o
+logs_one a b f New h = (f, refl, h)
+logs_one a b f Held h = (f, refl, h)
+logs_one a b f (Refused fault) h = (f, refl, h)
+logs_one a b f TooLong h = (f, refl, h)
+logs_one a b f (BadCount at) h = absurd h
+
+pub logs_frame : (a b : List Entry) (l m : List Outcome) (f : List ℕ) (o : Outcome) → IsOutcome a b f o → m ≡ l ++ o ∷ [] → LogsFrames a b l m
+logs_frame a b l m f o out log = (o ∷ [], f ∷ [], log, (f ∷ [], [], b, refl, logs_one a b f o out, (refl, refl)))
+
+pub logs_frames_then : (a b c : List Entry) (l m n : List Outcome) → LogsFrames a b l m → LogsFrames b c m n → LogsFrames a c l n
+logs_frames_then a b c l m n (os, fs, log, reported) (ps, gs, more, later) =
+    (os ++ ps, fs ++ gs, more ∙ ap (λ (u : List Outcome). u ++ ps) log ∙ append_assoc l os ps, reported_then a b c fs gs os ps reported later)
+
+-- ---- events
+
+pub opening_told : {U : Type 0} (c : ℕ) (k : Framing) (r : Result U CollectFault) → told_opening c k r ≡ told_by (event_Opened c k) (event_end r)
+opening_told c k (Ok u) = refl
+opening_told c k (Err fault) = refl
+
+pub ending_told : {U : Type 0} (c : ℕ) (r : Result U CollectFault) → told_ending c r ≡ told_by (event_Ended c) (event_end r)
+ending_told c (Ok u) = refl
+ending_told c (Err (Unterminated start)) = refl
+ending_told c (Err AlreadyOpen) = refl
+ending_told c (Err TooManyOpen) = refl
+ending_told c (Err NotOpen) = refl
+ending_told c (Err ConnFailed) = refl
+ending_told c (Err StreamTooLong) = refl
+ending_told c (Err Unreleased) = refl
+ending_told c (Err (Memory n)) = refl
+
+pub piece_told : (c : ℕ) (o : Bor (List ℕ)) (r : EventEnd) → told_octets c (piece_octets o.now r) ≡ told_by (event_Piece c o) r
+piece_told c o end_Done = refl
+piece_told c o (end_Stopped n fault) = refl
+
+pub datagram_told : (o : Bor (List ℕ)) (r : EventEnd) → told_datagram_end o.now r ≡ told_by (event_Datagram o) r
+datagram_told o end_Done = refl
+datagram_told o (end_Stopped n fault) = refl
+
+-- nothing of an event
+pub told_nothing : (e : Event) → told_part e 0 (Memory 0) ≡ []
+told_nothing (event_Opened c k) = refl
+told_nothing (event_Piece c o) = refl
+told_nothing (event_Ended c) = refl
+told_nothing (event_Datagram o) = refl
+
+pub told_all-next : (es : List Event) (n : ℕ) (d : Event) → n < length es → told_all (take (n + 1) es) ≡ told_all (take n es) ++ told_event (get_or es n d)
+told_all-next [] n d h = absurd (omega arith)
+told_all-next (e ∷ es) zero d h = append-nil (told_event e)
+told_all-next (e ∷ es) (suc n) d h =
+    let next : suc n + 1 ≡ suc (n + 1) = omega arith in
+    rw next (ap (λ (xs : List Told). told_event e ++ xs) (told_all-next es n d (omega arith)) ∙ sym (append_assoc (told_event e) (told_all (take n es)) (told_event (get_or es n d))))
+
+pub told_first-here : (es : List Event) (n k : ℕ) (fault : CollectFault) (d : Event) → n < length es → told_first (drop n es) k fault ≡ told_part (get_or es n d) k fault
+told_first-here [] n k fault d h = absurd (omega arith)
+told_first-here (e ∷ es) zero k fault d h = refl
+told_first-here (e ∷ es) (suc n) k fault d h = told_first-here es n k fault d (omega arith)
+
+pub told_all-whole : (es : List Event) (n : ℕ) → n ≡ length es → told_all (take n es) ≡ told_all es
+told_all-whole [] zero h = refl
+told_all-whole [] (suc n) h = refl
+told_all-whole (e ∷ es) zero h = absurd (omega arith)
+told_all-whole (e ∷ es) (suc n) h = ap (λ (xs : List Told). told_event e ++ xs) (told_all-whole es n (omega arith))

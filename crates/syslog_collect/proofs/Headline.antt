@@ -1,0 +1,141 @@
+-- A settled collector holds what was received.
+use Rattle.std.proofs.Common.{◌≡◌, ℕ, zero, suc, ◌+◌, List, [], ◌∷◌, ◌++◌, length, get_or, set as set_at, inl, inr, refl, sym, ◌∙◌, ap, subst}
+use Rattle.std.specs.Prelude.{◌⊎◌, ◌↔◌, Some, Result, Ok, Err, IfOk, OnOk}
+use Rattle.std.specs.List.{remove}
+use Rattle.syslog_frame.specs.Scan.{HasFrame, HasReady}
+use Rattle.syslog_frame.specs.declared.limits.TheConstants.{FRAME_MAX}
+use Rattle.syslog_frame.proofs.Calls.{none_unless_frame}
+use Rattle.syslog_frame.proofs.FrameLaws.{unique_frames}
+use Rattle.syslog_frame.proofs.Reading.{frames_read}
+use Rattle.archive_text.specs.Entries.{Entry, Has}
+use Rattle.archive_text.specs.Text.{IsArchive}
+use Rattle.archive_text.proofs.Ascending.{same_members}
+use Rattle.syslog_collect.specs.declared.connection.Connection.{Connection}
+use Rattle.syslog_collect.specs.declared.fault.Advance.{Advance}
+use Rattle.syslog_collect.specs.declared.fault.CollectFault.{CollectFault}
+use Rattle.syslog_collect.specs.Answers.{MovesBy, Reports, accepted_octets, answered, used_octets}
+use Rattle.syslog_collect.specs.Outcomes.{outcomes_of}
+use Rattle.syslog_collect.proofs.Places.{found_here, opening_at, place_from}
+use Rattle.syslog_collect.specs.declared.event.EventEnd.{EventEnd}
+use Rattle.syslog_collect.specs.declared.event.EventEnd.TheVariants.{Done as end_Done, Stopped as end_Stopped}
+use Rattle.syslog_collect.specs.Runs.{IfDone}
+use Rattle.syslog_collect.specs.Frames.{AreFramesOf, HasFrames, IsFramesOf, IsReceived, IsSpelled, all_of}
+use Rattle.syslog_collect.specs.Headline.{IsSettled, IsUnion, ReceivedBoth, ReceivedSame}
+use Rattle.syslog_collect.specs.History.{History, Stream, Told, after, longer, nothing}
+use Rattle.syslog_collect.specs.Standing.{AreAt, IsAt, Stands}
+
+-- where no frame is ready, the frames that were handled are those of the opening
+pub one_settled : (c : Connection) (s : Stream) (d : List (List ℕ)) → IsAt c s d → ¬ (HasFrame c.scanner) → IsFramesOf s d
+one_settled c s d at none = elim at.scanner [
+  | inl here ↦ (here.rest, frames_read FRAME_MAX c.scanner s.framing 0 s.octets d here.rest here.reads (none_unless_frame FRAME_MAX c.scanner s.framing (0 + length s.octets) here.rest none here.reads.stands))
+  | inr broken ↦ (broken.rest, broken.bad.frames_are)
+]
+
+all_settled : (cs : List Connection) (ss : List Stream) (ds : List (List (List ℕ))) → AreAt cs ss ds → IsSettled cs → AreFramesOf ss ds
+all_settled [] [] [] f h = tt
+all_settled (c ∷ cs) (s ∷ ss) (d ∷ ds) f h = (one_settled c s d f.0 h.0, all_settled cs ss ds f.1 h.1)
+all_settled [] [] (d ∷ ds) f h = absurd f
+all_settled [] (s ∷ ss) [] f h = absurd f
+all_settled [] (s ∷ ss) (d ∷ ds) f h = absurd f
+all_settled (c ∷ cs) [] [] f h = absurd f
+all_settled (c ∷ cs) [] (d ∷ ds) f h = absurd f
+all_settled (c ∷ cs) (s ∷ ss) [] f h = absurd f
+
+pub settled_push : (cs : List Connection) (c : Connection) → IsSettled cs → ¬ (HasFrame c.scanner) → IsSettled (cs ++ c ∷ [])
+settled_push [] c h none = (none, tt)
+settled_push (d ∷ cs) c h none = (h.0, settled_push cs c h.1 none)
+
+settled_set : (cs : List Connection) (i : ℕ) (c : Connection) → IsSettled cs → ¬ (HasFrame c.scanner) → IsSettled (set_at cs i c)
+settled_set [] zero c h none = tt
+settled_set [] (suc i) c h none = tt
+settled_set (d ∷ cs) zero c h none = (none, h.1)
+settled_set (d ∷ cs) (suc i) c h none = (h.0, settled_set cs i c h.1 none)
+
+pub settled_remove : (cs : List Connection) (i : ℕ) → IsSettled cs → IsSettled (remove cs i)
+settled_remove [] zero h = tt
+settled_remove [] (suc i) h = tt
+settled_remove (d ∷ cs) zero h = h.1
+settled_remove (d ∷ cs) (suc i) h = (h.0, settled_remove cs i h.1)
+
+pub settled_advance : {T E : Type 0} (r : Result T E) (cs : List Connection) (n : ℕ) (c : Connection) → OnOk r (¬ (HasReady c.scanner)) → OnOk r (IsSettled cs → IsSettled (set_at cs n c))
+settled_advance (Ok x) cs n c quiet = λ h. settled_set cs n c h (λ f. quiet (inl f))
+settled_advance (Err e) cs n c quiet = tt
+
+pub settled_piece : (r : EventEnd) (cs : List Connection) (n : ℕ) (c : Connection) → IfDone r (¬ (HasReady c.scanner)) → IfDone r (IsSettled cs → IsSettled (set_at cs n c))
+settled_piece end_Done cs n c quiet = λ h. settled_set cs n c h (λ f. quiet (inl f))
+settled_piece (end_Stopped k fault) cs n c quiet = tt
+
+pub if_done : {P : Type 0} (r : EventEnd) → P → IfDone r P
+if_done end_Done p = p
+if_done (end_Stopped k fault) p = tt
+
+-- openings have one list of frames each
+one_each : (ss : List Stream) (fs gs : List (List (List ℕ))) → AreFramesOf ss fs → AreFramesOf ss gs → fs ≡ gs
+one_each [] [] [] a b = refl
+one_each [] [] (g ∷ gs) a b = absurd b
+one_each [] (f ∷ fs) gs a b = absurd a
+one_each (s ∷ ss) [] gs a b = absurd a
+one_each (s ∷ ss) (f ∷ fs) [] a b = absurd b
+one_each (s ∷ ss) (f ∷ fs) (g ∷ gs) a b =
+    let here = (unique_frames s.framing s.octets f g a.0.0 b.0.0 a.0.1 b.0.1).0 in
+    ap (λ (z : List (List ℕ)). z ∷ fs) here ∙ ap (λ (z : List (List (List ℕ))). g ∷ z) (one_each ss fs gs a.1 b.1)
+
+-- a history has one list of frames
+pub one_history : (h : History) (fs gs : List (List ℕ)) → HasFrames h fs → HasFrames h gs → fs ≡ gs
+one_history h fs gs a b =
+    a.all ∙ ap (λ (z : List (List (List ℕ))). all_of z ++ (all_of a.ended_frames ++ h.datagrams)) (one_each h.streams a.open_frames b.open_frames a.open_are b.open_are)
+    ∙ ap (λ (z : List (List (List ℕ))). all_of b.open_frames ++ (all_of z ++ h.datagrams)) (one_each h.ended a.ended_frames b.ended_frames a.ended_are b.ended_are) ∙ sym b.all
+
+pub holds_received : (cs : List Connection) (kept first : List Entry) (es : List Told) → Stands cs kept first es → IsSettled cs → (x : Entry) → Has kept x ↔ (Has first x ⊎ IsReceived es x)
+holds_received cs kept first es was settled x =
+    let h = after nothing es in
+    let sa = was.stands_at in
+    let fs = all_of sa.handled ++ (all_of sa.ended_frames ++ h.datagrams) in
+    let are : HasFrames h fs = record { open_frames = sa.handled; ended_frames = sa.ended_frames; open_are = all_settled cs h.streams sa.handled sa.follow settled; ended_are = sa.ended_are; all = refl } in (
+      λ k. elim ((sa.gains x).0 k) [ inl a ↦ inl a | inr b ↦ inr (fs, are, b) ],
+      λ k. elim k [
+        | inl a ↦ (sa.gains x).1 (inl a)
+        | inr (gs, others, b) ↦ (sa.gains x).1 (inr (subst (λ (z : List (List ℕ)). IsSpelled z x) (one_history h gs fs others are) b))
+      ],
+    )
+
+-- over an empty store, just what was received
+pub holds_just : (cs : List Connection) (kept : List Entry) (es : List Told) → Stands cs kept [] es → IsSettled cs → (x : Entry) → Has kept x ↔ IsReceived es x
+holds_just cs kept es was settled x =
+    let h = holds_received cs kept [] es was settled x in (
+      λ k. elim (h.0 k) [ inl a ↦ absurd a | inr b ↦ b ],
+      λ r. h.1 (inr r),
+    )
+
+-- two settled collectors that received the same hold the same entries
+pub same_entries : (most : ℕ) (cs ds : List Connection) (kept other : List Entry) (es fs : List Told) → IsArchive most kept → IsArchive most other
+    → Stands cs kept [] es → Stands ds other [] fs → IsSettled cs → IsSettled ds → ReceivedSame es fs → kept ≡ other
+same_entries most cs ds kept other es fs a b one two settled settled_too same =
+    same_members kept other a.ascending b.ascending
+    (λ x k. (holds_just ds other fs two settled_too x).1 ((same x).0 ((holds_just cs kept es one settled x).0 k)))
+    (λ x k. (holds_just cs kept es one settled x).1 ((same x).1 ((holds_just ds other fs two settled_too x).0 k)))
+
+-- the entries of two settled collectors together are those of a third that received what they did
+pub union_entries : (most : ℕ) (cs ds bs : List Connection) (kept other all merged : List Entry) (es fs gs : List Told) → IsArchive most all → IsArchive most merged
+    → Stands cs kept [] es → Stands ds other [] fs → Stands bs all [] gs → IsSettled cs → IsSettled ds → IsSettled bs
+    → ReceivedBoth gs es fs → IsUnion merged kept other → merged ≡ all
+union_entries most cs ds bs kept other all merged es fs gs a b one two three settled settled_too settled_three received union =
+    same_members merged all b.ascending a.ascending
+    (λ x k. (holds_just bs all gs three settled_three x).1 ((received x).1 (elim ((union x).0 k) [
+      | inl p ↦ inl ((holds_just cs kept es one settled x).0 p)
+      | inr q ↦ inr ((holds_just ds other fs two settled_too x).0 q)
+    ])))
+    (λ x k. (union x).1 (elim ((received x).0 ((holds_just bs all gs three settled_three x).0 k)) [
+      | inl p ↦ inl ((holds_just cs kept es one settled x).1 p)
+      | inr q ↦ inr ((holds_just ds other fs two settled_too x).1 q)
+    ]))
+
+-- after an advance that answers Ok, its outcome is that of the last frame
+pub reports_found : (c n : ℕ) (x y : Connection) (ls : List Connection) (kept now first : List Entry) (es : List Told) (piece : List ℕ) (r : Result Advance CollectFault)
+    → place_from c 0 ls ≡ Some n → x ≡ get_or ls n x → ((s : Stream) (d : List (List ℕ)) → IsAt x s d → MovesBy (accepted_octets piece r) x y kept now (answered r) s d)
+    → OnOk r (¬ (HasReady y.scanner)) → Stands ls kept first es → IfOk r (λ a. Reports c (used_octets piece a) (after nothing es) kept now (outcomes_of a.outcome))
+reports_found c n x y ls kept now first es piece (Ok a) is item moves quiet was =
+    let there = opening_at c n x ls (after nothing es).streams was.stands_at.handled was.stands_at.follow (found_here c n x ls is item) in
+    let m = moves there.opening there.handled there.at in
+    rw there.is (there.handled, m.fresh, one_settled y (longer there.opening (used_octets piece a)) (there.handled ++ m.fresh) m.now_at (λ f. quiet (inl f)), m.reported)
+reports_found c n x y ls kept now first es piece (Err fault) is item moves quiet was = tt

@@ -1,0 +1,9 @@
+pub mod Spelling
+pub mod Ready
+pub mod Moving
+pub mod Gains
+pub mod Places
+pub mod Steps
+pub mod Headline
+pub mod Pieces
+pub mod EventRuns

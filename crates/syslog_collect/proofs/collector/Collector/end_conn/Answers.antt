@@ -1,0 +1,81 @@
+use Rattle.std.proofs.Common.{◌≡◌, ◌+◌, List, [], length, refl, sym, subst, arith}
+use Rattle.std.specs.Prelude.{Some, None}
+use Rattle.syslog_collect.specs.declared.connection.Connection.{Connection}
+use Rattle.syslog_collect.proofs.Headline.{settled_remove}
+use Rattle.syslog_collect.proofs.Places.{place_from, within}
+use Rattle.syslog_collect.proofs.Steps.{close_found, handled_by, is_open, not_open, unfinished_at}
+use Rattle.syslog_collect.proofs.collector.Collector.end_conn.Goals as goal
+
+pub returns-in-None-clause-cause : goal.returns-in-None-clause-cause
+returns-in-None-clause-cause g c first events was =
+    let absent = subst (λ (ls : List Connection). place_from c.args.conn 0 ls ≡ None) c.deref.ensures.value (sym c.in-None.ensures) in
+    not_open c.args.conn c.args.self.now.connections.items _ first events absent was
+
+pub index-requires : goal.index-requires
+index-requires g c =
+    let is = subst (λ (ls : List Connection). place_from c.args.conn 0 ls ≡ Some c.in-Some.at) c.deref.ensures.value (sym c.in-Some.ensures) in
+    omega (arith, within c.args.conn c.in-Some.at c.args.self.now.connections.items is)
+
+pub remove-requires : goal.remove-requires
+remove-requires g c =
+    let is = subst (λ (ls : List Connection). place_from c.args.conn 0 ls ≡ Some c.in-Some.at) c.deref.ensures.value (sym c.in-Some.ensures) in
+    omega (arith, within c.args.conn c.in-Some.at c.args.self.now.connections.items is)
+
+pub remove-requires-in-Err-Failed : goal.remove-requires-in-Err-Failed
+remove-requires-in-Err-Failed g c =
+    let is = subst (λ (ls : List Connection). place_from c.args.conn 0 ls ≡ Some c.in-Some.at) c.deref.ensures.value (sym c.in-Some.ensures) in
+    omega (arith, within c.args.conn c.in-Some.at c.args.self.now.connections.items is)
+
+pub remove-requires-in-Ok : goal.remove-requires-in-Ok
+remove-requires-in-Ok g c =
+    let is = subst (λ (ls : List Connection). place_from c.args.conn 0 ls ≡ Some c.in-Some.at) c.deref.ensures.value (sym c.in-Some.ensures) in
+    omega (arith, within c.args.conn c.in-Some.at c.args.self.now.connections.items is)
+
+pub returns-in-Err-Unreleased-clause-cause : goal.returns-in-Err-Unreleased-clause-cause
+returns-in-Err-Unreleased-clause-cause g c first events was =
+    let is = subst (λ (ls : List Connection). place_from c.args.conn 0 ls ≡ Some c.in-Some.at) c.deref.ensures.value (sym c.in-Some.ensures) in
+    is_open c.args.conn c.in-Some.at c.args.self.now.connections.items _ first events is was
+
+pub returns-in-Err-Unterminated-clause-stands : goal.returns-in-Err-Unterminated-clause-stands
+returns-in-Err-Unterminated-clause-stands g c first events was =
+    let is = subst (λ (ls : List Connection). place_from c.args.conn 0 ls ≡ Some c.in-Some.at) c.deref.ensures.value (sym c.in-Some.ensures) in
+    rw c.remove.ensures.items (close_found c.args.conn c.in-Some.at c.index.result.now c.args.self.now.connections.items _ first events is c.index.ensures
+    (handled_by c.index.result.now (λ kind start octets frames rest r. (rest, (rw c.in-Err-Unterminated.field-0-is at (c.in-Err-Unterminated.ensures.reads kind start octets frames rest r)).0))) was)
+
+pub returns-in-Err-Unterminated-clause-cause : goal.returns-in-Err-Unterminated-clause-cause
+returns-in-Err-Unterminated-clause-cause g c first events was =
+    let is = subst (λ (ls : List Connection). place_from c.args.conn 0 ls ≡ Some c.in-Some.at) c.deref.ensures.value (sym c.in-Some.ensures) in
+    unfinished_at c.args.conn c.in-Some.at c.in-Err-Unterminated.start c.index.result.now c.args.self.now.connections.items _ first events is c.index.ensures
+    (λ f. let e = (rw c.in-Err-Unterminated.field-0-is at c.in-Err-Unterminated.ensures.failed).1 f in absurd (cc))
+    (λ kind start octets frames rest r. let e = rw c.in-Err-Unterminated.field-0-is at (c.in-Err-Unterminated.ensures.reads kind start octets frames rest r) in (e.0, e.2, e.3)) was
+
+pub returns-in-Err-Failed-clause-stands : goal.returns-in-Err-Failed-clause-stands
+returns-in-Err-Failed-clause-stands g c first events was =
+    let is = subst (λ (ls : List Connection). place_from c.args.conn 0 ls ≡ Some c.in-Some.at) c.deref.ensures.value (sym c.in-Some.ensures) in
+    rw c.remove-in-Err-Failed.ensures.items (close_found c.args.conn c.in-Some.at c.index.result.now c.args.self.now.connections.items _ first events is c.index.ensures
+    (handled_by c.index.result.now (λ kind start octets frames rest r. absurd (rw c.in-Err-Failed.field-0-is at (c.in-Err-Failed.ensures.reads kind start octets frames rest r)))) was)
+
+pub returns-in-Err-Failed-clause-cause : goal.returns-in-Err-Failed-clause-cause
+returns-in-Err-Failed-clause-cause g c first events was =
+    let is = subst (λ (ls : List Connection). place_from c.args.conn 0 ls ≡ Some c.in-Some.at) c.deref.ensures.value (sym c.in-Some.ensures) in
+    is_open c.args.conn c.in-Some.at c.args.self.now.connections.items _ first events is was
+
+pub returns-in-Ok-clause-stands : goal.returns-in-Ok-clause-stands
+returns-in-Ok-clause-stands g c first events was =
+    let is = subst (λ (ls : List Connection). place_from c.args.conn 0 ls ≡ Some c.in-Some.at) c.deref.ensures.value (sym c.in-Some.ensures) in
+    rw c.remove-in-Ok.ensures.items (close_found c.args.conn c.in-Some.at c.index.result.now c.args.self.now.connections.items _ first events is c.index.ensures
+    (handled_by c.index.result.now (λ kind start octets frames rest r. ([], (c.in-Ok.ensures.reads kind start octets frames rest r).1))) was)
+
+pub returns-in-Ok-clause-cause : goal.returns-in-Ok-clause-cause
+returns-in-Ok-clause-cause g c first events was =
+    let is = subst (λ (ls : List Connection). place_from c.args.conn 0 ls ≡ Some c.in-Some.at) c.deref.ensures.value (sym c.in-Some.ensures) in
+    is_open c.args.conn c.in-Some.at c.args.self.now.connections.items _ first events is was
+
+pub returns-in-Err-Unterminated-clause-settled : goal.returns-in-Err-Unterminated-clause-settled
+returns-in-Err-Unterminated-clause-settled g c h = rw c.remove.ensures.items (settled_remove _ _ h)
+
+pub returns-in-Err-Failed-clause-settled : goal.returns-in-Err-Failed-clause-settled
+returns-in-Err-Failed-clause-settled g c h = rw c.remove-in-Err-Failed.ensures.items (settled_remove _ _ h)
+
+pub returns-in-Ok-clause-settled : goal.returns-in-Ok-clause-settled
+returns-in-Ok-clause-settled g c h = rw c.remove-in-Ok.ensures.items (settled_remove _ _ h)

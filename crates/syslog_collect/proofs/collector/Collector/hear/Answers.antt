@@ -1,0 +1,49 @@
+use Rattle.std.proofs.Common.{List, ◌++◌, ap, ◌∙◌, refl, sym, subst}
+use Rattle.archive_text.specs.Entries.{Entry}
+use Rattle.syslog_collect.specs.History.{Told}
+use Rattle.syslog_collect.specs.declared.event.Event.{Event}
+use Rattle.syslog_collect.specs.declared.event.Event.TheVariants.{Opened, Ended}
+use Rattle.syslog_collect.specs.declared.event.EventEnd.{EventEnd}
+use Rattle.syslog_collect.specs.declared.outcome.Outcome.{Outcome}
+use Rattle.syslog_collect.specs.Runs.{LogsFrames, told_by}
+use Rattle.syslog_collect.specs.Standing.{Stands}
+use Rattle.syslog_collect.proofs.EventRuns.{datagram_told, ending_told, logs_none, opening_told, piece_told, told_nothing}
+use Rattle.syslog_collect.proofs.Steps.{still}
+use Rattle.syslog_collect.proofs.collector.Collector.hear.Goals as goal
+
+pub returns-then-is_err-clause-stands : goal.returns-then-is_err-clause-stands
+returns-then-is_err-clause-stands g c first events was =
+    subst (λ (ts : List Told). Stands c.args.self.now.connections.items (g.S.Store.entries c.args.self.now.store) first (events ++ ts)) (sym (told_nothing c.args.event))
+    (still c.args.self.now.connections.items _ _ first events refl was)
+
+pub returns-then-is_err-clause-logs : goal.returns-then-is_err-clause-logs
+returns-then-is_err-clause-logs g c first events was = logs_none _ _ _ _ refl c.reserve.ensures.items
+
+pub returns-in-Opened-clause-stands : goal.returns-in-Opened-clause-stands
+returns-in-Opened-clause-stands g c first events was =
+    let told = opening_told c.in-Opened.conn c.in-Opened.framing c.open_conn.result ∙ ap (λ (r : EventEnd). told_by (Opened c.in-Opened.conn c.in-Opened.framing) r) (sym c.end_of.ensures) in
+    subst (λ (e : Event). Stands c.open_conn.new.self.connections.items (g.S.Store.entries c.open_conn.new.self.store) first (events ++ told_by e c.end_of.result)) (sym c.in-Opened.is)
+    (subst (λ (ts : List Told). Stands c.open_conn.new.self.connections.items (g.S.Store.entries c.open_conn.new.self.store) first (events ++ ts)) told (c.open_conn.ensures.stands first events was))
+
+pub returns-in-Piece-clause-stands : goal.returns-in-Piece-clause-stands
+returns-in-Piece-clause-stands g c first events was =
+    let told = piece_told c.in-Piece.conn c.in-Piece.octets c.piece.result in
+    subst (λ (e : Event). Stands c.piece.new.self.connections.items (g.S.Store.entries c.piece.new.self.store) first (events ++ told_by e c.piece.result)) (sym c.in-Piece.is)
+    (subst (λ (ts : List Told). Stands c.piece.new.self.connections.items (g.S.Store.entries c.piece.new.self.store) first (events ++ ts)) told (c.piece.ensures.stands first events was))
+
+pub returns-in-Piece-clause-logs : goal.returns-in-Piece-clause-logs
+returns-in-Piece-clause-logs g c first events was =
+    subst (λ (l : List Outcome). LogsFrames (g.S.Store.entries c.args.self.now.store) (g.S.Store.entries c.piece.new.self.store) l c.piece.new.log.items) c.reserve.ensures.items
+    (c.piece.ensures.logs first events was)
+
+pub returns-in-Ended-clause-stands : goal.returns-in-Ended-clause-stands
+returns-in-Ended-clause-stands g c first events was =
+    let told = ending_told c.in-Ended.conn c.end_conn.result ∙ ap (λ (r : EventEnd). told_by (Ended c.in-Ended.conn) r) (sym c.end_of-in-Ended.ensures) in
+    subst (λ (e : Event). Stands c.end_conn.new.self.connections.items (g.S.Store.entries c.end_conn.new.self.store) first (events ++ told_by e c.end_of-in-Ended.result)) (sym c.in-Ended.is)
+    (subst (λ (ts : List Told). Stands c.end_conn.new.self.connections.items (g.S.Store.entries c.end_conn.new.self.store) first (events ++ ts)) told (c.end_conn.ensures.stands first events was))
+
+pub returns-in-Datagram-clause-stands : goal.returns-in-Datagram-clause-stands
+returns-in-Datagram-clause-stands g c first events was =
+    let told = datagram_told c.in-Datagram.octets c.logged_datagram.result in
+    subst (λ (e : Event). Stands c.logged_datagram.new.self.connections.items (g.S.Store.entries c.logged_datagram.new.self.store) first (events ++ told_by e c.logged_datagram.result)) (sym c.in-Datagram.is)
+    (subst (λ (ts : List Told). Stands c.logged_datagram.new.self.connections.items (g.S.Store.entries c.logged_datagram.new.self.store) first (events ++ ts)) told (c.logged_datagram.ensures.stands first events was))

@@ -1,0 +1,31 @@
+use Rattle.std.proofs.Common.{◌≡◌, List, sym, subst, arith, refl}
+use Rattle.std.specs.Prelude.{Some, None}
+use Rattle.syslog_collect.specs.Runs.{piece_octets}
+use Rattle.syslog_collect.specs.declared.connection.Connection.{Connection}
+use Rattle.syslog_collect.proofs.Headline.{settled_piece}
+use Rattle.syslog_collect.proofs.Places.{place_from, within}
+use Rattle.syslog_collect.proofs.EventRuns.{frames_found, logged_found, logs_none}
+use Rattle.syslog_collect.proofs.collector.Collector.piece.Goals as goal
+
+pub index_mut-requires : goal.index_mut-requires
+index_mut-requires g c =
+    let is = subst (λ (ls : List Connection). place_from c.args.conn 0 ls ≡ Some c.in-Some.at) c.deref.ensures.value (sym c.in-Some.ensures) in
+    omega (arith, within c.args.conn c.in-Some.at c.args.self.now.connections.items is)
+
+pub returns-in-None-clause-logs : goal.returns-in-None-clause-logs
+returns-in-None-clause-logs g c first events was = logs_none _ _ _ _ refl refl
+
+pub returns-in-Some-clause-stands : goal.returns-in-Some-clause-stands
+returns-in-Some-clause-stands g c first events was =
+    let is = subst (λ (ls : List Connection). place_from c.args.conn 0 ls ≡ Some c.in-Some.at) c.deref.ensures.value (sym c.in-Some.ensures) in
+    logged_found c.args.conn c.in-Some.at c.index_mut.result.now c.take_piece.new.connection c.args.self.now.connections.items _ _ first events
+    (piece_octets c.args.octets.now c.take_piece.result) _ _ is c.index_mut.ensures.value c.take_piece.ensures.moves was
+
+pub returns-in-Some-clause-logs : goal.returns-in-Some-clause-logs
+returns-in-Some-clause-logs g c first events was =
+    let is = subst (λ (ls : List Connection). place_from c.args.conn 0 ls ≡ Some c.in-Some.at) c.deref.ensures.value (sym c.in-Some.ensures) in
+    frames_found c.args.conn c.in-Some.at c.index_mut.result.now c.take_piece.new.connection c.args.self.now.connections.items _ _ first events
+    (piece_octets c.args.octets.now c.take_piece.result) _ _ is c.index_mut.ensures.value c.take_piece.ensures.moves was
+
+pub returns-in-Some-clause-settled : goal.returns-in-Some-clause-settled
+returns-in-Some-clause-settled g c = settled_piece c.take_piece.result c.args.self.now.connections.items c.in-Some.at c.take_piece.new.connection c.take_piece.ensures.settled

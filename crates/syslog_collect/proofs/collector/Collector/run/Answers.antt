@@ -1,0 +1,53 @@
+use Rattle.std.proofs.Common.{◌<◌, List, ◌++◌, length, get_or, take, append_assoc, sym, ◌∙◌, ap, refl, subst, arith}
+use Rattle.std.proofs.lemmas.List.{append-nil}
+use Rattle.syslog_frame.specs.declared.framing.Framing.TheVariants.{Counted}
+use Rattle.syslog_collect.specs.declared.event.Event.TheVariants.{Opened}
+use Rattle.syslog_collect.specs.History.{Told}
+use Rattle.syslog_collect.specs.Runs.{told_all, told_event, told_part}
+use Rattle.syslog_collect.specs.Standing.{Stands}
+use Rattle.syslog_collect.proofs.EventRuns.{logs_frames_then, logs_none, told_all-next, told_all-whole, told_first-here}
+use Rattle.syslog_collect.proofs.collector.Collector.run.Goals as goal
+
+pub returns-in-Stopped-clause-stands : goal.returns-in-Stopped-clause-stands
+returns-in-Stopped-clause-stands g c first before was =
+    let es = c.args.events.now in
+    let n = c.loop-at.at in
+    let heard = c.in-Stopped.ensures.stands first _ (c.loop-at.invariant.stands first before was) in
+    let here : n < length es = omega arith in
+    let same = append_assoc before (told_all (take n es)) (told_part (get_or es n (Opened 0 Counted)) c.in-Stopped.taken c.in-Stopped.fault)
+    ∙ ap (λ (ts : List Told). before ++ (told_all (take n es) ++ ts)) (sym (told_first-here es n c.in-Stopped.taken c.in-Stopped.fault (Opened 0 Counted) here)) in
+    subst (λ (ts : List Told). Stands c.hear.new.self.connections.items (g.S.Store.entries c.hear.new.self.store) first ts) same heard
+
+pub returns-in-Stopped-clause-logs : goal.returns-in-Stopped-clause-logs
+returns-in-Stopped-clause-logs g c first before was =
+    logs_frames_then _ _ _ _ _ _ (c.loop-at.invariant.logs first before was) (c.in-Stopped.ensures.logs first _ (c.loop-at.invariant.stands first before was))
+
+pub loop-at-init : goal.loop-at-init
+loop-at-init g c = record {
+  stands = λ first before was. rw append-nil was;
+  logs = λ first before was. logs_none _ _ _ _ refl refl;
+  settled = λ h. h;
+}
+
+pub loop-at-preserved : goal.loop-at-preserved
+loop-at-preserved g c = record {
+  stands = λ first before was.
+      let es = c.args.events.now in
+      let n = c.loop-at.at in
+      let heard = c.in_default.ensures.stands first _ (c.loop-at.invariant.stands first before was) in
+      let here : n < length es = omega arith in
+      let same = append_assoc before (told_all (take n es)) (told_event (get_or es n (Opened 0 Counted)))
+      ∙ ap (λ (ts : List Told). before ++ ts) (sym (told_all-next es n (Opened 0 Counted) here)) in
+      subst (λ (ts : List Told). Stands c.hear.new.self.connections.items (g.S.Store.entries c.hear.new.self.store) first ts) same heard;
+  logs = λ first before was.
+      logs_frames_then _ _ _ _ _ _ (c.loop-at.invariant.logs first before was) (c.in_default.ensures.logs first _ (c.loop-at.invariant.stands first before was));
+  settled = λ h. c.in_default.ensures.settled (c.loop-at.invariant.settled h);
+}
+
+pub returns-clause-stands : goal.returns-clause-stands
+returns-clause-stands g c first before was =
+    subst (λ (ts : List Told). Stands c.loop-at.self.connections.items (g.S.Store.entries c.loop-at.self.store) first (before ++ ts))
+    (told_all-whole c.args.events.now c.loop-at.at (omega arith)) (c.loop-at.invariant.stands first before was)
+
+pub returns-clause-logs : goal.returns-clause-logs
+returns-clause-logs g c first before was = c.loop-at.invariant.logs first before was

@@ -1,0 +1,19 @@
+use Rattle.std.proofs.Common.{List, ◌++◌, take}
+use Rattle.archive_text.specs.Entries.{Entry}
+use Rattle.syslog_collect.specs.Headline.{IsSettled}
+use Rattle.syslog_collect.specs.History.{Told}
+use Rattle.syslog_collect.specs.Runs.{LogsFrames, told_all}
+use Rattle.syslog_collect.specs.Standing.{Stands}
+use Rattle.syslog_collect.proofs.collector.Collector.run.Given as goal
+
+-- so far it stands after the events heard, and their outcomes were logged
+abbrev pub invariant-loop-at : goal.invariant-loop-at
+invariant-loop-at g l = record {
+  stands : (first : List Entry) (before : List Told) →
+      Stands l.fn.self.connections.items (g.S.Store.entries l.fn.self.store) first before →
+      Stands l.self.connections.items (g.S.Store.entries l.self.store) first (before ++ told_all (take l.at l.events));
+  logs : (first : List Entry) (before : List Told) →
+      Stands l.fn.self.connections.items (g.S.Store.entries l.fn.self.store) first before →
+      LogsFrames (g.S.Store.entries l.fn.self.store) (g.S.Store.entries l.self.store) l.fn.log.items l.log.items;
+  settled : IsSettled l.fn.self.connections.items → IsSettled l.self.connections.items;
+}

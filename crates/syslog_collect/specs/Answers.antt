@@ -1,0 +1,184 @@
+-- What the collector's calls accept, by their answers.
+use Rattle.std.specs.Prelude.{◌≡◌, ℕ, ◌+◌, ◌<◌, ◌≤◌, ◌⊎◌, List, [], ◌∷◌, ◌++◌, length, take}
+use Rattle.std.specs.Prelude.{Option, Some, None, Result, Ok, Err, IsSome, IsSomeAnd}
+use Rattle.syslog_frame.specs.Frames.{Frames}
+use Rattle.syslog_frame.specs.declared.framing.Framing.{Framing}
+use Rattle.syslog_frame.specs.declared.limits.TheConstants.{POSITION_MAX}
+use Rattle.archive_text.specs.Entries.{Entry}
+use Rattle.syslog_collect.specs.declared.connection.Connection.{Connection}
+use Rattle.syslog_collect.specs.declared.fault.Advance.{Advance}
+use Rattle.syslog_collect.specs.declared.fault.CollectFault.{CollectFault}
+use Rattle.syslog_collect.specs.declared.fault.CollectFault.TheVariants.{AlreadyOpen, TooManyOpen, NotOpen, ConnFailed, StreamTooLong, Unreleased, Unterminated, Memory}
+use Rattle.syslog_collect.specs.declared.limits.TheConstants.{CONNECTIONS_MAX}
+use Rattle.syslog_collect.specs.declared.outcome.Outcome.{Outcome}
+use Rattle.syslog_collect.specs.declared.outcome.Outcome.TheVariants.{New, Held, Refused, TooLong, BadCount}
+use Rattle.syslog_collect.specs.Frames.{IsFramesOf}
+use Rattle.syslog_collect.specs.History.{History, IsBad, MayGrow, Stream, Told, Opened, Piece, Ended, Datagram, longer, stream_of}
+use Rattle.syslog_collect.specs.Outcomes.{AreReported, IsRecordFrame, outcomes_of}
+use Rattle.syslog_collect.specs.Standing.{IsAt}
+
+-- how many octets were accepted where n were used: with a bad count, so many
+abbrev pub accepted_count : ℕ → ℕ → Option Outcome → ℕ
+accepted_count bad n None = n
+accepted_count bad n (Some New) = n
+accepted_count bad n (Some Held) = n
+accepted_count bad n (Some (Refused fault)) = n
+accepted_count bad n (Some TooLong) = n
+accepted_count bad n (Some (BadCount at)) = bad
+
+-- a bad count was met
+abbrev pub IsBadCount : Option Outcome → Type 0
+IsBadCount None = ⊥
+IsBadCount (Some New) = ⊥
+IsBadCount (Some Held) = ⊥
+IsBadCount (Some (Refused fault)) = ⊥
+IsBadCount (Some TooLong) = ⊥
+IsBadCount (Some (BadCount at)) = Unit {0}
+
+-- the octets of a piece that an advance accepted where it answered Ok
+abbrev pub used_octets : List ℕ → Advance → List ℕ
+used_octets piece a = take (accepted_count (a.used + 1) a.used a.outcome) piece
+
+-- the octets of a piece that an advance accepted, if it accepted any piece: those used, and the bad one
+abbrev pub accepted_octets : List ℕ → Result Advance CollectFault → Option (List ℕ)
+accepted_octets piece (Ok a) = Some (take (accepted_count (a.used + 1) a.used a.outcome) piece)
+accepted_octets piece (Err (Memory n)) = Some (take n piece)
+accepted_octets piece (Err AlreadyOpen) = None
+accepted_octets piece (Err TooManyOpen) = None
+accepted_octets piece (Err NotOpen) = None
+accepted_octets piece (Err ConnFailed) = None
+accepted_octets piece (Err StreamTooLong) = None
+accepted_octets piece (Err Unreleased) = None
+accepted_octets piece (Err (Unterminated start)) = None
+
+-- with those that follow a bad octet, which change nothing
+abbrev pub dropped_octets : List ℕ → Result Advance CollectFault → Option (List ℕ)
+dropped_octets piece (Ok a) = Some (take (accepted_count (length piece) a.used a.outcome) piece)
+dropped_octets piece (Err (Memory n)) = Some (take n piece)
+dropped_octets piece (Err AlreadyOpen) = None
+dropped_octets piece (Err TooManyOpen) = None
+dropped_octets piece (Err NotOpen) = None
+dropped_octets piece (Err ConnFailed) = None
+dropped_octets piece (Err StreamTooLong) = None
+dropped_octets piece (Err Unreleased) = None
+dropped_octets piece (Err (Unterminated start)) = None
+
+-- the outcomes that an advance answered
+abbrev pub answered : Result Advance CollectFault → List Outcome
+answered (Ok a) = outcomes_of a.outcome
+answered (Err fault) = []
+
+-- the events that a piece of a number adds
+abbrev pub told_piece : ℕ → Option (List ℕ) → List Told
+told_piece c None = []
+told_piece c (Some octets) = Piece c octets ∷ []
+
+-- what a connection at an opening does with octets: it is at the opening with them, these frames more
+-- were handled, and these outcomes report them
+pub record Moves (old new : Connection) (kept_old kept_new : List Entry) (octets : List ℕ)
+    (outcomes : List Outcome) (s : Stream) (handled : List (List ℕ)) : Type 0 where
+  pub may : MayGrow octets s
+  pub fresh : List (List ℕ)
+  pub now_at : IsAt new (longer s octets) (handled ++ fresh)
+  pub reported : AreReported kept_old kept_new fresh outcomes
+
+-- by what was accepted: where nothing was, nothing changes
+abbrev pub MovesBy : Option (List ℕ) → Connection → Connection → List Entry → List Entry → List Outcome → Stream → List (List ℕ) → Type 0
+MovesBy None old new kept_old kept_new outcomes s handled = (new ≡ old) × (kept_new ≡ kept_old) × (outcomes ≡ [])
+MovesBy (Some octets) old new kept_old kept_new outcomes s handled = Moves old new kept_old kept_new octets outcomes s handled
+
+-- with these octets the opening is whole frames, and the last of them spells a record
+abbrev pub EndsInRecord : Stream → List ℕ → Type 0
+EndsInRecord s octets = (frames : List (List ℕ)) × (f : List ℕ) × Frames s.framing (s.octets ++ octets) (frames ++ f ∷ []) [] × IsRecordFrame f
+
+-- why an advance of a connection at an opening is refused, the first cause that holds
+abbrev pub IsCause : List ℕ → Result Advance CollectFault → Stream → Type 0
+IsCause piece (Ok a) s = ¬ (IsBad s)
+IsCause piece (Err (Memory n)) s = ¬ (IsBad s) × EndsInRecord s (take n piece)
+IsCause piece (Err ConnFailed) s = IsBad s
+IsCause piece (Err StreamTooLong) s = ¬ (IsBad s) × (POSITION_MAX < length s.octets + length piece)
+IsCause piece (Err NotOpen) s = ⊥
+IsCause piece (Err AlreadyOpen) s = ⊥
+IsCause piece (Err TooManyOpen) s = ⊥
+IsCause piece (Err Unreleased) s = ⊥
+IsCause piece (Err (Unterminated start)) s = ⊥
+
+-- no more is used than there is
+abbrev pub IsUsedWithin : List ℕ → Result Advance CollectFault → Type 0
+IsUsedWithin piece (Ok a) = a.used ≤ length piece
+IsUsedWithin piece (Err (Memory n)) = n ≤ length piece
+IsUsedWithin piece (Err ConnFailed) = Unit {0}
+IsUsedWithin piece (Err StreamTooLong) = Unit {0}
+IsUsedWithin piece (Err NotOpen) = Unit {0}
+IsUsedWithin piece (Err AlreadyOpen) = Unit {0}
+IsUsedWithin piece (Err TooManyOpen) = Unit {0}
+IsUsedWithin piece (Err Unreleased) = Unit {0}
+IsUsedWithin piece (Err (Unterminated start)) = Unit {0}
+
+-- what an advance of a number answers after a history: the number is not open; or a cause at its opening
+abbrev pub IsAnswerAt : ℕ → List ℕ → Result Advance CollectFault → History → Type 0
+IsAnswerAt c piece (Err NotOpen) h = stream_of c h.streams ≡ None
+IsAnswerAt c piece (Ok a) h = IsSomeAnd (stream_of c h.streams) (IsCause piece (Ok a))
+IsAnswerAt c piece (Err (Memory n)) h = IsSomeAnd (stream_of c h.streams) (IsCause piece (Err (Memory n)))
+IsAnswerAt c piece (Err ConnFailed) h = IsSomeAnd (stream_of c h.streams) (IsCause piece (Err ConnFailed))
+IsAnswerAt c piece (Err StreamTooLong) h = IsSomeAnd (stream_of c h.streams) (IsCause piece (Err StreamTooLong))
+IsAnswerAt c piece (Err AlreadyOpen) h = ⊥
+IsAnswerAt c piece (Err TooManyOpen) h = ⊥
+IsAnswerAt c piece (Err Unreleased) h = ⊥
+IsAnswerAt c piece (Err (Unterminated start)) h = ⊥
+
+-- octets of a number complete these last frames of its opening, and the outcomes report them
+abbrev pub Reports : ℕ → List ℕ → History → List Entry → List Entry → List Outcome → Type 0
+Reports c octets h kept_old kept_new outcomes = IsSomeAnd (stream_of c h.streams) (λ s. (before : List (List ℕ)) × (last : List (List ℕ))
+    × IsFramesOf (longer s octets) (before ++ last) × AreReported kept_old kept_new last outcomes)
+
+-- the event that an opening adds
+abbrev pub told_opening : {U : Type 0} → ℕ → Framing → Result U CollectFault → List Told
+told_opening c k (Ok u) = Opened c k ∷ []
+told_opening c k (Err fault) = []
+
+-- the event that an end adds: also where the last frame is unfinished
+abbrev pub told_ending : {U : Type 0} → ℕ → Result U CollectFault → List Told
+told_ending c (Ok u) = Ended c ∷ []
+told_ending c (Err (Unterminated start)) = Ended c ∷ []
+told_ending c (Err NotOpen) = []
+told_ending c (Err AlreadyOpen) = []
+told_ending c (Err TooManyOpen) = []
+told_ending c (Err ConnFailed) = []
+told_ending c (Err StreamTooLong) = []
+told_ending c (Err Unreleased) = []
+told_ending c (Err (Memory n)) = []
+
+-- the event that a datagram adds
+abbrev pub told_datagram : {E : Type 0} → List ℕ → Result Outcome E → List Told
+told_datagram octets (Ok o) = Datagram octets ∷ []
+told_datagram octets (Err fault) = []
+
+-- what the opening of a number answers after a history, the first cause that holds
+abbrev pub IsOpening : {U : Type 0} → ℕ → Result U CollectFault → History → Type 0
+IsOpening c (Ok u) h = (stream_of c h.streams ≡ None) × (length h.streams < CONNECTIONS_MAX)
+IsOpening c (Err AlreadyOpen) h = IsSome (stream_of c h.streams)
+IsOpening c (Err TooManyOpen) h = (stream_of c h.streams ≡ None) × (CONNECTIONS_MAX ≤ length h.streams)
+IsOpening c (Err (Memory n)) h = (stream_of c h.streams ≡ None) × (length h.streams < CONNECTIONS_MAX) × (n ≡ 0)
+IsOpening c (Err NotOpen) h = ⊥
+IsOpening c (Err ConnFailed) h = ⊥
+IsOpening c (Err StreamTooLong) h = ⊥
+IsOpening c (Err Unreleased) h = ⊥
+IsOpening c (Err (Unterminated start)) h = ⊥
+
+-- the last frame of an opening begins at this position, and is unfinished
+abbrev pub IsUnfinished : ℕ → Stream → Type 0
+IsUnfinished start s = (frames : List (List ℕ)) × (rest : List ℕ) × Frames s.framing s.octets frames rest
+    × (0 < length rest) × (start + length rest ≡ length s.octets)
+
+-- what the end of a number answers after a history
+abbrev pub IsEnding : {U : Type 0} → ℕ → Result U CollectFault → History → Type 0
+IsEnding c (Ok u) h = IsSome (stream_of c h.streams)
+IsEnding c (Err NotOpen) h = stream_of c h.streams ≡ None
+IsEnding c (Err Unreleased) h = IsSome (stream_of c h.streams)
+IsEnding c (Err (Unterminated start)) h = IsSomeAnd (stream_of c h.streams) (λ s. ¬ (IsBad s) × IsUnfinished start s)
+IsEnding c (Err AlreadyOpen) h = ⊥
+IsEnding c (Err TooManyOpen) h = ⊥
+IsEnding c (Err ConnFailed) h = ⊥
+IsEnding c (Err StreamTooLong) h = ⊥
+IsEnding c (Err (Memory n)) h = ⊥

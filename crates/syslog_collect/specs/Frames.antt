@@ -1,0 +1,49 @@
+-- The frames of openings and datagrams, and the entries of the records that they spell.
+use Rattle.std.specs.Prelude.{◌≡◌, ℕ, ℤ, ◌≤◌, ◌⊎◌, ◌↔◌, List, [], ◌∷◌, ◌++◌, length}
+use Rattle.syslog_value.specs.Parts.{Parts}
+use Rattle.syslog_grammar.specs.WellFormed.{WellFormed}
+use Rattle.syslog_frame.specs.Frames.{Frames}
+use Rattle.syslog_frame.specs.declared.limits.TheConstants.{FRAME_MAX}
+use Rattle.archive_text.specs.Entries.{Entry, Has, IsEntryOf}
+use Rattle.syslog_collect.specs.History.{History, Stream, Told, after, nothing}
+
+-- these are the frames of an opening
+abbrev pub IsFramesOf : Stream → List (List ℕ) → Type 0
+IsFramesOf s frames = (rest : List ℕ) × Frames s.framing s.octets frames rest
+
+-- these are the frames of each of the openings
+abbrev pub AreFramesOf : List Stream → List (List (List ℕ)) → Type 0
+AreFramesOf [] [] = Unit {0}
+AreFramesOf [] (f ∷ fs) = ⊥
+AreFramesOf (s ∷ ss) [] = ⊥
+AreFramesOf (s ∷ ss) (f ∷ fs) = IsFramesOf s f × AreFramesOf ss fs
+
+-- one list after the other
+abbrev pub all_of : List (List (List ℕ)) → List (List ℕ)
+all_of [] = []
+all_of (f ∷ fs) = f ++ all_of fs
+
+-- these are the frames of all openings, open and ended, and all datagrams
+pub record HasFrames (h : History) (frames : List (List ℕ)) : Type 0 where
+  pub open_frames : List (List (List ℕ))
+  pub ended_frames : List (List (List ℕ))
+  pub open_are : AreFramesOf h.streams open_frames
+  pub ended_are : AreFramesOf h.ended ended_frames
+  pub all : frames ≡ all_of open_frames ++ (all_of ended_frames ++ h.datagrams)
+
+-- the entry is that of the record that a frame of at most `FRAME_MAX` octets spells
+abbrev pub IsEntryOfFrame : List ℕ → Entry → Type 0
+IsEntryOfFrame f x = (length f ≤ FRAME_MAX) × ((r : Parts ℤ) × WellFormed r f × IsEntryOf r x)
+
+-- the entry is that of one of the frames
+abbrev pub IsSpelled : List (List ℕ) → Entry → Type 0
+IsSpelled [] x = ⊥
+IsSpelled (f ∷ fs) x = IsEntryOfFrame f x ⊎ IsSpelled fs x
+
+-- the received set: the entries of the records that the frames of the events spell
+abbrev pub IsReceived : List Told → Entry → Type 0
+IsReceived es x = (frames : List (List ℕ)) × HasFrames (after nothing es) frames × IsSpelled frames x
+
+-- the entries are those before and those of the frames, and no other
+abbrev pub Gains : List Entry → List Entry → List (List ℕ) → Type 0
+Gains old new frames = (x : Entry) → Has new x ↔ (Has old x ⊎ IsSpelled frames x)

@@ -1,0 +1,152 @@
+-- What a run of events accepts, and what it logs.
+use Rattle.std.specs.Prelude.{◌≡◌, ℕ, ◌<◌, ◌≤◌, ◌⊎◌, List, [], ◌∷◌, ◌++◌, length, take, drop, Result, Ok, Err}
+use Rattle.syslog_frame.specs.declared.phase.Phase.{Phase}
+use Rattle.syslog_frame.specs.declared.phase.Phase.TheVariants.{Counting, Inside, Ended as phase_Ended, BadCount as phase_BadCount, Failed}
+use Rattle.archive_text.specs.Entries.{Entry}
+use Rattle.syslog_collect.specs.declared.connection.Connection.{Connection}
+use Rattle.syslog_collect.specs.declared.event.Event.{Event}
+use Rattle.syslog_collect.specs.declared.event.Event.TheVariants.{Opened as event_Opened, Piece as event_Piece, Ended as event_Ended, Datagram as event_Datagram}
+use Rattle.syslog_collect.specs.declared.event.EventEnd.{EventEnd}
+use Rattle.syslog_collect.specs.declared.event.EventEnd.TheVariants.{Done as end_Done, Stopped as end_Stopped}
+use Rattle.syslog_collect.specs.declared.event.RunEnd.{RunEnd}
+use Rattle.syslog_collect.specs.declared.event.RunEnd.TheVariants.{Done, Stopped}
+use Rattle.syslog_collect.specs.declared.fault.CollectFault.{CollectFault}
+use Rattle.syslog_collect.specs.declared.fault.CollectFault.TheVariants.{AlreadyOpen, TooManyOpen, NotOpen, ConnFailed, StreamTooLong, Unreleased, Unterminated, Memory}
+use Rattle.syslog_collect.specs.declared.outcome.Outcome.{Outcome}
+use Rattle.syslog_collect.specs.declared.piece.Step.{Step}
+use Rattle.syslog_collect.specs.declared.piece.Step.TheVariants.{Stopped as step_Stopped, Ended as step_Ended, On}
+use Rattle.syslog_collect.specs.Answers.{Moves}
+use Rattle.syslog_collect.specs.History.{Datagram, Ended, Opened, Piece, Stream, Told}
+use Rattle.syslog_collect.specs.Outcomes.{AreReported}
+
+-- how many octets were taken before a fault
+abbrev pub used_before : CollectFault → ℕ
+used_before (Memory n) = n
+used_before AlreadyOpen = 0
+used_before TooManyOpen = 0
+used_before NotOpen = 0
+used_before ConnFailed = 0
+used_before StreamTooLong = 0
+used_before Unreleased = 0
+used_before (Unterminated start) = 0
+
+-- no more is used than there is
+abbrev pub IsStepWithin : List ℕ → Step → Type 0
+IsStepWithin rest (step_Stopped used fault) = used ≤ length rest
+IsStepWithin rest step_Ended = Unit {0}
+IsStepWithin rest (On used) = used < length rest
+
+-- where it was not refused
+abbrev pub IfAccepted : Step → Type 0 → Type 0
+IfAccepted (step_Stopped used fault) P = Unit {0}
+IfAccepted step_Ended P = P
+IfAccepted (On used) P = P
+
+-- where an event was accepted
+abbrev pub IfDone : EventEnd → Type 0 → Type 0
+IfDone end_Done P = P
+IfDone (end_Stopped n fault) P = Unit {0}
+
+-- where a run accepted all events
+abbrev pub IfAllDone : RunEnd → Type 0 → Type 0
+IfAllDone Done P = P
+IfAllDone (Stopped at n fault) P = Unit {0}
+
+-- where more octets are left
+abbrev pub OnGoing : Step → (ℕ → Type 0) → Type 0
+OnGoing (step_Stopped used fault) P = Unit {0}
+OnGoing step_Ended P = Unit {0}
+OnGoing (On used) P = P used
+
+-- the octets of a rest that a step accepted
+abbrev pub step_octets : List ℕ → Step → List ℕ
+step_octets rest (step_Stopped used fault) = take used rest
+step_octets rest step_Ended = rest
+step_octets rest (On used) = take used rest
+
+-- the octets of a piece that were accepted
+abbrev pub piece_octets : List ℕ → EventEnd → List ℕ
+piece_octets piece end_Done = piece
+piece_octets piece (end_Stopped taken fault) = take taken piece
+
+-- a connection moved by octets; or there were none, and nothing changed
+abbrev pub MovesOrStays : Connection → Connection → List Entry → List Entry → List ℕ → List Outcome → Stream → List (List ℕ) → Type 0
+MovesOrStays old new kept_old kept_new octets outcomes s handled =
+    ((octets ≡ []) × (new ≡ old) × (kept_new ≡ kept_old) × (outcomes ≡ [])) ⊎ Moves old new kept_old kept_new octets outcomes s handled
+
+-- and the log grew by the outcomes
+abbrev pub Logs : Connection → Connection → List Entry → List Entry → List ℕ → List Outcome → List Outcome → Stream → List (List ℕ) → Type 0
+Logs old new kept_old kept_new octets log_old log_new s handled =
+    (outcomes : List Outcome) × (log_new ≡ log_old ++ outcomes) × MovesOrStays old new kept_old kept_new octets outcomes s handled
+
+-- whether a frame or a bad count is ready, as a number
+abbrev pub pending : Phase → ℕ
+pending phase_Ended = 1
+pending phase_BadCount = 1
+pending Counting = 0
+pending Inside = 0
+pending Failed = 0
+
+-- octets of a number, of which none are no event
+abbrev pub told_octets : ℕ → List ℕ → List Told
+told_octets c [] = []
+told_octets c (x ∷ xs) = Piece c (x ∷ xs) ∷ []
+
+-- the end of a number, where it is refused: an unfinished frame ends the connection too
+abbrev pub told_refused_end : ℕ → CollectFault → List Told
+told_refused_end c (Unterminated start) = Ended c ∷ []
+told_refused_end c AlreadyOpen = []
+told_refused_end c TooManyOpen = []
+told_refused_end c NotOpen = []
+told_refused_end c ConnFailed = []
+told_refused_end c StreamTooLong = []
+told_refused_end c Unreleased = []
+told_refused_end c (Memory n) = []
+
+-- what an event adds that was accepted
+abbrev pub told_event : Event → List Told
+told_event (event_Opened c k) = Opened c k ∷ []
+told_event (event_Piece c o) = told_octets c o.now
+told_event (event_Ended c) = Ended c ∷ []
+told_event (event_Datagram o) = Datagram o.now ∷ []
+
+-- what an event adds that was refused after so many octets
+abbrev pub told_part : Event → ℕ → CollectFault → List Told
+told_part (event_Opened c k) n fault = []
+told_part (event_Piece c o) n fault = told_octets c (take n o.now)
+told_part (event_Ended c) n fault = told_refused_end c fault
+told_part (event_Datagram o) n fault = []
+
+abbrev pub told_by : Event → EventEnd → List Told
+told_by e end_Done = told_event e
+told_by e (end_Stopped n fault) = told_part e n fault
+
+-- a datagram's
+abbrev pub told_datagram_end : List ℕ → EventEnd → List Told
+told_datagram_end octets end_Done = Datagram octets ∷ []
+told_datagram_end octets (end_Stopped n fault) = []
+
+-- how an event ended whose call answered this
+abbrev pub event_end : {U : Type 0} → Result U CollectFault → EventEnd
+event_end (Ok u) = end_Done
+event_end (Err fault) = end_Stopped 0 fault
+
+-- what all events add, one after the other
+abbrev pub told_all : List Event → List Told
+told_all [] = []
+told_all (e ∷ es) = told_event e ++ told_all es
+
+-- the part of the first of the events
+abbrev pub told_first : List Event → ℕ → CollectFault → List Told
+told_first [] n fault = []
+told_first (e ∷ es) n fault = told_part e n fault
+
+-- what a run accepted: all events; or those before the one that was refused, and a part of that
+abbrev pub told_run : List Event → RunEnd → List Told
+told_run es Done = told_all es
+told_run es (Stopped at n fault) = told_all (take at es) ++ told_first (drop at es) n fault
+
+-- the log grew by the outcomes of frames that were handled, in order
+abbrev pub LogsFrames : List Entry → List Entry → List Outcome → List Outcome → Type 0
+LogsFrames kept_old kept_new log_old log_new = (outcomes : List Outcome) × (frames : List (List ℕ))
+    × (log_new ≡ log_old ++ outcomes) × AreReported kept_old kept_new frames outcomes

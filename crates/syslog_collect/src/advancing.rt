@@ -1,0 +1,52 @@
+//! What a connection does with a piece.
+
+ghost use Rattle.std.specs.Prelude.{◌≡◌, ◌<◌, ◌≤◌, ℕ, List, IfOk, OnErr, OnOk, length};
+ghost use Rattle.syslog_frame.specs.Scan.{HasReady, IsFailed, IsReading};
+ghost use Rattle.syslog_collect.specs.Answers.{IsBadCount, IsCause, IsUsedWithin, MovesBy};
+ghost use Rattle.syslog_collect.specs.Answers.{accepted_octets, answered, dropped_octets};
+ghost use Rattle.syslog_collect.specs.History.{Stream};
+ghost use Rattle.syslog_collect.specs.Standing.{IsAt};
+
+use crate::connection::{Connection, handle_ready};
+use crate::fault::{Advance, CollectFault};
+use archive_text::Store;
+use std::alloc::Global;
+use syslog_frame::ScanFault;
+
+/// Takes octets of a piece up to the end of a frame at most, and handles the frame that is ready.
+pub fn advance_connection<S: Store>(
+    alloc: Global,
+    connection: &mut Connection,
+    store: &mut S,
+    piece: &[u8],
+) -> Result<Advance, CollectFault>
+    // How much is taken, and that each call comes closer to the end of the piece.
+    ensures within { IsUsedWithin piece.now result }
+    ensures settled { OnOk result (¬ (HasReady connection.new.scanner)) }
+    ensures progress { IfOk result (λ a. IsReading connection.old.scanner → 0 < length piece.now
+        → a.used ≡ 0 → IsBadCount a.outcome) }
+    ensures live { OnOk result (¬ (IsFailed connection.old.scanner)) }
+    ensures number { connection.new.number ≡ connection.old.number }
+
+    // Why it is refused.
+    ensures cause { (s : Stream) (handled : List (List ℕ)) → IsAt connection.old s handled
+        → IsCause piece.now result s }
+    // What was accepted, with the octets that follow a bad one or without them.
+    ensures moves { (s : Stream) (handled : List (List ℕ)) → IsAt connection.old s handled
+        → MovesBy (accepted_octets piece.now result) connection.old connection.new
+        (S.entries store.old) (S.entries store.new) (answered result) s handled }
+    ensures drops { (s : Stream) (handled : List (List ℕ)) → IsAt connection.old s handled
+        → MovesBy (dropped_octets piece.now result) connection.old connection.new
+        (S.entries store.old) (S.entries store.new) (answered result) s handled }
+{
+    let used = match connection.scanner.push(piece) {
+        Ok(used) => used,
+        Err(ScanFault::Failed) => return Err(CollectFault::ConnFailed),
+        Err(ScanFault::StreamTooLong) => return Err(CollectFault::StreamTooLong),
+    };
+    let Ok(outcome) = handle_ready(alloc, &connection.scanner, store) else {
+        return Err(CollectFault::Memory { used });
+    };
+    let _ = connection.scanner.release();
+    Ok(Advance { used, outcome })
+}

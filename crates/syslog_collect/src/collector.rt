@@ -1,0 +1,236 @@
+//! The collector: streams in pieces, and datagrams, into a set of records.
+
+ghost use Rattle.std.specs.Prelude.{◌≡◌, ◌⊎◌, ◌↔◌, ◌++◌, ◌==◌, ℕ, List, [], IfErr, IfOk, OnErr, OnOk};
+ghost use Rattle.std.specs.List.{position_from};
+ghost use Rattle.archive_text.specs.Entries.{Entry, Has};
+ghost use Rattle.archive_text.specs.Text.{IsArchive, text_of};
+ghost use Rattle.syslog_collect.specs.Answers.{IsAnswerAt, IsEnding, IsOpening, IsUsedWithin};
+ghost use Rattle.syslog_collect.specs.Answers.{Reports, accepted_octets, dropped_octets, used_octets};
+ghost use Rattle.syslog_collect.specs.Answers.{told_datagram, told_ending, told_opening, told_piece};
+ghost use Rattle.syslog_collect.specs.Frames.{IsReceived};
+ghost use Rattle.syslog_collect.specs.Headline.{IsSettled, IsUnion, ReceivedBoth, ReceivedSame};
+ghost use Rattle.syslog_collect.specs.History.{Told, after, nothing};
+ghost use Rattle.syslog_collect.specs.Outcomes.{IsOutcome, IsRecordFrame, outcomes_of};
+ghost use Rattle.syslog_collect.specs.Standing.{Stands};
+
+use crate::advancing::advance_connection;
+use crate::connection::{Connection, handle};
+use crate::fault::{Advance, CollectFault};
+use crate::limits::CONNECTIONS_MAX;
+use crate::outcome::Outcome;
+use archive_text::{ENTRY_MAX, Store};
+use std::alloc::{AllocError, Global};
+use syslog_frame::{EndFault, Framing, Scanner};
+
+/// A collector: open connections, and the store into which the records of their frames go.
+///
+/// A store with the records of all frames that came is reached in any cut of the streams into
+/// pieces, any order of the connections' pieces and any repetition. There is no clock for legacy
+/// records (RFC 3164) yet: a frame that is no record of RFC 5424 is refused.
+#[derive(Drop)]
+pub struct Collector<S> {
+    pub(crate) store: S,
+    pub(crate) connections: Vec<Connection>,
+}
+
+/// Where the connection of a number is.
+pub(crate) fn place(connections: &[Connection], number: u32) -> Option<usize>
+    ensures { result ≡ position_from (λ c. c.number == number) 0 connections.now }
+{
+    connections
+        .iter()
+        .position(|connection| connection.number == number)
+}
+
+impl<S: Store> Collector<S> {
+    /// A collector over a store, with room for `CONNECTIONS_MAX` connections. Where that is
+    /// refused, the store comes back.
+    pub fn new(alloc: Global, store: S) -> Result<Collector<S>, S>
+        ensures stands { IfOk result (λ c.
+            Stands c.connections.items (S.entries c.store) (S.entries store) []) }
+        ensures settled { IfOk result (λ c. IsSettled c.connections.items) }
+        ensures back { IfErr result (λ s. s ≡ store) }
+    {
+        match Vec::with_capacity(alloc, CONNECTIONS_MAX) {
+            Ok(connections) => Ok(Collector { store, connections }),
+            Err(_) => Err(store),
+        }
+    }
+
+    /// Opens a connection, by a number of the caller's. A number that was ended may be opened
+    /// again, as a new stream.
+    pub fn open_conn(
+        &mut self,
+        alloc: Global,
+        conn: u32,
+        framing: Framing,
+    ) -> Result<(), CollectFault>
+        ensures stands { (first : List Entry) (events : List Told)
+            → Stands self.old.connections.items (S.entries self.old.store) first events
+            → Stands self.new.connections.items (S.entries self.new.store) first
+            (events ++ told_opening conn framing result) }
+        ensures cause { (first : List Entry) (events : List Told)
+            → Stands self.old.connections.items (S.entries self.old.store) first events
+            → IsOpening conn result (after nothing events) }
+        ensures settled { IsSettled self.old.connections.items
+            → IsSettled self.new.connections.items }
+        ensures err { OnErr result (self.new.connections.items ≡ self.old.connections.items) }
+        ensures store { self.new.store ≡ self.old.store }
+    {
+        if place(&self.connections, conn).is_some() {
+            return Err(CollectFault::AlreadyOpen);
+        }
+        if self.connections.len() >= CONNECTIONS_MAX {
+            return Err(CollectFault::TooManyOpen);
+        }
+        let Ok(scanner) = Scanner::new(alloc, framing) else {
+            return Err(CollectFault::Memory { used: 0 });
+        };
+        let connection = Connection {
+            number: conn,
+            scanner,
+        };
+        if let Err(_) = self.connections.push(connection) {
+            return Err(CollectFault::Memory { used: 0 });
+        }
+        Ok(())
+    }
+
+    /// Takes octets of a connection's piece, and handles one frame at most. A frame that is ready
+    /// already is handled first, and then no octet is taken.
+    ///
+    /// After `Memory { used }` those octets were taken and the frame stays ready: the next call
+    /// handles it. After `BadCount` the connection takes no more, and the others go on.
+    pub fn advance(
+        &mut self,
+        alloc: Global,
+        conn: u32,
+        piece: &[u8],
+    ) -> Result<Advance, CollectFault>
+        ensures within { IsUsedWithin piece.now result }
+        // It stands at the events with what was accepted: the octets used, and a bad one.
+        ensures stands { (first : List Entry) (events : List Told)
+            → Stands self.old.connections.items (S.entries self.old.store) first events
+            → Stands self.new.connections.items (S.entries self.new.store) first
+            (events ++ told_piece conn (accepted_octets piece.now result)) }
+        // The octets that follow a bad one change nothing.
+        ensures drops { (first : List Entry) (events : List Told)
+            → Stands self.old.connections.items (S.entries self.old.store) first events
+            → Stands self.new.connections.items (S.entries self.new.store) first
+            (events ++ told_piece conn (dropped_octets piece.now result)) }
+        // The outcome is that of the last frame of the octets so far; and why the piece is refused.
+        ensures outcome { (first : List Entry) (events : List Told)
+            → Stands self.old.connections.items (S.entries self.old.store) first events
+            → IfOk result (λ a. Reports conn (used_octets piece.now a) (after nothing events)
+            (S.entries self.old.store) (S.entries self.new.store) (outcomes_of a.outcome)) }
+        ensures cause { (first : List Entry) (events : List Told)
+            → Stands self.old.connections.items (S.entries self.old.store) first events
+            → IsAnswerAt conn piece.now result (after nothing events) }
+        // After Ok no frame of the connection is left ready.
+        ensures settled { OnOk result (IsSettled self.old.connections.items
+            → IsSettled self.new.connections.items) }
+    {
+        match place(&self.connections, conn) {
+            None => Err(CollectFault::NotOpen),
+            Some(at) => {
+                advance_connection(alloc, &mut self.connections[at], &mut self.store, piece)
+            }
+        }
+    }
+
+    /// Handles a datagram.
+    pub fn datagram(&mut self, alloc: Global, octets: &[u8]) -> Result<Outcome, AllocError>
+        ensures stands { (first : List Entry) (events : List Told)
+            → Stands self.old.connections.items (S.entries self.old.store) first events
+            → Stands self.new.connections.items (S.entries self.new.store) first
+            (events ++ told_datagram octets.now result) }
+        ensures outcome { IfOk result (λ o.
+            IsOutcome (S.entries self.old.store) (S.entries self.new.store) octets.now o) }
+        ensures err { OnErr result (S.entries self.new.store ≡ S.entries self.old.store) }
+        ensures connections { self.new.connections.items ≡ self.old.connections.items }
+        ensures spelled { OnErr result (IsRecordFrame octets.now) }
+    {
+        handle(alloc, &mut self.store, octets)
+    }
+
+    /// Ends a connection. It is closed after Ok, and after `Unterminated` too; one whose stream
+    /// held a bad count is closed with Ok.
+    pub fn end_conn(&mut self, conn: u32) -> Result<(), CollectFault>
+        ensures stands { (first : List Entry) (events : List Told)
+            → Stands self.old.connections.items (S.entries self.old.store) first events
+            → Stands self.new.connections.items (S.entries self.new.store) first
+            (events ++ told_ending conn result) }
+        ensures cause { (first : List Entry) (events : List Told)
+            → Stands self.old.connections.items (S.entries self.old.store) first events
+            → IsEnding conn result (after nothing events) }
+        ensures settled { IsSettled self.old.connections.items
+            → IsSettled self.new.connections.items }
+        ensures store { self.new.store ≡ self.old.store }
+    {
+        let at = match place(&self.connections, conn) {
+            None => return Err(CollectFault::NotOpen),
+            Some(at) => at,
+        };
+        match self.connections[at].scanner.end() {
+            Err(EndFault::Unreleased) => Err(CollectFault::Unreleased),
+            Err(EndFault::Unterminated { start }) => {
+                let _ = self.connections.remove(at);
+                Err(CollectFault::Unterminated { start })
+            }
+            Err(EndFault::Failed) => {
+                let _ = self.connections.remove(at);
+                Ok(())
+            }
+            Ok(()) => {
+                let _ = self.connections.remove(at);
+                Ok(())
+            }
+        }
+    }
+
+    /// The store. Where no frame is left ready, it holds what was there first and the received set.
+    pub fn store(&self) -> &S
+        ensures same { result.now ≡ self.now.store }
+        ensures received { (first : List Entry) (events : List Told)
+            → Stands self.now.connections.items (S.entries self.now.store) first events
+            → IsSettled self.now.connections.items
+            → (x : Entry) → Has (S.entries result.now) x ↔ (Has first x ⊎ IsReceived events x) }
+    {
+        &self.store
+    }
+}
+
+/// The headline: two collectors over stores that were empty, of any two kinds, whose received sets
+/// are equal, hold the same entries, in one order. So their archives, as `Store::write` writes them,
+/// are byte-equal, whatever the framings, cuts, orders, interleavings and repetitions were.
+pub fn same_archives<S: Store, T: Store>(one: &Collector<S>, two: &Collector<T>)
+    ensures entries { (events others : List Told)
+        → Stands one.now.connections.items (S.entries one.now.store) [] events
+        → Stands two.now.connections.items (T.entries two.now.store) [] others
+        → IsSettled one.now.connections.items → IsSettled two.now.connections.items
+        → ReceivedSame events others → S.entries one.now.store ≡ T.entries two.now.store }
+    ensures texts { (events others : List Told)
+        → Stands one.now.connections.items (S.entries one.now.store) [] events
+        → Stands two.now.connections.items (T.entries two.now.store) [] others
+        → IsSettled one.now.connections.items → IsSettled two.now.connections.items
+        → ReceivedSame events others
+        → text_of (S.entries one.now.store) ≡ text_of (T.entries two.now.store) }
+{}
+
+/// Merging: the union of the archives of two collectors is the archive of a collector that received
+/// what the two did.
+pub fn merged_archives<S: Store, T: Store, U: Store>(
+    one: &Collector<S>,
+    two: &Collector<T>,
+    all: &Collector<U>,
+)
+    ensures { (events others both : List Told) (merged : List Entry)
+        → Stands one.now.connections.items (S.entries one.now.store) [] events
+        → Stands two.now.connections.items (T.entries two.now.store) [] others
+        → Stands all.now.connections.items (U.entries all.now.store) [] both
+        → IsSettled one.now.connections.items → IsSettled two.now.connections.items
+        → IsSettled all.now.connections.items → ReceivedBoth both events others
+        → IsArchive ENTRY_MAX merged
+        → IsUnion merged (S.entries one.now.store) (T.entries two.now.store)
+        → merged ≡ U.entries all.now.store }
+{}

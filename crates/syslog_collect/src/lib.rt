@@ -1,0 +1,36 @@
+//! The collector: streams of syslog records in pieces, and datagrams, into a set of records.
+//!
+//! Two collectors that were given the same set of well-formed RFC 5424 records, each over any
+//! framing that can carry it, in any cut, order, interleaving and repetition, hold byte-equal
+//! archives. That is the contract of [`same_archives`]; [`merged_archives`] says the same of the
+//! union of two archives, and [`Collector::store`] that the store is the received set.
+//!
+//! The words of these contracts stand in `specs/`:
+//!
+//! - History: what a list of events says, with no word of how a collector works. `Told` is an event
+//!   that was accepted, `AreAcceptable` says which events may come, and `after` folds them into the
+//!   openings with their octets and the datagrams.
+//! - Frames: `HasFrames`, the frames of all openings and datagrams; `IsReceived`, the received set:
+//!   the records that a frame of at most `FRAME_MAX` octets spells, each as its entry.
+//! - Standing: `Stands`, where a collector is after events over a first set. Each call's clause
+//!   `stands` says that it then stands at these events with those that the call accepted.
+//! - Answers and Runs: what a call or a run accepted, as a function of its answer, and the cause of
+//!   each refusal. Outcomes: what becomes of a frame.
+//! - Headline: `IsSettled`, that no frame is left ready, and `ReceivedSame`.
+#![tactic(auto)]
+
+mod advancing;
+mod collector;
+mod connection;
+mod event;
+mod fault;
+mod limits;
+mod outcome;
+mod piece;
+mod running;
+
+pub use collector::{Collector, merged_archives, same_archives};
+pub use event::{Event, RunEnd};
+pub use fault::{Advance, CollectFault};
+pub use limits::CONNECTIONS_MAX;
+pub use outcome::Outcome;

@@ -1,0 +1,115 @@
+//! A piece of a connection, to its end.
+
+ghost use Rattle.std.specs.Prelude.{◌≡◌, ◌++◌, ◌<◌, ◌≤◌, ◌⊎◌, ◌↔◌, ℕ, List, IsTrue, length, vec_capacity, vec_len};
+ghost use Rattle.syslog_collect.specs.Answers.{IsBadCount};
+ghost use Rattle.syslog_collect.specs.History.{Stream};
+ghost use Rattle.syslog_collect.specs.Outcomes.{outcomes_of};
+ghost use Rattle.syslog_collect.specs.Runs.{IfAccepted, IfDone, IsStepWithin, Logs, OnGoing};
+ghost use Rattle.syslog_collect.specs.Runs.{piece_octets, step_octets, used_before};
+ghost use Rattle.syslog_collect.specs.Standing.{IsAt};
+ghost use Rattle.syslog_frame.specs.Scan.{HasReady};
+
+use crate::advancing::advance_connection;
+use crate::connection::Connection;
+use crate::event::EventEnd;
+use crate::fault::CollectFault;
+use crate::outcome::Outcome;
+use archive_text::Store;
+use std::alloc::Global;
+
+/// What one advance did with the rest of a piece.
+#[derive(Clone, Copy, Debug)]
+pub enum Step {
+    /// It was refused after so many octets.
+    Stopped { used: usize, fault: CollectFault },
+    /// The rest is used up, or follows a bad count.
+    Ended,
+    /// So many octets were used, and more are left.
+    On { used: usize },
+}
+
+fn is_bad_count(outcome: Option<Outcome>) -> bool
+    ensures { IsTrue result ↔ IsBadCount outcome }
+{
+    matches!(outcome, Some(Outcome::BadCount { .. }))
+}
+
+fn used_of(fault: CollectFault) -> usize
+    ensures { result ≡ used_before fault }
+{
+    match fault {
+        CollectFault::Memory { used } => used,
+        _ => 0,
+    }
+}
+
+/// Appends an outcome to a log that has room for it.
+pub fn note(log: &mut Vec<Outcome>, outcome: Option<Outcome>)
+    requires { vec_len log.old < vec_capacity log.old }
+    ensures { log.new.items ≡ log.old.items ++ outcomes_of outcome }
+{
+    if let Some(outcome) = outcome {
+        let _ = log.push(outcome);
+    }
+}
+
+/// Advances a connection once, and appends the outcome to the log, in which room is made first.
+fn take_step<S: Store>(
+    alloc: Global,
+    connection: &mut Connection,
+    store: &mut S,
+    rest: &[u8],
+    log: &mut Vec<Outcome>,
+) -> Step
+    ensures within { IsStepWithin rest.now result }
+    ensures settled { IfAccepted result (¬ (HasReady connection.new.scanner)) }
+    ensures progress { OnGoing result (λ used. (0 < used) ⊎ HasReady connection.old.scanner) }
+    ensures moves { (s : Stream) (handled : List (List ℕ)) → IsAt connection.old s handled
+        → Logs connection.old connection.new (S.entries store.old) (S.entries store.new)
+        (step_octets rest.now result) log.old.items log.new.items s handled }
+{
+    if log.reserve(1).is_err() {
+        let fault = CollectFault::Memory { used: 0 };
+        return Step::Stopped { used: 0, fault };
+    }
+    let advance = match advance_connection(alloc, connection, store, rest) {
+        Ok(advance) => advance,
+        Err(fault) => {
+            let used = used_of(fault);
+            return Step::Stopped { used, fault };
+        }
+    };
+    note(log, advance.outcome);
+    if is_bad_count(advance.outcome) || advance.used >= rest.len() {
+        return Step::Ended;
+    }
+    Step::On { used: advance.used }
+}
+
+/// Advances a connection until the piece is used up, and at least once.
+pub fn take_piece<S: Store>(
+    alloc: Global,
+    connection: &mut Connection,
+    store: &mut S,
+    piece: &[u8],
+    log: &mut Vec<Outcome>,
+) -> EventEnd
+    ensures settled { IfDone result (¬ (HasReady connection.new.scanner)) }
+    ensures moves { (s : Stream) (handled : List (List ℕ)) → IsAt connection.old s handled
+        → Logs connection.old connection.new (S.entries store.old) (S.entries store.new)
+        (piece_octets piece.now result) log.old.items log.new.items s handled }
+{
+    let mut taken = 0;
+    'pieces: loop {
+        match take_step(alloc, connection, store, &piece[taken..], log) {
+            Step::Stopped { used, fault } => {
+                return EventEnd::Stopped {
+                    taken: taken + used,
+                    fault,
+                };
+            }
+            Step::Ended => return EventEnd::Done,
+            Step::On { used } => taken += used,
+        }
+    }
+}

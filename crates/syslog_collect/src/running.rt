@@ -1,0 +1,140 @@
+//! A run of a collector over a list of events.
+
+ghost use Rattle.std.specs.Prelude.{◌≡◌, ◌++◌, ◌<◌, ◌+◌, List, vec_capacity, vec_len};
+ghost use Rattle.archive_text.specs.Entries.{Entry};
+ghost use Rattle.syslog_collect.specs.Headline.{IsSettled};
+ghost use Rattle.syslog_collect.specs.History.{Told};
+ghost use Rattle.syslog_collect.specs.Runs.{IfAllDone, IfDone, LogsFrames, event_end};
+ghost use Rattle.syslog_collect.specs.Runs.{piece_octets, told_by, told_datagram_end, told_octets, told_run};
+ghost use Rattle.syslog_collect.specs.Standing.{Stands};
+
+use crate::collector::{Collector, place};
+use crate::event::{Event, EventEnd, RunEnd};
+use crate::fault::CollectFault;
+use crate::outcome::Outcome;
+use crate::piece::{note, take_piece};
+use archive_text::Store;
+use std::alloc::Global;
+
+fn end_of(answer: Result<(), CollectFault>) -> EventEnd
+    ensures { result ≡ event_end answer }
+{
+    match answer {
+        Ok(()) => EventEnd::Done,
+        Err(fault) => EventEnd::Stopped { taken: 0, fault },
+    }
+}
+
+impl<S: Store> Collector<S> {
+    /// A piece, advanced until its rest is empty, and at least once.
+    fn piece(
+        &mut self,
+        alloc: Global,
+        conn: u32,
+        octets: &[u8],
+        log: &mut Vec<Outcome>,
+    ) -> EventEnd
+        ensures stands { (first : List Entry) (events : List Told)
+            → Stands self.old.connections.items (S.entries self.old.store) first events
+            → Stands self.new.connections.items (S.entries self.new.store) first
+            (events ++ told_octets conn (piece_octets octets.now result)) }
+        ensures logs { (first : List Entry) (events : List Told)
+            → Stands self.old.connections.items (S.entries self.old.store) first events
+            → LogsFrames (S.entries self.old.store) (S.entries self.new.store)
+            log.old.items log.new.items }
+        ensures settled { IfDone result (IsSettled self.old.connections.items
+            → IsSettled self.new.connections.items) }
+    {
+        match place(&self.connections, conn) {
+            None => EventEnd::Stopped {
+                taken: 0,
+                fault: CollectFault::NotOpen,
+            },
+            Some(at) => take_piece(
+                alloc,
+                &mut self.connections[at],
+                &mut self.store,
+                octets,
+                log,
+            ),
+        }
+    }
+
+    /// A datagram, whose outcome the log has room for.
+    fn logged_datagram(
+        &mut self,
+        alloc: Global,
+        octets: &[u8],
+        log: &mut Vec<Outcome>,
+    ) -> EventEnd
+        requires { vec_len log.old < vec_capacity log.old }
+        ensures stands { (first : List Entry) (events : List Told)
+            → Stands self.old.connections.items (S.entries self.old.store) first events
+            → Stands self.new.connections.items (S.entries self.new.store) first
+            (events ++ told_datagram_end octets.now result) }
+        ensures logs { LogsFrames (S.entries self.old.store) (S.entries self.new.store)
+            log.old.items log.new.items }
+        ensures connections { self.new.connections.items ≡ self.old.connections.items }
+    {
+        match self.datagram(alloc, octets) {
+            Ok(outcome) => {
+                note(log, Some(outcome));
+                EventEnd::Done
+            }
+            Err(_) => EventEnd::Stopped {
+                taken: 0,
+                fault: CollectFault::Memory { used: 0 },
+            },
+        }
+    }
+
+    /// One event, as far as it goes. Room for an outcome is made in the log first.
+    fn hear(&mut self, alloc: Global, event: Event<'_>, log: &mut Vec<Outcome>) -> EventEnd
+        ensures stands { (first : List Entry) (events : List Told)
+            → Stands self.old.connections.items (S.entries self.old.store) first events
+            → Stands self.new.connections.items (S.entries self.new.store) first
+            (events ++ told_by event.entry result) }
+        ensures logs { (first : List Entry) (events : List Told)
+            → Stands self.old.connections.items (S.entries self.old.store) first events
+            → LogsFrames (S.entries self.old.store) (S.entries self.new.store)
+            log.old.items log.new.items }
+        ensures settled { IfDone result (IsSettled self.old.connections.items
+            → IsSettled self.new.connections.items) }
+    {
+        if log.reserve(1).is_err() {
+            return EventEnd::Stopped {
+                taken: 0,
+                fault: CollectFault::Memory { used: 0 },
+            };
+        }
+        match event {
+            Event::Opened { conn, framing } => end_of(self.open_conn(alloc, conn, framing)),
+            Event::Piece { conn, octets } => self.piece(alloc, conn, octets, log),
+            Event::Ended { conn } => end_of(self.end_conn(conn)),
+            Event::Datagram { octets } => self.logged_datagram(alloc, octets, log),
+        }
+    }
+
+    /// Handles events in order, up to the first that is refused, and appends each outcome to the
+    /// log. The octets of a piece that follow a bad count are dropped.
+    pub fn run(&mut self, alloc: Global, events: &[Event<'_>], log: &mut Vec<Outcome>) -> RunEnd
+        ensures stands { (first : List Entry) (before : List Told)
+            → Stands self.old.connections.items (S.entries self.old.store) first before
+            → Stands self.new.connections.items (S.entries self.new.store) first
+            (before ++ told_run events.now result) }
+        ensures logs { (first : List Entry) (before : List Told)
+            → Stands self.old.connections.items (S.entries self.old.store) first before
+            → LogsFrames (S.entries self.old.store) (S.entries self.new.store)
+            log.old.items log.new.items }
+        // After Done no frame is left ready.
+        ensures settled { IfAllDone result (IsSettled self.old.connections.items
+            → IsSettled self.new.connections.items) }
+    {
+        for (at, event) in events.iter().enumerate() {
+            if let EventEnd::Stopped { taken, fault } = self.hear(alloc, *event, log) {
+                return RunEnd::Stopped { at, taken, fault };
+            }
+        }
+        RunEnd::Done
+    }
+}
