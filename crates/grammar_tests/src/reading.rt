@@ -18,12 +18,18 @@ fn the_example_of_the_standard_is_read(rt: HostRuntime) -> Result<(), Fail> {
     let seen = view(RFC).ok().ok_or("a fault")?;
     assert_eq!(rt; seen.priority().value(), 165);
     assert!(rt; seen.instant().map(|i| i.micros()) == Some(1_061_727_255_000_003));
+    assert!(rt; seen.message() == b"%% It's time to make the do-nuts.".as_slice());
+    assert!(rt; !seen.has_mark());
+    Ok(())
+}
+
+#[test]
+fn the_words_of_the_example_are_read(rt: HostRuntime) -> Result<(), Fail> {
+    let seen = view(RFC).ok().ok_or("a fault")?;
     assert!(rt; seen.hostname() == Some(b"192.0.2.1".as_slice()));
     assert!(rt; seen.app_name() == Some(b"myproc".as_slice()));
     assert!(rt; seen.proc_id() == Some(b"8710".as_slice()));
     assert!(rt; seen.msg_id().is_none());
-    assert!(rt; seen.message() == b"%% It's time to make the do-nuts.".as_slice());
-    assert!(rt; !seen.has_mark());
     Ok(())
 }
 
@@ -124,54 +130,74 @@ fn the_instant_is_judged_before_the_ids(rt: HostRuntime) -> Result<(), Fail> {
     Ok(())
 }
 
+const TEXTS: [(&[u8], Option<usize>); 5] = [
+    (b"a\xe0\x80", Some(2)),
+    (b"a\xff", Some(1)),
+    (b"a\xe2\x82", Some(3)),
+    (b"\xed\xa0\x80", Some(1)),
+    (b"h\xc3\xa9", None),
+];
+
 #[test]
 fn texts_stop_at_their_offsets(rt: HostRuntime) -> Result<(), Fail> {
-    assert!(rt; utf8(b"a\xe0\x80") == Err(2));
-    assert!(rt; utf8(b"a\xff") == Err(1));
-    assert!(rt; utf8(b"a\xe2\x82") == Err(3));
-    assert!(rt; utf8(b"\xed\xa0\x80") == Err(1));
-    assert!(rt; utf8("h\u{e9}".as_bytes()).is_ok());
+    for (octets, offset) in TEXTS {
+        assert!(rt; utf8(octets).err() == offset);
+    }
     Ok(())
 }
 
 #[test]
-fn elements_and_parameters_come_in_their_order(rt: HostRuntime) -> Result<(), Fail> {
-    let seen = view(b"<0>1 - - - - - [b k=\"1\" l=\"x\\n\"][a]")
+fn elements_come_in_their_order(rt: HostRuntime) -> Result<(), Fail> {
+    let seen = view(b"<0>1 - - - - - [b k=\"1\"][a]")
         .ok()
         .ok_or("a fault")?;
     let mut elements = seen.elements();
     let first = elements.next().ok_or("no element")?;
     assert!(rt; first.id() == b"b".as_slice());
-    let mut params = first.params();
-    let one = params.next().ok_or("no parameter")?;
-    assert!(rt; one.name() == b"k".as_slice());
-    assert!(rt; one.raw() == b"1".as_slice());
-    let two = params.next().ok_or("no parameter")?;
-    assert!(rt; two.raw() == b"x\\n".as_slice());
-    assert!(rt; params.next().is_none());
     let second = elements.next().ok_or("no element")?;
     assert!(rt; second.id() == b"a".as_slice());
     assert!(rt; elements.next().is_none());
-    assert!(rt;
-        view(b"<0>1 - - - - - -")
-            .ok()
-            .ok_or("a fault")?
-            .elements()
-            .next()
-            .is_none()
-    );
     Ok(())
 }
 
 #[test]
+fn no_elements_are_lent_of_nilvalue(rt: HostRuntime) -> Result<(), Fail> {
+    let seen = view(b"<0>1 - - - - - -").ok().ok_or("a fault")?;
+    assert!(rt; seen.elements().next().is_none());
+    Ok(())
+}
+
+#[test]
+fn parameters_come_in_their_order(rt: HostRuntime) -> Result<(), Fail> {
+    let seen = view(b"<0>1 - - - - - [b k=\"1\" l=\"x\\n\"][a]")
+        .ok()
+        .ok_or("a fault")?;
+    let element = seen.elements().next().ok_or("no element")?;
+    let mut params = element.params();
+    let first = params.next().ok_or("no parameter")?;
+    assert!(rt; first.name() == b"k".as_slice());
+    assert!(rt; first.raw() == b"1".as_slice());
+    let second = params.next().ok_or("no parameter")?;
+    assert!(rt; second.raw() == b"x\\n".as_slice());
+    assert!(rt; params.next().is_none());
+    Ok(())
+}
+
+const SPELLINGS: [(&[u8], &str, bool); 8] = [
+    (b"x\\n", "x\\n", true),
+    (b"x\\\\n", "x\\n", true),
+    (b"x\\n", "xn", false),
+    (b"\\\"\\]", "\"]", true),
+    (b"]", "]", false),
+    (b"x\\", "x\\", false),
+    (b"", "x", false),
+    (b"", "", true),
+];
+
+#[test]
 fn a_spelling_means_its_text(rt: HostRuntime) -> Result<(), Fail> {
-    assert!(rt; same_value(b"x\\n", "x\\n"));
-    assert!(rt; same_value(b"x\\\\n", "x\\n"));
-    assert!(rt; !same_value(b"x\\n", "xn"));
-    assert!(rt; same_value(b"\\\"\\]", "\"]"));
-    assert!(rt; !same_value(b"]", "]"));
-    assert!(rt; !same_value(b"x\\", "x\\"));
-    assert!(rt; !same_value(b"", "x"));
-    assert!(rt; same_value(b"", ""));
+    for (raw, text, same) in SPELLINGS {
+        assert!(rt; same_value(raw, text) == same);
+    }
     Ok(())
 }
