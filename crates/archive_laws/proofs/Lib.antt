@@ -3,3 +3,5 @@ pub mod CanonicalOctets
 pub mod Collected
 pub mod Merged
 pub mod Limits
+pub mod Judged
+pub mod OneFault

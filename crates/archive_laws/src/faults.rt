@@ -9,7 +9,7 @@ ghost use Rattle.archive_text.specs.declared.fault.ArchiveFault.{ArchiveFault};
 ghost use Rattle.archive_text.specs.declared.fault.ArchiveFault.TheVariants.{EntryTooLong};
 
 /// The text of a set has no fault.
-pub fn archive_or_fault()
+pub fn archives_have_no_fault()
     ensures { (most : ℕ) (rs : List (Parts ℤ)) (t : List ℕ) (fault : ArchiveFault)
         → ArchiveText most rs t → ¬ (IsArchiveFault most t fault) }
 {}

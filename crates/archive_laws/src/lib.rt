@@ -1,12 +1,15 @@
-//! Laws of archives, over the definitions alone. Each function does nothing: its contract is the law.
+//! Laws of archives. Each function does nothing, and its contract is the law; but
+//! [`archive_or_fault`] reads a text, to find which of the two holds of it.
 #![tactic(auto)]
 
 mod faults;
+mod judge;
 mod merging;
 mod order;
 mod sets;
 
-pub use faults::{archive_or_fault, larger_limits_keep_faults};
+pub use faults::{archives_have_no_fault, larger_limits_keep_faults};
+pub use judge::archive_or_fault;
 pub use merging::{
     merging_is_associative, merging_is_commutative, merging_is_idempotent, merging_is_union,
 };
