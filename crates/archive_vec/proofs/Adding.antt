@@ -1,17 +1,16 @@
 -- What is added to ascending entries.
-use Rattle.std.proofs.Common.{arith, ◌≡◌, ℕ, suc, zero, ◌+◌, ◌<◌, ◌≤◌, ◌∙◌, List, [], ◌∷◌, ◌++◌, length, take, drop, Option, Some, None, Result, Ok, Err, IfOk, OnOk, is_ok, is_err, refl, sym, ap, subst, inl, inr, take-append-drop}
-use Rattle.std.specs.Prelude.{◌↔◌, IsTrue, Bool, true, false}
-use Rattle.std.specs.List.{AllByRecursion, insert, slice_get}
+use Rattle.std.proofs.Common.{◌≡◌, ℕ, suc, zero, ◌<◌, ◌∙◌, List, [], ◌∷◌, length, take, drop, Some, Result, Ok, Err, IfOk, OnOk, is_ok, is_err, sym, subst, inl, inr, take-append-drop}
+use Rattle.std.specs.Prelude.{◌↔◌, IsTrue, Bool, false}
+use Rattle.std.specs.List.{insert, slice_get}
 use Rattle.std.proofs.lemmas.Bool.{false≢true}
 use Rattle.syslog_value.specs.Parts.{IsRecord, Parts}
 use Rattle.std.specs.Prelude.{ℤ}
-use Rattle.syslog_grammar.specs.Appending.{Adds}
 use Rattle.syslog_grammar.specs.Canonical.{Canonical}
 use Rattle.syslog_grammar.specs.WellFormed.{AddsCanonical, WellFormed}
 use Rattle.syslog_grammar.proofs.CanonicalParses.{canonical_injective}
 use Rattle.syslog_grammar.proofs.Valid.{well_formed_valid}
 use Rattle.syslog_grammar.proofs.Laws.{one_meaning}
-use Rattle.archive_text.specs.Entries.{Entry, Has, IsBelow, IsEntry, IsEntryOf}
+use Rattle.archive_text.specs.Entries.{Entry, Has, IsEntry, IsEntryOf}
 use Rattle.archive_text.specs.Stores.{AddsEntry, AddsRecord}
 use Rattle.archive_text.specs.declared.store.Added.{Added}
 use Rattle.archive_text.specs.declared.store.Added.TheVariants.{New, Held}

@@ -1,5 +1,5 @@
 -- An entry is sought among ascending ones.
-use Rattle.std.proofs.Common.{arith, add-one, ◌≡◌, ℕ, suc, zero, ◌+◌, ◌<◌, ◌≤◌, List, [], ◌∷◌, length, take, drop, ◌-◌, Option, Some, None, refl, sym, subst}
+use Rattle.std.proofs.Common.{arith, add-one, ◌≡◌, ℕ, suc, zero, ◌+◌, ◌≤◌, List, [], ◌∷◌, length, take, drop, ◌-◌, Some, subst}
 use Rattle.std.proofs.lemmas.List.{take_all}
 use Rattle.std.specs.List.{AllByRecursion, slice_get}
 use Rattle.archive_text.specs.Entries.{Entry, IsAscending, IsBelow}

@@ -1,6 +1,6 @@
 -- Entries that lie in octets, as these grow.
-use Rattle.std.proofs.Common.{arith, ◌≡◌, ℕ, ◌+◌, ◌-◌, ◌<◌, ◌≤◌, List, [], ◌∷◌, ◌++◌, length, take, drop, map, refl, sym, ap, ◌∙◌, subst, append-nil, take-append-drop, length-append, length-drop}
-use Rattle.std.proofs.lemmas.List.{take-append-le, drop-append-le, map-append, take-map, drop-map, take_all, length-take-le}
+use Rattle.std.proofs.Common.{arith, ◌≡◌, ℕ, ◌+◌, ◌<◌, ◌≤◌, List, [], ◌∷◌, ◌++◌, length, take, drop, map, refl, sym, ap, ◌∙◌, subst, take-append-drop, length-append, length-drop}
+use Rattle.std.proofs.lemmas.List.{take-append-le, drop-append-le, map-append, take-map, drop-map, take_all}
 use Rattle.std.proofs.lemmas.List.{length-map}
 use Rattle.std.proofs.lemmas.List.Edits.{length-insert}
 use Rattle.std.proofs.Math.Seq.{drop-append_seam}

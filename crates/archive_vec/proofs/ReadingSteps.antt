@@ -1,8 +1,8 @@
 -- A text is read entry by entry.
-use Rattle.std.proofs.Common.{arith, ◌≡◌, ℕ, ◌+◌, ◌<◌, ◌≤◌, ◌∙◌, List, [], ◌∷◌, ◌++◌, length, refl, sym, ap, subst, inl, inr}
+use Rattle.std.proofs.Common.{arith, ◌≡◌, ℕ, ◌+◌, ◌<◌, ◌≤◌, List, ◌++◌, length, refl, ap, inl, inr}
 use Rattle.std.specs.List.{AllByRecursion}
 use Rattle.archive_text.specs.Entries.{Entry, IsBelow}
-use Rattle.archive_text.specs.Faults.{IsArchiveFault, IsFaultBefore, IsFaultBehind}
+use Rattle.archive_text.specs.Faults.{IsFaultBefore, IsFaultBehind}
 use Rattle.archive_text.specs.Text.{BeginsWithEntry, IsArchive, text_of}
 use Rattle.archive_text.specs.declared.fault.ArchiveFault.{ArchiveFault}
 use Rattle.archive_text.specs.declared.fault.ArchiveFault.TheVariants.{BadFrame, EntryTooLong, BadEntry, NotCanonical, NotAscending}

@@ -1,8 +1,7 @@
 -- What reading an archive answers.
-use Rattle.std.specs.Prelude.{◌≡◌, ℕ, ◌+◌, List, [], ◌∷◌, ◌++◌, length, Result, Ok, Err, ⊤}
+use Rattle.std.specs.Prelude.{ℕ, ◌+◌, List, ⊤}
 use Rattle.archive_text.specs.Entries.{Entry}
 use Rattle.archive_text.specs.Faults.{IsArchiveFault, IsFaultBehind}
-use Rattle.archive_text.specs.Text.{text_of}
 use Rattle.archive_text.specs.declared.fault.ArchiveFault.{ArchiveFault}
 use Rattle.archive_text.specs.declared.fault.ArchiveFault.TheVariants.{BadFrame, EntryTooLong, BadEntry, NotCanonical, NotAscending}
 use Rattle.archive_text.specs.declared.limits.TheConstants.{ENTRY_MAX}

@@ -9,8 +9,6 @@ mod merging;
 mod reading;
 mod span;
 mod store;
-#[cfg(test)]
-mod tests;
 mod vec_archive;
 mod writing;
 

@@ -1,4 +1,4 @@
-use Rattle.std.proofs.Common.{◌≡◌, ◌-◌, ◌+◌, ℕ, List, take, drop, length, arith, subst}
+use Rattle.std.proofs.Common.{◌≡◌, ◌-◌, ◌+◌, take, drop, arith, subst}
 use Rattle.std.proofs.lemmas.List.{drop_all}
 use Rattle.std.specs.List.{AllByRecursion}
 use Rattle.archive_text.specs.Entries.{IsBelow}

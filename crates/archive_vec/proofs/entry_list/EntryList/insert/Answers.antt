@@ -1,5 +1,4 @@
 use Rattle.std.proofs.Common.{arith, refl}
-use Rattle.std.proofs.lemmas.Grind.{common_steps}
 use Rattle.archive_vec.proofs.Layouts.{laid_out_new}
 use Rattle.archive_vec.proofs.entry_list.EntryList.insert.Goals as goal
 
