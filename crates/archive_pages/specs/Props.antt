@@ -16,9 +16,12 @@ use Rattle.syslog_grammar.proofs.CanonicalParses.{canonical_injective, canonical
 use Rattle.archive_text.specs.Entries.{Entry, InstantBelow, IsAscending, IsBelow, IsEntry, IsEntryOf}
 use Rattle.archive_text.specs.Text.{IsArchive}
 use Rattle.archive_text.proofs.Orders.{instant_irreflexive}
-use Rattle.archive_pages.specs.Pages.{ArePaged, entries_of}
-use Rattle.archive_pages.specs.Spans.{IsWithin}
+use Rattle.archive_pages.specs.Pages.{ArePaged, HoldArchive, entries_of}
+use Rattle.archive_pages.specs.Spans.{IsWithin, blocks_of, lists_of}
+use Rattle.archive_pages.specs.declared.arena.Arena.{Arena}
 use Rattle.archive_pages.specs.declared.arena.Span.{Span}
+use Rattle.std.specs.Prelude.{Vec}
+use Rattle.std.specs.declared.alloc.Global.{Global}
 use mathlib.Core.HLevel.{×_prop, Unit-prop, Σ_prop_path}
 
 -- pairs whose first part is settled by what holds of it
@@ -155,3 +158,6 @@ within_prop = hlevel props
 -- the pages of an archive are so in one way
 pub ArePaged-prop : (blocks : List (List ℕ)) (pages : List (List Span)) → IsProp (ArePaged blocks pages)
 ArePaged-prop = hlevel (props, within_prop, archive_prop)
+
+pub HoldArchive-prop : (arena : Arena) (pages : Vec (Vec Span Global) Global) → IsProp (HoldArchive arena pages)
+HoldArchive-prop arena pages = ArePaged-prop (blocks_of arena) (lists_of pages.items)

@@ -2,7 +2,8 @@
 
 ghost use Rattle.std.specs.Prelude.{◌≡◌, ◌<◌, ◌≤◌, ◌+◌, ◌++◌, ◌^◌, ℕ, [], length, IfOk};
 ghost use Rattle.archive_text.specs.EntryViews.{entry_of};
-ghost use Rattle.archive_pages.specs.Spans.{IsWithin, Keeps, block_at, blocks_of, entry_at, lists_of, span_with};
+ghost use Rattle.archive_pages.specs.Spans.{IsWithin, Keeps, block_at, blocks_of};
+ghost use Rattle.archive_pages.specs.Spans.{entry_at, lists_of, span_with};
 
 use archive_text::{ENTRY_MAX, EntryView};
 use std::alloc::{AllocError, Global};

@@ -1,6 +1,7 @@
 //! Pages: at most 256 spans in the ascending order of their entries.
 
-ghost use Rattle.std.specs.Prelude.{◌≡◌, ◌<◌, ◌≤◌, ◌+◌, ◌++◌, ℕ, [], ◌∷◌, length, take, drop, IfOk, OnOk, OnErr};
+ghost use Rattle.std.specs.Prelude.{◌≡◌, ◌<◌, ◌≤◌, ◌+◌, ◌++◌, ℕ, []};
+ghost use Rattle.std.specs.Prelude.{◌∷◌, length, take, drop, IfOk, OnOk, OnErr};
 ghost use Rattle.archive_pages.specs.Spans.{lists_of};
 ghost use Rattle.archive_pages.specs.Pages.{HaveSizes, after, before, joined, page_at};
 

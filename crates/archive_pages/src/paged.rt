@@ -5,8 +5,8 @@ ghost use Rattle.archive_text.specs.Entries.{IsEntry};
 ghost use Rattle.archive_text.specs.EntryViews.{entry_of};
 ghost use Rattle.archive_text.specs.Stores.{AddsEntry};
 ghost use Rattle.archive_pages.specs.Spans.{blocks_of, lists_of};
-ghost use Rattle.archive_pages.specs.Pages.{ArePaged, entries_of, joined};
-ghost use Rattle.archive_pages.specs.Props.{ArePaged-prop};
+ghost use Rattle.archive_pages.specs.Pages.{ArePaged, HoldArchive, entries_of, joined};
+ghost use Rattle.archive_pages.specs.Props.{HoldArchive-prop};
 ghost use Rattle.archive_pages.specs.declared.paged.TheConstants.{RECORDS_MAX};
 
 use crate::arena::{Arena, Span};
@@ -29,7 +29,7 @@ pub struct PagedArchive {
     count: usize,
     // the canonical octets of the view that is added
     scratch: Vec<u8>,
-    ghost paged: { ArePaged (blocks_of arena) (lists_of pages.items) } by { ArePaged-prop (blocks_of arena) (lists_of pages.items) },
+    ghost paged: { HoldArchive arena pages } by { HoldArchive-prop arena pages },
     ghost counted: { count ≡ length (joined (lists_of pages.items)) },
     ghost few: { count ≤ RECORDS_MAX },
 }

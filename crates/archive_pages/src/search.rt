@@ -7,7 +7,8 @@ ghost use Rattle.archive_text.specs.Entries.{IsAscending};
 ghost use Rattle.archive_text.specs.EntryViews.{entry_of};
 ghost use Rattle.archive_pages.specs.Spans.{IsWithin, blocks_of, entries_at, lists_of};
 ghost use Rattle.archive_pages.specs.Pages.{AreSearchable};
-ghost use Rattle.archive_pages.specs.Places.{BeginsAbove, BeginsUpTo, IsInsertion, IsLastOrder, IsPage, IsPlace};
+ghost use Rattle.archive_pages.specs.Places.{BeginsAbove, BeginsUpTo, IsInsertion};
+ghost use Rattle.archive_pages.specs.Places.{IsLastOrder, IsPage, IsPlace};
 
 use crate::arena::{Arena, Span};
 use archive_text::{EntryView, compare};

@@ -5,7 +5,7 @@ ghost use Rattle.std.specs.Io.KnownBytes.{Appends};
 ghost use Rattle.std.specs.List.{AllByRecursion};
 ghost use Rattle.archive_text.specs.EntryViews.{entry_of};
 ghost use Rattle.archive_text.specs.Text.{entry_text, text_of};
-ghost use Rattle.archive_pages.specs.Pages.{entries_of, joined};
+ghost use Rattle.archive_pages.specs.Pages.{LieWithin, pages_text};
 ghost use Rattle.archive_pages.specs.Spans.{IsWithin, blocks_of, entries_at, lists_of};
 ghost use Rattle.archive_pages.specs.Writing.{Puts, StopsPutting};
 
@@ -64,12 +64,12 @@ fn put_pages<W: Output>(
     arena: &Arena,
     pages: &[Vec<Span>],
 ) -> Result<(), WriteFault>
-    requires { AllByRecursion (IsWithin (blocks_of arena.now)) (joined (lists_of pages.now)) }
+    requires { LieWithin (blocks_of arena.now) (lists_of pages.now) }
     ensures ok { OnOk result (Puts (W.taken writer.old) (W.taken writer.new) held.old held.new
-        (text_of (entries_of (blocks_of arena.now) (lists_of pages.now)))) }
+        (pages_text (blocks_of arena.now) (lists_of pages.now))) }
     ensures no_failure { OnOk result (W.failures writer.new ≡ W.failures writer.old) }
     ensures err { IfErr result (λ fault. StopsPutting (W.taken writer.old) (W.taken writer.new)
-        held.old (text_of (entries_of (blocks_of arena.now) (lists_of pages.now))) fault.sent) }
+        held.old (pages_text (blocks_of arena.now) (lists_of pages.now)) fault.sent) }
     ensures cause { W.failures writer.old < 2 ^ 63 →
         OnErr result (W.failures writer.old < W.failures writer.new) }
 {
@@ -85,15 +85,15 @@ pub fn write_pages<W: Output>(
     arena: &Arena,
     pages: &[Vec<Span>],
 ) -> Result<(), WriteFault>
-    requires within { AllByRecursion (IsWithin (blocks_of arena.now)) (joined (lists_of pages.now)) }
-    requires fits { length (text_of (entries_of (blocks_of arena.now) (lists_of pages.now))) < 2 ^ 64 }
+    requires within { LieWithin (blocks_of arena.now) (lists_of pages.now) }
+    requires fits { length (pages_text (blocks_of arena.now) (lists_of pages.now)) < 2 ^ 64 }
     ensures ok { OnOk result (Appends (W.taken writer.old) (W.taken writer.new)
-        (text_of (entries_of (blocks_of arena.now) (lists_of pages.now)))) }
+        (pages_text (blocks_of arena.now) (lists_of pages.now))) }
     ensures no_failure { OnOk result (W.failures writer.new ≡ W.failures writer.old) }
     ensures some_left { IfErr result (λ fault.
-        fault.sent < length (text_of (entries_of (blocks_of arena.now) (lists_of pages.now)))) }
+        fault.sent < length (pages_text (blocks_of arena.now) (lists_of pages.now))) }
     ensures sent { IfErr result (λ fault. Appends (W.taken writer.old) (W.taken writer.new)
-        (take fault.sent (text_of (entries_of (blocks_of arena.now) (lists_of pages.now))))) }
+        (take fault.sent (pages_text (blocks_of arena.now) (lists_of pages.now)))) }
     ensures cause { W.failures writer.old < 2 ^ 63 →
         OnErr result (W.failures writer.old < W.failures writer.new) }
 {
