@@ -3,3 +3,5 @@ pub mod Counting
 pub mod Joining
 pub mod NextEntries
 pub mod SideSteps
+pub mod Turns
+pub mod Unions

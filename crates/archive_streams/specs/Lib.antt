@@ -5,3 +5,4 @@ pub mod Faults
 pub mod Counting
 pub mod Joining
 pub mod Sides
+pub mod Merging

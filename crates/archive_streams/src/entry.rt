@@ -30,6 +30,7 @@ impl EntryText {
     pub fn new(alloc: Global) -> Result<EntryText, AllocError>
         ensures room { IfOk result (λ e. TEXT_MAX ≤ vec_capacity e.text) }
         ensures empty { IfOk result (λ e. e.text.items ≡ []) }
+        ensures start { IfOk result (λ e. e.start ≡ 0) }
     {
         Ok(EntryText {
             text: Vec::with_capacity(alloc, TEXT_MAX)?,

@@ -24,3 +24,33 @@ pub enum SideFault {
     #[error("{0}")]
     Input(InputFault),
 }
+
+/// One of two archives.
+#[derive(Clone, Copy, Debug, PartialEq, Eq)]
+pub enum Side {
+    Left,
+    Right,
+}
+
+/// Why two archives were not joined.
+#[derive(Clone, Copy, Debug, PartialEq, Eq, Error)]
+pub enum MergeFault {
+    /// The left is no archive.
+    #[error("left: {0}")]
+    Left(ArchiveFault),
+    /// The right is no archive.
+    #[error("right: {0}")]
+    Right(ArchiveFault),
+    /// A reader failed.
+    #[error("a reader failed")]
+    Read(Side),
+    /// A reader was called `READER_CALLS` times and did not give its end.
+    #[error("an input has no end")]
+    Endless(Side),
+    /// The writer failed after it took so many octets.
+    #[error("the writer failed after {sent} octets")]
+    Write { sent: u64 },
+    /// The room was refused.
+    #[error("out of memory")]
+    Memory,
+}

@@ -1,12 +1,18 @@
 //! Two archives of syslog records, each a text larger than memory, are joined as they are read from
 //! two devices and written to a third.
 //!
-//! [`ArchiveReader`] holds one entry, whatever the archive holds.
+//! [`merge_streams`] holds three entries, whatever the archives hold.
 #![tactic(auto)]
 
 mod entry;
 mod fault;
 mod judging;
+mod merge;
 mod pieces;
 mod reading;
 mod side;
+#[cfg(test)]
+mod tests;
+
+pub use fault::{MergeFault, Side};
+pub use merge::merge_streams;

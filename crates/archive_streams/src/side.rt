@@ -38,6 +38,7 @@ impl ArchiveReader {
         ensures ends { IfOk result (λ r. r.pieces.ends ≡ 0) }
         ensures position { IfOk result (λ r. r.position ≡ 0) }
         ensures room { IfOk result (λ r. TEXT_MAX ≤ vec_capacity r.entry.text) }
+        ensures empty { IfOk result (λ r. r.entry.text.items ≡ []) }
     {
         Ok(ArchiveReader {
             pieces: Pieces::new(),

@@ -1,0 +1,17 @@
+use Rattle.std.proofs.Common.{◌≡◌, ◌+◌, length, ap, arith}
+use Rattle.std.proofs.lemmas.Result.{on_ok_weaker}
+use Rattle.archive_streams.specs.Merging.{IsNextOrder}
+use Rattle.archive_streams.specs.declared.side.ArchiveReader.{ArchiveReader}
+use Rattle.archive_streams.proofs.Turns.{falls_both}
+use Rattle.archive_streams.proofs.merge.Merge.turn.Goals as goal
+
+pub returns-in_ok-advance_left-in-Equal-clause-falls : goal.returns-in_ok-advance_left-in-Equal-clause-falls
+returns-in_ok-advance_left-in-Equal-clause-falls g c =
+    let old = c.args.self.now in
+    let new = c.advance_right-in-Equal.new.self in
+    let order = rw c.in-Equal.is at c.requires.order in
+    let same = c.advance_right-in-Equal.ensures.left in
+    let left : new.left.position ≡ old.left.position + length new.left.entry.text.items = omega (arith, ap (λ (r : ArchiveReader). r.position) same, ap (λ (r : ArchiveReader). length r.entry.text.items) same, c.in_ok-advance_left-in-Equal.ensures.position, c.write_left-in-Equal.ensures.position) in
+    let kept = ap (λ (r : ArchiveReader). r.position) c.advance_left-in-Equal.ensures.right in
+    let before = ap (λ (r : ArchiveReader). r.position) c.write_left-in-Equal.ensures.right in
+    on_ok_weaker c.advance_right-in-Equal.result (λ right. falls_both old new c.requires.steady order.0 order.1 left (omega (arith, right, kept, before))) c.advance_right-in-Equal.ensures.position

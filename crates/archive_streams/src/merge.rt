@@ -1,0 +1,233 @@
+//! Two archives are joined.
+
+ghost use Rattle.std.specs.Prelude.{◌≡◌, ◌≢◌, ◌^◌, ◌<◌, ◌+◌, ℕ, [], length};
+ghost use Rattle.std.specs.Prelude.{IfOk, IsErrOf, MatchOption, OnOk};
+ghost use Rattle.archive_streams.specs.Merging.{IsLeftDue, IsNextOrder, IsRightDue, IsSteady};
+ghost use Rattle.archive_streams.specs.Merging.{LeftFailures, NotWrite, OnlyWrite, RightFailures};
+ghost use Rattle.archive_streams.specs.Merging.{WriteFailed, height, rank};
+
+use crate::entry::EntryText;
+use crate::fault::{InputFault, MergeFault, Side, SideFault};
+use crate::side::ArchiveReader;
+use archive_text::compare;
+use held_output::HeldOutput;
+use std::alloc::{AllocError, Global};
+use std::cmp::Ordering;
+use std::mem::swap;
+use syslog_value::{Input, Output, WriteFault};
+
+/// Two archives on their way into one: what was read of each, the entry that was written last, what
+/// is held back of the text, and how many entries that has.
+#[derive(Drop)]
+pub struct Merge {
+    pub left: ArchiveReader,
+    pub right: ArchiveReader,
+    pub last: EntryText,
+    pub held: HeldOutput,
+    pub count: u64,
+}
+
+impl Merge {
+    /// Before the first entries.
+    fn new(alloc: Global) -> Result<Merge, AllocError>
+        ensures due { IfOk result IsLeftDue }
+        ensures empty { IfOk result (λ m. m.right.entry.text.items ≡ []) }
+    {
+        Ok(Merge {
+            left: ArchiveReader::new(alloc)?,
+            right: ArchiveReader::new(alloc)?,
+            last: EntryText::new(alloc)?,
+            held: HeldOutput::new(),
+            count: 0,
+        })
+    }
+
+    /// How the next entries of the two sides compare, where a side at its end is above the other.
+    /// None where both are at their ends.
+    fn order(&self) -> Option<Ordering>
+        requires { IsSteady self.now }
+        ensures { MatchOption result (rank self.now ≡ 0) (λ order. IsNextOrder order self.now) }
+    {
+        if self.left.entry.text.is_empty() {
+            if self.right.entry.text.is_empty() {
+                return None;
+            }
+            return Some(Ordering::Greater);
+        }
+        if self.right.entry.text.is_empty() {
+            return Some(Ordering::Less);
+        }
+        Some(compare(&self.left.entry.view(), &self.right.entry.view()))
+    }
+
+    /// Reads the next entry of the left, or finds its end.
+    fn advance_left<R: Input>(&mut self, left: &mut R) -> Result<(), MergeFault>
+        requires { IsLeftDue self.old }
+        ensures steady { OnOk result (IsSteady self.new) }
+        ensures position { OnOk result (self.new.left.position
+            ≡ self.old.left.position + length self.new.left.entry.text.items) }
+        ensures right { self.new.right ≡ self.old.right }
+        ensures count { self.new.count ≡ self.old.count }
+        ensures failures { LeftFailures result (R.failures left.old) (R.failures left.new) }
+        ensures others { (n : ℕ) → RightFailures result n n }
+        ensures not_written { NotWrite result }
+        ensures not_memory { ¬ (IsErrOf result MergeFault.Memory) }
+    {
+        match self.left.advance(left, &self.last) {
+            Ok(()) => Ok(()),
+            Err(SideFault::Archive(fault)) => Err(MergeFault::Left(fault)),
+            Err(SideFault::Input(InputFault::Device)) => Err(MergeFault::Read(Side::Left)),
+            Err(SideFault::Input(InputFault::Endless)) => Err(MergeFault::Endless(Side::Left)),
+        }
+    }
+
+    /// Reads the next entry of the right, or finds its end.
+    fn advance_right<R: Input>(&mut self, right: &mut R) -> Result<(), MergeFault>
+        requires { IsRightDue self.old }
+        ensures steady { OnOk result (IsSteady self.new) }
+        ensures position { OnOk result (self.new.right.position
+            ≡ self.old.right.position + length self.new.right.entry.text.items) }
+        ensures left { self.new.left ≡ self.old.left }
+        ensures count { self.new.count ≡ self.old.count }
+        ensures failures { RightFailures result (R.failures right.old) (R.failures right.new) }
+        ensures others { (n : ℕ) → LeftFailures result n n }
+        ensures not_written { NotWrite result }
+        ensures not_memory { ¬ (IsErrOf result MergeFault.Memory) }
+    {
+        match self.right.advance(right, &self.last) {
+            Ok(()) => Ok(()),
+            Err(SideFault::Archive(fault)) => Err(MergeFault::Right(fault)),
+            Err(SideFault::Input(InputFault::Device)) => Err(MergeFault::Read(Side::Right)),
+            Err(SideFault::Input(InputFault::Endless)) => Err(MergeFault::Endless(Side::Right)),
+        }
+    }
+
+    /// Writes the next entry of the left.
+    fn write_left<W: Output>(&mut self, writer: &mut W) -> Result<(), MergeFault>
+        requires steady { IsSteady self.old }
+        requires some { self.old.left.entry.text.items ≢ [] }
+        ensures due { OnOk result (IsLeftDue self.new) }
+        ensures position { self.new.left.position ≡ self.old.left.position }
+        ensures right { self.new.right ≡ self.old.right }
+        ensures only { OnlyWrite result }
+        ensures not_memory { ¬ (IsErrOf result MergeFault.Memory) }
+        ensures failures { WriteFailed result (W.failures writer.old) (W.failures writer.new) }
+    {
+        swap(&mut self.last, &mut self.left.entry);
+        self.count += 1;
+        match self.held.put(writer, &self.last.text) {
+            Ok(()) => Ok(()),
+            Err(WriteFault { sent }) => Err(MergeFault::Write { sent }),
+        }
+    }
+
+    /// Writes the next entry of the right.
+    fn write_right<W: Output>(&mut self, writer: &mut W) -> Result<(), MergeFault>
+        requires steady { IsSteady self.old }
+        requires some { self.old.right.entry.text.items ≢ [] }
+        ensures due { OnOk result (IsRightDue self.new) }
+        ensures position { self.new.right.position ≡ self.old.right.position }
+        ensures left { self.new.left ≡ self.old.left }
+        ensures only { OnlyWrite result }
+        ensures not_memory { ¬ (IsErrOf result MergeFault.Memory) }
+        ensures failures { WriteFailed result (W.failures writer.old) (W.failures writer.new) }
+    {
+        swap(&mut self.last, &mut self.right.entry);
+        self.count += 1;
+        match self.held.put(writer, &self.last.text) {
+            Ok(()) => Ok(()),
+            Err(WriteFault { sent }) => Err(MergeFault::Write { sent }),
+        }
+    }
+
+    /// Writes the next entry, and reads the next one of each side that it was of.
+    fn turn<R1: Input, R2: Input, W: Output>(
+        &mut self,
+        order: Ordering,
+        left: &mut R1,
+        right: &mut R2,
+        writer: &mut W,
+    ) -> Result<(), MergeFault>
+        requires steady { IsSteady self.old }
+        requires order { IsNextOrder order self.old }
+        ensures steady { OnOk result (IsSteady self.new) }
+        ensures falls { OnOk result (height self.new < height self.old) }
+        ensures left { LeftFailures result (R1.failures left.old) (R1.failures left.new) }
+        ensures right { RightFailures result (R2.failures right.old) (R2.failures right.new) }
+        ensures writer { WriteFailed result (W.failures writer.old) (W.failures writer.new) }
+        ensures not_memory { ¬ (IsErrOf result MergeFault.Memory) }
+    {
+        match order {
+            Ordering::Less => {
+                self.write_left(writer)?;
+                self.advance_left(left)
+            }
+            Ordering::Greater => {
+                self.write_right(writer)?;
+                self.advance_right(right)
+            }
+            Ordering::Equal => {
+                self.write_left(writer)?;
+                self.advance_left(left)?;
+                self.advance_right(right)
+            }
+        }
+    }
+
+    /// Joins the two.
+    fn join<R1: Input, R2: Input, W: Output>(
+        &mut self,
+        left: &mut R1,
+        right: &mut R2,
+        writer: &mut W,
+    ) -> Result<(), MergeFault>
+        requires due { IsLeftDue self.old }
+        requires empty { self.old.right.entry.text.items ≡ [] }
+        ensures left { LeftFailures result (R1.failures left.old) (R1.failures left.new) }
+        ensures right { RightFailures result (R2.failures right.old) (R2.failures right.new) }
+        ensures writer { WriteFailed result (W.failures writer.old) (W.failures writer.new) }
+        ensures not_memory { ¬ (IsErrOf result MergeFault.Memory) }
+    {
+        self.advance_left(left)?;
+        self.advance_right(right)?;
+        'entries: while let Some(order) = self.order() {
+            self.turn(order, left, right, writer)?;
+        }
+        Ok(())
+    }
+}
+
+/// Joins two archives, each the text of a set of records, into the text of the union. Answers how
+/// many entries that has.
+///
+/// Room for three entries is reserved first; no further memory is taken. An entry of the left is
+/// read, then one of the right. The lesser is written, or an equal pair once, and then the next one
+/// of each input that was written is read, the left first. The first fault that is met in this
+/// order is the answer, and what is held back is written before it.
+pub fn merge_streams<R1: Input, R2: Input, W: Output>(
+    alloc: Global,
+    left: &mut R1,
+    right: &mut R2,
+    writer: &mut W,
+) -> Result<u64, MergeFault>
+    ensures read_left { R1.failures left.old < 2 ^ 63 →
+        IsErrOf result (MergeFault.Read Side.Left) → R1.failures left.old < R1.failures left.new }
+    ensures read_right { R2.failures right.old < 2 ^ 63 →
+        IsErrOf result (MergeFault.Read Side.Right) → R2.failures right.old < R2.failures right.new }
+    ensures writer { WriteFailed result (W.failures writer.old) (W.failures writer.new) }
+    ensures memory { IsErrOf result MergeFault.Memory → (left.new ≡ left.old)
+        × (right.new ≡ right.old) × (writer.new ≡ writer.old) }
+{
+    let Ok(mut merge) = Merge::new(alloc) else {
+        return Err(MergeFault::Memory);
+    };
+    let answer = merge.join(left, right, writer);
+    if let Err(MergeFault::Write { sent }) = answer {
+        return Err(MergeFault::Write { sent });
+    }
+    if let Err(WriteFault { sent }) = merge.held.finish(writer) {
+        return Err(MergeFault::Write { sent });
+    }
+    answer?;
+    Ok(merge.count)
+}

@@ -1,0 +1,140 @@
+use crate::{MergeFault, Side, merge_streams};
+use archive_text::ArchiveFault;
+use std::io::Read;
+use std::test::Fail;
+use syslog_value::{FromRead, Fuse, ToWrite};
+
+// the texts of three entries, in their order
+const A: &[u8] = b"19 <13>1 - h a - - - x";
+
+const C: &[u8] = b"45 <12>1 2024-02-29T23:00:00.000000Z h a - - - z";
+
+const B: &[u8] = b"45 <14>1 2024-02-29T23:30:00.000000Z h a - - - y";
+
+fn text(rt: &HostRuntime, parts: &[&[u8]]) -> Result<Vec<u8>, Fail> {
+    let mut text = Vec::new(rt.alloc());
+    for part in parts {
+        text.extend_from_slice(part)?;
+    }
+    Ok(text)
+}
+
+// what is answered for two texts, and what is written then
+fn joined(
+    rt: &HostRuntime,
+    left: &[u8],
+    right: &[u8],
+) -> Result<(Result<u64, MergeFault>, Vec<u8>), Fail> {
+    let mut left = FromRead::new(left);
+    let mut right = FromRead::new(right);
+    let mut writer = ToWrite::new(Vec::new(rt.alloc()));
+    let answer = merge_streams(rt.alloc(), &mut left, &mut right, &mut writer);
+    Ok((answer, writer.into_inner()))
+}
+
+fn bad_frame(at: u64) -> ArchiveFault {
+    ArchiveFault::BadFrame { at }
+}
+
+#[test]
+fn the_union_is_written_both_ways_round(rt: HostRuntime) -> Result<(), Fail> {
+    let ac = text(&rt, &[A, C])?;
+    let ab = text(&rt, &[A, B])?;
+    let acb = text(&rt, &[A, C, B])?;
+    assert_eq!(rt; acb.len(), 118);
+    let (answer, written) = joined(&rt, &ac, &ab)?;
+    assert_eq!(rt; answer, Ok(3));
+    assert!(rt; written == acb);
+    let (answer, written) = joined(&rt, &ab, &ac)?;
+    assert_eq!(rt; answer, Ok(3));
+    assert!(rt; written == acb);
+    let (answer, written) = joined(&rt, &acb, &acb)?;
+    assert_eq!(rt; answer, Ok(3));
+    assert!(rt; written == acb);
+    let (answer, written) = joined(&rt, b"", b"")?;
+    assert_eq!(rt; answer, Ok(0));
+    assert!(rt; written.is_empty());
+    Ok(())
+}
+
+#[test]
+fn what_comes_before_a_fault_is_written(rt: HostRuntime) -> Result<(), Fail> {
+    let ax = text(&rt, &[A, b"x"])?;
+    let (answer, written) = joined(&rt, &ax, b"")?;
+    assert_eq!(rt; answer, Err(MergeFault::Left(bad_frame(22))));
+    assert_eq!(rt; written.as_slice(), A);
+    let (answer, written) = joined(&rt, &ax, b"x")?;
+    assert_eq!(rt; answer, Err(MergeFault::Right(bad_frame(0))));
+    assert!(rt; written.is_empty());
+    let (answer, written) = joined(&rt, b"x", b"x")?;
+    assert_eq!(rt; answer, Err(MergeFault::Left(bad_frame(0))));
+    assert!(rt; written.is_empty());
+    let ba = text(&rt, &[B, A])?;
+    let (answer, written) = joined(&rt, &ba, b"")?;
+    assert_eq!(rt;
+        answer,
+        Err(MergeFault::Left(ArchiveFault::NotAscending { at: 48 }))
+    );
+    assert_eq!(rt; written.as_slice(), B);
+    Ok(())
+}
+
+#[test]
+fn a_cut_archive_is_written_up_to_its_last_whole_entry(rt: HostRuntime) -> Result<(), Fail> {
+    let acb = text(&rt, &[A, C, B])?;
+    for n in 0..118 {
+        let whole = if n < 22 {
+            0
+        } else if n < 70 {
+            22
+        } else {
+            70
+        };
+        let (answer, written) = joined(&rt, &acb[..n], b"")?;
+        let count = if n == 0 {
+            Ok(0)
+        } else if n == 22 {
+            Ok(1)
+        } else if n == 70 {
+            Ok(2)
+        } else {
+            Err(MergeFault::Left(bad_frame(n as u64)))
+        };
+        assert_eq!(rt; answer, count);
+        assert_eq!(rt; written.as_slice(), &acb[..whole]);
+    }
+    Ok(())
+}
+
+#[test]
+fn a_failed_device_is_reported(rt: HostRuntime) -> Result<(), Fail> {
+    let mut left = FromRead::new(A);
+    let mut right = FromRead::new(b"".as_slice());
+    let mut writer = Fuse::new(ToWrite::new(Vec::new(rt.alloc())), 5, 9);
+    let answer = merge_streams(rt.alloc(), &mut left, &mut right, &mut writer);
+    assert_eq!(rt; answer, Err(MergeFault::Write { sent: 5 }));
+    assert_eq!(rt; writer.into_inner().into_inner().as_slice(), &A[..5]);
+    let mut left = FromRead::new(A);
+    let mut right = Fuse::new(FromRead::new(A), 99, 0);
+    let mut writer = ToWrite::new(Vec::new(rt.alloc()));
+    let answer = merge_streams(rt.alloc(), &mut left, &mut right, &mut writer);
+    assert_eq!(rt; answer, Err(MergeFault::Read(Side::Right)));
+    let mut left = FromRead::new(std::io::repeat(b'1'));
+    let answer = merge_streams(rt.alloc(), &mut left, &mut right, &mut writer);
+    assert_eq!(rt; answer, Err(MergeFault::Left(bad_frame(10))));
+    Ok(())
+}
+
+#[test]
+fn a_text_is_cut_anywhere(rt: HostRuntime) -> Result<(), Fail> {
+    let acb = text(&rt, &[A, C, B])?;
+    for cut in 0..118 {
+        let mut left = FromRead::new((&acb[..cut]).chain(&acb[cut..]));
+        let mut right = FromRead::new(C);
+        let mut writer = ToWrite::new(Vec::new(rt.alloc()));
+        let answer = merge_streams(rt.alloc(), &mut left, &mut right, &mut writer);
+        assert_eq!(rt; answer, Ok(3));
+        assert!(rt; writer.into_inner() == acb);
+    }
+    Ok(())
+}
