@@ -1,9 +1,9 @@
 -- What a connection does with octets, over what the scanner's calls ensure.
 use Rattle.std.proofs.Common.{◌≡◌, ◌≢◌, ℕ, ◌+◌, ◌-◌, ◌<◌, ◌≤◌, List, [], ◌∷◌, ◌++◌, length, take, drop, inl, inr, refl, sym, ap, ◌∙◌, subst, append_assoc, arith}
 use Rattle.std.specs.Prelude.{◌⊎◌, ◌↔◌, Option, Some, None, Result, Ok, Err, Bool, true, false, IsTrue}
-use Rattle.std.proofs.lemmas.List.{append-nil, length-append, length-take}
+use Rattle.std.proofs.lemmas.List.{append-nil, length-take}
 use Rattle.octet_language.specs.Language.{Begins}
-use Rattle.syslog_frame.specs.Frames.{Frame, Frames, IsBadAt, Whole, framed, CanCarry}
+use Rattle.syslog_frame.specs.Frames.{Frame, Frames, IsBadAt, Whole, framed}
 use Rattle.syslog_frame.specs.Reads.{Reads, ReadsOn}
 use Rattle.syslog_frame.specs.Scan.{Scan, HasBadCount, HasFrame, HasReady, IsFailed, IsReading, Stands}
 use Rattle.syslog_frame.specs.declared.fault.ScanFault.{ScanFault}
@@ -24,9 +24,9 @@ use Rattle.syslog_collect.specs.declared.connection.Connection.{Connection}
 use Rattle.syslog_collect.specs.declared.outcome.Outcome.{Outcome}
 use Rattle.syslog_collect.specs.declared.outcome.Outcome.TheVariants.{New, Held, Refused, TooLong, BadCount}
 use Rattle.syslog_collect.specs.Answers.{EndsInRecord, MarksBad, Moves, accepted_count}
-use Rattle.syslog_collect.specs.History.{IsBad, MayGrow, Stream, longer}
-use Rattle.syslog_collect.specs.Outcomes.{AreReported, HandlesFrame, HandlesReady, HasRecord, IsOutcome, IsReported, outcomes_of}
-use Rattle.syslog_collect.specs.Standing.{IsAt, IsBrokenAt, IsOpenAt}
+use Rattle.syslog_collect.specs.History.{IsBad, Stream, longer}
+use Rattle.syslog_collect.specs.Outcomes.{HandlesFrame, HandlesReady, HasRecord, IsOutcome, IsReported, outcomes_of}
+use Rattle.syslog_collect.specs.Standing.{IsAt, IsOpenAt}
 
 -- some frame begins with nothing
 begins_nothing : (kind : Framing) → Begins (Whole kind) []
@@ -238,6 +238,7 @@ advanced old new mid kept_old kept_new piece n m None s handled number p (quiet,
   where
     apart : (phase : Phase) → phase ≡ Ended → phase ≡ Failed → ⊥
     apart phase a b = absurd cc
+
     apart_bad : (phase : Phase) → phase ≡ phase_BadCount → phase ≡ Failed → ⊥
     apart_bad phase a b = absurd cc
 advanced old new mid kept_old kept_new piece n m (Some (BadCount offset)) s handled number p (bad, at_is, same) r bounds at =

@@ -1,6 +1,6 @@
 -- Octets of one connection, one after the other, and what was logged of them.
 use Rattle.std.proofs.Common.{◌≡◌, ℕ, ◌+◌, ◌-◌, ◌<◌, ◌≤◌, List, [], ◌∷◌, ◌++◌, length, take, drop, inl, inr, refl, sym, ◌∙◌, ap, subst, append_assoc, arith}
-use Rattle.std.specs.Prelude.{◌⊎◌, ◌↔◌, Option, Some, None, Result, Ok, Err}
+use Rattle.std.specs.Prelude.{◌⊎◌, Option, Some, None, Err}
 use Rattle.std.proofs.lemmas.List.{append-nil, length-append, length-drop, length-take, take-append-drop, take_all, take_rest}
 use Rattle.syslog_frame.specs.Scan.{HasReady, IsFailed, IsReading, Scan}
 use Rattle.syslog_frame.specs.declared.phase.Phase.{Phase}
@@ -9,7 +9,6 @@ use Rattle.syslog_frame.proofs.Cuts.{take_add}
 use Rattle.syslog_frame.proofs.FrameLaws.{bad_longer}
 use Rattle.archive_text.specs.Entries.{Entry}
 use Rattle.syslog_collect.specs.declared.connection.Connection.{Connection}
-use Rattle.syslog_collect.specs.declared.fault.Advance.{Advance}
 use Rattle.syslog_collect.specs.declared.fault.CollectFault.{CollectFault}
 use Rattle.syslog_collect.specs.declared.fault.CollectFault.TheVariants.{AlreadyOpen, TooManyOpen, NotOpen, ConnFailed, StreamTooLong, Unreleased, Unterminated, Memory}
 use Rattle.syslog_collect.specs.declared.outcome.Outcome.{Outcome}
@@ -63,20 +62,24 @@ moves_then x y z a b c o p os ps s d m n = record {
 pub logs_then : (x y z : Connection) (a b c : List Entry) (o p : List ℕ) (l m n : List Outcome) (s : Stream) (d : List (List ℕ)) → IsAt x s d → Logs x y a b o l m s d
     → ((t : Stream) (e : List (List ℕ)) → IsAt y t e → Logs y z b c p m n t e) → Logs x z a c (o ++ p) l n s d
 logs_then x y z a b c o p l m n s d at (os, log, inl (none, same, kept, quiet)) next =
-    let second = next s d (subst (λ (w : Connection). IsAt w s d) (sym same) at) in
-    (second.0, second.1 ∙ ap (λ (u : List Outcome). u ++ second.0) (log ∙ ap (λ (u : List Outcome). l ++ u) quiet ∙ append-nil l),
-    subst (λ (u : List ℕ). MovesOrStays x z a c (u ++ p) second.0 s d) (sym none)
-    (subst (λ (w : Connection). MovesOrStays w z a c p second.0 s d) same (subst (λ (w : List Entry). MovesOrStays y z w c p second.0 s d) kept second.2)))
+    let second = next s d (subst (λ (w : Connection). IsAt w s d) (sym same) at) in (
+      second.0,
+      second.1 ∙ ap (λ (u : List Outcome). u ++ second.0) (log ∙ ap (λ (u : List Outcome). l ++ u) quiet ∙ append-nil l),
+      subst (λ (u : List ℕ). MovesOrStays x z a c (u ++ p) second.0 s d) (sym none)
+          (subst (λ (w : Connection). MovesOrStays w z a c p second.0 s d) same (subst (λ (w : List Entry). MovesOrStays y z w c p second.0 s d) kept second.2)),
+    )
 logs_then x y z a b c o p l m n s d at (os, log, inr moved) next =
-    let second = next (longer s o) (d ++ moved.fresh) moved.now_at in
-    (os ++ second.0, second.1 ∙ ap (λ (u : List Outcome). u ++ second.0) log ∙ append_assoc l os second.0,
-    elim second.2 [
-      | inl (none, same, kept, quiet) ↦
-          subst (λ (u : List ℕ). MovesOrStays x z a c u (os ++ second.0) s d) (sym (ap (λ (v : List ℕ). o ++ v) none ∙ append-nil o))
-          (subst (λ (u : List Outcome). MovesOrStays x z a c o u s d) (sym (ap (λ (v : List Outcome). os ++ v) quiet ∙ append-nil os))
-          (subst (λ (w : Connection). MovesOrStays x w a c o os s d) (sym same) (subst (λ (w : List Entry). MovesOrStays x y a w o os s d) (sym kept) (inr moved))))
-      | inr more ↦ inr (moves_then x y z a b c o p os second.0 s d moved more)
-    ])
+    let second = next (longer s o) (d ++ moved.fresh) moved.now_at in (
+      os ++ second.0,
+      second.1 ∙ ap (λ (u : List Outcome). u ++ second.0) log ∙ append_assoc l os second.0,
+      elim second.2 [
+        | inl (none, same, kept, quiet) ↦
+            subst (λ (u : List ℕ). MovesOrStays x z a c u (os ++ second.0) s d) (sym (ap (λ (v : List ℕ). o ++ v) none ∙ append-nil o))
+            (subst (λ (u : List Outcome). MovesOrStays x z a c o u s d) (sym (ap (λ (v : List Outcome). os ++ v) quiet ∙ append-nil os))
+            (subst (λ (w : Connection). MovesOrStays x w a c o os s d) (sym same) (subst (λ (w : List Entry). MovesOrStays x y a w o os s d) (sym kept) (inr moved))))
+        | inr more ↦ inr (moves_then x y z a b c o p os second.0 s d moved more)
+      ],
+    )
 
 pub logs_on : (x y z : Connection) (a b c : List Entry) (o p whole : List ℕ) (l m n : List Outcome) (s : Stream) (d : List (List ℕ)) → o ++ p ≡ whole → IsAt x s d → Logs x y a b o l m s d
     → ((t : Stream) (e : List (List ℕ)) → IsAt y t e → Logs y z b c p m n t e) → Logs x z a c whole l n s d
