@@ -1,6 +1,6 @@
 -- A run, event by event.
 use Rattle.std.proofs.Common.{◌≡◌, ℕ, zero, suc, ◌+◌, ◌<◌, true, false, cond, eqb, List, [], ◌∷◌, ◌++◌, length, take, drop, get_or, set as set_at, inl, inr, append_assoc, refl, sym, ◌∙◌, ap, subst, arith}
-use Rattle.std.specs.Prelude.{Option, Some, None, Result, Ok, Err}
+use Rattle.std.specs.Prelude.{Some, Result, Ok, Err}
 use Rattle.std.proofs.lemmas.List.{append-nil}
 use denote.Bor.{Bor}
 use Rattle.syslog_frame.specs.declared.framing.Framing.{Framing}
@@ -15,12 +15,12 @@ use Rattle.syslog_collect.specs.declared.fault.CollectFault.TheVariants.{Already
 use Rattle.syslog_collect.specs.declared.outcome.Outcome.{Outcome}
 use Rattle.syslog_collect.specs.Answers.{told_ending, told_opening}
 use Rattle.syslog_collect.specs.History.{History, MayGrow, Piece, Stream, Told, after, hear, joined, longer, nothing}
-use Rattle.syslog_collect.specs.Outcomes.{AreReported, IsOutcome, IsReported, outcomes_of}
+use Rattle.syslog_collect.specs.Outcomes.{AreReported, IsOutcome, IsReported}
 use Rattle.syslog_collect.specs.declared.outcome.Outcome.TheVariants.{New, Held, Refused, TooLong, BadCount}
 use Rattle.syslog_collect.specs.Runs.{Logs, LogsFrames, event_end, piece_octets, told_all, told_by, told_datagram_end, told_event, told_first, told_octets, told_part}
 use Rattle.syslog_collect.specs.Standing.{IsAt, Stands, StandsAt}
 use Rattle.syslog_collect.proofs.Pieces.{reported_then}
-use Rattle.syslog_collect.proofs.Places.{AtPlace, MovesOn, found_here, opening_at, place_from}
+use Rattle.syslog_collect.proofs.Places.{MovesOn, found_here, opening_at, place_from}
 use Rattle.syslog_collect.proofs.Steps.{moved, step}
 
 -- ---- a piece, by what was logged of it

@@ -2,7 +2,6 @@
 use Rattle.std.proofs.Common.{◌≡◌, ℕ, List, [], ◌∷◌, ◌++◌, inl, inr, refl, sym, ap, ◌∙◌, subst, append_assoc, arith}
 use Rattle.std.specs.Prelude.{◌⊎◌, ◌↔◌}
 use Rattle.archive_text.specs.Entries.{Entry, Has, IsEntryOf}
-use Rattle.archive_text.specs.Stores.{IsInserted}
 use Rattle.syslog_collect.specs.declared.outcome.Outcome.{Outcome}
 use Rattle.syslog_collect.specs.declared.outcome.Outcome.TheVariants.{New, Held, Refused, TooLong, BadCount}
 use Rattle.syslog_collect.specs.Frames.{Gains, IsEntryOfFrame, IsSpelled, all_of}

@@ -137,5 +137,5 @@ pub reports_found : (c n : ℕ) (x y : Connection) (ls : List Connection) (kept 
 reports_found c n x y ls kept now first es piece (Ok a) is item moves quiet was =
     let there = opening_at c n x ls (after nothing es).streams was.stands_at.handled was.stands_at.follow (found_here c n x ls is item) in
     let m = moves there.opening there.handled there.at in
-    rw there.is (there.handled, m.fresh, one_settled y (longer there.opening (used_octets piece a)) (there.handled ++ m.fresh) m.now_at (λ f. quiet (inl f)), m.reported)
+    rw there.is (there.handled, m.fresh, one_settled y (longer there.opening (used_octets piece a)) (there.handled ++ m.fresh) m.now_at (λ f. quiet (inl f)), m.reported, m.marks)
 reports_found c n x y ls kept now first es piece (Err fault) is item moves quiet was = tt

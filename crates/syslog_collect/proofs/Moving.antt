@@ -1,9 +1,9 @@
 -- What a connection does with octets, over what the scanner's calls ensure.
 use Rattle.std.proofs.Common.{◌≡◌, ◌≢◌, ℕ, ◌+◌, ◌-◌, ◌<◌, ◌≤◌, List, [], ◌∷◌, ◌++◌, length, take, drop, inl, inr, refl, sym, ap, ◌∙◌, subst, append_assoc, arith}
 use Rattle.std.specs.Prelude.{◌⊎◌, ◌↔◌, Option, Some, None, Result, Ok, Err, Bool, true, false, IsTrue}
-use Rattle.std.proofs.lemmas.List.{append-nil, length-append, length-take}
+use Rattle.std.proofs.lemmas.List.{append-nil, length-take}
 use Rattle.octet_language.specs.Language.{Begins}
-use Rattle.syslog_frame.specs.Frames.{Frame, Frames, IsBadAt, Whole, framed, CanCarry}
+use Rattle.syslog_frame.specs.Frames.{Frame, Frames, IsBadAt, Whole, framed}
 use Rattle.syslog_frame.specs.Reads.{Reads, ReadsOn}
 use Rattle.syslog_frame.specs.Scan.{Scan, HasBadCount, HasFrame, HasReady, IsFailed, IsReading, Stands}
 use Rattle.syslog_frame.specs.declared.fault.ScanFault.{ScanFault}
@@ -23,10 +23,10 @@ use Rattle.archive_text.specs.Entries.{Entry}
 use Rattle.syslog_collect.specs.declared.connection.Connection.{Connection}
 use Rattle.syslog_collect.specs.declared.outcome.Outcome.{Outcome}
 use Rattle.syslog_collect.specs.declared.outcome.Outcome.TheVariants.{New, Held, Refused, TooLong, BadCount}
-use Rattle.syslog_collect.specs.Answers.{EndsInRecord, Moves, accepted_count}
-use Rattle.syslog_collect.specs.History.{IsBad, MayGrow, Stream, longer}
-use Rattle.syslog_collect.specs.Outcomes.{AreReported, HandlesFrame, HandlesReady, HasRecord, IsOutcome, IsReported, outcomes_of}
-use Rattle.syslog_collect.specs.Standing.{IsAt, IsBrokenAt, IsOpenAt}
+use Rattle.syslog_collect.specs.Answers.{EndsInRecord, MarksBad, Moves, accepted_count}
+use Rattle.syslog_collect.specs.History.{IsBad, Stream, longer}
+use Rattle.syslog_collect.specs.Outcomes.{HandlesFrame, HandlesReady, HasRecord, IsOutcome, IsReported, outcomes_of}
+use Rattle.syslog_collect.specs.Standing.{IsAt, IsOpenAt}
 
 -- some frame begins with nothing
 begins_nothing : (kind : Framing) → Begins (Whole kind) []
@@ -167,12 +167,13 @@ module _ (old new : Connection) (kept_old kept_new : List Entry) (s : Stream) (h
       });
     };
     reported = (refl, kept);
+    marks = tt;
   }
 
   -- a frame was handled
   pub handles_frame : (mid : Scan) (o : Outcome) → IsPushed old.scanner mid piece n → IsReleased mid new.scanner → HandlesFrame mid kept_old kept_new o
-      → ((f : List ℕ) → IsOutcome kept_old kept_new f o → IsReported kept_old kept_new (f ∷ []) o) → Moves old new kept_old kept_new (take n piece) (o ∷ []) s handled
-  handles_frame mid o p r (ready, h) reports =
+      → ((f : List ℕ) → IsOutcome kept_old kept_new f o → IsReported kept_old kept_new (f ∷ []) o) → ((t : Stream) → MarksBad (o ∷ []) t) → Moves old new kept_old kept_new (take n piece) (o ∷ []) s handled
+  handles_frame mid o p r (ready, h) reports unmarked =
       let on = (p.reads s.framing 0 s.octets handled at.rest at.reads at.good).reads in
       let f = h s.framing 0 (s.octets ++ take n piece) handled (at.rest ++ take n piece) on in
       record {
@@ -187,12 +188,13 @@ module _ (old new : Connection) (kept_old kept_new : List Entry) (s : Stream) (h
           });
         };
         reported = (f.0 ∷ [], [], kept_new, refl, reports f.0 f.2, (refl, refl));
+        marks = unmarked (longer s (take n piece));
       }
 
   -- a bad count was met, and released; m octets are accepted
-  pub breaks : (mid : Scan) (offset m : ℕ) → IsPushed old.scanner mid piece n → IsReleased mid new.scanner → HasBadCount mid → n < m → m ≤ length piece → kept_new ≡ kept_old
+  pub breaks : (mid : Scan) (offset m : ℕ) → offset ≡ mid.position → IsPushed old.scanner mid piece n → IsReleased mid new.scanner → HasBadCount mid → n < m → m ≤ length piece → kept_new ≡ kept_old
       → Moves old new kept_old kept_new (take m piece) (BadCount offset ∷ []) s handled
-  breaks mid offset m p r bad lt le kept =
+  breaks mid offset m at_is p r bad lt le kept =
       let on = p.reads s.framing 0 s.octets handled at.rest at.reads at.good in
       let more = take (m - (n + 1)) (drop (n + 1) piece) in
       let none_ready : ¬ (HasReady old.scanner) = λ ready. elim ready [
@@ -200,6 +202,9 @@ module _ (old new : Connection) (kept_old kept_new : List Entry) (s : Stream) (h
         | inr count ↦ at.good count
       ] in
       let reading : IsReading old.scanner = (none_ready, p.live) in
+      let rest = (at.rest ++ take (n + 1) piece) ++ more in
+      let here : offset ≡ length (s.octets ++ take n piece) = omega (arith, at_is, on.reads.stands.position_is) in
+      let broken = subst (λ (u : List ℕ). IsBadAt s.framing u handled rest (length (s.octets ++ take n piece))) (take_past s.octets piece n m lt) (on.bad bad more) in
       let past : ¬ (POSITION_MAX < old.scanner.position + length piece) = λ lt. p.room (reading, lt) in
       let room : length s.octets + length piece ≤ POSITION_MAX = omega (arith, position_of old.scanner s handled at, past) in
       record {
@@ -208,13 +213,14 @@ module _ (old new : Connection) (kept_old kept_new : List Entry) (s : Stream) (h
         now_at = record {
           number = number;
           scanner = inr (record {
-            rest = (at.rest ++ take (n + 1) piece) ++ more;
+            rest = rest;
             offset = length (s.octets ++ take n piece);
-            bad = rw append-nil (subst (λ (u : List ℕ). IsBadAt s.framing u handled ((at.rest ++ take (n + 1) piece) ++ more) (length (s.octets ++ take n piece))) (take_past s.octets piece n m lt) (on.bad bad more));
+            bad = rw append-nil broken;
             failed = r.failed bad;
           });
         };
         reported = ([], [], kept_new, refl, (refl, kept), (refl, refl));
+        marks = ((handled, rest, subst (λ (k : ℕ). IsBadAt s.framing (s.octets ++ take m piece) handled rest k) (sym here) broken), tt);
       }
 
 -- what is ready after a push was handled and released
@@ -232,20 +238,21 @@ advanced old new mid kept_old kept_new piece n m None s handled number p (quiet,
   where
     apart : (phase : Phase) → phase ≡ Ended → phase ≡ Failed → ⊥
     apart phase a b = absurd cc
+
     apart_bad : (phase : Phase) → phase ≡ phase_BadCount → phase ≡ Failed → ⊥
     apart_bad phase a b = absurd cc
 advanced old new mid kept_old kept_new piece n m (Some (BadCount offset)) s handled number p (bad, at_is, same) r bounds at =
     let here = open_unless_failed old s handled p.live at in
     let some = bounds (p.takes bad s.framing 0 s.octets handled here.rest here.reads here.good) in
-    breaks old new kept_old kept_new s handled piece n (number ∙ at.number) here mid offset m p r bad some.0 some.1 same
+    breaks old new kept_old kept_new s handled piece n (number ∙ at.number) here mid offset m at_is p r bad some.0 some.1 same
 advanced old new mid kept_old kept_new piece n m (Some New) s handled number p h r bounds at =
-    handles_frame old new kept_old kept_new s handled piece n (number ∙ at.number) (open_unless_failed old s handled p.live at) mid New p r h (λ f out. (f, refl, out))
+    handles_frame old new kept_old kept_new s handled piece n (number ∙ at.number) (open_unless_failed old s handled p.live at) mid New p r h (λ f out. (f, refl, out)) (λ t. tt)
 advanced old new mid kept_old kept_new piece n m (Some Held) s handled number p h r bounds at =
-    handles_frame old new kept_old kept_new s handled piece n (number ∙ at.number) (open_unless_failed old s handled p.live at) mid Held p r h (λ f out. (f, refl, out))
+    handles_frame old new kept_old kept_new s handled piece n (number ∙ at.number) (open_unless_failed old s handled p.live at) mid Held p r h (λ f out. (f, refl, out)) (λ t. tt)
 advanced old new mid kept_old kept_new piece n m (Some (Refused fault)) s handled number p h r bounds at =
-    handles_frame old new kept_old kept_new s handled piece n (number ∙ at.number) (open_unless_failed old s handled p.live at) mid (Refused fault) p r h (λ f out. (f, refl, out))
+    handles_frame old new kept_old kept_new s handled piece n (number ∙ at.number) (open_unless_failed old s handled p.live at) mid (Refused fault) p r h (λ f out. (f, refl, out)) (λ t. tt)
 advanced old new mid kept_old kept_new piece n m (Some TooLong) s handled number p h r bounds at =
-    handles_frame old new kept_old kept_new s handled piece n (number ∙ at.number) (open_unless_failed old s handled p.live at) mid TooLong p r h (λ f out. (f, refl, out))
+    handles_frame old new kept_old kept_new s handled piece n (number ∙ at.number) (open_unless_failed old s handled p.live at) mid TooLong p r h (λ f out. (f, refl, out)) (λ t. tt)
 
 -- octets were taken, and the memory of the frame that is ready was refused
 pub waiting : (old new : Connection) (kept_old kept_new : List Entry) (piece : List ℕ) (n : ℕ) (s : Stream) (handled : List (List ℕ))

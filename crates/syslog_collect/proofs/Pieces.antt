@@ -1,19 +1,19 @@
 -- Octets of one connection, one after the other, and what was logged of them.
 use Rattle.std.proofs.Common.{◌≡◌, ℕ, ◌+◌, ◌-◌, ◌<◌, ◌≤◌, List, [], ◌∷◌, ◌++◌, length, take, drop, inl, inr, refl, sym, ◌∙◌, ap, subst, append_assoc, arith}
-use Rattle.std.specs.Prelude.{◌⊎◌, ◌↔◌, Option, Some, None, Result, Ok, Err}
+use Rattle.std.specs.Prelude.{◌⊎◌, Option, Some, None, Err}
 use Rattle.std.proofs.lemmas.List.{append-nil, length-append, length-drop, length-take, take-append-drop, take_all, take_rest}
 use Rattle.syslog_frame.specs.Scan.{HasReady, IsFailed, IsReading, Scan}
 use Rattle.syslog_frame.specs.declared.phase.Phase.{Phase}
 use Rattle.syslog_frame.specs.declared.phase.Phase.TheVariants.{Counting, Inside, Ended as phase_Ended, BadCount as phase_BadCount, Failed}
 use Rattle.syslog_frame.proofs.Cuts.{take_add}
+use Rattle.syslog_frame.proofs.FrameLaws.{bad_longer}
 use Rattle.archive_text.specs.Entries.{Entry}
 use Rattle.syslog_collect.specs.declared.connection.Connection.{Connection}
-use Rattle.syslog_collect.specs.declared.fault.Advance.{Advance}
 use Rattle.syslog_collect.specs.declared.fault.CollectFault.{CollectFault}
 use Rattle.syslog_collect.specs.declared.fault.CollectFault.TheVariants.{AlreadyOpen, TooManyOpen, NotOpen, ConnFailed, StreamTooLong, Unreleased, Unterminated, Memory}
 use Rattle.syslog_collect.specs.declared.outcome.Outcome.{Outcome}
 use Rattle.syslog_collect.specs.declared.outcome.Outcome.TheVariants.{New, Held, Refused, TooLong, BadCount}
-use Rattle.syslog_collect.specs.Answers.{IsBadCount, IsUsedWithin, Moves, MovesBy, accepted_count, dropped_octets}
+use Rattle.syslog_collect.specs.Answers.{IsBadCount, IsUsedWithin, MarksBad, Moves, MovesBy, accepted_count, dropped_octets}
 use Rattle.syslog_collect.specs.History.{Stream, longer}
 use Rattle.syslog_collect.specs.Outcomes.{AreReported, outcomes_of}
 use Rattle.syslog_collect.specs.Runs.{Logs, MovesOrStays, pending, used_before}
@@ -31,6 +31,23 @@ reported_then a b c fs gs (o ∷ os) ps (here, rest, mid, is, one, more) later =
 longer_twice : (s : Stream) (o p : List ℕ) → longer (longer s o) p ≡ longer s (o ++ p)
 longer_twice s o p = ap (λ (z : List ℕ). let t : Stream = record { number = s.number; framing = s.framing; octets = z } in t) (append_assoc s.octets o p)
 
+-- a bad count of an opening is one of each longer opening
+marks_longer : (os : List Outcome) (s : Stream) (p : List ℕ) → MarksBad os s → MarksBad os (longer s p)
+marks_longer [] s p h = tt
+marks_longer (BadCount at ∷ os) s p ((f, r, bad), h) = ((f, r ++ p, bad_longer s.framing s.octets p f r at bad), marks_longer os s p h)
+marks_longer (New ∷ os) s p h = marks_longer os s p h
+marks_longer (Held ∷ os) s p h = marks_longer os s p h
+marks_longer (Refused fault ∷ os) s p h = marks_longer os s p h
+marks_longer (TooLong ∷ os) s p h = marks_longer os s p h
+
+marks_append : (os ps : List Outcome) (s : Stream) → MarksBad os s → MarksBad ps s → MarksBad (os ++ ps) s
+marks_append [] ps s h k = k
+marks_append (BadCount at ∷ os) ps s h k = (h.0, marks_append os ps s h.1 k)
+marks_append (New ∷ os) ps s h k = marks_append os ps s h k
+marks_append (Held ∷ os) ps s h k = marks_append os ps s h k
+marks_append (Refused fault ∷ os) ps s h k = marks_append os ps s h k
+marks_append (TooLong ∷ os) ps s h k = marks_append os ps s h k
+
 moves_then : (x y z : Connection) (a b c : List Entry) (o p : List ℕ) (os ps : List Outcome) (s : Stream) (d : List (List ℕ)) → (m : Moves x y a b o os s d)
     → Moves y z b c p ps (longer s o) (d ++ m.fresh) → Moves x z a c (o ++ p) (os ++ ps) s d
 moves_then x y z a b c o p os ps s d m n = record {
@@ -38,26 +55,31 @@ moves_then x y z a b c o p os ps s d m n = record {
   fresh = m.fresh ++ n.fresh;
   now_at = subst (λ (t : Stream). IsAt z t (d ++ (m.fresh ++ n.fresh))) (longer_twice s o p) (subst (λ (fs : List (List ℕ)). IsAt z (longer (longer s o) p) fs) (append_assoc d m.fresh n.fresh) n.now_at);
   reported = reported_then a b c m.fresh n.fresh os ps m.reported n.reported;
+  marks = subst (λ (t : Stream). MarksBad (os ++ ps) t) (longer_twice s o p) (marks_append os ps (longer (longer s o) p) (marks_longer os (longer s o) p m.marks) n.marks);
 }
 
 -- what was logged of octets, and then of more
 pub logs_then : (x y z : Connection) (a b c : List Entry) (o p : List ℕ) (l m n : List Outcome) (s : Stream) (d : List (List ℕ)) → IsAt x s d → Logs x y a b o l m s d
     → ((t : Stream) (e : List (List ℕ)) → IsAt y t e → Logs y z b c p m n t e) → Logs x z a c (o ++ p) l n s d
 logs_then x y z a b c o p l m n s d at (os, log, inl (none, same, kept, quiet)) next =
-    let second = next s d (subst (λ (w : Connection). IsAt w s d) (sym same) at) in
-    (second.0, second.1 ∙ ap (λ (u : List Outcome). u ++ second.0) (log ∙ ap (λ (u : List Outcome). l ++ u) quiet ∙ append-nil l),
-    subst (λ (u : List ℕ). MovesOrStays x z a c (u ++ p) second.0 s d) (sym none)
-    (subst (λ (w : Connection). MovesOrStays w z a c p second.0 s d) same (subst (λ (w : List Entry). MovesOrStays y z w c p second.0 s d) kept second.2)))
+    let second = next s d (subst (λ (w : Connection). IsAt w s d) (sym same) at) in (
+      second.0,
+      second.1 ∙ ap (λ (u : List Outcome). u ++ second.0) (log ∙ ap (λ (u : List Outcome). l ++ u) quiet ∙ append-nil l),
+      subst (λ (u : List ℕ). MovesOrStays x z a c (u ++ p) second.0 s d) (sym none)
+          (subst (λ (w : Connection). MovesOrStays w z a c p second.0 s d) same (subst (λ (w : List Entry). MovesOrStays y z w c p second.0 s d) kept second.2)),
+    )
 logs_then x y z a b c o p l m n s d at (os, log, inr moved) next =
-    let second = next (longer s o) (d ++ moved.fresh) moved.now_at in
-    (os ++ second.0, second.1 ∙ ap (λ (u : List Outcome). u ++ second.0) log ∙ append_assoc l os second.0,
-    elim second.2 [
-      | inl (none, same, kept, quiet) ↦
-          subst (λ (u : List ℕ). MovesOrStays x z a c u (os ++ second.0) s d) (sym (ap (λ (v : List ℕ). o ++ v) none ∙ append-nil o))
-          (subst (λ (u : List Outcome). MovesOrStays x z a c o u s d) (sym (ap (λ (v : List Outcome). os ++ v) quiet ∙ append-nil os))
-          (subst (λ (w : Connection). MovesOrStays x w a c o os s d) (sym same) (subst (λ (w : List Entry). MovesOrStays x y a w o os s d) (sym kept) (inr moved))))
-      | inr more ↦ inr (moves_then x y z a b c o p os second.0 s d moved more)
-    ])
+    let second = next (longer s o) (d ++ moved.fresh) moved.now_at in (
+      os ++ second.0,
+      second.1 ∙ ap (λ (u : List Outcome). u ++ second.0) log ∙ append_assoc l os second.0,
+      elim second.2 [
+        | inl (none, same, kept, quiet) ↦
+            subst (λ (u : List ℕ). MovesOrStays x z a c u (os ++ second.0) s d) (sym (ap (λ (v : List ℕ). o ++ v) none ∙ append-nil o))
+            (subst (λ (u : List Outcome). MovesOrStays x z a c o u s d) (sym (ap (λ (v : List Outcome). os ++ v) quiet ∙ append-nil os))
+            (subst (λ (w : Connection). MovesOrStays x w a c o os s d) (sym same) (subst (λ (w : List Entry). MovesOrStays x y a w o os s d) (sym kept) (inr moved))))
+        | inr more ↦ inr (moves_then x y z a b c o p os second.0 s d moved more)
+      ],
+    )
 
 pub logs_on : (x y z : Connection) (a b c : List Entry) (o p whole : List ℕ) (l m n : List Outcome) (s : Stream) (d : List (List ℕ)) → o ++ p ≡ whole → IsAt x s d → Logs x y a b o l m s d
     → ((t : Stream) (e : List (List ℕ)) → IsAt y t e → Logs y z b c p m n t e) → Logs x z a c whole l n s d

@@ -1,5 +1,5 @@
 -- What a scanner has ready, and what becomes of it.
-use Rattle.std.proofs.Common.{◌≡◌, ℕ, List}
+use Rattle.std.proofs.Common.{ℕ, List}
 use Rattle.std.specs.Prelude.{Some}
 use Rattle.syslog_frame.specs.Frames.{Frame}
 use Rattle.syslog_frame.specs.Reads.{Reads}

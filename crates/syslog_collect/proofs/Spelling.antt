@@ -1,12 +1,11 @@
 -- The entry of the record that octets spell.
-use Rattle.std.proofs.Common.{◌≡◌, ℕ, ◌<◌, ◌≤◌, List, [], ◌∷◌, ◌++◌, length, refl, sym, ap, ◌∙◌, subst, arith, inl, inr}
-use Rattle.std.specs.Prelude.{ℤ, Option, Some, None, option_map, pos}
-use Rattle.octet_language.specs.Language.{Language, ◌⋅◌, Only, AnyOf}
+use Rattle.std.proofs.Common.{◌≡◌, ℕ, ◌<◌, ◌≤◌, List, [], ◌∷◌, ◌++◌, length, refl, sym, ap, ◌∙◌, subst, arith}
+use Rattle.std.specs.Prelude.{ℤ, Option, Some, None, pos}
+use Rattle.octet_language.specs.Language.{Language, ◌⋅◌, Only}
 use Rattle.syslog_value.specs.Parts.{Parts}
 use Rattle.syslog_value.specs.declared.civil.Civil.{Civil}
 use Rattle.syslog_value.specs.Instants.{IsCivil, instant_of}
 use Rattle.syslog_grammar.specs.Canonical.{Canonical, HeaderForm, SpacedWord, TimeForm, civil_text, message_form, priority_version_form, structured_data_form, word_form}
-use Rattle.syslog_grammar.specs.Time.{instant}
 use Rattle.syslog_grammar.specs.ViewParts.{IsViewOf, ViewParts}
 use Rattle.syslog_grammar.specs.WellFormed.{WellFormed}
 use Rattle.syslog_grammar.proofs.Bounded.{canonical_bounded}
@@ -28,8 +27,11 @@ spaced w = (word_form w, 32 ∷ [], refl, refl, refl)
 
 header : (r : Parts ℤ) (time : List ℕ) → TimeForm r.time time → (h : List ℕ) × HeaderForm r.priority r.time r.hostname r.app_name r.proc_id r.msg_id h
 unfolding HeaderForm
-header r time t = (_, join (Only (priority_version_form r.priority)) _ _ _ refl (join (TimeForm r.time ⋅ Only (32 ∷ [])) _ _ _ (join (TimeForm r.time) (Only (32 ∷ [])) _ _ t refl)
-    (join (SpacedWord r.hostname) _ _ _ (spaced r.hostname) (join (SpacedWord r.app_name) _ _ _ (spaced r.app_name) (join (SpacedWord r.proc_id) (SpacedWord r.msg_id) _ _ (spaced r.proc_id) (spaced r.msg_id))))))
+header r time t = (
+  _,
+  join (Only (priority_version_form r.priority)) _ _ _ refl (join (TimeForm r.time ⋅ Only (32 ∷ [])) _ _ _ (join (TimeForm r.time) (Only (32 ∷ [])) _ _ t refl)
+      (join (SpacedWord r.hostname) _ _ _ (spaced r.hostname) (join (SpacedWord r.app_name) _ _ _ (spaced r.app_name) (join (SpacedWord r.proc_id) (SpacedWord r.msg_id) _ _ (spaced r.proc_id) (spaced r.msg_id))))),
+)
 
 canonical : (r : Parts ℤ) (time : List ℕ) → TimeForm r.time time → (c : List ℕ) × Canonical r c
 canonical r time t =

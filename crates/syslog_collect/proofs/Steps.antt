@@ -1,12 +1,12 @@
 -- A step of the collector, over whole lists of events.
 use Rattle.std.proofs.Common.{◌≡◌, ℕ, ◌<◌, List, [], ◌∷◌, ◌++◌, length, set as set_at, get_or, inl, inr, append_assoc, refl, sym, ◌∙◌, ap, subst, arith}
-use Rattle.std.specs.Prelude.{◌≤◌, ◌+◌, Option, Some, None, Result, Ok, Err, IfOk, OnErr, IsSome, IsSomeAnd}
+use Rattle.std.specs.Prelude.{◌+◌, Option, Some, None, Result, Ok, Err, IfOk, OnErr, IsSome, IsSomeAnd}
 use Rattle.std.specs.List.{remove}
 use Rattle.std.proofs.lemmas.List.{append-nil}
 use Rattle.syslog_frame.specs.declared.framing.Framing.{Framing}
 use Rattle.syslog_frame.specs.declared.limits.TheConstants.{FRAME_MAX}
 use Rattle.syslog_frame.specs.Reads.{Reads}
-use Rattle.syslog_frame.specs.Scan.{HasBadCount, IsFailed, IsReading, Scan}
+use Rattle.syslog_frame.specs.Scan.{IsFailed, IsReading, Scan}
 use Rattle.syslog_frame.specs.Frames.{Frames}
 use Rattle.archive_text.specs.Entries.{Entry}
 use Rattle.syslog_collect.specs.declared.connection.Connection.{Connection}
@@ -16,13 +16,13 @@ use Rattle.syslog_collect.specs.declared.fault.CollectFault.TheVariants.{Already
 use Rattle.syslog_collect.specs.declared.limits.TheConstants.{CONNECTIONS_MAX}
 use Rattle.syslog_collect.specs.declared.outcome.Outcome.{Outcome}
 use Rattle.syslog_collect.specs.Answers.{IsAnswerAt, IsCause, IsUnfinished, Moves, MovesBy, told_datagram, told_piece}
-use Rattle.syslog_collect.specs.Frames.{AreFramesOf, Gains, IsSpelled, all_of}
-use Rattle.syslog_collect.specs.History.{AreAcceptable, Datagram, IsBad, Ended, History, MayHear, MayHearAll, Opened, Piece, Stream, Told, after, hear, joined, nothing, stream_of, without}
-use Rattle.syslog_collect.specs.Outcomes.{AreReported, IsOutcome}
-use Rattle.syslog_collect.specs.Standing.{AreAt, IsAt, Stands, StandsAt}
+use Rattle.syslog_collect.specs.Frames.{AreFramesOf, Gains, all_of}
+use Rattle.syslog_collect.specs.History.{Datagram, IsBad, Ended, History, MayHear, MayHearAll, Opened, Piece, Stream, Told, after, hear, nothing, stream_of}
+use Rattle.syslog_collect.specs.Outcomes.{IsOutcome}
+use Rattle.syslog_collect.specs.Standing.{IsAt, Stands, StandsAt}
 use Rattle.syslog_collect.proofs.Gains.{Joins, SpellSame, all_of-append, gains_also, gains_frame, gains_more, gains_nothing, gains_reported, joins_append, joins_before, spelled_after, spelled_before, spelled_either}
 use Rattle.syslog_collect.proofs.Moving.{good_open, open_unless_failed}
-use Rattle.syslog_collect.proofs.Places.{AtPlace, Closed, HasOpening, IsHandled, MovesOn, advance_at, close_at, follow_push, found_at, found_here, no_stream, opening_at, place_from, same_count, set_same}
+use Rattle.syslog_collect.proofs.Places.{AtPlace, IsHandled, MovesOn, advance_at, close_at, follow_push, found_at, found_here, no_stream, opening_at, place_from, same_count, set_same}
 
 pub after-push : (h : History) (es : List Told) (e : Told) → after h (es ++ e ∷ []) ≡ hear (after h es) e
 after-push h [] e = refl

@@ -1,7 +1,7 @@
 -- What the collector's calls accept, by their answers.
-use Rattle.std.specs.Prelude.{◌≡◌, ℕ, ◌+◌, ◌<◌, ◌≤◌, ◌⊎◌, List, [], ◌∷◌, ◌++◌, length, take}
+use Rattle.std.specs.Prelude.{◌≡◌, ℕ, ◌+◌, ◌<◌, ◌≤◌, List, [], ◌∷◌, ◌++◌, length, take}
 use Rattle.std.specs.Prelude.{Option, Some, None, Result, Ok, Err, IsSome, IsSomeAnd}
-use Rattle.syslog_frame.specs.Frames.{Frames}
+use Rattle.syslog_frame.specs.Frames.{Frames, IsBadAt}
 use Rattle.syslog_frame.specs.declared.framing.Framing.{Framing}
 use Rattle.syslog_frame.specs.declared.limits.TheConstants.{POSITION_MAX}
 use Rattle.archive_text.specs.Entries.{Entry}
@@ -73,6 +73,19 @@ abbrev pub told_piece : ℕ → Option (List ℕ) → List Told
 told_piece c None = []
 told_piece c (Some octets) = Piece c octets ∷ []
 
+-- the octets of an opening are bad at this offset
+abbrev pub IsBadOffset : Stream → ℕ → Type 0
+IsBadOffset s at = (frames : List (List ℕ)) × (rest : List ℕ) × IsBadAt s.framing s.octets frames rest at
+
+-- each bad count among the outcomes is that of the opening, at its offset
+abbrev pub MarksBad : List Outcome → Stream → Type 0
+MarksBad [] s = Unit {0}
+MarksBad (BadCount at ∷ os) s = IsBadOffset s at × MarksBad os s
+MarksBad (New ∷ os) s = MarksBad os s
+MarksBad (Held ∷ os) s = MarksBad os s
+MarksBad (Refused fault ∷ os) s = MarksBad os s
+MarksBad (TooLong ∷ os) s = MarksBad os s
+
 -- what a connection at an opening does with octets: it is at the opening with them, these frames more
 -- were handled, and these outcomes report them
 pub record Moves (old new : Connection) (kept_old kept_new : List Entry) (octets : List ℕ)
@@ -81,6 +94,7 @@ pub record Moves (old new : Connection) (kept_old kept_new : List Entry) (octets
   pub fresh : List (List ℕ)
   pub now_at : IsAt new (longer s octets) (handled ++ fresh)
   pub reported : AreReported kept_old kept_new fresh outcomes
+  pub marks : MarksBad outcomes (longer s octets)
 
 -- by what was accepted: where nothing was, nothing changes
 abbrev pub MovesBy : Option (List ℕ) → Connection → Connection → List Entry → List Entry → List Outcome → Stream → List (List ℕ) → Type 0
@@ -130,7 +144,7 @@ IsAnswerAt c piece (Err (Unterminated start)) h = ⊥
 -- octets of a number complete these last frames of its opening, and the outcomes report them
 abbrev pub Reports : ℕ → List ℕ → History → List Entry → List Entry → List Outcome → Type 0
 Reports c octets h kept_old kept_new outcomes = IsSomeAnd (stream_of c h.streams) (λ s. (before : List (List ℕ)) × (last : List (List ℕ))
-    × IsFramesOf (longer s octets) (before ++ last) × AreReported kept_old kept_new last outcomes)
+    × IsFramesOf (longer s octets) (before ++ last) × AreReported kept_old kept_new last outcomes × MarksBad outcomes (longer s octets))
 
 -- the event that an opening adds
 abbrev pub told_opening : {U : Type 0} → ℕ → Framing → Result U CollectFault → List Told

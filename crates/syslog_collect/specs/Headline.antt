@@ -1,5 +1,5 @@
 -- When no frame is left ready, and what was received alike.
-use Rattle.std.specs.Prelude.{◌≡◌, ◌⊎◌, ◌↔◌, List, [], ◌∷◌}
+use Rattle.std.specs.Prelude.{◌⊎◌, ◌↔◌, List, [], ◌∷◌}
 use Rattle.syslog_frame.specs.Scan.{HasFrame}
 use Rattle.archive_text.specs.Entries.{Entry, Has}
 use Rattle.syslog_collect.specs.declared.connection.Connection.{Connection}

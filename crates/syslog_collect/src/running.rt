@@ -27,13 +27,7 @@ fn end_of(answer: Result<(), CollectFault>) -> EventEnd
 
 impl<S: Store> Collector<S> {
     /// A piece, advanced until its rest is empty, and at least once.
-    fn piece(
-        &mut self,
-        alloc: Global,
-        conn: u32,
-        octets: &[u8],
-        log: &mut Vec<Outcome>,
-    ) -> EventEnd
+    fn piece(&mut self, alloc: Global, conn: u32, octets: &[u8], log: &mut Vec<Outcome>) -> EventEnd
         ensures stands { (first : List Entry) (events : List Told)
             → Stands self.old.connections.items (S.entries self.old.store) first events
             → Stands self.new.connections.items (S.entries self.new.store) first
@@ -61,12 +55,7 @@ impl<S: Store> Collector<S> {
     }
 
     /// A datagram, whose outcome the log has room for.
-    fn logged_datagram(
-        &mut self,
-        alloc: Global,
-        octets: &[u8],
-        log: &mut Vec<Outcome>,
-    ) -> EventEnd
+    fn logged_datagram(&mut self, alloc: Global, octets: &[u8], log: &mut Vec<Outcome>) -> EventEnd
         requires { vec_len log.old < vec_capacity log.old }
         ensures stands { (first : List Entry) (events : List Told)
             → Stands self.old.connections.items (S.entries self.old.store) first events

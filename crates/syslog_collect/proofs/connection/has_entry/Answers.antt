@@ -1,6 +1,5 @@
 use Rattle.syslog_collect.proofs.Spelling.{has_entry_with, has_entry_without}
-use Rattle.std.proofs.Common.{sym, ◌∙◌}
-use Rattle.syslog_grammar.specs.ViewParts.{view_parts}
+use Rattle.std.proofs.Common.{sym}
 use Rattle.syslog_collect.proofs.connection.has_entry.Goals as goal
 
 pub returns-in-None : goal.returns-in-None

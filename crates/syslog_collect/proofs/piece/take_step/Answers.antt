@@ -1,5 +1,5 @@
-use Rattle.std.proofs.Common.{◌≡◌, ◌≤◌, List, ◌++◌, length, inl, inr, refl, ap, ◌∙◌, arith}
-use Rattle.std.specs.Prelude.{◌⊎◌, Bool, true, false, IsTrue}
+use Rattle.std.proofs.Common.{◌≡◌, ◌≤◌, List, ◌++◌, length, inl, inr, ap, ◌∙◌, arith}
+use Rattle.std.specs.Prelude.{◌⊎◌, Bool, false, IsTrue}
 use Rattle.std.proofs.lemmas.Bool.{both_ways}
 use Rattle.syslog_collect.specs.Answers.{IsBadCount}
 use Rattle.syslog_collect.specs.Outcomes.{outcomes_of}

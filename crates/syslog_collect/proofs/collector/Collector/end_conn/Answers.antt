@@ -1,4 +1,4 @@
-use Rattle.std.proofs.Common.{◌≡◌, ◌+◌, List, [], length, refl, sym, subst, arith}
+use Rattle.std.proofs.Common.{◌≡◌, List, [], sym, subst, arith}
 use Rattle.std.specs.Prelude.{Some, None}
 use Rattle.syslog_collect.specs.declared.connection.Connection.{Connection}
 use Rattle.syslog_collect.proofs.Headline.{settled_remove}

@@ -1,5 +1,4 @@
 use Rattle.std.proofs.Common.{List, ◌++◌, ap, ◌∙◌, refl, sym, subst}
-use Rattle.archive_text.specs.Entries.{Entry}
 use Rattle.syslog_collect.specs.History.{Told}
 use Rattle.syslog_collect.specs.declared.event.Event.{Event}
 use Rattle.syslog_collect.specs.declared.event.Event.TheVariants.{Opened, Ended}
