@@ -128,8 +128,8 @@ impl EntryList {
         Ok(())
     }
 
-    /// Adds an entry, or finds it.
-    pub fn add(&mut self, entry: &EntryView<'_>) -> Result<Added, AddFault>
+    // Adds an entry, or finds it.
+    fn add_entry(&mut self, entry: &EntryView<'_>) -> Result<Added, AddFault>
         requires { IsEntry (entry_of entry.now) }
         ensures ok { IfOk result (λ added. AddsEntry (entry_of entry.now) self.old self.new added) }
         ensures err { OnErr result (self.new ≡ self.old) }
@@ -146,6 +146,20 @@ impl EntryList {
             Ok(()) => Ok(Added::New),
             Err(AllocError) => Err(AddFault::Memory),
         }
+    }
+
+    /// Adds an entry, or finds it.
+    pub fn add(&mut self, entry: &EntryView<'_>) -> Result<Added, AddFault>
+        requires { IsEntry (entry_of entry.now) }
+        ensures ok { IfOk result (λ added. AddsEntry (entry_of entry.now) self.old self.new added) }
+        ensures err { OnErr result (self.new ≡ self.old) }
+        ensures long { IsErrOf result AddFault.TooLong →
+            ENTRY_MAX < length entry.now.octets.now }
+        ensures archive { IsArchive ENTRY_MAX self.new }
+    {
+        let added = self.add_entry(entry);
+        let _archive = self.len();
+        added
     }
 
     /// Whether an entry is above all others.

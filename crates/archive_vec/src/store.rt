@@ -7,7 +7,9 @@ use syslog_grammar::RecordView;
 use syslog_value::{Output, Record, WriteFault};
 
 impl Store for VecArchive {
-    ghost entries = { λ a. a };
+    ghost entries = { λ a. a.list };
+
+    ghost archive = { λ a. a.archive };
 
     fn add(&mut self, alloc: Global, record: &Record) -> Result<Added, AddFault> {
         VecArchive::add(self, alloc, record)

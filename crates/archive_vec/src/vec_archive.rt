@@ -9,13 +9,14 @@ ghost use Rattle.syslog_grammar.specs.WellFormed.{WellFormed};
 ghost use Rattle.archive_text.specs.Entries.{Entry, Has, IsEntryOf};
 ghost use Rattle.archive_text.specs.Text.{IsArchive, text_of};
 ghost use Rattle.archive_text.specs.Stores.{AddsRecord};
+ghost use Rattle.archive_text.specs.declared.limits.TheConstants.{ENTRY_MAX};
+ghost use Rattle.archive_laws.specs.Props.{archive_prop};
 ghost use Rattle.archive_vec.specs.Reads.{IsReadFault};
 
 use crate::entry_list::EntryList;
 use crate::reading::ReadFault;
 use archive_text::{AddFault, Added, ENTRY_MAX, EntryView, entry_of_octets};
 use std::alloc::{AllocError, Global};
-use std::marker::Model;
 use syslog_grammar::{RecordView, canon, put_canonical};
 use syslog_value::{Output, Record, WriteFault};
 
@@ -24,24 +25,18 @@ use syslog_value::{Output, Record, WriteFault};
 pub struct VecArchive {
     pub(crate) list: EntryList,
     pub(crate) scratch: Vec<u8>,
-}
-
-impl Model for VecArchive {
-    ghost use Rattle.std.specs.Prelude.{List};
-    ghost use Rattle.archive_text.specs.Entries.{Entry};
-
-    ghost Value = { List Entry };
-
-    ghost view = { λ a. a.list };
+    ghost archive: { IsArchive ENTRY_MAX list } by { archive_prop ENTRY_MAX list },
 }
 
 impl VecArchive {
     /// No records.
     pub fn new(alloc: Global) -> VecArchive
-        ensures { result ≡ [] }
+        ensures { result.list ≡ [] }
     {
+        let list = EntryList::new(alloc);
+        let _archive = list.len();
         VecArchive {
-            list: EntryList::new(alloc),
+            list,
             scratch: Vec::new(alloc),
         }
     }
@@ -49,7 +44,7 @@ impl VecArchive {
     /// The canonical octets of the entry with so many below it.
     pub fn get(&self, index: usize) -> Option<&[u8]>
         ensures { option_map (λ s. s.now) result
-            ≡ option_map (λ e. e.octets) (slice_get self.now index) }
+            ≡ option_map (λ e. e.octets) (slice_get self.now.list index) }
     {
         if index < self.list.len() {
             Some(self.list.at(index).octets)
@@ -60,8 +55,8 @@ impl VecArchive {
 
     /// Adds a record. A refusal leaves the set as it was.
     pub fn add(&mut self, alloc: Global, record: &Record) -> Result<Added, AddFault>
-        ensures ok { IfOk result (λ added. AddsRecord record.now self.old self.new added) }
-        ensures err { OnErr result (self.new ≡ self.old) }
+        ensures ok { IfOk result (λ added. AddsRecord record.now self.old.list self.new.list added) }
+        ensures err { OnErr result (self.new.list ≡ self.old.list) }
         ensures long { IsErrOf result AddFault.TooLong →
             (e : Entry) → IsEntryOf record.now e → ENTRY_MAX < length e.octets }
     {
@@ -78,8 +73,8 @@ impl VecArchive {
     /// Adds the record that a view shows, without a copy of its parts, as `add` does.
     pub fn add_view(&mut self, alloc: Global, view: &RecordView<'_>) -> Result<Added, AddFault>
         ensures ok { IfOk result (λ added. (b : List ℕ) → IsViewOf b (view_parts view.now) →
-            (r : Parts ℤ) × WellFormed r b × AddsRecord r self.old self.new added) }
-        ensures err { OnErr result (self.new ≡ self.old) }
+            (r : Parts ℤ) × WellFormed r b × AddsRecord r self.old.list self.new.list added) }
+        ensures err { OnErr result (self.new.list ≡ self.old.list) }
         ensures long { IsErrOf result AddFault.TooLong →
             (b : List ℕ) → IsViewOf b (view_parts view.now) →
             (r : Parts ℤ) (e : Entry) → WellFormed r b → IsEntryOf r e
@@ -90,16 +85,16 @@ impl VecArchive {
             return Err(AddFault::Memory);
         }
         // of a view of octets they are an entry
-        match entry_of_octets(self.scratch.as_slice()) {
-            Ok(entry) => self.list.add(&entry),
-            Err(_) => Err(AddFault::Memory),
-        }
+        let Ok(entry) = entry_of_octets(self.scratch.as_slice()) else {
+            return Err(AddFault::Memory);
+        };
+        self.list.add(&entry)
     }
 
     /// Whether a record is held.
     pub fn holds(&self, alloc: Global, record: &Record) -> Result<bool, AllocError>
         ensures { IfOk result (λ held. (e : Entry) → IsEntryOf record.now e →
-            (IsTrue held ↔ Has self.now e)) }
+            (IsTrue held ↔ Has self.now.list e)) }
     {
         let octets = canon(alloc, record)?;
         let _valid = record.priority();
@@ -112,8 +107,8 @@ impl VecArchive {
 
     /// How many records are held.
     pub fn len(&self) -> usize
-        ensures value { result ≡ length self.now }
-        ensures archive { IsArchive ENTRY_MAX self.now }
+        ensures value { result ≡ length self.now.list }
+        ensures archive { IsArchive ENTRY_MAX self.now.list }
     {
         self.list.len()
     }
@@ -122,11 +117,11 @@ impl VecArchive {
     /// fault says.
     pub fn write<W: Output>(&self, writer: &mut W) -> Result<(), WriteFault>
         ensures ok { OnOk result (Appends (W.taken writer.old) (W.taken writer.new)
-            (text_of self.now)) }
+            (text_of self.now.list)) }
         ensures no_failure { OnOk result (W.failures writer.new ≡ W.failures writer.old) }
-        ensures some_left { IfErr result (λ fault. fault.sent < length (text_of self.now)) }
+        ensures some_left { IfErr result (λ fault. fault.sent < length (text_of self.now.list)) }
         ensures sent { IfErr result (λ fault. Appends (W.taken writer.old) (W.taken writer.new)
-            (take fault.sent (text_of self.now))) }
+            (take fault.sent (text_of self.now.list))) }
         ensures cause { W.failures writer.old < 2 ^ 63 →
             OnErr result (W.failures writer.old < W.failures writer.new) }
     {
@@ -135,14 +130,17 @@ impl VecArchive {
 
     /// Reads an archive from its text, whose entries are then the archive's.
     pub fn read(alloc: Global, text: &[u8]) -> Result<VecArchive, ReadFault>
-        ensures ok { IfOk result (λ archive. text.now ≡ text_of archive) }
+        ensures ok { IfOk result (λ archive. text.now ≡ text_of archive.list) }
         ensures err { IfErr result (IsReadFault text.now) }
     {
         match EntryList::read(alloc, text) {
-            Ok(list) => Ok(VecArchive {
-                list,
-                scratch: Vec::new(alloc),
-            }),
+            Ok(list) => {
+                let _archive = list.len();
+                Ok(VecArchive {
+                    list,
+                    scratch: Vec::new(alloc),
+                })
+            }
             Err(fault) => Err(fault),
         }
     }
@@ -151,8 +149,8 @@ impl VecArchive {
 /// The archive of the records of two archives.
 pub fn merge(alloc: Global, left: &VecArchive, right: &VecArchive) -> Result<VecArchive, AllocError>
     ensures members { IfOk result (λ merged. (e : Entry) →
-        Has merged e ↔ (Has left.now e ⊎ Has right.now e)) }
-    ensures archive { IfOk result (λ merged. IsArchive ENTRY_MAX merged) }
+        Has merged.list e ↔ (Has left.now.list e ⊎ Has right.now.list e)) }
+    ensures archive { IfOk result (λ merged. IsArchive ENTRY_MAX merged.list) }
 {
     let list = left.list.merged(alloc, &right.list)?;
     let _archive = list.len();

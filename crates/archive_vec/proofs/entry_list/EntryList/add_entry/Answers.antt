@@ -1,6 +1,6 @@
 use Rattle.std.proofs.Common.{refl}
 use Rattle.archive_vec.proofs.Adding.{adds_held, adds_new}
-use Rattle.archive_vec.proofs.entry_list.EntryList.add.Goals as goal
+use Rattle.archive_vec.proofs.entry_list.EntryList.add_entry.Goals as goal
 
 pub returns-in_default-clause-ok : goal.returns-in_default-clause-ok
 returns-in_default-clause-ok c = adds_held _ _ _ _ c.in_default.ensures refl
