@@ -1,22 +1,21 @@
 -- The facts on an archive have one proof at most, as a ghost field must.
 use Rattle.std.proofs.Common.{◌≡◌, ℕ, ◌++◌, List, [], ◌∷◌, sym, ap, ◌∙◌, inl, inr, ◌⊎◌, refl, subst, arith}
 use Rattle.std.specs.Prelude.{ℤ, pos, Option, Some, None}
-use Rattle.std.specs.List.{AllByRecursion}
 use Rattle.std.specs.List.{AllByRecursion-prop}
 use Rattle.std.proofs.Props.{props}
 use Rattle.std.proofs.lemmas.List.{append_cancel_left}
 use Rattle.octet_language.specs.Language.{Language, Only, ◌⋅◌}
 use Rattle.syslog_value.specs.Instants.{IsCivil, instant_of}
 use Rattle.syslog_value.specs.Order.{OctetsBelow}
-use Rattle.syslog_value.specs.Parts.{ElementParts, IsById, IsInstant, IsMessage, IsRecord, MessageParts, AnyOctets, Utf8Text, Parts}
+use Rattle.syslog_value.specs.Parts.{ElementParts, IsById, IsMessage, IsRecord, MessageParts, AnyOctets, Utf8Text, Parts}
 use Rattle.syslog_value.specs.declared.civil.Civil.{Civil}
 use Rattle.syslog_value.proofs.CivilTimes.{civil-injective}
 use Rattle.syslog_grammar.specs.Canonical.{Canonical, HeaderForm, SpacedWord, TimeForm, civil_text, message_form, priority_version_form, structured_data_form, word_form}
-use Rattle.syslog_grammar.proofs.CanonicalParses.{canonical_injective, canonical_once, once}
+use Rattle.syslog_grammar.proofs.CanonicalParses.{canonical_injective, once}
 use Rattle.archive_text.specs.Entries.{Entry, InstantBelow, IsAscending, IsBelow, IsEntry, IsEntryOf}
 use Rattle.archive_text.specs.Text.{IsArchive}
 use Rattle.archive_text.proofs.Orders.{instant_irreflexive}
-use Rattle.archive_pages.specs.Pages.{ArePaged, HoldArchive, entries_of}
+use Rattle.archive_pages.specs.Pages.{ArePaged, HoldArchive}
 use Rattle.archive_pages.specs.Spans.{IsWithin, blocks_of, lists_of}
 use Rattle.archive_pages.specs.declared.arena.Arena.{Arena}
 use Rattle.archive_pages.specs.declared.arena.Span.{Span}
