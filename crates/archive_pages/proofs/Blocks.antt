@@ -1,9 +1,9 @@
 -- Entries stay where they are as blocks grow.
-use Rattle.std.proofs.Common.{◌≡◌, ℕ, ◌+◌, ◌<◌, ◌≤◌, List, [], ◌∷◌, ◌++◌, length, take, drop, map, refl, subst, sym, ap, ◌∙◌, ⊎_elim, arith, append-nil, length-append, length-drop}
+use Rattle.std.proofs.Common.{◌≡◌, ℕ, ◌+◌, ◌<◌, ◌≤◌, List, [], ◌∷◌, ◌++◌, length, take, drop, refl, subst, sym, ap, ◌∙◌, ⊎_elim, arith, append-nil, length-append, length-drop}
 use Rattle.std.specs.Prelude.{◌≢◌, Vec, slice_index_or, slice_set}
 use Rattle.std.specs.declared.alloc.Global.{Global}
 use Rattle.std.specs.List.{AllByRecursion}
-use Rattle.std.proofs.lemmas.List.{take-append-le, drop-append-le, get_or-map, get_or_append_left, get_or-set_same, get_or-set_other, length-set, get_or_at, length_push, length-map, map-set, set-get_or, take_all}
+use Rattle.std.proofs.lemmas.List.{take-append-le, drop-append-le, get_or-map, get_or_append_left, get_or-set_same, get_or-set_other, length-set, length_push, length-map, map-set, set-get_or, take_all}
 use Rattle.std.proofs.Math.Seq.{drop-append_seam}
 use Rattle.std.proofs.lemmas.Bool.{cases_eq}
 use Rattle.archive_text.specs.Entries.{Entry}

@@ -1,11 +1,11 @@
 -- Pages that are joined, and one more span in one of them.
-use Rattle.std.proofs.Common.{◌≡◌, ℕ, ◌+◌, ◌<◌, ◌≤◌, List, [], ◌∷◌, ◌++◌, length, take, drop, refl, sym, ap, ◌∙◌, subst, arith, append_assoc, take-append-drop, add-one, ◌-◌}
+use Rattle.std.proofs.Common.{◌≡◌, ℕ, ◌+◌, ◌<◌, ◌≤◌, List, [], ◌∷◌, ◌++◌, length, take, drop, sym, ap, ◌∙◌, subst, arith, append_assoc, take-append-drop, add-one, ◌-◌}
 use Rattle.std.specs.Prelude.{slice_index_or, slice_set}
 use Rattle.std.specs.List.{AllByRecursion}
 use Rattle.std.specs.Prelude.{Ok, Err, OnErr, OnOk, Result, Vec}
 use Rattle.std.specs.List.{insert}
 use Rattle.std.specs.declared.alloc.Global.{Global}
-use Rattle.std.proofs.lemmas.List.{append-nil, drop_more, drop-map, length-map, length-take-le, map-append, map-set, set-get_or, set_at, set_split, take-map, take_more}
+use Rattle.std.proofs.lemmas.List.{drop_more, drop-map, length-map, length-take-le, map-append, map-set, set-get_or, set_at, set_split, take-map, take_more}
 use Rattle.std.proofs.lemmas.List.Edits.{insert-append_right, length-insert}
 use Rattle.archive_pages.specs.Spans.{lists_of}
 use Rattle.archive_pages.proofs.Blocks.{list_at}

@@ -1,8 +1,8 @@
 -- An entry is sought among spans in order.
-use Rattle.std.proofs.Common.{◌≡◌, ℕ, ◌+◌, ◌-◌, ◌<◌, ◌≤◌, zero, suc, List, [], ◌∷◌, ◌++◌, length, take, drop, map, refl, sym, ap, ◌∙◌, subst, arith, inl, inr, append_assoc, take-append-drop}
+use Rattle.std.proofs.Common.{◌≡◌, ℕ, ◌+◌, ◌-◌, ◌<◌, ◌≤◌, zero, suc, List, [], ◌∷◌, ◌++◌, length, take, drop, map, sym, ap, ◌∙◌, subst, arith, inl, inr, append_assoc, take-append-drop}
 use Rattle.std.specs.Prelude.{slice_index_or}
 use Rattle.std.specs.List.{AllByRecursion}
-use Rattle.std.proofs.lemmas.List.{drop_more, get_or_default, map-append, take_more, take_all, drop_all}
+use Rattle.std.proofs.lemmas.List.{drop_more, get_or_default, map-append, take_more, drop_all}
 use Rattle.archive_text.specs.Entries.{Entry, Has, IsAscending, IsBelow, IsOrder}
 use Rattle.archive_text.proofs.Ascending.{ascending_left, ascending_right}
 use Rattle.archive_text.proofs.Members.{all_append, all_left, all_right, all_weaker, has_left, has_right}
@@ -12,7 +12,7 @@ use Rattle.std.specs.declared.alloc.Global.{Global}
 use Rattle.std.specs.declared.cmp.Ordering.{Ordering}
 use Rattle.std.specs.declared.cmp.Ordering.TheVariants.{Less, Equal, Greater}
 use Rattle.archive_pages.specs.Spans.{IsWithin, entries_at, entry_at, lists_of}
-use Rattle.archive_pages.specs.Pages.{AreSearchable, after, before, entries_of, joined, page_at}
+use Rattle.archive_pages.specs.Pages.{AreSearchable, entries_of, joined, page_at}
 use Rattle.archive_pages.specs.Places.{AreAbove, AreBelow, BeginsAbove, BeginsUpTo, GoesTo, IsLastOrder, IsPage}
 use Rattle.archive_pages.specs.declared.arena.Span.{Span}
 use Rattle.archive_pages.proofs.PageLists.{all_at, count_is, joined_from, joined_parts, joined_rest, page_is}

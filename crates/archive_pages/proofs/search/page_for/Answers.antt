@@ -1,4 +1,4 @@
-use Rattle.std.proofs.Common.{◌≡◌, ◌+◌, ◌-◌, ◌/◌, ap, arith, length, subst, sym, drop, take}
+use Rattle.std.proofs.Common.{◌≡◌, ◌+◌, ◌-◌, ◌/◌, arith, subst, sym, drop, take}
 use Rattle.archive_text.specs.EntryViews.{entry_of}
 use Rattle.archive_pages.specs.Pages.{joined}
 use Rattle.archive_pages.specs.Places.{AreAbove, AreBelow, BeginsAbove, BeginsUpTo, IsPage}

@@ -1,4 +1,3 @@
-use Rattle.std.proofs.Common.{arith}
 use Rattle.std.proofs.lemmas.Result.{err_from_is_err_and}
 use Rattle.archive_text.specs.EntryViews.{entry_of}
 use Rattle.archive_pages.specs.Spans.{blocks_of}

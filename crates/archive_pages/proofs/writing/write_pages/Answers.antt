@@ -1,4 +1,3 @@
-use Rattle.std.proofs.Common.{arith}
 use Rattle.std.proofs.lemmas.Result.{err_from_is_err_and, IfErr-weaker, on_ok_weaker}
 use Rattle.held_output.proofs.Carrying.{StopsWithin-take}
 use Rattle.archive_pages.proofs.Writings.{all_put, all_stopped}

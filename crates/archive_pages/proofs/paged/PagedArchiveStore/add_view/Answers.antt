@@ -1,4 +1,4 @@
-use Rattle.std.proofs.Common.{◌≡◌, ◌<◌, ◌∙◌, length, List, ℕ, [], subst, sym}
+use Rattle.std.proofs.Common.{◌<◌, ◌∙◌, length, List, ℕ, [], subst, sym}
 use Rattle.std.proofs.lemmas.Result.{IfOk-weaker}
 use Rattle.syslog_grammar.specs.WellFormed.{AddsCanonical}
 use Rattle.archive_text.specs.EntryViews.{entry_of}
