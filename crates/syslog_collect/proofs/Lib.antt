@@ -7,3 +7,4 @@ pub mod Steps
 pub mod Headline
 pub mod Pieces
 pub mod EventRuns
+pub mod Logging

@@ -167,12 +167,16 @@ module _ (old new : Connection) (kept_old kept_new : List Entry) (s : Stream) (h
       });
     };
     reported = (refl, kept);
-    marks = tt;
+    marks = good_open new.scanner (longer s (take n piece)) handled (record {
+      rest = at.rest ++ take n piece;
+      reads = (p.reads s.framing 0 s.octets handled at.rest at.reads at.good).reads;
+      good = good;
+    });
   }
 
   -- a frame was handled
   pub handles_frame : (mid : Scan) (o : Outcome) → IsPushed old.scanner mid piece n → IsReleased mid new.scanner → HandlesFrame mid kept_old kept_new o
-      → ((f : List ℕ) → IsOutcome kept_old kept_new f o → IsReported kept_old kept_new (f ∷ []) o) → ((t : Stream) → MarksBad (o ∷ []) t) → Moves old new kept_old kept_new (take n piece) (o ∷ []) s handled
+      → ((f : List ℕ) → IsOutcome kept_old kept_new f o → IsReported kept_old kept_new (f ∷ []) o) → ((t : Stream) → ¬ (IsBad t) → MarksBad (o ∷ []) t) → Moves old new kept_old kept_new (take n piece) (o ∷ []) s handled
   handles_frame mid o p r (ready, h) reports unmarked =
       let on = (p.reads s.framing 0 s.octets handled at.rest at.reads at.good).reads in
       let f = h s.framing 0 (s.octets ++ take n piece) handled (at.rest ++ take n piece) on in
@@ -188,7 +192,11 @@ module _ (old new : Connection) (kept_old kept_new : List Entry) (s : Stream) (h
           });
         };
         reported = (f.0 ∷ [], [], kept_new, refl, reports f.0 f.2, (refl, refl));
-        marks = unmarked (longer s (take n piece));
+        marks = unmarked (longer s (take n piece)) (good_open new.scanner (longer s (take n piece)) (handled ++ f.0 ∷ []) (record {
+          rest = [];
+          reads = r.reads s.framing 0 (s.octets ++ take n piece) handled (at.rest ++ take n piece) f.0 on f.1;
+          good = λ bad. (r.frame ready).0 (inr bad);
+        }));
       }
 
   -- a bad count was met, and released; m octets are accepted
@@ -220,7 +228,7 @@ module _ (old new : Connection) (kept_old kept_new : List Entry) (s : Stream) (h
           });
         };
         reported = ([], [], kept_new, refl, (refl, kept), (refl, refl));
-        marks = ((handled, rest, subst (λ (k : ℕ). IsBadAt s.framing (s.octets ++ take m piece) handled rest k) (sym here) broken), tt);
+        marks = ((handled, rest, subst (λ (k : ℕ). IsBadAt s.framing (s.octets ++ take m piece) handled rest k) (sym here) broken), refl);
       }
 
 -- what is ready after a push was handled and released
@@ -246,13 +254,13 @@ advanced old new mid kept_old kept_new piece n m (Some (BadCount offset)) s hand
     let some = bounds (p.takes bad s.framing 0 s.octets handled here.rest here.reads here.good) in
     breaks old new kept_old kept_new s handled piece n (number ∙ at.number) here mid offset m at_is p r bad some.0 some.1 same
 advanced old new mid kept_old kept_new piece n m (Some New) s handled number p h r bounds at =
-    handles_frame old new kept_old kept_new s handled piece n (number ∙ at.number) (open_unless_failed old s handled p.live at) mid New p r h (λ f out. (f, refl, out)) (λ t. tt)
+    handles_frame old new kept_old kept_new s handled piece n (number ∙ at.number) (open_unless_failed old s handled p.live at) mid New p r h (λ f out. (f, refl, out)) (λ t good. good)
 advanced old new mid kept_old kept_new piece n m (Some Held) s handled number p h r bounds at =
-    handles_frame old new kept_old kept_new s handled piece n (number ∙ at.number) (open_unless_failed old s handled p.live at) mid Held p r h (λ f out. (f, refl, out)) (λ t. tt)
+    handles_frame old new kept_old kept_new s handled piece n (number ∙ at.number) (open_unless_failed old s handled p.live at) mid Held p r h (λ f out. (f, refl, out)) (λ t good. good)
 advanced old new mid kept_old kept_new piece n m (Some (Refused fault)) s handled number p h r bounds at =
-    handles_frame old new kept_old kept_new s handled piece n (number ∙ at.number) (open_unless_failed old s handled p.live at) mid (Refused fault) p r h (λ f out. (f, refl, out)) (λ t. tt)
+    handles_frame old new kept_old kept_new s handled piece n (number ∙ at.number) (open_unless_failed old s handled p.live at) mid (Refused fault) p r h (λ f out. (f, refl, out)) (λ t good. good)
 advanced old new mid kept_old kept_new piece n m (Some TooLong) s handled number p h r bounds at =
-    handles_frame old new kept_old kept_new s handled piece n (number ∙ at.number) (open_unless_failed old s handled p.live at) mid TooLong p r h (λ f out. (f, refl, out)) (λ t. tt)
+    handles_frame old new kept_old kept_new s handled piece n (number ∙ at.number) (open_unless_failed old s handled p.live at) mid TooLong p r h (λ f out. (f, refl, out)) (λ t good. good)
 
 -- octets were taken, and the memory of the frame that is ready was refused
 pub waiting : (old new : Connection) (kept_old kept_new : List Entry) (piece : List ℕ) (n : ℕ) (s : Stream) (handled : List (List ℕ))

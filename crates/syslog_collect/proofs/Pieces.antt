@@ -6,7 +6,6 @@ use Rattle.syslog_frame.specs.Scan.{HasReady, IsFailed, IsReading, Scan}
 use Rattle.syslog_frame.specs.declared.phase.Phase.{Phase}
 use Rattle.syslog_frame.specs.declared.phase.Phase.TheVariants.{Counting, Inside, Ended as phase_Ended, BadCount as phase_BadCount, Failed}
 use Rattle.syslog_frame.proofs.Cuts.{take_add}
-use Rattle.syslog_frame.proofs.FrameLaws.{bad_longer}
 use Rattle.archive_text.specs.Entries.{Entry}
 use Rattle.syslog_collect.specs.declared.connection.Connection.{Connection}
 use Rattle.syslog_collect.specs.declared.fault.CollectFault.{CollectFault}
@@ -14,7 +13,7 @@ use Rattle.syslog_collect.specs.declared.fault.CollectFault.TheVariants.{Already
 use Rattle.syslog_collect.specs.declared.outcome.Outcome.{Outcome}
 use Rattle.syslog_collect.specs.declared.outcome.Outcome.TheVariants.{New, Held, Refused, TooLong, BadCount}
 use Rattle.syslog_collect.specs.Answers.{IsBadCount, IsUsedWithin, MarksBad, Moves, MovesBy, accepted_count, dropped_octets}
-use Rattle.syslog_collect.specs.History.{Stream, longer}
+use Rattle.syslog_collect.specs.History.{IsBad, Stream, longer}
 use Rattle.syslog_collect.specs.Outcomes.{AreReported, outcomes_of}
 use Rattle.syslog_collect.specs.Runs.{Logs, MovesOrStays, pending, used_before}
 use Rattle.syslog_collect.specs.Standing.{IsAt}
@@ -31,22 +30,14 @@ reported_then a b c fs gs (o ∷ os) ps (here, rest, mid, is, one, more) later =
 longer_twice : (s : Stream) (o p : List ℕ) → longer (longer s o) p ≡ longer s (o ++ p)
 longer_twice s o p = ap (λ (z : List ℕ). let t : Stream = record { number = s.number; framing = s.framing; octets = z } in t) (append_assoc s.octets o p)
 
--- a bad count of an opening is one of each longer opening
-marks_longer : (os : List Outcome) (s : Stream) (p : List ℕ) → MarksBad os s → MarksBad os (longer s p)
-marks_longer [] s p h = tt
-marks_longer (BadCount at ∷ os) s p ((f, r, bad), h) = ((f, r ++ p, bad_longer s.framing s.octets p f r at bad), marks_longer os s p h)
-marks_longer (New ∷ os) s p h = marks_longer os s p h
-marks_longer (Held ∷ os) s p h = marks_longer os s p h
-marks_longer (Refused fault ∷ os) s p h = marks_longer os s p h
-marks_longer (TooLong ∷ os) s p h = marks_longer os s p h
-
-marks_append : (os ps : List Outcome) (s : Stream) → MarksBad os s → MarksBad ps s → MarksBad (os ++ ps) s
-marks_append [] ps s h k = k
-marks_append (BadCount at ∷ os) ps s h k = (h.0, marks_append os ps s h.1 k)
-marks_append (New ∷ os) ps s h k = marks_append os ps s h k
-marks_append (Held ∷ os) ps s h k = marks_append os ps s h k
-marks_append (Refused fault ∷ os) ps s h k = marks_append os ps s h k
-marks_append (TooLong ∷ os) ps s h k = marks_append os ps s h k
+-- outcomes of octets that hold no bad count, and of more octets
+marks_then : (os ps : List Outcome) (s t : Stream) → ¬ (IsBad s) → MarksBad os s → MarksBad ps t → MarksBad (os ++ ps) t
+marks_then [] ps s t good h k = k
+marks_then (BadCount at ∷ os) ps s t good h k = absurd (good (h.0.0, h.0.1, at, h.0.2))
+marks_then (New ∷ os) ps s t good h k = marks_then os ps s t good h k
+marks_then (Held ∷ os) ps s t good h k = marks_then os ps s t good h k
+marks_then (Refused fault ∷ os) ps s t good h k = marks_then os ps s t good h k
+marks_then (TooLong ∷ os) ps s t good h k = marks_then os ps s t good h k
 
 moves_then : (x y z : Connection) (a b c : List Entry) (o p : List ℕ) (os ps : List Outcome) (s : Stream) (d : List (List ℕ)) → (m : Moves x y a b o os s d)
     → Moves y z b c p ps (longer s o) (d ++ m.fresh) → Moves x z a c (o ++ p) (os ++ ps) s d
@@ -55,7 +46,7 @@ moves_then x y z a b c o p os ps s d m n = record {
   fresh = m.fresh ++ n.fresh;
   now_at = subst (λ (t : Stream). IsAt z t (d ++ (m.fresh ++ n.fresh))) (longer_twice s o p) (subst (λ (fs : List (List ℕ)). IsAt z (longer (longer s o) p) fs) (append_assoc d m.fresh n.fresh) n.now_at);
   reported = reported_then a b c m.fresh n.fresh os ps m.reported n.reported;
-  marks = subst (λ (t : Stream). MarksBad (os ++ ps) t) (longer_twice s o p) (marks_append os ps (longer (longer s o) p) (marks_longer os (longer s o) p m.marks) n.marks);
+  marks = subst (λ (t : Stream). MarksBad (os ++ ps) t) (longer_twice s o p) (marks_then os ps (longer s o) (longer (longer s o) p) n.may.0 m.marks n.marks);
 }
 
 -- what was logged of octets, and then of more

@@ -77,10 +77,10 @@ told_piece c (Some octets) = Piece c octets ∷ []
 abbrev pub IsBadOffset : Stream → ℕ → Type 0
 IsBadOffset s at = (frames : List (List ℕ)) × (rest : List ℕ) × IsBadAt s.framing s.octets frames rest at
 
--- each bad count among the outcomes is that of the opening, at its offset
+-- a bad count is the last of the outcomes exactly where the octets of the opening are bad, at their offset
 abbrev pub MarksBad : List Outcome → Stream → Type 0
-MarksBad [] s = Unit {0}
-MarksBad (BadCount at ∷ os) s = IsBadOffset s at × MarksBad os s
+MarksBad [] s = ¬ (IsBad s)
+MarksBad (BadCount at ∷ os) s = IsBadOffset s at × (os ≡ [])
 MarksBad (New ∷ os) s = MarksBad os s
 MarksBad (Held ∷ os) s = MarksBad os s
 MarksBad (Refused fault ∷ os) s = MarksBad os s

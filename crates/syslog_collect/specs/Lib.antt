@@ -5,3 +5,4 @@ pub mod Standing
 pub mod Answers
 pub mod Headline
 pub mod Runs
+pub mod Logs

@@ -3,9 +3,11 @@
 ghost use Rattle.std.specs.Prelude.{◌≡◌, ◌++◌, ◌<◌, ◌+◌, List, vec_capacity, vec_len};
 ghost use Rattle.archive_text.specs.Entries.{Entry};
 ghost use Rattle.syslog_collect.specs.Headline.{IsSettled};
-ghost use Rattle.syslog_collect.specs.History.{Told};
+ghost use Rattle.syslog_collect.specs.History.{Told, after, nothing};
+ghost use Rattle.syslog_collect.specs.Logs.{LogGrows, LogsDatagram};
 ghost use Rattle.syslog_collect.specs.Runs.{IfAllDone, IfDone, LogsFrames, event_end};
-ghost use Rattle.syslog_collect.specs.Runs.{piece_octets, told_by, told_datagram_end, told_octets, told_run};
+ghost use Rattle.syslog_collect.specs.Runs.{piece_octets, told_all, told_by, told_datagram_end};
+ghost use Rattle.syslog_collect.specs.Runs.{told_event, told_octets, told_run};
 ghost use Rattle.syslog_collect.specs.Standing.{Stands};
 
 use crate::collector::{Collector, place};
@@ -38,6 +40,11 @@ impl<S: Store> Collector<S> {
             log.old.items log.new.items }
         ensures settled { IfDone result (IsSettled self.old.connections.items
             → IsSettled self.new.connections.items) }
+        ensures logged { (first : List Entry) (events : List Told)
+            → Stands self.old.connections.items (S.entries self.old.store) first events
+            → IsSettled self.old.connections.items
+            → IfDone result (LogGrows (after nothing events) (told_octets conn octets.now)
+            (S.entries self.old.store) (S.entries self.new.store) log.old.items log.new.items) }
     {
         match place(&self.connections, conn) {
             None => EventEnd::Stopped {
@@ -64,6 +71,8 @@ impl<S: Store> Collector<S> {
         ensures logs { LogsFrames (S.entries self.old.store) (S.entries self.new.store)
             log.old.items log.new.items }
         ensures connections { self.new.connections.items ≡ self.old.connections.items }
+        ensures logged { IfDone result (LogsDatagram octets.now (S.entries self.old.store)
+            (S.entries self.new.store) log.old.items log.new.items) }
     {
         match self.datagram(alloc, octets) {
             Ok(outcome) => {
@@ -89,6 +98,11 @@ impl<S: Store> Collector<S> {
             log.old.items log.new.items }
         ensures settled { IfDone result (IsSettled self.old.connections.items
             → IsSettled self.new.connections.items) }
+        ensures logged { (first : List Entry) (events : List Told)
+            → Stands self.old.connections.items (S.entries self.old.store) first events
+            → IsSettled self.old.connections.items
+            → IfDone result (LogGrows (after nothing events) (told_event event.entry)
+            (S.entries self.old.store) (S.entries self.new.store) log.old.items log.new.items) }
     {
         if log.reserve(1).is_err() {
             return EventEnd::Stopped {
@@ -118,6 +132,12 @@ impl<S: Store> Collector<S> {
         // After Done no frame is left ready.
         ensures settled { IfAllDone result (IsSettled self.old.connections.items
             → IsSettled self.new.connections.items) }
+        // The log has the outcomes in the order in which the frames' last octets came.
+        ensures logged { (first : List Entry) (before : List Told)
+            → Stands self.old.connections.items (S.entries self.old.store) first before
+            → IsSettled self.old.connections.items
+            → IfAllDone result (LogGrows (after nothing before) (told_all events.now)
+            (S.entries self.old.store) (S.entries self.new.store) log.old.items log.new.items) }
     {
         for (at, event) in events.iter().enumerate() {
             if let EventEnd::Stopped { taken, fault } = self.hear(alloc, *event, log) {

@@ -1,11 +1,14 @@
 use Rattle.std.proofs.Common.{List, ◌++◌, ap, ◌∙◌, refl, sym, subst}
-use Rattle.syslog_collect.specs.History.{Told}
+use Rattle.syslog_collect.specs.History.{Told, after, nothing, Opened as told_Opened, Ended as told_Ended}
 use Rattle.syslog_collect.specs.declared.event.Event.{Event}
 use Rattle.syslog_collect.specs.declared.event.Event.TheVariants.{Opened, Ended}
 use Rattle.syslog_collect.specs.declared.event.EventEnd.{EventEnd}
 use Rattle.syslog_collect.specs.declared.outcome.Outcome.{Outcome}
-use Rattle.syslog_collect.specs.Runs.{LogsFrames, told_by}
+use Rattle.syslog_collect.specs.Logs.{LogGrows, LogsDatagram}
+use Rattle.syslog_collect.specs.Runs.{IfDone, LogsFrames, told_by, told_event, told_octets}
 use Rattle.syslog_collect.specs.Standing.{Stands}
+use Rattle.syslog_collect.proofs.Headline.{if_done}
+use Rattle.syslog_collect.proofs.Logging.{datagram_logged, silent_event}
 use Rattle.syslog_collect.proofs.EventRuns.{datagram_told, ending_told, logs_none, opening_told, piece_told, told_nothing}
 use Rattle.syslog_collect.proofs.Steps.{still}
 use Rattle.syslog_collect.proofs.collector.Collector.hear.Goals as goal
@@ -46,3 +49,39 @@ returns-in-Datagram-clause-stands g c first events was =
     let told = datagram_told c.in-Datagram.octets c.logged_datagram.result in
     subst (λ (e : Event). Stands c.logged_datagram.new.self.connections.items (g.S.Store.entries c.logged_datagram.new.self.store) first (events ++ told_by e c.logged_datagram.result)) (sym c.in-Datagram.is)
     (subst (λ (ts : List Told). Stands c.logged_datagram.new.self.connections.items (g.S.Store.entries c.logged_datagram.new.self.store) first (events ++ ts)) told (c.logged_datagram.ensures.stands first events was))
+
+pub returns-in-Opened-clause-logged : goal.returns-in-Opened-clause-logged
+returns-in-Opened-clause-logged g c first events was settled =
+    let a = g.S.Store.entries c.args.self.now.store in
+    let b = g.S.Store.entries c.open_conn.new.self.store in
+    let l = c.args.log.now.items in
+    let m = c.reserve.new.self.items in
+    if_done c.end_of.result (subst (λ (e : Event). LogGrows (after nothing events) (told_event e) a b l m) (sym c.in-Opened.is)
+    (silent_event (after nothing events) (told_Opened c.in-Opened.conn c.in-Opened.framing) a b l m (refl, ap (g.S.Store.entries) c.open_conn.ensures.store) c.reserve.ensures.items))
+
+pub returns-in-Piece-clause-logged : goal.returns-in-Piece-clause-logged
+returns-in-Piece-clause-logged g c first events was settled =
+    let a = g.S.Store.entries c.args.self.now.store in
+    let b = g.S.Store.entries c.piece.new.self.store in
+    let n = c.piece.new.log.items in
+    subst (λ (e : Event). IfDone c.piece.result (LogGrows (after nothing events) (told_event e) a b c.args.log.now.items n)) (sym c.in-Piece.is)
+    (subst (λ (l : List Outcome). IfDone c.piece.result (LogGrows (after nothing events) (told_octets c.in-Piece.conn c.in-Piece.octets.now) a b l n)) c.reserve.ensures.items
+    (c.piece.ensures.logged first events was settled))
+
+pub returns-in-Ended-clause-logged : goal.returns-in-Ended-clause-logged
+returns-in-Ended-clause-logged g c first events was settled =
+    let a = g.S.Store.entries c.args.self.now.store in
+    let b = g.S.Store.entries c.end_conn.new.self.store in
+    let l = c.args.log.now.items in
+    let m = c.reserve.new.self.items in
+    if_done c.end_of-in-Ended.result (subst (λ (e : Event). LogGrows (after nothing events) (told_event e) a b l m) (sym c.in-Ended.is)
+    (silent_event (after nothing events) (told_Ended c.in-Ended.conn) a b l m (refl, ap (g.S.Store.entries) c.end_conn.ensures.store) c.reserve.ensures.items))
+
+pub returns-in-Datagram-clause-logged : goal.returns-in-Datagram-clause-logged
+returns-in-Datagram-clause-logged g c first events was settled =
+    let a = g.S.Store.entries c.args.self.now.store in
+    let b = g.S.Store.entries c.logged_datagram.new.self.store in
+    let n = c.logged_datagram.new.log.items in
+    subst (λ (e : Event). IfDone c.logged_datagram.result (LogGrows (after nothing events) (told_event e) a b c.args.log.now.items n)) (sym c.in-Datagram.is)
+    (datagram_logged (after nothing events) c.in-Datagram.octets.now c.logged_datagram.result a b c.args.log.now.items n
+    (subst (λ (l : List Outcome). IfDone c.logged_datagram.result (LogsDatagram c.in-Datagram.octets.now a b l n)) c.reserve.ensures.items c.logged_datagram.ensures.logged))

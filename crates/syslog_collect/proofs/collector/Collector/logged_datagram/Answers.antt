@@ -7,3 +7,6 @@ returns-in-Ok-clause-logs g c = logs_frame _ _ _ _ c.args.octets.now c.in-Ok.out
 
 pub returns-in-Err-clause-logs : goal.returns-in-Err-clause-logs
 returns-in-Err-clause-logs g c = logs_none _ _ _ _ c.in-Err.ensures.err refl
+
+pub returns-in-Ok-clause-logged : goal.returns-in-Ok-clause-logged
+returns-in-Ok-clause-logged g c = (c.in-Ok.outcome, c.note.ensures, c.in-Ok.ensures.outcome)

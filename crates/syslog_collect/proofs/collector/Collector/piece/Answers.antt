@@ -3,6 +3,7 @@ use Rattle.std.specs.Prelude.{Some}
 use Rattle.syslog_collect.specs.Runs.{piece_octets}
 use Rattle.syslog_collect.specs.declared.connection.Connection.{Connection}
 use Rattle.syslog_collect.proofs.Headline.{settled_piece}
+use Rattle.syslog_collect.proofs.Logging.{piece_logged}
 use Rattle.syslog_collect.proofs.Places.{place_from, within}
 use Rattle.syslog_collect.proofs.EventRuns.{frames_found, logged_found, logs_none}
 use Rattle.syslog_collect.proofs.collector.Collector.piece.Goals as goal
@@ -29,3 +30,10 @@ returns-in-Some-clause-logs g c first events was =
 
 pub returns-in-Some-clause-settled : goal.returns-in-Some-clause-settled
 returns-in-Some-clause-settled g c = settled_piece c.take_piece.result c.args.self.now.connections.items c.in-Some.at c.take_piece.new.connection c.take_piece.ensures.settled
+
+pub returns-in-Some-clause-logged : goal.returns-in-Some-clause-logged
+returns-in-Some-clause-logged g c first events was settled =
+    let is = subst (λ (ls : List Connection). place_from c.args.conn 0 ls ≡ Some c.in-Some.at) c.deref.ensures.value (sym c.in-Some.ensures) in
+    piece_logged c.args.conn c.in-Some.at c.index_mut.result.now c.take_piece.new.connection c.args.self.now.connections.items (g.S.Store.entries c.args.self.now.store)
+    (g.S.Store.entries c.take_piece.new.store) first events c.args.octets.now c.take_piece.result c.args.log.now.items c.take_piece.new.log.items is c.index_mut.ensures.value c.take_piece.ensures.moves
+    c.take_piece.ensures.settled was settled

@@ -1,7 +1,8 @@
 use Rattle.std.proofs.Common.{List, ◌++◌, take}
 use Rattle.archive_text.specs.Entries.{Entry}
 use Rattle.syslog_collect.specs.Headline.{IsSettled}
-use Rattle.syslog_collect.specs.History.{Told}
+use Rattle.syslog_collect.specs.History.{Told, after, nothing}
+use Rattle.syslog_collect.specs.Logs.{LogGrows}
 use Rattle.syslog_collect.specs.Runs.{LogsFrames, told_all}
 use Rattle.syslog_collect.specs.Standing.{Stands}
 use Rattle.syslog_collect.proofs.collector.Collector.run.Given as goal
@@ -15,5 +16,8 @@ invariant-loop-at g l = record {
   logs : (first : List Entry) (before : List Told) →
       Stands l.fn.self.connections.items (g.S.Store.entries l.fn.self.store) first before →
       LogsFrames (g.S.Store.entries l.fn.self.store) (g.S.Store.entries l.self.store) l.fn.log.items l.log.items;
+  log : (first : List Entry) (before : List Told) →
+      Stands l.fn.self.connections.items (g.S.Store.entries l.fn.self.store) first before → IsSettled l.fn.self.connections.items →
+      LogGrows (after nothing before) (told_all (take l.at l.events)) (g.S.Store.entries l.fn.self.store) (g.S.Store.entries l.self.store) l.fn.log.items l.log.items;
   settled : IsSettled l.fn.self.connections.items → IsSettled l.self.connections.items;
 }
