@@ -1,6 +1,7 @@
 //! Every text is that of a set, or has a fault.
 
-ghost use Rattle.std.specs.Prelude.{◌+◌, ◌<◌, ◌≡◌, ◌++◌, ◌∷◌, ◌^◌, [], ℤ, List, IsTrue, MatchOption, MatchResult, length};
+ghost use Rattle.std.specs.Prelude.{◌+◌, ◌<◌, ◌≡◌, ◌++◌, ◌∷◌, ◌^◌, [], ℤ, List, length};
+ghost use Rattle.std.specs.Prelude.{IsTrue, MatchOption, MatchResult};
 ghost use Rattle.syslog_value.specs.Parts.{Parts};
 ghost use Rattle.archive_text.specs.Entries.{Entry, IsAscending};
 ghost use Rattle.archive_text.specs.EntryViews.{entry_of};

@@ -18,3 +18,6 @@ pub use sets::{
     larger_limits_keep_archives, one_set_has_one_text, one_text_has_one_set,
     records_have_canonical_octets, sets_that_fit_have_a_text,
 };
+
+#[cfg(test)]
+mod tests;

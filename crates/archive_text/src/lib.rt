@@ -16,3 +16,6 @@ pub use fault::{ArchiveFault, EntryFault};
 pub use judge::{entry_of_octets, read_entry};
 pub use limits::ENTRY_MAX;
 pub use store::{AddFault, Added, Store};
+
+#[cfg(test)]
+mod tests;
