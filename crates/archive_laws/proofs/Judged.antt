@@ -16,7 +16,7 @@ use Rattle.archive_text.specs.declared.fault.ArchiveFault.{ArchiveFault}
 use Rattle.archive_text.specs.declared.fault.ArchiveFault.TheVariants.{BadFrame, EntryTooLong, BadEntry, NotCanonical, NotAscending}
 use Rattle.archive_text.proofs.Ascending.{archive_from, archive_nil, ascending_after, not_after}
 use Rattle.archive_text.proofs.FaultLaws.{begins_with_octets}
-use Rattle.archive_text.proofs.Fronts.{archive_fault}
+use Rattle.archive_text.proofs.Prefixes.{archive_fault}
 use Rattle.archive_text.proofs.Orders.{below_is_less, less_is_below}
 use Rattle.archive_text.proofs.Sets.{archive_is_of_a_set}
 use Rattle.archive_text.proofs.Texts.{text_goes_on, text_some}

@@ -9,7 +9,7 @@ use Rattle.archive_text.specs.Sets.{ArchiveText}
 use Rattle.archive_text.specs.declared.fault.ArchiveFault.{ArchiveFault}
 use Rattle.archive_text.specs.declared.fault.ArchiveFault.TheVariants.{BadFrame, EntryTooLong, BadEntry, NotCanonical, NotAscending}
 use Rattle.archive_text.proofs.Ascending.{archive_wider}
-use Rattle.archive_text.proofs.Fronts.{archive_fault, archive_has_no_fault}
+use Rattle.archive_text.proofs.Prefixes.{archive_fault, archive_has_no_fault}
 
 pub wider_text : (most more : ℕ) (rs : List (Parts ℤ)) (t : List ℕ) → most ≤ more → ArchiveText most rs t → ArchiveText more rs t
 wider_text most more rs t wider h = record { entries = h.entries; archive = archive_wider most more h.entries wider h.archive; members = h.members; text_is = h.text_is }
@@ -31,8 +31,8 @@ wider_fault most more es rest (NotAscending at) wider short (is, (e, entry, begi
 
 pub wider_archive_fault : (most more : ℕ) (t : List ℕ) (fault : ArchiveFault) → most ≤ more → more ≤ COUNT_MAX → ((at : ℕ) → ¬ (fault ≡ EntryTooLong at))
     → IsArchiveFault most t fault → IsArchiveFault more t fault
-wider_archive_fault most more t fault wider low short (es, rest, front, some, bad) =
-    archive_fault more t es rest fault low (archive_wider most more es wider front.archive) front.parts some (wider_fault most more es rest fault wider short bad)
+wider_archive_fault most more t fault wider low short (es, rest, prefix, some, bad) =
+    archive_fault more t es rest fault low (archive_wider most more es wider prefix.archive) prefix.parts some (wider_fault most more es rest fault wider short bad)
 
 pub text_has_no_fault : (most : ℕ) (rs : List (Parts ℤ)) (t : List ℕ) (fault : ArchiveFault) → ArchiveText most rs t → ¬ (IsArchiveFault most t fault)
 text_has_no_fault most rs t fault h k = archive_has_no_fault most h.entries fault h.archive (subst (λ u. IsArchiveFault most u fault) h.text_is k)

@@ -17,13 +17,13 @@ use Rattle.archive_text.specs.Entries.{Entry, IsEntry}
 use Rattle.archive_text.specs.Faults.{BeginsWithOctets, IsArchiveFault, IsBadFrame, IsFaultBehind, IsTooLong}
 use Rattle.archive_text.specs.declared.fault.ArchiveFault.{ArchiveFault}
 use Rattle.archive_text.specs.declared.fault.ArchiveFault.TheVariants.{BadFrame, EntryTooLong, BadEntry, NotCanonical, NotAscending}
-use Rattle.archive_text.proofs.Fronts.{one_front}
+use Rattle.archive_text.proofs.Prefixes.{one_longest}
 
 -- octets have one fault at most
 abbrev pub OctetsHaveOneFault : Type 0
 OctetsHaveOneFault = (b : List ℕ) (f g : Fault) → FaultOf b f → FaultOf b g → f ≡ g
 
--- ---- the length in front
+-- ---- the length at the start
 
 two_counts : (m n : ℕ) (text s t : List ℕ) → Follows (MsgLen m) text s → Follows (MsgLen n) text t → (m ≡ n) × (s ≡ t)
 two_counts m n text s t (p, is, h) (q, also, k) =
@@ -111,6 +111,6 @@ fault_behind one most es rest (NotAscending at) (NotAscending at') h k = ap NotA
 
 -- a text has one fault at most
 pub one_archive_fault : OctetsHaveOneFault → (most : ℕ) (text : List ℕ) (f g : ArchiveFault) → most ≤ COUNT_MAX → IsArchiveFault most text f → IsArchiveFault most text g → f ≡ g
-one_archive_fault one most text f g low (es, rest, front, some, bad) (fs, left, other, more, worse) =
-    let same = one_front most text es fs rest left low front other in
+one_archive_fault one most text f g low (es, rest, prefix, some, bad) (fs, left, other, more, worse) =
+    let same = one_longest most text es fs rest left low prefix other in
     fault_behind one most fs left f g (subst (λ xs. IsFaultBehind most xs left f) same.0 (subst (λ s. IsFaultBehind most es s f) same.1 bad)) worse

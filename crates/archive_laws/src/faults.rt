@@ -20,3 +20,9 @@ pub fn larger_limits_keep_faults()
         → ((at : ℕ) → ¬ (fault ≡ EntryTooLong at)) → IsArchiveFault most t fault
         → IsArchiveFault more t fault }
 {}
+
+/// A text has one fault at most.
+pub fn texts_have_one_fault()
+    ensures { (most : ℕ) (t : List ℕ) (f g : ArchiveFault) → most ≤ COUNT_MAX
+        → IsArchiveFault most t f → IsArchiveFault most t g → f ≡ g }
+{}

@@ -1,6 +1,6 @@
 pub mod OldForms
 pub mod OldTexts
-pub mod OldFronts
+pub mod OldPrefixes
 pub mod NewOctets
 pub mod Steps
 pub mod Migrated

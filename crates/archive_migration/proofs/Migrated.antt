@@ -25,7 +25,7 @@ use Rattle.archive_migration.specs.OldFaults.{IsOldArchiveFault}
 use Rattle.archive_migration.specs.OldTexts.{AreOldEntriesOf, OldText}
 use Rattle.archive_migration.proofs.NewOctets.{new_octets}
 use Rattle.archive_migration.proofs.OldForms.{entry_old_entry, same_old_record, same_record}
-use Rattle.archive_migration.proofs.OldFronts.{old_archive_has_no_fault}
+use Rattle.archive_migration.proofs.OldPrefixes.{old_archive_has_no_fault}
 use Rattle.archive_migration.proofs.OldTexts.{same_old_text}
 
 -- ---- new forms

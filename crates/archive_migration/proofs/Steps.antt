@@ -26,7 +26,7 @@ use Rattle.archive_migration.specs.OldFaults.{IsOldArchiveFault, IsOldFaultBefor
 use Rattle.archive_migration.specs.OldTexts.{BeginsWithOldEntry}
 use Rattle.archive_migration.specs.Reading.{IsAboveLast, IsFaultAfter, IsLast, position_of, shift}
 use Rattle.archive_migration.proofs.OldForms.{new_form_well_formed, well_formed_new_form}
-use Rattle.archive_migration.proofs.OldFronts.{old_archive_fault}
+use Rattle.archive_migration.proofs.OldPrefixes.{old_archive_fault}
 use Rattle.archive_migration.proofs.OldTexts.{old_archive_from}
 
 -- ---- faults at their positions

@@ -32,7 +32,7 @@ IsOldFaultBefore most text (NotCanonical at) =
 IsOldFaultBefore most text (NotAscending at) = ⊥
 
 -- the longest prefix of a text that is an old archive: these entries, and what follows them
-pub record IsOldFront (most : ℕ) (text : List ℕ) (es : List Entry) (rest : List ℕ) : Type 0 where
+pub record IsLongestOldArchive (most : ℕ) (text : List ℕ) (es : List Entry) (rest : List ℕ) : Type 0 where
   pub archive : IsOldArchive most es
   pub parts : text ≡ text_of es ++ rest
   pub longest : (fs : List Entry) (s : List ℕ) → IsOldArchive most fs → text ≡ text_of fs ++ s
@@ -58,5 +58,5 @@ IsOldFaultBehind most es rest (NotAscending at) =
 -- the fault of a text that is no old archive: that behind its longest prefix that is one
 abbrev pub IsOldArchiveFault : ℕ → List ℕ → ArchiveFault → Type 0
 IsOldArchiveFault most text fault =
-    (es : List Entry) × (rest : List ℕ) × IsOldFront most text es rest × (0 < length rest)
+    (es : List Entry) × (rest : List ℕ) × IsLongestOldArchive most text es rest × (0 < length rest)
     × IsOldFaultBehind most es rest fault

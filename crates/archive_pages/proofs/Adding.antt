@@ -43,22 +43,22 @@ same_entries old new pages keeps h = entries_stay old new (joined pages) keeps h
 
 -- the old pages and the new ones, which have one more span
 pub record Gains (old new : Blocks) (pages more : List (List Span)) (s : Span) (e : Entry) : Type 0 where
-  pub front : List Span
+  pub prefix : List Span
   pub back : List Span
-  pub parts : joined pages ≡ front ++ back
-  pub joins : joined more ≡ front ++ s ∷ back
+  pub parts : joined pages ≡ prefix ++ back
+  pub joins : joined more ≡ prefix ++ s ∷ back
   pub sizes : HaveSizes more
   pub keeps : Keeps old new
   pub within : IsWithin new s
   pub value : entry_at new s ≡ e
-  pub below : AreBelow old e front
+  pub below : AreBelow old e prefix
   pub above : AreAbove old e back
 
 pub gains_at : (old new : Blocks) (pages more : List (List Span)) (s : Span) (e : Entry) (k at : ℕ) → GoesTo old pages e k at
     → joined more ≡ before pages k at ++ s ∷ after pages k at → HaveSizes more → Keeps old new → IsWithin new s → entry_at new s ≡ e → Gains old new pages more s e
 gains_at old new pages more s e k at h joins sizes keeps within value =
     record {
-      front = before pages k at;
+      prefix = before pages k at;
       back = after pages k at;
       parts = joined_around pages k at h.page;
       joins = joins;
@@ -72,18 +72,18 @@ gains_at old new pages more s e k at h joins sizes keeps within value =
 
 -- the new entries
 gained : (old new : Blocks) (pages more : List (List Span)) (s : Span) (e : Entry) → ArePaged old pages → (g : Gains old new pages more s e)
-    → entries_of new more ≡ entries_at old g.front ++ e ∷ entries_at old g.back
+    → entries_of new more ≡ entries_at old g.prefix ++ e ∷ entries_at old g.back
 gained old new pages more s e h g =
     let all = subst (AllByRecursion (IsWithin old)) g.parts h.within in
-    let front = entries_stay old new g.front g.keeps (all_left (IsWithin old) g.front g.back all) in
-    let back = entries_stay old new g.back g.keeps (all_right (IsWithin old) g.front g.back all) in
-    ap (entries_at new) g.joins ∙ entries-append new g.front (s ∷ g.back)
-    ∙ ap (λ (es : List Entry). es ++ entry_at new s ∷ entries_at new g.back) front
-    ∙ ap (λ (x : Entry). entries_at old g.front ++ x ∷ entries_at new g.back) g.value
-    ∙ ap (λ (es : List Entry). entries_at old g.front ++ e ∷ es) back
+    let prefix = entries_stay old new g.prefix g.keeps (all_left (IsWithin old) g.prefix g.back all) in
+    let back = entries_stay old new g.back g.keeps (all_right (IsWithin old) g.prefix g.back all) in
+    ap (entries_at new) g.joins ∙ entries-append new g.prefix (s ∷ g.back)
+    ∙ ap (λ (es : List Entry). es ++ entry_at new s ∷ entries_at new g.back) prefix
+    ∙ ap (λ (x : Entry). entries_at old g.prefix ++ x ∷ entries_at new g.back) g.value
+    ∙ ap (λ (es : List Entry). entries_at old g.prefix ++ e ∷ es) back
 
-had : (old new : Blocks) (pages more : List (List Span)) (s : Span) (e : Entry) → (g : Gains old new pages more s e) → entries_of old pages ≡ entries_at old g.front ++ entries_at old g.back
-had old new pages more s e g = ap (entries_at old) g.parts ∙ entries-append old g.front g.back
+had : (old new : Blocks) (pages more : List (List Span)) (s : Span) (e : Entry) → (g : Gains old new pages more s e) → entries_of old pages ≡ entries_at old g.prefix ++ entries_at old g.back
+had old new pages more s e g = ap (entries_at old) g.parts ∙ entries-append old g.prefix g.back
 
 -- one more entry makes an archive again
 pub paged_more : (old new : Blocks) (pages more : List (List Span)) (s : Span) (e : Entry) → ArePaged old pages → IsEntry e → length e.octets ≤ ENTRY_MAX → Gains old new pages more s e
@@ -94,20 +94,20 @@ paged_more old new pages more s e h entry fits g =
     record {
       sizes = g.sizes;
       within = subst (AllByRecursion (IsWithin new)) (sym g.joins)
-          (all_append (IsWithin new) g.front (s ∷ g.back) (within_stays old new g.front g.keeps (all_left (IsWithin old) g.front g.back all))
-          (g.within, within_stays old new g.back g.keeps (all_right (IsWithin old) g.front g.back all)));
+          (all_append (IsWithin new) g.prefix (s ∷ g.back) (within_stays old new g.prefix g.keeps (all_left (IsWithin old) g.prefix g.back all))
+          (g.within, within_stays old new g.back g.keeps (all_right (IsWithin old) g.prefix g.back all)));
       archive = subst (IsArchive ENTRY_MAX) (sym (gained old new pages more s e h g))
-          (archive_inserted ENTRY_MAX (entries_at old g.front) (entries_at old g.back) e archive entry fits
-          (all_to_map (entry_at old) (λ x. IsBelow x e) g.front g.below) (all_to_map (entry_at old) (IsBelow e) g.back g.above));
+          (archive_inserted ENTRY_MAX (entries_at old g.prefix) (entries_at old g.back) e archive entry fits
+          (all_to_map (entry_at old) (λ x. IsBelow x e) g.prefix g.below) (all_to_map (entry_at old) (IsBelow e) g.back g.above));
     }
 
 -- and it was not there before
 pub adds_more : (old new : Blocks) (pages more : List (List Span)) (s : Span) (e : Entry) → ArePaged old pages → Gains old new pages more s e
     → AddsEntry e (entries_of old pages) (entries_of new more) New
 adds_more old new pages more s e h g = (
-  λ has. not_between (entries_at old g.front) (entries_at old g.back) e (all_to_map (entry_at old) (λ x. IsBelow x e) g.front g.below)
+  λ has. not_between (entries_at old g.prefix) (entries_at old g.back) e (all_to_map (entry_at old) (λ x. IsBelow x e) g.prefix g.below)
       (all_to_map (entry_at old) (IsBelow e) g.back g.above) (subst (λ (es : List Entry). Has es e) (had old new pages more s e g) has),
-  (entries_at old g.front, entries_at old g.back, had old new pages more s e g, gained old new pages more s e h g),
+  (entries_at old g.prefix, entries_at old g.back, had old new pages more s e g, gained old new pages more s e h g),
 )
 
 -- where there is room for it no entry is held
@@ -124,7 +124,7 @@ pub gains_first : (old new : Blocks) (pages more : List (List Span)) (s : Span) 
     → Gains old new pages more s e
 gains_first old new pages more s e none one keeps within value =
     record {
-      front = [];
+      prefix = [];
       back = [];
       parts = ap joined none;
       joins = ap joined one;

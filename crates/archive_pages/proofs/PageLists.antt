@@ -31,7 +31,7 @@ joined_parts pages k h = joined_from pages k ∙ ap (λ (s : List Span). joined 
 four : (a b c d : List Span) → a ++ ((b ++ c) ++ d) ≡ (a ++ b) ++ (c ++ d)
 four a b c d = ap (λ (s : List Span). a ++ s) (append_assoc b c d) ∙ sym (append_assoc a b (c ++ d))
 
--- what is in front of a place of a page and what is behind it are all
+-- what is before a place of a page and what is behind it are all
 pub joined_around : (pages : List (List Span)) (k at : ℕ) → k < length pages → joined pages ≡ before pages k at ++ after pages k at
 joined_around pages k at h =
     let p = page_at pages k in

@@ -33,25 +33,25 @@ all_to_map f P (x ∷ xs) h = (h.0, all_to_map f P xs h.1)
 
 -- ---- around one span
 
--- in order, what is in front of a span is below its entry
-in_front : (blocks : Blocks) (a : List Span) (s : Span) (b : List Span) → IsAscending (entries_at blocks (a ++ s ∷ b)) → AreBelow blocks (entry_at blocks s) a
-in_front blocks [] s b h = tt
-in_front blocks (x ∷ a) s b h =
+-- in order, what is before a span is below its entry
+before_all : (blocks : Blocks) (a : List Span) (s : Span) (b : List Span) → IsAscending (entries_at blocks (a ++ s ∷ b)) → AreBelow blocks (entry_at blocks s) a
+before_all blocks [] s b h = tt
+before_all blocks (x ∷ a) s b h =
     let all = all_mapped (entry_at blocks) (IsBelow (entry_at blocks x)) (a ++ s ∷ b) h.0 in
-    ((all_right (λ y. IsBelow (entry_at blocks x) (entry_at blocks y)) a (s ∷ b) all).0, in_front blocks a s b h.1)
+    ((all_right (λ y. IsBelow (entry_at blocks x) (entry_at blocks y)) a (s ∷ b) all).0, before_all blocks a s b h.1)
 
 -- and what is behind it is above
 behind : (blocks : Blocks) (a : List Span) (s : Span) (b : List Span) → IsAscending (entries_at blocks (a ++ s ∷ b)) → AreAbove blocks (entry_at blocks s) b
 behind blocks [] s b h = all_mapped (entry_at blocks) (IsBelow (entry_at blocks s)) b h.0
 behind blocks (x ∷ a) s b h = behind blocks a s b h.1
 
-pub below_front : (blocks : Blocks) (e : Entry) (a : List Span) (s : Span) (b : List Span) → IsAscending (entries_at blocks (a ++ s ∷ b)) → IsBelow (entry_at blocks s) e → AreBelow blocks e a
-below_front blocks e a s b h low =
+pub below_prefix : (blocks : Blocks) (e : Entry) (a : List Span) (s : Span) (b : List Span) → IsAscending (entries_at blocks (a ++ s ∷ b)) → IsBelow (entry_at blocks s) e → AreBelow blocks e a
+below_prefix blocks e a s b h low =
     all_weaker (λ x. IsBelow (entry_at blocks x) (entry_at blocks s)) (λ x. IsBelow (entry_at blocks x) e)
-    (λ x k. below_transitive (entry_at blocks x) (entry_at blocks s) e k low) a (in_front blocks a s b h)
+    (λ x k. below_transitive (entry_at blocks x) (entry_at blocks s) e k low) a (before_all blocks a s b h)
 
 pub below_with : (blocks : Blocks) (e : Entry) (a : List Span) (s : Span) (b : List Span) → IsAscending (entries_at blocks (a ++ s ∷ b)) → IsBelow (entry_at blocks s) e → AreBelow blocks e (a ++ s ∷ [])
-below_with blocks e a s b h low = all_append (λ x. IsBelow (entry_at blocks x) e) a (s ∷ []) (below_front blocks e a s b h low) (low, tt)
+below_with blocks e a s b h low = all_append (λ x. IsBelow (entry_at blocks x) e) a (s ∷ []) (below_prefix blocks e a s b h low) (low, tt)
 
 pub above_with : (blocks : Blocks) (e : Entry) (a : List Span) (s : Span) (b : List Span) → IsAscending (entries_at blocks (a ++ s ∷ b)) → IsBelow e (entry_at blocks s) → AreAbove blocks e (s ∷ b)
 above_with blocks e a s b h high = (
@@ -75,8 +75,8 @@ pub below_index : (blocks : Blocks) (e : Entry) (p : List Span) (k : ℕ) (s : S
     → AreBelow blocks e (take (k + 1) p)
 below_index blocks e p k s h read ascending low =
     let parts = subst (λ (q : List Span). IsAscending (entries_at blocks q)) (around p k s h read) ascending in
-    let front : take (k + 1) p ≡ take k p ++ s ∷ [] = take_more p k s h ∙ ap (λ (x : Span). take k p ++ x ∷ []) (sym read) in
-    subst (AreBelow blocks e) (sym front) (below_with blocks e (take k p) s (drop (k + 1) p) parts low)
+    let prefix : take (k + 1) p ≡ take k p ++ s ∷ [] = take_more p k s h ∙ ap (λ (x : Span). take k p ++ x ∷ []) (sym read) in
+    subst (AreBelow blocks e) (sym prefix) (below_with blocks e (take k p) s (drop (k + 1) p) parts low)
 
 pub above_index : (blocks : Blocks) (e : Entry) (p : List Span) (k : ℕ) (s : Span) → k < length p → s ≡ slice_index_or p k s → IsAscending (entries_at blocks p) → IsBelow e (entry_at blocks s)
     → AreAbove blocks e (drop k p)
@@ -115,11 +115,11 @@ begun_above : (blocks : Blocks) (e : Entry) (a p b : List Span) → IsAscending 
 begun_above blocks e a [] b h k = absurd k
 begun_above blocks e a (s ∷ p) b h k = above_with blocks e a s (p ++ b) h k
 
--- where it does not, all in front of it is below
+-- where it does not, all before it is below
 begun_up_to : (blocks : Blocks) (e : Entry) (a p b : List Span) → IsAscending (entries_at blocks (a ++ (p ++ b))) → BeginsUpTo blocks p e → AreBelow blocks e a
 begun_up_to blocks e a [] b h k = absurd k
-begun_up_to blocks e a (s ∷ p) b h (inl low) = below_front blocks e a s (p ++ b) h low
-begun_up_to blocks e a (s ∷ p) b h (inr same) = subst (λ (x : Entry). AreBelow blocks x a) same (in_front blocks a s (p ++ b) h)
+begun_up_to blocks e a (s ∷ p) b h (inl low) = below_prefix blocks e a s (p ++ b) h low
+begun_up_to blocks e a (s ∷ p) b h (inr same) = subst (λ (x : Entry). AreBelow blocks x a) same (before_all blocks a s (p ++ b) h)
 
 pub page_above : (blocks : Blocks) (pages : List (List Span)) (e : Entry) (k : ℕ) → AreSearchable blocks pages → k < length pages → BeginsAbove blocks (page_at pages k) e
     → AreAbove blocks e (joined (drop k pages))
@@ -132,7 +132,7 @@ pub page_up_to : (blocks : Blocks) (pages : List (List Span)) (e : Entry) (k : �
 page_up_to blocks pages e k h within begins =
     begun_up_to blocks e (joined (take k pages)) (page_at pages k) (joined (drop (k + 1) pages)) (parts_ascending blocks pages k within h.ascending) begins
 
--- the page in front of the first one that begins above the entry, or the first page
+-- the page before the first one that begins above the entry, or the first page
 pub page_found : (blocks : Blocks) (pages : List (List Span)) (e : Entry) (n : ℕ) → 0 < length pages → n ≤ length pages → AreBelow blocks e (joined (take (n - 1) pages))
     → AreAbove blocks e (joined (drop n pages)) → IsPage blocks pages e (n - 1)
 page_found blocks pages e zero some within below above =
@@ -167,10 +167,10 @@ has_joined blocks pages e k within h =
     subst (λ (es : List Entry). Has es e) (sym (entries-append blocks a (p ++ b))) (has_right (entries_at blocks a) (entries_at blocks (p ++ b)) e one) in
     subst (λ (q : List Span). Has (entries_at blocks q) e) (sym (joined_parts pages k within)) two
 
--- the pages in front of the page of a span are below an entry above it
-front_below : (blocks : Blocks) (pages : List (List Span)) (e : Entry) (k n : ℕ) (s : Span) → AreSearchable blocks pages → k < length pages → n < length (page_at pages k)
+-- the pages before the page of a span are below an entry above it
+prefix_below : (blocks : Blocks) (pages : List (List Span)) (e : Entry) (k n : ℕ) (s : Span) → AreSearchable blocks pages → k < length pages → n < length (page_at pages k)
     → s ≡ slice_index_or (page_at pages k) n s → IsBelow (entry_at blocks s) e → AreBelow blocks e (joined (take k pages))
-front_below blocks pages e k n s h within in_page read low =
+prefix_below blocks pages e k n s h within in_page read low =
     let a = joined (take k pages) in
     let p = page_at pages k in
     let b = joined (drop (k + 1) pages) in
@@ -179,7 +179,7 @@ front_below blocks pages e k n s h within in_page read low =
     ∙ ap (λ (q : List Span). a ++ q) (append_assoc (take n p) (s ∷ drop (n + 1) p) b)
     ∙ sym (append_assoc a (take n p) (s ∷ (drop (n + 1) p ++ b))) in
     let ascending = subst (λ (q : List Span). IsAscending (entries_at blocks q)) parts (parts_ascending blocks pages k within h.ascending) in
-    all_left (λ x. IsBelow (entry_at blocks x) e) a (take n p) (below_front blocks e (a ++ take n p) s (drop (n + 1) p ++ b) ascending low)
+    all_left (λ x. IsBelow (entry_at blocks x) e) a (take n p) (below_prefix blocks e (a ++ take n p) s (drop (n + 1) p ++ b) ascending low)
 
 -- an entry above the last one goes to the end of the last page
 pub at_end : (blocks : Blocks) (pages : List (List Span)) (e : Entry) (k n : ℕ) (s : Span) → AreSearchable blocks pages → k + 1 ≡ length pages → n + 1 ≡ length (page_at pages k)
@@ -193,7 +193,7 @@ at_end blocks pages e k n s h last end read low =
     record {
       page = within;
       index = omega arith;
-      below = all_append (λ x. IsBelow (entry_at blocks x) e) (joined (take k pages)) (take (n + 1) p) (front_below blocks pages e k n s h within (omega arith) read low)
+      below = all_append (λ x. IsBelow (entry_at blocks x) e) (joined (take k pages)) (take (n + 1) p) (prefix_below blocks pages e k n s h within (omega arith) read low)
           (below_index blocks e p n s (omega arith) read ascending low);
       above = rw (none, gone) tt;
     }

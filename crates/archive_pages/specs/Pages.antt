@@ -17,7 +17,7 @@ joined pages = flat_map (λ p. p) pages
 abbrev pub page_at : List (List Span) → ℕ → List Span
 page_at pages k = slice_index_or pages k []
 
--- the spans in front of one place of a page, and those behind it
+-- the spans before one place of a page, and those behind it
 abbrev pub before : List (List Span) → ℕ → ℕ → List Span
 before pages k at = joined (take k pages) ++ take at (page_at pages k)
 

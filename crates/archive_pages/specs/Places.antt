@@ -15,7 +15,7 @@ AreBelow blocks e spans = AllByRecursion (λ s. IsBelow (entry_at blocks s) e) s
 abbrev pub AreAbove : List (List ℕ) → Entry → List Span → Type 0
 AreAbove blocks e spans = AllByRecursion (λ s. IsBelow e (entry_at blocks s)) spans
 
--- the spans hold the entry; or it goes between those in front of the index and the others
+-- the spans hold the entry; or it goes between those before the index and the others
 abbrev pub IsInsertion : List (List ℕ) → List Span → Entry → Option ℕ → Type 0
 IsInsertion blocks spans e None = Has (entries_at blocks spans) e
 IsInsertion blocks spans e (Some n) = (n ≤ length spans) × AreBelow blocks e (take n spans) × AreAbove blocks e (drop n spans)
@@ -40,7 +40,7 @@ pub record IsPage (blocks : List (List ℕ)) (pages : List (List Span)) (e : Ent
   pub below : AreBelow blocks e (joined (take k pages))
   pub above : AreAbove blocks e (joined (drop (k + 1) pages))
 
--- the entry goes into a page, behind all that is below it and in front of all that is above it
+-- the entry goes into a page, behind all that is below it and before all that is above it
 pub record GoesTo (blocks : List (List ℕ)) (pages : List (List Span)) (e : Entry) (k at : ℕ) : Type 0 where
   pub page : k < length pages
   pub index : at ≤ length (page_at pages k)

@@ -49,7 +49,7 @@ fn add_first(
     push_first(alloc, pages, span)
 }
 
-// Adds an entry to a page, in front of the span of this index.
+// Adds an entry to a page, before the span of this index.
 fn add_at(
     alloc: Global,
     arena: &mut Arena,

@@ -14,7 +14,7 @@ use crate::arena::{Arena, Span};
 use archive_text::{EntryView, compare};
 use std::cmp::Ordering;
 
-// Where an entry goes in a page: in front of the span of this index. None where it is held.
+// Where an entry goes in a page: before the span of this index. None where it is held.
 fn search_page(arena: &Arena, page: &[Span], entry: &EntryView<'_>) -> Option<usize>
     requires within { AllByRecursion (IsWithin (blocks_of arena.now)) page.now }
     requires ascending { IsAscending (entries_at (blocks_of arena.now) page.now) }
@@ -73,7 +73,7 @@ fn page_for(arena: &Arena, pages: &[Vec<Span>], entry: &EntryView<'_>) -> usize
     low.saturating_sub(1)
 }
 
-/// Where an entry goes among pages: into this page, in front of the span of this index. None where
+/// Where an entry goes among pages: into this page, before the span of this index. None where
 /// it is held. An entry above all others takes one comparison.
 pub fn place_of(arena: &Arena, pages: &[Vec<Span>], entry: &EntryView<'_>) -> Option<(usize, usize)>
     requires some { 0 < length pages.now }

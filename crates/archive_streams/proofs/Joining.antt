@@ -4,7 +4,7 @@ use Rattle.std.specs.Prelude.{◌⊎◌, ◌↔◌}
 use Rattle.std.specs.List.{AllByRecursion}
 use Rattle.std.proofs.lemmas.List.{append-nil, length-append}
 use Rattle.archive_text.specs.Entries.{Entry, Has, IsAscending, IsBelow}
-use Rattle.archive_text.specs.Faults.{IsArchiveFault, IsFaultBehind, IsFront}
+use Rattle.archive_text.specs.Faults.{IsArchiveFault, IsFaultBehind, IsLongestArchive}
 use Rattle.archive_text.specs.Text.{IsArchive, entry_text, text_of}
 use Rattle.archive_text.specs.declared.fault.ArchiveFault.{ArchiveFault}
 use Rattle.archive_text.specs.declared.limits.TheConstants.{ENTRY_MAX}
@@ -12,7 +12,7 @@ use Rattle.archive_text.proofs.Orders.{below_asymmetric, below_irreflexive, belo
 use Rattle.archive_text.proofs.Members.{has_either, has_left, has_right, of_member}
 use Rattle.archive_text.proofs.Ascending.{ascending_across}
 use Rattle.archive_text.proofs.Texts.{no_text, one_begins, text_append, text_length, text_some}
-use Rattle.archive_text.proofs.Fronts.{archive_has_no_fault, front_faulty, one_front}
+use Rattle.archive_text.proofs.Prefixes.{archive_has_no_fault, longest_faulty, one_longest}
 use Rattle.archive_streams.specs.Joining.{IsFirstAbove, IsFirstWithin, IsPrefixOfUnion, IsUnion, IsUpToFirst, IsWithin}
 
 -- an entry is above all of a list
@@ -80,8 +80,8 @@ further x ls ws xs r e s a is h =
     ]
 
 -- what was read of a side is in its front
-in_front : (x : List ℕ) (ls ws xs : List Entry) (r : List ℕ) (e : Entry) → (s : SideAt x ls ws) → IsFront ENTRY_MAX x xs r → Has s.es e → Has xs e
-in_front x ls ws xs r e s f h =
+before_all : (x : List ℕ) (ls ws xs : List Entry) (r : List ℕ) (e : Entry) → (s : SideAt x ls ws) → IsLongestArchive ENTRY_MAX x xs r → Has s.es e → Has xs e
+before_all x ls ws xs r e s f h =
     elim (one_begins ENTRY_MAX ENTRY_MAX s.es xs s.rest r (omega arith) (omega arith) s.archive f.archive (sym s.parts ∙ f.parts)) [
       | inl (gs, same, more) ↦ subst (λ (l : List Entry). Has l e) (sym same) (has_left s.es gs e h)
       | inr (gs, same, more) ↦ shorter gs same
@@ -92,8 +92,8 @@ in_front x ls ws xs r e s f h =
     shorter (g ∷ gs) same =
         absurd (omega (arith, f.longest s.es s.rest s.archive s.parts, ap (λ (l : List Entry). length (text_of l)) same, text_length xs (g ∷ gs), length-append (entry_text g) (text_of gs), text_some g))
 
-pub joined_in_front : (x : List ℕ) (ls ws xs : List Entry) (r : List ℕ) (e : Entry) → SideAt x ls ws → IsFront ENTRY_MAX x xs r → Has ls e → Has xs e
-joined_in_front x ls ws xs r e s f h = in_front x ls ws xs r e s f (read_of s.es ls ws s.rest e s.stands h)
+pub joined_before : (x : List ℕ) (ls ws xs : List Entry) (r : List ℕ) (e : Entry) → SideAt x ls ws → IsLongestArchive ENTRY_MAX x xs r → Has ls e → Has xs e
+joined_before x ls ws xs r e s f h = before_all x ls ws xs r e s f (read_of s.es ls ws s.rest e s.stands h)
 
 -- ---- an ascending list whose members are the least ones of another begins it
 
@@ -125,24 +125,24 @@ initial (w ∷ ws) (z ∷ zs) up above into from =
     yet e h same (inl (inl k)) = absurd (below_irreflexive z (subst (IsBelow z) (sym k ∙ same) (below_head z zs e above h)))
     yet e h same (inr all) = inr (λ v k. all v (inr k))
 
--- ---- what was joined, and the fronts
+-- ---- what was joined, and the prefixes
 
--- each entry of the fronts was joined, or is above all that was
-either_side : (x y : List ℕ) (ls rs ws xs ys : List Entry) (r s : List ℕ) (e : Entry) → SideAt x ls ws → SideAt y rs ws → IsUnion ls rs ws → IsFront ENTRY_MAX x xs r → IsFront ENTRY_MAX y ys s
+-- each entry of the prefixes was joined, or is above all that was
+either_side : (x y : List ℕ) (ls rs ws xs ys : List Entry) (r s : List ℕ) (e : Entry) → SideAt x ls ws → SideAt y rs ws → IsUnion ls rs ws → IsLongestArchive ENTRY_MAX x xs r → IsLongestArchive ENTRY_MAX y ys s
     → Has xs e ⊎ Has ys e → Has ws e ⊎ AllBelow ws e
 either_side x y ls rs ws xs ys r s e a b u f g (inl h) = elim (further x ls ws xs r e a f.archive f.parts h) [ inl k ↦ inl (u.left e k) | inr k ↦ inr k ]
 either_side x y ls rs ws xs ys r s e a b u f g (inr h) = elim (further y rs ws ys s e b g.archive g.parts h) [ inl k ↦ inl (u.right e k) | inr k ↦ inr k ]
 
-joined_of : (x y : List ℕ) (ls rs ws xs ys : List Entry) (r s : List ℕ) (e : Entry) → SideAt x ls ws → SideAt y rs ws → IsFront ENTRY_MAX x xs r → IsFront ENTRY_MAX y ys s
+joined_of : (x y : List ℕ) (ls rs ws xs ys : List Entry) (r s : List ℕ) (e : Entry) → SideAt x ls ws → SideAt y rs ws → IsLongestArchive ENTRY_MAX x xs r → IsLongestArchive ENTRY_MAX y ys s
     → Has ls e ⊎ Has rs e → Has xs e ⊎ Has ys e
-joined_of x y ls rs ws xs ys r s e a b f g (inl h) = inl (joined_in_front x ls ws xs r e a f h)
-joined_of x y ls rs ws xs ys r s e a b f g (inr h) = inr (joined_in_front y rs ws ys s e b g h)
+joined_of x y ls rs ws xs ys r s e a b f g (inl h) = inl (joined_before x ls ws xs r e a f h)
+joined_of x y ls rs ws xs ys r s e a b f g (inr h) = inr (joined_before y rs ws ys s e b g h)
 
 in_union : (xs ys zs : List Entry) (e : Entry) → IsUnion xs ys zs → Has xs e ⊎ Has ys e → Has zs e
 in_union xs ys zs e u (inl h) = u.left e h
 in_union xs ys zs e u (inr h) = u.right e h
 
--- what was joined begins the union of the fronts
+-- what was joined begins the union of the prefixes
 pub prefix_of_union : (x y : List ℕ) (ls rs ws : List Entry) → SideAt x ls ws → SideAt y rs ws → IsUnion ls rs ws → IsPrefixOfUnion x y (text_of ws)
 prefix_of_union x y ls rs ws a b u xs ys zs r s f g v =
     let rest = initial ws zs u.ascending v.ascending (λ e h. in_union xs ys zs e v (joined_of x y ls rs ws xs ys r s e a b f g (u.only e h)))
@@ -165,11 +165,11 @@ not_above : (ls ws : List Entry) (e : Entry) → ((m : Entry) → Has ls m → H
 not_above ls ws e into (m, has, inl same) all = below_irreflexive e (subst (λ (k : Entry). IsBelow k e) (sym same) (all m (into m has)))
 not_above ls ws e into (m, has, inr less) all = below_asymmetric e m less (all m (into m has))
 
--- of a front that is all that was joined of its side
+-- of a prefix that is all that was joined of its side
 pub up_to_first : (x y : List ℕ) (ls rs ws : List Entry) (rest : List ℕ) (fault : ArchiveFault) → IsArchive ENTRY_MAX ls → x ≡ text_of ls ++ rest → IsFaultBehind ENTRY_MAX ls rest fault
     → SideAt x ls ws → SideAt y rs ws → IsUnion ls rs ws → AllWithin ls ws → IsUpToFirst x y (text_of ws)
 up_to_first x y ls rs ws rest fault archive parts wrong a b u all xs ys r s f g =
-    let same : ls ≡ xs = (one_front ENTRY_MAX x ls xs rest r (omega arith) (front_faulty ENTRY_MAX x ls rest fault (omega arith) archive parts wrong) f).0 in (
+    let same : ls ≡ xs = (one_longest ENTRY_MAX x ls xs rest r (omega arith) (longest_faulty ENTRY_MAX x ls rest fault (omega arith) archive parts wrong) f).0 in (
       ws,
       u.ascending,
       refl,
@@ -183,24 +183,24 @@ up_to_first x y ls rs ws rest fault archive parts wrong a b u all xs ys r s f g 
 pub first_within : (x y : List ℕ) (ls rs ws : List Entry) (rest : List ℕ) (fault other : ArchiveFault) → IsArchive ENTRY_MAX ls → x ≡ text_of ls ++ rest → IsFaultBehind ENTRY_MAX ls rest fault
     → SideAt y rs ws → IsUnion ls rs ws → IsArchiveFault ENTRY_MAX y other → IsFirstWithin x y
 first_within x y ls rs ws rest fault other archive parts wrong b u too xs ys r s f g m h =
-    let same : ls ≡ xs = (one_front ENTRY_MAX x ls xs rest r (omega arith) (front_faulty ENTRY_MAX x ls rest fault (omega arith) archive parts wrong) f).0 in
+    let same : ls ≡ xs = (one_longest ENTRY_MAX x ls xs rest r (omega arith) (longest_faulty ENTRY_MAX x ls rest fault (omega arith) archive parts wrong) f).0 in
     known b.stands (u.left m (subst (λ (l : List Entry). Has l m) (sym same) h))
   where
     known : Standing b.es rs ws b.rest → Has ws m → IsWithin ys m
-    known (inl (n, is, below)) k = (n, in_front y rs ws ys s n b g (subst (λ (l : List Entry). Has l n) (sym is) (has_right rs (n ∷ []) n (inl refl))), inr (below m k))
+    known (inl (n, is, below)) k = (n, before_all y rs ws ys s n b g (subst (λ (l : List Entry). Has l n) (sym is) (has_right rs (n ∷ []) n (inl refl))), inr (below m k))
     known (inr (inl (is, none))) k =
         absurd (archive_has_no_fault ENTRY_MAX b.es other b.archive (subst (λ (t : List ℕ). IsArchiveFault ENTRY_MAX t other) (b.parts ∙ ap (λ (t : List ℕ). text_of b.es ++ t) none ∙ append-nil (text_of b.es)) too))
-    known (inr (inr (is, within))) k = let w = within m k in (w.0, joined_in_front y rs ws ys s w.0 b g w.1, w.2)
+    known (inr (inr (is, within))) k = let w = within m k in (w.0, joined_before y rs ws ys s w.0 b g w.1, w.2)
 
 -- the other side, where it has a fault too and its next entry was read, has an entry above all that was joined
 pub first_above : (x y : List ℕ) (ls rs ws : List Entry) (rest : List ℕ) (fault other : ArchiveFault) → IsArchive ENTRY_MAX rs → y ≡ text_of rs ++ rest → IsFaultBehind ENTRY_MAX rs rest fault
     → (a : SideAt x ls ws) → ((e : Entry) × (a.es ≡ ls ++ e ∷ []) × AllBelow ws e) ⊎ ((a.es ≡ ls) × (a.rest ≡ [])) → IsUnion ls rs ws → IsArchiveFault ENTRY_MAX x other → IsFirstAbove x y
 first_above x y ls rs ws rest fault other archive parts wrong a stands u too xs ys r s f g =
-    let same : rs ≡ ys = (one_front ENTRY_MAX y rs ys rest s (omega arith) (front_faulty ENTRY_MAX y rs rest fault (omega arith) archive parts wrong) g).0 in
+    let same : rs ≡ ys = (one_longest ENTRY_MAX y rs ys rest s (omega arith) (longest_faulty ENTRY_MAX y rs rest fault (omega arith) archive parts wrong) g).0 in
     known same stands
   where
     known : rs ≡ ys → ((e : Entry) × (a.es ≡ ls ++ e ∷ []) × AllBelow ws e) ⊎ ((a.es ≡ ls) × (a.rest ≡ [])) → (m : Entry) × Has xs m × ((e : Entry) → Has ys e → IsBelow e m)
     known same (inl (n, is, below)) =
-        (n, in_front x ls ws xs r n a f (subst (λ (l : List Entry). Has l n) (sym is) (has_right ls (n ∷ []) n (inl refl))), λ e h. below e (u.right e (subst (λ (l : List Entry). Has l e) (sym same) h)))
+        (n, before_all x ls ws xs r n a f (subst (λ (l : List Entry). Has l n) (sym is) (has_right ls (n ∷ []) n (inl refl))), λ e h. below e (u.right e (subst (λ (l : List Entry). Has l e) (sym same) h)))
     known same (inr (is, none)) =
         absurd (archive_has_no_fault ENTRY_MAX a.es other a.archive (subst (λ (t : List ℕ). IsArchiveFault ENTRY_MAX t other) (a.parts ∙ ap (λ (t : List ℕ). text_of a.es ++ t) none ∙ append-nil (text_of a.es)) too))

@@ -23,13 +23,13 @@ pub record HoldsEntry (t : EntryText) : Type 0 where
 abbrev pub IsAbove : EntryText → Entry → Type 0
 IsAbove last e = last.text.items ≢ [] → IsBelow (entry_in last) e
 
--- so many octets stand behind a text
+-- so many octets follow a text
 pub record HasCounted (count : ℕ) (before after : List ℕ) : Type 0 where
   pub octets : List ℕ
   pub size : length octets ≡ count
   pub parts : after ≡ before ++ octets
 
--- so many octets at most stand behind a text
+-- so many octets at most follow a text
 pub record HasUpTo (count : ℕ) (before after : List ℕ) : Type 0 where
   pub octets : List ℕ
   pub few : length octets ≤ count

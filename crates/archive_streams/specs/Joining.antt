@@ -1,7 +1,7 @@
 -- What becomes of two archives that are joined.
 use Rattle.std.specs.Prelude.{◌≡◌, ℕ, ◌+◌, ◌<◌, ◌↔◌, ◌⊎◌, List, [], ◌∷◌, ◌++◌, length, Option}
 use Rattle.archive_text.specs.Entries.{Entry, Has, IsAscending, IsBelow}
-use Rattle.archive_text.specs.Faults.{IsArchiveFault, IsFront}
+use Rattle.archive_text.specs.Faults.{IsArchiveFault, IsLongestArchive}
 use Rattle.archive_text.specs.Text.{IsArchive, text_of}
 use Rattle.archive_text.specs.declared.limits.TheConstants.{ENTRY_MAX}
 
@@ -16,27 +16,27 @@ pub record IsUnion (xs ys zs : List Entry) : Type 0 where
   pub right : (e : Entry) → Has ys e → Has zs e
   pub only : (e : Entry) → Has zs e → Has xs e ⊎ Has ys e
 
--- a prefix of the text of the union of the two fronts
+-- a prefix of the text of the union of the two prefixes
 abbrev pub IsPrefixOfUnion : List ℕ → List ℕ → List ℕ → Type 0
 IsPrefixOfUnion x y written =
-    (xs ys zs : List Entry) (r s : List ℕ) → IsFront ENTRY_MAX x xs r → IsFront ENTRY_MAX y ys s
+    (xs ys zs : List Entry) (r s : List ℕ) → IsLongestArchive ENTRY_MAX x xs r → IsLongestArchive ENTRY_MAX y ys s
     → IsUnion xs ys zs → (more : List ℕ) × (text_of zs ≡ written ++ more)
 
--- the text of the members of the two fronts that are not above the greatest of the first
+-- the text of the members of the two prefixes that are not above the greatest of the first
 abbrev pub IsUpToFirst : List ℕ → List ℕ → List ℕ → Type 0
 IsUpToFirst x y written =
-    (xs ys : List Entry) (r s : List ℕ) → IsFront ENTRY_MAX x xs r → IsFront ENTRY_MAX y ys s
+    (xs ys : List Entry) (r s : List ℕ) → IsLongestArchive ENTRY_MAX x xs r → IsLongestArchive ENTRY_MAX y ys s
     → (ws : List Entry) × IsAscending ws × (written ≡ text_of ws)
     × ((e : Entry) → Has ws e ↔ ((Has xs e ⊎ Has ys e) × IsWithin xs e))
 
 -- no member of the first front is above the greatest of the second
 abbrev pub IsFirstWithin : List ℕ → List ℕ → Type 0
 IsFirstWithin x y =
-    (xs ys : List Entry) (r s : List ℕ) → IsFront ENTRY_MAX x xs r → IsFront ENTRY_MAX y ys s
+    (xs ys : List Entry) (r s : List ℕ) → IsLongestArchive ENTRY_MAX x xs r → IsLongestArchive ENTRY_MAX y ys s
     → (m : Entry) → Has xs m → IsWithin ys m
 
 -- a member of the first front is above all of the second
 abbrev pub IsFirstAbove : List ℕ → List ℕ → Type 0
 IsFirstAbove x y =
-    (xs ys : List Entry) (r s : List ℕ) → IsFront ENTRY_MAX x xs r → IsFront ENTRY_MAX y ys s
+    (xs ys : List Entry) (r s : List ℕ) → IsLongestArchive ENTRY_MAX x xs r → IsLongestArchive ENTRY_MAX y ys s
     → (m : Entry) × Has xs m × ((e : Entry) → Has ys e → IsBelow e m)

@@ -20,7 +20,7 @@ pub record Reader : Type 0 where
 abbrev pub device : Option (List ℕ) → ℕ → ℕ → Reader
 device left calls ends = record { left = left; calls = calls; ends = ends }
 
--- a reader gave octets, which stand behind those before; its calls and the ends that it gave were
+-- a reader gave octets, which follow those before; its calls and the ends that it gave were
 -- counted, where its own count cannot come to its last value; and behind an end nothing is left
 pub record ReadsOn (p q : Pieces) (d e : Reader) (before after : List ℕ) : Type 0 where
   pub more : List ℕ
@@ -37,7 +37,7 @@ FailuresOf (Ok x) old new = new ≡ old
 FailuresOf (Err Device) old new = new ≡ count_on old
 FailuresOf (Err Endless) old new = new ≡ old
 
--- some octets stand behind those before, so many at most
+-- some octets follow those before, so many at most
 pub record TakesMore (most : ℕ) (before after : List ℕ) : Type 0 where
   pub more : List ℕ
   pub grown : after ≡ before ++ more

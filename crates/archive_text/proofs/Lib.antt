@@ -3,7 +3,7 @@ pub mod Reading
 pub mod Members
 pub mod Ascending
 pub mod Texts
-pub mod Fronts
+pub mod Prefixes
 pub mod FaultLaws
 pub mod Places
 pub mod Sets

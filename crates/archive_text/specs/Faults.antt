@@ -51,7 +51,7 @@ IsFaultBefore most text (NotCanonical at) =
 IsFaultBefore most text (NotAscending at) = ⊥
 
 -- the longest prefix of a text that is an archive: these entries, and what follows them
-pub record IsFront (most : ℕ) (text : List ℕ) (es : List Entry) (rest : List ℕ) : Type 0 where
+pub record IsLongestArchive (most : ℕ) (text : List ℕ) (es : List Entry) (rest : List ℕ) : Type 0 where
   pub archive : IsArchive most es
   pub parts : text ≡ text_of es ++ rest
   pub longest : (fs : List Entry) (s : List ℕ) → IsArchive most fs → text ≡ text_of fs ++ s
@@ -77,5 +77,5 @@ IsFaultBehind most es rest (NotAscending at) =
 -- the fault of a text that is no archive: that behind its longest prefix that is one
 abbrev pub IsArchiveFault : ℕ → List ℕ → ArchiveFault → Type 0
 IsArchiveFault most text fault =
-    (es : List Entry) × (rest : List ℕ) × IsFront most text es rest × (0 < length rest)
+    (es : List Entry) × (rest : List ℕ) × IsLongestArchive most text es rest × (0 < length rest)
     × IsFaultBehind most es rest fault

@@ -9,7 +9,7 @@ use Rattle.archive_text.proofs.Members.{has_either, has_left, has_right, of_all,
 use Rattle.archive_vec.proofs.Finding.{above_from}
 use Rattle.archive_vec.proofs.Putting.{drop_with, take_with}
 
--- the list has what stands before two indices, and all of it is below what stands behind them
+-- the list has what stands before two indices, and all of it is below what follows them
 pub record IsMerging (a b list : List Entry) (i j : ℕ) : Type 0 where
   pub members : (x : Entry) → Has list x ↔ (Has (take i a) x ⊎ Has (take j b) x)
   pub below_left : (x y : Entry) → Has list x → Has (drop i a) y → IsBelow x y

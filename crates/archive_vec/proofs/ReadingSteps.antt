@@ -8,7 +8,7 @@ use Rattle.archive_text.specs.declared.fault.ArchiveFault.{ArchiveFault}
 use Rattle.archive_text.specs.declared.fault.ArchiveFault.TheVariants.{BadFrame, EntryTooLong, BadEntry, NotCanonical, NotAscending}
 use Rattle.archive_text.specs.declared.limits.TheConstants.{ENTRY_MAX}
 use Rattle.archive_text.proofs.Ascending.{below_last}
-use Rattle.archive_text.proofs.Fronts.{archive_fault}
+use Rattle.archive_text.proofs.Prefixes.{archive_fault}
 use Rattle.archive_vec.specs.Reads.{IsFaultOn, IsReadFault, position_of, shift}
 use Rattle.archive_vec.specs.declared.reading.ReadFault.{ReadFault}
 use Rattle.archive_vec.specs.declared.reading.ReadFault.TheVariants.{Bad, Memory}

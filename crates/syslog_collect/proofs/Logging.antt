@@ -45,10 +45,18 @@ piece_log h c s d x y a b [] l m is at quiet still (os, log, inr moves) =
     let none = no_fresh s d moves.fresh (one_settled x s d at quiet) now in
     (os, log, nothing_more a b os s (subst (λ (fs : List (List ℕ)). AreReported a b fs os) none moves.reported) (subst (λ (t : Stream). MarksBad os t) (longer_none s) moves.marks) moves.may.0)
 piece_log h c s d x y a b (z ∷ zs) l m is at quiet still (os, log, inl (none, same, kept, silent)) = absurd (cc)
-piece_log h c s d x y a b (z ∷ zs) l m is at quiet still (os, log, inr moves) =
-    (os, log, (os, [], b, sym (append-nil os),
+piece_log h c s d x y a b (z ∷ zs) l m is at quiet still (os, log, inr moves) = (
+  os,
+  log,
+  (
+    os,
+    [],
+    b,
+    sym (append-nil os),
     rw is (d, moves.fresh, one_settled x s d at quiet, one_settled y (longer s (z ∷ zs)) (d ++ moves.fresh) moves.now_at still, moves.reported, moves.marks),
-    (refl, refl)))
+    (refl, refl),
+  ),
+)
 
 settled_at : (c i : ℕ) (x : Connection) (ls : List Connection) → IsSettled ls → AtPlace c ls i x → ¬ (HasFrame x.scanner)
 settled_at c i x [] settled at = absurd at

@@ -18,7 +18,7 @@ use Rattle.archive_text.specs.declared.fault.ArchiveFault.TheVariants.{BadFrame,
 use Rattle.archive_text.proofs.Ascending.{ascending_left}
 use Rattle.archive_text.proofs.Texts.{GoesOn, text_length, text_some}
 use Rattle.archive_migration.specs.OldEntries.{IsOldArchive}
-use Rattle.archive_migration.specs.OldFaults.{IsOldArchiveFault, IsOldFaultBehind, IsOldFront}
+use Rattle.archive_migration.specs.OldFaults.{IsOldArchiveFault, IsOldFaultBehind, IsLongestOldArchive}
 use Rattle.archive_migration.specs.OldTexts.{BeginsWithOldEntry}
 use Rattle.archive_migration.proofs.OldForms.{old_well_formed, same_old_octets}
 use Rattle.archive_migration.proofs.OldTexts.{first_of_old_text, old_archive_right, one_old_begins}
@@ -40,9 +40,9 @@ none_longer most es fs rest behind low stuck h (g ∷ gs, same, is) =
     absurd (stuck g (text_of gs ++ behind) (first_of_old_text most rest g gs behind low (old_archive_right most es (g ∷ gs) further) is) (ascending_left (es ++ g ∷ []) gs (subst IsAscending moved ascending)))
 
 -- an archive whose text begins the text, and behind which none of its entries goes on, is the longest
-pub old_front_stuck : (most : ℕ) (text : List ℕ) (es : List Entry) (rest : List ℕ) → most ≤ COUNT_MAX → IsOldArchive most es → text ≡ text_of es ++ rest → IsStuck most es rest
-    → IsOldFront most text es rest
-old_front_stuck most text es rest low h is stuck = record {
+pub old_longest_stuck : (most : ℕ) (text : List ℕ) (es : List Entry) (rest : List ℕ) → most ≤ COUNT_MAX → IsOldArchive most es → text ≡ text_of es ++ rest → IsStuck most es rest
+    → IsLongestOldArchive most text es rest
+old_longest_stuck most text es rest low h is stuck = record {
   archive = h;
   parts = is;
   longest = λ fs behind k also.
@@ -75,7 +75,7 @@ too_long_excludes most rest e s (count, behind, follows, long) h =
     let both = length_of_entry most count rest behind e s h follows in
     omega (arith, long, both.0, h.fits)
 
--- the octets in front are those of the entry
+-- the octets at the start are those of the entry
 octets_of_entry : (most : ℕ) (rest b : List ℕ) (e : Entry) (s : List ℕ) → BeginsWithOctets most rest b → BeginsWithOldEntry most rest e s → e.octets ≡ b
 octets_of_entry most rest b e s (carries, fits, (behind, is)) h = one_frame Counted e.octets b s behind h.carries carries (sym h.parts ∙ is)
 
@@ -95,16 +95,16 @@ old_fault_excludes most es rest (NotAscending at) (is, (f, entry, begins, none))
     none (subst (λ x. IsAscending (es ++ x ∷ [])) (same_old_octets e f h.entry entry (octets_of_entry most rest f.octets e s begins h)) ascending)
 
 -- entries with a fault behind them are the longest archive
-pub old_front_faulty : (most : ℕ) (text : List ℕ) (es : List Entry) (rest : List ℕ) (fault : ArchiveFault) → most ≤ COUNT_MAX → IsOldArchive most es → text ≡ text_of es ++ rest
-    → IsOldFaultBehind most es rest fault → IsOldFront most text es rest
-old_front_faulty most text es rest fault low h is bad = old_front_stuck most text es rest low h is (old_fault_excludes most es rest fault bad)
+pub old_longest_faulty : (most : ℕ) (text : List ℕ) (es : List Entry) (rest : List ℕ) (fault : ArchiveFault) → most ≤ COUNT_MAX → IsOldArchive most es → text ≡ text_of es ++ rest
+    → IsOldFaultBehind most es rest fault → IsLongestOldArchive most text es rest
+old_longest_faulty most text es rest fault low h is bad = old_longest_stuck most text es rest low h is (old_fault_excludes most es rest fault bad)
 
 -- and are the fault of the text, where something is left
 pub old_archive_fault : (most : ℕ) (text : List ℕ) (es : List Entry) (rest : List ℕ) (fault : ArchiveFault) → most ≤ COUNT_MAX → IsOldArchive most es → text ≡ text_of es ++ rest → 0 < length rest
     → IsOldFaultBehind most es rest fault → IsOldArchiveFault most text fault
-old_archive_fault most text es rest fault low h is some bad = (es, rest, old_front_faulty most text es rest fault low h is bad, some, bad)
+old_archive_fault most text es rest fault low h is some bad = (es, rest, old_longest_faulty most text es rest fault low h is bad, some, bad)
 
 -- the text of an archive has no fault
 pub old_archive_has_no_fault : (most : ℕ) (es : List Entry) (fault : ArchiveFault) → IsOldArchive most es → ¬ (IsOldArchiveFault most (text_of es) fault)
-old_archive_has_no_fault most es fault h (fs, rest, front, some, bad) =
-    omega (arith, front.longest es [] h (sym (append-nil (text_of es))), ap length front.parts, length-append (text_of fs) rest, some)
+old_archive_has_no_fault most es fault h (fs, rest, prefix, some, bad) =
+    omega (arith, prefix.longest es [] h (sym (append-nil (text_of es))), ap length prefix.parts, length-append (text_of fs) rest, some)

@@ -12,7 +12,7 @@ use Rattle.syslog_frame.proofs.FrameLaws.{one_frame, same_count}
 use Rattle.syslog_grammar.specs.WellFormed.{WellFormed}
 use Rattle.syslog_grammar.proofs.CanonicalParses.{canonical_well_formed}
 use Rattle.archive_text.specs.Entries.{Entry, IsAscending}
-use Rattle.archive_text.specs.Faults.{BeginsWithOctets, IsArchiveFault, IsBadFrame, IsFaultBehind, IsFront, IsTooLong}
+use Rattle.archive_text.specs.Faults.{BeginsWithOctets, IsArchiveFault, IsBadFrame, IsFaultBehind, IsLongestArchive, IsTooLong}
 use Rattle.archive_text.specs.Text.{BeginsWithEntry, IsArchive, entry_text, text_of}
 use Rattle.archive_text.specs.declared.fault.ArchiveFault.{ArchiveFault}
 use Rattle.archive_text.specs.declared.fault.ArchiveFault.TheVariants.{BadFrame, EntryTooLong, BadEntry, NotCanonical, NotAscending}
@@ -36,9 +36,9 @@ none_longer most es fs rest behind low stuck h (g ∷ gs, same, is) =
     absurd (stuck g (text_of gs ++ behind) (first_of_text most rest g gs behind low (archive_right most es (g ∷ gs) further) is) (ascending_left (es ++ g ∷ []) gs (subst IsAscending moved ascending)))
 
 -- an archive whose text begins the text, and behind which none of its entries goes on, is the longest
-pub front_stuck : (most : ℕ) (text : List ℕ) (es : List Entry) (rest : List ℕ) → most ≤ COUNT_MAX → IsArchive most es → text ≡ text_of es ++ rest → IsStuck most es rest
-    → IsFront most text es rest
-front_stuck most text es rest low h is stuck = record {
+pub longest_stuck : (most : ℕ) (text : List ℕ) (es : List Entry) (rest : List ℕ) → most ≤ COUNT_MAX → IsArchive most es → text ≡ text_of es ++ rest → IsStuck most es rest
+    → IsLongestArchive most text es rest
+longest_stuck most text es rest low h is stuck = record {
   archive = h;
   parts = is;
   longest = λ fs behind k also.
@@ -52,12 +52,12 @@ stuck_nil : (most : ℕ) (es : List Entry) → IsStuck most es []
 stuck_nil most es e behind h ascending = omega (arith, ap length h.parts, length-append (entry_text e) behind, text_some e)
 
 -- nothing is left
-pub front_whole : (most : ℕ) (text : List ℕ) (es : List Entry) → most ≤ COUNT_MAX → IsArchive most es → text ≡ text_of es → IsFront most text es []
-front_whole most text es low h is = front_stuck most text es [] low h (is ∙ sym (append-nil (text_of es))) (stuck_nil most es)
+pub longest_whole : (most : ℕ) (text : List ℕ) (es : List Entry) → most ≤ COUNT_MAX → IsArchive most es → text ≡ text_of es → IsLongestArchive most text es []
+longest_whole most text es low h is = longest_stuck most text es [] low h (is ∙ sym (append-nil (text_of es))) (stuck_nil most es)
 
 -- two longest archives are one
-pub one_front : (most : ℕ) (text : List ℕ) (es fs : List Entry) (r s : List ℕ) → most ≤ COUNT_MAX → IsFront most text es r → IsFront most text fs s → (es ≡ fs) × (r ≡ s)
-one_front most text es fs r s low h k =
+pub one_longest : (most : ℕ) (text : List ℕ) (es fs : List Entry) (r s : List ℕ) → most ≤ COUNT_MAX → IsLongestArchive most text es r → IsLongestArchive most text fs s → (es ≡ fs) × (r ≡ s)
+one_longest most text es fs r s low h k =
     elim (one_begins most most es fs r s low low h.archive k.archive (sym h.parts ∙ k.parts)) [
       | inl later ↦ same_length es fs r s (h.longest fs s k.archive k.parts) (sym h.parts ∙ k.parts) later
       | inr later ↦ let both = same_length fs es s r (k.longest es r h.archive h.parts) (sym k.parts ∙ h.parts) later in (sym both.0, sym both.1)
@@ -91,7 +91,7 @@ too_long_excludes most rest e s (count, behind, follows, long) h =
     let both = length_of_entry most count rest behind e s h follows in
     omega (arith, long, both.0, h.fits)
 
--- the octets in front are those of the entry
+-- the octets at the start are those of the entry
 octets_of_entry : (most : ℕ) (rest b : List ℕ) (e : Entry) (s : List ℕ) → BeginsWithOctets most rest b → BeginsWithEntry most rest e s → e.octets ≡ b
 octets_of_entry most rest b e s (carries, fits, (behind, is)) h = one_frame Counted e.octets b s behind h.carries carries (sym h.parts ∙ is)
 
@@ -111,16 +111,16 @@ fault_excludes most es rest (NotAscending at) (is, (f, entry, begins, none)) e s
     none (subst (λ x. IsAscending (es ++ x ∷ [])) (same_octets e f h.entry entry (octets_of_entry most rest f.octets e s begins h)) ascending)
 
 -- entries with a fault behind them are the longest archive
-pub front_faulty : (most : ℕ) (text : List ℕ) (es : List Entry) (rest : List ℕ) (fault : ArchiveFault) → most ≤ COUNT_MAX → IsArchive most es → text ≡ text_of es ++ rest
-    → IsFaultBehind most es rest fault → IsFront most text es rest
-front_faulty most text es rest fault low h is bad = front_stuck most text es rest low h is (fault_excludes most es rest fault bad)
+pub longest_faulty : (most : ℕ) (text : List ℕ) (es : List Entry) (rest : List ℕ) (fault : ArchiveFault) → most ≤ COUNT_MAX → IsArchive most es → text ≡ text_of es ++ rest
+    → IsFaultBehind most es rest fault → IsLongestArchive most text es rest
+longest_faulty most text es rest fault low h is bad = longest_stuck most text es rest low h is (fault_excludes most es rest fault bad)
 
 -- and are the fault of the text, where something is left
 pub archive_fault : (most : ℕ) (text : List ℕ) (es : List Entry) (rest : List ℕ) (fault : ArchiveFault) → most ≤ COUNT_MAX → IsArchive most es → text ≡ text_of es ++ rest → 0 < length rest
     → IsFaultBehind most es rest fault → IsArchiveFault most text fault
-archive_fault most text es rest fault low h is some bad = (es, rest, front_faulty most text es rest fault low h is bad, some, bad)
+archive_fault most text es rest fault low h is some bad = (es, rest, longest_faulty most text es rest fault low h is bad, some, bad)
 
 -- the text of an archive has no fault
 pub archive_has_no_fault : (most : ℕ) (es : List Entry) (fault : ArchiveFault) → IsArchive most es → ¬ (IsArchiveFault most (text_of es) fault)
-archive_has_no_fault most es fault h (fs, rest, front, some, bad) =
-    omega (arith, front.longest es [] h (sym (append-nil (text_of es))), ap length front.parts, length-append (text_of fs) rest, some)
+archive_has_no_fault most es fault h (fs, rest, prefix, some, bad) =
+    omega (arith, prefix.longest es [] h (sym (append-nil (text_of es))), ap length prefix.parts, length-append (text_of fs) rest, some)
