@@ -5,3 +5,4 @@ pub mod NextEntries
 pub mod SideSteps
 pub mod Turns
 pub mod Unions
+pub mod Merges

@@ -1,6 +1,6 @@
 -- Numbers of two archives on their way into one.
 use Rattle.std.proofs.Common.{◌≡◌, ℕ, ◌+◌, ◌*◌, ◌<◌, ◌≤◌, List, [], ◌∷◌, length, refl, sym, ap, subst, arith}
-use Rattle.std.specs.Prelude.{◌≢◌}
+use Rattle.std.specs.Prelude.{◌≢◌, Result, Ok, Err, IfOk, OnOk}
 use Rattle.std.specs.declared.cmp.Ordering.{Ordering}
 use Rattle.std.specs.declared.cmp.Ordering.TheVariants.{Less, Equal, Greater}
 use Rattle.archive_text.specs.Entries.{IsOrder}
@@ -30,3 +30,12 @@ pub falls_both : (old new : Merge) → IsSteady old → old.left.entry.text.item
     → new.right.position ≡ old.right.position + length new.right.entry.text.items → height new < height old
 falls_both old new s left right l r =
     omega (arith, s.room.left_near, s.room.right_near, old.left.pieces.few, old.right.pieces.few, some_length old.left.entry.text.items left, some_length old.right.entry.text.items right, l, r)
+
+-- what holds at Ok, and what follows from it
+pub if_ok_then : {T E : Type 0} (r : Result T E) (P Q : T → Type 0) → IfOk r P → ((x : T) → P x → Q x) → IfOk r Q
+if_ok_then (Ok x) P Q h f = f x h
+if_ok_then (Err e) P Q h f = tt
+
+pub on_ok_then : {T E : Type 0} (r : Result T E) (P Q : Type 0) → OnOk r P → (P → Q) → OnOk r Q
+on_ok_then (Ok x) P Q h f = f h
+on_ok_then (Err e) P Q h f = tt

@@ -6,3 +6,5 @@ pub mod Counting
 pub mod Joining
 pub mod Sides
 pub mod Merging
+pub mod Joins
+pub mod Joined

@@ -5,6 +5,12 @@ ghost use Rattle.std.specs.Prelude.{IfOk, IsErrOf, MatchOption, OnOk};
 ghost use Rattle.archive_streams.specs.Merging.{IsLeftDue, IsNextOrder, IsRightDue, IsSteady};
 ghost use Rattle.archive_streams.specs.Merging.{LeftFailures, NotWrite, OnlyWrite, RightFailures};
 ghost use Rattle.archive_streams.specs.Merging.{WriteFailed, height, rank};
+ghost use Rattle.std.specs.Prelude.{List, Option};
+ghost use Rattle.archive_text.specs.Entries.{IsBelow};
+ghost use Rattle.archive_streams.specs.EntryTexts.{entry_in};
+ghost use Rattle.archive_streams.specs.Joined.{Joined};
+ghost use Rattle.archive_streams.specs.Joins.{BothDue, LeftDue, Merging, RightDue};
+ghost use Rattle.archive_streams.specs.Pieces.{Reader, device};
 
 use crate::entry::EntryText;
 use crate::fault::{InputFault, MergeFault, Side, SideFault};
@@ -32,6 +38,8 @@ impl Merge {
     fn new(alloc: Global) -> Result<Merge, AllocError>
         ensures due { IfOk result IsLeftDue }
         ensures empty { IfOk result (λ m. m.right.entry.text.items ≡ []) }
+        ensures both { IfOk result (λ m. (dl dr : Reader) (start : Option (List ℕ)) →
+            BothDue m dl dl dr dr start start) }
     {
         Ok(Merge {
             left: ArchiveReader::new(alloc)?,
@@ -70,6 +78,16 @@ impl Merge {
         ensures count { self.new.count ≡ self.old.count }
         ensures failures { LeftFailures result (R.failures left.old) (R.failures left.new) }
         ensures others { (n : ℕ) → RightFailures result n n }
+        ensures ready { OnOk result ((dl dr er : Reader) (start now : Option (List ℕ)) →
+            LeftDue self.old dl
+            (device (R.left left.old) (R.calls left.old) (R.ends left.old)) dr er start now →
+            Merging self.new dl
+            (device (R.left left.new) (R.calls left.new) (R.ends left.new)) dr er start now) }
+        ensures first { OnOk result ((dl dr er : Reader) (start now : Option (List ℕ)) →
+            BothDue self.old dl
+            (device (R.left left.old) (R.calls left.old) (R.ends left.old)) dr er start now →
+            RightDue self.new dl
+            (device (R.left left.new) (R.calls left.new) (R.ends left.new)) dr er start now) }
         ensures not_written { NotWrite result }
         ensures not_memory { ¬ (IsErrOf result MergeFault.Memory) }
     {
@@ -91,6 +109,11 @@ impl Merge {
         ensures count { self.new.count ≡ self.old.count }
         ensures failures { RightFailures result (R.failures right.old) (R.failures right.new) }
         ensures others { (n : ℕ) → LeftFailures result n n }
+        ensures ready { OnOk result ((dl el dr : Reader) (start now : Option (List ℕ)) →
+            RightDue self.old dl el dr
+            (device (R.left right.old) (R.calls right.old) (R.ends right.old)) start now →
+            Merging self.new dl el dr
+            (device (R.left right.new) (R.calls right.new) (R.ends right.new)) start now) }
         ensures not_written { NotWrite result }
         ensures not_memory { ¬ (IsErrOf result MergeFault.Memory) }
     {
@@ -110,6 +133,16 @@ impl Merge {
         ensures position { self.new.left.position ≡ self.old.left.position }
         ensures right { self.new.right ≡ self.old.right }
         ensures only { OnlyWrite result }
+        ensures less { OnOk result ((dl el dr er : Reader) (start : Option (List ℕ)) →
+            (self.old.right.entry.text.items ≢ [] →
+            IsBelow (entry_in self.old.left.entry) (entry_in self.old.right.entry)) →
+            Merging self.old dl el dr er start (W.taken writer.old) →
+            LeftDue self.new dl el dr er start (W.taken writer.new)) }
+        ensures equal { OnOk result ((dl el dr er : Reader) (start : Option (List ℕ)) →
+            self.old.right.entry.text.items ≢ [] →
+            entry_in self.old.left.entry ≡ entry_in self.old.right.entry →
+            Merging self.old dl el dr er start (W.taken writer.old) →
+            BothDue self.new dl el dr er start (W.taken writer.new)) }
         ensures not_memory { ¬ (IsErrOf result MergeFault.Memory) }
         ensures failures { WriteFailed result (W.failures writer.old) (W.failures writer.new) }
     {
@@ -129,6 +162,11 @@ impl Merge {
         ensures position { self.new.right.position ≡ self.old.right.position }
         ensures left { self.new.left ≡ self.old.left }
         ensures only { OnlyWrite result }
+        ensures greater { OnOk result ((dl el dr er : Reader) (start : Option (List ℕ)) →
+            (self.old.left.entry.text.items ≢ [] →
+            IsBelow (entry_in self.old.right.entry) (entry_in self.old.left.entry)) →
+            Merging self.old dl el dr er start (W.taken writer.old) →
+            RightDue self.new dl el dr er start (W.taken writer.new)) }
         ensures not_memory { ¬ (IsErrOf result MergeFault.Memory) }
         ensures failures { WriteFailed result (W.failures writer.old) (W.failures writer.new) }
     {
@@ -152,6 +190,15 @@ impl Merge {
         requires order { IsNextOrder order self.old }
         ensures steady { OnOk result (IsSteady self.new) }
         ensures falls { OnOk result (height self.new < height self.old) }
+        ensures joins { OnOk result ((dl dr : Reader) (start : Option (List ℕ)) →
+            Merging self.old dl
+            (device (R1.left left.old) (R1.calls left.old) (R1.ends left.old)) dr
+            (device (R2.left right.old) (R2.calls right.old) (R2.ends right.old))
+            start (W.taken writer.old) →
+            Merging self.new dl
+            (device (R1.left left.new) (R1.calls left.new) (R1.ends left.new)) dr
+            (device (R2.left right.new) (R2.calls right.new) (R2.ends right.new))
+            start (W.taken writer.new)) }
         ensures left { LeftFailures result (R1.failures left.old) (R1.failures left.new) }
         ensures right { RightFailures result (R2.failures right.old) (R2.failures right.new) }
         ensures writer { WriteFailed result (W.failures writer.old) (W.failures writer.new) }
@@ -183,6 +230,16 @@ impl Merge {
     ) -> Result<(), MergeFault>
         requires due { IsLeftDue self.old }
         requires empty { self.old.right.entry.text.items ≡ [] }
+        ensures done { OnOk result (rank self.new ≡ 0) }
+        ensures joins { OnOk result ((dl dr : Reader) (start : Option (List ℕ)) →
+            BothDue self.old dl
+            (device (R1.left left.old) (R1.calls left.old) (R1.ends left.old)) dr
+            (device (R2.left right.old) (R2.calls right.old) (R2.ends right.old))
+            start (W.taken writer.old) →
+            Merging self.new dl
+            (device (R1.left left.new) (R1.calls left.new) (R1.ends left.new)) dr
+            (device (R2.left right.new) (R2.calls right.new) (R2.ends right.new))
+            start (W.taken writer.new)) }
         ensures left { LeftFailures result (R1.failures left.old) (R1.failures left.new) }
         ensures right { RightFailures result (R2.failures right.old) (R2.failures right.new) }
         ensures writer { WriteFailed result (W.failures writer.old) (W.failures writer.new) }
@@ -194,6 +251,59 @@ impl Merge {
             self.turn(order, left, right, writer)?;
         }
         Ok(())
+    }
+
+    /// Writes what is held back, and answers how many entries were joined.
+    fn finish<W: Output>(&mut self, writer: &mut W) -> Result<u64, MergeFault>
+        ensures joined { IfOk result (λ n. (dl el dr er : Reader) (start : Option (List ℕ)) →
+            rank self.old ≡ 0 →
+            Merging self.old dl el dr er start (W.taken writer.old) →
+            Joined dl el dr er start (W.taken writer.new) n) }
+        ensures failures { WriteFailed result (W.failures writer.old) (W.failures writer.new) }
+        ensures not_left { ¬ (IsErrOf result (MergeFault.Read Side.Left)) }
+        ensures not_right { ¬ (IsErrOf result (MergeFault.Read Side.Right)) }
+        ensures not_memory { ¬ (IsErrOf result MergeFault.Memory) }
+    {
+        match self.held.finish(writer) {
+            Ok(()) => Ok(self.count),
+            Err(WriteFault { sent }) => Err(MergeFault::Write { sent }),
+        }
+    }
+
+    /// Joins the two, and writes what is held back before a fault is answered.
+    fn run<R1: Input, R2: Input, W: Output>(
+        &mut self,
+        left: &mut R1,
+        right: &mut R2,
+        writer: &mut W,
+    ) -> Result<u64, MergeFault>
+        requires due { IsLeftDue self.old }
+        requires empty { self.old.right.entry.text.items ≡ [] }
+        ensures joined { IfOk result (λ n. (dl dr : Reader) (start : Option (List ℕ)) →
+            BothDue self.old dl
+            (device (R1.left left.old) (R1.calls left.old) (R1.ends left.old)) dr
+            (device (R2.left right.old) (R2.calls right.old) (R2.ends right.old))
+            start (W.taken writer.old) →
+            Joined dl (device (R1.left left.new) (R1.calls left.new) (R1.ends left.new)) dr
+            (device (R2.left right.new) (R2.calls right.new) (R2.ends right.new))
+            start (W.taken writer.new) n) }
+        ensures read_left { R1.failures left.old < 2 ^ 63 →
+            IsErrOf result (MergeFault.Read Side.Left) →
+            R1.failures left.old < R1.failures left.new }
+        ensures read_right { R2.failures right.old < 2 ^ 63 →
+            IsErrOf result (MergeFault.Read Side.Right) →
+            R2.failures right.old < R2.failures right.new }
+        ensures writer { WriteFailed result (W.failures writer.old) (W.failures writer.new) }
+        ensures not_memory { ¬ (IsErrOf result MergeFault.Memory) }
+    {
+        match self.join(left, right, writer) {
+            Ok(()) => self.finish(writer),
+            Err(MergeFault::Write { sent }) => Err(MergeFault::Write { sent }),
+            Err(fault) => match self.finish(writer) {
+                Ok(_) => Err(fault),
+                Err(write) => Err(write),
+            },
+        }
     }
 }
 
@@ -210,6 +320,12 @@ pub fn merge_streams<R1: Input, R2: Input, W: Output>(
     right: &mut R2,
     writer: &mut W,
 ) -> Result<u64, MergeFault>
+    ensures joined { IfOk result (λ n. Joined
+        (device (R1.left left.old) (R1.calls left.old) (R1.ends left.old))
+        (device (R1.left left.new) (R1.calls left.new) (R1.ends left.new))
+        (device (R2.left right.old) (R2.calls right.old) (R2.ends right.old))
+        (device (R2.left right.new) (R2.calls right.new) (R2.ends right.new))
+        (W.taken writer.old) (W.taken writer.new) n) }
     ensures read_left { R1.failures left.old < 2 ^ 63 →
         IsErrOf result (MergeFault.Read Side.Left) → R1.failures left.old < R1.failures left.new }
     ensures read_right { R2.failures right.old < 2 ^ 63 →
@@ -221,13 +337,5 @@ pub fn merge_streams<R1: Input, R2: Input, W: Output>(
     let Ok(mut merge) = Merge::new(alloc) else {
         return Err(MergeFault::Memory);
     };
-    let answer = merge.join(left, right, writer);
-    if let Err(MergeFault::Write { sent }) = answer {
-        return Err(MergeFault::Write { sent });
-    }
-    if let Err(WriteFault { sent }) = merge.held.finish(writer) {
-        return Err(MergeFault::Write { sent });
-    }
-    answer?;
-    Ok(merge.count)
+    merge.run(left, right, writer)
 }

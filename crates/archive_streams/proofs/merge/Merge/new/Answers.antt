@@ -1,4 +1,5 @@
-use Rattle.std.proofs.Common.{arith, ap, length}
+use Rattle.std.proofs.Common.{arith, ap, length, refl}
+use Rattle.archive_streams.proofs.Merges.{both_start}
 use Rattle.archive_streams.proofs.Turns.{near_start}
 use Rattle.archive_streams.proofs.merge.Merge.new.Goals as goal
 
@@ -22,3 +23,9 @@ returns-clause-due c =
 
 pub returns-clause-empty : goal.returns-clause-empty
 returns-clause-empty c = c.in_ok-new-2.ensures.empty
+
+pub returns-clause-both : goal.returns-clause-both
+returns-clause-both c = λ dl dr start.
+    let left = c.in_ok-new.ensures in
+    let right = c.in_ok-new-2.ensures in
+    both_start _ dl dr start left.unused left.position left.calls left.ends right.unused right.position right.calls right.ends c.in_ok-new-3.ensures.empty c.new-4.ensures refl

@@ -2,7 +2,7 @@ use Rattle.std.proofs.Common.{◌≡◌, ◌+◌, length, ap, arith}
 use Rattle.std.proofs.lemmas.Result.{on_ok_weaker}
 use Rattle.archive_streams.specs.Merging.{IsNextOrder}
 use Rattle.archive_streams.specs.declared.side.ArchiveReader.{ArchiveReader}
-use Rattle.archive_streams.proofs.Turns.{falls_both}
+use Rattle.archive_streams.proofs.Turns.{falls_both, on_ok_then}
 use Rattle.archive_streams.proofs.merge.Merge.turn.Goals as goal
 
 pub returns-in_ok-advance_left-in-Equal-clause-falls : goal.returns-in_ok-advance_left-in-Equal-clause-falls
@@ -15,3 +15,20 @@ returns-in_ok-advance_left-in-Equal-clause-falls g c =
     let kept = ap (λ (r : ArchiveReader). r.position) c.advance_left-in-Equal.ensures.right in
     let before = ap (λ (r : ArchiveReader). r.position) c.write_left-in-Equal.ensures.right in
     on_ok_weaker c.advance_right-in-Equal.result (λ right. falls_both old new c.requires.steady order.0 order.1 left (omega (arith, right, kept, before))) c.advance_right-in-Equal.ensures.position
+
+pub returns-in_ok-write_left-in-Less-clause-joins : goal.returns-in_ok-write_left-in-Less-clause-joins
+returns-in_ok-write_left-in-Less-clause-joins g c =
+    let order = rw c.in-Less.is at c.requires.order in
+    on_ok_then c.advance_left.result _ _ c.advance_left.ensures.ready (λ ready dl dr start s. ready dl dr _ start _ (c.in_ok-write_left-in-Less.ensures.less dl _ dr _ start order.1 s))
+
+pub returns-in_ok-write_right-in-Greater-clause-joins : goal.returns-in_ok-write_right-in-Greater-clause-joins
+returns-in_ok-write_right-in-Greater-clause-joins g c =
+    let order = rw c.in-Greater.is at c.requires.order in
+    on_ok_then c.advance_right.result _ _ c.advance_right.ensures.ready (λ ready dl dr start s. ready dl _ dr start _ (c.in_ok-write_right-in-Greater.ensures.greater dl _ dr _ start order.1 s))
+
+pub returns-in_ok-advance_left-in-Equal-clause-joins : goal.returns-in_ok-advance_left-in-Equal-clause-joins
+returns-in_ok-advance_left-in-Equal-clause-joins g c =
+    let order = rw c.in-Equal.is at c.requires.order in
+    on_ok_then c.advance_right-in-Equal.result _ _ c.advance_right-in-Equal.ensures.ready
+    (λ ready dl dr start s.
+    ready dl _ dr start _ (c.in_ok-advance_left-in-Equal.ensures.first dl dr _ start _ (c.in_ok-write_left-in-Equal.ensures.equal dl _ dr _ start order.1 order.2 s)))

@@ -1,0 +1,23 @@
+use Rattle.std.proofs.Common.{refl, ◌∙◌}
+use Rattle.archive_streams.proofs.merge.Merge.join.Goals as goal
+
+pub entries-init : goal.entries-init
+entries-init g c = record {
+  steady = c.in_ok-advance_right.ensures.steady;
+  left = c.in_ok-advance_left.ensures.failures;
+  right = c.in_ok-advance_right.ensures.failures;
+  writer = refl;
+  joins = λ dl dr start s. c.in_ok-advance_right.ensures.ready dl _ dr start _ (c.in_ok-advance_left.ensures.first dl dr _ start _ s);
+}
+
+pub entries-preserved : goal.entries-preserved
+entries-preserved g c = record {
+  steady = c.in_ok-turn.ensures.steady;
+  left = c.in_ok-turn.ensures.left ∙ c.entries.invariant.left;
+  right = c.in_ok-turn.ensures.right ∙ c.entries.invariant.right;
+  writer = c.in_ok-turn.ensures.writer ∙ c.entries.invariant.writer;
+  joins = λ dl dr start s. c.in_ok-turn.ensures.joins dl dr start (c.entries.invariant.joins dl dr start s);
+}
+
+pub returns-clause-joins : goal.returns-clause-joins
+returns-clause-joins g c = c.entries.invariant.joins
