@@ -1,5 +1,5 @@
 -- What is logged where no frame is left ready.
-use Rattle.std.proofs.Common.{◌≡◌, ℕ, zero, suc, List, [], ◌∷◌, ◌++◌, length, get_or, inl, inr, append_assoc, refl, sym, ◌∙◌, ap, subst}
+use Rattle.std.proofs.Common.{◌≡◌, ℕ, zero, suc, List, [], ◌∷◌, ◌++◌, get_or, inl, inr, append_assoc, refl, sym, ◌∙◌, ap, subst}
 use Rattle.std.specs.Prelude.{Some}
 use Rattle.std.proofs.lemmas.List.{append-nil, append_cancel_left}
 use Rattle.syslog_frame.specs.Scan.{HasFrame, HasReady}
@@ -58,7 +58,7 @@ piece_log h c s d x y a b (z ∷ zs) l m is at quiet still (os, log, inr moves) 
   ),
 )
 
-settled_at : (c i : ℕ) (x : Connection) (ls : List Connection) → IsSettled ls → AtPlace c ls i x → ¬ (HasFrame x.scanner)
+pub settled_at : (c i : ℕ) (x : Connection) (ls : List Connection) → IsSettled ls → AtPlace c ls i x → ¬ (HasFrame x.scanner)
 settled_at c i x [] settled at = absurd at
 settled_at c zero x (l ∷ ls) settled at = subst (λ (z : Connection). ¬ (HasFrame z.scanner)) at.0 settled.0
 settled_at c (suc i) x (l ∷ ls) settled at = settled_at c i x ls settled.1 at.1

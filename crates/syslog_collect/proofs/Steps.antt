@@ -6,8 +6,10 @@ use Rattle.std.proofs.lemmas.List.{append-nil}
 use Rattle.syslog_frame.specs.declared.framing.Framing.{Framing}
 use Rattle.syslog_frame.specs.declared.limits.TheConstants.{FRAME_MAX}
 use Rattle.syslog_frame.specs.Reads.{Reads}
-use Rattle.syslog_frame.specs.Scan.{IsFailed, IsReading, Scan}
+use Rattle.syslog_frame.specs.Scan.{HasFrame, HasReady, IsFailed, IsReading, Scan}
 use Rattle.syslog_frame.specs.Frames.{Frames}
+use Rattle.syslog_frame.specs.declared.phase.Phase.{Phase}
+use Rattle.syslog_frame.specs.declared.phase.Phase.TheVariants.{BadCount as phase_BadCount, Failed}
 use Rattle.archive_text.specs.Entries.{Entry}
 use Rattle.syslog_collect.specs.declared.connection.Connection.{Connection}
 use Rattle.syslog_collect.specs.declared.fault.Advance.{Advance}
@@ -15,7 +17,7 @@ use Rattle.syslog_collect.specs.declared.fault.CollectFault.{CollectFault}
 use Rattle.syslog_collect.specs.declared.fault.CollectFault.TheVariants.{AlreadyOpen, TooManyOpen, NotOpen, ConnFailed, StreamTooLong, Unreleased, Unterminated, Memory}
 use Rattle.syslog_collect.specs.declared.limits.TheConstants.{CONNECTIONS_MAX}
 use Rattle.syslog_collect.specs.declared.outcome.Outcome.{Outcome}
-use Rattle.syslog_collect.specs.Answers.{IsAnswerAt, IsCause, IsUnfinished, Moves, MovesBy, told_datagram, told_piece}
+use Rattle.syslog_collect.specs.Answers.{EndsWhole, IsAnswerAt, IsCause, IsUnfinished, Moves, MovesBy, told_datagram, told_piece}
 use Rattle.syslog_collect.specs.Frames.{AreFramesOf, Gains, all_of}
 use Rattle.syslog_collect.specs.History.{Datagram, IsBad, Ended, History, MayHear, MayHearAll, Opened, Piece, Stream, Told, after, hear, nothing, stream_of}
 use Rattle.syslog_collect.specs.Outcomes.{IsOutcome}
@@ -242,3 +244,31 @@ pub unfinished_at : (c n start : ℕ) (x : Connection) (ls : List Connection) (k
 unfinished_at c n start x ls kept first es is item live h was =
     let there = opening_at c n x ls (after nothing es).streams was.stands_at.handled was.stands_at.follow (found_here c n x ls is item) in
     rw there.is (unfinished_one start x there.opening there.handled live h there.at)
+
+-- an opening whose end is accepted is whole frames, or holds a bad count
+ended_one : (x : Connection) (s : Stream) (d : List (List ℕ)) → ((kind : Framing) (first : ℕ) (octets : List ℕ) (frames : List (List ℕ)) (rest : List ℕ) → Reads FRAME_MAX x.scanner kind first octets frames rest
+    → Frames kind octets frames []) → IsAt x s d → EndsWhole s
+ended_one x s d h at = elim at.scanner [
+  | inl here ↦ inr (d, h s.framing 0 s.octets d here.rest here.reads)
+  | inr broken ↦ inl (d, broken.rest, broken.offset, broken.bad)
+]
+
+pub ended_at : (c n : ℕ) (x : Connection) (ls : List Connection) (kept first : List Entry) (es : List Told) → place_from c 0 ls ≡ Some n → x ≡ get_or ls n x
+    → ((kind : Framing) (first : ℕ) (octets : List ℕ) (frames : List (List ℕ)) (rest : List ℕ) → Reads FRAME_MAX x.scanner kind first octets frames rest → Frames kind octets frames [])
+    → Stands ls kept first es → IsSomeAnd (stream_of c (after nothing es).streams) EndsWhole
+ended_at c n x ls kept first es is item h was =
+    let there = opening_at c n x ls (after nothing es).streams was.stands_at.handled was.stands_at.follow (found_here c n x ls is item) in
+    rw there.is (ended_one x there.opening there.handled h there.at)
+
+-- what is ready in a connection is a frame
+pub ready_frame : (c n : ℕ) (x : Connection) (ls : List Connection) (kept first : List Entry) (es : List Told) → place_from c 0 ls ≡ Some n → x ≡ get_or ls n x → HasReady x.scanner
+    → Stands ls kept first es → HasFrame x.scanner
+ready_frame c n x ls kept first es is item ready was =
+    let there = opening_at c n x ls (after nothing es).streams was.stands_at.handled was.stands_at.follow (found_here c n x ls is item) in
+    elim ready [
+      | inl frame ↦ frame
+      | inr bad ↦ elim there.at.scanner [ inl here ↦ absurd (here.good bad) | inr broken ↦ absurd (bad_not_failed x.scanner.phase bad broken.failed) ]
+    ]
+  where
+    bad_not_failed : (phase : Phase) → phase ≡ phase_BadCount → phase ≡ Failed → ⊥
+    bad_not_failed phase a b = absurd cc

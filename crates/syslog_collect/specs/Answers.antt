@@ -1,5 +1,5 @@
 -- What the collector's calls accept, by their answers.
-use Rattle.std.specs.Prelude.{◌≡◌, ℕ, ◌+◌, ◌<◌, ◌≤◌, List, [], ◌∷◌, ◌++◌, length, take}
+use Rattle.std.specs.Prelude.{◌≡◌, ◌⊎◌, ℕ, ◌+◌, ◌<◌, ◌≤◌, List, [], ◌∷◌, ◌++◌, length, take}
 use Rattle.std.specs.Prelude.{Option, Some, None, Result, Ok, Err, IsSome, IsSomeAnd}
 use Rattle.syslog_frame.specs.Frames.{Frames, IsBadAt}
 use Rattle.syslog_frame.specs.declared.framing.Framing.{Framing}
@@ -185,9 +185,13 @@ abbrev pub IsUnfinished : ℕ → Stream → Type 0
 IsUnfinished start s = (frames : List (List ℕ)) × (rest : List ℕ) × Frames s.framing s.octets frames rest
     × (0 < length rest) × (start + length rest ≡ length s.octets)
 
+-- the octets of an opening are whole frames, or hold a bad count
+abbrev pub EndsWhole : Stream → Type 0
+EndsWhole s = IsBad s ⊎ ((frames : List (List ℕ)) × Frames s.framing s.octets frames [])
+
 -- what the end of a number answers after a history
 abbrev pub IsEnding : {U : Type 0} → ℕ → Result U CollectFault → History → Type 0
-IsEnding c (Ok u) h = IsSome (stream_of c h.streams)
+IsEnding c (Ok u) h = IsSomeAnd (stream_of c h.streams) EndsWhole
 IsEnding c (Err NotOpen) h = stream_of c h.streams ≡ None
 IsEnding c (Err Unreleased) h = IsSome (stream_of c h.streams)
 IsEnding c (Err (Unterminated start)) h = IsSomeAnd (stream_of c h.streams) (λ s. ¬ (IsBad s) × IsUnfinished start s)
@@ -196,3 +200,15 @@ IsEnding c (Err TooManyOpen) h = ⊥
 IsEnding c (Err ConnFailed) h = ⊥
 IsEnding c (Err StreamTooLong) h = ⊥
 IsEnding c (Err (Memory n)) h = ⊥
+
+-- where an end is refused since a frame was not handled
+abbrev pub IfUnreleased : {U : Type 0} → Result U CollectFault → Type 0 → Type 0
+IfUnreleased (Ok u) P = Unit {0}
+IfUnreleased (Err Unreleased) P = P
+IfUnreleased (Err (Unterminated start)) P = Unit {0}
+IfUnreleased (Err NotOpen) P = Unit {0}
+IfUnreleased (Err AlreadyOpen) P = Unit {0}
+IfUnreleased (Err TooManyOpen) P = Unit {0}
+IfUnreleased (Err ConnFailed) P = Unit {0}
+IfUnreleased (Err StreamTooLong) P = Unit {0}
+IfUnreleased (Err (Memory n)) P = Unit {0}

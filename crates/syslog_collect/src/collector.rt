@@ -4,7 +4,7 @@ ghost use Rattle.std.specs.Prelude.{◌≡◌, ◌⊎◌, ◌↔◌, ◌++◌, �
 ghost use Rattle.std.specs.List.{position_from};
 ghost use Rattle.archive_text.specs.Entries.{Entry, Has};
 ghost use Rattle.archive_text.specs.Text.{IsArchive, text_of};
-ghost use Rattle.syslog_collect.specs.Answers.{IsAnswerAt, IsEnding, IsOpening, IsUsedWithin};
+ghost use Rattle.syslog_collect.specs.Answers.{IfUnreleased, IsAnswerAt, IsEnding, IsOpening, IsUsedWithin};
 ghost use Rattle.syslog_collect.specs.Answers.{Reports, accepted_octets, dropped_octets, used_octets};
 ghost use Rattle.syslog_collect.specs.Answers.{told_datagram, told_ending, told_opening, told_piece};
 ghost use Rattle.syslog_collect.specs.Frames.{IsReceived};
@@ -163,6 +163,9 @@ impl<S: Store> Collector<S> {
         ensures cause { (first : List Entry) (events : List Told)
             → Stands self.old.connections.items (S.entries self.old.store) first events
             → IsEnding conn result (after nothing events) }
+        ensures unreleased { (first : List Entry) (events : List Told)
+            → Stands self.old.connections.items (S.entries self.old.store) first events
+            → IfUnreleased result (¬ (IsSettled self.old.connections.items)) }
         ensures settled { IsSettled self.old.connections.items
             → IsSettled self.new.connections.items }
         ensures store { self.new.store ≡ self.old.store }

@@ -16,6 +16,7 @@
 //!   `stands` says that it then stands at these events with those that the call accepted.
 //! - Answers and Runs: what a call or a run accepted, as a function of its answer, and the cause of
 //!   each refusal. Outcomes: what becomes of a frame.
+//! - Logs: the log of a run, outcome by outcome.
 //! - Headline: `IsSettled`, that no frame is left ready, and `ReceivedSame`.
 #![tactic(auto)]
 

@@ -1,9 +1,10 @@
-use Rattle.std.proofs.Common.{◌≡◌, List, [], sym, subst, arith}
+use Rattle.std.proofs.Common.{◌≡◌, List, [], sym, subst, arith, refl}
 use Rattle.std.specs.Prelude.{Some, None}
 use Rattle.syslog_collect.specs.declared.connection.Connection.{Connection}
 use Rattle.syslog_collect.proofs.Headline.{settled_remove}
-use Rattle.syslog_collect.proofs.Places.{place_from, within}
-use Rattle.syslog_collect.proofs.Steps.{close_found, handled_by, is_open, not_open, unfinished_at}
+use Rattle.syslog_collect.proofs.Logging.{settled_at}
+use Rattle.syslog_collect.proofs.Places.{found_here, place_from, within}
+use Rattle.syslog_collect.proofs.Steps.{close_found, ended_at, handled_by, is_open, not_open, ready_frame, unfinished_at}
 use Rattle.syslog_collect.proofs.collector.Collector.end_conn.Goals as goal
 
 pub returns-in-None-clause-cause : goal.returns-in-None-clause-cause
@@ -58,7 +59,8 @@ returns-in-Err-Failed-clause-stands g c first events was =
 pub returns-in-Err-Failed-clause-cause : goal.returns-in-Err-Failed-clause-cause
 returns-in-Err-Failed-clause-cause g c first events was =
     let is = subst (λ (ls : List Connection). place_from c.args.conn 0 ls ≡ Some c.in-Some.at) c.deref.ensures.value (sym c.in-Some.ensures) in
-    is_open c.args.conn c.in-Some.at c.args.self.now.connections.items _ first events is was
+    ended_at c.args.conn c.in-Some.at c.index.result.now c.args.self.now.connections.items _ first events is c.index.ensures
+    (λ kind start octets frames rest r. absurd (rw c.in-Err-Failed.field-0-is at (c.in-Err-Failed.ensures.reads kind start octets frames rest r))) was
 
 pub returns-in-Ok-clause-stands : goal.returns-in-Ok-clause-stands
 returns-in-Ok-clause-stands g c first events was =
@@ -69,7 +71,16 @@ returns-in-Ok-clause-stands g c first events was =
 pub returns-in-Ok-clause-cause : goal.returns-in-Ok-clause-cause
 returns-in-Ok-clause-cause g c first events was =
     let is = subst (λ (ls : List Connection). place_from c.args.conn 0 ls ≡ Some c.in-Some.at) c.deref.ensures.value (sym c.in-Some.ensures) in
-    is_open c.args.conn c.in-Some.at c.args.self.now.connections.items _ first events is was
+    ended_at c.args.conn c.in-Some.at c.index.result.now c.args.self.now.connections.items _ first events is c.index.ensures
+    (λ kind start octets frames rest r. (c.in-Ok.ensures.reads kind start octets frames rest r).1) was
+
+pub returns-in-Err-Unreleased-clause-unreleased : goal.returns-in-Err-Unreleased-clause-unreleased
+returns-in-Err-Unreleased-clause-unreleased g c first events was settled =
+    let is = subst (λ (ls : List Connection). place_from c.args.conn 0 ls ≡ Some c.in-Some.at) c.deref.ensures.value (sym c.in-Some.ensures) in
+    let ready = c.in-Err-Unreleased.ensures.unreleased.0 (rw c.in-Err-Unreleased.field-0-is refl) in
+    settled_at c.args.conn c.in-Some.at c.index.result.now c.args.self.now.connections.items settled
+    (found_here c.args.conn c.in-Some.at c.index.result.now c.args.self.now.connections.items is c.index.ensures)
+    (ready_frame c.args.conn c.in-Some.at c.index.result.now c.args.self.now.connections.items _ first events is c.index.ensures ready was)
 
 pub returns-in-Err-Unterminated-clause-settled : goal.returns-in-Err-Unterminated-clause-settled
 returns-in-Err-Unterminated-clause-settled g c h = rw c.remove.ensures.items (settled_remove _ _ h)
