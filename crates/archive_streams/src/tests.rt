@@ -82,6 +82,7 @@ fn what_comes_before_a_fault_is_written(rt: HostRuntime) -> Result<(), Fail> {
 #[test]
 fn a_cut_archive_is_written_up_to_its_last_whole_entry(rt: HostRuntime) -> Result<(), Fail> {
     let acb = text(&rt, &[A, C, B])?;
+    assert_eq!(rt; acb.len(), 118);
     for n in 0..118 {
         let whole = if n < 22 {
             0
@@ -128,6 +129,7 @@ fn a_failed_device_is_reported(rt: HostRuntime) -> Result<(), Fail> {
 #[test]
 fn a_text_is_cut_anywhere(rt: HostRuntime) -> Result<(), Fail> {
     let acb = text(&rt, &[A, C, B])?;
+    assert_eq!(rt; acb.len(), 118);
     for cut in 0..118 {
         let mut left = FromRead::new((&acb[..cut]).chain(&acb[cut..]));
         let mut right = FromRead::new(C);
