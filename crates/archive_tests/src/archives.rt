@@ -1,0 +1,144 @@
+//! Archives whose texts are known from outside.
+
+use archive_text::{Added, ArchiveFault};
+use archive_vec::{ReadFault, VecArchive, merge};
+use std::alloc::Global;
+use std::test::Fail;
+use syslog_grammar::{Fault, Field, decode, view};
+use syslog_value::ToWrite;
+
+const A: &[u8] = b"<13>1 - h a - - - x";
+
+const B: &[u8] = b"<14>1 2024-02-29T23:30:00.000000Z h a - - - y";
+
+const C: &[u8] = b"<12>1 2024-02-29T23:00:00.000000Z h a - - - z";
+
+// The archive of these records.
+fn archive_of(alloc: Global, records: &[&[u8]]) -> Result<VecArchive, Fail> {
+    let mut archive = VecArchive::new(alloc);
+    for octets in records {
+        let seen = view(octets).ok().ok_or("no record")?;
+        archive.add_view(alloc, &seen)?;
+    }
+    Ok(archive)
+}
+
+fn text_of(alloc: Global, archive: &VecArchive) -> Result<Vec<u8>, Fail> {
+    let mut writer = ToWrite::new(Vec::new(alloc));
+    archive.write(&mut writer)?;
+    Ok(writer.into_inner())
+}
+
+#[test]
+fn a_text_that_is_no_archive_is_refused_where_it_goes_wrong(rt: HostRuntime) {
+    for (text, fault) in [
+        (
+            b"45 <14>1 2024-02-29T23:30:00.000000Z h a - - - y19 <13>1 - h a - - - x".as_slice(),
+            ArchiveFault::NotAscending { at: 48 },
+        ),
+        (
+            b"19 <13>1 - h a - - - x19 <13>1 - h a - - - x",
+            ArchiveFault::NotAscending { at: 22 },
+        ),
+        (
+            b"17 <0>1 - - - - - - ",
+            ArchiveFault::NotCanonical { at: 0 },
+        ),
+        (b"17 <0>1 - - - - - -", ArchiveFault::BadFrame { at: 19 }),
+        (
+            b"4 <0>1",
+            ArchiveFault::BadEntry {
+                at: 0,
+                fault: Fault::Syntax {
+                    field: Field::Version,
+                    offset: 4,
+                },
+            },
+        ),
+        (b"131078 ", ArchiveFault::EntryTooLong { at: 0 }),
+        (b"x", ArchiveFault::BadFrame { at: 0 }),
+    ] {
+        let found = VecArchive::read(rt.alloc(), text).err();
+        assert_eq!(rt; found, Some(ReadFault::Bad(fault)));
+    }
+}
+
+// The text of the archive of the records of two archives.
+fn merged_text(alloc: Global, left: &[&[u8]], right: &[&[u8]]) -> Result<Vec<u8>, Fail> {
+    let left = archive_of(alloc, left)?;
+    let right = archive_of(alloc, right)?;
+    let merged = merge(alloc, &left, &right)?;
+    text_of(alloc, &merged)
+}
+
+#[test]
+fn archives_are_merged(rt: HostRuntime) -> Result<(), Fail> {
+    let joined =
+        b"19 <13>1 - h a - - - x45 <12>1 2024-02-29T23:00:00.000000Z h a - - - z45 <14>1 2024-02-29T23:30:00.000000Z h a - - - y".as_slice();
+    for (left, right) in [
+        ([C, A].as_slice(), [B, A].as_slice()),
+        ([A, B].as_slice(), [A, C].as_slice()),
+        ([B, C, A].as_slice(), [A, B, C].as_slice()),
+    ] {
+        let text = merged_text(rt.alloc(), left, right)?;
+        assert_eq!(rt; text.as_slice(), joined);
+    }
+    Ok(())
+}
+
+#[test]
+fn nothing_merged_with_nothing_is_nothing(rt: HostRuntime) -> Result<(), Fail> {
+    let text = merged_text(rt.alloc(), &[], &[])?;
+    assert_eq!(rt; text.len(), 0);
+    Ok(())
+}
+
+#[test]
+fn the_longest_record_is_archived(rt: HostRuntime) -> Result<(), Fail> {
+    let alloc = rt.alloc();
+    let mut octets = b"<0>1 - - - - - [a k=\"".to_vec(alloc)?;
+    for _ in 0..32_756 {
+        octets.extend_from_slice(b"\\n")?;
+    }
+    octets.extend_from_slice(b"\"]")?;
+    assert_eq!(rt; octets.len(), 65_535);
+    let archive = archive_of(alloc, &[octets.as_slice()])?;
+    let text = text_of(alloc, &archive)?;
+    assert_eq!(rt; text.len(), 98_297);
+    let again = VecArchive::read(alloc, text.as_slice())?;
+    assert!(rt; text_of(alloc, &again)? == text);
+    Ok(())
+}
+
+// Adds the record of these octets.
+fn added(alloc: Global, archive: &mut VecArchive, octets: &[u8]) -> Result<Added, Fail> {
+    let record = decode(alloc, octets).ok().ok_or("no record")?;
+    Ok(archive.add(alloc, &record)?)
+}
+
+#[test]
+fn the_empty_message_is_none_but_with_the_bom(rt: HostRuntime) -> Result<(), Fail> {
+    let mut archive = VecArchive::new(rt.alloc());
+    for (octets, expected) in [
+        (b"<0>1 - - - - - -".as_slice(), Added::New),
+        (b"<0>1 - - - - - - ", Added::Held),
+        (b"<0>1 - - - - - - \xef\xbb\xbf", Added::New),
+        (b"<0>1 - - - - - -", Added::Held),
+    ] {
+        let found = added(rt.alloc(), &mut archive, octets)?;
+        assert_eq!(rt; found, expected);
+    }
+    assert_eq!(rt; archive.get(0), Some(b"<0>1 - - - - - -".as_slice()));
+    assert_eq!(rt; archive.get(2), None);
+    Ok(())
+}
+
+#[test]
+fn a_record_is_held_once_it_is_added(rt: HostRuntime) -> Result<(), Fail> {
+    let archive = archive_of(rt.alloc(), &[A])?;
+    for (octets, expected) in [(A, true), (B, false)] {
+        let record = decode(rt.alloc(), octets).ok().ok_or("no record")?;
+        assert_eq!(rt; archive.holds(rt.alloc(), &record)?, expected);
+    }
+    Ok(())
+}

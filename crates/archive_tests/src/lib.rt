@@ -1,0 +1,7 @@
+//! Tests of archives and of the collector through their public calls. There is nothing to call here.
+#![tactic(auto)]
+
+#[cfg(test)]
+mod archives;
+#[cfg(test)]
+mod collectors;
