@@ -1,15 +1,14 @@
 -- Migrated sets.
-use Rattle.std.proofs.Common.{◌≡◌, ℕ, ◌≤◌, ◌∙◌, refl, sym, ap, subst, inl, inr, arith, List, [], ◌∷◌, ◌++◌, length}
-use Rattle.std.specs.Prelude.{ℤ, ◌⊎◌, ◌↔◌, Option}
+use Rattle.std.proofs.Common.{◌≡◌, ℕ, ◌≤◌, ◌∙◌, refl, sym, ap, subst, inl, inr, arith, List, [], ◌++◌, length}
+use Rattle.std.specs.Prelude.{ℤ, ◌↔◌}
 use Rattle.std.specs.List.{AllByRecursion}
-use Rattle.std.specs.List.Sorted.{IsPermutation}
 use Rattle.std.proofs.lemmas.List.Sorted.{IsPermutation-refl}
 use Rattle.syslog_frame.specs.declared.limits.TheConstants.{COUNT_MAX}
-use Rattle.syslog_value.specs.Parts.{ElementParts, IsElement, IsRecord, MessageParts, Parts}
+use Rattle.syslog_value.specs.Parts.{IsElement, IsRecord, Parts}
 use Rattle.syslog_grammar.specs.Canonical.{Canonical}
 use Rattle.syslog_grammar.specs.Unsorted.{IsUnsortedRecord}
 use Rattle.syslog_grammar.proofs.ById.{all_permuted, one_order}
-use Rattle.syslog_grammar.proofs.CanonicalParses.{canonical_once, canonical_well_formed}
+use Rattle.syslog_grammar.proofs.CanonicalParses.{canonical_once}
 use Rattle.archive_text.specs.Entries.{Entry, Has, IsAscending, IsEntry, IsEntryOf}
 use Rattle.archive_text.specs.Sets.{ArchiveText, AreEntriesOf, AreSame, IsAmong}
 use Rattle.archive_text.specs.Text.{IsArchive, text_of}
@@ -17,9 +16,9 @@ use Rattle.archive_text.specs.declared.fault.ArchiveFault.{ArchiveFault}
 use Rattle.archive_text.specs.declared.limits.TheConstants.{ENTRY_MAX}
 use Rattle.archive_text.proofs.Ascending.{same_members}
 use Rattle.archive_text.proofs.Members.{all_weaker, of_all, of_member}
-use Rattle.archive_text.proofs.Sets.{all_among, among_either, among_left, among_right, entry_of_member, member_of_entry, of_among, record_of_entry}
-use Rattle.archive_text.proofs.Texts.{one_entry_of, one_record}
-use Rattle.archive_migration.specs.Migration.{AddsMigrated, IsMigratedOf, IsMigration, IsNewEntryOf, IsNewForm, Migrates}
+use Rattle.archive_text.proofs.Sets.{all_among, among_either, among_left, among_right, member_of_entry, of_among}
+use Rattle.archive_text.proofs.Texts.{one_entry_of}
+use Rattle.archive_migration.specs.Migration.{AddsMigrated, IsMigration, IsNewEntryOf, IsNewForm, Migrates}
 use Rattle.archive_migration.specs.OldEntries.{IsOldArchive, IsOldEntry, IsOldEntryOf}
 use Rattle.archive_migration.specs.OldFaults.{IsOldArchiveFault}
 use Rattle.archive_migration.specs.OldTexts.{AreOldEntriesOf, OldText}

@@ -1,5 +1,5 @@
 -- The canonical octets of a new form are as many as the old ones.
-use Rattle.std.proofs.Common.{◌≡◌, ℕ, ◌+◌, ◌<◌, ◌≤◌, ◌∙◌, refl, sym, ap, subst, arith, List, [], ◌∷◌, ◌++◌, length}
+use Rattle.std.proofs.Common.{◌≡◌, ℕ, ◌<◌, ◌≤◌, ◌∙◌, refl, sym, ap, arith, List, [], ◌∷◌, ◌++◌, length}
 use Rattle.std.specs.Prelude.{ℤ}
 use Rattle.std.specs.List.{flat_map}
 use Rattle.std.specs.List.Sorted.{IsPermutation}
@@ -7,7 +7,7 @@ use Rattle.std.proofs.lemmas.List.{length-append}
 use Rattle.std.proofs.lemmas.List.Concat.{length-flat_map}
 use Rattle.std.proofs.lemmas.List.Sorted.{length_permutation, sum_by-IsPermutation}
 use Rattle.syslog_value.specs.Parts.{ElementParts, Parts}
-use Rattle.syslog_grammar.specs.Canonical.{Canonical, HeaderForm, element_form, message_form, structured_data_form}
+use Rattle.syslog_grammar.specs.Canonical.{Canonical, element_form, message_form, structured_data_form}
 use Rattle.syslog_grammar.specs.ViewParts.{IsViewOf, ViewParts}
 use Rattle.syslog_grammar.specs.WellFormed.{WellFormed}
 use Rattle.syslog_grammar.proofs.Valid.{well_formed_valid}

@@ -1,16 +1,16 @@
 -- Records whose elements are in any order, and their new forms.
-use Rattle.std.proofs.Common.{◌≡◌, ℕ, ◌+◌, ◌∙◌, refl, sym, ap, subst, arith, List, [], ◌∷◌, ◌++◌, length}
-use Rattle.std.specs.Prelude.{ℤ, ◌↔◌, Option}
+use Rattle.std.proofs.Common.{◌≡◌, ℕ, ◌∙◌, refl, sym, subst, List}
+use Rattle.std.specs.Prelude.{ℤ, Option}
 use Rattle.std.specs.List.Sorted.{IsPermutation}
-use Rattle.syslog_value.specs.Parts.{ElementParts, IsById, IsRecord, MessageParts, Parts}
+use Rattle.syslog_value.specs.Parts.{ElementParts, IsRecord, MessageParts, Parts}
 use Rattle.syslog_grammar.specs.Canonical.{Canonical}
 use Rattle.syslog_grammar.specs.Unsorted.{IsUnsortedRecord}
 use Rattle.syslog_grammar.specs.ViewParts.{IsViewOf, ViewParts}
 use Rattle.syslog_grammar.specs.WellFormed.{WellFormed}
-use Rattle.syslog_grammar.proofs.ById.{distinct_by_id, one_order, sorted}
+use Rattle.syslog_grammar.proofs.ById.{distinct_by_id, sorted}
 use Rattle.syslog_grammar.proofs.CanonicalParses.{canonical_spelled, record_parts, timed}
-use Rattle.syslog_grammar.proofs.Laws.{one_meaning, same_parts}
-use Rattle.archive_text.specs.Entries.{Entry, IsEntry, IsEntryOf}
+use Rattle.syslog_grammar.proofs.Laws.{same_parts}
+use Rattle.archive_text.specs.Entries.{Entry, IsEntryOf}
 use Rattle.archive_text.proofs.Orders.{same_entry}
 use Rattle.archive_migration.specs.Migration.{IsNewForm}
 use Rattle.archive_migration.specs.OldEntries.{IsOldEntry, IsOldEntryOf}

@@ -12,11 +12,11 @@ use Rattle.syslog_frame.proofs.FrameLaws.{one_frame, same_count}
 use Rattle.syslog_grammar.specs.WellFormed.{WellFormed}
 use Rattle.archive_text.specs.Entries.{Entry, IsAscending}
 use Rattle.archive_text.specs.Faults.{BeginsWithOctets, IsBadFrame, IsTooLong}
-use Rattle.archive_text.specs.Text.{entry_text, text_of}
+use Rattle.archive_text.specs.Text.{text_of}
 use Rattle.archive_text.specs.declared.fault.ArchiveFault.{ArchiveFault}
 use Rattle.archive_text.specs.declared.fault.ArchiveFault.TheVariants.{BadFrame, EntryTooLong, BadEntry, NotCanonical, NotAscending}
 use Rattle.archive_text.proofs.Ascending.{ascending_left}
-use Rattle.archive_text.proofs.Texts.{GoesOn, text_length, text_some}
+use Rattle.archive_text.proofs.Texts.{GoesOn, text_length}
 use Rattle.archive_migration.specs.OldEntries.{IsOldArchive}
 use Rattle.archive_migration.specs.OldFaults.{IsOldArchiveFault, IsOldFaultBehind, IsLongestOldArchive}
 use Rattle.archive_migration.specs.OldTexts.{BeginsWithOldEntry}

@@ -1,13 +1,13 @@
 -- An old text is migrated entry by entry.
 use Rattle.std.proofs.Common.{◌≡◌, ℕ, ◌+◌, ◌-◌, ◌<◌, false, ◌≤◌, ◌∙◌, refl, sym, ap, subst, inl, inr, arith, List, [], ◌∷◌, ◌++◌, length}
-use Rattle.std.specs.Prelude.{ℤ, ◌⊎◌, ◌↔◌, OnOk, Option, Some, None, Result, Ok, Err}
+use Rattle.std.specs.Prelude.{ℤ, OnOk, Option, Some, None, Result, Ok, Err}
 use Rattle.std.specs.Result.{is_err}
 use Rattle.std.proofs.lemmas.List.{append-nil, length-append}
 use Rattle.syslog_value.specs.Parts.{Parts}
 use Rattle.syslog_grammar.specs.ViewParts.{IsViewOf, ViewParts}
 use Rattle.syslog_grammar.specs.WellFormed.{WellFormed}
 use Rattle.syslog_grammar.proofs.Laws.{one_meaning}
-use Rattle.archive_text.specs.Entries.{Entry, Has, IsAscending, IsEntryOf}
+use Rattle.archive_text.specs.Entries.{Entry, IsAscending, IsEntryOf}
 use Rattle.archive_text.specs.EntryViews.{entry_of}
 use Rattle.archive_text.specs.Stores.{AddsRecord}
 use Rattle.archive_text.specs.Text.{text_of}
@@ -20,9 +20,9 @@ use Rattle.archive_text.proofs.Ascending.{ascending_after, not_after}
 use Rattle.archive_text.proofs.Members.{has_either, has_left, has_right}
 use Rattle.archive_text.proofs.Places.{adds_has}
 use Rattle.archive_text.proofs.Texts.{one_entry_of, text_goes_on}
-use Rattle.archive_migration.specs.Migration.{AddsMigrated, AddsNew, IsMigratedOf, IsNewEntryOf, Migrates}
+use Rattle.archive_migration.specs.Migration.{AddsMigrated, AddsNew, IsNewEntryOf, Migrates}
 use Rattle.archive_migration.specs.OldEntries.{IsOldArchive, IsOldEntry}
-use Rattle.archive_migration.specs.OldFaults.{IsOldArchiveFault, IsOldFaultBefore, IsOldFaultBehind}
+use Rattle.archive_migration.specs.OldFaults.{IsOldArchiveFault, IsOldFaultBefore}
 use Rattle.archive_migration.specs.OldTexts.{BeginsWithOldEntry}
 use Rattle.archive_migration.specs.Reading.{IsAboveLast, IsFaultAfter, IsLast, position_of, shift}
 use Rattle.archive_migration.proofs.OldForms.{new_form_well_formed, well_formed_new_form}

@@ -8,7 +8,6 @@ use Rattle.archive_text.specs.declared.entry.EntryView.{EntryView}
 use Rattle.archive_text.specs.declared.fault.ArchiveFault.{ArchiveFault}
 use Rattle.archive_text.specs.declared.fault.ArchiveFault.TheVariants.{BadFrame, EntryTooLong, BadEntry, NotCanonical, NotAscending}
 use Rattle.archive_text.specs.declared.limits.TheConstants.{ENTRY_MAX}
-use Rattle.archive_migration.specs.OldEntries.{IsOldEntry}
 use Rattle.archive_migration.specs.OldFaults.{IsOldArchiveFault, IsOldFaultBehind}
 use Rattle.archive_migration.specs.declared.fault.MigrateFault.{MigrateFault}
 use Rattle.archive_migration.specs.declared.fault.MigrateFault.TheVariants.{Bad, Memory}

@@ -9,6 +9,7 @@ mod fault;
 mod law;
 mod migrating;
 mod old_entry;
+mod text;
 
 pub use fault::MigrateFault;
 pub use law::{
@@ -17,3 +18,4 @@ pub use law::{
 };
 pub use migrating::migrate_into;
 pub use old_entry::{OldEntry, old_entry_of_octets, read_old_entry};
+pub use text::migrate;

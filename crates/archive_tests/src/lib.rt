@@ -5,3 +5,5 @@
 mod archives;
 #[cfg(test)]
 mod collectors;
+#[cfg(test)]
+mod migrations;
