@@ -89,8 +89,9 @@ pub fn flush<W: Output, N: Output>(
     }
 }
 
-// Writes what is held back once it is large.
-fn flush_large<W: Output, N: Output>(
+// Writes what is held back once it is large, or where nobody has sent more yet.
+fn flush_due<W: Output, N: Output>(
+    waits: bool,
     done: &mut PendingOutput,
     writer: &mut W,
     notes: &mut N,
@@ -111,7 +112,7 @@ fn flush_large<W: Output, N: Output>(
     ensures quiet_write { W.failures writer.old < W.failures writer.new →
         IsErrOf result Stopped.Write ⊎ IsErrOf result Stopped.Notes }
 {
-    if done.output.len() < LARGE && done.notes.len() < LARGE {
+    if !waits && done.output.len() < LARGE && done.notes.len() < LARGE {
         return Ok(());
     }
     flush(done, writer, notes)
@@ -140,6 +141,8 @@ pub fn handle_stream<D: FrameHandler, R: Input, W: Output, N: Output>(
         IsErrOf result Stopped.Read → R.failures reader.old < R.failures reader.new }
     ensures quiet_read { R.failures reader.old < R.failures reader.new →
         IsErrOf result Stopped.Read }
+    ensures calls { AreSmall (R.calls reader.old) (R.failures reader.old) →
+        R.calls reader.new ≤ R.calls reader.old + READER_CALLS }
     ensures endless { AreSmall (R.calls reader.old) (R.failures reader.old) →
         IsErrOf result Stopped.Endless →
         (R.calls reader.new ≡ R.calls reader.old + READER_CALLS)
@@ -172,7 +175,8 @@ pub fn handle_stream<D: FrameHandler, R: Input, W: Output, N: Output>(
             handler.report(Line::BadCount { number, at }, done)?;
             return Ok(());
         }
-        flush_large(done, writer, notes)?;
+        // a read that came short has emptied its pipe: the next may wait for a sender
+        flush_due(n < PIECE, done, writer, notes)?;
     }
     Err(Stopped::Endless)
 }
@@ -282,6 +286,8 @@ fn scan_stream<D: FrameHandler, R: Input, W: Output, N: Output>(
         ⊎ ((R.calls reader.new ≡ R.calls reader.old + READER_CALLS)
         × (R.ends reader.new ≡ R.ends reader.old)) }
     ensures failed { N.failures notes.old < N.failures notes.new → result ≡ FAULT }
+    ensures calls { AreSmall (R.calls reader.old) (R.failures reader.old) →
+        R.calls reader.new ≤ R.calls reader.old + READER_CALLS }
     ensures read_failed { R.failures reader.old < R.failures reader.new → result ≡ FAULT }
     ensures write_failed { W.failures writer.old < W.failures writer.new → result ≡ FAULT }
 {
@@ -311,6 +317,8 @@ fn handle_datagram<D: FrameHandler, R: Input>(
         ⊎ (stopped ≡ Stopped.Endless) ⊎ (stopped ≡ Stopped.Memory)) }
     ensures quiet_read { R.failures reader.old < R.failures reader.new →
         IsErrOf result Stopped.Read }
+    ensures calls { AreSmall (R.calls reader.old) (R.failures reader.old) →
+        R.calls reader.new ≤ R.calls reader.old + READER_CALLS }
 {
     let datagram = match read_all(alloc, reader, FRAME_MAX + 1) {
         Ok(datagram) => datagram,
@@ -347,6 +355,8 @@ fn scan_datagram<D: FrameHandler, R: Input, W: Output, N: Output>(
         ⊎ ((R.calls reader.new ≡ R.calls reader.old + READER_CALLS)
         × (R.ends reader.new ≡ R.ends reader.old)) }
     ensures failed { N.failures notes.old < N.failures notes.new → result ≡ FAULT }
+    ensures calls { AreSmall (R.calls reader.old) (R.failures reader.old) →
+        R.calls reader.new ≤ R.calls reader.old + READER_CALLS }
     ensures read_failed { R.failures reader.old < R.failures reader.new → result ≡ FAULT }
     ensures write_failed { W.failures writer.old < W.failures writer.new → result ≡ FAULT }
 {
@@ -383,6 +393,8 @@ pub fn scan_input<D: FrameHandler, R: Input, W: Output, N: Output>(
         ⊎ ((R.calls reader.new ≡ R.calls reader.old + READER_CALLS)
         × (R.ends reader.new ≡ R.ends reader.old)) }
     ensures failed { N.failures notes.old < N.failures notes.new → result ≡ FAULT }
+    ensures calls { AreSmall (R.calls reader.old) (R.failures reader.old) →
+        R.calls reader.new ≤ R.calls reader.old + READER_CALLS }
     ensures read_failed { R.failures reader.old < R.failures reader.new → result ≡ FAULT }
     ensures write_failed { W.failures writer.old < W.failures writer.new → result ≡ FAULT }
 {

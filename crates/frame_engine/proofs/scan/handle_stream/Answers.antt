@@ -44,12 +44,12 @@ returns-in-Some-clause-ok g c =
     let bad = rw c.in-Some.is at (c.in_ok-at.ensures.handles c.args.framing h.given (written_out h.output h.notes) h.handled) in
     answered_bad _ _ _ _ _ _ _ _ _ _ _ _ _ c.in-Some.at (done_of c.feed.new.done) (done_of c.report.new.done) (Consumes-trans _ _ _ _ _ h.consumed c.in-Ok.ensures.octets.0) h.taken h.reported bad c.in_ok-report.ensures.ok
 
-pub returns-in_err-flush_large-clause-err : goal.returns-in_err-flush_large-clause-err
-returns-in_err-flush_large-clause-err g c =
+pub returns-in_err-flush_due-clause-err : goal.returns-in_err-flush_due-clause-err
+returns-in_err-flush_due-clause-err g c =
     let h = c.loop-turn.invariant.streaming in
-    let p = err_from_is_err_and c.from_residual-in_err-flush_large.result c.from_residual-in_err-flush_large.ensures.1 in
+    let p = err_from_is_err_and c.from_residual-in_err-flush_due.result c.from_residual-in_err-flush_due.ensures.1 in
     let on = rw c.in_default-2.is at (c.in_ok-at.ensures.handles c.args.framing h.given (written_out h.output h.notes) h.handled) in
-    let e = c.in_err-flush_large.ensures.err in
+    let e = c.in_err-flush_due.ensures.err in
     rw p.1 (begun_flush _ _ c.feed.new.scanner _ e.1.0 _ _ _ _ _ _ _ (done_of c.feed.new.done) _ (streaming_more _ _ c.loop-turn.scanner c.feed.new.scanner _ _ _ _ _ _ _ _ _ (done_of c.loop-turn.done) (done_of c.feed.new.done) _ h c.in-Ok.ensures.octets.0 on) e.1.1 e.0)
 
 pub loop-turn-preserved : goal.loop-turn-preserved
@@ -61,12 +61,12 @@ loop-turn-preserved g c =
       reading = (rw c.in_default-2.is at c.in_ok-at.ensures.reading) refl;
       position = grind (arith, common_steps);
       few = grind (arith, common_steps);
-      streaming = streaming_moved _ _ c.feed.new.scanner _ _ _ _ _ _ _ _ _ _ _ (streaming_more _ _ c.loop-turn.scanner c.feed.new.scanner _ _ _ _ _ _ _ _ _ (done_of c.loop-turn.done) (done_of c.feed.new.done) _ h c.in-Ok.ensures.octets.0 on) c.in_ok-flush_large.ensures.ok;
+      streaming = streaming_moved _ _ c.feed.new.scanner _ _ _ _ _ _ _ _ _ _ _ (streaming_more _ _ c.loop-turn.scanner c.feed.new.scanner _ _ _ _ _ _ _ _ _ (done_of c.loop-turn.done) (done_of c.feed.new.done) _ h c.in-Ok.ensures.octets.0 on) c.in_ok-flush_due.ensures.ok;
       calls = grind arith;
       reads = c.in-Ok.ensures.failures ∙ c.loop-turn.invariant.reads;
       ends = grind arith;
-      writes = c.in_ok-flush_large.ensures.no_failure.0 ∙ c.loop-turn.invariant.writes;
-      reported = c.in_ok-flush_large.ensures.no_failure.1 ∙ c.loop-turn.invariant.reported;
+      writes = c.in_ok-flush_due.ensures.no_failure.0 ∙ c.loop-turn.invariant.writes;
+      reported = c.in_ok-flush_due.ensures.no_failure.1 ∙ c.loop-turn.invariant.reported;
     }
 
 pub returns-clause-err : goal.returns-clause-err
