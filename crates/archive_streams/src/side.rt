@@ -4,7 +4,7 @@ ghost use Rattle.std.specs.Prelude.{◌≡◌, ◌≢◌, ◌<◌, ◌≤◌, �
 ghost use Rattle.std.specs.Prelude.{vec_capacity, vec_len, List, IfErr, IfOk, IsTrue, OnOk};
 ghost use Rattle.archive_streams.specs.Pieces.{ReadsOn, device, unused};
 ghost use Rattle.archive_streams.specs.EntryTexts.{entry_in, HoldsEntry, IsAbove};
-ghost use Rattle.archive_streams.specs.Faults.{EndlessAt, SideFailures};
+ghost use Rattle.archive_streams.specs.Faults.{SideFailures};
 ghost use Rattle.archive_streams.specs.declared.pieces.TheConstants.{PIECE};
 ghost use Rattle.archive_streams.specs.declared.entry.TheConstants.{TEXT_MAX};
 
@@ -107,7 +107,6 @@ impl ArchiveReader {
             es last.now →
             IsSideStop fault self.new d
             (device (R.left reader.new) (R.calls reader.new) (R.ends reader.new)) es) }
-        ensures endless { EndlessAt result self.new.pieces }
     {
         match self.next(reader, last) {
             Ok(true) => Ok(()),
