@@ -23,10 +23,10 @@ use Rattle.archive_streams.specs.declared.entry.EntryText.{EntryText}
 use Rattle.archive_streams.specs.declared.merge.Merge.{Merge}
 use Rattle.archive_streams.specs.declared.pieces.Pieces.{Pieces}
 use Rattle.archive_streams.specs.declared.side.ArchiveReader.{ArchiveReader}
-use Rattle.archive_streams.proofs.Joining.{AllBelow}
+use Rattle.archive_streams.proofs.Joining.{AllBelow, SideAt}
 use Rattle.archive_streams.proofs.NextEntries.{some_or_none}
 use Rattle.archive_streams.proofs.Turns.{some_length}
-use Rattle.archive_streams.proofs.Unions.{below_more_joined, union_both, union_left, union_nil, union_right}
+use Rattle.archive_streams.proofs.Unions.{below_more_joined, side_ready, union_both, union_left, union_nil, union_right}
 
 -- what was read does not hang on the room of the entry
 pub read_same : (s t : ArchiveReader) (d e : Reader) (x : List ℕ) (es : List Entry) → t.pieces ≡ s.pieces → t.position ≡ s.position → ReadTo s d e x es → ReadTo t d e x es
@@ -73,6 +73,10 @@ still_ready s d e ls ws w above r = record { x = r.x; es = r.es; read = r.read; 
     placed : IsNextOrEnd s r.es ls ws → IsNextOrEnd s r.es ls (ws ++ w ∷ [])
     placed (inl next) = inl (next.0, next.1, below_more_joined ws w (entry_in s.entry) next.2 (above (some_text next.0)))
     placed (inr end) = inr end
+
+pub still_side : (s : ArchiveReader) (d e : Reader) (ls ws : List Entry) (w : Entry) → (s.entry.text.items ≢ [] → IsBelow w (entry_in s.entry)) → (r : Ready s d e ls ws) → SideAt r.x ls (ws ++ w ∷ [])
+unfolding still_ready
+still_side s d e ls ws w above r = side_ready s d e ls (ws ++ w ∷ []) (still_ready s d e ls ws w above r)
 
 -- with one entry more the text is no longer than those of the two sides
 pub longer_left : (ls rs ws : List Entry) (w : Entry) → length (text_of ws) ≤ length (text_of ls) + length (text_of rs)
