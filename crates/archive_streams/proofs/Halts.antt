@@ -15,7 +15,7 @@ use Rattle.held_output.specs.Held.{Carries, Held, StopsWithin}
 use Rattle.held_output.proofs.Carrying.{StopsWithin-take}
 use Rattle.syslog_value.specs.declared.loops.TheConstants.{READER_CALLS}
 use Rattle.archive_streams.specs.EntryTexts.{entry_in}
-use Rattle.archive_streams.specs.Halted.{Halted, IsUnderWay}
+use Rattle.archive_streams.specs.Halted.{Halted, IsNotWrite, IsUnderWay}
 use Rattle.archive_streams.specs.Joining.{IsPrefixOfUnion, IsUnion, IsWithin}
 use Rattle.archive_streams.specs.Joins.{BothDue, Joins, LeftDue, Merging, RightDue}
 use Rattle.archive_streams.specs.Judging.{at_of}
@@ -136,30 +136,30 @@ left_stops fault s m dl el dr er ls rs ws y start now t ends b consumed j short 
       input = left_input fault s dl el dr er ls rs ws y t a b j.union all;
     }
 
-pub left_halts : (fault : SideFault) (s : ArchiveReader) (m : Merge) (dl el fl dr er : Reader) (start now : Option (List ℕ)) → HasRoom m
-    → ((d : Reader) (es : List Entry) → Due m.left d el es m.last → IsSideStop fault s d fl es) → LeftDue m dl el dr er start now → Halted (left_fault fault) m.held dl fl dr er start now
-left_halts fault s m dl el fl dr er start now room stop h =
+pub left_halts : (fault found : SideFault) (s : ArchiveReader) (m : Merge) (dl el fl dr er : Reader) (start now : Option (List ℕ)) → HasRoom m → found ≡ fault
+    → ((d : Reader) (es : List Entry) → Due m.left d el es m.last → IsSideStop found s d fl es) → LeftDue m dl el dr er start now → Halted (left_fault fault) m.held dl fl dr er start now
+left_halts fault found s m dl el fl dr er start now room same stop h =
     let left = due_short m.left dl el h.ls m.last room.left_near h.left in
     let right = ready_short m.right dr er h.rs h.ws room.right_near h.right in
-    left_stops fault s m dl fl dr er h.ls h.rs h.ws h.right.x start now (stop dl h.ls h.left) h.left.ends (side_ready m.right dr er h.rs h.ws h.right) h.right.read.consumed h.joins
+    left_stops fault s m dl fl dr er h.ls h.rs h.ws h.right.x start now (subst (λ (f : SideFault). IsSideStop f s dl fl h.ls) same (stop dl h.ls h.left)) h.left.ends (side_ready m.right dr er h.rs h.ws h.right) h.right.read.consumed h.joins
     (both_short h.ls h.rs h.ws h.joins.short left right)
 
-pub left_halts_first : (fault : SideFault) (s : ArchiveReader) (m : Merge) (dl el fl dr er : Reader) (start now : Option (List ℕ)) → HasRoom m
-    → ((d : Reader) (es : List Entry) → Due m.left d el es m.last → IsSideStop fault s d fl es) → BothDue m dl el dr er start now → Halted (left_fault fault) m.held dl fl dr er start now
-left_halts_first fault s m dl el fl dr er start now room stop h =
+pub left_halts_first : (fault found : SideFault) (s : ArchiveReader) (m : Merge) (dl el fl dr er : Reader) (start now : Option (List ℕ)) → HasRoom m → found ≡ fault
+    → ((d : Reader) (es : List Entry) → Due m.left d el es m.last → IsSideStop found s d fl es) → BothDue m dl el dr er start now → Halted (left_fault fault) m.held dl fl dr er start now
+left_halts_first fault found s m dl el fl dr er start now room same stop h =
     let left = due_short m.left dl el h.ls m.last room.left_near h.left in
     let right = due_short m.right dr er h.rs m.last room.right_near h.right in
-    left_stops fault s m dl fl dr er h.ls h.rs h.ws h.right.x start now (stop dl h.ls h.left) h.left.ends (side_due m.right dr er h.rs h.ws m.last h.right h.joins.last_is h.joins.union.ascending) h.right.read.consumed
+    left_stops fault s m dl fl dr er h.ls h.rs h.ws h.right.x start now (subst (λ (f : SideFault). IsSideStop f s dl fl h.ls) same (stop dl h.ls h.left)) h.left.ends (side_due m.right dr er h.rs h.ws m.last h.right h.joins.last_is h.joins.union.ascending) h.right.read.consumed
     h.joins (both_short h.ls h.rs h.ws h.joins.short left right)
 
 -- the right stops, and the left is ahead
-pub right_halts : (fault : SideFault) (s : ArchiveReader) (m : Merge) (dl el dr er fr : Reader) (start now : Option (List ℕ)) → HasRoom m
-    → ((d : Reader) (es : List Entry) → Due m.right d er es m.last → IsSideStop fault s d fr es) → RightDue m dl el dr er start now → Halted (right_fault fault) m.held dl el dr fr start now
-right_halts fault s m dl el dr er fr start now room stop h =
+pub right_halts : (fault found : SideFault) (s : ArchiveReader) (m : Merge) (dl el dr er fr : Reader) (start now : Option (List ℕ)) → HasRoom m → found ≡ fault
+    → ((d : Reader) (es : List Entry) → Due m.right d er es m.last → IsSideStop found s d fr es) → RightDue m dl el dr er start now → Halted (right_fault fault) m.held dl el dr fr start now
+right_halts fault found s m dl el dr er fr start now room same stop h =
     let left = ready_short m.left dl el h.ls h.ws room.left_near h.left in
     let right = due_short m.right dr er h.rs m.last room.right_near h.right in
     let a = side_ready m.left dl el h.ls h.ws h.left in
-    let t = stop dr h.rs h.right in
+    let t : IsSideStop fault s dr fr h.rs = subst (λ (f : SideFault). IsSideStop f s dr fr h.rs) same (stop dr h.rs h.right) in
     let b : SideAt t.x h.rs h.ws = stopped_side fault s dr fr h.rs h.ws m.last t h.right.ends h.joins.last_is h.joins.union.ascending in
     let all : AllWithin h.rs h.ws = record { within = all_within h.rs h.ws m.last h.right.ends h.joins.last_is h.joins.union.ascending } in
     record {
@@ -292,16 +292,20 @@ stopped_sent sent held dl el dr er start now h =
       sent = omega (arith, length-take sent h.text, taken.0);
     }
 
--- not the writer's fault
-abbrev pub IsOther : MergeFault → Type 0
-IsOther (Write sent) = ⊥
-IsOther (Left fault) = Unit {0}
-IsOther (Right fault) = Unit {0}
-IsOther (Read side) = Unit {0}
-IsOther (Endless side) = Unit {0}
-IsOther Memory = Unit {0}
+pub stopped_write : (fault : MergeFault) (sent : ℕ) (held : Held) (dl el dr er : Reader) (start now : Option (List ℕ)) → fault ≡ Write sent → Halted fault held dl el dr er start now
+    → Stopped (Write sent) dl el dr er start now
+stopped_write fault sent held dl el dr er start now same h = stopped_sent sent held dl el dr er start now (subst (λ (f : MergeFault). Halted f held dl el dr er start now) same h)
 
-held_back : (fault : MergeFault) (held : Held) (start now : Option (List ℕ)) (text : List ℕ) → IsOther fault → IsUnderWay fault held start now text → Carries start now held text
+-- each fault that is not the writer's
+pub is_not_write : (fault : MergeFault) → ((sent : ℕ) → fault ≡ Write sent → ⊥) → IsNotWrite fault
+is_not_write (Write sent) other = other sent refl
+is_not_write (Left fault) other = tt
+is_not_write (Right fault) other = tt
+is_not_write (Read side) other = tt
+is_not_write (Endless side) other = tt
+is_not_write Memory other = tt
+
+held_back : (fault : MergeFault) (held : Held) (start now : Option (List ℕ)) (text : List ℕ) → IsNotWrite fault → IsUnderWay fault held start now text → Carries start now held text
 held_back (Write sent) held start now text other c = absurd other
 held_back (Left fault) held start now text other c = c
 held_back (Right fault) held start now text other c = c
@@ -309,7 +313,7 @@ held_back (Read side) held start now text other c = c
 held_back (Endless side) held start now text other c = c
 held_back Memory held start now text other c = c
 
-none_sent : (fault : MergeFault) (written : List ℕ) → IsOther fault → IsSent fault written
+none_sent : (fault : MergeFault) (written : List ℕ) → IsNotWrite fault → IsSent fault written
 none_sent (Write sent) written other = absurd other
 none_sent (Left fault) written other = tt
 none_sent (Right fault) written other = tt
@@ -318,7 +322,7 @@ none_sent (Endless side) written other = tt
 none_sent Memory written other = tt
 
 -- what is held back is written before a fault is told
-pub stopped_whole : (fault : MergeFault) (held : Held) (dl el dr er : Reader) (start now after : Option (List ℕ)) → IsOther fault → ((text : List ℕ) → Carries start now held text → Appends start after text)
+pub stopped_whole : (fault : MergeFault) (held : Held) (dl el dr er : Reader) (start now after : Option (List ℕ)) → IsNotWrite fault → ((text : List ℕ) → Carries start now held text → Appends start after text)
     → Halted fault held dl el dr er start now → Stopped fault dl el dr er start after
 stopped_whole fault held dl el dr er start now after other whole h = record {
   x = h.x;
@@ -333,7 +337,7 @@ stopped_whole fault held dl el dr er start now after other whole h = record {
 }
 
 -- or the writer fails before it is told
-pub stopped_before : (fault : MergeFault) (held : Held) (dl el dr er : Reader) (start now after : Option (List ℕ)) (sent : ℕ) → IsOther fault → ((text : List ℕ) → Carries start now held text → StopsWithin start after text sent)
+pub stopped_before : (fault : MergeFault) (held : Held) (dl el dr er : Reader) (start now after : Option (List ℕ)) (sent : ℕ) → IsNotWrite fault → ((text : List ℕ) → Carries start now held text → StopsWithin start after text sent)
     → Halted fault held dl el dr er start now → Stopped (Write sent) dl el dr er start after
 stopped_before fault held dl el dr er start now after sent other stops h =
     stopped_sent sent held dl el dr er start after (record {

@@ -17,6 +17,15 @@ IsUnderWay (Read side) held start now text = Carries start now held text
 IsUnderWay (Endless side) held start now text = Carries start now held text
 IsUnderWay Memory held start now text = Carries start now held text
 
+-- a fault that is not the writer's
+abbrev pub IsNotWrite : MergeFault → Type 0
+IsNotWrite (Write sent) = ⊥
+IsNotWrite (Left fault) = Unit {0}
+IsNotWrite (Right fault) = Unit {0}
+IsNotWrite (Read side) = Unit {0}
+IsNotWrite (Endless side) = Unit {0}
+IsNotWrite Memory = Unit {0}
+
 -- what was read of the two sides, and the text of what was joined
 pub record Halted (fault : MergeFault) (held : Held) (dl el dr er : Reader) (start now : Option (List ℕ)) : Type 0 where
   pub x : List ℕ

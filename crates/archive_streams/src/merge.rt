@@ -1,16 +1,18 @@
 //! Two archives are joined.
 
 ghost use Rattle.std.specs.Prelude.{◌≡◌, ◌≢◌, ◌^◌, ◌<◌, ◌+◌, ℕ, [], length};
-ghost use Rattle.std.specs.Prelude.{IfOk, IsErrOf, MatchOption, OnOk};
-ghost use Rattle.archive_streams.specs.Merging.{IsLeftDue, IsNextOrder, IsRightDue, IsSteady};
+ghost use Rattle.std.specs.Prelude.{IfErr, IfOk, IsErrOf, MatchOption, OnOk};
+ghost use Rattle.archive_streams.specs.Merging.{HasRoom, IsLeftDue, IsNextOrder, IsRightDue, IsSteady};
 ghost use Rattle.archive_streams.specs.Merging.{LeftFailures, NotWrite, OnlyWrite, RightFailures};
 ghost use Rattle.archive_streams.specs.Merging.{WriteFailed, height, rank};
 ghost use Rattle.std.specs.Prelude.{List, Option};
 ghost use Rattle.archive_text.specs.Entries.{IsBelow};
 ghost use Rattle.archive_streams.specs.EntryTexts.{entry_in};
+ghost use Rattle.archive_streams.specs.Halted.{Halted, IsNotWrite};
 ghost use Rattle.archive_streams.specs.Joined.{Joined};
 ghost use Rattle.archive_streams.specs.Joins.{BothDue, LeftDue, Merging, RightDue};
 ghost use Rattle.archive_streams.specs.Pieces.{Reader, device};
+ghost use Rattle.archive_streams.specs.Stopped.{Stopped};
 
 use crate::entry::EntryText;
 use crate::fault::{InputFault, MergeFault, Side, SideFault};
@@ -88,6 +90,16 @@ impl Merge {
             (device (R.left left.old) (R.calls left.old) (R.ends left.old)) dr er start now →
             RightDue self.new dl
             (device (R.left left.new) (R.calls left.new) (R.ends left.new)) dr er start now) }
+        ensures halted { IfErr result (λ fault. (dl dr er : Reader) (start now : Option (List ℕ)) →
+            LeftDue self.old dl
+            (device (R.left left.old) (R.calls left.old) (R.ends left.old)) dr er start now →
+            Halted fault self.new.held dl
+            (device (R.left left.new) (R.calls left.new) (R.ends left.new)) dr er start now) }
+        ensures halted_first { IfErr result (λ fault. (dl dr er : Reader) (start now : Option (List ℕ)) →
+            BothDue self.old dl
+            (device (R.left left.old) (R.calls left.old) (R.ends left.old)) dr er start now →
+            Halted fault self.new.held dl
+            (device (R.left left.new) (R.calls left.new) (R.ends left.new)) dr er start now) }
         ensures not_written { NotWrite result }
         ensures not_memory { ¬ (IsErrOf result MergeFault.Memory) }
     {
@@ -113,6 +125,11 @@ impl Merge {
             RightDue self.old dl el dr
             (device (R.left right.old) (R.calls right.old) (R.ends right.old)) start now →
             Merging self.new dl el dr
+            (device (R.left right.new) (R.calls right.new) (R.ends right.new)) start now) }
+        ensures halted { IfErr result (λ fault. (dl el dr : Reader) (start now : Option (List ℕ)) →
+            RightDue self.old dl el dr
+            (device (R.left right.old) (R.calls right.old) (R.ends right.old)) start now →
+            Halted fault self.new.held dl el dr
             (device (R.left right.new) (R.calls right.new) (R.ends right.new)) start now) }
         ensures not_written { NotWrite result }
         ensures not_memory { ¬ (IsErrOf result MergeFault.Memory) }
@@ -143,6 +160,16 @@ impl Merge {
             entry_in self.old.left.entry ≡ entry_in self.old.right.entry →
             Merging self.old dl el dr er start (W.taken writer.old) →
             BothDue self.new dl el dr er start (W.taken writer.new)) }
+        ensures halted_less { IfErr result (λ fault. (dl el dr er : Reader) (start : Option (List ℕ)) →
+            (self.old.right.entry.text.items ≢ [] →
+            IsBelow (entry_in self.old.left.entry) (entry_in self.old.right.entry)) →
+            Merging self.old dl el dr er start (W.taken writer.old) →
+            Halted fault self.new.held dl el dr er start (W.taken writer.new)) }
+        ensures halted_equal { IfErr result (λ fault. (dl el dr er : Reader) (start : Option (List ℕ)) →
+            self.old.right.entry.text.items ≢ [] →
+            entry_in self.old.left.entry ≡ entry_in self.old.right.entry →
+            Merging self.old dl el dr er start (W.taken writer.old) →
+            Halted fault self.new.held dl el dr er start (W.taken writer.new)) }
         ensures not_memory { ¬ (IsErrOf result MergeFault.Memory) }
         ensures failures { WriteFailed result (W.failures writer.old) (W.failures writer.new) }
     {
@@ -167,6 +194,11 @@ impl Merge {
             IsBelow (entry_in self.old.right.entry) (entry_in self.old.left.entry)) →
             Merging self.old dl el dr er start (W.taken writer.old) →
             RightDue self.new dl el dr er start (W.taken writer.new)) }
+        ensures halted { IfErr result (λ fault. (dl el dr er : Reader) (start : Option (List ℕ)) →
+            (self.old.left.entry.text.items ≢ [] →
+            IsBelow (entry_in self.old.right.entry) (entry_in self.old.left.entry)) →
+            Merging self.old dl el dr er start (W.taken writer.old) →
+            Halted fault self.new.held dl el dr er start (W.taken writer.new)) }
         ensures not_memory { ¬ (IsErrOf result MergeFault.Memory) }
         ensures failures { WriteFailed result (W.failures writer.old) (W.failures writer.new) }
     {
@@ -196,6 +228,15 @@ impl Merge {
             (device (R2.left right.old) (R2.calls right.old) (R2.ends right.old))
             start (W.taken writer.old) →
             Merging self.new dl
+            (device (R1.left left.new) (R1.calls left.new) (R1.ends left.new)) dr
+            (device (R2.left right.new) (R2.calls right.new) (R2.ends right.new))
+            start (W.taken writer.new)) }
+        ensures halted { IfErr result (λ fault. (dl dr : Reader) (start : Option (List ℕ)) →
+            Merging self.old dl
+            (device (R1.left left.old) (R1.calls left.old) (R1.ends left.old)) dr
+            (device (R2.left right.old) (R2.calls right.old) (R2.ends right.old))
+            start (W.taken writer.old) →
+            Halted fault self.new.held dl
             (device (R1.left left.new) (R1.calls left.new) (R1.ends left.new)) dr
             (device (R2.left right.new) (R2.calls right.new) (R2.ends right.new))
             start (W.taken writer.new)) }
@@ -231,12 +272,22 @@ impl Merge {
         requires due { IsLeftDue self.old }
         requires empty { self.old.right.entry.text.items ≡ [] }
         ensures done { OnOk result (rank self.new ≡ 0) }
+        ensures room { OnOk result (HasRoom self.new) }
         ensures joins { OnOk result ((dl dr : Reader) (start : Option (List ℕ)) →
             BothDue self.old dl
             (device (R1.left left.old) (R1.calls left.old) (R1.ends left.old)) dr
             (device (R2.left right.old) (R2.calls right.old) (R2.ends right.old))
             start (W.taken writer.old) →
             Merging self.new dl
+            (device (R1.left left.new) (R1.calls left.new) (R1.ends left.new)) dr
+            (device (R2.left right.new) (R2.calls right.new) (R2.ends right.new))
+            start (W.taken writer.new)) }
+        ensures halted { IfErr result (λ fault. (dl dr : Reader) (start : Option (List ℕ)) →
+            BothDue self.old dl
+            (device (R1.left left.old) (R1.calls left.old) (R1.ends left.old)) dr
+            (device (R2.left right.old) (R2.calls right.old) (R2.ends right.old))
+            start (W.taken writer.old) →
+            Halted fault self.new.held dl
             (device (R1.left left.new) (R1.calls left.new) (R1.ends left.new)) dr
             (device (R2.left right.new) (R2.calls right.new) (R2.ends right.new))
             start (W.taken writer.new)) }
@@ -259,6 +310,18 @@ impl Merge {
             rank self.old ≡ 0 →
             Merging self.old dl el dr er start (W.taken writer.old) →
             Joined dl el dr er start (W.taken writer.new) n) }
+        ensures stopped { IfErr result (λ fault. (dl el dr er : Reader) (start : Option (List ℕ)) →
+            HasRoom self.old →
+            Merging self.old dl el dr er start (W.taken writer.old) →
+            Stopped fault dl el dr er start (W.taken writer.new)) }
+        ensures halted { IfOk result (λ _. (fault : MergeFault) (dl el dr er : Reader)
+            (start : Option (List ℕ)) → IsNotWrite fault →
+            Halted fault self.old.held dl el dr er start (W.taken writer.old) →
+            Stopped fault dl el dr er start (W.taken writer.new)) }
+        ensures halted_stopped { IfErr result (λ write. (fault : MergeFault) (dl el dr er : Reader)
+            (start : Option (List ℕ)) → IsNotWrite fault →
+            Halted fault self.old.held dl el dr er start (W.taken writer.old) →
+            Stopped write dl el dr er start (W.taken writer.new)) }
         ensures failures { WriteFailed result (W.failures writer.old) (W.failures writer.new) }
         ensures not_left { ¬ (IsErrOf result (MergeFault.Read Side.Left)) }
         ensures not_right { ¬ (IsErrOf result (MergeFault.Read Side.Right)) }
@@ -287,6 +350,14 @@ impl Merge {
             Joined dl (device (R1.left left.new) (R1.calls left.new) (R1.ends left.new)) dr
             (device (R2.left right.new) (R2.calls right.new) (R2.ends right.new))
             start (W.taken writer.new) n) }
+        ensures stopped { IfErr result (λ fault. (dl dr : Reader) (start : Option (List ℕ)) →
+            BothDue self.old dl
+            (device (R1.left left.old) (R1.calls left.old) (R1.ends left.old)) dr
+            (device (R2.left right.old) (R2.calls right.old) (R2.ends right.old))
+            start (W.taken writer.old) →
+            Stopped fault dl (device (R1.left left.new) (R1.calls left.new) (R1.ends left.new)) dr
+            (device (R2.left right.new) (R2.calls right.new) (R2.ends right.new))
+            start (W.taken writer.new)) }
         ensures read_left { R1.failures left.old < 2 ^ 63 →
             IsErrOf result (MergeFault.Read Side.Left) →
             R1.failures left.old < R1.failures left.new }
@@ -296,10 +367,12 @@ impl Merge {
         ensures writer { WriteFailed result (W.failures writer.old) (W.failures writer.new) }
         ensures not_memory { ¬ (IsErrOf result MergeFault.Memory) }
     {
-        match self.join(left, right, writer) {
-            Ok(()) => self.finish(writer),
-            Err(MergeFault::Write { sent }) => Err(MergeFault::Write { sent }),
-            Err(fault) => match self.finish(writer) {
+        let Err(fault) = self.join(left, right, writer) else {
+            return self.finish(writer);
+        };
+        match fault {
+            MergeFault::Write { sent } => Err(MergeFault::Write { sent }),
+            _ => match self.finish(writer) {
                 Ok(_) => Err(fault),
                 Err(write) => Err(write),
             },
@@ -326,6 +399,12 @@ pub fn merge_streams<R1: Input, R2: Input, W: Output>(
         (device (R2.left right.old) (R2.calls right.old) (R2.ends right.old))
         (device (R2.left right.new) (R2.calls right.new) (R2.ends right.new))
         (W.taken writer.old) (W.taken writer.new) n) }
+    ensures stopped { IfErr result (λ fault. Stopped fault
+        (device (R1.left left.old) (R1.calls left.old) (R1.ends left.old))
+        (device (R1.left left.new) (R1.calls left.new) (R1.ends left.new))
+        (device (R2.left right.old) (R2.calls right.old) (R2.ends right.old))
+        (device (R2.left right.new) (R2.calls right.new) (R2.ends right.new))
+        (W.taken writer.old) (W.taken writer.new)) }
     ensures read_left { R1.failures left.old < 2 ^ 63 →
         IsErrOf result (MergeFault.Read Side.Left) → R1.failures left.old < R1.failures left.new }
     ensures read_right { R2.failures right.old < 2 ^ 63 →
