@@ -117,7 +117,7 @@ write_less m n dl el dr er start a b some above last pieces position right count
       left = subst (Due n.left dl el (s.ls ++ w ∷ [])) (sym last) (due_next m.left n.left dl el s.ls s.ws some pieces position next);
       right = subst (λ (r : ArchiveReader). Ready r dr er s.rs (s.ws ++ w ∷ [])) (sym right) (still_ready m.right dr er s.rs s.ws w above s.right);
       joins = joins_on m n s.ls s.rs s.ws (s.ls ++ w ∷ []) s.rs m.left.entry start a b s.joins (union_left s.ls s.rs s.ws w s.joins.union next.below)
-    (longer_left s.ls s.rs s.ws w s.joins.short) some next.holds last count (carries (text_of s.ws));
+          (longer_left s.ls s.rs s.ws w s.joins.short) some next.holds last count (carries (text_of s.ws));
     }
 
 -- the right is written alone
@@ -134,7 +134,7 @@ write_greater m n dl el dr er start a b some above last pieces position left cou
       left = subst (λ (r : ArchiveReader). Ready r dl el s.ls (s.ws ++ w ∷ [])) (sym left) (still_ready m.left dl el s.ls s.ws w above s.left);
       right = subst (Due n.right dr er (s.rs ++ w ∷ [])) (sym last) (due_next m.right n.right dr er s.rs s.ws some pieces position next);
       joins = joins_on m n s.ls s.rs s.ws s.ls (s.rs ++ w ∷ []) m.right.entry start a b s.joins (union_right s.ls s.rs s.ws w s.joins.union next.below)
-    (longer_right s.ls s.rs s.ws w s.joins.short) some next.holds last count (carries (text_of s.ws));
+          (longer_right s.ls s.rs s.ws w s.joins.short) some next.holds last count (carries (text_of s.ws));
     }
 
 -- an equal pair is written once
@@ -156,7 +156,7 @@ write_equal m n dl el dr er start a b some also same last pieces position right 
         ends = subst (EndsWith (s.rs ++ w ∷ [])) (sym last) (ends_with s.rs m.left.entry some);
       });
       joins = joins_on m n s.ls s.rs s.ws (s.ls ++ w ∷ []) (s.rs ++ w ∷ []) m.left.entry start a b s.joins (union_both s.ls s.rs s.ws w s.joins.union next.below)
-    (longer_both s.ls s.rs s.ws w s.joins.short) some next.holds last count (carries (text_of s.ws));
+          (longer_both s.ls s.rs s.ws w s.joins.short) some next.holds last count (carries (text_of s.ws));
     }
 
 -- what was joined does not hang on the sides

@@ -140,3 +140,99 @@ fn a_text_is_cut_anywhere(rt: HostRuntime) -> Result<(), Fail> {
     }
     Ok(())
 }
+
+#[test]
+fn a_reader_that_fails_leaves_whole_entries(rt: HostRuntime) -> Result<(), Fail> {
+    let acb = text(&rt, &[A, C, B])?;
+    assert_eq!(rt; acb.len(), 118);
+    for n in 0..119 {
+        let whole = match n {
+            0..22 => 0,
+            22..70 => 22,
+            70..118 => 70,
+            _ => 118,
+        };
+        let mut left = Fuse::new(FromRead::new(acb.as_slice()), n, 999);
+        let mut right = FromRead::new(b"".as_slice());
+        let mut writer = ToWrite::new(Vec::new(rt.alloc()));
+        let answer = merge_streams(rt.alloc(), &mut left, &mut right, &mut writer);
+        assert_eq!(rt; answer, Err(MergeFault::Read(Side::Left)));
+        assert_eq!(rt; writer.into_inner().as_slice(), &acb[..whole]);
+    }
+    let ac = text(&rt, &[A, C])?;
+    let ab = text(&rt, &[A, B])?;
+    for n in 0..71 {
+        // A is written once both sides have read it, and the rest once B is read
+        let whole = match n {
+            0..22 => 0,
+            22..70 => 22,
+            _ => 118,
+        };
+        let mut left = FromRead::new(ac.as_slice());
+        let mut right = Fuse::new(FromRead::new(ab.as_slice()), n, 999);
+        let mut writer = ToWrite::new(Vec::new(rt.alloc()));
+        let answer = merge_streams(rt.alloc(), &mut left, &mut right, &mut writer);
+        assert_eq!(rt; answer, Err(MergeFault::Read(Side::Right)));
+        assert_eq!(rt; writer.into_inner().as_slice(), &acb[..whole]);
+    }
+    Ok(())
+}
+
+#[test]
+fn a_writer_that_fails_comes_before_a_later_fault(rt: HostRuntime) -> Result<(), Fail> {
+    let ac = text(&rt, &[A, C])?;
+    let acbx = text(&rt, &[A, C, B, b"x"])?;
+    assert_eq!(rt; acbx.len(), 119);
+    for n in 0..120 {
+        let answer = if n < 118 {
+            MergeFault::Write { sent: n }
+        } else {
+            MergeFault::Left(bad_frame(118))
+        };
+        let sent = n.min(118) as usize;
+        let mut left = FromRead::new(acbx.as_slice());
+        let mut right = FromRead::new(ac.as_slice());
+        let mut writer = Fuse::new(ToWrite::new(Vec::new(rt.alloc())), n, 999);
+        let told = merge_streams(rt.alloc(), &mut left, &mut right, &mut writer);
+        assert_eq!(rt; told, Err(answer));
+        let written = writer.into_inner().into_inner();
+        assert_eq!(rt; written.as_slice(), &acbx[..sent]);
+    }
+    Ok(())
+}
+
+#[test]
+fn each_call_of_a_device_may_fail(rt: HostRuntime) -> Result<(), Fail> {
+    let ac = text(&rt, &[A, C])?;
+    let ab = text(&rt, &[A, B])?;
+    let acb = text(&rt, &[A, C, B])?;
+    let ax = text(&rt, &[A, b"x"])?;
+    let left_bad = Err(MergeFault::Left(bad_frame(22)));
+    for (x, y, whole, told) in [
+        (ax.as_slice(), b"".as_slice(), A, left_bad),
+        (A, b"", A, Ok(1)),
+        (&ac, &ab, &acb, Ok(3)),
+    ] {
+        for calls in 0..4 {
+            let mut left = Fuse::new(FromRead::new(x), 999, calls);
+            let mut right = FromRead::new(y);
+            let mut writer = ToWrite::new(Vec::new(rt.alloc()));
+            let answer = merge_streams(rt.alloc(), &mut left, &mut right, &mut writer);
+            assert!(rt; answer == told || answer == Err(MergeFault::Read(Side::Left)));
+            assert!(rt; whole.starts_with(&writer.into_inner()));
+            let mut left = FromRead::new(x);
+            let mut right = Fuse::new(FromRead::new(y), 999, calls);
+            let mut writer = ToWrite::new(Vec::new(rt.alloc()));
+            let answer = merge_streams(rt.alloc(), &mut left, &mut right, &mut writer);
+            assert!(rt; answer == told || answer == Err(MergeFault::Read(Side::Right)));
+            assert!(rt; whole.starts_with(&writer.into_inner()));
+            let mut left = FromRead::new(x);
+            let mut right = FromRead::new(y);
+            let mut writer = Fuse::new(ToWrite::new(Vec::new(rt.alloc())), 999, calls);
+            let answer = merge_streams(rt.alloc(), &mut left, &mut right, &mut writer);
+            assert!(rt; answer == told || answer == Err(MergeFault::Write { sent: 0 }));
+            assert!(rt; whole.starts_with(&writer.into_inner().into_inner()));
+        }
+    }
+    Ok(())
+}
