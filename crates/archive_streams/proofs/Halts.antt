@@ -2,11 +2,9 @@
 use Rattle.std.proofs.Common.{◌≡◌, ℕ, ◌+◌, ◌*◌, ◌^◌, ◌<◌, ◌≤◌, List, [], ◌∷◌, ◌++◌, Option, length, take, drop, refl, sym, ap, subst, ◌∙◌, arith, inl, inr}
 use Rattle.std.specs.Prelude.{◌≢◌, ◌⊎◌}
 use Rattle.std.specs.Io.KnownBytes.{Appends, Consumes}
-use Rattle.std.proofs.lemmas.List.{length-append, length-take, take-append-drop}
+use Rattle.std.proofs.lemmas.List.{length-take, take-append-drop}
 use Rattle.archive_text.specs.Entries.{Entry, Has, IsAscending, IsBelow}
-use Rattle.archive_text.specs.Faults.{IsArchiveFault}
-use Rattle.archive_text.specs.Text.{entry_text, text_of}
-use Rattle.archive_text.specs.declared.fault.ArchiveFault.{ArchiveFault}
+use Rattle.archive_text.specs.Text.{text_of}
 use Rattle.archive_text.specs.declared.limits.TheConstants.{ENTRY_MAX}
 use Rattle.archive_text.proofs.Members.{has_either, has_right}
 use Rattle.archive_text.proofs.Prefixes.{archive_fault}
@@ -18,10 +16,9 @@ use Rattle.archive_streams.specs.EntryTexts.{entry_in}
 use Rattle.archive_streams.specs.Halted.{Halted, IsNotWrite, IsUnderWay}
 use Rattle.archive_streams.specs.Joining.{IsPrefixOfUnion, IsUnion, IsWithin}
 use Rattle.archive_streams.specs.Joins.{BothDue, Joins, LeftDue, Merging, RightDue}
-use Rattle.archive_streams.specs.Judging.{at_of}
 use Rattle.archive_streams.specs.Merging.{HasRoom}
 use Rattle.archive_streams.specs.Pieces.{Reader, unused}
-use Rattle.archive_streams.specs.Sides.{Due, EndsWith, IsNear, IsNextOrEnd, IsSideStop, IsStopCause, ReadTo, Ready}
+use Rattle.archive_streams.specs.Sides.{Due, EndsWith, IsNear, IsNextOrEnd, IsSideStop, Ready}
 use Rattle.archive_streams.specs.Stopped.{HasEnded, IsInputFault, IsSent, Stopped}
 use Rattle.archive_streams.specs.declared.entry.EntryText.{EntryText}
 use Rattle.archive_streams.specs.declared.fault.InputFault.TheVariants.{Device, Endless as input_Endless}
@@ -33,7 +30,7 @@ use Rattle.archive_streams.specs.declared.fault.SideFault.TheVariants.{Archive, 
 use Rattle.archive_streams.specs.declared.merge.Merge.{Merge}
 use Rattle.archive_streams.specs.declared.pieces.TheConstants.{PIECE}
 use Rattle.archive_streams.specs.declared.side.ArchiveReader.{ArchiveReader}
-use Rattle.archive_streams.proofs.Joining.{AllBelow, AllWithin, SideAt, first_above, first_within, prefix_of_union, shorter_prefix, up_to_first}
+use Rattle.archive_streams.proofs.Joining.{AllWithin, SideAt, first_above, first_within, prefix_of_union, shorter_prefix, up_to_first}
 use Rattle.archive_streams.proofs.Merges.{HasNext, has_next, longer_both, longer_left, longer_right, still_side}
 use Rattle.archive_streams.proofs.Unions.{IsAhead, all_within, side_ahead, side_due, side_ready, turned, union_both, union_left, union_right}
 

@@ -1,12 +1,12 @@
 -- The steps by which two archives become one.
 use Rattle.std.proofs.Common.{◌≡◌, ℕ, ◌+◌, ◌^◌, ◌<◌, ◌≤◌, List, [], ◌∷◌, ◌++◌, Option, length, refl, sym, ap, subst, ◌∙◌, append-nil, arith, inl, inr}
-use Rattle.std.specs.Prelude.{◌≢◌, ◌⊎◌}
+use Rattle.std.specs.Prelude.{◌≢◌}
 use Rattle.std.specs.Fmt.{decimal}
 use Rattle.std.proofs.lemmas.List.{length-append}
-use Rattle.archive_text.specs.Entries.{Entry, Has, IsAscending, IsBelow}
+use Rattle.archive_text.specs.Entries.{Entry, IsAscending, IsBelow}
 use Rattle.std.specs.Io.KnownBytes.{Appends, Consumes, IsAtEnd}
 use Rattle.std.proofs.KnownBytes.{Consumes-nil}
-use Rattle.archive_text.specs.Text.{IsArchive, entry_text, text_of}
+use Rattle.archive_text.specs.Text.{IsArchive, text_of}
 use Rattle.archive_text.specs.declared.limits.TheConstants.{ENTRY_MAX}
 use Rattle.archive_text.proofs.Ascending.{archive_nil}
 use Rattle.held_output.proofs.Carrying.{Carries-new}
@@ -24,8 +24,6 @@ use Rattle.archive_streams.specs.declared.merge.Merge.{Merge}
 use Rattle.archive_streams.specs.declared.pieces.Pieces.{Pieces}
 use Rattle.archive_streams.specs.declared.side.ArchiveReader.{ArchiveReader}
 use Rattle.archive_streams.proofs.Joining.{AllBelow, SideAt}
-use Rattle.archive_streams.proofs.NextEntries.{some_or_none}
-use Rattle.archive_streams.proofs.Turns.{some_length}
 use Rattle.archive_streams.proofs.Unions.{below_more_joined, side_ready, union_both, union_left, union_nil, union_right}
 
 -- what was read does not hang on the room of the entry

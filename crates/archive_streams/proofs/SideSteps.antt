@@ -1,18 +1,16 @@
 -- A side that is read on, entry by entry.
-use Rattle.std.proofs.Common.{◌≡◌, ℕ, ◌+◌, ◌*◌, ◌^◌, ◌<◌, ◌≤◌, List, [], ◌∷◌, ◌++◌, length, refl, sym, ap, subst, ◌∙◌, append_assoc, append-nil, arith, inl, inr}
-use Rattle.std.specs.Prelude.{◌≢◌, ◌⊎◌}
-use Rattle.std.specs.Io.KnownBytes.{Consumes, IsAtEnd}
+use Rattle.std.proofs.Common.{◌≡◌, ℕ, ◌+◌, ◌<◌, List, [], ◌∷◌, ◌++◌, length, refl, sym, ap, subst, ◌∙◌, append_assoc, arith, inl, inr}
 use Rattle.std.proofs.KnownBytes.{Consumes-trans}
 use Rattle.std.proofs.lemmas.List.{length-append}
 use Rattle.archive_text.specs.Entries.{Entry, Has, IsAscending, IsBelow}
 use Rattle.archive_text.specs.Text.{IsArchive, entry_text, text_of}
 use Rattle.archive_text.specs.declared.limits.TheConstants.{ENTRY_MAX}
-use Rattle.archive_text.proofs.Ascending.{archive_from, archive_nil, ascending_after, below_after}
+use Rattle.archive_text.proofs.Ascending.{archive_from, ascending_after, below_after}
 use Rattle.archive_text.proofs.Members.{of_member}
-use Rattle.archive_text.proofs.Texts.{text_goes_on, text_length, text_push}
+use Rattle.archive_text.proofs.Texts.{text_goes_on, text_push}
 use Rattle.archive_streams.specs.EntryTexts.{entry_in, HoldsEntry, IsAbove}
 use Rattle.archive_streams.specs.Pieces.{ReadsOn, Reader, unused}
-use Rattle.archive_streams.specs.Sides.{Due, EndsWith, IsNextFault, IsNextOrEnd, IsSideStop, IsStopCause, ReadTo, Ready}
+use Rattle.archive_streams.specs.Sides.{Due, EndsWith, IsNextFault, IsSideStop, IsStopCause, ReadTo, Ready}
 use Rattle.archive_streams.specs.declared.entry.EntryText.{EntryText}
 use Rattle.archive_streams.specs.declared.fault.SideFault.{SideFault}
 use Rattle.archive_streams.specs.declared.fault.SideFault.TheVariants.{Archive, Input}

@@ -1,5 +1,5 @@
 -- Two archives on their way into one, where a fault halts them.
-use Rattle.std.specs.Prelude.{◌≡◌, ℕ, ◌^◌, ◌<◌, List, Option, length}
+use Rattle.std.specs.Prelude.{ℕ, ◌^◌, ◌<◌, List, Option, length}
 use Rattle.std.specs.Io.KnownBytes.{Consumes}
 use Rattle.held_output.specs.Held.{Carries, Held, StopsWithin}
 use Rattle.archive_streams.specs.Joining.{IsPrefixOfUnion}

@@ -1,6 +1,5 @@
 use Rattle.std.proofs.Common.{◌≡◌, ◌+◌, length, ap, arith}
 use Rattle.std.proofs.lemmas.Result.{IfErr-weaker, on_ok_weaker}
-use Rattle.archive_streams.specs.Merging.{IsNextOrder}
 use Rattle.archive_streams.specs.declared.side.ArchiveReader.{ArchiveReader}
 use Rattle.archive_streams.proofs.Turns.{at_err, falls_both, on_ok_then}
 use Rattle.archive_streams.proofs.merge.Merge.turn.Goals as goal
