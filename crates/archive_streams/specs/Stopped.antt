@@ -33,9 +33,9 @@ pub record IsNoArchive (fault : ArchiveFault) (d e : Reader) (given other writte
 -- the greatest of its front is not above that of the right's
 abbrev pub IsInputFault : MergeFault → Reader → Reader → Reader → Reader → List ℕ → List ℕ → List ℕ → Type 0
 IsInputFault (Left fault) dl el dr er x y written =
-    IsNoArchive fault dl el x y written × ((other : ArchiveFault) → IsArchiveFault ENTRY_MAX y other → IsFirstWithin x y)
+    IsNoArchive fault dl el x y written × ((too : ArchiveFault) → IsArchiveFault ENTRY_MAX y too → IsFirstWithin x y)
 IsInputFault (Right fault) dl el dr er x y written =
-    IsNoArchive fault dr er y x written × ((other : ArchiveFault) → IsArchiveFault ENTRY_MAX x other → IsFirstAbove x y)
+    IsNoArchive fault dr er y x written × ((too : ArchiveFault) → IsArchiveFault ENTRY_MAX x too → IsFirstAbove x y)
 IsInputFault (Endless side_Left) dl el dr er x y written = HasNoEnd dl el
 IsInputFault (Endless side_Right) dl el dr er x y written = HasNoEnd dr er
 IsInputFault (Read side) dl el dr er x y written = Unit {0}

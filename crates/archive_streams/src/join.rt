@@ -219,9 +219,11 @@ pub fn merge_streams<R1: Input, R2: Input, W: Output>(
 
     // a device's fault only where that device failed
     ensures read_left { R1.failures left.old < 2 ^ 63 →
-        IsErrOf result (MergeFault.Read Side.Left) → R1.failures left.old < R1.failures left.new }
+        IsErrOf result (MergeFault.Read Side.Left) →
+        R1.failures left.old < R1.failures left.new }
     ensures read_right { R2.failures right.old < 2 ^ 63 →
-        IsErrOf result (MergeFault.Read Side.Right) → R2.failures right.old < R2.failures right.new }
+        IsErrOf result (MergeFault.Read Side.Right) →
+        R2.failures right.old < R2.failures right.new }
     ensures writer { WriteFailed result (W.failures writer.old) (W.failures writer.new) }
 
     // out of memory only before anything is read or written

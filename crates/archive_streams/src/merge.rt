@@ -92,7 +92,8 @@ impl Merge {
             (device (R.left left.old) (R.calls left.old) (R.ends left.old)) dr er start now →
             Halted fault self.new.held dl
             (device (R.left left.new) (R.calls left.new) (R.ends left.new)) dr er start now) }
-        ensures halted_first { IfErr result (λ fault. (dl dr er : Reader) (start now : Option (List ℕ)) →
+        ensures halted_first { IfErr result (λ fault.
+            (dl dr er : Reader) (start now : Option (List ℕ)) →
             BothDue self.old dl
             (device (R.left left.old) (R.calls left.old) (R.ends left.old)) dr er start now →
             Halted fault self.new.held dl
@@ -157,12 +158,14 @@ impl Merge {
             entry_in self.old.left.entry ≡ entry_in self.old.right.entry →
             Merging self.old dl el dr er start (W.taken writer.old) →
             BothDue self.new dl el dr er start (W.taken writer.new)) }
-        ensures halted_less { IfErr result (λ fault. (dl el dr er : Reader) (start : Option (List ℕ)) →
+        ensures halted_less { IfErr result (λ fault.
+            (dl el dr er : Reader) (start : Option (List ℕ)) →
             (self.old.right.entry.text.items ≢ [] →
             IsBelow (entry_in self.old.left.entry) (entry_in self.old.right.entry)) →
             Merging self.old dl el dr er start (W.taken writer.old) →
             Halted fault self.new.held dl el dr er start (W.taken writer.new)) }
-        ensures halted_equal { IfErr result (λ fault. (dl el dr er : Reader) (start : Option (List ℕ)) →
+        ensures halted_equal { IfErr result (λ fault.
+            (dl el dr er : Reader) (start : Option (List ℕ)) →
             self.old.right.entry.text.items ≢ [] →
             entry_in self.old.left.entry ≡ entry_in self.old.right.entry →
             Merging self.old dl el dr er start (W.taken writer.old) →

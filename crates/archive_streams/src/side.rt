@@ -29,7 +29,8 @@ pub struct ArchiveReader {
 impl ArchiveReader {
     ghost use Rattle.archive_text.specs.Entries.{Entry, IsAscending};
     ghost use Rattle.archive_streams.specs.Pieces.{Reader};
-    ghost use Rattle.archive_streams.specs.Sides.{Due, EndsWith, IsNear, IsNextFault, IsSideStop, Ready};
+    ghost use Rattle.archive_streams.specs.Sides.{Due, EndsWith, IsNear, Ready};
+    ghost use Rattle.archive_streams.specs.Sides.{IsNextFault, IsSideStop};
 
     /// Before the first entry.
     pub fn new(alloc: Global) -> Result<ArchiveReader, AllocError>
