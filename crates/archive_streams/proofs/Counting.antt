@@ -1,19 +1,17 @@
 -- The length before an entry, as its octets come.
-use Rattle.std.proofs.Common.{◌≡◌, ℕ, ◌+◌, ◌^◌, ◌<◌, ◌≤◌, List, [], ◌∷◌, ◌++◌, length, take, drop, refl, sym, ap, subst, ◌∙◌, append_assoc, arith, inl, inr}
+use Rattle.std.proofs.Common.{◌≡◌, ℕ, ◌<◌, ◌≤◌, List, [], ◌∷◌, ◌++◌, length, take, drop, refl, sym, ap, subst, ◌∙◌, append_assoc, arith, inl, inr}
 use Rattle.std.specs.Fmt.{decimal}
 use Rattle.std.proofs.lemmas.Fmt.{length-decimal-le}
 use Rattle.std.proofs.lemmas.Bool.{cases_lt}
 use Rattle.std.proofs.lemmas.List.{append-nil, length-append, take-append-drop, take-append-le, take-take, take_all, take_at}
 use Rattle.octet_language.specs.Language.{AnyOf, Begins, IsFaultOffset, Language, NoPrefix}
-use Rattle.octet_language.specs.Reading.{Follows}
 use Rattle.octet_language.proofs.Lists.{parted}
 use Rattle.syslog_frame.specs.Frames.{CanCarry, framed}
 use Rattle.syslog_frame.specs.MsgLen.{IsMsgLen, MsgLen}
-use Rattle.syslog_frame.specs.declared.count.MsgLen.TheVariants.{Whole, Part, Bad}
+use Rattle.syslog_frame.specs.declared.count.MsgLen.TheVariants.{Whole, Bad}
 use Rattle.syslog_frame.specs.declared.framing.Framing.TheVariants.{Counted}
-use Rattle.syslog_frame.specs.declared.limits.TheConstants.{COUNT_MAX}
 use Rattle.syslog_frame.proofs.Counts.{Begins-count, HasPrefix-msg_len, NoPrefix-count}
-use Rattle.archive_text.specs.Faults.{BeginsWithOctets, IsBadFrame, IsFaultBefore, IsTooLong}
+use Rattle.archive_text.specs.Faults.{BeginsWithOctets, IsBadFrame, IsTooLong}
 use Rattle.archive_streams.specs.Counting.{IsUnfinished}
 
 -- nothing is unfinished

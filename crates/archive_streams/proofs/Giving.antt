@@ -1,11 +1,10 @@
 -- What a reader gives, call by call.
-use Rattle.std.proofs.Common.{◌≡◌, ℕ, ◌+◌, ◌-◌, ◌*◌, ◌^◌, ◌<◌, ◌≤◌, List, [], ◌++◌, Option, length, take, drop, refl, sym, ap, ◌∙◌, append-nil, append_assoc, subst, arith}
-use Rattle.std.proofs.lemmas.List.{drop-take, drop-drop, length-append, length-take, length-drop, take-append-drop}
+use Rattle.std.proofs.Common.{◌≡◌, ℕ, ◌+◌, ◌-◌, ◌≤◌, List, [], ◌++◌, Option, length, take, drop, refl, sym, ap, ◌∙◌, append-nil, append_assoc, arith}
+use Rattle.std.proofs.lemmas.List.{drop-take, drop-drop, length-append, length-take, take-append-drop}
 use Rattle.std.proofs.KnownBytes.{Consumes-nil, Consumes-trans, Consumes-kept}
-use Rattle.std.specs.Io.KnownBytes.{Consumes, IsAtEnd, Keeps}
+use Rattle.std.specs.Io.KnownBytes.{Consumes, Keeps}
 use Rattle.archive_streams.specs.Pieces.{ReadsOn, Reader}
 use Rattle.archive_streams.specs.declared.pieces.Pieces.{Pieces}
-use Rattle.archive_streams.specs.declared.pieces.TheConstants.{PIECE}
 
 -- octets of a piece are used
 pub used_of : (start end used : ℕ) (piece : List ℕ) → used ≤ length (take (end - start) (drop start piece)) → take (end - (start + used)) (drop (start + used) piece) ≡ drop used (take (end - start) (drop start piece))

@@ -6,3 +6,4 @@ pub mod SideSteps
 pub mod Turns
 pub mod Unions
 pub mod Merges
+pub mod Halts

@@ -1,18 +1,18 @@
 -- The steps by which two archives become one.
-use Rattle.std.proofs.Common.{◌≡◌, ℕ, ◌+◌, ◌^◌, ◌<◌, List, [], ◌∷◌, ◌++◌, Option, length, refl, sym, ap, subst, ◌∙◌, append-nil, arith, inl, inr}
-use Rattle.std.specs.Prelude.{◌≢◌, ◌⊎◌}
+use Rattle.std.proofs.Common.{◌≡◌, ℕ, ◌+◌, ◌^◌, ◌<◌, ◌≤◌, List, [], ◌∷◌, ◌++◌, Option, length, refl, sym, ap, subst, ◌∙◌, append-nil, arith, inl, inr}
+use Rattle.std.specs.Prelude.{◌≢◌}
 use Rattle.std.specs.Fmt.{decimal}
 use Rattle.std.proofs.lemmas.List.{length-append}
-use Rattle.archive_text.specs.Entries.{Entry, Has, IsAscending, IsBelow}
+use Rattle.archive_text.specs.Entries.{Entry, IsAscending, IsBelow}
 use Rattle.std.specs.Io.KnownBytes.{Appends, Consumes, IsAtEnd}
 use Rattle.std.proofs.KnownBytes.{Consumes-nil}
-use Rattle.archive_text.specs.Text.{IsArchive, entry_text, text_of}
+use Rattle.archive_text.specs.Text.{IsArchive, text_of}
 use Rattle.archive_text.specs.declared.limits.TheConstants.{ENTRY_MAX}
 use Rattle.archive_text.proofs.Ascending.{archive_nil}
 use Rattle.held_output.proofs.Carrying.{Carries-new}
 use Rattle.archive_streams.specs.Joined.{Joined}
 use Rattle.archive_streams.specs.Merging.{rank}
-use Rattle.archive_text.proofs.Texts.{text_push}
+use Rattle.archive_text.proofs.Texts.{text_length, text_push}
 use Rattle.held_output.specs.Held.{Carries, Held}
 use Rattle.archive_streams.specs.EntryTexts.{entry_in, HoldsEntry}
 use Rattle.archive_streams.specs.Joining.{IsUnion}
@@ -23,10 +23,8 @@ use Rattle.archive_streams.specs.declared.entry.EntryText.{EntryText}
 use Rattle.archive_streams.specs.declared.merge.Merge.{Merge}
 use Rattle.archive_streams.specs.declared.pieces.Pieces.{Pieces}
 use Rattle.archive_streams.specs.declared.side.ArchiveReader.{ArchiveReader}
-use Rattle.archive_streams.proofs.Joining.{AllBelow}
-use Rattle.archive_streams.proofs.NextEntries.{some_or_none}
-use Rattle.archive_streams.proofs.Turns.{some_length}
-use Rattle.archive_streams.proofs.Unions.{below_more_joined, union_both, union_left, union_nil, union_right}
+use Rattle.archive_streams.proofs.Joining.{AllBelow, SideAt}
+use Rattle.archive_streams.proofs.Unions.{below_more_joined, side_ready, union_both, union_left, union_nil, union_right}
 
 -- what was read does not hang on the room of the entry
 pub read_same : (s t : ArchiveReader) (d e : Reader) (x : List ℕ) (es : List Entry) → t.pieces ≡ s.pieces → t.position ≡ s.position → ReadTo s d e x es → ReadTo t d e x es
@@ -74,11 +72,30 @@ still_ready s d e ls ws w above r = record { x = r.x; es = r.es; read = r.read; 
     placed (inl next) = inl (next.0, next.1, below_more_joined ws w (entry_in s.entry) next.2 (above (some_text next.0)))
     placed (inr end) = inr end
 
+pub still_side : (s : ArchiveReader) (d e : Reader) (ls ws : List Entry) (w : Entry) → (s.entry.text.items ≢ [] → IsBelow w (entry_in s.entry)) → (r : Ready s d e ls ws) → SideAt r.x ls (ws ++ w ∷ [])
+unfolding still_ready
+still_side s d e ls ws w above r = side_ready s d e ls (ws ++ w ∷ []) (still_ready s d e ls ws w above r)
+
+-- with one entry more the text is no longer than those of the two sides
+pub longer_left : (ls rs ws : List Entry) (w : Entry) → length (text_of ws) ≤ length (text_of ls) + length (text_of rs)
+    → length (text_of (ws ++ w ∷ [])) ≤ length (text_of (ls ++ w ∷ [])) + length (text_of rs)
+longer_left ls rs ws w short = omega (arith, short, text_length ws (w ∷ []), text_length ls (w ∷ []))
+
+pub longer_right : (ls rs ws : List Entry) (w : Entry) → length (text_of ws) ≤ length (text_of ls) + length (text_of rs)
+    → length (text_of (ws ++ w ∷ [])) ≤ length (text_of ls) + length (text_of (rs ++ w ∷ []))
+longer_right ls rs ws w short = omega (arith, short, text_length ws (w ∷ []), text_length rs (w ∷ []))
+
+pub longer_both : (ls rs ws : List Entry) (w : Entry) → length (text_of ws) ≤ length (text_of ls) + length (text_of rs)
+    → length (text_of (ws ++ w ∷ [])) ≤ length (text_of (ls ++ w ∷ [])) + length (text_of (rs ++ w ∷ []))
+longer_both ls rs ws w short = omega (arith, short, text_length ws (w ∷ []), text_length ls (w ∷ []), text_length rs (w ∷ []))
+
 -- one entry more is joined
-pub joins_on : (m n : Merge) (ls rs ws ls' rs' : List Entry) (t : EntryText) (start a b : Option (List ℕ)) → Joins m ls rs ws start a → IsUnion ls' rs' (ws ++ entry_in t ∷ []) → t.text.items ≢ [] → HoldsEntry t
+pub joins_on : (m n : Merge) (ls rs ws ls' rs' : List Entry) (t : EntryText) (start a b : Option (List ℕ)) → Joins m ls rs ws start a → IsUnion ls' rs' (ws ++ entry_in t ∷ [])
+    → length (text_of (ws ++ entry_in t ∷ [])) ≤ length (text_of ls') + length (text_of rs') → t.text.items ≢ [] → HoldsEntry t
     → n.last ≡ t → n.count ≡ m.count + 1 → (Carries start a m.held (text_of ws) → Carries start b n.held (text_of ws ++ t.text.items)) → Joins n ls' rs' (ws ++ entry_in t ∷ []) start b
-joins_on m n ls rs ws ls' rs' t start a b j union some holds last count carries = record {
+joins_on m n ls rs ws ls' rs' t start a b j union short some holds last count carries = record {
   union = union;
+  short = short;
   last_is = subst (EndsWith (ws ++ entry_in t ∷ [])) (sym last) (ends_with ws t some);
   carries = subst (Carries start b n.held) (ap (λ (s : List ℕ). text_of ws ++ s) holds.text_is ∙ sym (text_push ws (entry_in t))) (carries j.carries);
   count = omega (arith, count, j.count, length-append ws (entry_in t ∷ []));
@@ -97,7 +114,8 @@ write_less m n dl el dr er start a b some above last pieces position right count
       ws = s.ws ++ w ∷ [];
       left = subst (Due n.left dl el (s.ls ++ w ∷ [])) (sym last) (due_next m.left n.left dl el s.ls s.ws some pieces position next);
       right = subst (λ (r : ArchiveReader). Ready r dr er s.rs (s.ws ++ w ∷ [])) (sym right) (still_ready m.right dr er s.rs s.ws w above s.right);
-      joins = joins_on m n s.ls s.rs s.ws (s.ls ++ w ∷ []) s.rs m.left.entry start a b s.joins (union_left s.ls s.rs s.ws w s.joins.union next.below) some next.holds last count (carries (text_of s.ws));
+      joins = joins_on m n s.ls s.rs s.ws (s.ls ++ w ∷ []) s.rs m.left.entry start a b s.joins (union_left s.ls s.rs s.ws w s.joins.union next.below)
+          (longer_left s.ls s.rs s.ws w s.joins.short) some next.holds last count (carries (text_of s.ws));
     }
 
 -- the right is written alone
@@ -113,7 +131,8 @@ write_greater m n dl el dr er start a b some above last pieces position left cou
       ws = s.ws ++ w ∷ [];
       left = subst (λ (r : ArchiveReader). Ready r dl el s.ls (s.ws ++ w ∷ [])) (sym left) (still_ready m.left dl el s.ls s.ws w above s.left);
       right = subst (Due n.right dr er (s.rs ++ w ∷ [])) (sym last) (due_next m.right n.right dr er s.rs s.ws some pieces position next);
-      joins = joins_on m n s.ls s.rs s.ws s.ls (s.rs ++ w ∷ []) m.right.entry start a b s.joins (union_right s.ls s.rs s.ws w s.joins.union next.below) some next.holds last count (carries (text_of s.ws));
+      joins = joins_on m n s.ls s.rs s.ws s.ls (s.rs ++ w ∷ []) m.right.entry start a b s.joins (union_right s.ls s.rs s.ws w s.joins.union next.below)
+          (longer_right s.ls s.rs s.ws w s.joins.short) some next.holds last count (carries (text_of s.ws));
     }
 
 -- an equal pair is written once
@@ -134,13 +153,15 @@ write_equal m n dl el dr er start a b some also same last pieces position right 
         read = subst (λ (e : Entry). ReadTo m.right dr er other.x (s.rs ++ e ∷ [])) (sym same) other.read;
         ends = subst (EndsWith (s.rs ++ w ∷ [])) (sym last) (ends_with s.rs m.left.entry some);
       });
-      joins = joins_on m n s.ls s.rs s.ws (s.ls ++ w ∷ []) (s.rs ++ w ∷ []) m.left.entry start a b s.joins (union_both s.ls s.rs s.ws w s.joins.union next.below) some next.holds last count (carries (text_of s.ws));
+      joins = joins_on m n s.ls s.rs s.ws (s.ls ++ w ∷ []) (s.rs ++ w ∷ []) m.left.entry start a b s.joins (union_both s.ls s.rs s.ws w s.joins.union next.below)
+          (longer_both s.ls s.rs s.ws w s.joins.short) some next.holds last count (carries (text_of s.ws));
     }
 
 -- what was joined does not hang on the sides
 joins_same : (m n : Merge) (ls rs ws : List Entry) (start now : Option (List ℕ)) → n.last ≡ m.last → n.held ≡ m.held → n.count ≡ m.count → Joins m ls rs ws start now → Joins n ls rs ws start now
 joins_same m n ls rs ws start now last held count j = record {
   union = j.union;
+  short = j.short;
   last_is = subst (EndsWith ws) (sym last) j.last_is;
   carries = subst (λ (h : Held). Carries start now h (text_of ws)) (sym held) j.carries;
   count = count ∙ j.count;
@@ -252,6 +273,7 @@ both_start m dl dr start a b c d e f g h empty held count = record {
   right = due_start m.right dr m.last e f g h empty;
   joins = record {
     union = union_nil;
+    short = omega arith;
     last_is = record { none = λ k. refl; some = λ some. absurd (some empty) };
     carries = Carries-new start m.held held;
     count = count;

@@ -1,13 +1,13 @@
 -- The entry that comes next, or why there is none.
-use Rattle.std.proofs.Common.{◌≡◌, ℕ, ◌+◌, ◌*◌, ◌<◌, ◌≤◌, List, [], ◌∷◌, ◌++◌, length, refl, sym, ap, subst, ◌∙◌, append_assoc, arith, inl, inr}
+use Rattle.std.proofs.Common.{◌≡◌, ℕ, ◌+◌, ◌*◌, ◌<◌, ◌≤◌, List, [], ◌∷◌, ◌++◌, length, refl, sym, ap, subst, arith, inl, inr}
 use Rattle.std.specs.Prelude.{◌≢◌, ◌⊎◌}
 use Rattle.std.specs.Fmt.{decimal}
 use Rattle.std.proofs.lemmas.List.{length-append}
 use Rattle.syslog_frame.specs.Frames.{framed}
 use Rattle.syslog_frame.specs.declared.framing.Framing.TheVariants.{Counted}
-use Rattle.archive_text.specs.Entries.{Entry, IsAscending, IsBelow}
+use Rattle.archive_text.specs.Entries.{Entry, IsAscending}
 use Rattle.archive_text.specs.Faults.{BeginsWithOctets, IsFaultBefore, IsFaultBehind, IsNotAscending}
-use Rattle.archive_text.specs.Text.{IsArchive, entry_text, text_of}
+use Rattle.archive_text.specs.Text.{IsArchive, text_of}
 use Rattle.archive_text.specs.declared.fault.ArchiveFault.{ArchiveFault}
 use Rattle.archive_text.specs.declared.fault.ArchiveFault.TheVariants.{BadFrame, EntryTooLong, BadEntry, NotCanonical, NotAscending}
 use Rattle.archive_text.specs.declared.limits.TheConstants.{ENTRY_MAX}

@@ -1,18 +1,16 @@
 -- A side that is read on, entry by entry.
-use Rattle.std.proofs.Common.{◌≡◌, ℕ, ◌+◌, ◌*◌, ◌^◌, ◌<◌, ◌≤◌, List, [], ◌∷◌, ◌++◌, length, refl, sym, ap, subst, ◌∙◌, append_assoc, append-nil, arith, inl, inr}
-use Rattle.std.specs.Prelude.{◌≢◌, ◌⊎◌}
-use Rattle.std.specs.Io.KnownBytes.{Consumes, IsAtEnd}
+use Rattle.std.proofs.Common.{◌≡◌, ℕ, ◌+◌, ◌<◌, List, [], ◌∷◌, ◌++◌, length, refl, sym, ap, subst, ◌∙◌, append_assoc, arith, inl, inr}
 use Rattle.std.proofs.KnownBytes.{Consumes-trans}
 use Rattle.std.proofs.lemmas.List.{length-append}
 use Rattle.archive_text.specs.Entries.{Entry, Has, IsAscending, IsBelow}
 use Rattle.archive_text.specs.Text.{IsArchive, entry_text, text_of}
 use Rattle.archive_text.specs.declared.limits.TheConstants.{ENTRY_MAX}
-use Rattle.archive_text.proofs.Ascending.{archive_from, archive_nil, ascending_after, below_after}
+use Rattle.archive_text.proofs.Ascending.{archive_from, ascending_after, below_after}
 use Rattle.archive_text.proofs.Members.{of_member}
-use Rattle.archive_text.proofs.Texts.{text_goes_on, text_length, text_push}
+use Rattle.archive_text.proofs.Texts.{text_goes_on, text_push}
 use Rattle.archive_streams.specs.EntryTexts.{entry_in, HoldsEntry, IsAbove}
 use Rattle.archive_streams.specs.Pieces.{ReadsOn, Reader, unused}
-use Rattle.archive_streams.specs.Sides.{Due, EndsWith, IsNextFault, IsNextOrEnd, IsSideStop, ReadTo, Ready}
+use Rattle.archive_streams.specs.Sides.{Due, EndsWith, IsNextFault, IsSideStop, IsStopCause, ReadTo, Ready}
 use Rattle.archive_streams.specs.declared.entry.EntryText.{EntryText}
 use Rattle.archive_streams.specs.declared.fault.SideFault.{SideFault}
 use Rattle.archive_streams.specs.declared.fault.SideFault.TheVariants.{Archive, Input}
@@ -99,18 +97,32 @@ ready_end s t d e f es ws last due r position end = record {
   place = inr (end.0, refl, end.1, end.2);
 }
 
+-- why a side stops
+stop_cause : (fault : SideFault) (s t : ArchiveReader) (x rest : List ℕ) (es : List Entry) (last : EntryText) → IsArchive ENTRY_MAX es → EndsWith es last → s.position ≡ length (text_of es) → x ≡ text_of es ++ rest
+    → IsNextFault fault last s.position rest t.pieces → IsStopCause fault t x rest es
+stop_cause (Archive fault) s t x rest es last archive ends position parts wrong =
+    (wrong.0 es archive ends (sym position), wrong.1, λ at. wrong.2 (omega (arith, at, ap length parts, length-append (text_of es) rest, position)))
+stop_cause (Input Device) s t x rest es last archive ends position parts wrong = tt
+stop_cause (Input Endless) s t x rest es last archive ends position parts wrong = wrong
+
 -- a side stops
 pub side_stops : (fault : SideFault) (s t : ArchiveReader) (d e f : Reader) (es : List Entry) (last : EntryText) → Due s d e es last → ReadsOn s.pieces t.pieces e f (unused s.pieces) (t.entry.text.items ++ unused t.pieces)
     → IsNextFault fault last s.position (t.entry.text.items ++ unused t.pieces) t.pieces → IsSideStop fault t d f es
-side_stops (Archive fault) s t d e f es last due r wrong =
-    let parts = given_on s t d e f due.x es due.read r in
-    let rest = t.entry.text.items ++ unused t.pieces in (
-      due.x ++ r.more,
-      rest,
-      Consumes-trans d.left e.left f.left _ _ due.read.consumed r.consumed,
-      parts,
-      due.read.archive,
-      (wrong.0 es due.read.archive due.ends (sym due.read.position), wrong.1, λ at. wrong.2 (omega (arith, at, ap length parts, length-append (text_of es) rest, due.read.position))),
-    )
-side_stops (Input fault) s t d e f es last due r wrong =
-    (due.x ++ r.more, t.entry.text.items ++ unused t.pieces, Consumes-trans d.left e.left f.left _ _ due.read.consumed r.consumed, given_on s t d e f due.x es due.read r, due.read.archive, tt)
+side_stops fault s t d e f es last due r wrong =
+    let rest = t.entry.text.items ++ unused t.pieces in
+    let parts : due.x ++ r.more ≡ text_of es ++ rest = given_on s t d e f due.x es due.read r in
+    record {
+      x = due.x ++ r.more;
+      rest = rest;
+      consumed = Consumes-trans d.left e.left f.left _ _ due.read.consumed r.consumed;
+      parts = parts;
+      archive = due.read.archive;
+      cause = stop_cause fault s t (due.x ++ r.more) rest es last due.read.archive due.ends due.read.position parts wrong;
+      calls = λ low.
+          let first = due.read.calls low in
+          omega (arith, first, r.calls (omega (arith, low, first)));
+      ends = λ low.
+          let first = due.read.calls low in
+          omega (arith, due.read.ends low, r.ends (omega (arith, low, first)));
+      at_end = r.at_end due.read.at_end;
+    }

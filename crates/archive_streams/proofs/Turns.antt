@@ -1,6 +1,6 @@
 -- Numbers of two archives on their way into one.
-use Rattle.std.proofs.Common.{◌≡◌, ℕ, ◌+◌, ◌*◌, ◌<◌, ◌≤◌, List, [], ◌∷◌, length, refl, sym, ap, subst, arith}
-use Rattle.std.specs.Prelude.{◌≢◌, Result, Ok, Err, IfOk, OnOk}
+use Rattle.std.proofs.Common.{◌≡◌, ℕ, ◌+◌, ◌<◌, List, [], ◌∷◌, length, refl, sym, ap, subst, arith}
+use Rattle.std.specs.Prelude.{◌≢◌, Result, Ok, Err, IfErr, IfOk, IsErrAnd, OnOk}
 use Rattle.std.specs.declared.cmp.Ordering.{Ordering}
 use Rattle.std.specs.declared.cmp.Ordering.TheVariants.{Less, Equal, Greater}
 use Rattle.archive_text.specs.Entries.{IsOrder}
@@ -39,3 +39,8 @@ if_ok_then (Err e) P Q h f = tt
 pub on_ok_then : {T E : Type 0} (r : Result T E) (P Q : Type 0) → OnOk r P → (P → Q) → OnOk r Q
 on_ok_then (Ok x) P Q h f = f h
 on_ok_then (Err e) P Q h f = tt
+
+-- what holds of the fault of a `?`
+pub at_err : {T E : Type 0} (r : Result T E) (e : E) (P : E → Type 0) → IsErrAnd r (λ x. x ≡ e) → P e → IfErr r P
+at_err (Ok x) e P h p = absurd h
+at_err (Err x) e P h p = subst P (sym h) p

@@ -1,6 +1,6 @@
 -- What is joined, entry by entry.
-use Rattle.std.proofs.Common.{◌≡◌, ℕ, ◌+◌, List, [], ◌∷◌, ◌++◌, refl, sym, ap, subst, ◌∙◌, inl, inr}
-use Rattle.std.specs.Prelude.{◌≢◌, ◌⊎◌}
+use Rattle.std.proofs.Common.{◌≡◌, ℕ, List, [], ◌∷◌, ◌++◌, refl, sym, subst, inl, inr}
+use Rattle.std.specs.Prelude.{◌⊎◌}
 use Rattle.archive_text.specs.Entries.{Entry, Has, IsAscending, IsBelow}
 use Rattle.archive_text.proofs.Ascending.{ascending_appended, below_last}
 use Rattle.archive_text.proofs.Members.{has_either, has_left, has_right, of_all, of_member}
@@ -30,7 +30,7 @@ union_left ls rs ws w u below = record {
       ];
 }
 
-turned : (ls rs ws : List Entry) → IsUnion ls rs ws → IsUnion rs ls ws
+pub turned : (ls rs ws : List Entry) → IsUnion ls rs ws → IsUnion rs ls ws
 turned ls rs ws u = record { ascending = u.ascending; left = u.right; right = u.left; only = λ e h. elim (u.only e h) [ inl k ↦ inr k | inr k ↦ inl k ] }
 
 pub union_right : (ls rs ws : List Entry) (w : Entry) → IsUnion ls rs ws → AllBelow ws w → IsUnion ls (rs ++ w ∷ []) (ws ++ w ∷ [])
@@ -63,8 +63,20 @@ side_ready s d e ls ws r = record { es = r.es; rest = unused s.pieces; parts = r
     placed (inl next) = inl (entry_in s.entry, next.1, next.2)
     placed (inr end) = inr (inl (end.1, end.2))
 
+-- the next entry of a side was read, or its end
+abbrev pub IsAhead : List Entry → List Entry → List Entry → List ℕ → Type 0
+IsAhead es ls ws rest = ((e : Entry) × (es ≡ ls ++ e ∷ []) × AllBelow ws e) ⊎ ((es ≡ ls) × (rest ≡ []))
+
+pub side_ahead : (s : ArchiveReader) (d e : Reader) (ls ws : List Entry) → (r : Ready s d e ls ws) → IsAhead (side_ready s d e ls ws r).es ls ws (side_ready s d e ls ws r).rest
+unfolding side_ready
+side_ahead s d e ls ws r = placed r.place
+  where
+    placed : IsNextOrEnd s r.es ls ws → IsAhead r.es ls ws (unused s.pieces)
+    placed (inl next) = inl (entry_in s.entry, next.1, next.2)
+    placed (inr end) = inr (end.1, end.2)
+
 -- where the last entry of all is the last of a side, all are within it
-all_within : (ls ws : List Entry) (last : EntryText) → EndsWith ls last → EndsWith ws last → IsAscending ws → (w : Entry) → Has ws w → IsWithin ls w
+pub all_within : (ls ws : List Entry) (last : EntryText) → EndsWith ls last → EndsWith ws last → IsAscending ws → (w : Entry) → Has ws w → IsWithin ls w
 all_within ls ws last of_side of_all_joined up w h = elim (some_or_none last.text.items) [ inl none ↦ absurd (subst (λ (l : List Entry). Has l w) (of_all_joined.none none) h) | inr some ↦ behind (of_side.some some) (of_all_joined.some some) ]
   where
     alone : Has (entry_in last ∷ []) w → (w ≡ entry_in last) ⊎ IsBelow w (entry_in last)

@@ -1,5 +1,5 @@
 -- The text of an entry.
-use Rattle.std.specs.Prelude.{◌≡◌, ◌≢◌, ℕ, ◌<◌, ◌≤◌, List, [], ◌++◌, length, drop}
+use Rattle.std.specs.Prelude.{◌≡◌, ◌≢◌, ℕ, ◌≤◌, List, [], ◌++◌, length, drop}
 use Rattle.syslog_frame.specs.Frames.{CanCarry}
 use Rattle.syslog_frame.specs.declared.framing.Framing.TheVariants.{Counted}
 use Rattle.archive_text.specs.Entries.{Entry, IsBelow, IsEntry}

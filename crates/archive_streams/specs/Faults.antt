@@ -24,8 +24,3 @@ SideFailures (Ok x) old new = new ≡ old
 SideFailures (Err (Archive fault)) old new = new ≡ old
 SideFailures (Err (Input Device)) old new = new ≡ count_on old
 SideFailures (Err (Input Endless)) old new = new ≡ old
-
--- the reader gave no end in so many calls, at this fault
-abbrev pub EndlessAt : {X : Type 0} → Result X SideFault → Pieces → Type 0
-EndlessAt (Err (Input Endless)) p = (p.calls ≡ READER_CALLS) × (p.ends ≡ 0)
-EndlessAt r p = Unit {0}

@@ -1,8 +1,8 @@
 -- What becomes of two archives that are joined.
-use Rattle.std.specs.Prelude.{◌≡◌, ℕ, ◌+◌, ◌<◌, ◌↔◌, ◌⊎◌, List, [], ◌∷◌, ◌++◌, length, Option}
+use Rattle.std.specs.Prelude.{◌≡◌, ℕ, ◌↔◌, ◌⊎◌, List, ◌++◌}
 use Rattle.archive_text.specs.Entries.{Entry, Has, IsAscending, IsBelow}
-use Rattle.archive_text.specs.Faults.{IsArchiveFault, IsLongestArchive}
-use Rattle.archive_text.specs.Text.{IsArchive, text_of}
+use Rattle.archive_text.specs.Faults.{IsLongestArchive}
+use Rattle.archive_text.specs.Text.{text_of}
 use Rattle.archive_text.specs.declared.limits.TheConstants.{ENTRY_MAX}
 
 -- an entry is not above the greatest of a list; in no list, none is

@@ -1,5 +1,5 @@
 -- Two archives on their way into one, by what was read and what is to be written.
-use Rattle.std.specs.Prelude.{◌≡◌, ℕ, List, Option, length}
+use Rattle.std.specs.Prelude.{◌≡◌, ℕ, ◌+◌, ◌≤◌, List, Option, length}
 use Rattle.archive_text.specs.Entries.{Entry}
 use Rattle.archive_text.specs.Text.{text_of}
 use Rattle.held_output.specs.Held.{Carries}
@@ -11,6 +11,7 @@ use Rattle.archive_streams.specs.declared.merge.Merge.{Merge}
 -- what was joined: how many entries, the last of them, and their text, of which a part is held back
 pub record Joins (m : Merge) (ls rs ws : List Entry) (start now : Option (List ℕ)) : Type 0 where
   pub union : IsUnion ls rs ws
+  pub short : length (text_of ws) ≤ length (text_of ls) + length (text_of rs)
   pub last_is : EndsWith ws m.last
   pub carries : Carries start now m.held (text_of ws)
   pub count : m.count ≡ length ws

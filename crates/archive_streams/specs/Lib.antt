@@ -8,3 +8,5 @@ pub mod Sides
 pub mod Merging
 pub mod Joins
 pub mod Joined
+pub mod Stopped
+pub mod Halted

@@ -1,5 +1,5 @@
 -- Two archives on their way into one.
-use Rattle.std.specs.Prelude.{◌≡◌, ◌≢◌, ℕ, ◌+◌, ◌*◌, ◌-◌, ◌^◌, ◌<◌, ◌≤◌, List, [], length, min, vec_capacity, Option, Result, Ok, Err}
+use Rattle.std.specs.Prelude.{◌≡◌, ◌≢◌, ℕ, ◌+◌, ◌-◌, ◌^◌, ◌<◌, ◌≤◌, List, [], length, min, vec_capacity, Result, Ok, Err}
 use Rattle.std.specs.declared.cmp.Ordering.{Ordering}
 use Rattle.std.specs.declared.cmp.Ordering.TheVariants.{Less, Equal, Greater}
 use Rattle.syslog_value.specs.Device.{count_on}
@@ -8,7 +8,7 @@ use Rattle.archive_streams.specs.EntryTexts.{entry_in}
 use Rattle.archive_streams.specs.Sides.{IsNear}
 use Rattle.archive_streams.specs.declared.entry.TheConstants.{TEXT_MAX}
 use Rattle.archive_streams.specs.declared.fault.MergeFault.{MergeFault}
-use Rattle.archive_streams.specs.declared.fault.MergeFault.TheVariants.{Left, Right, Read, Endless, Write, Memory}
+use Rattle.archive_streams.specs.declared.fault.MergeFault.TheVariants.{Read, Write, Memory}
 use Rattle.archive_streams.specs.declared.fault.Side.TheVariants.{Left as side_Left, Right as side_Right}
 use Rattle.archive_streams.specs.declared.merge.Merge.{Merge}
 

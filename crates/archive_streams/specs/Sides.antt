@@ -69,10 +69,17 @@ pub record Ready (s : ArchiveReader) (d e : Reader) (ls ws : List Entry) : Type 
 abbrev pub IsStopCause : SideFault → ArchiveReader → List ℕ → List ℕ → List Entry → Type 0
 IsStopCause (Archive fault) s x rest es =
     IsFaultBehind ENTRY_MAX es rest fault × (0 < length rest) × (at_of fault ≡ length x → 0 < s.pieces.ends)
-IsStopCause (Input fault) s x rest es = Unit {0}
+IsStopCause (Input Device) s x rest es = Unit {0}
+IsStopCause (Input Endless) s x rest es = (s.pieces.calls ≡ READER_CALLS) × (s.pieces.ends ≡ 0)
 
 -- a side stops behind these entries
-abbrev pub IsSideStop : SideFault → ArchiveReader → Reader → Reader → List Entry → Type 0
-IsSideStop fault s d e es =
-    (x : List ℕ) × (rest : List ℕ) × Consumes d.left e.left x × (x ≡ text_of es ++ rest)
-    × IsArchive ENTRY_MAX es × IsStopCause fault s x rest es
+pub record IsSideStop (fault : SideFault) (s : ArchiveReader) (d e : Reader) (es : List Entry) : Type 0 where
+  pub x : List ℕ
+  pub rest : List ℕ
+  pub consumed : Consumes d.left e.left x
+  pub parts : x ≡ text_of es ++ rest
+  pub archive : IsArchive ENTRY_MAX es
+  pub cause : IsStopCause fault s x rest es
+  pub calls : d.calls < 2 ^ 63 → e.calls ≡ d.calls + s.pieces.calls
+  pub ends : d.calls < 2 ^ 63 → e.ends ≡ d.ends + s.pieces.ends
+  pub at_end : 0 < s.pieces.ends → IsAtEnd e.left

@@ -6,6 +6,7 @@
 
 mod entry;
 mod fault;
+mod join;
 mod judging;
 mod merge;
 mod pieces;
@@ -15,4 +16,4 @@ mod side;
 mod tests;
 
 pub use fault::{MergeFault, Side};
-pub use merge::merge_streams;
+pub use join::merge_streams;

@@ -4,7 +4,7 @@ ghost use Rattle.std.specs.Prelude.{◌≡◌, ◌≢◌, ◌<◌, ◌≤◌, �
 ghost use Rattle.std.specs.Prelude.{vec_capacity, vec_len, List, IfErr, IfOk, IsTrue, OnOk};
 ghost use Rattle.archive_streams.specs.Pieces.{ReadsOn, device, unused};
 ghost use Rattle.archive_streams.specs.EntryTexts.{entry_in, HoldsEntry, IsAbove};
-ghost use Rattle.archive_streams.specs.Faults.{EndlessAt, SideFailures};
+ghost use Rattle.archive_streams.specs.Faults.{SideFailures};
 ghost use Rattle.archive_streams.specs.declared.pieces.TheConstants.{PIECE};
 ghost use Rattle.archive_streams.specs.declared.entry.TheConstants.{TEXT_MAX};
 
@@ -29,7 +29,8 @@ pub struct ArchiveReader {
 impl ArchiveReader {
     ghost use Rattle.archive_text.specs.Entries.{Entry, IsAscending};
     ghost use Rattle.archive_streams.specs.Pieces.{Reader};
-    ghost use Rattle.archive_streams.specs.Sides.{Due, EndsWith, IsNear, IsNextFault, IsSideStop, Ready};
+    ghost use Rattle.archive_streams.specs.Sides.{Due, EndsWith, IsNear, Ready};
+    ghost use Rattle.archive_streams.specs.Sides.{IsNextFault, IsSideStop};
 
     /// Before the first entry.
     pub fn new(alloc: Global) -> Result<ArchiveReader, AllocError>
@@ -107,7 +108,6 @@ impl ArchiveReader {
             es last.now →
             IsSideStop fault self.new d
             (device (R.left reader.new) (R.calls reader.new) (R.ends reader.new)) es) }
-        ensures endless { EndlessAt result self.new.pieces }
     {
         match self.next(reader, last) {
             Ok(true) => Ok(()),

@@ -140,3 +140,103 @@ fn a_text_is_cut_anywhere(rt: HostRuntime) -> Result<(), Fail> {
     }
     Ok(())
 }
+
+// a device that does not fail: more octets and calls than any of these tests asks for
+const WORKS: (u64, u64) = (999, 999);
+
+// what is answered and written over devices that pass so many octets and fail at one call
+fn fused(
+    rt: &HostRuntime,
+    left: &[u8],
+    right: &[u8],
+    fuses: [(u64, u64); 3],
+) -> Result<(Result<u64, MergeFault>, Vec<u8>), Fail> {
+    let [of_left, of_right, of_writer] = fuses;
+    let mut left = Fuse::new(FromRead::new(left), of_left.0, of_left.1);
+    let mut right = Fuse::new(FromRead::new(right), of_right.0, of_right.1);
+    let written = ToWrite::new(Vec::new(rt.alloc()));
+    let mut writer = Fuse::new(written, of_writer.0, of_writer.1);
+    let answer = merge_streams(rt.alloc(), &mut left, &mut right, &mut writer);
+    Ok((answer, writer.into_inner().into_inner()))
+}
+
+#[test]
+fn a_reader_that_fails_leaves_whole_entries(rt: HostRuntime) -> Result<(), Fail> {
+    let acb = text(&rt, &[A, C, B])?;
+    assert_eq!(rt; acb.len(), 118);
+    for n in 0..119 {
+        let whole = match n {
+            0..22 => 0,
+            22..70 => 22,
+            70..118 => 70,
+            _ => 118,
+        };
+        let (answer, written) = fused(&rt, &acb, b"", [(n, 999), WORKS, WORKS])?;
+        assert_eq!(rt; answer, Err(MergeFault::Read(Side::Left)));
+        assert_eq!(rt; written.as_slice(), &acb[..whole]);
+    }
+    let ac = text(&rt, &[A, C])?;
+    let ab = text(&rt, &[A, B])?;
+    for n in 0..71 {
+        // A is written once both sides have read it, and the rest once B is read
+        let whole = match n {
+            0..22 => 0,
+            22..70 => 22,
+            _ => 118,
+        };
+        let (answer, written) = fused(&rt, &ac, &ab, [WORKS, (n, 999), WORKS])?;
+        assert_eq!(rt; answer, Err(MergeFault::Read(Side::Right)));
+        assert_eq!(rt; written.as_slice(), &acb[..whole]);
+    }
+    Ok(())
+}
+
+#[test]
+fn a_writer_that_fails_comes_before_a_later_fault(rt: HostRuntime) -> Result<(), Fail> {
+    let ac = text(&rt, &[A, C])?;
+    let acbx = text(&rt, &[A, C, B, b"x"])?;
+    assert_eq!(rt; acbx.len(), 119);
+    for n in 0..120 {
+        let fault = if n < 118 {
+            MergeFault::Write { sent: n }
+        } else {
+            MergeFault::Left(bad_frame(118))
+        };
+        let sent = n.min(118) as usize;
+        let (answer, written) = fused(&rt, &acbx, &ac, [WORKS, WORKS, (n, 999)])?;
+        assert_eq!(rt; answer, Err(fault));
+        assert_eq!(rt; written.as_slice(), &acbx[..sent]);
+    }
+    Ok(())
+}
+
+#[test]
+fn each_call_of_a_device_may_fail(rt: HostRuntime) -> Result<(), Fail> {
+    let ac = text(&rt, &[A, C])?;
+    let ab = text(&rt, &[A, B])?;
+    let acb = text(&rt, &[A, C, B])?;
+    let ax = text(&rt, &[A, b"x"])?;
+    for (x, y, whole, told) in [
+        (
+            ax.as_slice(),
+            b"".as_slice(),
+            A,
+            Err(MergeFault::Left(bad_frame(22))),
+        ),
+        (A, b"", A, Ok(1)),
+        (&ac, &ab, &acb, Ok(3)),
+    ] {
+        for calls in 0..4 {
+            let (answer, written) = fused(&rt, x, y, [(999, calls), WORKS, WORKS])?;
+            assert!(rt; answer == told || answer == Err(MergeFault::Read(Side::Left)));
+            assert!(rt; whole.starts_with(&written));
+            let (answer, written) = fused(&rt, x, y, [WORKS, (999, calls), WORKS])?;
+            assert!(rt; answer == told || answer == Err(MergeFault::Read(Side::Right)));
+            assert!(rt; whole.starts_with(&written));
+            let (answer, written) = fused(&rt, x, y, [WORKS, WORKS, (999, calls)])?;
+            assert!(rt; answer == told || answer == Err(MergeFault::Write { sent: 0 }));
+            assert!(rt; whole.starts_with(&written));
+        }
+    }
+    Ok(())
+}

@@ -1,4 +1,4 @@
-use Rattle.std.proofs.Common.{rules, ◌≡◌, ◌<◌, ◌≤◌, ◌+◌, ◌++◌, [], ℕ, List, IsTrue, false, length, ap, sym, subst, arith}
+use Rattle.std.proofs.Common.{rules, ◌≡◌, ◌<◌, ◌++◌, ℕ, List, IsTrue, false, length, ap, sym, subst, arith}
 use Rattle.std.proofs.lemmas.List.{length-append}
 use Rattle.syslog_frame.specs.MsgLen.{IsMsgLen}
 use Rattle.syslog_frame.specs.declared.count.MsgLen.TheVariants.{Whole, Part, Bad}

@@ -1,4 +1,4 @@
-use Rattle.std.proofs.Common.{◌++◌, [], ℕ, List, refl, sym, subst, ◌∙◌, arith}
+use Rattle.std.proofs.Common.{◌++◌, ℕ, List, refl, sym, subst, ◌∙◌, arith}
 use Rattle.archive_streams.specs.Counting.{IsUnfinished}
 use Rattle.archive_streams.specs.Pieces.{ReadsOn, device, unused}
 use Rattle.archive_streams.proofs.Counting.{unfinished_nil}

@@ -1,9 +1,9 @@
-use Rattle.std.proofs.Common.{rules, ◌≡◌, [], IsTrue, subst, sym}
+use Rattle.std.proofs.Common.{rules, ◌≡◌, [], subst, sym}
 use Rattle.std.specs.Prelude.{◌≢◌}
 use Rattle.archive_text.specs.Entries.{Entry, IsBelow, IsOrder}
 use Rattle.archive_text.specs.EntryViews.{entry_of}
 use Rattle.archive_text.proofs.Orders.{below_asymmetric, below_irreflexive, equal_is_same, greater_is_above}
-use Rattle.archive_streams.specs.EntryTexts.{entry_in, IsAbove}
+use Rattle.archive_streams.specs.EntryTexts.{entry_in}
 use Rattle.archive_streams.proofs.entry.EntryText.is_above.Goals as goal
 
 pub returns-in-Equal : goal.returns-in-Equal

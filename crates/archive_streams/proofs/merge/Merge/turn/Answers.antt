@@ -1,8 +1,7 @@
 use Rattle.std.proofs.Common.{◌≡◌, ◌+◌, length, ap, arith}
-use Rattle.std.proofs.lemmas.Result.{on_ok_weaker}
-use Rattle.archive_streams.specs.Merging.{IsNextOrder}
+use Rattle.std.proofs.lemmas.Result.{IfErr-weaker, on_ok_weaker}
 use Rattle.archive_streams.specs.declared.side.ArchiveReader.{ArchiveReader}
-use Rattle.archive_streams.proofs.Turns.{falls_both, on_ok_then}
+use Rattle.archive_streams.proofs.Turns.{at_err, falls_both, on_ok_then}
 use Rattle.archive_streams.proofs.merge.Merge.turn.Goals as goal
 
 pub returns-in_ok-advance_left-in-Equal-clause-falls : goal.returns-in_ok-advance_left-in-Equal-clause-falls
@@ -32,3 +31,43 @@ returns-in_ok-advance_left-in-Equal-clause-joins g c =
     on_ok_then c.advance_right-in-Equal.result _ _ c.advance_right-in-Equal.ensures.ready
     (λ ready dl dr start s.
     ready dl _ dr start _ (c.in_ok-advance_left-in-Equal.ensures.first dl dr _ start _ (c.in_ok-write_left-in-Equal.ensures.equal dl _ dr _ start order.1 order.2 s)))
+
+pub returns-in_err-write_left-in-Less-clause-halted : goal.returns-in_err-write_left-in-Less-clause-halted
+returns-in_err-write_left-in-Less-clause-halted g c =
+    let order = rw c.in-Less.is at c.requires.order in
+    at_err c.from_residual.result c.in_err-write_left-in-Less.field-0.0 _ c.from_residual.ensures.1 (λ dl dr start s. c.in_err-write_left-in-Less.ensures.halted_less dl _ dr _ start order.1 s)
+
+pub returns-in_ok-write_left-in-Less-clause-halted : goal.returns-in_ok-write_left-in-Less-clause-halted
+returns-in_ok-write_left-in-Less-clause-halted g c =
+    let order = rw c.in-Less.is at c.requires.order in
+    IfErr-weaker c.advance_left.result _ _ (λ fault h dl dr start s. h dl dr _ start _ (c.in_ok-write_left-in-Less.ensures.less dl _ dr _ start order.1 s)) c.advance_left.ensures.halted
+
+pub returns-in_err-write_right-in-Greater-clause-halted : goal.returns-in_err-write_right-in-Greater-clause-halted
+returns-in_err-write_right-in-Greater-clause-halted g c =
+    let order = rw c.in-Greater.is at c.requires.order in
+    at_err c.from_residual-in_err-write_right-in-Greater.result c.in_err-write_right-in-Greater.field-0.0 _ c.from_residual-in_err-write_right-in-Greater.ensures.1
+    (λ dl dr start s. c.in_err-write_right-in-Greater.ensures.halted dl _ dr _ start order.1 s)
+
+pub returns-in_ok-write_right-in-Greater-clause-halted : goal.returns-in_ok-write_right-in-Greater-clause-halted
+returns-in_ok-write_right-in-Greater-clause-halted g c =
+    let order = rw c.in-Greater.is at c.requires.order in
+    IfErr-weaker c.advance_right.result _ _ (λ fault h dl dr start s. h dl _ dr start _ (c.in_ok-write_right-in-Greater.ensures.greater dl _ dr _ start order.1 s)) c.advance_right.ensures.halted
+
+pub returns-in_err-write_left-in-Equal-clause-halted : goal.returns-in_err-write_left-in-Equal-clause-halted
+returns-in_err-write_left-in-Equal-clause-halted g c =
+    let order = rw c.in-Equal.is at c.requires.order in
+    at_err c.from_residual-in_err-write_left-in-Equal.result c.in_err-write_left-in-Equal.field-0.0 _ c.from_residual-in_err-write_left-in-Equal.ensures.1
+    (λ dl dr start s. c.in_err-write_left-in-Equal.ensures.halted_equal dl _ dr _ start order.1 order.2 s)
+
+pub returns-in_err-advance_left-in-Equal-clause-halted : goal.returns-in_err-advance_left-in-Equal-clause-halted
+returns-in_err-advance_left-in-Equal-clause-halted g c =
+    let order = rw c.in-Equal.is at c.requires.order in
+    at_err c.from_residual-in_err-advance_left-in-Equal.result c.in_err-advance_left-in-Equal.field-0.0 _ c.from_residual-in_err-advance_left-in-Equal.ensures.1
+    (λ dl dr start s. c.in_err-advance_left-in-Equal.ensures.halted_first dl dr _ start _ (c.in_ok-write_left-in-Equal.ensures.equal dl _ dr _ start order.1 order.2 s))
+
+pub returns-in_ok-advance_left-in-Equal-clause-halted : goal.returns-in_ok-advance_left-in-Equal-clause-halted
+returns-in_ok-advance_left-in-Equal-clause-halted g c =
+    let order = rw c.in-Equal.is at c.requires.order in
+    IfErr-weaker c.advance_right-in-Equal.result _ _
+    (λ fault h dl dr start s.
+    h dl _ dr start _ (c.in_ok-advance_left-in-Equal.ensures.first dl dr _ start _ (c.in_ok-write_left-in-Equal.ensures.equal dl _ dr _ start order.1 order.2 s))) c.advance_right-in-Equal.ensures.halted

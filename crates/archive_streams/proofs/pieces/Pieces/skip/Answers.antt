@@ -1,4 +1,3 @@
-use Rattle.std.proofs.Common.{◌≡◌}
 use Rattle.archive_streams.proofs.Giving.{used_of}
 use Rattle.archive_streams.proofs.pieces.Pieces.skip.Goals as goal
 

@@ -1,4 +1,4 @@
-use Rattle.std.proofs.Common.{rules, ◌≡◌, ◌+◌, ◌*◌, ◌≤◌, ◌++◌, ℕ, List, IsTrue, false, length, sym, subst, arith}
+use Rattle.std.proofs.Common.{rules, ◌≡◌, ◌++◌, IsTrue, false, sym, subst, arith}
 use Rattle.archive_text.specs.declared.fault.ArchiveFault.{ArchiveFault}
 use Rattle.archive_streams.specs.EntryTexts.{entry_in, HoldsEntry, IsAbove}
 use Rattle.archive_streams.specs.Faults.{IsSideFault}

@@ -1,6 +1,6 @@
 use Rattle.archive_streams.specs.Pieces.{device}
 use Rattle.archive_streams.proofs.Turns.{if_ok_then}
-use Rattle.archive_streams.proofs.merge.merge_streams.Goals as goal
+use Rattle.archive_streams.proofs.join.merge_streams.Goals as goal
 
 pub returns-clause-joined : goal.returns-clause-joined
 returns-clause-joined g c =

@@ -1,0 +1,350 @@
+-- Where a fault halts two archives on their way into one.
+use Rattle.std.proofs.Common.{◌≡◌, ℕ, ◌+◌, ◌*◌, ◌^◌, ◌<◌, ◌≤◌, List, [], ◌∷◌, ◌++◌, Option, length, take, drop, refl, sym, ap, subst, ◌∙◌, arith, inl, inr}
+use Rattle.std.specs.Prelude.{◌≢◌, ◌⊎◌}
+use Rattle.std.specs.Io.KnownBytes.{Appends, Consumes}
+use Rattle.std.proofs.lemmas.List.{length-take, take-append-drop}
+use Rattle.archive_text.specs.Entries.{Entry, Has, IsAscending, IsBelow}
+use Rattle.archive_text.specs.Text.{text_of}
+use Rattle.archive_text.specs.declared.limits.TheConstants.{ENTRY_MAX}
+use Rattle.archive_text.proofs.Members.{has_either, has_right}
+use Rattle.archive_text.proofs.Prefixes.{archive_fault}
+use Rattle.archive_text.proofs.Texts.{text_length, text_push}
+use Rattle.held_output.specs.Held.{Carries, Held, StopsWithin}
+use Rattle.held_output.proofs.Carrying.{StopsWithin-take}
+use Rattle.syslog_value.specs.declared.loops.TheConstants.{READER_CALLS}
+use Rattle.archive_streams.specs.EntryTexts.{entry_in}
+use Rattle.archive_streams.specs.Halted.{Halted, IsNotWrite, IsUnderWay}
+use Rattle.archive_streams.specs.Joining.{IsPrefixOfUnion, IsUnion, IsWithin}
+use Rattle.archive_streams.specs.Joins.{BothDue, Joins, LeftDue, Merging, RightDue}
+use Rattle.archive_streams.specs.Merging.{HasRoom}
+use Rattle.archive_streams.specs.Pieces.{Reader, unused}
+use Rattle.archive_streams.specs.Sides.{Due, EndsWith, IsNear, IsNextOrEnd, IsSideStop, Ready}
+use Rattle.archive_streams.specs.Stopped.{HasEnded, IsInputFault, IsSent, Stopped}
+use Rattle.archive_streams.specs.declared.entry.EntryText.{EntryText}
+use Rattle.archive_streams.specs.declared.fault.InputFault.TheVariants.{Device, Endless as input_Endless}
+use Rattle.archive_streams.specs.declared.fault.MergeFault.{MergeFault}
+use Rattle.archive_streams.specs.declared.fault.MergeFault.TheVariants.{Left, Right, Read, Endless, Write, Memory}
+use Rattle.archive_streams.specs.declared.fault.Side.TheVariants.{Left as side_Left, Right as side_Right}
+use Rattle.archive_streams.specs.declared.fault.SideFault.{SideFault}
+use Rattle.archive_streams.specs.declared.fault.SideFault.TheVariants.{Archive, Input}
+use Rattle.archive_streams.specs.declared.merge.Merge.{Merge}
+use Rattle.archive_streams.specs.declared.pieces.TheConstants.{PIECE}
+use Rattle.archive_streams.specs.declared.side.ArchiveReader.{ArchiveReader}
+use Rattle.archive_streams.proofs.Joining.{AllWithin, SideAt, first_above, first_within, prefix_of_union, shorter_prefix, up_to_first}
+use Rattle.archive_streams.proofs.Merges.{HasNext, has_next, longer_both, longer_left, longer_right, still_side}
+use Rattle.archive_streams.proofs.Unions.{IsAhead, all_within, side_ahead, side_due, side_ready, turned, union_both, union_left, union_right}
+
+-- ---- what is joined is short
+
+-- the octets that so many calls give
+near_short : (r : ArchiveReader) → IsNear r → r.position ≤ PIECE * READER_CALLS
+near_short r near = omega (arith, near, r.pieces.few)
+
+due_short : (s : ArchiveReader) (d e : Reader) (es : List Entry) (last : EntryText) → IsNear s → Due s d e es last → length (text_of es) ≤ PIECE * READER_CALLS
+due_short s d e es last near r = omega (arith, near_short s near, r.read.position)
+
+ready_short : (s : ArchiveReader) (d e : Reader) (ls ws : List Entry) → IsNear s → Ready s d e ls ws → length (text_of ls) ≤ PIECE * READER_CALLS
+ready_short s d e ls ws near r = placed r.place
+  where
+    placed : IsNextOrEnd s r.es ls ws → length (text_of ls) ≤ PIECE * READER_CALLS
+    placed (inl next) = omega (arith, near_short s near, r.read.position, ap (λ (l : List Entry). length (text_of l)) next.1, text_length ls (entry_in s.entry ∷ []))
+    placed (inr end) = omega (arith, near_short s near, r.read.position, ap (λ (l : List Entry). length (text_of l)) end.1)
+
+next_short : (s : ArchiveReader) (d e : Reader) (ls ws : List Entry) → IsNear s → HasNext s d e ls ws → length (text_of (ls ++ entry_in s.entry ∷ [])) ≤ PIECE * READER_CALLS
+next_short s d e ls ws near n = omega (arith, near_short s near, n.read.position)
+
+both_short : (ls rs ws : List Entry) → length (text_of ws) ≤ length (text_of ls) + length (text_of rs) → length (text_of ls) ≤ PIECE * READER_CALLS → length (text_of rs) ≤ PIECE * READER_CALLS
+    → length (text_of ws) < 2 ^ 64
+both_short ls rs ws short left right = omega (arith, short, left, right)
+
+-- ---- a side stops
+
+-- the octets of a side that stops
+stopped_side : (fault : SideFault) (s : ArchiveReader) (d e : Reader) (ls ws : List Entry) (last : EntryText) → (t : IsSideStop fault s d e ls) → EndsWith ls last → EndsWith ws last → IsAscending ws → SideAt t.x ls ws
+stopped_side fault s d e ls ws last t of_side of_all_joined up = record { es = ls; rest = t.rest; parts = t.parts; archive = t.archive; stands = inr (inr (refl, all_within ls ws last of_side of_all_joined up)) }
+
+-- its end was given
+side_ended : (fault : SideFault) (s : ArchiveReader) (d e : Reader) (ls : List Entry) → IsSideStop fault s d e ls → 0 < s.pieces.ends → HasEnded d e
+side_ended fault s d e ls t some = record { ends = λ low. omega (arith, t.ends low, some); none_left = t.at_end some }
+
+-- the fault that is told of the left
+abbrev pub left_fault : SideFault → MergeFault
+left_fault (Archive fault) = Left fault
+left_fault (Input Device) = Read side_Left
+left_fault (Input input_Endless) = Endless side_Left
+
+-- and of the right
+abbrev pub right_fault : SideFault → MergeFault
+right_fault (Archive fault) = Right fault
+right_fault (Input Device) = Read side_Right
+right_fault (Input input_Endless) = Endless side_Right
+
+left_under_way : (fault : SideFault) (held : Held) (start now : Option (List ℕ)) (text : List ℕ) → Carries start now held text → IsUnderWay (left_fault fault) held start now text
+left_under_way (Archive fault) held start now text c = c
+left_under_way (Input Device) held start now text c = c
+left_under_way (Input input_Endless) held start now text c = c
+
+right_under_way : (fault : SideFault) (held : Held) (start now : Option (List ℕ)) (text : List ℕ) → Carries start now held text → IsUnderWay (right_fault fault) held start now text
+right_under_way (Archive fault) held start now text c = c
+right_under_way (Input Device) held start now text c = c
+right_under_way (Input input_Endless) held start now text c = c
+
+left_input : (fault : SideFault) (s : ArchiveReader) (dl el dr er : Reader) (ls rs ws : List Entry) (y : List ℕ) → (t : IsSideStop fault s dl el ls) → SideAt t.x ls ws → SideAt y rs ws → IsUnion ls rs ws
+    → AllWithin ls ws → IsInputFault (left_fault fault) dl el dr er t.x y (text_of ws)
+left_input (Archive fault) s dl el dr er ls rs ws y t a b u all = (
+  record {
+    fault_is = archive_fault ENTRY_MAX t.x ls t.rest fault (omega arith) t.archive t.parts t.cause.1 t.cause.0;
+    at_end = λ at. side_ended (Archive fault) s dl el ls t (t.cause.2 at);
+    up_to_front = up_to_first t.x y ls rs ws t.rest fault t.archive t.parts t.cause.0 a b u all;
+  },
+  λ other too. first_within t.x y ls rs ws t.rest fault other t.archive t.parts t.cause.0 b u too,
+)
+left_input (Input Device) s dl el dr er ls rs ws y t a b u all = tt
+left_input (Input input_Endless) s dl el dr er ls rs ws y t a b u all = record { calls = λ low. omega (arith, t.calls low, t.cause.0); ends = λ low. omega (arith, t.ends low, t.cause.1) }
+
+right_input : (fault : SideFault) (s : ArchiveReader) (dl el dr er : Reader) (ls rs ws : List Entry) (x : List ℕ) → (t : IsSideStop fault s dr er rs) → (a : SideAt x ls ws) → IsAhead a.es ls ws a.rest → SideAt t.x rs ws
+    → IsUnion ls rs ws → AllWithin rs ws → IsInputFault (right_fault fault) dl el dr er x t.x (text_of ws)
+right_input (Archive fault) s dl el dr er ls rs ws x t a ahead b u all = (
+  record {
+    fault_is = archive_fault ENTRY_MAX t.x rs t.rest fault (omega arith) t.archive t.parts t.cause.1 t.cause.0;
+    at_end = λ at. side_ended (Archive fault) s dr er rs t (t.cause.2 at);
+    up_to_front = up_to_first t.x x rs ls ws t.rest fault t.archive t.parts t.cause.0 b a (turned ls rs ws u) all;
+  },
+  λ other too. first_above x t.x ls rs ws t.rest fault other t.archive t.parts t.cause.0 a ahead u too,
+)
+right_input (Input Device) s dl el dr er ls rs ws x t a ahead b u all = tt
+right_input (Input input_Endless) s dl el dr er ls rs ws x t a ahead b u all = record { calls = λ low. omega (arith, t.calls low, t.cause.0); ends = λ low. omega (arith, t.ends low, t.cause.1) }
+
+-- the left stops
+left_stops : (fault : SideFault) (s : ArchiveReader) (m : Merge) (dl el dr er : Reader) (ls rs ws : List Entry) (y : List ℕ) (start now : Option (List ℕ)) → IsSideStop fault s dl el ls → EndsWith ls m.last
+    → SideAt y rs ws → Consumes dr.left er.left y → Joins m ls rs ws start now → length (text_of ws) < 2 ^ 64 → Halted (left_fault fault) m.held dl el dr er start now
+left_stops fault s m dl el dr er ls rs ws y start now t ends b consumed j short =
+    let a : SideAt t.x ls ws = stopped_side fault s dl el ls ws m.last t ends j.last_is j.union.ascending in
+    let all : AllWithin ls ws = record { within = all_within ls ws m.last ends j.last_is j.union.ascending } in
+    record {
+      x = t.x;
+      y = y;
+      text = text_of ws;
+      left = t.consumed;
+      right = consumed;
+      prefix = prefix_of_union t.x y ls rs ws a b j.union;
+      short = short;
+      under_way = left_under_way fault m.held start now (text_of ws) j.carries;
+      input = left_input fault s dl el dr er ls rs ws y t a b j.union all;
+    }
+
+pub left_halts : (fault found : SideFault) (s : ArchiveReader) (m : Merge) (dl el fl dr er : Reader) (start now : Option (List ℕ)) → HasRoom m → found ≡ fault
+    → ((d : Reader) (es : List Entry) → Due m.left d el es m.last → IsSideStop found s d fl es) → LeftDue m dl el dr er start now → Halted (left_fault fault) m.held dl fl dr er start now
+left_halts fault found s m dl el fl dr er start now room same stop h =
+    let left = due_short m.left dl el h.ls m.last room.left_near h.left in
+    let right = ready_short m.right dr er h.rs h.ws room.right_near h.right in
+    left_stops fault s m dl fl dr er h.ls h.rs h.ws h.right.x start now (subst (λ (f : SideFault). IsSideStop f s dl fl h.ls) same (stop dl h.ls h.left)) h.left.ends (side_ready m.right dr er h.rs h.ws h.right) h.right.read.consumed h.joins
+    (both_short h.ls h.rs h.ws h.joins.short left right)
+
+pub left_halts_first : (fault found : SideFault) (s : ArchiveReader) (m : Merge) (dl el fl dr er : Reader) (start now : Option (List ℕ)) → HasRoom m → found ≡ fault
+    → ((d : Reader) (es : List Entry) → Due m.left d el es m.last → IsSideStop found s d fl es) → BothDue m dl el dr er start now → Halted (left_fault fault) m.held dl fl dr er start now
+left_halts_first fault found s m dl el fl dr er start now room same stop h =
+    let left = due_short m.left dl el h.ls m.last room.left_near h.left in
+    let right = due_short m.right dr er h.rs m.last room.right_near h.right in
+    left_stops fault s m dl fl dr er h.ls h.rs h.ws h.right.x start now (subst (λ (f : SideFault). IsSideStop f s dl fl h.ls) same (stop dl h.ls h.left)) h.left.ends (side_due m.right dr er h.rs h.ws m.last h.right h.joins.last_is h.joins.union.ascending) h.right.read.consumed
+    h.joins (both_short h.ls h.rs h.ws h.joins.short left right)
+
+-- the right stops, and the left is ahead
+pub right_halts : (fault found : SideFault) (s : ArchiveReader) (m : Merge) (dl el dr er fr : Reader) (start now : Option (List ℕ)) → HasRoom m → found ≡ fault
+    → ((d : Reader) (es : List Entry) → Due m.right d er es m.last → IsSideStop found s d fr es) → RightDue m dl el dr er start now → Halted (right_fault fault) m.held dl el dr fr start now
+right_halts fault found s m dl el dr er fr start now room same stop h =
+    let left = ready_short m.left dl el h.ls h.ws room.left_near h.left in
+    let right = due_short m.right dr er h.rs m.last room.right_near h.right in
+    let a = side_ready m.left dl el h.ls h.ws h.left in
+    let t : IsSideStop fault s dr fr h.rs = subst (λ (f : SideFault). IsSideStop f s dr fr h.rs) same (stop dr h.rs h.right) in
+    let b : SideAt t.x h.rs h.ws = stopped_side fault s dr fr h.rs h.ws m.last t h.right.ends h.joins.last_is h.joins.union.ascending in
+    let all : AllWithin h.rs h.ws = record { within = all_within h.rs h.ws m.last h.right.ends h.joins.last_is h.joins.union.ascending } in
+    record {
+      x = h.left.x;
+      y = t.x;
+      text = text_of h.ws;
+      left = h.left.read.consumed;
+      right = t.consumed;
+      prefix = prefix_of_union h.left.x t.x h.ls h.rs h.ws a b h.joins.union;
+      short = both_short h.ls h.rs h.ws h.joins.short left right;
+      under_way = right_under_way fault m.held start now (text_of h.ws) h.joins.carries;
+      input = right_input fault s dl el dr fr h.ls h.rs h.ws h.left.x t a (side_ahead m.left dl el h.ls h.ws h.left) b h.joins.union all;
+    }
+
+-- ---- the writer fails
+
+-- all entries of a side whose next one is written are joined
+written_side : (s : ArchiveReader) (d e : Reader) (ls ws : List Entry) → (n : HasNext s d e ls ws) → SideAt n.x (ls ++ entry_in s.entry ∷ []) (ws ++ entry_in s.entry ∷ [])
+written_side s d e ls ws n = record { es = ls ++ entry_in s.entry ∷ []; rest = unused s.pieces; parts = n.read.parts; archive = n.read.archive; stands = inr (inr (refl, within)) }
+  where
+    here : Has (ls ++ entry_in s.entry ∷ []) (entry_in s.entry)
+    here = has_right ls (entry_in s.entry ∷ []) (entry_in s.entry) (inl refl)
+
+    alone : (v : Entry) → Has (entry_in s.entry ∷ []) v → (v ≡ entry_in s.entry) ⊎ IsBelow v (entry_in s.entry)
+    alone v (inl same) = inl (sym same)
+    alone v (inr none) = absurd none
+
+    within : (v : Entry) → Has (ws ++ entry_in s.entry ∷ []) v → IsWithin (ls ++ entry_in s.entry ∷ []) v
+    within v h = (entry_in s.entry, here, elim (has_either ws (entry_in s.entry ∷ []) v h) [ inl k ↦ inr (n.below v k) | inr k ↦ alone v k ])
+
+-- the text goes on with the entry
+written_text : (s : ArchiveReader) (d e : Reader) (ls ws : List Entry) → HasNext s d e ls ws → text_of ws ++ s.entry.text.items ≡ text_of (ws ++ entry_in s.entry ∷ [])
+written_text s d e ls ws n = ap (λ (u : List ℕ). text_of ws ++ u) n.holds.text_is ∙ sym (text_push ws (entry_in s.entry))
+
+-- as the left is written alone
+pub less_halts : (m : Merge) (held : Held) (dl el dr er : Reader) (start a b : Option (List ℕ)) (sent : ℕ) → HasRoom m → m.left.entry.text.items ≢ []
+    → (m.right.entry.text.items ≢ [] → IsBelow (entry_in m.left.entry) (entry_in m.right.entry))
+    → ((text : List ℕ) → Carries start a m.held text → StopsWithin start b (text ++ m.left.entry.text.items) sent) → Merging m dl el dr er start a → Halted (Write sent) held dl el dr er start b
+less_halts m held dl el dr er start a b sent room some above stops s =
+    let w = entry_in m.left.entry in
+    let next = has_next m.left dl el s.ls s.ws some s.left in
+    let union = union_left s.ls s.rs s.ws w s.joins.union next.below in
+    let other : SideAt s.right.x s.rs (s.ws ++ w ∷ []) = still_side m.right dr er s.rs s.ws w above s.right in
+    record {
+      x = next.x;
+      y = s.right.x;
+      text = text_of (s.ws ++ w ∷ []);
+      left = next.read.consumed;
+      right = s.right.read.consumed;
+      prefix = prefix_of_union next.x s.right.x (s.ls ++ w ∷ []) s.rs (s.ws ++ w ∷ []) (written_side m.left dl el s.ls s.ws next) other union;
+      short = both_short (s.ls ++ w ∷ []) s.rs (s.ws ++ w ∷ []) (longer_left s.ls s.rs s.ws w s.joins.short) (next_short m.left dl el s.ls s.ws room.left_near next) (ready_short m.right dr er s.rs s.ws room.right_near s.right);
+      under_way = subst (λ (u : List ℕ). StopsWithin start b u sent) (written_text m.left dl el s.ls s.ws next) (stops (text_of s.ws) s.joins.carries);
+      input = tt;
+    }
+
+-- as the right is written alone
+pub greater_halts : (m : Merge) (held : Held) (dl el dr er : Reader) (start a b : Option (List ℕ)) (sent : ℕ) → HasRoom m → m.right.entry.text.items ≢ []
+    → (m.left.entry.text.items ≢ [] → IsBelow (entry_in m.right.entry) (entry_in m.left.entry))
+    → ((text : List ℕ) → Carries start a m.held text → StopsWithin start b (text ++ m.right.entry.text.items) sent) → Merging m dl el dr er start a → Halted (Write sent) held dl el dr er start b
+greater_halts m held dl el dr er start a b sent room some above stops s =
+    let w = entry_in m.right.entry in
+    let next = has_next m.right dr er s.rs s.ws some s.right in
+    let union = union_right s.ls s.rs s.ws w s.joins.union next.below in
+    let other : SideAt s.left.x s.ls (s.ws ++ w ∷ []) = still_side m.left dl el s.ls s.ws w above s.left in
+    record {
+      x = s.left.x;
+      y = next.x;
+      text = text_of (s.ws ++ w ∷ []);
+      left = s.left.read.consumed;
+      right = next.read.consumed;
+      prefix = prefix_of_union s.left.x next.x s.ls (s.rs ++ w ∷ []) (s.ws ++ w ∷ []) other (written_side m.right dr er s.rs s.ws next) union;
+      short = both_short s.ls (s.rs ++ w ∷ []) (s.ws ++ w ∷ []) (longer_right s.ls s.rs s.ws w s.joins.short) (ready_short m.left dl el s.ls s.ws room.left_near s.left) (next_short m.right dr er s.rs s.ws room.right_near next);
+      under_way = subst (λ (u : List ℕ). StopsWithin start b u sent) (written_text m.right dr er s.rs s.ws next) (stops (text_of s.ws) s.joins.carries);
+      input = tt;
+    }
+
+-- as an equal pair is written
+pub equal_halts : (m : Merge) (held : Held) (dl el dr er : Reader) (start a b : Option (List ℕ)) (sent : ℕ) → HasRoom m → m.left.entry.text.items ≢ [] → m.right.entry.text.items ≢ []
+    → entry_in m.left.entry ≡ entry_in m.right.entry
+    → ((text : List ℕ) → Carries start a m.held text → StopsWithin start b (text ++ m.left.entry.text.items) sent) → Merging m dl el dr er start a → Halted (Write sent) held dl el dr er start b
+equal_halts m held dl el dr er start a b sent room some also same stops s =
+    let w = entry_in m.left.entry in
+    let next = has_next m.left dl el s.ls s.ws some s.left in
+    let other = has_next m.right dr er s.rs s.ws also s.right in
+    let union = union_both s.ls s.rs s.ws w s.joins.union next.below in
+    let side : SideAt other.x (s.rs ++ w ∷ []) (s.ws ++ w ∷ []) = subst (λ (e : Entry). SideAt other.x (s.rs ++ e ∷ []) (s.ws ++ e ∷ [])) (sym same) (written_side m.right dr er s.rs s.ws other) in
+    let right : length (text_of (s.rs ++ w ∷ [])) ≤ PIECE * READER_CALLS = subst (λ (e : Entry). length (text_of (s.rs ++ e ∷ [])) ≤ PIECE * READER_CALLS) (sym same) (next_short m.right dr er s.rs s.ws room.right_near other) in
+    record {
+      x = next.x;
+      y = other.x;
+      text = text_of (s.ws ++ w ∷ []);
+      left = next.read.consumed;
+      right = other.read.consumed;
+      prefix = prefix_of_union next.x other.x (s.ls ++ w ∷ []) (s.rs ++ w ∷ []) (s.ws ++ w ∷ []) (written_side m.left dl el s.ls s.ws next) side union;
+      short = both_short (s.ls ++ w ∷ []) (s.rs ++ w ∷ []) (s.ws ++ w ∷ []) (longer_both s.ls s.rs s.ws w s.joins.short) (next_short m.left dl el s.ls s.ws room.left_near next) right;
+      under_way = subst (λ (u : List ℕ). StopsWithin start b u sent) (written_text m.left dl el s.ls s.ws next) (stops (text_of s.ws) s.joins.carries);
+      input = tt;
+    }
+
+-- as what is held back is written, where all is joined
+pub end_halts : (m : Merge) (held : Held) (dl el dr er : Reader) (start a b : Option (List ℕ)) (sent : ℕ) → HasRoom m → ((text : List ℕ) → Carries start a m.held text → StopsWithin start b text sent) → Merging m dl el dr er start a
+    → Halted (Write sent) held dl el dr er start b
+end_halts m held dl el dr er start a b sent room stops s = record {
+  x = s.left.x;
+  y = s.right.x;
+  text = text_of s.ws;
+  left = s.left.read.consumed;
+  right = s.right.read.consumed;
+  prefix = prefix_of_union s.left.x s.right.x s.ls s.rs s.ws (side_ready m.left dl el s.ls s.ws s.left) (side_ready m.right dr er s.rs s.ws s.right) s.joins.union;
+  short = both_short s.ls s.rs s.ws s.joins.short (ready_short m.left dl el s.ls s.ws room.left_near s.left) (ready_short m.right dr er s.rs s.ws room.right_near s.right);
+  under_way = stops (text_of s.ws) s.joins.carries;
+  input = tt;
+}
+
+-- ---- the call is stopped
+
+-- the writer took so many octets
+pub stopped_sent : (sent : ℕ) (held : Held) (dl el dr er : Reader) (start now : Option (List ℕ)) → Halted (Write sent) held dl el dr er start now → Stopped (Write sent) dl el dr er start now
+stopped_sent sent held dl el dr er start now h =
+    let taken = StopsWithin-take start now h.text sent h.under_way h.short in
+    record {
+      x = h.x;
+      y = h.y;
+      written = take sent h.text;
+      left = h.left;
+      right = h.right;
+      taken = taken.1;
+      prefix = shorter_prefix h.x h.y (take sent h.text) (drop sent h.text) (subst (IsPrefixOfUnion h.x h.y) (sym (take-append-drop sent h.text)) h.prefix);
+      input = tt;
+      sent = omega (arith, length-take sent h.text, taken.0);
+    }
+
+pub stopped_write : (fault : MergeFault) (sent : ℕ) (held : Held) (dl el dr er : Reader) (start now : Option (List ℕ)) → fault ≡ Write sent → Halted fault held dl el dr er start now
+    → Stopped (Write sent) dl el dr er start now
+stopped_write fault sent held dl el dr er start now same h = stopped_sent sent held dl el dr er start now (subst (λ (f : MergeFault). Halted f held dl el dr er start now) same h)
+
+-- each fault that is not the writer's
+pub is_not_write : (fault : MergeFault) → ((sent : ℕ) → fault ≡ Write sent → ⊥) → IsNotWrite fault
+is_not_write (Write sent) other = other sent refl
+is_not_write (Left fault) other = tt
+is_not_write (Right fault) other = tt
+is_not_write (Read side) other = tt
+is_not_write (Endless side) other = tt
+is_not_write Memory other = tt
+
+held_back : (fault : MergeFault) (held : Held) (start now : Option (List ℕ)) (text : List ℕ) → IsNotWrite fault → IsUnderWay fault held start now text → Carries start now held text
+held_back (Write sent) held start now text other c = absurd other
+held_back (Left fault) held start now text other c = c
+held_back (Right fault) held start now text other c = c
+held_back (Read side) held start now text other c = c
+held_back (Endless side) held start now text other c = c
+held_back Memory held start now text other c = c
+
+none_sent : (fault : MergeFault) (written : List ℕ) → IsNotWrite fault → IsSent fault written
+none_sent (Write sent) written other = absurd other
+none_sent (Left fault) written other = tt
+none_sent (Right fault) written other = tt
+none_sent (Read side) written other = tt
+none_sent (Endless side) written other = tt
+none_sent Memory written other = tt
+
+-- what is held back is written before a fault is told
+pub stopped_whole : (fault : MergeFault) (held : Held) (dl el dr er : Reader) (start now after : Option (List ℕ)) → IsNotWrite fault → ((text : List ℕ) → Carries start now held text → Appends start after text)
+    → Halted fault held dl el dr er start now → Stopped fault dl el dr er start after
+stopped_whole fault held dl el dr er start now after other whole h = record {
+  x = h.x;
+  y = h.y;
+  written = h.text;
+  left = h.left;
+  right = h.right;
+  taken = whole h.text (held_back fault held start now h.text other h.under_way);
+  prefix = h.prefix;
+  input = h.input;
+  sent = none_sent fault h.text other;
+}
+
+-- or the writer fails before it is told
+pub stopped_before : (fault : MergeFault) (held : Held) (dl el dr er : Reader) (start now after : Option (List ℕ)) (sent : ℕ) → IsNotWrite fault → ((text : List ℕ) → Carries start now held text → StopsWithin start after text sent)
+    → Halted fault held dl el dr er start now → Stopped (Write sent) dl el dr er start after
+stopped_before fault held dl el dr er start now after sent other stops h =
+    stopped_sent sent held dl el dr er start after (record {
+      x = h.x;
+      y = h.y;
+      text = h.text;
+      left = h.left;
+      right = h.right;
+      prefix = h.prefix;
+      short = h.short;
+      under_way = stops h.text (held_back fault held start now h.text other h.under_way);
+      input = tt;
+    })
