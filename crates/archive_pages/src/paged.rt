@@ -12,7 +12,7 @@ ghost use Rattle.archive_pages.specs.declared.paged.TheConstants.{RECORDS_MAX};
 use crate::arena::{Arena, Span};
 use crate::index::{add_entry, holds_entry};
 use crate::writing::write_pages;
-use archive_text::{AddFault, Added, ENTRY_MAX, EntryView, Store, entry_of_octets};
+use archive_text::{AddFault, Added, ENTRY_MAX, EntryView, Store};
 use std::alloc::{AllocError, Global};
 use syslog_grammar::{RecordView, canon, put_canonical};
 use syslog_value::{Output, Record, WriteFault};
@@ -115,16 +115,17 @@ impl Store for PagedArchive {
         if put_canonical(alloc, view, &mut self.scratch).is_err() {
             return Err(AddFault::Memory);
         }
-        match entry_of_octets(&self.scratch) {
-            Ok(entry) => add_counted(
-                alloc,
-                &mut self.arena,
-                &mut self.pages,
-                &mut self.count,
-                &entry,
-            ),
-            Err(_) => Err(AddFault::Memory),
-        }
+        let entry = EntryView {
+            instant: view.instant(),
+            octets: &self.scratch,
+        };
+        add_counted(
+            alloc,
+            &mut self.arena,
+            &mut self.pages,
+            &mut self.count,
+            &entry,
+        )
     }
 
     fn holds(&self, alloc: Global, record: &Record) -> Result<bool, AllocError> {
