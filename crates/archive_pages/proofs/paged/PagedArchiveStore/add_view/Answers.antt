@@ -1,7 +1,8 @@
 use Rattle.std.proofs.Common.{◌∙◌, sym}
 use Rattle.std.proofs.lemmas.Result.{IfOk-weaker}
 use Rattle.syslog_grammar.specs.ViewParts.{view_parts}
-use Rattle.archive_pages.proofs.Records.{shown_added, shown_alone, shown_entry, shown_long}
+use Rattle.archive_text.specs.declared.limits.TheConstants.{ENTRY_MAX}
+use Rattle.archive_text.proofs.Shown.{shown_added, shown_alone, shown_entry, shown_long}
 use Rattle.archive_pages.proofs.paged.PagedArchiveStore.add_view.Goals as goal
 
 pub add_counted-requires-clause-entry : goal.add_counted-requires-clause-entry
@@ -17,4 +18,4 @@ returns-clause-ok c =
 pub returns-clause-long : goal.returns-clause-long
 returns-clause-long c =
     let shown = shown_alone (view_parts c.args.view.now) c.put_canonical.result c.clear.new.self.items _ c.deref.result.now c.put_canonical.ensures.shown (sym c.is_err.ensures.value ∙ c.if-is_err.false) c.clear.ensures.items c.deref.ensures.value in
-    λ t b seen. shown_long _ _ b shown seen (c.add_counted.ensures.long t)
+    λ t b seen. shown_long ENTRY_MAX _ _ b shown seen (c.add_counted.ensures.long t)
