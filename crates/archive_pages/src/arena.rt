@@ -2,9 +2,11 @@
 
 ghost use Rattle.std.specs.Prelude.{◌≡◌, ◌<◌, ◌≤◌, ◌+◌, ◌++◌, ◌^◌, ℕ, [], length, IfOk};
 ghost use Rattle.archive_text.specs.EntryViews.{entry_of};
+ghost use Rattle.archive_pages.specs.Fronts.{IsFront};
 ghost use Rattle.archive_pages.specs.Spans.{IsWithin, Keeps, block_at, blocks_of};
 ghost use Rattle.archive_pages.specs.Spans.{entry_at, lists_of, span_with};
 
+use crate::front::front_of;
 use archive_text::{ENTRY_MAX, EntryView};
 use std::alloc::{AllocError, Global};
 use syslog_value::Instant;
@@ -12,10 +14,12 @@ use syslog_value::Instant;
 // the capacity of a block, which each entry fits
 const BLOCK: usize = 1_048_576;
 
-/// An entry: its instant, if it has one, and where its octets are in an arena.
+/// An entry: its instant, if it has one, its first octets as a number, and where its octets are in
+/// an arena.
 #[derive(Clone, Copy, Debug)]
 pub struct Span {
     pub instant: Option<Instant>,
+    pub front: u32,
     pub block: u32,
     pub start: u32,
     pub len: u32,
@@ -31,10 +35,12 @@ pub struct Extent {
 
 /// The span of an entry whose octets are there.
 pub fn span_of(entry: &EntryView<'_>, extent: Extent) -> Span
-    ensures { result ≡ span_with entry.now.instant extent }
+    ensures span { result ≡ span_with entry.now.instant result.front extent }
+    ensures front { IsFront result.front entry.now.octets.now }
 {
     Span {
         instant: entry.instant,
+        front: front_of(entry.octets),
         block: extent.block,
         start: extent.start,
         len: extent.len,
@@ -113,10 +119,11 @@ impl Arena {
     /// Copies the octets of an entry, and answers where they are. All entries stay where they are.
     pub fn push(&mut self, alloc: Global, entry: &EntryView<'_>) -> Result<Extent, AllocError>
         requires { length entry.now.octets.now ≤ ENTRY_MAX }
-        ensures within { IfOk result (λ x.
-            IsWithin (blocks_of self.new) (span_with entry.now.instant x)) }
-        ensures value { IfOk result (λ x.
-            entry_at (blocks_of self.new) (span_with entry.now.instant x) ≡ entry_of entry.now) }
+        ensures within { IfOk result (λ x. (front : ℕ) → IsFront front entry.now.octets.now →
+            IsWithin (blocks_of self.new) (span_with entry.now.instant front x)) }
+        ensures value { IfOk result (λ x. (front : ℕ) →
+            entry_at (blocks_of self.new) (span_with entry.now.instant front x)
+            ≡ entry_of entry.now) }
         ensures keeps { Keeps (blocks_of self.old) (blocks_of self.new) }
     {
         let len = entry.octets.len();

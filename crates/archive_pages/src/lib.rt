@@ -3,6 +3,7 @@
 #![tactic(auto)]
 
 mod arena;
+mod front;
 mod index;
 mod page;
 mod paged;

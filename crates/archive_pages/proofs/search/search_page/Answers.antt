@@ -1,4 +1,4 @@
-use Rattle.std.proofs.Common.{arith}
+use Rattle.std.proofs.Common.{arith, refl}
 use Rattle.archive_text.specs.EntryViews.{entry_of}
 use Rattle.archive_pages.specs.Spans.{blocks_of, entry_at}
 use Rattle.archive_pages.proofs.Searching.{above_index, below_index, has_index, order_above, order_below, order_same}
@@ -13,7 +13,7 @@ loop-low-preserved-in-Less c =
       ordered = omega arith;
       within = omega arith;
       below = below_index blocks e c.args.page.now _ s (omega arith) c.index-page-middle.is c.requires.ascending
-          (order_below (entry_of c.entry.result) (entry_at blocks s) e c.compare.result c.entry.ensures c.compare.ensures c.in-Less.is);
+          (order_below (entry_at blocks s) (entry_at blocks s) e c.compare_span.result refl c.compare_span.ensures c.in-Less.is);
       above = c.loop-low.invariant.above;
     }
 
@@ -23,7 +23,7 @@ returns-in-Equal c =
     let e = entry_of c.args.entry.now in
     let s = c.index-page-middle.result in
     has_index blocks e c.args.page.now _ s (omega arith) c.index-page-middle.is
-    (order_same (entry_of c.entry.result) (entry_at blocks s) e c.compare.result c.entry.ensures c.compare.ensures c.in-Equal.is)
+    (order_same (entry_at blocks s) (entry_at blocks s) e c.compare_span.result refl c.compare_span.ensures c.in-Equal.is)
 
 pub loop-low-preserved : goal.loop-low-preserved
 loop-low-preserved c =
@@ -35,5 +35,5 @@ loop-low-preserved c =
       within = omega arith;
       below = c.loop-low.invariant.below;
       above = above_index blocks e c.args.page.now _ s (omega arith) c.index-page-middle.is c.requires.ascending
-          (order_above (entry_of c.entry.result) (entry_at blocks s) e c.compare.result c.entry.ensures c.compare.ensures c.in-Greater.is);
+          (order_above (entry_at blocks s) (entry_at blocks s) e c.compare_span.result refl c.compare_span.ensures c.in-Greater.is);
     }
