@@ -9,7 +9,7 @@ use Rattle.std.proofs.lemmas.Bool.{cases_eq}
 use Rattle.archive_text.specs.Entries.{Entry}
 use Rattle.archive_text.proofs.Orders.{same_entry}
 use Rattle.archive_pages.specs.Fronts.{IsFront}
-use Rattle.archive_pages.specs.Spans.{IsWithin, Keeps, block_at, entries_at, entry_at, lists_of}
+use Rattle.archive_pages.specs.Spans.{IsWithin, Keeps, block_at, entries_at, entry_at, instant_at, lists_of}
 use Rattle.archive_pages.specs.declared.arena.Span.{Span}
 
 -- what a vector of vectors holds at an index
@@ -24,7 +24,7 @@ span_stays octets more start len h =
     ap (take len) (drop-append-le start octets more low) ∙ take-append-le len (drop start octets) more within
 
 abbrev with_octets : Span → List ℕ → Entry
-with_octets s b = record { instant = s.instant; octets = b }
+with_octets s b = record { instant = instant_at s.rank; octets = b }
 
 -- blocks that only grow at their ends keep their entries
 pub keeps_grown : (old new : List (List ℕ)) → length old ≤ length new → ((k : ℕ) → k < length old → (more : List ℕ) × (block_at new k ≡ block_at old k ++ more)) → Keeps old new
@@ -109,6 +109,6 @@ pushed_within vs block octets s h is start len front =
     }
 
 pub pushed_value : (vs : List (Vec ℕ Global)) (block octets : List ℕ) (s : Span) (e : Entry) → block_at (lists_of vs) s.block ≡ block ++ octets → s.start ≡ length block → s.len ≡ length octets
-    → e.instant ≡ s.instant → e.octets ≡ octets → entry_at (lists_of vs) s ≡ e
+    → instant_at s.rank ≡ e.instant → e.octets ≡ octets → entry_at (lists_of vs) s ≡ e
 pushed_value vs block octets s e is start len instant same =
-    same_entry (entry_at (lists_of vs) s) e (sym instant) (shown_octets vs block octets s is start len ∙ sym same)
+    same_entry (entry_at (lists_of vs) s) e instant (shown_octets vs block octets s is start len ∙ sym same)

@@ -7,7 +7,8 @@ ghost use Rattle.archive_pages.specs.Fronts.{IsFront, octet_or_zero};
 ghost use Rattle.archive_pages.specs.Spans.{IsWithin, blocks_of, entry_at};
 
 use crate::arena::{Arena, Span};
-use archive_text::{EntryView, compare, compare_instants};
+use crate::rank::rank_of;
+use archive_text::EntryView;
 use std::cmp::Ordering;
 
 // The octet at an index, 0 where there is none.
@@ -38,12 +39,12 @@ pub fn compare_span(arena: &Arena, span: Span, entry: &EntryView<'_>) -> Orderin
     requires { IsWithin (blocks_of arena.now) span }
     ensures { IsOrder result (entry_at (blocks_of arena.now) span) (entry_of entry.now) }
 {
-    match compare_instants(span.instant, entry.instant) {
+    match span.rank.cmp(&rank_of(entry.instant)) {
         Ordering::Equal => {}
         unequal => return unequal,
     }
     match span.front.cmp(&front_of(entry.octets)) {
-        Ordering::Equal => compare(&arena.entry(span), entry),
+        Ordering::Equal => arena.octets(span).cmp(entry.octets),
         unequal => unequal,
     }
 }

@@ -7,6 +7,7 @@ mod front;
 mod index;
 mod page;
 mod paged;
+mod rank;
 mod search;
 mod writing;
 
