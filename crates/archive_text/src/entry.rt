@@ -16,7 +16,7 @@ pub struct EntryView<'a> {
 
 /// Which of two instants comes first: none, then the earlier one.
 #[inline]
-pub fn compare_instants(a: Option<Instant>, b: Option<Instant>) -> Ordering
+fn compare_instants(a: Option<Instant>, b: Option<Instant>) -> Ordering
     ensures { IsInstantOrder result a b }
 {
     match (a, b) {

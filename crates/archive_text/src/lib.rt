@@ -11,7 +11,7 @@ mod judge;
 mod limits;
 mod store;
 
-pub use entry::{EntryView, compare, compare_instants};
+pub use entry::{EntryView, compare};
 pub use fault::{ArchiveFault, EntryFault};
 pub use judge::{entry_of_octets, read_entry};
 pub use limits::ENTRY_MAX;
