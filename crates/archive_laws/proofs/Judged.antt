@@ -9,6 +9,7 @@ use Rattle.syslog_value.specs.Parts.{Parts}
 use Rattle.archive_text.specs.Entries.{Entry, IsAscending, IsOrder}
 use Rattle.archive_text.specs.EntryViews.{entry_of}
 use Rattle.archive_text.specs.Faults.{IsArchiveFault, IsBadFrame, IsFaultBefore, IsFaultBehind}
+use Rattle.archive_text.specs.Positions.{later, position_of}
 use Rattle.archive_text.specs.Sets.{ArchiveText}
 use Rattle.archive_text.specs.Text.{BeginsWithEntry, entry_text, text_of}
 use Rattle.archive_text.specs.declared.entry.EntryView.{EntryView}
@@ -20,7 +21,7 @@ use Rattle.archive_text.proofs.Prefixes.{archive_fault}
 use Rattle.archive_text.proofs.Orders.{below_is_less, less_is_below}
 use Rattle.archive_text.proofs.Sets.{archive_is_of_a_set}
 use Rattle.archive_text.proofs.Texts.{text_goes_on, text_some}
-use Rattle.archive_laws.specs.Judging.{IsLast, IsRead, later, position}
+use Rattle.archive_laws.specs.Judging.{IsLast, IsRead}
 
 -- ---- the order
 
@@ -43,7 +44,7 @@ bad_within most n rest (inl (none, offset)) = offset.within
 bad_within most n rest (inr (count, behind, follows, low, cut, at)) = omega (arith, at)
 
 -- a fault of what is left lies in it
-pub position_within : (most : ℕ) (rest : List ℕ) (fault : ArchiveFault) → IsFaultBefore most rest fault → position fault ≤ length rest
+pub position_within : (most : ℕ) (rest : List ℕ) (fault : ArchiveFault) → IsFaultBefore most rest fault → position_of fault ≤ length rest
 position_within most rest (BadFrame at) h = bad_within most at rest h
 position_within most rest (EntryTooLong at) h = omega (arith, h.0)
 position_within most rest (BadEntry at fault) h = omega (arith, h.0)

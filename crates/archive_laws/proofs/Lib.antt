@@ -5,3 +5,4 @@ pub mod Merged
 pub mod Limits
 pub mod Judged
 pub mod OneFault
+pub mod Held

@@ -1,27 +1,9 @@
 -- How far a text was read.
-use Rattle.std.specs.Prelude.{◌≡◌, ℕ, ◌+◌, List, [], ◌∷◌, ◌++◌, Option, Some, None}
+use Rattle.std.specs.Prelude.{◌≡◌, ℕ, List, [], ◌∷◌, ◌++◌, Option, Some, None}
 use Rattle.archive_text.specs.Entries.{Entry}
 use Rattle.archive_text.specs.EntryViews.{entry_of}
 use Rattle.archive_text.specs.Text.{IsArchive, text_of}
 use Rattle.archive_text.specs.declared.entry.EntryView.{EntryView}
-use Rattle.archive_text.specs.declared.fault.ArchiveFault.{ArchiveFault}
-use Rattle.archive_text.specs.declared.fault.ArchiveFault.TheVariants.{BadFrame, EntryTooLong, BadEntry, NotCanonical, NotAscending}
-
--- the position that a fault gives
-abbrev pub position : ArchiveFault → ℕ
-position (BadFrame at) = at
-position (EntryTooLong at) = at
-position (BadEntry at fault) = at
-position (NotCanonical at) = at
-position (NotAscending at) = at
-
--- the same fault so many octets later
-abbrev pub later : ℕ → ArchiveFault → ArchiveFault
-later n (BadFrame at) = BadFrame (n + at)
-later n (EntryTooLong at) = EntryTooLong (n + at)
-later n (BadEntry at fault) = BadEntry (n + at) fault
-later n (NotCanonical at) = NotCanonical (n + at)
-later n (NotAscending at) = NotAscending (n + at)
 
 -- the last of the entries, if there is one
 abbrev pub IsLast : List Entry → Option EntryView → Type 0

@@ -1,3 +1,4 @@
 pub mod Unions
 pub mod Judging
+pub mod Holding
 pub mod Props

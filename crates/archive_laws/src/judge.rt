@@ -7,27 +7,10 @@ ghost use Rattle.archive_text.specs.Entries.{Entry, IsAscending};
 ghost use Rattle.archive_text.specs.EntryViews.{entry_of};
 ghost use Rattle.archive_text.specs.Faults.{IsArchiveFault};
 ghost use Rattle.archive_text.specs.Sets.{ArchiveText};
-ghost use Rattle.archive_laws.specs.Judging.{IsLast, IsRead, later, position};
+ghost use Rattle.archive_laws.specs.Judging.{IsLast, IsRead};
 
 use archive_text::{ArchiveFault, ENTRY_MAX, EntryView, compare, read_entry};
 use std::cmp::Ordering;
-
-/// The same fault, so many octets later.
-fn moved(fault: ArchiveFault, octets: u64) -> ArchiveFault
-    requires { octets + position fault < 2 ^ 64 }
-    ensures { result ≡ later octets fault }
-{
-    match fault {
-        ArchiveFault::BadFrame { at } => ArchiveFault::BadFrame { at: octets + at },
-        ArchiveFault::EntryTooLong { at } => ArchiveFault::EntryTooLong { at: octets + at },
-        ArchiveFault::BadEntry { at, fault } => ArchiveFault::BadEntry {
-            at: octets + at,
-            fault,
-        },
-        ArchiveFault::NotCanonical { at } => ArchiveFault::NotCanonical { at: octets + at },
-        ArchiveFault::NotAscending { at } => ArchiveFault::NotAscending { at: octets + at },
-    }
-}
 
 /// Whether an entry goes on behind ascending entries, of which this is the last.
 fn goes_on(last: &Option<EntryView<'_>>, entry: &EntryView<'_>) -> bool
@@ -61,7 +44,7 @@ fn read_on<'a>(
     let at = (text.len() - rest.len()) as u64;
     let (entry, behind) = match read_entry(ENTRY_MAX as u64, rest) {
         Ok(read) => read,
-        Err(fault) => return Err(moved(fault, at)),
+        Err(fault) => return Err(fault.later(at)),
     };
     if !goes_on(last, &entry) {
         return Err(ArchiveFault::NotAscending { at });

@@ -7,6 +7,7 @@ mod judge;
 mod merging;
 mod order;
 mod sets;
+mod stores;
 
 pub use faults::{archives_have_no_fault, larger_limits_keep_faults, texts_have_one_fault};
 pub use judge::archive_or_fault;
@@ -18,6 +19,7 @@ pub use sets::{
     larger_limits_keep_archives, one_set_has_one_text, one_text_has_one_set,
     records_have_canonical_octets, sets_that_fit_have_a_text,
 };
+pub use stores::same_records_have_one_text;
 
 #[cfg(test)]
 mod tests;

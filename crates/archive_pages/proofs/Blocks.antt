@@ -8,7 +8,8 @@ use Rattle.std.proofs.Math.Seq.{drop-append_seam}
 use Rattle.std.proofs.lemmas.Bool.{cases_eq}
 use Rattle.archive_text.specs.Entries.{Entry}
 use Rattle.archive_text.proofs.Orders.{same_entry}
-use Rattle.archive_pages.specs.Spans.{IsWithin, Keeps, block_at, entries_at, entry_at, lists_of}
+use Rattle.archive_pages.specs.Fronts.{IsFront}
+use Rattle.archive_pages.specs.Spans.{IsWithin, Keeps, block_at, entries_at, entry_at, instant_at, lists_of}
 use Rattle.archive_pages.specs.declared.arena.Span.{Span}
 
 -- what a vector of vectors holds at an index
@@ -23,7 +24,7 @@ span_stays octets more start len h =
     ap (take len) (drop-append-le start octets more low) ∙ take-append-le len (drop start octets) more within
 
 abbrev with_octets : Span → List ℕ → Entry
-with_octets s b = record { instant = s.instant; octets = b }
+with_octets s b = record { instant = instant_at s.rank; octets = b }
 
 -- blocks that only grow at their ends keep their entries
 pub keeps_grown : (old new : List (List ℕ)) → length old ≤ length new → ((k : ℕ) → k < length old → (more : List ℕ) × (block_at new k ≡ block_at old k ++ more)) → Keeps old new
@@ -32,7 +33,7 @@ keeps_grown old new count grown s h =
     let octets : take s.len (drop s.start (block_at new s.block)) ≡ take s.len (drop s.start (block_at old s.block)) =
     ap (λ (b : List ℕ). take s.len (drop s.start b)) g.1 ∙ span_stays (block_at old s.block) g.0 s.start s.len h.end in
     let size : length (block_at new s.block) ≡ length (block_at old s.block) + length g.0 = ap length g.1 ∙ length-append (block_at old s.block) g.0 in
-    (record { block = omega (arith, h.block, count); end = omega (arith, h.end, size) }, ap (with_octets s) octets)
+    (record { block = omega (arith, h.block, count); end = omega (arith, h.end, size); front = subst (IsFront s.front) (sym octets) h.front }, ap (with_octets s) octets)
 
 pub keeps_all : (blocks : List (List ℕ)) → Keeps blocks blocks
 keeps_all blocks s h = (h, refl)
@@ -94,14 +95,20 @@ keeps_appended vs k more w v h read is =
 
 -- ---- the span of octets that were appended
 
+shown_octets : (vs : List (Vec ℕ Global)) (block octets : List ℕ) (s : Span) → block_at (lists_of vs) s.block ≡ block ++ octets → s.start ≡ length block → s.len ≡ length octets
+    → take s.len (drop s.start (block_at (lists_of vs) s.block)) ≡ octets
+shown_octets vs block octets s is start len = rw (is, start, len) (ap (take (length octets)) (drop-append_seam block octets) ∙ take_all (length octets) octets (omega arith))
+
 pub pushed_within : (vs : List (Vec ℕ Global)) (block octets : List ℕ) (s : Span) → s.block < length vs → block_at (lists_of vs) s.block ≡ block ++ octets → s.start ≡ length block
-    → s.len ≡ length octets → IsWithin (lists_of vs) s
-pushed_within vs block octets s h is start len =
-    record { block = omega (arith, h, blocks_count vs); end = omega (arith, ap length is, length-append block octets, start, len) }
+    → s.len ≡ length octets → IsFront s.front octets → IsWithin (lists_of vs) s
+pushed_within vs block octets s h is start len front =
+    record {
+      block = omega (arith, h, blocks_count vs);
+      end = omega (arith, ap length is, length-append block octets, start, len);
+      front = subst (IsFront s.front) (sym (shown_octets vs block octets s is start len)) front;
+    }
 
 pub pushed_value : (vs : List (Vec ℕ Global)) (block octets : List ℕ) (s : Span) (e : Entry) → block_at (lists_of vs) s.block ≡ block ++ octets → s.start ≡ length block → s.len ≡ length octets
-    → e.instant ≡ s.instant → e.octets ≡ octets → entry_at (lists_of vs) s ≡ e
+    → instant_at s.rank ≡ e.instant → e.octets ≡ octets → entry_at (lists_of vs) s ≡ e
 pushed_value vs block octets s e is start len instant same =
-    let shown : take s.len (drop s.start (block_at (lists_of vs) s.block)) ≡ e.octets =
-    rw (is, start, len) (ap (take (length octets)) (drop-append_seam block octets) ∙ take_all (length octets) octets (omega arith)) ∙ sym same in
-    same_entry (entry_at (lists_of vs) s) e (sym instant) shown
+    same_entry (entry_at (lists_of vs) s) e instant (shown_octets vs block octets s is start len ∙ sym same)

@@ -6,9 +6,11 @@ use Rattle.std.proofs.lemmas.List.{drop_more, get_or_default, map-append, take_m
 use Rattle.archive_text.specs.Entries.{Entry, Has, IsAscending, IsBelow, IsOrder}
 use Rattle.archive_text.proofs.Ascending.{ascending_left, ascending_right}
 use Rattle.archive_text.proofs.Members.{all_append, all_left, all_right, all_weaker, has_left, has_right}
-use Rattle.archive_text.proofs.Orders.{below_transitive, equal_is_same, greater_is_above, less_is_below}
+use Rattle.archive_text.proofs.Orders.{below_transitive, by_octets, equal_is_same, greater_is_above, less_is_below}
 use Rattle.std.specs.Prelude.{Vec}
 use Rattle.std.specs.declared.alloc.Global.{Global}
+use Rattle.std.specs.Ordering.{MatchOrdering}
+use Rattle.syslog_value.specs.Order.{OctetsBelow}
 use Rattle.std.specs.declared.cmp.Ordering.{Ordering}
 use Rattle.std.specs.declared.cmp.Ordering.TheVariants.{Less, Equal, Greater}
 use Rattle.archive_pages.specs.Spans.{IsWithin, entries_at, entry_at, lists_of}
@@ -70,6 +72,13 @@ has_span blocks (x ∷ a) s b e h = inr (has_span blocks a s b e h)
 pub around : (p : List Span) (k : ℕ) (s : Span) → k < length p → s ≡ slice_index_or p k s → p ≡ take k p ++ s ∷ drop (k + 1) p
 around p k s h read =
     sym (take-append-drop k p) ∙ ap (λ (r : List Span). take k p ++ r) (drop_more p k s h) ∙ ap (λ (x : Span). take k p ++ x ∷ drop (k + 1) p) (sym read)
+
+-- the span that an index reads
+abbrev pub spare : Span
+spare = record { rank = 0; front = 0; block = 0; start = 0; len = 0 }
+
+pub read_at : (p : List Span) (k : ℕ) → k < length p → slice_index_or p k spare ≡ slice_index_or p k (slice_index_or p k spare)
+read_at p k h = get_or_default p k spare (slice_index_or p k spare) h
 
 pub below_index : (blocks : Blocks) (e : Entry) (p : List Span) (k : ℕ) (s : Span) → k < length p → s ≡ slice_index_or p k s → IsAscending (entries_at blocks p) → IsBelow (entry_at blocks s) e
     → AreBelow blocks e (take (k + 1) p)
@@ -209,6 +218,11 @@ order_same a x e o same h is = equal_is_same x e o (subst (λ (y : Entry). IsOrd
 
 pub order_above : (a x e : Entry) (o : Ordering) → a ≡ x → IsOrder o a e → o ≡ Greater → IsBelow e x
 order_above a x e o same h is = greater_is_above x e o (subst (λ (y : Entry). IsOrder o y e) same h) is
+
+-- entries of one instant are in the order of their octets
+pub order_of_octets : (x e : Entry) (o : Ordering) (xs : List ℕ) → x.instant ≡ e.instant → xs ≡ x.octets → MatchOrdering o (OctetsBelow xs e.octets) (xs ≡ e.octets) (OctetsBelow e.octets xs)
+    → IsOrder o x e
+order_of_octets x e o xs same is h = by_octets x e o same (subst (λ (ys : List ℕ). MatchOrdering o (OctetsBelow ys e.octets) (ys ≡ e.octets) (OctetsBelow e.octets ys)) is h)
 
 -- the span of an index is one
 pub one_span : (p : List Span) (n : ℕ) (x s : Span) → n < length p → x ≡ slice_index_or p n x → s ≡ slice_index_or p n s → x ≡ s

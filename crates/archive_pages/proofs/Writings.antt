@@ -1,5 +1,5 @@
 -- The text of entries is put piece by piece.
-use Rattle.std.proofs.Common.{◌≡◌, ℕ, ◌+◌, ◌*◌, ◌^◌, ◌<◌, ◌≤◌, List, [], ◌∷◌, ◌++◌, Option, length, take, drop, sym, ap, ◌∙◌, subst, arith, append-nil, append_assoc, take-append-drop, length-append}
+use Rattle.std.proofs.Common.{◌≡◌, ℕ, ◌+◌, ◌*◌, ◌^◌, ◌<◌, ◌≤◌, List, [], ◌∷◌, ◌++◌, Option, length, take, drop, refl, sym, ap, ◌∙◌, subst, arith, append-nil, append_assoc, take-append-drop, length-append}
 use Rattle.std.specs.Prelude.{decimal, slice_index_or, Vec}
 use Rattle.std.specs.declared.alloc.Global.{Global}
 use Rattle.std.specs.List.{AllByRecursion}
@@ -7,12 +7,14 @@ use Rattle.std.specs.Io.KnownBytes.{Appends}
 use Rattle.std.proofs.lemmas.Fmt.{length-decimal-le}
 use Rattle.std.proofs.lemmas.List.{map-append, take_more}
 use Rattle.std.proofs.lemmas.List.Concat.{flat_map-append}
+use Rattle.syslog_frame.specs.Frames.{framed}
+use Rattle.syslog_frame.specs.declared.framing.Framing.TheVariants.{Counted}
 use Rattle.held_output.specs.Held.{Carries, Held, StopsWithin}
 use Rattle.held_output.proofs.Carrying.{Carries-new, Stops-longer, StopsWithin-take}
 use Rattle.archive_text.specs.Entries.{Entry}
 use Rattle.archive_text.specs.Text.{entry_text, text_of}
 use Rattle.archive_text.specs.declared.limits.TheConstants.{ENTRY_MAX}
-use Rattle.archive_pages.specs.Spans.{IsWithin, entries_at, entry_at, lists_of}
+use Rattle.archive_pages.specs.Spans.{IsWithin, entries_at, entry_at, lists_of, octets_at}
 use Rattle.archive_pages.specs.Pages.{ArePaged, entries_of, joined, page_at}
 use Rattle.archive_pages.specs.Writing.{Puts, StopsPutting}
 use Rattle.archive_pages.specs.declared.arena.Span.{Span}
@@ -118,6 +120,12 @@ page_stops blocks p i s e a b c h k sent within read is before next =
     let all = stops_then a b c h k (text_of (entries_at blocks (take i p))) (entry_text (entry_at blocks s)) sent before (subst (λ (x : Entry). StopsPutting b c k (entry_text x) sent) is next) in
     let more = subst (λ (t : List ℕ). StopsPutting a c h t sent) (sym (text_more blocks p i s within read)) all in
     stops_longer a c h (text_of (entries_at blocks (take (i + 1) p))) (text_of (entries_at blocks (drop (i + 1) p))) (text_of (entries_at blocks p)) sent (text_parts blocks p (i + 1)) more
+
+-- the same of an entry of these octets
+pub page_stops_at : (blocks : List (List ℕ)) (p : List Span) (i : ℕ) (s : Span) (o : List ℕ) (a b c : Taken) (h k : Held) (sent : ℕ) → i < length p → s ≡ slice_index_or p i s → o ≡ octets_at blocks s
+    → Puts a b h k (text_of (entries_at blocks (take i p))) → StopsPutting b c k (framed Counted o) sent → StopsPutting a c h (text_of (entries_at blocks p)) sent
+page_stops_at blocks p i s o a b c h k sent within read is before next =
+    page_stops blocks p i s (entry_at blocks s) a b c h k sent within read refl before (subst (λ (q : List ℕ). StopsPutting b c k (framed Counted q) sent) is next)
 
 -- one page more of all
 pub pages_put : (blocks : List (List ℕ)) (vs : List (Vec Span Global)) (i : ℕ) (v : Vec Span Global) (p : List Span) (a b c : Taken) (h k l : Held) → i < length vs → v ≡ slice_index_or vs i v

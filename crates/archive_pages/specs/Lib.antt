@@ -1,3 +1,4 @@
+pub mod Fronts
 pub mod Spans
 pub mod Pages
 pub mod Places

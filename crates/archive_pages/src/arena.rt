@@ -2,20 +2,24 @@
 
 ghost use Rattle.std.specs.Prelude.{◌≡◌, ◌<◌, ◌≤◌, ◌+◌, ◌++◌, ◌^◌, ℕ, [], length, IfOk};
 ghost use Rattle.archive_text.specs.EntryViews.{entry_of};
+ghost use Rattle.archive_pages.specs.Fronts.{IsFront};
 ghost use Rattle.archive_pages.specs.Spans.{IsWithin, Keeps, block_at, blocks_of};
-ghost use Rattle.archive_pages.specs.Spans.{entry_at, lists_of, span_with};
+ghost use Rattle.archive_pages.specs.Spans.{entry_at, instant_at, lists_of, octets_at, span_with};
 
+use crate::front::front_of;
+use crate::rank::rank_of;
 use archive_text::{ENTRY_MAX, EntryView};
 use std::alloc::{AllocError, Global};
-use syslog_value::Instant;
 
 // the capacity of a block, which each entry fits
 const BLOCK: usize = 1_048_576;
 
-/// An entry: its instant, if it has one, and where its octets are in an arena.
+/// An entry: the rank of its instant, its first octets as a number, and where its octets are in an
+/// arena.
 #[derive(Clone, Copy, Debug)]
 pub struct Span {
-    pub instant: Option<Instant>,
+    pub rank: u64,
+    pub front: u32,
     pub block: u32,
     pub start: u32,
     pub len: u32,
@@ -31,10 +35,13 @@ pub struct Extent {
 
 /// The span of an entry whose octets are there.
 pub fn span_of(entry: &EntryView<'_>, extent: Extent) -> Span
-    ensures { result ≡ span_with entry.now.instant extent }
+    ensures span { result ≡ span_with result.rank result.front extent }
+    ensures instant { instant_at result.rank ≡ entry.now.instant }
+    ensures front { IsFront result.front entry.now.octets.now }
 {
     Span {
-        instant: entry.instant,
+        rank: rank_of(entry.instant),
+        front: front_of(entry.octets),
         block: extent.block,
         start: extent.start,
         len: extent.len,
@@ -97,26 +104,23 @@ impl Arena {
         }
     }
 
-    /// The entry of a span.
-    pub fn entry(&self, span: Span) -> EntryView<'_>
+    /// The octets of a span.
+    pub fn octets(&self, span: Span) -> &[u8]
         requires { IsWithin (blocks_of self.now) span }
-        ensures { entry_of result ≡ entry_at (blocks_of self.now) span }
+        ensures { result.now ≡ octets_at (blocks_of self.now) span }
     {
         let start = span.start as usize;
         let end = start + span.len as usize;
-        EntryView {
-            instant: span.instant,
-            octets: &self.blocks[span.block as usize][start..end],
-        }
+        &self.blocks[span.block as usize][start..end]
     }
 
     /// Copies the octets of an entry, and answers where they are. All entries stay where they are.
     pub fn push(&mut self, alloc: Global, entry: &EntryView<'_>) -> Result<Extent, AllocError>
         requires { length entry.now.octets.now ≤ ENTRY_MAX }
-        ensures within { IfOk result (λ x.
-            IsWithin (blocks_of self.new) (span_with entry.now.instant x)) }
-        ensures value { IfOk result (λ x.
-            entry_at (blocks_of self.new) (span_with entry.now.instant x) ≡ entry_of entry.now) }
+        ensures within { IfOk result (λ x. (rank front : ℕ) → IsFront front entry.now.octets.now →
+            IsWithin (blocks_of self.new) (span_with rank front x)) }
+        ensures value { IfOk result (λ x. (rank front : ℕ) → instant_at rank ≡ entry.now.instant →
+            entry_at (blocks_of self.new) (span_with rank front x) ≡ entry_of entry.now) }
         ensures keeps { Keeps (blocks_of self.old) (blocks_of self.new) }
     {
         let len = entry.octets.len();

@@ -3,9 +3,11 @@
 #![tactic(auto)]
 
 mod arena;
+mod front;
 mod index;
 mod page;
 mod paged;
+mod rank;
 mod search;
 mod writing;
 

@@ -12,7 +12,7 @@ ghost use Rattle.archive_pages.specs.declared.paged.TheConstants.{RECORDS_MAX};
 use crate::arena::{Arena, Span};
 use crate::index::{add_entry, holds_entry};
 use crate::writing::write_pages;
-use archive_text::{AddFault, Added, ENTRY_MAX, EntryView, Store, entry_of_octets};
+use archive_text::{AddFault, Added, ENTRY_MAX, EntryView, Store};
 use std::alloc::{AllocError, Global};
 use syslog_grammar::{RecordView, canon, put_canonical};
 use syslog_value::{Output, Record, WriteFault};
@@ -21,7 +21,11 @@ use syslog_value::{Output, Record, WriteFault};
 const RECORDS_MAX: usize = 1_099_511_627_776;
 
 /// A set of records in memory, made for millions of them. Its entries lie in pages of at most 256,
-/// in ascending order, under an index in order.
+/// in ascending order, under an index in order; their octets lie in blocks of 1 MiB.
+///
+/// An entry takes its canonical octets and some 24 to 48 more. One that is above all others is found
+/// so by one comparison, any other by some twenty. More than 2^40 records, or 2^32 blocks, are
+/// answered as out of memory.
 #[derive(Debug, Drop)]
 pub struct PagedArchive {
     arena: Arena,
@@ -115,16 +119,17 @@ impl Store for PagedArchive {
         if put_canonical(alloc, view, &mut self.scratch).is_err() {
             return Err(AddFault::Memory);
         }
-        match entry_of_octets(&self.scratch) {
-            Ok(entry) => add_counted(
-                alloc,
-                &mut self.arena,
-                &mut self.pages,
-                &mut self.count,
-                &entry,
-            ),
-            Err(_) => Err(AddFault::Memory),
-        }
+        let entry = EntryView {
+            instant: view.instant(),
+            octets: &self.scratch,
+        };
+        add_counted(
+            alloc,
+            &mut self.arena,
+            &mut self.pages,
+            &mut self.count,
+            &entry,
+        )
     }
 
     fn holds(&self, alloc: Global, record: &Record) -> Result<bool, AllocError> {

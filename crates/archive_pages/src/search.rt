@@ -11,7 +11,8 @@ ghost use Rattle.archive_pages.specs.Places.{BeginsAbove, BeginsUpTo, IsInsertio
 ghost use Rattle.archive_pages.specs.Places.{IsLastOrder, IsPage, IsPlace};
 
 use crate::arena::{Arena, Span};
-use archive_text::{EntryView, compare};
+use crate::front::compare_span;
+use archive_text::EntryView;
 use std::cmp::Ordering;
 
 // Where an entry goes in a page: before the span of this index. None where it is held.
@@ -24,7 +25,7 @@ fn search_page(arena: &Arena, page: &[Span], entry: &EntryView<'_>) -> Option<us
     let mut high = page.len();
     while low < high {
         let middle = low + (high - low) / 2;
-        match compare(&arena.entry(page[middle]), entry) {
+        match compare_span(arena, page[middle], entry) {
             Ordering::Less => low = middle + 1,
             Ordering::Equal => return None,
             Ordering::Greater => high = middle,
@@ -41,7 +42,7 @@ fn begins_above(arena: &Arena, page: &[Span], entry: &EntryView<'_>) -> bool
         (BeginsAbove (blocks_of arena.now) page.now (entry_of entry.now))
         (BeginsUpTo (blocks_of arena.now) page.now (entry_of entry.now)) }
 {
-    compare(&arena.entry(page[0]), entry) == Ordering::Greater
+    compare_span(arena, page[0], entry) == Ordering::Greater
 }
 
 // How the last entry of a page compares with an entry.
@@ -51,7 +52,7 @@ fn compare_last(arena: &Arena, page: &[Span], entry: &EntryView<'_>) -> Ordering
     ensures { IsLastOrder (blocks_of arena.now) page.now (entry_of entry.now) result }
 {
     let last = page.len() - 1;
-    compare(&arena.entry(page[last]), entry)
+    compare_span(arena, page[last], entry)
 }
 
 // The page for an entry: all entries of earlier pages are below it, all of later ones above it.

@@ -3,36 +3,36 @@
 ghost use Rattle.std.specs.Prelude.{◌≡◌, ◌<◌, ◌^◌, length, take, IfErr, OnErr, OnOk};
 ghost use Rattle.std.specs.Io.KnownBytes.{Appends};
 ghost use Rattle.std.specs.List.{AllByRecursion};
-ghost use Rattle.archive_text.specs.EntryViews.{entry_of};
-ghost use Rattle.archive_text.specs.Text.{entry_text, text_of};
+ghost use Rattle.syslog_frame.specs.Frames.{framed};
+ghost use Rattle.syslog_frame.specs.declared.framing.Framing.TheVariants.{Counted};
+ghost use Rattle.archive_text.specs.Text.{text_of};
 ghost use Rattle.archive_pages.specs.Pages.{LieWithin, pages_text};
 ghost use Rattle.archive_pages.specs.Spans.{IsWithin, blocks_of, entries_at, lists_of};
 ghost use Rattle.archive_pages.specs.Writing.{Puts, StopsPutting};
 
 use crate::arena::{Arena, Span};
-use archive_text::EntryView;
 use held_output::HeldOutput;
 use itoa::Buffer;
 use syslog_value::{Output, WriteFault};
 
-// Puts the text of an entry: its length, a space and its octets.
+// Puts the text of an entry of these octets: their length, a space and the octets.
 fn put_entry<W: Output>(
     held: &mut HeldOutput,
     writer: &mut W,
-    entry: &EntryView<'_>,
+    octets: &[u8],
 ) -> Result<(), WriteFault>
     ensures ok { OnOk result (Puts (W.taken writer.old) (W.taken writer.new) held.old held.new
-        (entry_text (entry_of entry.now))) }
+        (framed Counted octets.now)) }
     ensures no_failure { OnOk result (W.failures writer.new ≡ W.failures writer.old) }
     ensures err { IfErr result (λ fault. StopsPutting (W.taken writer.old) (W.taken writer.new)
-        held.old (entry_text (entry_of entry.now)) fault.sent) }
+        held.old (framed Counted octets.now) fault.sent) }
     ensures cause { W.failures writer.old < 2 ^ 63 →
         OnErr result (W.failures writer.old < W.failures writer.new) }
 {
     let mut buffer = Buffer::new();
-    held.put(writer, buffer.format(entry.octets.len()).as_bytes())?;
+    held.put(writer, buffer.format(octets.len()).as_bytes())?;
     held.put(writer, b" ")?;
-    held.put(writer, entry.octets)
+    held.put(writer, octets)
 }
 
 // Puts the text of a page's entries.
@@ -52,7 +52,7 @@ fn put_page<W: Output>(
         OnErr result (W.failures writer.old < W.failures writer.new) }
 {
     for span in page {
-        put_entry(held, writer, &arena.entry(*span))?;
+        put_entry(held, writer, arena.octets(*span))?;
     }
     Ok(())
 }

@@ -7,3 +7,4 @@ pub mod Prefixes
 pub mod FaultLaws
 pub mod Places
 pub mod Sets
+pub mod Shown

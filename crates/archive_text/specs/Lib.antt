@@ -4,3 +4,4 @@ pub mod Text
 pub mod Faults
 pub mod Stores
 pub mod Sets
+pub mod Positions

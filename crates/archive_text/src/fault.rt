@@ -1,5 +1,8 @@
 //! Why a text is no archive.
 
+ghost use Rattle.std.specs.Prelude.{◌≡◌, ◌+◌, ◌-◌, ◌^◌, ◌<◌, ◌≤◌};
+ghost use Rattle.archive_text.specs.Positions.{later, position_of};
+
 use syslog_grammar::Fault;
 use thiserror::Error;
 
@@ -33,4 +36,33 @@ pub enum ArchiveFault {
     /// The entry is not above the one before it.
     #[error("not ascending at {at}")]
     NotAscending { at: u64 },
+}
+
+impl ArchiveFault {
+    /// The same fault in a text with so many octets before this one. A position that would pass
+    /// `u64::MAX` stays there.
+    pub fn later(self, octets: u64) -> ArchiveFault
+        ensures fits { octets + position_of self < 2 ^ 64 → result ≡ later octets self }
+        ensures passes { 2 ^ 64 ≤ octets + position_of self
+            → result ≡ later (2 ^ 64 - 1 - position_of self) self }
+    {
+        match self {
+            ArchiveFault::BadFrame { at } => ArchiveFault::BadFrame {
+                at: at.saturating_add(octets),
+            },
+            ArchiveFault::EntryTooLong { at } => ArchiveFault::EntryTooLong {
+                at: at.saturating_add(octets),
+            },
+            ArchiveFault::BadEntry { at, fault } => ArchiveFault::BadEntry {
+                at: at.saturating_add(octets),
+                fault,
+            },
+            ArchiveFault::NotCanonical { at } => ArchiveFault::NotCanonical {
+                at: at.saturating_add(octets),
+            },
+            ArchiveFault::NotAscending { at } => ArchiveFault::NotAscending {
+                at: at.saturating_add(octets),
+            },
+        }
+    }
 }

@@ -6,10 +6,6 @@ use Rattle.std.proofs.lemmas.Bool.{false≢true}
 use Rattle.syslog_value.specs.Parts.{IsRecord, Parts}
 use Rattle.std.specs.Prelude.{ℤ}
 use Rattle.syslog_grammar.specs.Canonical.{Canonical}
-use Rattle.syslog_grammar.specs.WellFormed.{AddsCanonical, WellFormed}
-use Rattle.syslog_grammar.proofs.CanonicalParses.{canonical_injective}
-use Rattle.syslog_grammar.proofs.Valid.{well_formed_valid}
-use Rattle.syslog_grammar.proofs.Laws.{one_meaning}
 use Rattle.archive_text.specs.Entries.{Entry, Has, IsEntry, IsEntryOf}
 use Rattle.archive_text.specs.Stores.{AddsEntry, AddsRecord}
 use Rattle.archive_text.specs.declared.store.Added.{Added}
@@ -54,36 +50,3 @@ found_for_each es r e f (Ok i) held h found is k = (λ _. subst (Has es) (one_en
 found_for_each es r e f (Err i) held h found is k =
     let none : ¬ (IsTrue held) = λ (t : IsTrue held). false≢true (sym is ∙ t) in
     (λ t. absurd (none t), λ has. absurd (gap_lacks es e i found (subst (Has es) (sym (one_entry_of r e f h k)) has)))
-
--- octets that were put for a view are the record's, so its entry is that of the record
-pub entry_of_view : (b scratch : List ℕ) (e : Entry) → AddsCanonical b [] scratch → IsEntry e → e.octets ≡ scratch
-    → (r : Parts ℤ) × WellFormed r b × IsEntryOf r e
-entry_of_view b scratch e (r, wf, (text, canonical, is)) (q, entry) same =
-    let one : r ≡ q = (canonical_injective r q text e.octets (well_formed_valid r b wf) entry.valid canonical entry.canonical).1 (sym (same ∙ is)) in
-    (r, wf, subst (λ (p : Parts ℤ). IsEntryOf p e) (sym one) entry)
-
--- a result that is no error
-on_ok_at : {A E : Type 0} (r : Result A E) (P : Type 0) → is_err r ≡ false → OnOk r P → P
-on_ok_at (Ok _) P e h = h
-on_ok_at (Err _) P e h = absurd (cc)
-
--- what was put for a view, into an empty scratch
-pub put_for_view : {A E : Type 0} (r : Result A E) (V : List ℕ → Type 0) (before scratch : List ℕ) → is_err r ≡ false → before ≡ []
-    → ((b : List ℕ) → V b → OnOk r (AddsCanonical b before scratch)) → (b : List ℕ) → V b → AddsCanonical b [] scratch
-put_for_view r V before scratch ok none put b v = subst (λ (l : List ℕ). AddsCanonical b l scratch) none (on_ok_at r (AddsCanonical b before scratch) ok (put b v))
-
-pub view_added : {E : Type 0} (result : Result Added E) (V : List ℕ → Type 0) (scratch : List ℕ) (e : Entry) (mid old new : List Entry)
-    → ((b : List ℕ) → V b → AddsCanonical b [] scratch) → IsEntry e → e.octets ≡ scratch → mid ≡ old
-    → IfOk result (λ added. AddsEntry e mid new added)
-    → IfOk result (λ added. (b : List ℕ) → V b → (x : Parts ℤ) × WellFormed x b × AddsRecord x old new added)
-view_added (Ok added) V scratch e mid old new put entry same is adds =
-    λ b v.
-    let found = entry_of_view b scratch e (put b v) entry same in
-    (found.0, found.1, (e, found.2, subst (λ (l : List Entry). AddsEntry e l new added) is adds))
-view_added (Err fault) V scratch e mid old new put entry same is adds = tt
-
-pub view_long : (most : ℕ) (b scratch : List ℕ) (r : Parts ℤ) (e f : Entry) → AddsCanonical b [] scratch → IsEntry e → e.octets ≡ scratch
-    → most < length e.octets → WellFormed r b → IsEntryOf r f → most < length f.octets
-view_long most b scratch r e f put entry same long wf k =
-    let found = entry_of_view b scratch e put entry same in
-    long_for_each most found.0 e f found.2 long (subst (λ (p : Parts ℤ). IsEntryOf p f) (one_meaning r found.0 b wf found.1) k)

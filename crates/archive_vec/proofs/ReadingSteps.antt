@@ -3,13 +3,14 @@ use Rattle.std.proofs.Common.{arith, ◌≡◌, ℕ, ◌+◌, ◌<◌, ◌≤◌
 use Rattle.std.specs.List.{AllByRecursion}
 use Rattle.archive_text.specs.Entries.{Entry, IsBelow}
 use Rattle.archive_text.specs.Faults.{IsFaultBefore, IsFaultBehind}
+use Rattle.archive_text.specs.Positions.{later, position_of}
 use Rattle.archive_text.specs.Text.{BeginsWithEntry, IsArchive, text_of}
 use Rattle.archive_text.specs.declared.fault.ArchiveFault.{ArchiveFault}
 use Rattle.archive_text.specs.declared.fault.ArchiveFault.TheVariants.{BadFrame, EntryTooLong, BadEntry, NotCanonical, NotAscending}
 use Rattle.archive_text.specs.declared.limits.TheConstants.{ENTRY_MAX}
 use Rattle.archive_text.proofs.Ascending.{below_last}
 use Rattle.archive_text.proofs.Prefixes.{archive_fault}
-use Rattle.archive_vec.specs.Reads.{IsFaultOn, IsReadFault, position_of, shift}
+use Rattle.archive_vec.specs.Reads.{IsFaultOn, IsReadFault}
 use Rattle.archive_vec.specs.declared.reading.ReadFault.{ReadFault}
 use Rattle.archive_vec.specs.declared.reading.ReadFault.TheVariants.{Bad, Memory}
 
@@ -24,7 +25,7 @@ position_within most rest (NotAscending at) h = absurd h
 
 -- counted from the start of the text of the entries before it
 pub fault_behind : (most n : ℕ) (es : List Entry) (rest : List ℕ) (fault : ArchiveFault) → n ≡ length (text_of es) → IsFaultBefore most rest fault
-    → IsFaultBehind most es rest (shift n fault)
+    → IsFaultBehind most es rest (later n fault)
 fault_behind most n es rest (BadFrame at) start h = (at, h, ap (λ (m : ℕ). m + at) start)
 fault_behind most n es rest (EntryTooLong at) start (is, h) = (omega (arith, is, start), h)
 fault_behind most n es rest (BadEntry at fault) start (is, h) = (omega (arith, is, start), (refl, h))

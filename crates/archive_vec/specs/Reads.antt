@@ -1,28 +1,10 @@
 -- What reading an archive answers.
-use Rattle.std.specs.Prelude.{ℕ, ◌+◌, List, ⊤}
+use Rattle.std.specs.Prelude.{ℕ, List, ⊤}
 use Rattle.archive_text.specs.Entries.{Entry}
 use Rattle.archive_text.specs.Faults.{IsArchiveFault, IsFaultBehind}
-use Rattle.archive_text.specs.declared.fault.ArchiveFault.{ArchiveFault}
-use Rattle.archive_text.specs.declared.fault.ArchiveFault.TheVariants.{BadFrame, EntryTooLong, BadEntry, NotCanonical, NotAscending}
 use Rattle.archive_text.specs.declared.limits.TheConstants.{ENTRY_MAX}
 use Rattle.archive_vec.specs.declared.reading.ReadFault.{ReadFault}
 use Rattle.archive_vec.specs.declared.reading.ReadFault.TheVariants.{Bad, Memory}
-
--- a fault, with its position counted from so many octets before
-abbrev pub shift : ℕ → ArchiveFault → ArchiveFault
-shift n (BadFrame at) = BadFrame (n + at)
-shift n (EntryTooLong at) = EntryTooLong (n + at)
-shift n (BadEntry at fault) = BadEntry (n + at) fault
-shift n (NotCanonical at) = NotCanonical (n + at)
-shift n (NotAscending at) = NotAscending (n + at)
-
--- where a fault is
-abbrev pub position_of : ArchiveFault → ℕ
-position_of (BadFrame at) = at
-position_of (EntryTooLong at) = at
-position_of (BadEntry at fault) = at
-position_of (NotCanonical at) = at
-position_of (NotAscending at) = at
 
 -- a text goes on behind these entries with no further one, for this fault; or a growth was refused
 abbrev pub IsFaultOn : List Entry → List ℕ → ReadFault → Type 0

@@ -3,7 +3,7 @@
 ghost use Rattle.std.specs.Prelude.{◌≡◌, ◌+◌, ◌<◌, ◌^◌, ◌++◌, ◌∷◌, [], length, IfErr, IfOk};
 ghost use Rattle.archive_text.specs.Entries.{Entry};
 ghost use Rattle.archive_text.specs.Text.{entry_text, text_of};
-ghost use Rattle.archive_vec.specs.Reads.{IsFaultOn, IsReadFault, position_of, shift};
+ghost use Rattle.archive_vec.specs.Reads.{IsFaultOn, IsReadFault};
 
 use crate::entry_list::EntryList;
 use archive_text::{ArchiveFault, ENTRY_MAX, read_entry};
@@ -21,23 +21,6 @@ pub enum ReadFault {
     Memory,
 }
 
-// A fault, with its position counted from so many octets before.
-fn shifted(fault: ArchiveFault, offset: u64) -> ArchiveFault
-    requires { offset + position_of fault < 2 ^ 64 }
-    ensures { result ≡ shift offset fault }
-{
-    match fault {
-        ArchiveFault::BadFrame { at } => ArchiveFault::BadFrame { at: offset + at },
-        ArchiveFault::EntryTooLong { at } => ArchiveFault::EntryTooLong { at: offset + at },
-        ArchiveFault::BadEntry { at, fault } => ArchiveFault::BadEntry {
-            at: offset + at,
-            fault,
-        },
-        ArchiveFault::NotCanonical { at } => ArchiveFault::NotCanonical { at: offset + at },
-        ArchiveFault::NotAscending { at } => ArchiveFault::NotAscending { at: offset + at },
-    }
-}
-
 impl EntryList {
     // Puts the entry that a text begins with behind the others, and gives what follows it. The
     // text of the others has `offset` octets.
@@ -50,7 +33,7 @@ impl EntryList {
     {
         let (entry, rest) = match read_entry(ENTRY_MAX as u64, text) {
             Ok(read) => read,
-            Err(fault) => return Err(ReadFault::Bad(shifted(fault, offset))),
+            Err(fault) => return Err(ReadFault::Bad(fault.later(offset))),
         };
         if !self.is_below(&entry) {
             return Err(ReadFault::Bad(ArchiveFault::NotAscending { at: offset }));

@@ -15,7 +15,7 @@ ghost use Rattle.archive_vec.specs.Reads.{IsReadFault};
 
 use crate::entry_list::EntryList;
 use crate::reading::ReadFault;
-use archive_text::{AddFault, Added, ENTRY_MAX, EntryView, entry_of_octets};
+use archive_text::{AddFault, Added, ENTRY_MAX, EntryView};
 use std::alloc::{AllocError, Global};
 use syslog_grammar::{RecordView, canon, put_canonical};
 use syslog_value::{Output, Record, WriteFault};
@@ -84,11 +84,10 @@ impl VecArchive {
         if put_canonical(alloc, view, &mut self.scratch).is_err() {
             return Err(AddFault::Memory);
         }
-        // of a view of octets they are an entry
-        let Ok(entry) = entry_of_octets(self.scratch.as_slice()) else {
-            return Err(AddFault::Memory);
-        };
-        self.list.add(&entry)
+        self.list.add(&EntryView {
+            instant: view.instant(),
+            octets: self.scratch.as_slice(),
+        })
     }
 
     /// Whether a record is held.

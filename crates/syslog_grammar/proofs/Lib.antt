@@ -42,3 +42,5 @@ pub mod DataForms
 pub mod TimeForms
 pub mod CanonicalForms
 pub mod Rewritten
+pub mod Props
+pub mod ShownRecords

@@ -13,9 +13,10 @@ use Rattle.syslog_grammar.specs.Dates.{time_of}
 use Rattle.syslog_grammar.specs.Faults.{IsInRange, PrefixEnds, FaultOf}
 use Rattle.syslog_grammar.specs.Fields.{header_parts, words_of, TimeStands}
 use Rattle.syslog_grammar.specs.Grammar.{HeaderParts, Header, Nilable, Spaced, Priority, Version, StructuredDataText, SyslogMsg, MessagePart}
-use Rattle.syslog_grammar.specs.Ids.{HoldsRepeated}
+use Rattle.syslog_grammar.specs.Ids.{HoldsDistinct, HoldsRepeated}
 use Rattle.syslog_grammar.specs.Instants.{IsOutOfRange}
 use Rattle.syslog_grammar.specs.Parsing.{IsParsed}
+use Rattle.syslog_grammar.specs.ShownParts.{ViewParts, IsViewOf}
 use Rattle.syslog_grammar.specs.Time.{CivilTime, TimeText, FractionText, ZoneText, instant}
 use Rattle.syslog_grammar.specs.Views.{message_parts}
 use Rattle.syslog_grammar.specs.declared.syntax.Parsed.{Parsed}
@@ -117,3 +118,29 @@ some_same z x e = cc
 pub valid_micros : (m : Option ℤ) → IfSome m IsInstant → ForSome m IsInstant
 valid_micros None h = λ x e. absurd cc
 valid_micros (Some z) h = λ x e. subst IsInstant (some_same z x e) h
+
+-- what is shown of a spelling
+abbrev pub shown_parts : Parsed → Option ℤ → ViewParts
+shown_parts s m =
+    let h = header_parts s.fields in
+    record { priority = h.priority; instant = m; hostname = h.hostname; app_name = h.app_name; proc_id = h.proc_id; msg_id = h.msg_id; elements = s.«structured_data».now; message = message_parts s.message; behind_time = s.fields.behind_time.now }
+
+pub view_of : (b : List ℕ) (s : Parsed) (m : Option ℤ) → IsParsed b s → m ≡ option_map (λ t. instant (time_of t)) s.fields.time → IfSome m IsInstant
+    → HoldsDistinct s.«structured_data».now → IsViewOf b (shown_parts s m)
+view_of b s m k e h (es, d, distinct) = (
+  parts_of s es,
+  parsed_by b s es k d,
+  in_range s es m e h,
+  distinct,
+  record {
+    priority = refl;
+    instant = view_instant s es m e;
+    hostname = refl;
+    app_name = refl;
+    proc_id = refl;
+    msg_id = refl;
+    elements = d;
+    message = refl;
+    behind_time = behind_time s k;
+  },
+)

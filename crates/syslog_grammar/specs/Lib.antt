@@ -11,12 +11,14 @@ pub mod Faults
 pub mod Parsing
 pub mod Ids
 pub mod ElementOrders
+pub mod ShownParts
 pub mod ViewParts
 pub mod Lanes
 pub mod Verbatim
 pub mod PartsLeft
 pub mod Instants
 pub mod WellFormed
+pub mod ShownRecords
 pub mod Canonical
 pub mod Appending
 pub mod Escapes

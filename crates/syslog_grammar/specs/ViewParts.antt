@@ -1,24 +1,9 @@
 -- What a view of a record shows.
-use Rattle.std.specs.Prelude.{◌≡◌, ℕ, ℤ, List, Option, option_map, ⊤}
-use Rattle.octet_language.specs.Language.{Language, Only, ◌⋅◌}
-use Rattle.syslog_value.specs.Parts.{Parts, MessageParts, AnyOctets, Utf8Text}
-use Rattle.syslog_grammar.specs.Faults.{IsInRange, AreDistinct}
-use Rattle.syslog_grammar.specs.Grammar.{StructuredDataText, SyslogMsg, MessagePart, WordFields}
-use Rattle.syslog_grammar.specs.Time.{CivilTime, instant}
+use Rattle.std.specs.Prelude.{ℕ, List, option_map, ⊤}
+use Rattle.syslog_value.specs.Parts.{MessageParts, AnyOctets, Utf8Text}
 use Rattle.syslog_grammar.specs.Views.{message_parts}
 use Rattle.syslog_grammar.specs.declared.record_view.RecordView.{RecordView}
-
--- the parts of a record with the text of its structured data
-pub record ViewParts : Type 0 where
-  pub priority : ℕ
-  pub instant : Option ℤ
-  pub hostname : Option (List ℕ)
-  pub app_name : Option (List ℕ)
-  pub proc_id : Option (List ℕ)
-  pub msg_id : Option (List ℕ)
-  pub elements : List ℕ
-  pub message : MessageParts
-  pub behind_time : List ℕ
+pub use Rattle.syslog_grammar.specs.ShownParts.{ViewParts, BehindTime, HasParts, IsViewOf}
 
 -- what a view shows
 abbrev pub view_parts : RecordView → ViewParts
@@ -33,26 +18,6 @@ view_parts v = record {
   message = message_parts v.message;
   behind_time = v.behind_time.now;
 }
-
--- what follows the timestamp and its space: the words, the structured data and the tail
-abbrev pub BehindTime : ViewParts → Language
-BehindTime s = WordFields s.hostname s.app_name s.proc_id s.msg_id ⋅ Only s.elements ⋅ MessagePart s.message
-
--- the parts that are shown are those that the octets spell
-pub record HasParts (p : Parts CivilTime) (s : ViewParts) : Type 0 where
-  pub priority : s.priority ≡ p.priority
-  pub instant : s.instant ≡ option_map instant p.time
-  pub hostname : s.hostname ≡ p.hostname
-  pub app_name : s.app_name ≡ p.app_name
-  pub proc_id : s.proc_id ≡ p.proc_id
-  pub msg_id : s.msg_id ≡ p.msg_id
-  pub elements : StructuredDataText p.elements s.elements
-  pub message : s.message ≡ p.message
-  pub behind_time : BehindTime s s.behind_time
-
--- the octets spell a record, with an instant in range and distinct ids, and this is shown of it
-abbrev pub IsViewOf : List ℕ → ViewParts → Type 0
-IsViewOf b s = (p : Parts CivilTime) × SyslogMsg p b × IsInRange p × AreDistinct p.elements × HasParts p s
 
 -- the octets of a message, without the BOM
 abbrev pub octets_of : MessageParts → List ℕ

@@ -5,6 +5,7 @@ ghost use Rattle.syslog_grammar.specs.Appending.{Adds, Anything, Puts};
 ghost use Rattle.syslog_grammar.specs.Verbatim.{HasOneMessageForm, VerbatimForm};
 ghost use Rattle.syslog_grammar.specs.Reescaped.{IsUnordered};
 ghost use Rattle.syslog_grammar.specs.ViewParts.{IsViewOf, view_parts};
+ghost use Rattle.syslog_grammar.specs.ShownRecords.{AddsShown};
 ghost use Rattle.syslog_grammar.specs.Views.{message_parts};
 ghost use Rattle.syslog_grammar.specs.WellFormed.{AddsCanonical};
 
@@ -116,6 +117,7 @@ pub fn put_canonical(
 ) -> Result<(), AllocError>
     ensures ok { (b : List ℕ) → IsViewOf b (view_parts view.now)
         → OnOk result (AddsCanonical b out.old.items out.new.items) }
+    ensures shown { OnOk result (AddsShown (view_parts view.now) out.old.items out.new.items) }
     ensures err { OnErr result (out.new.items ≡ out.old.items) }
 {
     let start = out.len();

@@ -1,8 +1,10 @@
 //! A record as it lies in its octets.
 
-ghost use Rattle.std.specs.Prelude.{◌≤◌};
+ghost use Rattle.std.specs.Prelude.{◌≤◌, option_map};
 ghost use Rattle.std.specs.Option.{ForSome};
 ghost use Rattle.syslog_value.specs.Parts.{IsInstant};
+ghost use Rattle.syslog_grammar.specs.ShownParts.{IsSpelled};
+ghost use Rattle.syslog_grammar.specs.Views.{message_parts};
 
 use crate::message::MessageView;
 use crate::parts::Elements;
@@ -23,10 +25,21 @@ pub struct RecordView<'a> {
     pub(crate) behind_time: &'a [u8],
     ghost priority_valid: { priority ≤ 191 },
     ghost micros_valid: { ForSome micros IsInstant },
+    pub ghost shown: { ∥ IsSpelled (record {
+      priority = priority;
+      instant = micros;
+      hostname = option_map (λ s. s.now) hostname;
+      app_name = option_map (λ s. s.now) app_name;
+      proc_id = option_map (λ s. s.now) proc_id;
+      msg_id = option_map (λ s. s.now) msg_id;
+      elements = structured_data.now;
+      message = message_parts message;
+      behind_time = behind_time.now;
+    }) ∥₁ },
 }
 
 impl<'a> RecordView<'a> {
-    ghost use Rattle.std.specs.Prelude.{◌≡◌, ◌↔◌, List, IsTrue, option_map};
+    ghost use Rattle.std.specs.Prelude.{◌≡◌, ◌↔◌, List, IsTrue};
     ghost use Rattle.octet_language.specs.Language.{Each};
     ghost use Rattle.syslog_value.specs.Parts.{ElementParts};
     ghost use Rattle.syslog_grammar.specs.Grammar.{StructuredDataText, Element};

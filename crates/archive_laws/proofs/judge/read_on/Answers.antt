@@ -1,15 +1,17 @@
-use Rattle.std.proofs.Common.{◌-◌, ◌∙◌, length, refl, sym, arith}
+use Rattle.std.proofs.Common.{◌+◌, ◌-◌, ◌<◌, ◌^◌, ◌∙◌, length, refl, sym, arith}
 use Rattle.std.proofs.lemmas.Bool.{false≢true}
 use Rattle.archive_text.specs.EntryViews.{entry_of}
+use Rattle.archive_text.specs.Positions.{position_of}
 use Rattle.archive_text.specs.declared.limits.TheConstants.{ENTRY_MAX}
-use Rattle.archive_laws.proofs.Judged.{read_fault, read_more, read_not_above}
+use Rattle.archive_laws.proofs.Judged.{position_within, read_fault, read_more, read_not_above}
 use Rattle.archive_laws.proofs.judge.read_on.Goals as goal
 
 pub returns-in-Err-clause-read : goal.returns-in-Err-clause-read
 returns-in-Err-clause-read c =
     let text = c.args.text.now in
     let rest = c.args.rest.now in
-    rw c.moved.ensures (read_fault ENTRY_MAX (length text - length rest) text rest c.args.last.now c.in-Err.fault (omega arith) refl c.requires.some c.requires.read c.in-Err.ensures)
+    let fits : length text - length rest + position_of c.in-Err.fault < 2 ^ 64 = omega (arith, position_within ENTRY_MAX rest c.in-Err.fault c.in-Err.ensures) in
+    rw (c.later.ensures.fits fits) (read_fault ENTRY_MAX (length text - length rest) text rest c.args.last.now c.in-Err.fault (omega arith) refl c.requires.some c.requires.read c.in-Err.ensures)
 
 pub returns-then-not-goes_on-clause-read : goal.returns-then-not-goes_on-clause-read
 returns-then-not-goes_on-clause-read c =

@@ -25,8 +25,8 @@ returns-clause-paged c =
     let more = lists_of c.insert_span.new.pages.items in
     let e = entry_of c.args.entry.now in
     let s = c.span_of-span.result in
-    let within = subst (IsWithin new) (sym c.span_of-span.ensures) c.in_ok-extent.ensures.within in
-    let value = ap (entry_at new) c.span_of-span.ensures ∙ c.in_ok-extent.ensures.value in
+    let within = subst (IsWithin new) (sym c.span_of-span.ensures.span) (c.in_ok-extent.ensures.within s.rank s.front c.span_of-span.ensures.front) in
+    let value = ap (entry_at new) c.span_of-span.ensures.span ∙ c.in_ok-extent.ensures.value s.rank s.front c.span_of-span.ensures.instant in
     either_way c.insert_span.result c.insert_span.ensures.ok c.insert_span.ensures.err
     (λ joins. paged_more old new pages more s e c.requires.paged c.requires.entry c.requires.fits (gains_at old new pages more s e c.args.page c.args.index c.requires.place joins c.insert_span.ensures.sizes c.in_ok-extent.ensures.keeps within value))
     (λ same. paged_same old new pages more c.requires.paged c.in_ok-extent.ensures.keeps same)
@@ -39,8 +39,8 @@ returns-clause-ok c =
     let more = lists_of c.insert_span.new.pages.items in
     let e = entry_of c.args.entry.now in
     let s = c.span_of-span.result in
-    let within = subst (IsWithin new) (sym c.span_of-span.ensures) c.in_ok-extent.ensures.within in
-    let value = ap (entry_at new) c.span_of-span.ensures ∙ c.in_ok-extent.ensures.value in
+    let within = subst (IsWithin new) (sym c.span_of-span.ensures.span) (c.in_ok-extent.ensures.within s.rank s.front c.span_of-span.ensures.front) in
+    let value = ap (entry_at new) c.span_of-span.ensures.span ∙ c.in_ok-extent.ensures.value s.rank s.front c.span_of-span.ensures.instant in
     on_ok_weaker c.insert_span.result (λ joins. adds_more old new pages more s e c.requires.paged (gains_at old new pages more s e c.args.page c.args.index c.requires.place joins c.insert_span.ensures.sizes c.in_ok-extent.ensures.keeps within value)) c.insert_span.ensures.ok
 
 pub returns-clause-err : goal.returns-clause-err

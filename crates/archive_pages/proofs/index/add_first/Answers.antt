@@ -22,8 +22,8 @@ returns-clause-paged c =
     let more = lists_of c.push_first.new.pages.items in
     let e = entry_of c.args.entry.now in
     let s = c.span_of-span.result in
-    let within = subst (IsWithin new) (sym c.span_of-span.ensures) c.in_ok-extent.ensures.within in
-    let value = ap (entry_at new) c.span_of-span.ensures ∙ c.in_ok-extent.ensures.value in
+    let within = subst (IsWithin new) (sym c.span_of-span.ensures.span) (c.in_ok-extent.ensures.within s.rank s.front c.span_of-span.ensures.front) in
+    let value = ap (entry_at new) c.span_of-span.ensures.span ∙ c.in_ok-extent.ensures.value s.rank s.front c.span_of-span.ensures.instant in
     either_way c.push_first.result c.push_first.ensures.ok c.push_first.ensures.err
     (λ joins. paged_more old new pages more s e c.requires.paged c.requires.entry c.requires.fits (gains_first old new pages more s e (ap (λ vs. lists_of vs) c.requires.none) joins c.in_ok-extent.ensures.keeps within value))
     (λ same. paged_same old new pages more c.requires.paged c.in_ok-extent.ensures.keeps (ap (λ vs. lists_of vs) (same ∙ sym c.requires.none)))
@@ -36,8 +36,8 @@ returns-clause-ok c =
     let more = lists_of c.push_first.new.pages.items in
     let e = entry_of c.args.entry.now in
     let s = c.span_of-span.result in
-    let within = subst (IsWithin new) (sym c.span_of-span.ensures) c.in_ok-extent.ensures.within in
-    let value = ap (entry_at new) c.span_of-span.ensures ∙ c.in_ok-extent.ensures.value in
+    let within = subst (IsWithin new) (sym c.span_of-span.ensures.span) (c.in_ok-extent.ensures.within s.rank s.front c.span_of-span.ensures.front) in
+    let value = ap (entry_at new) c.span_of-span.ensures.span ∙ c.in_ok-extent.ensures.value s.rank s.front c.span_of-span.ensures.instant in
     on_ok_weaker c.push_first.result (λ joins. adds_more old new pages more s e c.requires.paged (gains_first old new pages more s e (ap (λ vs. lists_of vs) c.requires.none) joins c.in_ok-extent.ensures.keeps within value)) c.push_first.ensures.ok
 
 pub returns-clause-err : goal.returns-clause-err

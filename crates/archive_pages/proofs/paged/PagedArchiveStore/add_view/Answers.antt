@@ -1,25 +1,21 @@
-use Rattle.std.proofs.Common.{◌<◌, ◌∙◌, length, List, ℕ, [], subst, sym}
+use Rattle.std.proofs.Common.{◌∙◌, sym}
 use Rattle.std.proofs.lemmas.Result.{IfOk-weaker}
-use Rattle.syslog_grammar.specs.WellFormed.{AddsCanonical}
-use Rattle.archive_text.specs.EntryViews.{entry_of}
+use Rattle.syslog_grammar.specs.ViewParts.{view_parts}
 use Rattle.archive_text.specs.declared.limits.TheConstants.{ENTRY_MAX}
-use Rattle.archive_pages.proofs.Records.{ok_value, shown_added, shown_long}
+use Rattle.archive_text.proofs.Shown.{shown_added, shown_alone, shown_entry, shown_long}
 use Rattle.archive_pages.proofs.paged.PagedArchiveStore.add_view.Goals as goal
 
-pub returns-in-Ok-clause-ok : goal.returns-in-Ok-clause-ok
-returns-in-Ok-clause-ok c =
-    let scratch = c.put_canonical.new.out.items in
-    IfOk-weaker c.add_counted.result _ _
-    (λ added adds. λ b seen.
-    let canonical : AddsCanonical b [] scratch =
-    subst (λ (old : List ℕ). AddsCanonical b old scratch) c.clear.ensures.items (ok_value c.put_canonical.result (c.put_canonical.ensures.ok b seen) (sym c.is_err.ensures.value ∙ c.if-is_err.false)) in
-    shown_added b scratch (entry_of c.in-Ok.entry) _ _ added canonical (c.in-Ok.ensures.entry.1 ∙ c.deref.ensures.value) c.in-Ok.ensures.entry.0 adds)
-    c.add_counted.ensures.ok
+pub add_counted-requires-clause-entry : goal.add_counted-requires-clause-entry
+add_counted-requires-clause-entry c =
+    let shown = shown_alone (view_parts c.args.view.now) c.put_canonical.result c.clear.new.self.items _ c.deref.result.now c.put_canonical.ensures.shown (sym c.is_err.ensures.value ∙ c.if-is_err.false) c.clear.ensures.items c.deref.ensures.value in
+    (shown.shown, shown_entry _ _ _ shown c.instant.ensures)
 
-pub returns-in-Ok-clause-long : goal.returns-in-Ok-clause-long
-returns-in-Ok-clause-long c =
-    let scratch = c.put_canonical.new.out.items in
-    λ t b seen.
-    let canonical : AddsCanonical b [] scratch =
-    subst (λ (old : List ℕ). AddsCanonical b old scratch) c.clear.ensures.items (ok_value c.put_canonical.result (c.put_canonical.ensures.ok b seen) (sym c.is_err.ensures.value ∙ c.if-is_err.false)) in
-    shown_long b scratch canonical (subst (λ (s : List ℕ). ENTRY_MAX < length s) (c.in-Ok.ensures.entry.1 ∙ c.deref.ensures.value) (c.add_counted.ensures.long t))
+pub returns-clause-ok : goal.returns-clause-ok
+returns-clause-ok c =
+    let shown = shown_alone (view_parts c.args.view.now) c.put_canonical.result c.clear.new.self.items _ c.deref.result.now c.put_canonical.ensures.shown (sym c.is_err.ensures.value ∙ c.if-is_err.false) c.clear.ensures.items c.deref.ensures.value in
+    IfOk-weaker c.add_counted.result _ _ (λ added adds b seen. shown_added _ _ b _ _ _ added shown c.instant.ensures seen adds) c.add_counted.ensures.ok
+
+pub returns-clause-long : goal.returns-clause-long
+returns-clause-long c =
+    let shown = shown_alone (view_parts c.args.view.now) c.put_canonical.result c.clear.new.self.items _ c.deref.result.now c.put_canonical.ensures.shown (sym c.is_err.ensures.value ∙ c.if-is_err.false) c.clear.ensures.items c.deref.ensures.value in
+    λ t b seen. shown_long ENTRY_MAX _ _ b shown seen (c.add_counted.ensures.long t)

@@ -1,10 +1,14 @@
+use Rattle.std.proofs.Common.{◌+◌, ◌<◌, ◌^◌, arith}
 use Rattle.std.proofs.lemmas.Bool.{false≢true}
+use Rattle.archive_text.specs.Positions.{position_of}
 use Rattle.archive_text.specs.declared.limits.TheConstants.{ENTRY_MAX}
-use Rattle.archive_vec.proofs.ReadingSteps.{fault_behind, not_ascending}
+use Rattle.archive_vec.proofs.ReadingSteps.{fault_behind, not_ascending, position_within}
 use Rattle.archive_vec.proofs.entry_list.EntryList.push_read.Goals as goal
 
 pub returns-in-Err-clause-err : goal.returns-in-Err-clause-err
-returns-in-Err-clause-err c = rw c.shifted.ensures (fault_behind ENTRY_MAX _ _ _ _ c.requires.offset c.in-Err.ensures)
+returns-in-Err-clause-err c =
+    let fits : c.args.offset + position_of c.in-Err.fault < 2 ^ 64 = omega (arith, c.requires.fits, position_within ENTRY_MAX c.args.text.now c.in-Err.fault c.in-Err.ensures) in
+    rw (c.later.ensures.fits fits) (fault_behind ENTRY_MAX _ _ _ _ c.requires.offset c.in-Err.ensures)
 
 pub returns-then-not-is_below-clause-err : goal.returns-then-not-is_below-clause-err
 returns-then-not-is_below-clause-err c =
