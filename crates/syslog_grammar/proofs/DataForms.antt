@@ -13,6 +13,7 @@ use Rattle.syslog_grammar.specs.Canonical.{escaped, param_form, element_form, st
 use Rattle.syslog_grammar.specs.ElementOrders.{IsInOrder, MayFollow, MayAllFollow}
 use Rattle.syslog_grammar.specs.Grammar.{Param, Element, StructuredDataText}
 use Rattle.syslog_grammar.specs.Ids.{IsAbove, IsAtMost, IsRisingFrom, ids_of}
+use Rattle.syslog_grammar.specs.FirstElements.{SplitsElement}
 use Rattle.syslog_grammar.specs.Spans.{ParamSpan, SpannedParam, ElementSpan, SpannedElement}
 use Rattle.syslog_grammar.specs.Values.{Spells}
 use Rattle.syslog_grammar.specs.declared.structured_data_form.ElementOrder.{ElementOrder}
@@ -20,7 +21,7 @@ use Rattle.syslog_grammar.specs.declared.structured_data_form.ElementOrder.TheVa
 use Rattle.syslog_grammar.proofs.CanonicalParses.{param_parsed, element_parsed}
 use Rattle.syslog_grammar.proofs.OneMeaning.{by_prefix}
 use Rattle.syslog_grammar.proofs.OwnedParts.{param_same, element_same}
-use Rattle.syslog_grammar.proofs.ParamTexts.{IsPrefixFree-param, IsPrefixFree-element, spanned_param, spanned_element, param_spanned, element_spanned, param_prefix, element_prefix}
+use Rattle.syslog_grammar.proofs.ParamTexts.{IsPrefixFree-param, IsPrefixFree-element, spanned_param, spanned_element, param_spanned, param_prefix, element_prefix}
 use Rattle.syslog_grammar.proofs.Valid.{valid_param, valid_element}
 
 -- ---- one item
@@ -229,13 +230,13 @@ pub record Item (v : ElementSpan) (rest behind : List ℕ) (todo : List ElementP
   pub spanned : SpannedElement v text
   pub each : Each Element others behind
 
-pub first_item : (rest behind after : List ℕ) (x : ℕ) (v : ElementSpan) (todo : List ElementParts) → rest ≡ x ∷ after → Follows (SpannedElement v) rest behind → Each Element todo rest → Item v rest behind todo
+pub first_item : (rest behind after : List ℕ) (x : ℕ) (v : ElementSpan) (todo : List ElementParts) → rest ≡ x ∷ after → SplitsElement rest v behind → Each Element todo rest → Item v rest behind todo
 first_item rest behind after x v [] e f k = let i : ◌≡◌ {A = List ℕ} [] (x ∷ after) = sym k ∙ e in absurd cc
 first_item rest behind after x v (d ∷ todo) e f k =
-    let i = item Element SpannedElement IsPrefixFree-element spanned_element d todo v rest behind k f in
+    let i = item Element SpannedElement IsPrefixFree-element spanned_element d todo v rest behind k (f k.1 (k.0, k.2, (d, k.3))) in
     record { element = d; others = todo; is = refl; text = i.0; parts = i.1; parse = i.2; spanned = i.3; each = i.4 }
 
-pub elements_more : (order : ElementOrder) (elements rest behind after : List ℕ) (x : ℕ) (v : ElementSpan) (met : Option (List ℕ)) (r : Bool) → rest ≡ x ∷ after → Follows (SpannedElement v) rest behind → MayFollow order v.id met → ParamsTest r v.params → r ≡ true
+pub elements_more : (order : ElementOrder) (elements rest behind after : List ℕ) (x : ℕ) (v : ElementSpan) (met : Option (List ℕ)) (r : Bool) → rest ≡ x ∷ after → SplitsElement rest v behind → MayFollow order v.id met → ParamsTest r v.params → r ≡ true
     → ElementsLeft order elements rest met → ElementsLeft order elements behind (Some v.id)
 elements_more order elements rest behind after x v met r e f above test is remaining es h =
     let l = remaining es h in
@@ -260,7 +261,7 @@ elements_more order elements rest behind after x v met r e f above test is remai
 refused : (order : ElementOrder) (elements rest : List ℕ) (met : Option (List ℕ)) → ElementsLeft order elements rest met → ((todo : List ElementParts) → Each Element todo rest → ¬ (InForm order rest met todo)) → ElementsAnswer order false elements
 refused order elements rest met remaining none es h = (λ u. absurd cc, λ g. let l = remaining es h in absurd (none l.todo l.each (l.to g)))
 
-pub elements_most : (order : ElementOrder) (elements rest behind after : List ℕ) (x : ℕ) (v : ElementSpan) (met : Option (List ℕ)) → rest ≡ x ∷ after → Follows (SpannedElement v) rest behind → ¬ (MayFollow order v.id met) → ElementsLeft order elements rest met → ElementsAnswer order false elements
+pub elements_most : (order : ElementOrder) (elements rest behind after : List ℕ) (x : ℕ) (v : ElementSpan) (met : Option (List ℕ)) → rest ≡ x ∷ after → SplitsElement rest v behind → ¬ (MayFollow order v.id met) → ElementsLeft order elements rest met → ElementsAnswer order false elements
 elements_most order elements rest behind after x v met e f most remaining es h = refused order elements rest met remaining none es h
   where
     none : (todo : List ElementParts) → Each Element todo rest → ¬ (InForm order rest met todo)
@@ -269,7 +270,7 @@ elements_most order elements rest behind after x v met e f most remaining es h =
         let first = follows_first order met i.element.id (ids_of i.others) (subst (InForm order rest met) i.is g).1 in
         most (subst (λ (id : List ℕ). MayFollow order id met) (element_same i.element v i.text i.parse i.spanned).0 first)
 
-pub elements_bad : (order : ElementOrder) (elements rest behind after : List ℕ) (x : ℕ) (v : ElementSpan) (met : Option (List ℕ)) (r : Bool) → rest ≡ x ∷ after → Follows (SpannedElement v) rest behind → ParamsTest r v.params → r ≡ false → ElementsLeft order elements rest met → ElementsAnswer order false elements
+pub elements_bad : (order : ElementOrder) (elements rest behind after : List ℕ) (x : ℕ) (v : ElementSpan) (met : Option (List ℕ)) (r : Bool) → rest ≡ x ∷ after → SplitsElement rest v behind → ParamsTest r v.params → r ≡ false → ElementsLeft order elements rest met → ElementsAnswer order false elements
 elements_bad order elements rest behind after x v met r e f test isn remaining es h = refused order elements rest met remaining none es h
   where
     none : (todo : List ElementParts) → Each Element todo rest → ¬ (InForm order rest met todo)
@@ -281,13 +282,6 @@ elements_bad order elements rest behind after x v met r e f test isn remaining e
         let params = same_params i.element.id v.params (flat_map param_form i.element.params) (sym (element_text i.element v i.text i.parse i.spanned) ∙ both.0 ∙ form_text i.element) in
         let yes : r ≡ true = (test i.element.params (element_same i.element v i.text i.parse i.spanned).1).1 params in
         absurd cc
-
-pub elements_stuck : (order : ElementOrder) (elements rest after : List ℕ) (x remaining : ℕ) (met : Option (List ℕ)) → rest ≡ x ∷ after → Fails (AnyOf SpannedElement) rest remaining → ElementsLeft order elements rest met → ElementsAnswer order false elements
-elements_stuck order elements rest after x remaining met e f more es h = refused order elements rest met more none es h
-  where
-    none : (todo : List ElementParts) → Each Element todo rest → ¬ (InForm order rest met todo)
-    none [] k g = let i : ◌≡◌ {A = List ℕ} [] (x ∷ after) = sym k ∙ e in absurd cc
-    none (q ∷ todo) (y, z, i, k, l) g = f.none y z i (element_spanned y (q, k))
 
 pub elements_end : (order : ElementOrder) (elements rest : List ℕ) (met : Option (List ℕ)) → rest ≡ [] → ElementsLeft order elements rest met → ElementsAnswer order true elements
 elements_end order elements rest met e remaining es h = (λ u. let l = remaining es h in l.from (one l.todo l.each), λ u. refl)

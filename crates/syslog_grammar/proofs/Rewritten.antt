@@ -5,8 +5,8 @@ use Rattle.std.specs.List.{flat_map}
 use Rattle.std.proofs.lemmas.List.{append-nil}
 use Rattle.std.proofs.lemmas.List.Sorted.{IsPermutation-refl}
 use Rattle.memchr.specs.Find.{IsFirstByte, is_byte}
-use Rattle.octet_language.specs.Language.{Language, Only, ◌⋅◌, AnyOf, Each}
-use Rattle.octet_language.specs.Reading.{Fails, Follows}
+use Rattle.octet_language.specs.Language.{Language, Only, ◌⋅◌, Each}
+use Rattle.octet_language.specs.Reading.{Follows}
 use Rattle.octet_language.proofs.Lists.{tails}
 use Rattle.syslog_value.specs.Parts.{ParamParts, ElementParts, Parts, IsById}
 use Rattle.syslog_grammar.specs.Appending.{Anything, Adds, Puts}
@@ -17,7 +17,8 @@ use Rattle.syslog_grammar.specs.Verbatim.{HasOneMessageForm, VerbatimForm}
 use Rattle.syslog_grammar.specs.Ids.{IsAbove, IsAtMost, IsRisingFrom, ids_of}
 use Rattle.syslog_grammar.specs.Reescaped.{ValueOf, ParamOf, ParamsOf, ElementOf, ElementsOf, StructuredDataOf, AreUnordered}
 use Rattle.syslog_grammar.specs.ViewParts.{ViewParts, HasParts, IsViewOf}
-use Rattle.syslog_grammar.specs.Spans.{ParamSpan, SpannedParam, ElementSpan, SpannedElement}
+use Rattle.syslog_grammar.specs.FirstElements.{SplitsElement}
+use Rattle.syslog_grammar.specs.Spans.{ParamSpan, SpannedParam, ElementSpan}
 use Rattle.syslog_grammar.specs.Time.{CivilTime}
 use Rattle.syslog_grammar.specs.Values.{Piece, Spells}
 use Rattle.syslog_grammar.specs.WellFormed.{IsMeaning, AddsCanonical}
@@ -25,7 +26,7 @@ use Rattle.syslog_grammar.proofs.Appends.{adds_some}
 use Rattle.syslog_grammar.proofs.CanonicalForms.{word_formed}
 use Rattle.syslog_grammar.proofs.DataForms.{item, form_raw, form_text, first_item, of_rising, rising_of, none_met, not_above}
 use Rattle.syslog_grammar.proofs.OwnedParts.{param_same, element_same}
-use Rattle.syslog_grammar.proofs.ParamTexts.{IsPrefixFree-param, spanned_param, element_spanned, param_prefix, element_prefix}
+use Rattle.syslog_grammar.proofs.ParamTexts.{IsPrefixFree-param, spanned_param, param_prefix, element_prefix}
 use Rattle.syslog_grammar.proofs.ValueForms.{joined, runs, escape, lone_more, marked_at, at_mark, all_plain, escaped_join, escaped_special, free_rest}
 
 -- ---- values
@@ -143,7 +144,7 @@ elements_all elements old = record { done = []; parts = sym (append-nil old); is
 pub elements_begun : (elements rest : List ℕ) (met : Option (List ℕ)) (old out : List ℕ) → ElementsWritten elements rest met old out → Adds Anything old out
 elements_begun elements rest met old out w = (w.done, tt, w.parts)
 
-pub elements_more : (elements rest behind after old out mid : List ℕ) (x : ℕ) (v : ElementSpan) (met : Option (List ℕ)) → rest ≡ x ∷ after → Follows (SpannedElement v) rest behind → IsAbove v.id met → Adds (ElementOf v) out mid
+pub elements_more : (elements rest behind after old out mid : List ℕ) (x : ℕ) (v : ElementSpan) (met : Option (List ℕ)) → rest ≡ x ∷ after → SplitsElement rest v behind → IsAbove v.id met → Adds (ElementOf v) out mid
     → ElementsWritten elements rest met old out → ElementsWritten elements behind (Some v.id) old mid
 elements_more elements rest behind after old out mid x v met e f above (z, zs, ze) w = record {
   done = w.done ++ z;
@@ -173,14 +174,7 @@ elements_end elements rest met old out e w = (w.done, λ es h. let l = w.is es h
         let s = element_prefix y (q, k) in
         let j : ◌≡◌ {A = List ℕ} [] (91 ∷ (s.0 ++ z)) = sym e ∙ i ∙ ap (λ (t : List ℕ). t ++ z) s.1 in absurd cc
 
-pub elements_stuck : (elements rest after old out : List ℕ) (x remaining : ℕ) (met : Option (List ℕ)) → rest ≡ x ∷ after → Fails (AnyOf SpannedElement) rest remaining → ElementsWritten elements rest met old out → AreUnordered elements
-elements_stuck elements rest after old out x remaining met e f w es h by_id = let l = w.is es h in one l.0 l.1
-  where
-    one : (todo : List ElementParts) → Each Element todo rest → ⊥
-    one [] k = let i : ◌≡◌ {A = List ℕ} [] (x ∷ after) = sym k ∙ e in absurd cc
-    one (q ∷ todo) (y, z, i, k, l) = f.none y z i (element_spanned y (q, k))
-
-pub elements_most : (elements rest behind after old out : List ℕ) (x : ℕ) (v : ElementSpan) (met : Option (List ℕ)) → rest ≡ x ∷ after → Follows (SpannedElement v) rest behind → IsAtMost v.id met → ElementsWritten elements rest met old out → AreUnordered elements
+pub elements_most : (elements rest behind after old out : List ℕ) (x : ℕ) (v : ElementSpan) (met : Option (List ℕ)) → rest ≡ x ∷ after → SplitsElement rest v behind → IsAtMost v.id met → ElementsWritten elements rest met old out → AreUnordered elements
 elements_most elements rest behind after old out x v met e f most w es h by_id =
     let l = w.is es h in
     let i = first_item rest behind after x v l.0 e f l.1 in

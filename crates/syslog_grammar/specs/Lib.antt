@@ -5,6 +5,7 @@ pub mod Time
 pub mod Dates
 pub mod Grammar
 pub mod Spans
+pub mod FirstElements
 pub mod Views
 pub mod Fields
 pub mod Faults

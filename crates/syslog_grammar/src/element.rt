@@ -22,7 +22,7 @@ pub struct ParamView<'a> {
 /// An element of the structured data, as it lies in the octets.
 #[derive(Clone, Copy, Debug, PartialEq, Eq)]
 pub struct ElementView<'a> {
-    id: &'a [u8],
+    pub(crate) id: &'a [u8],
     pub(crate) params: &'a [u8],
 }
 

@@ -13,6 +13,7 @@ mod decoding;
 mod distinct;
 mod element;
 mod fault;
+mod first_element;
 mod header;
 mod lanes;
 mod law;

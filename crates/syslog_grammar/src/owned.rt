@@ -9,7 +9,8 @@ ghost use Rattle.syslog_grammar.specs.Values.{Spells};
 ghost use Rattle.syslog_grammar.specs.Views.{element_span, message_parts, param_span};
 ghost use Rattle.syslog_grammar.specs.WellFormed.{WellFormed};
 
-use crate::element::{ElementView, ParamView, element, param};
+use crate::element::{ElementView, ParamView, param};
+use crate::first_element::first_element;
 use crate::message::MessageView;
 use crate::reading::next;
 use crate::record_view::RecordView;
@@ -103,9 +104,7 @@ fn to_elements(alloc: Global, octets: &[u8]) -> Result<Vec<Element>, AllocError>
         if first != b'[' {
             return Ok(elements);
         }
-        let Ok((found, behind)) = element(rest) else {
-            return Err(AllocError);
-        };
+        let (found, behind) = first_element(rest);
         elements.push(to_element(alloc, &found)?)?;
         rest = behind;
     }

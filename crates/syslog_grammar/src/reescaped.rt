@@ -7,7 +7,8 @@ ghost use Rattle.syslog_grammar.specs.Reescaped.{ParamOf, ParamsOf, PutsUnless, 
 ghost use Rattle.syslog_grammar.specs.Views.{element_span, param_span};
 
 use crate::appending::put;
-use crate::element::{ElementView, ParamView, element, param};
+use crate::element::{ElementView, ParamView, param};
+use crate::first_element::first_element;
 use crate::reading::next;
 use crate::repeated::is_above;
 use crate::structured_data_form::{ElementOrder, has_structured_data_form};
@@ -75,9 +76,7 @@ fn put_ascending(elements: &[u8], out: &mut Vec<u8>) -> Result<bool, AllocError>
     let mut rest = elements;
     let mut greatest: Option<&[u8]> = None;
     while let Some((_first, _after)) = next(rest) {
-        let Ok((found, behind)) = element(rest) else {
-            return Ok(false);
-        };
+        let (found, behind) = first_element(rest);
         let id = found.id();
         if !is_above(id, greatest) {
             return Ok(false);
