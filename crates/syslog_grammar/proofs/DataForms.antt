@@ -4,7 +4,7 @@ use Rattle.std.specs.Prelude.{◌↔◌, IsTrue, true, false, Option, Some, None
 use Rattle.std.specs.List.{AllByRecursion, flat_map}
 use Rattle.std.proofs.lemmas.List.{append_cancel_left, append_cancel_right}
 use Rattle.octet_language.specs.Language.{Language, AnyOf, Each, IsPrefixFree}
-use Rattle.octet_language.specs.Reading.{Fails, Follows}
+use Rattle.octet_language.specs.Reading.{Follows}
 use Rattle.octet_language.proofs.Lists.{heads, tails}
 use Rattle.syslog_value.specs.Order.{OctetsBelow}
 use Rattle.syslog_value.specs.Parts.{ParamParts, ElementParts, IsById}
@@ -13,7 +13,7 @@ use Rattle.syslog_grammar.specs.Canonical.{escaped, param_form, element_form, st
 use Rattle.syslog_grammar.specs.ElementOrders.{IsInOrder, MayFollow, MayAllFollow}
 use Rattle.syslog_grammar.specs.Grammar.{Param, Element, StructuredDataText}
 use Rattle.syslog_grammar.specs.Ids.{IsAbove, IsAtMost, IsRisingFrom, ids_of}
-use Rattle.syslog_grammar.specs.FirstElements.{SplitsElement}
+use Rattle.syslog_grammar.specs.FirstElements.{SplitsElement, SplitsParam}
 use Rattle.syslog_grammar.specs.Spans.{ParamSpan, SpannedParam, ElementSpan, SpannedElement}
 use Rattle.syslog_grammar.specs.Values.{Spells}
 use Rattle.syslog_grammar.specs.declared.structured_data_form.ElementOrder.{ElementOrder}
@@ -21,7 +21,7 @@ use Rattle.syslog_grammar.specs.declared.structured_data_form.ElementOrder.TheVa
 use Rattle.syslog_grammar.proofs.CanonicalParses.{param_parsed, element_parsed}
 use Rattle.syslog_grammar.proofs.OneMeaning.{by_prefix}
 use Rattle.syslog_grammar.proofs.OwnedParts.{param_same, element_same}
-use Rattle.syslog_grammar.proofs.ParamTexts.{IsPrefixFree-param, IsPrefixFree-element, spanned_param, spanned_element, param_spanned, param_prefix, element_prefix}
+use Rattle.syslog_grammar.proofs.ParamTexts.{IsPrefixFree-param, IsPrefixFree-element, spanned_param, spanned_element, param_prefix, element_prefix}
 use Rattle.syslog_grammar.proofs.Valid.{valid_param, valid_element}
 
 -- ---- one item
@@ -68,7 +68,7 @@ params_all params ps h = record { todo = ps; each = h; to = λ e. e; from = λ e
 abbrev pub ValueTest : Bool → List ℕ → Type 0
 ValueTest r raw = (text : List ℕ) → Spells text raw → IsTrue r ↔ (raw ≡ escaped text)
 
-pub params_more : (params rest behind after : List ℕ) (x : ℕ) (v : ParamSpan) (r : Bool) → rest ≡ x ∷ after → Follows (SpannedParam v) rest behind → ValueTest r v.raw → r ≡ true → ParamsLeft params rest → ParamsLeft params behind
+pub params_more : (params rest behind after : List ℕ) (x : ℕ) (v : ParamSpan) (r : Bool) → rest ≡ x ∷ after → SplitsParam rest v behind → ValueTest r v.raw → r ≡ true → ParamsLeft params rest → ParamsLeft params behind
 params_more params rest behind after x v r e f test is remaining ps h = go (remaining ps h)
   where
     go : ParamsRest params rest ps → ParamsRest params behind ps
@@ -77,7 +77,7 @@ params_more params rest behind after x v r e f test is remaining ps h = go (rema
         one : (todo : List ParamParts) → Each Param todo rest → (params ≡ flat_map param_form ps → rest ≡ flat_map param_form todo) → (rest ≡ flat_map param_form todo → params ≡ flat_map param_form ps) → ParamsRest params behind ps
         one [] k to from = let i : ◌≡◌ {A = List ℕ} [] (x ∷ after) = sym k ∙ e in absurd cc
         one (q ∷ todo) k to from =
-            let i = item Param SpannedParam IsPrefixFree-param spanned_param q todo v rest behind k f in
+            let i = item Param SpannedParam IsPrefixFree-param spanned_param q todo v rest behind k (f k.1 (k.0, k.2, (q, k.3))) in
             let raw : v.raw ≡ escaped q.value = (test q.value (param_same q v i.0 i.2 i.3).1).0 is in
             let form : i.0 ≡ param_form q = param_raw q v i.0 i.2 i.3 ∙ ap (λ (s : List ℕ). 32 ∷ (q.name ++ 61 ∷ 34 ∷ (s ++ 34 ∷ []))) raw ∙ sym (form_raw q) in
             record {
@@ -87,24 +87,17 @@ params_more params rest behind after x v r e f test is remaining ps h = go (rema
               from = λ g. from (i.1 ∙ ap (λ (s : List ℕ). s ++ behind) form ∙ ap (λ (s : List ℕ). param_form q ++ s) g);
             }
 
-pub params_bad : (params rest behind after : List ℕ) (x : ℕ) (v : ParamSpan) (r : Bool) → rest ≡ x ∷ after → Follows (SpannedParam v) rest behind → ValueTest r v.raw → r ≡ false → ParamsLeft params rest
+pub params_bad : (params rest behind after : List ℕ) (x : ℕ) (v : ParamSpan) (r : Bool) → rest ≡ x ∷ after → SplitsParam rest v behind → ValueTest r v.raw → r ≡ false → ParamsLeft params rest
     → (ps : List ParamParts) → Each Param ps params → IsTrue false ↔ (params ≡ flat_map param_form ps)
 params_bad params rest behind after x v r e f test isn remaining ps h = (λ g. absurd cc, λ g. let l = remaining ps h in one l.todo l.each (l.to g))
   where
     one : (todo : List ParamParts) → Each Param todo rest → rest ≡ flat_map param_form todo → IsTrue false
     one [] k g = let i : ◌≡◌ {A = List ℕ} [] (x ∷ after) = sym k ∙ e in absurd cc
     one (q ∷ todo) k g =
-        let i = item Param SpannedParam IsPrefixFree-param spanned_param q todo v rest behind k f in
+        let i = item Param SpannedParam IsPrefixFree-param spanned_param q todo v rest behind k (f k.1 (k.0, k.2, (q, k.3))) in
         let both = by_prefix (AnyOf Param) i.0 behind (param_form q) (flat_map param_form todo) IsPrefixFree-param (q, i.2) (q, param_parsed q (valid_param q i.0 i.2)) (sym i.1 ∙ g) in
         let raw = same_raw q.name v.raw (escaped q.value) (sym (param_raw q v i.0 i.2 i.3) ∙ both.0 ∙ form_raw q) in
         sym isn ∙ (test q.value (param_same q v i.0 i.2 i.3).1).1 raw
-
-pub params_stuck : (params rest after : List ℕ) (x remaining : ℕ) → rest ≡ x ∷ after → Fails (AnyOf SpannedParam) rest remaining → ParamsLeft params rest → (ps : List ParamParts) → Each Param ps params → IsTrue false ↔ (params ≡ flat_map param_form ps)
-params_stuck params rest after x remaining e f more ps h = let l = more ps h in absurd (one l.todo l.each)
-  where
-    one : (todo : List ParamParts) → Each Param todo rest → ⊥
-    one [] k = let i : ◌≡◌ {A = List ℕ} [] (x ∷ after) = sym k ∙ e in absurd cc
-    one (q ∷ todo) (y, z, g, k, l) = f.none y z g (param_spanned y (q, k))
 
 pub params_end : (params rest : List ℕ) → rest ≡ [] → ParamsLeft params rest → (ps : List ParamParts) → Each Param ps params → IsTrue true ↔ (params ≡ flat_map param_form ps)
 params_end params rest e remaining ps h = (λ u. let l = remaining ps h in one l.todo l.each l.from, λ u. refl)

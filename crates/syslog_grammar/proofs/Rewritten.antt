@@ -6,7 +6,6 @@ use Rattle.std.proofs.lemmas.List.{append-nil}
 use Rattle.std.proofs.lemmas.List.Sorted.{IsPermutation-refl}
 use Rattle.memchr.specs.Find.{IsFirstByte, is_byte}
 use Rattle.octet_language.specs.Language.{Language, Only, ◌⋅◌, Each}
-use Rattle.octet_language.specs.Reading.{Follows}
 use Rattle.octet_language.proofs.Lists.{tails}
 use Rattle.syslog_value.specs.Parts.{ParamParts, ElementParts, Parts, IsById}
 use Rattle.syslog_grammar.specs.Appending.{Anything, Adds, Puts}
@@ -17,7 +16,7 @@ use Rattle.syslog_grammar.specs.Verbatim.{HasOneMessageForm, VerbatimForm}
 use Rattle.syslog_grammar.specs.Ids.{IsAbove, IsAtMost, IsRisingFrom, ids_of}
 use Rattle.syslog_grammar.specs.Reescaped.{ValueOf, ParamOf, ParamsOf, ElementOf, ElementsOf, StructuredDataOf, AreUnordered}
 use Rattle.syslog_grammar.specs.ViewParts.{ViewParts, HasParts, IsViewOf}
-use Rattle.syslog_grammar.specs.FirstElements.{SplitsElement}
+use Rattle.syslog_grammar.specs.FirstElements.{SplitsElement, SplitsParam}
 use Rattle.syslog_grammar.specs.Spans.{ParamSpan, SpannedParam, ElementSpan}
 use Rattle.syslog_grammar.specs.Time.{CivilTime}
 use Rattle.syslog_grammar.specs.Values.{Piece, Spells}
@@ -101,7 +100,7 @@ params_all params old = record { done = []; parts = sym (append-nil old); is = �
 pub params_begun : (params rest old out : List ℕ) → ParamsWritten params rest old out → Adds Anything old out
 params_begun params rest old out w = (w.done, tt, w.parts)
 
-pub params_more : (params rest behind after old out mid : List ℕ) (x : ℕ) (v : ParamSpan) → rest ≡ x ∷ after → Follows (SpannedParam v) rest behind → Adds (ParamOf v) out mid → ParamsWritten params rest old out → ParamsWritten params behind old mid
+pub params_more : (params rest behind after old out mid : List ℕ) (x : ℕ) (v : ParamSpan) → rest ≡ x ∷ after → SplitsParam rest v behind → Adds (ParamOf v) out mid → ParamsWritten params rest old out → ParamsWritten params behind old mid
 params_more params rest behind after old out mid x v e f (z, zs, ze) w = record {
   done = w.done ++ z;
   parts = ze ∙ ap (λ (u : List ℕ). u ++ z) w.parts ∙ append_assoc old w.done z;
@@ -111,7 +110,7 @@ params_more params rest behind after old out mid x v e f (z, zs, ze) w = record 
     one : (ps todo : List ParamParts) → Each Param todo rest → flat_map param_form ps ≡ w.done ++ flat_map param_form todo → (ks : List ParamParts) × Each Param ks behind × (flat_map param_form ps ≡ w.done ++ z ++ flat_map param_form ks)
     one ps [] k g = let i : ◌≡◌ {A = List ℕ} [] (x ∷ after) = sym k ∙ e in absurd cc
     one ps (q ∷ todo) k g =
-        let i = item Param SpannedParam IsPrefixFree-param spanned_param q todo v rest behind k f in
+        let i = item Param SpannedParam IsPrefixFree-param spanned_param q todo v rest behind k (f k.1 (k.0, k.2, (q, k.3))) in
         let same = param_same q v i.0 i.2 i.3 in
         (todo, i.4, g ∙ ap (λ (u : List ℕ). w.done ++ (u ++ flat_map param_form todo)) (sym (param_written q v z same.0 same.1 zs)) ∙ sym (append_assoc w.done z (flat_map param_form todo)))
 
@@ -126,7 +125,7 @@ params_end params rest old out e w = (w.done, λ ps h. let l = w.is ps h in one 
 
 -- ---- elements
 
-element_written : (d : ElementParts) (v : ElementSpan) (b : List ℕ) → d.id ≡ v.id → Each Param d.params v.params → ElementOf v b → b ≡ element_form d
+pub element_written : (d : ElementParts) (v : ElementSpan) (b : List ℕ) → d.id ≡ v.id → Each Param d.params v.params → ElementOf v b → b ≡ element_form d
 element_written d v b n s (x0, y0, e0, h0, (x1, y1, e1, h1, (x2, y2, e2, h2, h3))) =
     let params : x2 ≡ flat_map param_form d.params = h2 d.params s in
     e0 ∙ rw (h0, e1, h1, e2, params, h3, ← n) refl ∙ sym (form_text d)

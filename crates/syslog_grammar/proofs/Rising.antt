@@ -44,7 +44,7 @@ put_suc n x [] h = absurd (omega arith)
 put_suc zero x (y ∷ offsets) h = refl
 put_suc (suc n) x (y ∷ offsets) h = ap (λ (k : List (List ℕ)). y.now ∷ k) (put_suc n x offsets (omega arith))
 
-put : (n : ℕ) (x : Lent) (offsets : List Lent) → n < length offsets → texts (take (n + 1) (set offsets n x)) ≡ texts (take n offsets) ++ x.now ∷ []
+pub put : (n : ℕ) (x : Lent) (offsets : List Lent) → n < length offsets → texts (take (n + 1) (set offsets n x)) ≡ texts (take n offsets) ++ x.now ∷ []
 put n x offsets h = rw add-one (put_suc n x offsets h)
 
 fill_one : (es todo : List ElementParts) (rest behind after : List ℕ) (x count : ℕ) (offsets : List Lent) (v : ElementSpan) (id : Lent) → rest ≡ x ∷ after → Each Element todo rest → SplitsElement rest v behind → id.now ≡ v.id → count < length offsets

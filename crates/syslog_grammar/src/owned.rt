@@ -9,8 +9,8 @@ ghost use Rattle.syslog_grammar.specs.Values.{Spells};
 ghost use Rattle.syslog_grammar.specs.Views.{element_span, message_parts, param_span};
 ghost use Rattle.syslog_grammar.specs.WellFormed.{WellFormed};
 
-use crate::element::{ElementView, ParamView, param};
-use crate::first_element::first_element;
+use crate::element::{ElementView, ParamView};
+use crate::first_element::{first_element, first_param};
 use crate::message::MessageView;
 use crate::reading::next;
 use crate::record_view::RecordView;
@@ -73,9 +73,7 @@ fn to_params(alloc: Global, octets: &[u8]) -> Result<Vec<Param>, AllocError>
     let mut params = Vec::new(alloc);
     let mut rest = octets;
     while let Some((_first, _after)) = next(rest) {
-        let Ok((found, behind)) = param(rest) else {
-            return Err(AllocError);
-        };
+        let (found, behind) = first_param(rest);
         params.push(to_param(alloc, &found)?)?;
         rest = behind;
     }

@@ -10,8 +10,7 @@ ghost use Rattle.syslog_grammar.specs.ElementOrders.{IsInOrder, MayFollow};
 ghost use Rattle.syslog_grammar.specs.Grammar.{StructuredDataText, Element, Param};
 ghost use Rattle.syslog_grammar.specs.Values.{Spells};
 
-use crate::element::param;
-use crate::first_element::first_element;
+use crate::first_element::{first_element, first_param};
 use crate::reading::next;
 use crate::repeated::is_above;
 use crate::unescape::begins_special;
@@ -42,9 +41,7 @@ fn has_params_form(params: &[u8]) -> bool
 {
     let mut rest = params;
     while let Some((_first, _after)) = next(rest) {
-        let Ok((found, behind)) = param(rest) else {
-            return false;
-        };
+        let (found, behind) = first_param(rest);
         if !has_value_form(found.raw()) {
             return false;
         }
