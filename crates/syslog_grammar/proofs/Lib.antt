@@ -45,3 +45,4 @@ pub mod CanonicalForms
 pub mod Rewritten
 pub mod Props
 pub mod ShownRecords
+pub mod Sorting

@@ -17,6 +17,7 @@ use Rattle.syslog_grammar.specs.Ids.{IsAbove, IsAtMost, IsRisingFrom, ids_of}
 use Rattle.syslog_grammar.specs.Reescaped.{ValueOf, ParamOf, ParamsOf, ElementOf, ElementsOf, StructuredDataOf, AreUnordered}
 use Rattle.syslog_grammar.specs.ViewParts.{ViewParts, HasParts, IsViewOf}
 use Rattle.syslog_grammar.specs.FirstElements.{SplitsElement, SplitsParam}
+use Rattle.syslog_grammar.specs.Sorting.{SortedDataOf}
 use Rattle.syslog_grammar.specs.Spans.{ParamSpan, SpannedParam, ElementSpan}
 use Rattle.syslog_grammar.specs.Time.{CivilTime}
 use Rattle.syslog_grammar.specs.Values.{Piece, Spells}
@@ -199,6 +200,14 @@ record_written s old m1 m2 new (x, xh, xe) (y, yh, ye) (z, zh, ze) b (p, parse, 
       view_record s p.elements,
       (p, parse, range, distinct, view_is s p h elements.1),
       (x ++ (y ++ z), (x, y ++ z, refl, xh, (y, z, refl, elements.0, zh)), ze ∙ ap (λ (u : List ℕ). u ++ z) (ye ∙ ap (λ (u : List ℕ). u ++ y) xe) ∙ append_assoc (old ++ x) y z ∙ append_assoc old x (y ++ z)),
+    )
+
+pub record_sorted : (s : ViewParts) (old m1 m2 new : List ℕ) → Adds (ViewHeader s) old m1 → Adds (SortedDataOf s.elements) m1 m2 → Adds (Only (message_form s.message)) m2 new → (b : List ℕ) → IsViewOf b s → AddsCanonical b old new
+record_sorted s old m1 m2 new (x, xh, xe) (y, yh, ye) (z, zh, ze) b (p, parse, range, distinct, h) =
+    let k = yh p.elements h.elements in (
+      view_record s k.0,
+      (p, parse, range, distinct, record { priority = h.priority; time = h.instant; hostname = h.hostname; app_name = h.app_name; proc_id = h.proc_id; msg_id = h.msg_id; elements = k.1; by_id = k.2; message = h.message }),
+      (x ++ (y ++ z), (x, y ++ z, refl, xh, (y, z, refl, k.3, zh)), ze ∙ ap (λ (u : List ℕ). u ++ z) (ye ∙ ap (λ (u : List ℕ). u ++ y) xe) ∙ append_assoc (old ++ x) y z ∙ append_assoc old x (y ++ z)),
     )
 
 -- ---- what lies in the octets

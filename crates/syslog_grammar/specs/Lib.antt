@@ -26,3 +26,4 @@ pub mod Escapes
 pub mod DecodeFaults
 pub mod Reescaped
 pub mod Unsorted
+pub mod Sorting

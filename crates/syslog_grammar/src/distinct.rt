@@ -34,7 +34,7 @@ fn fill<'a>(elements: &'a [u8], offsets: &mut [&'a [u8]]) -> Option<usize>
 
 /// The first id, and those after it.
 #[inline(always)]
-pub fn next_id<'a, 'b>(ids: &'b [&'a [u8]]) -> Option<(&'a [u8], &'b [&'a [u8]])>
+fn next_id<'a, 'b>(ids: &'b [&'a [u8]]) -> Option<(&'a [u8], &'b [&'a [u8]])>
     ensures next { MatchOption result (ids.now ≡ [])
         (λ x. map (λ s. s.now) ids.now ≡ x.0.now ∷ map (λ s. s.now) x.1.now) }
     ensures less { IfSome result (λ x. length x.1.now < length ids.now) }

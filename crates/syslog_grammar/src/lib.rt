@@ -27,6 +27,7 @@ mod record_view;
 mod reescaped;
 mod repeated;
 mod same;
+mod sorted;
 mod structured_data;
 mod structured_data_form;
 mod syntax;
