@@ -4,7 +4,7 @@ use Rattle.std.specs.Prelude.{◌↔◌, IsTrue, true, false, Option, Some, None
 use Rattle.std.specs.List.{AllByRecursion, flat_map}
 use Rattle.std.proofs.lemmas.List.{append_cancel_left, append_cancel_right}
 use Rattle.octet_language.specs.Language.{Language, AnyOf, Each, IsPrefixFree}
-use Rattle.octet_language.specs.Reading.{Fails, Follows}
+use Rattle.octet_language.specs.Reading.{Follows}
 use Rattle.octet_language.proofs.Lists.{heads, tails}
 use Rattle.syslog_value.specs.Order.{OctetsBelow}
 use Rattle.syslog_value.specs.Parts.{ParamParts, ElementParts, IsById}
@@ -13,6 +13,7 @@ use Rattle.syslog_grammar.specs.Canonical.{escaped, param_form, element_form, st
 use Rattle.syslog_grammar.specs.ElementOrders.{IsInOrder, MayFollow, MayAllFollow}
 use Rattle.syslog_grammar.specs.Grammar.{Param, Element, StructuredDataText}
 use Rattle.syslog_grammar.specs.Ids.{IsAbove, IsAtMost, IsRisingFrom, ids_of}
+use Rattle.syslog_grammar.specs.FirstElements.{SplitsElement, SplitsParam}
 use Rattle.syslog_grammar.specs.Spans.{ParamSpan, SpannedParam, ElementSpan, SpannedElement}
 use Rattle.syslog_grammar.specs.Values.{Spells}
 use Rattle.syslog_grammar.specs.declared.structured_data_form.ElementOrder.{ElementOrder}
@@ -20,7 +21,7 @@ use Rattle.syslog_grammar.specs.declared.structured_data_form.ElementOrder.TheVa
 use Rattle.syslog_grammar.proofs.CanonicalParses.{param_parsed, element_parsed}
 use Rattle.syslog_grammar.proofs.OneMeaning.{by_prefix}
 use Rattle.syslog_grammar.proofs.OwnedParts.{param_same, element_same}
-use Rattle.syslog_grammar.proofs.ParamTexts.{IsPrefixFree-param, IsPrefixFree-element, spanned_param, spanned_element, param_spanned, element_spanned, param_prefix, element_prefix}
+use Rattle.syslog_grammar.proofs.ParamTexts.{IsPrefixFree-param, IsPrefixFree-element, spanned_param, spanned_element, param_prefix, element_prefix}
 use Rattle.syslog_grammar.proofs.Valid.{valid_param, valid_element}
 
 -- ---- one item
@@ -67,7 +68,7 @@ params_all params ps h = record { todo = ps; each = h; to = λ e. e; from = λ e
 abbrev pub ValueTest : Bool → List ℕ → Type 0
 ValueTest r raw = (text : List ℕ) → Spells text raw → IsTrue r ↔ (raw ≡ escaped text)
 
-pub params_more : (params rest behind after : List ℕ) (x : ℕ) (v : ParamSpan) (r : Bool) → rest ≡ x ∷ after → Follows (SpannedParam v) rest behind → ValueTest r v.raw → r ≡ true → ParamsLeft params rest → ParamsLeft params behind
+pub params_more : (params rest behind after : List ℕ) (x : ℕ) (v : ParamSpan) (r : Bool) → rest ≡ x ∷ after → SplitsParam rest v behind → ValueTest r v.raw → r ≡ true → ParamsLeft params rest → ParamsLeft params behind
 params_more params rest behind after x v r e f test is remaining ps h = go (remaining ps h)
   where
     go : ParamsRest params rest ps → ParamsRest params behind ps
@@ -76,7 +77,7 @@ params_more params rest behind after x v r e f test is remaining ps h = go (rema
         one : (todo : List ParamParts) → Each Param todo rest → (params ≡ flat_map param_form ps → rest ≡ flat_map param_form todo) → (rest ≡ flat_map param_form todo → params ≡ flat_map param_form ps) → ParamsRest params behind ps
         one [] k to from = let i : ◌≡◌ {A = List ℕ} [] (x ∷ after) = sym k ∙ e in absurd cc
         one (q ∷ todo) k to from =
-            let i = item Param SpannedParam IsPrefixFree-param spanned_param q todo v rest behind k f in
+            let i = item Param SpannedParam IsPrefixFree-param spanned_param q todo v rest behind k (f k.1 (k.0, k.2, (q, k.3))) in
             let raw : v.raw ≡ escaped q.value = (test q.value (param_same q v i.0 i.2 i.3).1).0 is in
             let form : i.0 ≡ param_form q = param_raw q v i.0 i.2 i.3 ∙ ap (λ (s : List ℕ). 32 ∷ (q.name ++ 61 ∷ 34 ∷ (s ++ 34 ∷ []))) raw ∙ sym (form_raw q) in
             record {
@@ -86,24 +87,17 @@ params_more params rest behind after x v r e f test is remaining ps h = go (rema
               from = λ g. from (i.1 ∙ ap (λ (s : List ℕ). s ++ behind) form ∙ ap (λ (s : List ℕ). param_form q ++ s) g);
             }
 
-pub params_bad : (params rest behind after : List ℕ) (x : ℕ) (v : ParamSpan) (r : Bool) → rest ≡ x ∷ after → Follows (SpannedParam v) rest behind → ValueTest r v.raw → r ≡ false → ParamsLeft params rest
+pub params_bad : (params rest behind after : List ℕ) (x : ℕ) (v : ParamSpan) (r : Bool) → rest ≡ x ∷ after → SplitsParam rest v behind → ValueTest r v.raw → r ≡ false → ParamsLeft params rest
     → (ps : List ParamParts) → Each Param ps params → IsTrue false ↔ (params ≡ flat_map param_form ps)
 params_bad params rest behind after x v r e f test isn remaining ps h = (λ g. absurd cc, λ g. let l = remaining ps h in one l.todo l.each (l.to g))
   where
     one : (todo : List ParamParts) → Each Param todo rest → rest ≡ flat_map param_form todo → IsTrue false
     one [] k g = let i : ◌≡◌ {A = List ℕ} [] (x ∷ after) = sym k ∙ e in absurd cc
     one (q ∷ todo) k g =
-        let i = item Param SpannedParam IsPrefixFree-param spanned_param q todo v rest behind k f in
+        let i = item Param SpannedParam IsPrefixFree-param spanned_param q todo v rest behind k (f k.1 (k.0, k.2, (q, k.3))) in
         let both = by_prefix (AnyOf Param) i.0 behind (param_form q) (flat_map param_form todo) IsPrefixFree-param (q, i.2) (q, param_parsed q (valid_param q i.0 i.2)) (sym i.1 ∙ g) in
         let raw = same_raw q.name v.raw (escaped q.value) (sym (param_raw q v i.0 i.2 i.3) ∙ both.0 ∙ form_raw q) in
         sym isn ∙ (test q.value (param_same q v i.0 i.2 i.3).1).1 raw
-
-pub params_stuck : (params rest after : List ℕ) (x remaining : ℕ) → rest ≡ x ∷ after → Fails (AnyOf SpannedParam) rest remaining → ParamsLeft params rest → (ps : List ParamParts) → Each Param ps params → IsTrue false ↔ (params ≡ flat_map param_form ps)
-params_stuck params rest after x remaining e f more ps h = let l = more ps h in absurd (one l.todo l.each)
-  where
-    one : (todo : List ParamParts) → Each Param todo rest → ⊥
-    one [] k = let i : ◌≡◌ {A = List ℕ} [] (x ∷ after) = sym k ∙ e in absurd cc
-    one (q ∷ todo) (y, z, g, k, l) = f.none y z g (param_spanned y (q, k))
 
 pub params_end : (params rest : List ℕ) → rest ≡ [] → ParamsLeft params rest → (ps : List ParamParts) → Each Param ps params → IsTrue true ↔ (params ≡ flat_map param_form ps)
 params_end params rest e remaining ps h = (λ u. let l = remaining ps h in one l.todo l.each l.from, λ u. refl)
@@ -229,13 +223,13 @@ pub record Item (v : ElementSpan) (rest behind : List ℕ) (todo : List ElementP
   pub spanned : SpannedElement v text
   pub each : Each Element others behind
 
-pub first_item : (rest behind after : List ℕ) (x : ℕ) (v : ElementSpan) (todo : List ElementParts) → rest ≡ x ∷ after → Follows (SpannedElement v) rest behind → Each Element todo rest → Item v rest behind todo
+pub first_item : (rest behind after : List ℕ) (x : ℕ) (v : ElementSpan) (todo : List ElementParts) → rest ≡ x ∷ after → SplitsElement rest v behind → Each Element todo rest → Item v rest behind todo
 first_item rest behind after x v [] e f k = let i : ◌≡◌ {A = List ℕ} [] (x ∷ after) = sym k ∙ e in absurd cc
 first_item rest behind after x v (d ∷ todo) e f k =
-    let i = item Element SpannedElement IsPrefixFree-element spanned_element d todo v rest behind k f in
+    let i = item Element SpannedElement IsPrefixFree-element spanned_element d todo v rest behind k (f k.1 (k.0, k.2, (d, k.3))) in
     record { element = d; others = todo; is = refl; text = i.0; parts = i.1; parse = i.2; spanned = i.3; each = i.4 }
 
-pub elements_more : (order : ElementOrder) (elements rest behind after : List ℕ) (x : ℕ) (v : ElementSpan) (met : Option (List ℕ)) (r : Bool) → rest ≡ x ∷ after → Follows (SpannedElement v) rest behind → MayFollow order v.id met → ParamsTest r v.params → r ≡ true
+pub elements_more : (order : ElementOrder) (elements rest behind after : List ℕ) (x : ℕ) (v : ElementSpan) (met : Option (List ℕ)) (r : Bool) → rest ≡ x ∷ after → SplitsElement rest v behind → MayFollow order v.id met → ParamsTest r v.params → r ≡ true
     → ElementsLeft order elements rest met → ElementsLeft order elements behind (Some v.id)
 elements_more order elements rest behind after x v met r e f above test is remaining es h =
     let l = remaining es h in
@@ -260,7 +254,7 @@ elements_more order elements rest behind after x v met r e f above test is remai
 refused : (order : ElementOrder) (elements rest : List ℕ) (met : Option (List ℕ)) → ElementsLeft order elements rest met → ((todo : List ElementParts) → Each Element todo rest → ¬ (InForm order rest met todo)) → ElementsAnswer order false elements
 refused order elements rest met remaining none es h = (λ u. absurd cc, λ g. let l = remaining es h in absurd (none l.todo l.each (l.to g)))
 
-pub elements_most : (order : ElementOrder) (elements rest behind after : List ℕ) (x : ℕ) (v : ElementSpan) (met : Option (List ℕ)) → rest ≡ x ∷ after → Follows (SpannedElement v) rest behind → ¬ (MayFollow order v.id met) → ElementsLeft order elements rest met → ElementsAnswer order false elements
+pub elements_most : (order : ElementOrder) (elements rest behind after : List ℕ) (x : ℕ) (v : ElementSpan) (met : Option (List ℕ)) → rest ≡ x ∷ after → SplitsElement rest v behind → ¬ (MayFollow order v.id met) → ElementsLeft order elements rest met → ElementsAnswer order false elements
 elements_most order elements rest behind after x v met e f most remaining es h = refused order elements rest met remaining none es h
   where
     none : (todo : List ElementParts) → Each Element todo rest → ¬ (InForm order rest met todo)
@@ -269,7 +263,7 @@ elements_most order elements rest behind after x v met e f most remaining es h =
         let first = follows_first order met i.element.id (ids_of i.others) (subst (InForm order rest met) i.is g).1 in
         most (subst (λ (id : List ℕ). MayFollow order id met) (element_same i.element v i.text i.parse i.spanned).0 first)
 
-pub elements_bad : (order : ElementOrder) (elements rest behind after : List ℕ) (x : ℕ) (v : ElementSpan) (met : Option (List ℕ)) (r : Bool) → rest ≡ x ∷ after → Follows (SpannedElement v) rest behind → ParamsTest r v.params → r ≡ false → ElementsLeft order elements rest met → ElementsAnswer order false elements
+pub elements_bad : (order : ElementOrder) (elements rest behind after : List ℕ) (x : ℕ) (v : ElementSpan) (met : Option (List ℕ)) (r : Bool) → rest ≡ x ∷ after → SplitsElement rest v behind → ParamsTest r v.params → r ≡ false → ElementsLeft order elements rest met → ElementsAnswer order false elements
 elements_bad order elements rest behind after x v met r e f test isn remaining es h = refused order elements rest met remaining none es h
   where
     none : (todo : List ElementParts) → Each Element todo rest → ¬ (InForm order rest met todo)
@@ -281,13 +275,6 @@ elements_bad order elements rest behind after x v met r e f test isn remaining e
         let params = same_params i.element.id v.params (flat_map param_form i.element.params) (sym (element_text i.element v i.text i.parse i.spanned) ∙ both.0 ∙ form_text i.element) in
         let yes : r ≡ true = (test i.element.params (element_same i.element v i.text i.parse i.spanned).1).1 params in
         absurd cc
-
-pub elements_stuck : (order : ElementOrder) (elements rest after : List ℕ) (x remaining : ℕ) (met : Option (List ℕ)) → rest ≡ x ∷ after → Fails (AnyOf SpannedElement) rest remaining → ElementsLeft order elements rest met → ElementsAnswer order false elements
-elements_stuck order elements rest after x remaining met e f more es h = refused order elements rest met more none es h
-  where
-    none : (todo : List ElementParts) → Each Element todo rest → ¬ (InForm order rest met todo)
-    none [] k g = let i : ◌≡◌ {A = List ℕ} [] (x ∷ after) = sym k ∙ e in absurd cc
-    none (q ∷ todo) (y, z, i, k, l) g = f.none y z i (element_spanned y (q, k))
 
 pub elements_end : (order : ElementOrder) (elements rest : List ℕ) (met : Option (List ℕ)) → rest ≡ [] → ElementsLeft order elements rest met → ElementsAnswer order true elements
 elements_end order elements rest met e remaining es h = (λ u. let l = remaining es h in l.from (one l.todo l.each), λ u. refl)

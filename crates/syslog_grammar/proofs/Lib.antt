@@ -19,6 +19,7 @@ pub mod DataTexts
 pub mod Headers
 pub mod Records
 pub mod Repeating
+pub mod FirstElements
 pub mod Viewing
 pub mod Meanings
 pub mod Rising
@@ -44,3 +45,4 @@ pub mod CanonicalForms
 pub mod Rewritten
 pub mod Props
 pub mod ShownRecords
+pub mod Sorting

@@ -6,6 +6,7 @@ use Rattle.octet_language.specs.Reading.{Follows}
 use Rattle.octet_language.proofs.Lists.{heads, tails}
 use Rattle.syslog_value.specs.Parts.{ParamParts, ElementParts}
 use Rattle.syslog_grammar.specs.Grammar.{Name, Param, Element, StructuredDataText}
+use Rattle.syslog_grammar.specs.FirstElements.{SplitsElement, SplitsParam}
 use Rattle.syslog_grammar.specs.Spans.{ParamSpan, SpannedParam, ElementSpan, SpannedElement}
 use Rattle.syslog_grammar.specs.Values.{Spells}
 use Rattle.syslog_grammar.proofs.Ahead.{may_start}
@@ -69,14 +70,14 @@ params_all text ps h = (ps, refl, h)
 nothing : (x : ℕ) (rest after : List ℕ) → rest ≡ x ∷ after → rest ≡ [] → ⊥
 nothing x rest after e h = let i : x ∷ after ≡ [] = sym e ∙ h in absurd cc
 
-pub params_more : (text rest behind after : List ℕ) (x : ℕ) (done next : List ParamParts) (v : ParamSpan) (read : ParamParts) → rest ≡ x ∷ after → Follows (SpannedParam v) rest behind
+pub params_more : (text rest behind after : List ℕ) (x : ℕ) (done next : List ParamParts) (v : ParamSpan) (read : ParamParts) → rest ≡ x ∷ after → SplitsParam rest v behind
     → ((value : List ℕ) → Spells value v.raw → read ≡ record { name = v.name; value = value }) → next ≡ done ++ read ∷ [] → ParamsRead text rest done → ParamsRead text behind next
 params_more text rest behind after x done next v read e f is n before ps h = go (before ps h)
   where
     go : ((todo : List ParamParts) × (ps ≡ done ++ todo) × Each Param todo rest) → (todo : List ParamParts) × (ps ≡ next ++ todo) × Each Param todo behind
     go ([], g, k) = absurd (nothing x rest after e k)
     go (q ∷ todo, g, k) =
-        let item = next_item Param SpannedParam IsPrefixFree-param spanned_param q todo v rest behind k f in
+        let item = next_item Param SpannedParam IsPrefixFree-param spanned_param q todo v rest behind k (f k.1 (k.0, k.2, (q, k.3))) in
         let same = param_same q v item.0 item.1 item.2 in
         let one : read ≡ q = is q.value same.1 ∙ rw (← same.0) refl in
         (todo, g ∙ sym (rw n (append_assoc done (read ∷ []) todo ∙ ap (λ (r : ParamParts). done ++ r ∷ todo) one)), item.3)
@@ -103,7 +104,7 @@ pub elements_all : (text : List ℕ) → ElementsRead text text []
 elements_all text [] h = ([], refl, inr (refl, h))
 elements_all text (e ∷ es) h = (e ∷ es, refl, inl h)
 
-pub elements_more : (text rest behind after : List ℕ) (x : ℕ) (done next : List ElementParts) (v : ElementSpan) (read : ElementParts) → rest ≡ x ∷ after → x ≡ 91 → Follows (SpannedElement v) rest behind
+pub elements_more : (text rest behind after : List ℕ) (x : ℕ) (done next : List ElementParts) (v : ElementSpan) (read : ElementParts) → rest ≡ x ∷ after → x ≡ 91 → SplitsElement rest v behind
     → ((ps : List ParamParts) → Each Param ps v.params → read ≡ record { id = v.id; params = ps }) → next ≡ done ++ read ∷ [] → ElementsRead text rest done → ElementsRead text behind next
 elements_more text rest behind after x done next v read e first f is n before es h = go (before es h)
   where
@@ -111,7 +112,7 @@ elements_more text rest behind after x done next v read e first f is n before es
     go (todo, g, inr (k, l)) = let i : x ≡ 45 = heads x 45 after [] (sym e ∙ l) in absurd (omega (arith, i, first))
     go ([], g, inl k) = absurd (nothing x rest after e k)
     go (q ∷ todo, g, inl k) =
-        let item = next_item Element SpannedElement IsPrefixFree-element spanned_element q todo v rest behind k f in
+        let item = next_item Element SpannedElement IsPrefixFree-element spanned_element q todo v rest behind k (f k.1 (k.0, k.2, (q, k.3))) in
         let same = element_same q v item.0 item.1 item.2 in
         let one : read ≡ q = is q.params same.1 ∙ rw (← same.0) refl in
         (todo, g ∙ sym (rw n (append_assoc done (read ∷ []) todo ∙ ap (λ (r : ElementParts). done ++ r ∷ todo) one)), inl item.3)

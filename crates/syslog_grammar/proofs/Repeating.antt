@@ -7,7 +7,6 @@ use Rattle.std.specs.declared.cmp.Ordering.{Ordering}
 use Rattle.std.specs.declared.cmp.Ordering.TheVariants.{Less, Equal, Greater}
 use Rattle.std.proofs.lemmas.List.{length-append, append_cancel_left, append_cancel_right, take_at, append-nil}
 use Rattle.octet_language.specs.Language.{AnyOf, Each, IfFirst}
-use Rattle.octet_language.specs.Reading.{Fails, Follows}
 use Rattle.octet_language.proofs.Lists.{heads, tails}
 use Rattle.syslog_value.specs.Order.{OctetsBelow}
 use Rattle.syslog_value.specs.Parts.{ElementParts}
@@ -16,10 +15,11 @@ use Rattle.syslog_value.proofs.Octets.{below_itself, below_trans}
 use Rattle.syslog_grammar.specs.Faults.{AreDistinct}
 use Rattle.syslog_grammar.specs.Grammar.{Element, StructuredDataText}
 use Rattle.syslog_grammar.specs.Ids.{HoldsDistinct, HoldsRepeated, IsAbove, IsAtMost, Known, Skips}
+use Rattle.syslog_grammar.specs.FirstElements.{SplitsElement}
 use Rattle.syslog_grammar.specs.Spans.{ElementSpan, SpannedElement}
 use Rattle.syslog_grammar.proofs.Ahead.{may_start}
 use Rattle.syslog_grammar.proofs.Names.{EndsName, OneAhead-name}
-use Rattle.syslog_grammar.proofs.ParamTexts.{SpannedParams, params_start, IsPrefixFree-element, element_spanned, spanned_element, element_prefix}
+use Rattle.syslog_grammar.proofs.ParamTexts.{SpannedParams, params_start, IsPrefixFree-element, spanned_element, element_prefix}
 
 -- ---- one element
 
@@ -45,8 +45,9 @@ pub record Split (e : ElementParts) (es : List ElementParts) (rest behind : List
   pub same : e.id ≡ v.id
   pub others : Each Element es behind
 
-pub split : (e : ElementParts) (es : List ElementParts) (rest behind : List ℕ) (v : ElementSpan) → Each Element (e ∷ es) rest → Follows (SpannedElement v) rest behind → Split e es rest behind v
-split e es rest behind v (x, y, g, h, k) (t, f, s) =
+pub split : (e : ElementParts) (es : List ElementParts) (rest behind : List ℕ) (v : ElementSpan) → Each Element (e ∷ es) rest → SplitsElement rest v behind → Split e es rest behind v
+split e es rest behind v (x, y, g, h, k) first =
+    let (t, f, s) = first y (x, g, (e, h)) in
     let same : x ≡ t = IsPrefixFree-element x y t behind (e, h) (spanned_element t (v, s)) (sym g ∙ f) in
     let rests : y ≡ behind = append_cancel_left x y behind (sym g ∙ f ∙ ap (λ (u : List ℕ). u ++ behind) (sym same)) in
     let i = element_id e x h in
@@ -57,11 +58,6 @@ split e es rest behind v (x, y, g, h, k) (t, f, s) =
       same = sym i.2 ∙ same_name i.0 v t (subst (SpannedElement i.0) same i.1) s;
       others = subst (Each Element es) rests k;
     }
-
--- elements where none can be read
-pub no_element : (es : List ElementParts) (rest t : List ℕ) (x remaining : ℕ) → rest ≡ x ∷ t → Each Element es rest → Fails (AnyOf SpannedElement) rest remaining → ⊥
-no_element [] rest t x remaining e h f = let i : ◌≡◌ {A = List ℕ} [] (x ∷ t) = sym h ∙ e in absurd cc
-no_element (d ∷ es) rest t x remaining e (y, z, g, h, k) f = f.none y z g (element_spanned y (d, h))
 
 -- ---- whether some elements have an id
 
@@ -77,7 +73,7 @@ Seeks elements id rest = (es : List ElementParts) → Each Element es elements �
 pub seeks_all : (elements id : List ℕ) → Seeks elements id elements
 seeks_all elements id es h = record { todo = es; each = h; to = λ k. k; from = λ k. k }
 
-found_more : (id : List ℕ) (es todo : List ElementParts) (rest behind t : List ℕ) (x : ℕ) (v : ElementSpan) → rest ≡ x ∷ t → Each Element todo rest → (HasId id es → HasId id todo) → (HasId id todo → HasId id es) → Follows (SpannedElement v) rest behind → v.id ≢ id → Left id es behind
+found_more : (id : List ℕ) (es todo : List ElementParts) (rest behind t : List ℕ) (x : ℕ) (v : ElementSpan) → rest ≡ x ∷ t → Each Element todo rest → (HasId id es → HasId id todo) → (HasId id todo → HasId id es) → SplitsElement rest v behind → v.id ≢ id → Left id es behind
 found_more id es [] rest behind t x v e h to from f ne = let i : ◌≡◌ {A = List ℕ} [] (x ∷ t) = sym h ∙ e in absurd cc
 found_more id es (d ∷ ds) rest behind t x v e h to from f ne =
     let s = split d ds rest behind v h f in
@@ -88,22 +84,19 @@ found_more id es (d ∷ ds) rest behind t x v e h to from f ne =
       from = λ k. from (inr k);
     }
 
-pub seeks_more : (elements id rest behind t : List ℕ) (x : ℕ) (v : ElementSpan) → rest ≡ x ∷ t → Follows (SpannedElement v) rest behind → v.id ≢ id → Seeks elements id rest → Seeks elements id behind
+pub seeks_more : (elements id rest behind t : List ℕ) (x : ℕ) (v : ElementSpan) → rest ≡ x ∷ t → SplitsElement rest v behind → v.id ≢ id → Seeks elements id rest → Seeks elements id behind
 seeks_more elements id rest behind t x v e f ne seeks es h =
     let k = seeks es h in
     found_more id es k.todo rest behind t x v e k.each k.to k.from f ne
 
-found_here : (id : List ℕ) (todo : List ElementParts) (rest behind t : List ℕ) (x : ℕ) (v : ElementSpan) → rest ≡ x ∷ t → Each Element todo rest → Follows (SpannedElement v) rest behind → v.id ≡ id → HasId id todo
+found_here : (id : List ℕ) (todo : List ElementParts) (rest behind t : List ℕ) (x : ℕ) (v : ElementSpan) → rest ≡ x ∷ t → Each Element todo rest → SplitsElement rest v behind → v.id ≡ id → HasId id todo
 found_here id [] rest behind t x v e h f g = let i : ◌≡◌ {A = List ℕ} [] (x ∷ t) = sym h ∙ e in absurd cc
 found_here id (d ∷ ds) rest behind t x v e h f g = inl ((split d ds rest behind v h f).same ∙ g)
 
-pub seeks_found : (elements id rest behind t : List ℕ) (x : ℕ) (v : ElementSpan) → rest ≡ x ∷ t → Follows (SpannedElement v) rest behind → v.id ≡ id → Seeks elements id rest → (es : List ElementParts) → Each Element es elements → IsTrue true ↔ HasId id es
+pub seeks_found : (elements id rest behind t : List ℕ) (x : ℕ) (v : ElementSpan) → rest ≡ x ∷ t → SplitsElement rest v behind → v.id ≡ id → Seeks elements id rest → (es : List ElementParts) → Each Element es elements → IsTrue true ↔ HasId id es
 seeks_found elements id rest behind t x v e f g seeks es h =
     let k = seeks es h in
     (λ u. k.from (found_here id k.todo rest behind t x v e k.each f g), λ u. refl)
-
-pub seeks_stuck : (elements id rest t : List ℕ) (x remaining : ℕ) → rest ≡ x ∷ t → Fails (AnyOf SpannedElement) rest remaining → Seeks elements id rest → (es : List ElementParts) → Each Element es elements → IsTrue false ↔ HasId id es
-seeks_stuck elements id rest t x remaining e f seeks es h = let k = seeks es h in absurd (no_element k.todo rest t x remaining e k.each f)
 
 none_left : (id : List ℕ) (todo : List ElementParts) → Each Element todo [] → HasId id todo → ⊥
 none_left id [] h k = k
@@ -193,14 +186,6 @@ known_nil text rest t x e ne s = elim s.more [
   | inr k ↦ ([], s.parts ∙ ap (λ (u : List ℕ). u ++ rest) (subst (λ (es : List ElementParts). Each Element es s.prefix) k.0 s.each) ∙ k.1, tt)
 ]
 
--- no element can be read there
-pub known_stuck : (text rest t : List ℕ) (x remaining : ℕ) → rest ≡ x ∷ t → x ≡ 91 → Fails (AnyOf SpannedElement) rest remaining → Known text rest → ⊥
-known_stuck text rest t x remaining e f g s = elim s.more [
-  | inl k ↦ no_element k.0 rest t x remaining e k.1 g
-  | inr k ↦
-      let i : x ≡ 45 = heads x 45 t [] (sym e ∙ k.1) in omega (arith, i, f)
-]
-
 pub known_end : (text rest : List ℕ) → AnyOf StructuredDataText text → rest ≡ [] → Known text rest → HoldsDistinct text
 known_end text rest d e s =
     (s.before, some_data s.before text (data_some text d) (subst (Each Element s.before) (sym (s.parts ∙ ap (λ (u : List ℕ). s.prefix ++ u) e ∙ append-nil s.prefix)) s.each), s.distinct)
@@ -212,12 +197,12 @@ record Next (rest behind : List ℕ) (v : ElementSpan) : Type 0 where
   pub whole : Each Element (element ∷ others) rest
   pub split : Split element others rest behind v
 
-next_of : (es : List ElementParts) (rest behind t : List ℕ) (x : ℕ) (v : ElementSpan) → rest ≡ x ∷ t → Each Element es rest → Follows (SpannedElement v) rest behind → Next rest behind v
+next_of : (es : List ElementParts) (rest behind t : List ℕ) (x : ℕ) (v : ElementSpan) → rest ≡ x ∷ t → Each Element es rest → SplitsElement rest v behind → Next rest behind v
 next_of [] rest behind t x v e h f =
     let i : ◌≡◌ {A = List ℕ} [] (x ∷ t) = sym h ∙ e in absurd cc
 next_of (d ∷ es) rest behind t x v e h f = record { element = d; others = es; whole = h; split = split d es rest behind v h f }
 
-next : (text rest behind t : List ℕ) (x : ℕ) (v : ElementSpan) → rest ≡ x ∷ t → x ≡ 91 → Follows (SpannedElement v) rest behind → Known text rest → Next rest behind v
+next : (text rest behind t : List ℕ) (x : ℕ) (v : ElementSpan) → rest ≡ x ∷ t → x ≡ 91 → SplitsElement rest v behind → Known text rest → Next rest behind v
 next text rest behind t x v e g f s = elim s.more [
   | inl k ↦ next_of k.0 rest behind t x v e k.1 f
   | inr k ↦
@@ -240,7 +225,7 @@ keep text rest behind v s n none = record {
 }
 
 -- an id above all
-pub rising_above : (text rest behind t : List ℕ) (x : ℕ) (greatest : Option (List ℕ)) (v : ElementSpan) → rest ≡ x ∷ t → x ≡ 91 → Follows (SpannedElement v) rest behind → IsAbove v.id greatest → Rising text rest greatest → Rising text behind (Some v.id)
+pub rising_above : (text rest behind t : List ℕ) (x : ℕ) (greatest : Option (List ℕ)) (v : ElementSpan) → rest ≡ x ∷ t → x ≡ 91 → SplitsElement rest v behind → IsAbove v.id greatest → Rising text rest greatest → Rising text behind (Some v.id)
 rising_above text rest behind t x greatest v e g f a s =
     let n = next text rest behind t x v e g f s.known in
     record {
@@ -249,7 +234,7 @@ rising_above text rest behind t x greatest v e g f a s =
     }
 
 -- an id that is not among those before
-pub known_new : (text rest behind t : List ℕ) (x : ℕ) (v : ElementSpan) (found : Bool) → rest ≡ x ∷ t → x ≡ 91 → Follows (SpannedElement v) rest behind
+pub known_new : (text rest behind t : List ℕ) (x : ℕ) (v : ElementSpan) (found : Bool) → rest ≡ x ∷ t → x ≡ 91 → SplitsElement rest v behind
     → ((es : List ElementParts) → Each Element es (take (length text - length rest) text) → IsTrue found ↔ HasId v.id es) → found ≡ false → Known text rest → Known text behind
 known_new text rest behind t x v found e g f finds isn s =
     keep text rest behind v s (next text rest behind t x v e g f s) (λ h. apart ((finds s.before (subst (Each Element s.before) (sym (prefix_is text s.prefix rest s.parts)) s.each)).1 h))
@@ -259,7 +244,7 @@ known_new text rest behind t x v found e g f finds isn s =
         let i : false ≡ true = sym isn ∙ y in absurd cc
 
 -- an id that is among those before
-pub known_repeated : (text rest behind t : List ℕ) (x : ℕ) (v : ElementSpan) (found : Bool) (at : ℕ) → AnyOf StructuredDataText text → rest ≡ x ∷ t → x ≡ 91 → Follows (SpannedElement v) rest behind
+pub known_repeated : (text rest behind t : List ℕ) (x : ℕ) (v : ElementSpan) (found : Bool) (at : ℕ) → AnyOf StructuredDataText text → rest ≡ x ∷ t → x ≡ 91 → SplitsElement rest v behind
     → ((es : List ElementParts) → Each Element es (take (length text - length rest) text) → IsTrue found ↔ HasId v.id es) → found ≡ true → at ≡ length (take (length text - length rest) text) + 1 → Known text rest → HoldsRepeated text at
 known_repeated text rest behind t x v found at d e g f finds is offset s =
     let n = next text rest behind t x v e g f s in
@@ -278,20 +263,20 @@ known_repeated text rest behind t x v found at d e g f finds is offset s =
 pub skips_none : (elements : List ℕ) → Skips elements elements
 skips_none elements = record { prefix = []; parts = refl; both = λ es h. ([], es, refl, h) }
 
-pub skips_more : (elements rest behind t : List ℕ) (x : ℕ) (v : ElementSpan) → rest ≡ x ∷ t → Follows (SpannedElement v) rest behind → Skips elements rest → Skips elements behind
-skips_more elements rest behind t x v e f s = record {
-  prefix = s.prefix ++ f.0;
-  parts = s.parts ∙ ap (λ (u : List ℕ). s.prefix ++ u) f.1 ∙ sym (append_assoc s.prefix f.0 behind);
+pub skips_more : (elements rest behind t : List ℕ) (x : ℕ) (v : ElementSpan) → rest ≡ x ∷ t → SplitsElement rest v behind → (prefix : List ℕ) × (rest ≡ prefix ++ behind) → Skips elements rest → Skips elements behind
+skips_more elements rest behind t x v e f (text, parts) s = record {
+  prefix = s.prefix ++ text;
+  parts = s.parts ∙ ap (λ (u : List ℕ). s.prefix ++ u) parts ∙ sym (append_assoc s.prefix text behind);
   both = λ es h. let k = s.both es h in one k.0 k.1 k.2 k.3;
 }
   where
-    one : (us bs : List ElementParts) → Each Element us s.prefix → Each Element bs rest → (cs : List ElementParts) × (ds : List ElementParts) × Each Element cs (s.prefix ++ f.0) × Each Element ds behind
+    one : (us bs : List ElementParts) → Each Element us s.prefix → Each Element bs rest → (cs : List ElementParts) × (ds : List ElementParts) × Each Element cs (s.prefix ++ text) × Each Element ds behind
     one us [] h k =
         let i : ◌≡◌ {A = List ℕ} [] (x ∷ t) = sym k ∙ e in absurd cc
     one us (d ∷ bs) h k =
         let p = split d bs rest behind v k f in
-        let same : p.prefix ≡ f.0 = append_cancel_right p.prefix f.0 behind (sym p.parts ∙ f.1) in
-        (us ++ d ∷ [], bs, each_end us d s.prefix f.0 h (subst (Element d) same p.text), p.others)
+        let same : p.prefix ≡ text = append_cancel_right p.prefix text behind (sym p.parts ∙ parts) in
+        (us ++ d ∷ [], bs, each_end us d s.prefix text h (subst (Element d) same p.text), p.others)
 
 -- elements further on, where the ids up to there differ
 pub known_further : (text rest behind t : List ℕ) (x : ℕ) → rest ≡ x ∷ t → x ≡ 91 → Skips rest behind → ((es : List ElementParts) → Each Element es (take (length text - length behind) text) → AreDistinct es) → Known text rest → Known text behind

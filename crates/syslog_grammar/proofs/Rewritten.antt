@@ -5,8 +5,7 @@ use Rattle.std.specs.List.{flat_map}
 use Rattle.std.proofs.lemmas.List.{append-nil}
 use Rattle.std.proofs.lemmas.List.Sorted.{IsPermutation-refl}
 use Rattle.memchr.specs.Find.{IsFirstByte, is_byte}
-use Rattle.octet_language.specs.Language.{Language, Only, ◌⋅◌, AnyOf, Each}
-use Rattle.octet_language.specs.Reading.{Fails, Follows}
+use Rattle.octet_language.specs.Language.{Language, Only, ◌⋅◌, Each}
 use Rattle.octet_language.proofs.Lists.{tails}
 use Rattle.syslog_value.specs.Parts.{ParamParts, ElementParts, Parts, IsById}
 use Rattle.syslog_grammar.specs.Appending.{Anything, Adds, Puts}
@@ -17,7 +16,9 @@ use Rattle.syslog_grammar.specs.Verbatim.{HasOneMessageForm, VerbatimForm}
 use Rattle.syslog_grammar.specs.Ids.{IsAbove, IsAtMost, IsRisingFrom, ids_of}
 use Rattle.syslog_grammar.specs.Reescaped.{ValueOf, ParamOf, ParamsOf, ElementOf, ElementsOf, StructuredDataOf, AreUnordered}
 use Rattle.syslog_grammar.specs.ViewParts.{ViewParts, HasParts, IsViewOf}
-use Rattle.syslog_grammar.specs.Spans.{ParamSpan, SpannedParam, ElementSpan, SpannedElement}
+use Rattle.syslog_grammar.specs.FirstElements.{SplitsElement, SplitsParam}
+use Rattle.syslog_grammar.specs.Sorting.{SortedDataOf}
+use Rattle.syslog_grammar.specs.Spans.{ParamSpan, SpannedParam, ElementSpan}
 use Rattle.syslog_grammar.specs.Time.{CivilTime}
 use Rattle.syslog_grammar.specs.Values.{Piece, Spells}
 use Rattle.syslog_grammar.specs.WellFormed.{IsMeaning, AddsCanonical}
@@ -25,7 +26,7 @@ use Rattle.syslog_grammar.proofs.Appends.{adds_some}
 use Rattle.syslog_grammar.proofs.CanonicalForms.{word_formed}
 use Rattle.syslog_grammar.proofs.DataForms.{item, form_raw, form_text, first_item, of_rising, rising_of, none_met, not_above}
 use Rattle.syslog_grammar.proofs.OwnedParts.{param_same, element_same}
-use Rattle.syslog_grammar.proofs.ParamTexts.{IsPrefixFree-param, spanned_param, element_spanned, param_prefix, element_prefix}
+use Rattle.syslog_grammar.proofs.ParamTexts.{IsPrefixFree-param, spanned_param, param_prefix, element_prefix}
 use Rattle.syslog_grammar.proofs.ValueForms.{joined, runs, escape, lone_more, marked_at, at_mark, all_plain, escaped_join, escaped_special, free_rest}
 
 -- ---- values
@@ -100,7 +101,7 @@ params_all params old = record { done = []; parts = sym (append-nil old); is = �
 pub params_begun : (params rest old out : List ℕ) → ParamsWritten params rest old out → Adds Anything old out
 params_begun params rest old out w = (w.done, tt, w.parts)
 
-pub params_more : (params rest behind after old out mid : List ℕ) (x : ℕ) (v : ParamSpan) → rest ≡ x ∷ after → Follows (SpannedParam v) rest behind → Adds (ParamOf v) out mid → ParamsWritten params rest old out → ParamsWritten params behind old mid
+pub params_more : (params rest behind after old out mid : List ℕ) (x : ℕ) (v : ParamSpan) → rest ≡ x ∷ after → SplitsParam rest v behind → Adds (ParamOf v) out mid → ParamsWritten params rest old out → ParamsWritten params behind old mid
 params_more params rest behind after old out mid x v e f (z, zs, ze) w = record {
   done = w.done ++ z;
   parts = ze ∙ ap (λ (u : List ℕ). u ++ z) w.parts ∙ append_assoc old w.done z;
@@ -110,7 +111,7 @@ params_more params rest behind after old out mid x v e f (z, zs, ze) w = record 
     one : (ps todo : List ParamParts) → Each Param todo rest → flat_map param_form ps ≡ w.done ++ flat_map param_form todo → (ks : List ParamParts) × Each Param ks behind × (flat_map param_form ps ≡ w.done ++ z ++ flat_map param_form ks)
     one ps [] k g = let i : ◌≡◌ {A = List ℕ} [] (x ∷ after) = sym k ∙ e in absurd cc
     one ps (q ∷ todo) k g =
-        let i = item Param SpannedParam IsPrefixFree-param spanned_param q todo v rest behind k f in
+        let i = item Param SpannedParam IsPrefixFree-param spanned_param q todo v rest behind k (f k.1 (k.0, k.2, (q, k.3))) in
         let same = param_same q v i.0 i.2 i.3 in
         (todo, i.4, g ∙ ap (λ (u : List ℕ). w.done ++ (u ++ flat_map param_form todo)) (sym (param_written q v z same.0 same.1 zs)) ∙ sym (append_assoc w.done z (flat_map param_form todo)))
 
@@ -125,7 +126,7 @@ params_end params rest old out e w = (w.done, λ ps h. let l = w.is ps h in one 
 
 -- ---- elements
 
-element_written : (d : ElementParts) (v : ElementSpan) (b : List ℕ) → d.id ≡ v.id → Each Param d.params v.params → ElementOf v b → b ≡ element_form d
+pub element_written : (d : ElementParts) (v : ElementSpan) (b : List ℕ) → d.id ≡ v.id → Each Param d.params v.params → ElementOf v b → b ≡ element_form d
 element_written d v b n s (x0, y0, e0, h0, (x1, y1, e1, h1, (x2, y2, e2, h2, h3))) =
     let params : x2 ≡ flat_map param_form d.params = h2 d.params s in
     e0 ∙ rw (h0, e1, h1, e2, params, h3, ← n) refl ∙ sym (form_text d)
@@ -143,7 +144,7 @@ elements_all elements old = record { done = []; parts = sym (append-nil old); is
 pub elements_begun : (elements rest : List ℕ) (met : Option (List ℕ)) (old out : List ℕ) → ElementsWritten elements rest met old out → Adds Anything old out
 elements_begun elements rest met old out w = (w.done, tt, w.parts)
 
-pub elements_more : (elements rest behind after old out mid : List ℕ) (x : ℕ) (v : ElementSpan) (met : Option (List ℕ)) → rest ≡ x ∷ after → Follows (SpannedElement v) rest behind → IsAbove v.id met → Adds (ElementOf v) out mid
+pub elements_more : (elements rest behind after old out mid : List ℕ) (x : ℕ) (v : ElementSpan) (met : Option (List ℕ)) → rest ≡ x ∷ after → SplitsElement rest v behind → IsAbove v.id met → Adds (ElementOf v) out mid
     → ElementsWritten elements rest met old out → ElementsWritten elements behind (Some v.id) old mid
 elements_more elements rest behind after old out mid x v met e f above (z, zs, ze) w = record {
   done = w.done ++ z;
@@ -173,14 +174,7 @@ elements_end elements rest met old out e w = (w.done, λ es h. let l = w.is es h
         let s = element_prefix y (q, k) in
         let j : ◌≡◌ {A = List ℕ} [] (91 ∷ (s.0 ++ z)) = sym e ∙ i ∙ ap (λ (t : List ℕ). t ++ z) s.1 in absurd cc
 
-pub elements_stuck : (elements rest after old out : List ℕ) (x remaining : ℕ) (met : Option (List ℕ)) → rest ≡ x ∷ after → Fails (AnyOf SpannedElement) rest remaining → ElementsWritten elements rest met old out → AreUnordered elements
-elements_stuck elements rest after old out x remaining met e f w es h by_id = let l = w.is es h in one l.0 l.1
-  where
-    one : (todo : List ElementParts) → Each Element todo rest → ⊥
-    one [] k = let i : ◌≡◌ {A = List ℕ} [] (x ∷ after) = sym k ∙ e in absurd cc
-    one (q ∷ todo) (y, z, i, k, l) = f.none y z i (element_spanned y (q, k))
-
-pub elements_most : (elements rest behind after old out : List ℕ) (x : ℕ) (v : ElementSpan) (met : Option (List ℕ)) → rest ≡ x ∷ after → Follows (SpannedElement v) rest behind → IsAtMost v.id met → ElementsWritten elements rest met old out → AreUnordered elements
+pub elements_most : (elements rest behind after old out : List ℕ) (x : ℕ) (v : ElementSpan) (met : Option (List ℕ)) → rest ≡ x ∷ after → SplitsElement rest v behind → IsAtMost v.id met → ElementsWritten elements rest met old out → AreUnordered elements
 elements_most elements rest behind after old out x v met e f most w es h by_id =
     let l = w.is es h in
     let i = first_item rest behind after x v l.0 e f l.1 in
@@ -206,6 +200,14 @@ record_written s old m1 m2 new (x, xh, xe) (y, yh, ye) (z, zh, ze) b (p, parse, 
       view_record s p.elements,
       (p, parse, range, distinct, view_is s p h elements.1),
       (x ++ (y ++ z), (x, y ++ z, refl, xh, (y, z, refl, elements.0, zh)), ze ∙ ap (λ (u : List ℕ). u ++ z) (ye ∙ ap (λ (u : List ℕ). u ++ y) xe) ∙ append_assoc (old ++ x) y z ∙ append_assoc old x (y ++ z)),
+    )
+
+pub record_sorted : (s : ViewParts) (old m1 m2 new : List ℕ) → Adds (ViewHeader s) old m1 → Adds (SortedDataOf s.elements) m1 m2 → Adds (Only (message_form s.message)) m2 new → (b : List ℕ) → IsViewOf b s → AddsCanonical b old new
+record_sorted s old m1 m2 new (x, xh, xe) (y, yh, ye) (z, zh, ze) b (p, parse, range, distinct, h) =
+    let k = yh p.elements h.elements in (
+      view_record s k.0,
+      (p, parse, range, distinct, record { priority = h.priority; time = h.instant; hostname = h.hostname; app_name = h.app_name; proc_id = h.proc_id; msg_id = h.msg_id; elements = k.1; by_id = k.2; message = h.message }),
+      (x ++ (y ++ z), (x, y ++ z, refl, xh, (y, z, refl, k.3, zh)), ze ∙ ap (λ (u : List ℕ). u ++ z) (ye ∙ ap (λ (u : List ℕ). u ++ y) xe) ∙ append_assoc (old ++ x) y z ∙ append_assoc old x (y ++ z)),
     )
 
 -- ---- what lies in the octets

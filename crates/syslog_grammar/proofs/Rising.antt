@@ -11,7 +11,6 @@ use Rattle.std.proofs.lemmas.List.Sorted.{IsPermutation-sym}
 use Rattle.std.proofs.lemmas.Map.Keys.{IsDistinct-IsPermutation}
 use Rattle.std.proofs.lemmas.Slice.Eq.{bytes_eq-Decides}
 use Rattle.octet_language.specs.Language.{Each}
-use Rattle.octet_language.specs.Reading.{Follows}
 use Rattle.syslog_value.specs.Order.{OctetsBelow}
 use Rattle.syslog_value.specs.Parts.{ElementParts}
 use Rattle.syslog_value.specs.Structured.{HasId}
@@ -19,7 +18,8 @@ use Rattle.syslog_value.proofs.Octets.{below_itself, below_trans}
 use Rattle.syslog_grammar.specs.Faults.{AreDistinct}
 use Rattle.syslog_grammar.specs.Grammar.{Element}
 use Rattle.syslog_grammar.specs.Ids.{IsRisingFrom, ids_of}
-use Rattle.syslog_grammar.specs.Spans.{ElementSpan, SpannedElement}
+use Rattle.syslog_grammar.specs.FirstElements.{SplitsElement}
+use Rattle.syslog_grammar.specs.Spans.{ElementSpan}
 use Rattle.syslog_grammar.proofs.ParamTexts.{element_prefix}
 use Rattle.syslog_grammar.proofs.Repeating.{split}
 
@@ -44,10 +44,10 @@ put_suc n x [] h = absurd (omega arith)
 put_suc zero x (y ∷ offsets) h = refl
 put_suc (suc n) x (y ∷ offsets) h = ap (λ (k : List (List ℕ)). y.now ∷ k) (put_suc n x offsets (omega arith))
 
-put : (n : ℕ) (x : Lent) (offsets : List Lent) → n < length offsets → texts (take (n + 1) (set offsets n x)) ≡ texts (take n offsets) ++ x.now ∷ []
+pub put : (n : ℕ) (x : Lent) (offsets : List Lent) → n < length offsets → texts (take (n + 1) (set offsets n x)) ≡ texts (take n offsets) ++ x.now ∷ []
 put n x offsets h = rw add-one (put_suc n x offsets h)
 
-fill_one : (es todo : List ElementParts) (rest behind after : List ℕ) (x count : ℕ) (offsets : List Lent) (v : ElementSpan) (id : Lent) → rest ≡ x ∷ after → Each Element todo rest → Follows (SpannedElement v) rest behind → id.now ≡ v.id → count < length offsets
+fill_one : (es todo : List ElementParts) (rest behind after : List ℕ) (x count : ℕ) (offsets : List Lent) (v : ElementSpan) (id : Lent) → rest ≡ x ∷ after → Each Element todo rest → SplitsElement rest v behind → id.now ≡ v.id → count < length offsets
     → ids_of es ≡ texts (take count offsets) ++ ids_of todo → (more : List ElementParts) × Each Element more behind × (ids_of es ≡ texts (take (count + 1) (set offsets count id)) ++ ids_of more)
 fill_one es [] rest behind after x count offsets v id e h f i room g = let k : ◌≡◌ {A = List ℕ} [] (x ∷ after) = sym h ∙ e in absurd cc
 fill_one es (d ∷ ds) rest behind after x count offsets v id e h f i room g =
@@ -58,7 +58,7 @@ fill_one es (d ∷ ds) rest behind after x count offsets v id e h f i room g =
           ∙ sym (append_assoc (texts (take count offsets)) (id.now ∷ []) (ids_of ds)) ∙ ap (λ (k : List (List ℕ)). k ++ ids_of ds) (sym (put count id offsets room)),
     )
 
-pub fills_more : (elements rest behind after : List ℕ) (x count : ℕ) (offsets : List Lent) (v : ElementSpan) (id : Lent) → rest ≡ x ∷ after → Follows (SpannedElement v) rest behind → id.now ≡ v.id → count < length offsets → Fills elements rest count offsets → Fills elements behind (count + 1) (set offsets count id)
+pub fills_more : (elements rest behind after : List ℕ) (x count : ℕ) (offsets : List Lent) (v : ElementSpan) (id : Lent) → rest ≡ x ∷ after → SplitsElement rest v behind → id.now ≡ v.id → count < length offsets → Fills elements rest count offsets → Fills elements behind (count + 1) (set offsets count id)
 fills_more elements rest behind after x count offsets v id e f i room fills es h =
     let k = fills es h in
     fill_one es k.0 rest behind after x count offsets v id e k.1 f i room k.2

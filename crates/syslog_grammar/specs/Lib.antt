@@ -5,6 +5,7 @@ pub mod Time
 pub mod Dates
 pub mod Grammar
 pub mod Spans
+pub mod FirstElements
 pub mod Views
 pub mod Fields
 pub mod Faults
@@ -25,3 +26,4 @@ pub mod Escapes
 pub mod DecodeFaults
 pub mod Reescaped
 pub mod Unsorted
+pub mod Sorting

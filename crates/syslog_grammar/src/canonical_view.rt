@@ -16,6 +16,7 @@ use crate::canonical::{
 use crate::message::MessageView;
 use crate::record_view::RecordView;
 use crate::reescaped::put_structured_data;
+use crate::sorted::put_sorted;
 use crate::structured_data_form::{ElementOrder, has_structured_data_form};
 use std::alloc::{AllocError, Global};
 
@@ -81,6 +82,29 @@ fn put_ordered(view: &RecordView<'_>, out: &mut Vec<u8>) -> Result<bool, AllocEr
     Ok(true)
 }
 
+/// Appends the canonical octets of the record that a view shows, with its elements sorted on the
+/// stack. Where they cannot be, the answer is false, and a part may have been appended.
+fn put_resorted(view: &RecordView<'_>, out: &mut Vec<u8>) -> Result<bool, AllocError>
+    ensures begun { Adds Anything out.old.items out.new.items }
+    ensures ok { (b : List ℕ) → IsViewOf b (view_parts view.now)
+        → IfOk result (λ all. IsTrue all → AddsCanonical b out.old.items out.new.items) }
+{
+    let fields = HeaderValues {
+        priority: view.priority(),
+        instant: view.instant(),
+        hostname: view.hostname,
+        app_name: view.app_name,
+        proc_id: view.proc_id,
+        msg_id: view.msg_id,
+    };
+    put_header(&fields, out)?;
+    if !put_sorted(view.structured_data, out)? {
+        return Ok(false);
+    }
+    put_message_part(view.message.octets, view.message.has_mark, out)?;
+    Ok(true)
+}
+
 /// Appends the canonical octets of the record that a view shows, by way of a record that owns its
 /// parts.
 fn put_owned(alloc: Global, view: &RecordView<'_>, out: &mut Vec<u8>) -> Result<(), AllocError>
@@ -92,7 +116,22 @@ fn put_owned(alloc: Global, view: &RecordView<'_>, out: &mut Vec<u8>) -> Result<
     put_record(&record, out)
 }
 
-/// Appends the canonical octets of the record that a view shows, in one of these two ways.
+/// Appends the canonical octets of the record that a view shows, where its elements are not sorted
+/// by id.
+fn put_unordered(alloc: Global, view: &RecordView<'_>, out: &mut Vec<u8>) -> Result<(), AllocError>
+    ensures begun { Adds Anything out.old.items out.new.items }
+    ensures ok { (b : List ℕ) → IsViewOf b (view_parts view.now)
+        → OnOk result (AddsCanonical b out.old.items out.new.items) }
+{
+    let start = out.len();
+    if put_resorted(view, out)? {
+        return Ok(());
+    }
+    out.truncate(start);
+    put_owned(alloc, view, out)
+}
+
+/// Appends the canonical octets of the record that a view shows, in one of these ways.
 fn put_view(alloc: Global, view: &RecordView<'_>, out: &mut Vec<u8>) -> Result<(), AllocError>
     ensures begun { Adds Anything out.old.items out.new.items }
     ensures ok { (b : List ℕ) → IsViewOf b (view_parts view.now)
@@ -103,13 +142,13 @@ fn put_view(alloc: Global, view: &RecordView<'_>, out: &mut Vec<u8>) -> Result<(
         return Ok(());
     }
     out.truncate(start);
-    put_owned(alloc, view, out)
+    put_unordered(alloc, view, out)
 }
 
 /// Appends the canonical octets of the record that the octets of a view spell.
 ///
 /// Where a growth is refused, the vector is unchanged. Where the ids of the elements ascend, no
-/// memory is taken but that of the vector.
+/// memory is taken but that of the vector. Others are sorted on the stack, if that can be.
 pub fn put_canonical(
     alloc: Global,
     view: &RecordView<'_>,

@@ -8,7 +8,7 @@ ghost use Rattle.syslog_grammar.specs.Faults.{AreDistinct};
 ghost use Rattle.syslog_grammar.specs.Grammar.{Element};
 ghost use Rattle.syslog_grammar.specs.Ids.{IsRisingFrom, ids_of};
 
-use crate::element::element;
+use crate::first_element::first_element;
 use crate::reading::next;
 use crate::repeated::is_above;
 
@@ -21,9 +21,7 @@ fn fill<'a>(elements: &'a [u8], offsets: &mut [&'a [u8]]) -> Option<usize>
     let mut rest = elements;
     let mut count = 0;
     while let Some((_first, _after)) = next(rest) {
-        let Ok((found, behind)) = element(rest) else {
-            return None;
-        };
+        let (found, behind) = first_element(rest);
         if count >= offsets.len() {
             return None;
         }

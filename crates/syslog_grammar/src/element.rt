@@ -15,14 +15,14 @@ use crate::value::value;
 /// A parameter of an element, as it lies in the octets.
 #[derive(Clone, Copy, Debug, PartialEq, Eq)]
 pub struct ParamView<'a> {
-    name: &'a [u8],
-    raw: &'a [u8],
+    pub(crate) name: &'a [u8],
+    pub(crate) raw: &'a [u8],
 }
 
 /// An element of the structured data, as it lies in the octets.
 #[derive(Clone, Copy, Debug, PartialEq, Eq)]
 pub struct ElementView<'a> {
-    id: &'a [u8],
+    pub(crate) id: &'a [u8],
     pub(crate) params: &'a [u8],
 }
 

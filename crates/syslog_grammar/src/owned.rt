@@ -9,7 +9,8 @@ ghost use Rattle.syslog_grammar.specs.Values.{Spells};
 ghost use Rattle.syslog_grammar.specs.Views.{element_span, message_parts, param_span};
 ghost use Rattle.syslog_grammar.specs.WellFormed.{WellFormed};
 
-use crate::element::{ElementView, ParamView, element, param};
+use crate::element::{ElementView, ParamView};
+use crate::first_element::{first_element, first_param};
 use crate::message::MessageView;
 use crate::reading::next;
 use crate::record_view::RecordView;
@@ -72,9 +73,7 @@ fn to_params(alloc: Global, octets: &[u8]) -> Result<Vec<Param>, AllocError>
     let mut params = Vec::new(alloc);
     let mut rest = octets;
     while let Some((_first, _after)) = next(rest) {
-        let Ok((found, behind)) = param(rest) else {
-            return Err(AllocError);
-        };
+        let (found, behind) = first_param(rest);
         params.push(to_param(alloc, &found)?)?;
         rest = behind;
     }
@@ -103,9 +102,7 @@ fn to_elements(alloc: Global, octets: &[u8]) -> Result<Vec<Element>, AllocError>
         if first != b'[' {
             return Ok(elements);
         }
-        let Ok((found, behind)) = element(rest) else {
-            return Err(AllocError);
-        };
+        let (found, behind) = first_element(rest);
         elements.push(to_element(alloc, &found)?)?;
         rest = behind;
     }

@@ -7,7 +7,8 @@ ghost use Rattle.syslog_grammar.specs.Reescaped.{ParamOf, ParamsOf, PutsUnless, 
 ghost use Rattle.syslog_grammar.specs.Views.{element_span, param_span};
 
 use crate::appending::put;
-use crate::element::{ElementView, ParamView, element, param};
+use crate::element::{ElementView, ParamView};
+use crate::first_element::{first_element, first_param};
 use crate::reading::next;
 use crate::repeated::is_above;
 use crate::structured_data_form::{ElementOrder, has_structured_data_form};
@@ -48,9 +49,7 @@ fn put_params(params: &[u8], out: &mut Vec<u8>) -> Result<(), AllocError>
 {
     let mut rest = params;
     while let Some((_first, _after)) = next(rest) {
-        let Ok((found, behind)) = param(rest) else {
-            return Err(AllocError);
-        };
+        let (found, behind) = first_param(rest);
         put_param(&found, out)?;
         rest = behind;
     }
@@ -58,7 +57,7 @@ fn put_params(params: &[u8], out: &mut Vec<u8>) -> Result<(), AllocError>
 }
 
 /// Appends an element.
-fn put_element(element: &ElementView<'_>, out: &mut Vec<u8>) -> Result<(), AllocError>
+pub fn put_element(element: &ElementView<'_>, out: &mut Vec<u8>) -> Result<(), AllocError>
     ensures { Puts (ElementOf (element_span element.now)) out.old.items out.new.items result }
 {
     put(b"[", out)?;
@@ -75,9 +74,7 @@ fn put_ascending(elements: &[u8], out: &mut Vec<u8>) -> Result<bool, AllocError>
     let mut rest = elements;
     let mut greatest: Option<&[u8]> = None;
     while let Some((_first, _after)) = next(rest) {
-        let Ok((found, behind)) = element(rest) else {
-            return Ok(false);
-        };
+        let (found, behind) = first_element(rest);
         let id = found.id();
         if !is_above(id, greatest) {
             return Ok(false);

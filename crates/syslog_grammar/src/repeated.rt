@@ -9,7 +9,7 @@ ghost use Rattle.syslog_grammar.specs.Ids.{HoldsDistinct, HoldsRepeated, IsAbove
 ghost use Rattle.syslog_grammar.specs.Ids.{Skips};
 
 use crate::distinct::differ;
-use crate::element::element;
+use crate::first_element::first_element;
 use crate::reading::next;
 use std::cmp::Ordering;
 
@@ -20,9 +20,7 @@ fn holds_id(elements: &[u8], id: &[u8]) -> bool
 {
     let mut rest = elements;
     while let Some((_first, _after)) = next(rest) {
-        let Ok((found, behind)) = element(rest) else {
-            return false;
-        };
+        let (found, behind) = first_element(rest);
         if found.id() == id {
             return true;
         }
@@ -58,9 +56,7 @@ fn behind_rising(structured_data: &[u8]) -> &[u8]
         if first != b'[' {
             return rest;
         }
-        let Ok((found, behind)) = element(rest) else {
-            return rest;
-        };
+        let (found, behind) = first_element(rest);
         let id = found.id();
         if !is_above(id, greatest) {
             return rest;
@@ -80,9 +76,7 @@ fn behind_count(elements: &[u8], count: usize) -> &[u8]
         let Some((_first, _after)) = next(rest) else {
             return rest;
         };
-        let Ok((_found, behind)) = element(rest) else {
-            return rest;
-        };
+        let (_found, behind) = first_element(rest);
         rest = behind;
     }
     rest
@@ -92,9 +86,10 @@ fn behind_count(elements: &[u8], count: usize) -> &[u8]
 fn count(elements: &[u8]) -> usize {
     let mut rest = elements;
     for i in 0..elements.len() {
-        let Ok((_found, behind)) = element(rest) else {
+        if rest.is_empty() {
             return i;
-        };
+        }
+        let (_found, behind) = first_element(rest);
         rest = behind;
     }
     elements.len()
@@ -146,9 +141,7 @@ pub fn first_repeated(structured_data: &[u8]) -> Option<usize>
         if first != b'[' {
             return None;
         }
-        let Ok((found, behind)) = element(rest) else {
-            return None;
-        };
+        let (found, behind) = first_element(rest);
         let id = found.id();
         let (before, _) = structured_data.split_at(structured_data.len() - rest.len());
         if holds_id(before, id) {

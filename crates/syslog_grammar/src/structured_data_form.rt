@@ -10,7 +10,7 @@ ghost use Rattle.syslog_grammar.specs.ElementOrders.{IsInOrder, MayFollow};
 ghost use Rattle.syslog_grammar.specs.Grammar.{StructuredDataText, Element, Param};
 ghost use Rattle.syslog_grammar.specs.Values.{Spells};
 
-use crate::element::{element, param};
+use crate::first_element::{first_element, first_param};
 use crate::reading::next;
 use crate::repeated::is_above;
 use crate::unescape::begins_special;
@@ -41,9 +41,7 @@ fn has_params_form(params: &[u8]) -> bool
 {
     let mut rest = params;
     while let Some((_first, _after)) = next(rest) {
-        let Ok((found, behind)) = param(rest) else {
-            return false;
-        };
+        let (found, behind) = first_param(rest);
         if !has_value_form(found.raw()) {
             return false;
         }
@@ -78,9 +76,7 @@ fn has_elements_form(elements: &[u8], order: ElementOrder) -> bool
     let mut rest = elements;
     let mut greatest: Option<&[u8]> = None;
     while let Some((_first, _after)) = next(rest) {
-        let Ok((found, behind)) = element(rest) else {
-            return false;
-        };
+        let (found, behind) = first_element(rest);
         let id = found.id();
         if !may_follow(order, id, greatest) {
             return false;

@@ -6,7 +6,7 @@ use Rattle.syslog_grammar.proofs.distinct.fill.Goals as goal
 pub loop-first-preserved : goal.loop-first-preserved
 loop-first-preserved c = record {
   room = search rules;
-  fills = fills_more c.args.elements.now c.loop-first.rest.now c.in-Ok.behind.now c.in-Some._after.now c.in-Some._first c.loop-first.count c.loop-first.offsets (element_span c.in-Ok.found) c.id.result c.in-Some.ensures c.in-Ok.ensures c.id.ensures (omega arith) c.loop-first.invariant.fills;
+  fills = fills_more c.args.elements.now c.loop-first.rest.now c.first_element.result.1.now c.in-Some._after.now c.in-Some._first c.loop-first.count c.loop-first.offsets (element_span c.first_element.result.0) c.id.result c.in-Some.ensures c.first_element.ensures.element c.id.ensures (omega arith) c.loop-first.invariant.fills;
 }
 
 pub returns : goal.returns

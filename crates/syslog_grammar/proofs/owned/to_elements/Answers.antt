@@ -11,8 +11,8 @@ returns-then-first-ne91 c = elements_nil c.args.octets.now c.loop-first.rest.now
 
 pub loop-first-preserved : goal.loop-first-preserved
 loop-first-preserved c =
-    elements_more c.args.octets.now c.loop-first.rest.now c.in-Ok.behind.now c.in-Some._after.now c.in-Some.first c.loop-first.elements.items c.push.new.self.items (element_span c.in-Ok.found)
-    c.in_ok-to_element.field-0 c.in-Some.ensures c.if-first-ne91.false c.in-Ok.ensures c.in_ok-to_element.ensures c.in_ok-push.ensures.items c.loop-first.invariant
+    elements_more c.args.octets.now c.loop-first.rest.now c.first_element.result.1.now c.in-Some._after.now c.in-Some.first c.loop-first.elements.items c.push.new.self.items (element_span c.first_element.result.0)
+    c.in_ok-to_element.field-0 c.in-Some.ensures c.if-first-ne91.false c.first_element.ensures.element c.in_ok-to_element.ensures c.in_ok-push.ensures.items c.loop-first.invariant
 
 pub returns : goal.returns
 returns c = elements_end c.args.octets.now c.loop-first.rest.now c.loop-first.elements.items c.in_default.ensures c.loop-first.invariant

@@ -1,0 +1,94 @@
+//! The first of elements, and of parameters, that are known to be well-formed: where its parts end,
+//! and no test.
+
+ghost use Rattle.std.specs.Prelude.{◌≡◌, ◌≢◌, ◌≤◌, ◌<◌, ◌++◌, ℕ, List, drop, length};
+ghost use Rattle.syslog_grammar.specs.FirstElements.{IsIdLength, IsMarkedLength, IsNameLength};
+ghost use Rattle.syslog_grammar.specs.FirstElements.{SplitsElement, SplitsParam};
+ghost use Rattle.syslog_grammar.specs.Views.{element_span, param_span};
+
+use crate::element::{ElementView, ParamView};
+use crate::reading::next;
+use memchr::{memchr, memchr2};
+
+/// What follows the first octet, if there is one.
+#[inline(always)]
+fn behind_first(octets: &[u8]) -> &[u8]
+    ensures { result.now ≡ drop 1 octets.now }
+{
+    match octets {
+        [] => octets,
+        [_first, rest @ ..] => rest,
+    }
+}
+
+/// How many octets an id has, which a space or a bracket follows.
+#[inline(always)]
+fn id_len(octets: &[u8]) -> usize
+    ensures within { result ≤ length octets.now }
+    ensures id { IsIdLength octets.now result }
+{
+    match memchr2(b' ', b']', octets) {
+        Some(offset) => offset,
+        None => octets.len(),
+    }
+}
+
+/// How many octets a name has, which `=` follows.
+#[inline(always)]
+fn name_len(octets: &[u8]) -> usize
+    ensures within { result ≤ length octets.now }
+    ensures name { IsNameLength octets.now result }
+{
+    match memchr(b'=', octets) {
+        Some(offset) => offset,
+        None => octets.len(),
+    }
+}
+
+/// How many octets come before a mark: one that no backslash takes with it.
+#[inline(always)]
+fn marked_len(mark: u8, octets: &[u8]) -> usize
+    requires { mark ≢ 92 }
+    ensures within { result ≤ length octets.now }
+    ensures marked { IsMarkedLength mark octets.now result }
+{
+    let mut rest = octets;
+    while let Some(offset) = memchr2(b'\\', mark, rest) {
+        let (_, found) = rest.split_at(offset);
+        let Some((first, behind)) = next(found) else {
+            return octets.len();
+        };
+        if first == mark {
+            return octets.len() - found.len();
+        }
+        rest = behind_first(behind);
+    }
+    octets.len()
+}
+
+/// The parameter that comes first in octets that begin with one, and what follows it.
+#[inline]
+pub fn first_param(octets: &[u8]) -> (ParamView<'_>, &[u8])
+    ensures param { SplitsParam octets.now (param_span result.0) result.1.now }
+    ensures less { 0 < length octets.now → length result.1.now < length octets.now }
+{
+    let behind = behind_first(octets);
+    let (name, rest) = behind.split_at(name_len(behind));
+    let marked = behind_first(rest);
+    let value = behind_first(marked);
+    let (raw, end) = value.split_at(marked_len(b'"', value));
+    (ParamView { name, raw }, behind_first(end))
+}
+
+/// The element that comes first in octets that begin with one, and what follows it.
+#[inline]
+pub fn first_element(octets: &[u8]) -> (ElementView<'_>, &[u8])
+    ensures element { SplitsElement octets.now (element_span result.0) result.1.now }
+    ensures suffix { (prefix : List ℕ) × (octets.now ≡ prefix ++ result.1.now) }
+    ensures less { 0 < length octets.now → length result.1.now < length octets.now }
+{
+    let behind = behind_first(octets);
+    let (id, rest) = behind.split_at(id_len(behind));
+    let (params, end) = rest.split_at(marked_len(b']', rest));
+    (ElementView { id, params }, behind_first(end))
+}

@@ -1,0 +1,119 @@
+//! The canonical octets of structured data whose ids do not ascend: the texts of its elements are
+//! sorted on the stack.
+
+ghost use Rattle.std.specs.Prelude.{◌≤◌, List, IfSome, length, map, take, ⊤};
+ghost use Rattle.octet_language.specs.Language.{Each};
+ghost use Rattle.syslog_value.specs.Parts.{ElementParts};
+ghost use Rattle.syslog_grammar.specs.Grammar.{Element};
+ghost use Rattle.syslog_grammar.specs.Reescaped.{PutsUnless};
+ghost use Rattle.syslog_grammar.specs.Sorting.{AreTextsOf, SortedDataOf, SortedElementsOf};
+ghost use Rattle.syslog_grammar.specs.Sorting.{TextsForm};
+
+use crate::first_element::first_element;
+use crate::reading::next;
+use crate::reescaped::put_element;
+use crate::repeated::is_above;
+use std::alloc::AllocError;
+
+/// Puts the texts of elements into the slice, where it has room for them.
+fn fill_texts<'a>(elements: &'a [u8], texts: &mut [&'a [u8]]) -> Option<usize>
+    ensures { IfSome result (λ n. (n ≤ length texts.new)
+        × ((es : List ElementParts) → Each Element es elements.now
+        → AreTextsOf es (map (λ s. s.now) (take n texts.new)))) }
+{
+    let mut rest = elements;
+    let mut count = 0;
+    while let Some((_first, _after)) = next(rest) {
+        let (_element, behind) = first_element(rest);
+        if count >= texts.len() {
+            return None;
+        }
+        let (text, _) = rest.split_at(rest.len() - behind.len());
+        texts[count] = text;
+        count += 1;
+        rest = behind;
+    }
+    Some(count)
+}
+
+/// Appends elements, up to one whose id is not above those before it.
+fn put_rising<'a>(texts: &[&'a [u8]], out: &mut Vec<u8>) -> Result<bool, AllocError>
+    ensures { PutsUnless (TextsForm (map (λ s. s.now) texts.now)) ⊤
+        out.old.items out.new.items result }
+{
+    let mut greatest: Option<&'a [u8]> = None;
+    for i in 0..texts.len() {
+        let (found, _behind) = first_element(texts[i]);
+        let id = found.id();
+        if !is_above(id, greatest) {
+            return Ok(false);
+        }
+        put_element(&found, out)?;
+        greatest = Some(id);
+    }
+    Ok(true)
+}
+
+/// Appends elements in the order of their ids, if the slice has room for their texts.
+fn put_sorted_in<'a>(
+    elements: &'a [u8],
+    texts: &mut [&'a [u8]],
+    out: &mut Vec<u8>,
+) -> Result<bool, AllocError>
+    ensures { PutsUnless (SortedElementsOf elements.now) ⊤ out.old.items out.new.items result }
+{
+    let Some(count) = fill_texts(elements, texts) else {
+        return Ok(false);
+    };
+    let (found, _) = texts.split_at_mut(count);
+    found.sort_unstable();
+    put_rising(found, out)
+}
+
+/// Appends at most 64 elements in the order of their ids.
+#[inline(never)]
+fn put_few(elements: &[u8], out: &mut Vec<u8>) -> Result<bool, AllocError>
+    ensures { PutsUnless (SortedElementsOf elements.now) ⊤ out.old.items out.new.items result }
+{
+    let (none, _) = elements.split_at(0);
+    let mut texts = [none; 64];
+    put_sorted_in(elements, &mut texts, out)
+}
+
+/// Appends at most 16,384 elements in the order of their ids.
+#[inline(never)]
+fn put_many(elements: &[u8], out: &mut Vec<u8>) -> Result<bool, AllocError>
+    ensures { PutsUnless (SortedElementsOf elements.now) ⊤ out.old.items out.new.items result }
+{
+    let (none, _) = elements.split_at(0);
+    let mut texts = [none; 16_384];
+    put_sorted_in(elements, &mut texts, out)
+}
+
+/// Appends elements in the order of their ids.
+fn put_elements(elements: &[u8], out: &mut Vec<u8>) -> Result<bool, AllocError>
+    ensures { PutsUnless (SortedElementsOf elements.now) ⊤ out.old.items out.new.items result }
+{
+    if elements.len() <= 1024 {
+        put_few(elements, out)
+    } else {
+        put_many(elements, out)
+    }
+}
+
+/// Appends structured data with its elements in the order of their ids.
+///
+/// The answer is false, and a part may have been appended, where there are too many elements for
+/// the stack, or one without parameters whose id another one begins with: their texts may sort
+/// otherwise than their ids.
+pub fn put_sorted(structured_data: &[u8], out: &mut Vec<u8>) -> Result<bool, AllocError>
+    ensures { PutsUnless (SortedDataOf structured_data.now) ⊤ out.old.items out.new.items result }
+{
+    let Some((first, _after)) = next(structured_data) else {
+        return Ok(false);
+    };
+    if first != b'[' {
+        return Ok(false);
+    }
+    put_elements(structured_data, out)
+}
