@@ -10,6 +10,7 @@ use std::alloc::AllocError;
 use syslog_value::{Instant, Message, Priority, StructuredData, Word};
 
 /// The parts of a record, each where its owner keeps it.
+#[derive(Clone, Copy, Debug)]
 pub struct LentRecord<'a> {
     pub priority: Priority,
     pub instant: Option<Instant>,
