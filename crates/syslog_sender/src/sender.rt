@@ -3,8 +3,10 @@
 ghost use Rattle.std.specs.Prelude.{◌≡◌, ◌<◌, ◌^◌, ◌↔◌, IfErr, IfOk, IfSome, IsSome, IsTrue};
 ghost use Rattle.std.specs.Prelude.{MatchBool, OnErr, OnOk};
 ghost use Rattle.std.specs.Option.{option_copied};
+ghost use Rattle.syslog_value.specs.Parts.{IsInstant, IsRecord, IsWord};
 ghost use Rattle.syslog_grammar.specs.Appending.{Adds, Appends};
 ghost use Rattle.syslog_grammar.specs.Canonical.{Canonical};
+ghost use Rattle.syslog_grammar.specs.Lent.{lent_parts};
 ghost use Rattle.syslog_sender.specs.Answers.{IsAnswered, IsSendFault, IsWriteFault, SendsRecord};
 ghost use Rattle.syslog_sender.specs.Calls.{Step, Send};
 ghost use Rattle.syslog_sender.specs.Senders.{IsNew, LetsThrough, SetsMask, own_priority};
@@ -49,6 +51,38 @@ fn own_priority_of(facility: Facility, priority: Priority) -> Priority
         Facility::Kern => Priority::new(facility, priority.severity()),
         _ => priority,
     }
+}
+
+// a look at an instant, which is in range by its type
+fn look_at_instant(instant: Option<Instant>)
+    ensures { IfSome instant IsInstant }
+{
+    if let Some(instant) = instant {
+        let _ = instant.micros();
+    }
+}
+
+// a look at a word, which is valid by its type
+fn look_at_word<const N: usize>(word: Option<&Word<N>>)
+    ensures { IfSome (option_copied word.entry) (IsWord N) }
+{
+    if let Some(word) = word {
+        let _ = word.bytes();
+    }
+}
+
+// a look at each part of a record, which is valid by its type
+fn look_at_record(lent: &LentRecord<'_>)
+    ensures { IsRecord (lent_parts lent.now) }
+{
+    let _ = lent.priority.value();
+    look_at_instant(lent.instant);
+    look_at_word(lent.hostname);
+    look_at_word(lent.app_name);
+    look_at_word(lent.proc_id);
+    look_at_word(lent.msg_id);
+    let _ = lent.structured.elements();
+    let _ = lent.message.octets();
 }
 
 impl Sender {
@@ -113,9 +147,11 @@ impl Sender {
         message: &Message,
         out: &mut Vec<u8>,
     ) -> Result<(), AllocError>
-        ensures { Appends (Canonical (record_of self.now (event_of priority instant
+        ensures octets { Appends (Canonical (record_of self.now (event_of priority instant
             (option_copied msg_id.entry) structured.now message.now)))
             out.old.items out.new.items result }
+        ensures valid { IsRecord (record_of self.now (event_of priority instant
+            (option_copied msg_id.entry) structured.now message.now)) }
     {
         let lent = LentRecord {
             priority: own_priority_of(self.facility, priority),
@@ -127,6 +163,7 @@ impl Sender {
             structured,
             message,
         };
+        look_at_record(&lent);
         put_lent(&lent, out)
     }
 
@@ -149,6 +186,9 @@ impl Sender {
             (out.new.items ≡ out.old.items)) }
         ensures err { OnErr result
             (LetsThrough self.now.mask priority × (out.new.items ≡ out.old.items)) }
+        ensures valid { LetsThrough self.now.mask priority
+            → IsRecord (record_of self.now (event_of priority instant
+            (option_copied msg_id.entry) structured.now message.now)) }
     {
         if !self.lets_through(priority) {
             return Ok(false);
@@ -174,6 +214,9 @@ impl Sender {
             Canonical (record_of self.now (event_of priority instant
             (option_copied msg_id.entry) structured.now message.now)) octets.items)) }
         ensures err { OnErr result (LetsThrough self.now.mask priority) }
+        ensures valid { IfOk result (λ octets. IfSome octets (λ _.
+            IsRecord (record_of self.now (event_of priority instant
+            (option_copied msg_id.entry) structured.now message.now)))) }
     {
         if !self.lets_through(priority) {
             return Ok(None);
@@ -202,10 +245,13 @@ impl Sender {
             (option_copied msg_id.entry) structured.now message.now))
             framing (W.taken writer.old) (W.taken writer.new))
             (writer.new ≡ writer.old)) }
+        ensures valid { IfOk result (λ sent. IsTrue sent
+            → IsRecord (record_of self.now (event_of priority instant
+            (option_copied msg_id.entry) structured.now message.now))) }
         ensures no_failure { OnOk result (W.failures writer.new ≡ W.failures writer.old) }
 
         // the first cause that holds, and what was written
-        ensures held_back { OnErr result (LetsThrough self.now.mask priority) }
+        ensures let_through { OnErr result (LetsThrough self.now.mask priority) }
         ensures err { IfErr result (IsSendFault (record_of self.now (event_of priority instant
             (option_copied msg_id.entry) structured.now message.now))
             framing (W.taken writer.old) (W.taken writer.new)) }
