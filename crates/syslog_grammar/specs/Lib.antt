@@ -21,6 +21,7 @@ pub mod Instants
 pub mod WellFormed
 pub mod ShownRecords
 pub mod Canonical
+pub mod Lent
 pub mod Appending
 pub mod Escapes
 pub mod DecodeFaults

@@ -1,0 +1,57 @@
+-- The steps of a source, and their counts.
+use Rattle.std.specs.Prelude.{◌≡◌, ℕ, ◌+◌, ◌≤◌, List, take, Option, Some, None, ⊤}
+use Rattle.syslog_value.specs.Device.{count_on}
+use Rattle.syslog_frame.specs.declared.framing.Framing.{Framing}
+use Rattle.collect_engine.specs.declared.step.Step.{Step}
+use Rattle.collect_engine.specs.declared.step.Step.TheVariants.{Opened as step_Opened, Piece as step_Piece, Ended as step_Ended, Datagram as step_Datagram, Finished as step_Finished, Failed as step_Failed}
+
+-- a step with its octets
+pub data Given : Type 0 where
+  Opened : Framing → Given
+  Piece : List ℕ → Given
+  Ended : Given
+  Datagram : List ℕ → Given
+  Finished : Given
+  Failed : Given
+
+-- the step that was given into a slice
+abbrev pub given_of : Step → List ℕ → Given
+given_of (step_Opened framing) buf = Opened framing
+given_of (step_Piece n) buf = Piece (take n buf)
+given_of step_Ended buf = Ended
+given_of (step_Datagram n) buf = Datagram (take n buf)
+given_of step_Finished buf = Finished
+given_of step_Failed buf = Failed
+
+-- no more octets are counted than there is room for
+abbrev pub IsWithin : ℕ → Step → Type 0
+IsWithin room (step_Opened framing) = Unit {0}
+IsWithin room (step_Piece n) = n ≤ room
+IsWithin room step_Ended = Unit {0}
+IsWithin room (step_Datagram n) = n ≤ room
+IsWithin room step_Finished = Unit {0}
+IsWithin room step_Failed = Unit {0}
+
+-- the failures after a step
+abbrev pub FailuresAfter : Step → ℕ → ℕ → Type 0
+FailuresAfter (step_Opened framing) old new = new ≡ old
+FailuresAfter (step_Piece n) old new = new ≡ old
+FailuresAfter step_Ended old new = new ≡ old
+FailuresAfter (step_Datagram n) old new = new ≡ old
+FailuresAfter step_Finished old new = new ≡ old
+FailuresAfter step_Failed old new = new ≡ count_on old
+
+-- how often nothing more came, after a step
+abbrev pub FinishesAfter : Step → ℕ → ℕ → Type 0
+FinishesAfter (step_Opened framing) old new = new ≡ old
+FinishesAfter (step_Piece n) old new = new ≡ old
+FinishesAfter step_Ended old new = new ≡ old
+FinishesAfter (step_Datagram n) old new = new ≡ old
+FinishesAfter step_Finished old new = new ≡ count_on old
+FinishesAfter step_Failed old new = new ≡ old
+
+-- of known steps to come, this is the first, and the others are still to come
+abbrev pub Comes : Option (ℕ → Given) → Option (ℕ → Given) → Given → Type 0
+Comes None new step = ⊤
+Comes (Some old) None step = ⊥
+Comes (Some old) (Some new) step = (old 0 ≡ step) × ((k : ℕ) → new k ≡ old (k + 1))
