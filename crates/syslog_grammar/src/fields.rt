@@ -5,4 +5,4 @@ pub use crate::message::MessageView;
 pub use crate::owned::{to_message, to_word};
 pub use crate::priority::{priority, version};
 pub use crate::reading::Stop;
-pub use crate::timestamp::clock;
+pub use crate::timestamp::{clock, last_day};

@@ -98,7 +98,7 @@ fn is_leap_year(year: u16) -> bool
 
 /// How many days a month has.
 #[inline(always)]
-fn last_day(year: u16, month: u8) -> u8
+pub fn last_day(year: u16, month: u8) -> u8
     ensures value { result ≡ month_length year month }
     ensures range { (28 ≤ result) × (result ≤ 31) }
 {

@@ -25,7 +25,7 @@ legacy_parts f message = record {
   message = message;
 }
 
--- the octets behind the mark are no text, and so far one goes
+-- the message is the BOM and what is no text: a text goes on up to this offset of the packet
 pub record StopsIn (clock : LegacyClock) (b : List ℕ) (offset : ℕ) : Type 0 where
   pub front : FrontParts
   pub before : List ℕ
@@ -37,7 +37,7 @@ pub record StopsIn (clock : LegacyClock) (b : List ℕ) (offset : ℕ) : Type 0 
   pub stops : IsFaultOffset IsText text within
   pub offset_is : offset ≡ length before + within
 
--- the record of a packet
+-- the packet splits, its message is one, and this is the record
 pub record IsRead (clock : LegacyClock) (b : List ℕ) (r : Parts ℤ) : Type 0 where
   pub front : FrontParts
   pub octets : List ℕ

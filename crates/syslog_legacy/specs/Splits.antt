@@ -16,7 +16,13 @@ pub record FrontParts : Type 0 where
   pub proc_id : Option (List ℕ)
 
 abbrev pub front_of : ℕ → Option ℤ → Option (List ℕ) → TagParts → FrontParts
-front_of priority time hostname tag = record { priority = priority; time = time; hostname = hostname; app_name = tag.app_name; proc_id = tag.proc_id }
+front_of priority time hostname tag = record {
+  priority = priority;
+  time = time;
+  hostname = hostname;
+  app_name = tag.app_name;
+  proc_id = tag.proc_id;
+}
 
 abbrev pub no_tag : TagParts
 no_tag = record { app_name = None; proc_id = None }
@@ -43,17 +49,20 @@ First {V} P behind front b f message =
     (Lacks P b × AllMessage front b f message)
     ⊎ ((v : V) × (rest : List ℕ) × P v b rest × behind v rest f message)
 
+-- behind the host: a tag and the message, or the message
 abbrev pub BehindHost : ℕ → ℤ → Option (List ℕ) → Split
 BehindHost priority time host =
     First Tag (λ tag. AllMessage (front_of priority (Some time) host tag)) (front_of priority (Some time) host no_tag)
 
+-- behind the timestamp: a host, or the message
 abbrev pub BehindTime : ℕ → ℤ → Split
 BehindTime priority time = First Host (BehindHost priority time) (front_of priority (Some time) None no_tag)
 
+-- behind PRI: a timestamp, or the message; no time and no host is inserted
 abbrev pub BehindPriority : LegacyClock → ℕ → Split
 BehindPriority clock priority =
     First (λ time. Follows (TimestampText clock time)) (BehindTime priority) (front_of priority None None no_tag)
 
--- a packet without a valid PRI has the priority 13 (4.3.3)
+-- PRI comes first; a packet without a valid one has the priority 13 (4.3.3), and all of it is the message
 abbrev pub Splits : LegacyClock → Split
 Splits clock = First (λ priority. Follows (Priority priority)) (BehindPriority clock) (front_of 13 None None no_tag)

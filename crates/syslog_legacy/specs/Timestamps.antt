@@ -7,12 +7,15 @@ use Rattle.syslog_value.specs.declared.civil.Civil.{Civil}
 use Rattle.syslog_grammar.specs.Time.{ClockText, Two}
 use Rattle.syslog_legacy.specs.declared.clock.LegacyClock.{LegacyClock}
 
--- Mmm of each month
+-- Mmm of each month, in their order
+abbrev pub months : List (List ℕ)
+months =
+    codes "Jan" ∷ codes "Feb" ∷ codes "Mar" ∷ codes "Apr" ∷ codes "May" ∷ codes "Jun"
+    ∷ codes "Jul" ∷ codes "Aug" ∷ codes "Sep" ∷ codes "Oct" ∷ codes "Nov" ∷ codes "Dec" ∷ []
+
+-- Mmm of a month from 1 to 12
 abbrev pub month_name : ℕ → List ℕ
-month_name m =
-    slice_index_or
-    (codes "Jan" ∷ codes "Feb" ∷ codes "Mar" ∷ codes "Apr" ∷ codes "May" ∷ codes "Jun" ∷ codes "Jul" ∷ codes "Aug" ∷ codes "Sep" ∷ codes "Oct" ∷ codes "Nov" ∷ codes "Dec" ∷ [])
-    (m - 1) []
+month_name m = slice_index_or months (m - 1) []
 
 -- Mmm
 abbrev pub MonthText : ℕ → Language

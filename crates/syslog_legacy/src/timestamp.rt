@@ -1,14 +1,13 @@
 //! TIMESTAMP of a legacy packet (RFC 3164, section 4.1.2).
 
-ghost use Rattle.std.specs.Prelude.{◌≡◌, ◌≤◌, ◌∷◌, ℕ, MatchOption, ◌⊎◌, []};
+ghost use Rattle.std.specs.Prelude.{◌≤◌, ◌∷◌, [], ℕ, MatchOption};
 ghost use Rattle.octet_language.specs.Language.{AnyOf, NoPrefix};
 ghost use Rattle.octet_language.specs.Reading.{Follows};
-ghost use Rattle.syslog_value.specs.Calendar.{is_leap, month_length};
 ghost use Rattle.syslog_legacy.specs.Timestamps.{DateText, DayText, MonthText, TimestampText};
 
 use crate::clock::LegacyClock;
 use crate::octets::behind;
-use syslog_grammar::fields::clock;
+use syslog_grammar::fields::{clock, last_day};
 use syslog_value::{Civil, Instant};
 
 /// The month of a name.
@@ -29,25 +28,6 @@ fn month_of(name: &[u8]) -> Option<u8>
         b"Nov" => Some(11),
         b"Dec" => Some(12),
         _ => None,
-    }
-}
-
-fn is_leap_year(year: u16) -> bool
-    ensures { result ≡ is_leap year }
-{
-    (year % 4 == 0 && !(year % 100 == 0)) || year % 400 == 0
-}
-
-/// How many days a month has.
-fn last_day(year: u16, month: u8) -> u8
-    ensures value { result ≡ month_length year month }
-    ensures range { (28 ≤ result) × (result ≤ 31) }
-{
-    match month {
-        2 if is_leap_year(year) => 29,
-        2 => 28,
-        4 | 6 | 9 | 11 => 30,
-        _ => 31,
     }
 }
 
