@@ -13,6 +13,7 @@ mod decoding;
 mod distinct;
 mod element;
 mod fault;
+pub mod fields;
 mod first_element;
 mod header;
 mod lanes;

@@ -98,7 +98,7 @@ fn is_leap_year(year: u16) -> bool
 
 /// How many days a month has.
 #[inline(always)]
-fn last_day(year: u16, month: u8) -> u8
+pub fn last_day(year: u16, month: u8) -> u8
     ensures value { result ≡ month_length year month }
     ensures range { (28 ≤ result) × (result ≤ 31) }
 {
@@ -146,7 +146,7 @@ fn hour_minute(octets: &[u8]) -> Result<((u8, u8), &[u8]), Stop>
 
 /// Reads the time of a day.
 #[inline(always)]
-fn clock(octets: &[u8]) -> Result<((u8, u8, u8), &[u8]), Stop>
+pub fn clock(octets: &[u8]) -> Result<((u8, u8, u8), &[u8]), Stop>
     ensures { Reads remaining_of Clock (λ x. (x.0, x.1.now)) octets.now result }
 {
     let ((hour, minute), rest) = hour_minute(octets)?;

@@ -1,0 +1,7 @@
+//! Tests of `syslog_legacy` by its public calls: packets with what they mean.
+#![tactic(auto)]
+
+#[cfg(test)]
+mod faults;
+#[cfg(test)]
+mod forms;
