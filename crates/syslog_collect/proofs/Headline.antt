@@ -13,7 +13,7 @@ use Rattle.archive_text.proofs.Ascending.{same_members}
 use Rattle.syslog_collect.specs.declared.connection.Connection.{Connection}
 use Rattle.syslog_collect.specs.declared.fault.Advance.{Advance}
 use Rattle.syslog_collect.specs.declared.fault.CollectFault.{CollectFault}
-use Rattle.syslog_collect.specs.Answers.{MovesBy, Reports, accepted_octets, answered, used_octets}
+use Rattle.syslog_collect.specs.Answers.{AdvancesBy, Reports, accepted_octets, answered, used_octets}
 use Rattle.syslog_collect.specs.Outcomes.{outcomes_of}
 use Rattle.syslog_collect.proofs.Places.{found_here, opening_at, place_from}
 use Rattle.syslog_collect.specs.declared.event.EventEnd.{EventEnd}
@@ -21,7 +21,7 @@ use Rattle.syslog_collect.specs.declared.event.EventEnd.TheVariants.{Done as end
 use Rattle.syslog_collect.specs.Runs.{IfDone}
 use Rattle.syslog_collect.specs.Frames.{AreFramesOf, HasFrames, IsFramesOf, IsReceived, IsSpelled, all_of}
 use Rattle.syslog_collect.specs.Headline.{IsSettled, IsUnion, ReceivedBoth, ReceivedSame}
-use Rattle.syslog_collect.specs.History.{History, Stream, Told, after, longer, nothing}
+use Rattle.syslog_collect.specs.History.{History, Stream, AcceptedEvent, history_of, with_octets}
 use Rattle.syslog_collect.specs.Standing.{AreAt, IsAt, Stands}
 
 -- where no frame is ready, the frames that were handled are those of the opening
@@ -86,9 +86,9 @@ one_history h fs gs a b =
     a.all ∙ ap (λ (z : List (List (List ℕ))). all_of z ++ (all_of a.ended_frames ++ h.datagrams)) (one_each h.streams a.open_frames b.open_frames a.open_are b.open_are)
     ∙ ap (λ (z : List (List (List ℕ))). all_of b.open_frames ++ (all_of z ++ h.datagrams)) (one_each h.ended a.ended_frames b.ended_frames a.ended_are b.ended_are) ∙ sym b.all
 
-pub holds_received : (cs : List Connection) (kept first : List Entry) (es : List Told) → Stands cs kept first es → IsSettled cs → (x : Entry) → Has kept x ↔ (Has first x ⊎ IsReceived es x)
+pub holds_received : (cs : List Connection) (kept first : List Entry) (es : List AcceptedEvent) → Stands cs kept first es → IsSettled cs → (x : Entry) → Has kept x ↔ (Has first x ⊎ IsReceived es x)
 holds_received cs kept first es was settled x =
-    let h = after nothing es in
+    let h = history_of es in
     let sa = was.stands_at in
     let fs = all_of sa.handled ++ (all_of sa.ended_frames ++ h.datagrams) in
     let are : HasFrames h fs = record { open_frames = sa.handled; ended_frames = sa.ended_frames; open_are = all_settled cs h.streams sa.handled sa.follow settled; ended_are = sa.ended_are; all = refl } in (
@@ -100,7 +100,7 @@ holds_received cs kept first es was settled x =
     )
 
 -- over an empty store, just what was received
-pub holds_just : (cs : List Connection) (kept : List Entry) (es : List Told) → Stands cs kept [] es → IsSettled cs → (x : Entry) → Has kept x ↔ IsReceived es x
+pub holds_just : (cs : List Connection) (kept : List Entry) (es : List AcceptedEvent) → Stands cs kept [] es → IsSettled cs → (x : Entry) → Has kept x ↔ IsReceived es x
 holds_just cs kept es was settled x =
     let h = holds_received cs kept [] es was settled x in (
       λ k. elim (h.0 k) [ inl a ↦ absurd a | inr b ↦ b ],
@@ -108,7 +108,7 @@ holds_just cs kept es was settled x =
     )
 
 -- two settled collectors that received the same hold the same entries
-pub same_entries : (most : ℕ) (cs ds : List Connection) (kept other : List Entry) (es fs : List Told) → IsArchive most kept → IsArchive most other
+pub same_entries : (most : ℕ) (cs ds : List Connection) (kept other : List Entry) (es fs : List AcceptedEvent) → IsArchive most kept → IsArchive most other
     → Stands cs kept [] es → Stands ds other [] fs → IsSettled cs → IsSettled ds → ReceivedSame es fs → kept ≡ other
 same_entries most cs ds kept other es fs a b one two settled settled_too same =
     same_members kept other a.ascending b.ascending
@@ -116,7 +116,7 @@ same_entries most cs ds kept other es fs a b one two settled settled_too same =
     (λ x k. (holds_just cs kept es one settled x).1 ((same x).1 ((holds_just ds other fs two settled_too x).0 k)))
 
 -- the entries of two settled collectors together are those of a third that received what they did
-pub union_entries : (most : ℕ) (cs ds bs : List Connection) (kept other all merged : List Entry) (es fs gs : List Told) → IsArchive most all → IsArchive most merged
+pub union_entries : (most : ℕ) (cs ds bs : List Connection) (kept other all merged : List Entry) (es fs gs : List AcceptedEvent) → IsArchive most all → IsArchive most merged
     → Stands cs kept [] es → Stands ds other [] fs → Stands bs all [] gs → IsSettled cs → IsSettled ds → IsSettled bs
     → ReceivedBoth gs es fs → IsUnion merged kept other → merged ≡ all
 union_entries most cs ds bs kept other all merged es fs gs a b one two three settled settled_too settled_three received union =
@@ -131,11 +131,11 @@ union_entries most cs ds bs kept other all merged es fs gs a b one two three set
     ]))
 
 -- after an advance that answers Ok, its outcome is that of the last frame
-pub reports_found : (c n : ℕ) (x y : Connection) (ls : List Connection) (kept now first : List Entry) (es : List Told) (piece : List ℕ) (r : Result Advance CollectFault)
-    → place_from c 0 ls ≡ Some n → x ≡ get_or ls n x → ((s : Stream) (d : List (List ℕ)) → IsAt x s d → MovesBy (accepted_octets piece r) x y kept now (answered r) s d)
-    → OnOk r (¬ (HasReady y.scanner)) → Stands ls kept first es → IfOk r (λ a. Reports c (used_octets piece a) (after nothing es) kept now (outcomes_of a.outcome))
+pub reports_found : (c n : ℕ) (x y : Connection) (ls : List Connection) (kept now first : List Entry) (es : List AcceptedEvent) (piece : List ℕ) (r : Result Advance CollectFault)
+    → place_from c 0 ls ≡ Some n → x ≡ get_or ls n x → ((s : Stream) (d : List (List ℕ)) → IsAt x s d → AdvancesBy (accepted_octets piece r) x y kept now (answered r) s d)
+    → OnOk r (¬ (HasReady y.scanner)) → Stands ls kept first es → IfOk r (λ a. Reports c (used_octets piece a) (history_of es) kept now (outcomes_of a.outcome))
 reports_found c n x y ls kept now first es piece (Ok a) is item moves quiet was =
-    let there = opening_at c n x ls (after nothing es).streams was.stands_at.handled was.stands_at.follow (found_here c n x ls is item) in
+    let there = opening_at c n x ls (history_of es).streams was.stands_at.handled was.stands_at.follow (found_here c n x ls is item) in
     let m = moves there.opening there.handled there.at in
-    rw there.is (there.handled, m.fresh, one_settled y (longer there.opening (used_octets piece a)) (there.handled ++ m.fresh) m.now_at (λ f. quiet (inl f)), m.reported, m.marks)
+    rw there.is (there.handled, m.fresh, one_settled y (with_octets there.opening (used_octets piece a)) (there.handled ++ m.fresh) m.now_at (λ f. quiet (inl f)), m.reported, m.marks)
 reports_found c n x y ls kept now first es piece (Err fault) is item moves quiet was = tt

@@ -12,10 +12,10 @@ use Rattle.syslog_collect.specs.declared.fault.CollectFault.{CollectFault}
 use Rattle.syslog_collect.specs.declared.fault.CollectFault.TheVariants.{AlreadyOpen, TooManyOpen, NotOpen, ConnFailed, StreamTooLong, Unreleased, Unterminated, Memory}
 use Rattle.syslog_collect.specs.declared.outcome.Outcome.{Outcome}
 use Rattle.syslog_collect.specs.declared.outcome.Outcome.TheVariants.{New, Held, Refused, TooLong, BadCount}
-use Rattle.syslog_collect.specs.Answers.{IsBadCount, IsUsedWithin, MarksBad, Moves, MovesBy, accepted_count, dropped_octets}
-use Rattle.syslog_collect.specs.History.{IsBad, Stream, longer}
+use Rattle.syslog_collect.specs.Answers.{IsBadCount, IsUsedWithin, ReportsBadCount, Advances, AdvancesBy, accepted_count, dropped_octets}
+use Rattle.syslog_collect.specs.History.{HoldsBadCount, Stream, with_octets}
 use Rattle.syslog_collect.specs.Outcomes.{AreReported, outcomes_of}
-use Rattle.syslog_collect.specs.Runs.{Logs, MovesOrStays, pending, used_before}
+use Rattle.syslog_collect.specs.Runs.{Logs, AdvancesOrStays, pending, used_before}
 use Rattle.syslog_collect.specs.Standing.{IsAt}
 
 -- ---- reports, one after the other
@@ -27,11 +27,11 @@ reported_then a b c fs gs (o ∷ os) ps (here, rest, mid, is, one, more) later =
 
 -- ---- moves, one after the other
 
-longer_twice : (s : Stream) (o p : List ℕ) → longer (longer s o) p ≡ longer s (o ++ p)
-longer_twice s o p = ap (λ (z : List ℕ). let t : Stream = record { number = s.number; framing = s.framing; octets = z } in t) (append_assoc s.octets o p)
+with_octets_twice : (s : Stream) (o p : List ℕ) → with_octets (with_octets s o) p ≡ with_octets s (o ++ p)
+with_octets_twice s o p = ap (λ (z : List ℕ). let t : Stream = record { number = s.number; framing = s.framing; octets = z } in t) (append_assoc s.octets o p)
 
 -- outcomes of octets that hold no bad count, and of more octets
-marks_then : (os ps : List Outcome) (s t : Stream) → ¬ (IsBad s) → MarksBad os s → MarksBad ps t → MarksBad (os ++ ps) t
+marks_then : (os ps : List Outcome) (s t : Stream) → ¬ (HoldsBadCount s) → ReportsBadCount os s → ReportsBadCount ps t → ReportsBadCount (os ++ ps) t
 marks_then [] ps s t good h k = k
 marks_then (BadCount at ∷ os) ps s t good h k = absurd (good (h.0.0, h.0.1, at, h.0.2))
 marks_then (New ∷ os) ps s t good h k = marks_then os ps s t good h k
@@ -39,14 +39,14 @@ marks_then (Held ∷ os) ps s t good h k = marks_then os ps s t good h k
 marks_then (Refused fault ∷ os) ps s t good h k = marks_then os ps s t good h k
 marks_then (TooLong ∷ os) ps s t good h k = marks_then os ps s t good h k
 
-moves_then : (x y z : Connection) (a b c : List Entry) (o p : List ℕ) (os ps : List Outcome) (s : Stream) (d : List (List ℕ)) → (m : Moves x y a b o os s d)
-    → Moves y z b c p ps (longer s o) (d ++ m.fresh) → Moves x z a c (o ++ p) (os ++ ps) s d
+moves_then : (x y z : Connection) (a b c : List Entry) (o p : List ℕ) (os ps : List Outcome) (s : Stream) (d : List (List ℕ)) → (m : Advances x y a b o os s d)
+    → Advances y z b c p ps (with_octets s o) (d ++ m.fresh) → Advances x z a c (o ++ p) (os ++ ps) s d
 moves_then x y z a b c o p os ps s d m n = record {
   may = (m.may.0, omega (arith, n.may.1, length-append s.octets o, length-append o p));
   fresh = m.fresh ++ n.fresh;
-  now_at = subst (λ (t : Stream). IsAt z t (d ++ (m.fresh ++ n.fresh))) (longer_twice s o p) (subst (λ (fs : List (List ℕ)). IsAt z (longer (longer s o) p) fs) (append_assoc d m.fresh n.fresh) n.now_at);
+  now_at = subst (λ (t : Stream). IsAt z t (d ++ (m.fresh ++ n.fresh))) (with_octets_twice s o p) (subst (λ (fs : List (List ℕ)). IsAt z (with_octets (with_octets s o) p) fs) (append_assoc d m.fresh n.fresh) n.now_at);
   reported = reported_then a b c m.fresh n.fresh os ps m.reported n.reported;
-  marks = subst (λ (t : Stream). MarksBad (os ++ ps) t) (longer_twice s o p) (marks_then os ps (longer s o) (longer (longer s o) p) n.may.0 m.marks n.marks);
+  marks = subst (λ (t : Stream). ReportsBadCount (os ++ ps) t) (with_octets_twice s o p) (marks_then os ps (with_octets s o) (with_octets (with_octets s o) p) n.may.0 m.marks n.marks);
 }
 
 -- what was logged of octets, and then of more
@@ -56,18 +56,18 @@ logs_then x y z a b c o p l m n s d at (os, log, inl (none, same, kept, quiet)) 
     let second = next s d (subst (λ (w : Connection). IsAt w s d) (sym same) at) in (
       second.0,
       second.1 ∙ ap (λ (u : List Outcome). u ++ second.0) (log ∙ ap (λ (u : List Outcome). l ++ u) quiet ∙ append-nil l),
-      subst (λ (u : List ℕ). MovesOrStays x z a c (u ++ p) second.0 s d) (sym none)
-          (subst (λ (w : Connection). MovesOrStays w z a c p second.0 s d) same (subst (λ (w : List Entry). MovesOrStays y z w c p second.0 s d) kept second.2)),
+      subst (λ (u : List ℕ). AdvancesOrStays x z a c (u ++ p) second.0 s d) (sym none)
+          (subst (λ (w : Connection). AdvancesOrStays w z a c p second.0 s d) same (subst (λ (w : List Entry). AdvancesOrStays y z w c p second.0 s d) kept second.2)),
     )
 logs_then x y z a b c o p l m n s d at (os, log, inr moved) next =
-    let second = next (longer s o) (d ++ moved.fresh) moved.now_at in (
+    let second = next (with_octets s o) (d ++ moved.fresh) moved.now_at in (
       os ++ second.0,
       second.1 ∙ ap (λ (u : List Outcome). u ++ second.0) log ∙ append_assoc l os second.0,
       elim second.2 [
         | inl (none, same, kept, quiet) ↦
-            subst (λ (u : List ℕ). MovesOrStays x z a c u (os ++ second.0) s d) (sym (ap (λ (v : List ℕ). o ++ v) none ∙ append-nil o))
-            (subst (λ (u : List Outcome). MovesOrStays x z a c o u s d) (sym (ap (λ (v : List Outcome). os ++ v) quiet ∙ append-nil os))
-            (subst (λ (w : Connection). MovesOrStays x w a c o os s d) (sym same) (subst (λ (w : List Entry). MovesOrStays x y a w o os s d) (sym kept) (inr moved))))
+            subst (λ (u : List ℕ). AdvancesOrStays x z a c u (os ++ second.0) s d) (sym (ap (λ (v : List ℕ). o ++ v) none ∙ append-nil o))
+            (subst (λ (u : List Outcome). AdvancesOrStays x z a c o u s d) (sym (ap (λ (v : List Outcome). os ++ v) quiet ∙ append-nil os))
+            (subst (λ (w : Connection). AdvancesOrStays x w a c o os s d) (sym same) (subst (λ (w : List Entry). AdvancesOrStays x y a w o os s d) (sym kept) (inr moved))))
         | inr more ↦ inr (moves_then x y z a b c o p os second.0 s d moved more)
       ],
     )
@@ -84,10 +84,10 @@ logs_nothing x a l m s d same = ([], same ∙ sym (append-nil l), inl (refl, ref
 
 -- an advance that was refused
 pub refused : (x y : Connection) (a b : List Entry) (rest : List ℕ) (l m : List Outcome) (fault : CollectFault) (n : ℕ) (s : Stream) (d : List (List ℕ)) → n ≡ used_before fault → m ≡ l
-    → MovesBy (dropped_octets rest (Err fault)) x y a b [] s d → Logs x y a b (take n rest) l m s d
+    → AdvancesBy (dropped_octets rest (Err fault)) x y a b [] s d → Logs x y a b (take n rest) l m s d
 refused x y a b rest l m fault n s d is log moves = ([], log ∙ sym (append-nil l), rw is (stays fault moves))
   where
-    stays : (f : CollectFault) → MovesBy (dropped_octets rest (Err f)) x y a b [] s d → MovesOrStays x y a b (take (used_before f) rest) [] s d
+    stays : (f : CollectFault) → AdvancesBy (dropped_octets rest (Err f)) x y a b [] s d → AdvancesOrStays x y a b (take (used_before f) rest) [] s d
     stays (Memory k) h = inr h
     stays AlreadyOpen h = inl (refl, h.0, h.1, refl)
     stays TooManyOpen h = inl (refl, h.0, h.1, refl)
@@ -111,18 +111,18 @@ take_whole : (rest : List ℕ) (n : ℕ) → length rest ≤ n → take n rest �
 take_whole rest n le = take_all n rest le
 
 -- at the end of the rest, all of it was accepted
-accepted_all : (rest : List ℕ) (n : ℕ) (o : Option Outcome) → IsBadCount o ⊎ (length rest ≤ n) → take (accepted_count (length rest) n o) rest ≡ rest
-accepted_all rest n (Some (BadCount at)) h = take_whole rest (length rest) (omega arith)
-accepted_all rest n None (inr le) = take_whole rest n le
-accepted_all rest n (Some New) (inr le) = take_whole rest n le
-accepted_all rest n (Some Held) (inr le) = take_whole rest n le
-accepted_all rest n (Some (Refused fault)) (inr le) = take_whole rest n le
-accepted_all rest n (Some TooLong) (inr le) = take_whole rest n le
-accepted_all rest n None (inl bad) = absurd bad
-accepted_all rest n (Some New) (inl bad) = absurd bad
-accepted_all rest n (Some Held) (inl bad) = absurd bad
-accepted_all rest n (Some (Refused fault)) (inl bad) = absurd bad
-accepted_all rest n (Some TooLong) (inl bad) = absurd bad
+accepted_whole : (rest : List ℕ) (n : ℕ) (o : Option Outcome) → IsBadCount o ⊎ (length rest ≤ n) → take (accepted_count (length rest) n o) rest ≡ rest
+accepted_whole rest n (Some (BadCount at)) h = take_whole rest (length rest) (omega arith)
+accepted_whole rest n None (inr le) = take_whole rest n le
+accepted_whole rest n (Some New) (inr le) = take_whole rest n le
+accepted_whole rest n (Some Held) (inr le) = take_whole rest n le
+accepted_whole rest n (Some (Refused fault)) (inr le) = take_whole rest n le
+accepted_whole rest n (Some TooLong) (inr le) = take_whole rest n le
+accepted_whole rest n None (inl bad) = absurd bad
+accepted_whole rest n (Some New) (inl bad) = absurd bad
+accepted_whole rest n (Some Held) (inl bad) = absurd bad
+accepted_whole rest n (Some (Refused fault)) (inl bad) = absurd bad
+accepted_whole rest n (Some TooLong) (inl bad) = absurd bad
 
 accepted_used : (m n : ℕ) (o : Option Outcome) → ¬ (IsBadCount o) → accepted_count m n o ≡ n
 accepted_used m n None h = refl
@@ -133,12 +133,12 @@ accepted_used m n (Some TooLong) h = refl
 accepted_used m n (Some (BadCount at)) h = absurd (h tt)
 
 pub step_ended : (x y : Connection) (a b : List Entry) (rest : List ℕ) (l m : List Outcome) (n : ℕ) (o : Option Outcome) (s : Stream) (d : List (List ℕ)) → m ≡ l ++ outcomes_of o → IsBadCount o ⊎ (length rest ≤ n)
-    → Moves x y a b (take (accepted_count (length rest) n o) rest) (outcomes_of o) s d → Logs x y a b rest l m s d
-step_ended x y a b rest l m n o s d log ends moves = (outcomes_of o, log, inr (subst (λ (u : List ℕ). Moves x y a b u (outcomes_of o) s d) (accepted_all rest n o ends) moves))
+    → Advances x y a b (take (accepted_count (length rest) n o) rest) (outcomes_of o) s d → Logs x y a b rest l m s d
+step_ended x y a b rest l m n o s d log ends moves = (outcomes_of o, log, inr (subst (λ (u : List ℕ). Advances x y a b u (outcomes_of o) s d) (accepted_whole rest n o ends) moves))
 
 pub step_on : (x y : Connection) (a b : List Entry) (rest : List ℕ) (l m : List Outcome) (n : ℕ) (o : Option Outcome) (s : Stream) (d : List (List ℕ)) → m ≡ l ++ outcomes_of o → ¬ (IsBadCount o)
-    → Moves x y a b (take (accepted_count (length rest) n o) rest) (outcomes_of o) s d → Logs x y a b (take n rest) l m s d
-step_on x y a b rest l m n o s d log good moves = (outcomes_of o, log, inr (subst (λ (k : ℕ). Moves x y a b (take k rest) (outcomes_of o) s d) (accepted_used (length rest) n o good) moves))
+    → Advances x y a b (take (accepted_count (length rest) n o) rest) (outcomes_of o) s d → Logs x y a b (take n rest) l m s d
+step_on x y a b rest l m n o s d log good moves = (outcomes_of o, log, inr (subst (λ (k : ℕ). Advances x y a b (take k rest) (outcomes_of o) s d) (accepted_used (length rest) n o good) moves))
 
 -- ---- the pieces of a piece
 

@@ -6,7 +6,7 @@ use Rattle.archive_text.specs.Entries.{Entry}
 use Rattle.syslog_collect.specs.declared.connection.Connection.{Connection}
 use Rattle.syslog_collect.specs.declared.outcome.Outcome.{Outcome}
 use Rattle.syslog_collect.specs.Frames.{AreFramesOf, IsFramesOf, all_of}
-use Rattle.syslog_collect.specs.History.{Stream, joined, longer, stream_of, streams_of, without}
+use Rattle.syslog_collect.specs.History.{Stream, with_piece, with_octets, stream_of, streams_of, without}
 use Rattle.syslog_collect.specs.Outcomes.{AreReported}
 use Rattle.syslog_collect.specs.Standing.{AreAt, IsAt}
 use Rattle.syslog_collect.proofs.Gains.{Joins, joins_after, joins_append, joins_before, spelled_after, spelled_before, spelled_either}
@@ -66,21 +66,21 @@ no_stream c n (l ∷ ls) [] (d ∷ ds) f e = absurd f
 no_stream c n (l ∷ ls) (s ∷ ss) [] f e = absurd f
 
 -- what a connection at an opening does with octets
-pub record MovesOn (old new : Connection) (kept now : List Entry) (octets : List ℕ) (outcomes : List Outcome) (s : Stream) (handled : List (List ℕ)) : Type 0 where
+pub record AdvancesOn (old new : Connection) (kept now : List Entry) (octets : List ℕ) (outcomes : List Outcome) (s : Stream) (handled : List (List ℕ)) : Type 0 where
   pub fresh : List (List ℕ)
-  pub now_at : IsAt new (longer s octets) (handled ++ fresh)
+  pub now_at : IsAt new (with_octets s octets) (handled ++ fresh)
   pub reported : AreReported kept now fresh outcomes
 
 -- what one connection's octets do to all
 pub record Advanced (c : ℕ) (ls : List Connection) (ss : List Stream) (ds : List (List (List ℕ))) (kept now : List Entry) (o : List ℕ) (outcomes : List Outcome) : Type 0 where
   pub now_handled : List (List (List ℕ))
   pub fresh : List (List ℕ)
-  pub follow : AreAt ls (joined c o ss) now_handled
+  pub follow : AreAt ls (with_piece c o ss) now_handled
   pub joins : Joins (all_of now_handled) (all_of ds) fresh
   pub reported : AreReported kept now fresh outcomes
 
 pub advance_at : (c i : ℕ) (x y : Connection) (ls : List Connection) (ss : List Stream) (ds : List (List (List ℕ))) (kept now : List Entry) (o : List ℕ) (outcomes : List Outcome)
-    → AreAt ls ss ds → AtPlace c ls i x → ((s : Stream) (d : List (List ℕ)) → IsAt x s d → MovesOn x y kept now o outcomes s d)
+    → AreAt ls ss ds → AtPlace c ls i x → ((s : Stream) (d : List (List ℕ)) → IsAt x s d → AdvancesOn x y kept now o outcomes s d)
     → Advanced c (set_at ls i y) ss ds kept now o outcomes
 advance_at c zero x y (l ∷ ls) (s ∷ ss) (d ∷ ds) kept now o outcomes f at moves =
     let m = moves s d (subst (λ (z : Connection). IsAt z s d) at.0 f.0) in

@@ -13,7 +13,7 @@ use Rattle.syslog_collect.specs.declared.limits.TheConstants.{CONNECTIONS_MAX}
 use Rattle.syslog_collect.specs.declared.outcome.Outcome.{Outcome}
 use Rattle.syslog_collect.specs.declared.outcome.Outcome.TheVariants.{New, Held, Refused, TooLong, BadCount}
 use Rattle.syslog_collect.specs.Frames.{IsFramesOf}
-use Rattle.syslog_collect.specs.History.{History, IsBad, MayGrow, Stream, Told, Opened, Piece, Ended, Datagram, longer, stream_of}
+use Rattle.syslog_collect.specs.History.{History, HoldsBadCount, MayContinue, Stream, AcceptedEvent, Opened, Piece, Ended, Datagram, with_octets, stream_of}
 use Rattle.syslog_collect.specs.Outcomes.{AreReported, IsRecordFrame, outcomes_of}
 use Rattle.syslog_collect.specs.Standing.{IsAt}
 
@@ -69,37 +69,37 @@ answered (Ok a) = outcomes_of a.outcome
 answered (Err fault) = []
 
 -- the events that a piece of a number adds
-abbrev pub told_piece : ℕ → Option (List ℕ) → List Told
-told_piece c None = []
-told_piece c (Some octets) = Piece c octets ∷ []
+abbrev pub accepted_piece : ℕ → Option (List ℕ) → List AcceptedEvent
+accepted_piece c None = []
+accepted_piece c (Some octets) = Piece c octets ∷ []
 
 -- the octets of an opening are bad at this offset
-abbrev pub IsBadOffset : Stream → ℕ → Type 0
-IsBadOffset s at = (frames : List (List ℕ)) × (rest : List ℕ) × IsBadAt s.framing s.octets frames rest at
+abbrev pub HoldsBadCountAt : Stream → ℕ → Type 0
+HoldsBadCountAt s at = (frames : List (List ℕ)) × (rest : List ℕ) × IsBadAt s.framing s.octets frames rest at
 
 -- a bad count is the last of the outcomes exactly where the octets of the opening are bad, at their offset
-abbrev pub MarksBad : List Outcome → Stream → Type 0
-MarksBad [] s = ¬ (IsBad s)
-MarksBad (BadCount at ∷ os) s = IsBadOffset s at × (os ≡ [])
-MarksBad (New ∷ os) s = MarksBad os s
-MarksBad (Held ∷ os) s = MarksBad os s
-MarksBad (Refused fault ∷ os) s = MarksBad os s
-MarksBad (TooLong ∷ os) s = MarksBad os s
+abbrev pub ReportsBadCount : List Outcome → Stream → Type 0
+ReportsBadCount [] s = ¬ (HoldsBadCount s)
+ReportsBadCount (BadCount at ∷ os) s = HoldsBadCountAt s at × (os ≡ [])
+ReportsBadCount (New ∷ os) s = ReportsBadCount os s
+ReportsBadCount (Held ∷ os) s = ReportsBadCount os s
+ReportsBadCount (Refused fault ∷ os) s = ReportsBadCount os s
+ReportsBadCount (TooLong ∷ os) s = ReportsBadCount os s
 
 -- what a connection at an opening does with octets: it is at the opening with them, these frames more
 -- were handled, and these outcomes report them
-pub record Moves (old new : Connection) (kept_old kept_new : List Entry) (octets : List ℕ)
+pub record Advances (old new : Connection) (kept_old kept_new : List Entry) (octets : List ℕ)
     (outcomes : List Outcome) (s : Stream) (handled : List (List ℕ)) : Type 0 where
-  pub may : MayGrow octets s
+  pub may : MayContinue octets s
   pub fresh : List (List ℕ)
-  pub now_at : IsAt new (longer s octets) (handled ++ fresh)
+  pub now_at : IsAt new (with_octets s octets) (handled ++ fresh)
   pub reported : AreReported kept_old kept_new fresh outcomes
-  pub marks : MarksBad outcomes (longer s octets)
+  pub marks : ReportsBadCount outcomes (with_octets s octets)
 
 -- by what was accepted: where nothing was, nothing changes
-abbrev pub MovesBy : Option (List ℕ) → Connection → Connection → List Entry → List Entry → List Outcome → Stream → List (List ℕ) → Type 0
-MovesBy None old new kept_old kept_new outcomes s handled = (new ≡ old) × (kept_new ≡ kept_old) × (outcomes ≡ [])
-MovesBy (Some octets) old new kept_old kept_new outcomes s handled = Moves old new kept_old kept_new octets outcomes s handled
+abbrev pub AdvancesBy : Option (List ℕ) → Connection → Connection → List Entry → List Entry → List Outcome → Stream → List (List ℕ) → Type 0
+AdvancesBy None old new kept_old kept_new outcomes s handled = (new ≡ old) × (kept_new ≡ kept_old) × (outcomes ≡ [])
+AdvancesBy (Some octets) old new kept_old kept_new outcomes s handled = Advances old new kept_old kept_new octets outcomes s handled
 
 -- with these octets the opening is whole frames, and the last of them spells a record
 abbrev pub EndsInRecord : Stream → List ℕ → Type 0
@@ -107,10 +107,10 @@ EndsInRecord s octets = (frames : List (List ℕ)) × (f : List ℕ) × Frames s
 
 -- why an advance of a connection at an opening is refused, the first cause that holds
 abbrev pub IsCause : List ℕ → Result Advance CollectFault → Stream → Type 0
-IsCause piece (Ok a) s = ¬ (IsBad s)
-IsCause piece (Err (Memory n)) s = ¬ (IsBad s) × EndsInRecord s (take n piece)
-IsCause piece (Err ConnFailed) s = IsBad s
-IsCause piece (Err StreamTooLong) s = ¬ (IsBad s) × (POSITION_MAX < length s.octets + length piece)
+IsCause piece (Ok a) s = ¬ (HoldsBadCount s)
+IsCause piece (Err (Memory n)) s = ¬ (HoldsBadCount s) × EndsInRecord s (take n piece)
+IsCause piece (Err ConnFailed) s = HoldsBadCount s
+IsCause piece (Err StreamTooLong) s = ¬ (HoldsBadCount s) × (POSITION_MAX < length s.octets + length piece)
 IsCause piece (Err NotOpen) s = ⊥
 IsCause piece (Err AlreadyOpen) s = ⊥
 IsCause piece (Err TooManyOpen) s = ⊥
@@ -144,29 +144,29 @@ IsAnswerAt c piece (Err (Unterminated start)) h = ⊥
 -- octets of a number complete these last frames of its opening, and the outcomes report them
 abbrev pub Reports : ℕ → List ℕ → History → List Entry → List Entry → List Outcome → Type 0
 Reports c octets h kept_old kept_new outcomes = IsSomeAnd (stream_of c h.streams) (λ s. (before : List (List ℕ)) × (last : List (List ℕ))
-    × IsFramesOf (longer s octets) (before ++ last) × AreReported kept_old kept_new last outcomes × MarksBad outcomes (longer s octets))
+    × IsFramesOf (with_octets s octets) (before ++ last) × AreReported kept_old kept_new last outcomes × ReportsBadCount outcomes (with_octets s octets))
 
 -- the event that an opening adds
-abbrev pub told_opening : {U : Type 0} → ℕ → Framing → Result U CollectFault → List Told
-told_opening c k (Ok u) = Opened c k ∷ []
-told_opening c k (Err fault) = []
+abbrev pub accepted_opening : {U : Type 0} → ℕ → Framing → Result U CollectFault → List AcceptedEvent
+accepted_opening c k (Ok u) = Opened c k ∷ []
+accepted_opening c k (Err fault) = []
 
 -- the event that an end adds: also where the last frame is unfinished
-abbrev pub told_ending : {U : Type 0} → ℕ → Result U CollectFault → List Told
-told_ending c (Ok u) = Ended c ∷ []
-told_ending c (Err (Unterminated start)) = Ended c ∷ []
-told_ending c (Err NotOpen) = []
-told_ending c (Err AlreadyOpen) = []
-told_ending c (Err TooManyOpen) = []
-told_ending c (Err ConnFailed) = []
-told_ending c (Err StreamTooLong) = []
-told_ending c (Err Unreleased) = []
-told_ending c (Err (Memory n)) = []
+abbrev pub accepted_ending : {U : Type 0} → ℕ → Result U CollectFault → List AcceptedEvent
+accepted_ending c (Ok u) = Ended c ∷ []
+accepted_ending c (Err (Unterminated start)) = Ended c ∷ []
+accepted_ending c (Err NotOpen) = []
+accepted_ending c (Err AlreadyOpen) = []
+accepted_ending c (Err TooManyOpen) = []
+accepted_ending c (Err ConnFailed) = []
+accepted_ending c (Err StreamTooLong) = []
+accepted_ending c (Err Unreleased) = []
+accepted_ending c (Err (Memory n)) = []
 
 -- the event that a datagram adds
-abbrev pub told_datagram : {E : Type 0} → List ℕ → Result Outcome E → List Told
-told_datagram octets (Ok o) = Datagram octets ∷ []
-told_datagram octets (Err fault) = []
+abbrev pub accepted_datagram : {E : Type 0} → List ℕ → Result Outcome E → List AcceptedEvent
+accepted_datagram octets (Ok o) = Datagram octets ∷ []
+accepted_datagram octets (Err fault) = []
 
 -- what the opening of a number answers after a history, the first cause that holds
 abbrev pub IsOpening : {U : Type 0} → ℕ → Result U CollectFault → History → Type 0
@@ -187,14 +187,14 @@ IsUnfinished start s = (frames : List (List ℕ)) × (rest : List ℕ) × Frames
 
 -- the octets of an opening are whole frames, or hold a bad count
 abbrev pub EndsWhole : Stream → Type 0
-EndsWhole s = IsBad s ⊎ ((frames : List (List ℕ)) × Frames s.framing s.octets frames [])
+EndsWhole s = HoldsBadCount s ⊎ ((frames : List (List ℕ)) × Frames s.framing s.octets frames [])
 
 -- what the end of a number answers after a history
 abbrev pub IsEnding : {U : Type 0} → ℕ → Result U CollectFault → History → Type 0
 IsEnding c (Ok u) h = IsSomeAnd (stream_of c h.streams) EndsWhole
 IsEnding c (Err NotOpen) h = stream_of c h.streams ≡ None
 IsEnding c (Err Unreleased) h = IsSome (stream_of c h.streams)
-IsEnding c (Err (Unterminated start)) h = IsSomeAnd (stream_of c h.streams) (λ s. ¬ (IsBad s) × IsUnfinished start s)
+IsEnding c (Err (Unterminated start)) h = IsSomeAnd (stream_of c h.streams) (λ s. ¬ (HoldsBadCount s) × IsUnfinished start s)
 IsEnding c (Err AlreadyOpen) h = ⊥
 IsEnding c (Err TooManyOpen) h = ⊥
 IsEnding c (Err ConnFailed) h = ⊥

@@ -5,7 +5,7 @@ use Rattle.syslog_grammar.specs.WellFormed.{WellFormed}
 use Rattle.syslog_frame.specs.Frames.{Frames}
 use Rattle.syslog_frame.specs.declared.limits.TheConstants.{FRAME_MAX}
 use Rattle.archive_text.specs.Entries.{Entry, Has, IsEntryOf}
-use Rattle.syslog_collect.specs.History.{History, Stream, Told, after, nothing}
+use Rattle.syslog_collect.specs.History.{History, Stream, AcceptedEvent, history_of}
 
 -- these are the frames of an opening
 abbrev pub IsFramesOf : Stream → List (List ℕ) → Type 0
@@ -41,8 +41,8 @@ IsSpelled [] x = ⊥
 IsSpelled (f ∷ fs) x = IsEntryOfFrame f x ⊎ IsSpelled fs x
 
 -- the received set: the entries of the records that the frames of the events spell
-abbrev pub IsReceived : List Told → Entry → Type 0
-IsReceived es x = (frames : List (List ℕ)) × HasFrames (after nothing es) frames × IsSpelled frames x
+abbrev pub IsReceived : List AcceptedEvent → Entry → Type 0
+IsReceived es x = (frames : List (List ℕ)) × HasFrames (history_of es) frames × IsSpelled frames x
 
 -- the entries are those before and those of the frames, and no other
 abbrev pub Gains : List Entry → List Entry → List (List ℕ) → Type 0

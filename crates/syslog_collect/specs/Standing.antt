@@ -7,7 +7,7 @@ use Rattle.syslog_frame.specs.declared.limits.TheConstants.{FRAME_MAX}
 use Rattle.archive_text.specs.Entries.{Entry}
 use Rattle.syslog_collect.specs.declared.connection.Connection.{Connection}
 use Rattle.syslog_collect.specs.Frames.{AreFramesOf, Gains, all_of}
-use Rattle.syslog_collect.specs.History.{AreAcceptable, History, Stream, Told, after, nothing}
+use Rattle.syslog_collect.specs.History.{AreAcceptable, History, Stream, AcceptedEvent, history_of}
 
 -- the scanner has taken the octets of the opening: these frames were handled, and it stands at a rest
 pub record IsOpenAt (scanner : Scan) (s : Stream) (handled : List (List ℕ)) : Type 0 where
@@ -47,6 +47,6 @@ pub record StandsAt (cs : List Connection) (kept first : List Entry) (h : Histor
   pub gains : Gains first kept (all_of handled ++ (all_of ended_frames ++ h.datagrams))
 
 -- connections and entries stand at first entries and acceptable events
-pub record Stands (cs : List Connection) (kept first : List Entry) (events : List Told) : Type 0 where
+pub record Stands (cs : List Connection) (kept first : List Entry) (events : List AcceptedEvent) : Type 0 where
   pub acceptable : AreAcceptable events
-  pub stands_at : StandsAt cs kept first (after nothing events)
+  pub stands_at : StandsAt cs kept first (history_of events)

@@ -2,7 +2,7 @@
 
 ghost use Rattle.std.specs.Prelude.{◌≡◌, ◌<◌, ◌≤◌, ℕ, List, IfOk, OnErr, OnOk, length};
 ghost use Rattle.syslog_frame.specs.Scan.{HasReady, IsFailed, IsReading};
-ghost use Rattle.syslog_collect.specs.Answers.{IsBadCount, IsCause, IsUsedWithin, MovesBy};
+ghost use Rattle.syslog_collect.specs.Answers.{IsBadCount, IsCause, IsUsedWithin, AdvancesBy};
 ghost use Rattle.syslog_collect.specs.Answers.{accepted_octets, answered, dropped_octets};
 ghost use Rattle.syslog_collect.specs.History.{Stream};
 ghost use Rattle.syslog_collect.specs.Standing.{IsAt};
@@ -33,10 +33,10 @@ pub fn advance_connection<S: Store>(
         → IsCause piece.now result s }
     // What was accepted, with the octets that follow a bad one or without them.
     ensures moves { (s : Stream) (handled : List (List ℕ)) → IsAt connection.old s handled
-        → MovesBy (accepted_octets piece.now result) connection.old connection.new
+        → AdvancesBy (accepted_octets piece.now result) connection.old connection.new
         (S.entries store.old) (S.entries store.new) (answered result) s handled }
     ensures drops { (s : Stream) (handled : List (List ℕ)) → IsAt connection.old s handled
-        → MovesBy (dropped_octets piece.now result) connection.old connection.new
+        → AdvancesBy (dropped_octets piece.now result) connection.old connection.new
         (S.entries store.old) (S.entries store.new) (answered result) s handled }
 {
     let used = match connection.scanner.push(piece) {

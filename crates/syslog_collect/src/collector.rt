@@ -6,10 +6,10 @@ ghost use Rattle.archive_text.specs.Entries.{Entry, Has};
 ghost use Rattle.archive_text.specs.Text.{IsArchive, text_of};
 ghost use Rattle.syslog_collect.specs.Answers.{IfUnreleased, IsAnswerAt, IsEnding, IsOpening, IsUsedWithin};
 ghost use Rattle.syslog_collect.specs.Answers.{Reports, accepted_octets, dropped_octets, used_octets};
-ghost use Rattle.syslog_collect.specs.Answers.{told_datagram, told_ending, told_opening, told_piece};
+ghost use Rattle.syslog_collect.specs.Answers.{accepted_datagram, accepted_ending, accepted_opening, accepted_piece};
 ghost use Rattle.syslog_collect.specs.Frames.{IsReceived};
 ghost use Rattle.syslog_collect.specs.Headline.{IsSettled, IsUnion, ReceivedBoth, ReceivedSame};
-ghost use Rattle.syslog_collect.specs.History.{Told, after, nothing};
+ghost use Rattle.syslog_collect.specs.History.{AcceptedEvent, history_of};
 ghost use Rattle.syslog_collect.specs.Outcomes.{IsOutcome, IsRecordFrame, outcomes_of};
 ghost use Rattle.syslog_collect.specs.Standing.{Stands};
 
@@ -65,13 +65,13 @@ impl<S: Store> Collector<S> {
         conn: u32,
         framing: Framing,
     ) -> Result<(), CollectFault>
-        ensures stands { (first : List Entry) (events : List Told)
+        ensures stands { (first : List Entry) (events : List AcceptedEvent)
             → Stands self.old.connections.items (S.entries self.old.store) first events
             → Stands self.new.connections.items (S.entries self.new.store) first
-            (events ++ told_opening conn framing result) }
-        ensures cause { (first : List Entry) (events : List Told)
+            (events ++ accepted_opening conn framing result) }
+        ensures cause { (first : List Entry) (events : List AcceptedEvent)
             → Stands self.old.connections.items (S.entries self.old.store) first events
-            → IsOpening conn result (after nothing events) }
+            → IsOpening conn result (history_of events) }
         ensures settled { IsSettled self.old.connections.items
             → IsSettled self.new.connections.items }
         ensures err { OnErr result (self.new.connections.items ≡ self.old.connections.items) }
@@ -109,23 +109,23 @@ impl<S: Store> Collector<S> {
     ) -> Result<Advance, CollectFault>
         ensures within { IsUsedWithin piece.now result }
         // It stands at the events with what was accepted: the octets used, and a bad one.
-        ensures stands { (first : List Entry) (events : List Told)
+        ensures stands { (first : List Entry) (events : List AcceptedEvent)
             → Stands self.old.connections.items (S.entries self.old.store) first events
             → Stands self.new.connections.items (S.entries self.new.store) first
-            (events ++ told_piece conn (accepted_octets piece.now result)) }
+            (events ++ accepted_piece conn (accepted_octets piece.now result)) }
         // The octets that follow a bad one change nothing.
-        ensures drops { (first : List Entry) (events : List Told)
+        ensures drops { (first : List Entry) (events : List AcceptedEvent)
             → Stands self.old.connections.items (S.entries self.old.store) first events
             → Stands self.new.connections.items (S.entries self.new.store) first
-            (events ++ told_piece conn (dropped_octets piece.now result)) }
+            (events ++ accepted_piece conn (dropped_octets piece.now result)) }
         // The outcome is that of the last frame of the octets so far; and why the piece is refused.
-        ensures outcome { (first : List Entry) (events : List Told)
+        ensures outcome { (first : List Entry) (events : List AcceptedEvent)
             → Stands self.old.connections.items (S.entries self.old.store) first events
-            → IfOk result (λ a. Reports conn (used_octets piece.now a) (after nothing events)
+            → IfOk result (λ a. Reports conn (used_octets piece.now a) (history_of events)
             (S.entries self.old.store) (S.entries self.new.store) (outcomes_of a.outcome)) }
-        ensures cause { (first : List Entry) (events : List Told)
+        ensures cause { (first : List Entry) (events : List AcceptedEvent)
             → Stands self.old.connections.items (S.entries self.old.store) first events
-            → IsAnswerAt conn piece.now result (after nothing events) }
+            → IsAnswerAt conn piece.now result (history_of events) }
         // After Ok no frame of the connection is left ready.
         ensures settled { OnOk result (IsSettled self.old.connections.items
             → IsSettled self.new.connections.items) }
@@ -140,10 +140,10 @@ impl<S: Store> Collector<S> {
 
     /// Handles a datagram.
     pub fn datagram(&mut self, alloc: Global, octets: &[u8]) -> Result<Outcome, AllocError>
-        ensures stands { (first : List Entry) (events : List Told)
+        ensures stands { (first : List Entry) (events : List AcceptedEvent)
             → Stands self.old.connections.items (S.entries self.old.store) first events
             → Stands self.new.connections.items (S.entries self.new.store) first
-            (events ++ told_datagram octets.now result) }
+            (events ++ accepted_datagram octets.now result) }
         ensures outcome { IfOk result (λ o.
             IsOutcome (S.entries self.old.store) (S.entries self.new.store) octets.now o) }
         ensures err { OnErr result (S.entries self.new.store ≡ S.entries self.old.store) }
@@ -156,14 +156,14 @@ impl<S: Store> Collector<S> {
     /// Ends a connection. It is closed after Ok, and after `Unterminated` too; one whose stream
     /// held a bad count is closed with Ok.
     pub fn end_conn(&mut self, conn: u32) -> Result<(), CollectFault>
-        ensures stands { (first : List Entry) (events : List Told)
+        ensures stands { (first : List Entry) (events : List AcceptedEvent)
             → Stands self.old.connections.items (S.entries self.old.store) first events
             → Stands self.new.connections.items (S.entries self.new.store) first
-            (events ++ told_ending conn result) }
-        ensures cause { (first : List Entry) (events : List Told)
+            (events ++ accepted_ending conn result) }
+        ensures cause { (first : List Entry) (events : List AcceptedEvent)
             → Stands self.old.connections.items (S.entries self.old.store) first events
-            → IsEnding conn result (after nothing events) }
-        ensures unreleased { (first : List Entry) (events : List Told)
+            → IsEnding conn result (history_of events) }
+        ensures unreleased { (first : List Entry) (events : List AcceptedEvent)
             → Stands self.old.connections.items (S.entries self.old.store) first events
             → IfUnreleased result (¬ (IsSettled self.old.connections.items)) }
         ensures settled { IsSettled self.old.connections.items
@@ -194,7 +194,7 @@ impl<S: Store> Collector<S> {
     /// The store. Where no frame is left ready, it holds what was there first and the received set.
     pub fn store(&self) -> &S
         ensures same { result.now ≡ self.now.store }
-        ensures received { (first : List Entry) (events : List Told)
+        ensures received { (first : List Entry) (events : List AcceptedEvent)
             → Stands self.now.connections.items (S.entries self.now.store) first events
             → IsSettled self.now.connections.items
             → (x : Entry) → Has (S.entries result.now) x ↔ (Has first x ⊎ IsReceived events x) }
@@ -207,12 +207,12 @@ impl<S: Store> Collector<S> {
 /// are equal, hold the same entries, in one order. So their archives, as `Store::write` writes them,
 /// are byte-equal, whatever the framings, cuts, orders, interleavings and repetitions were.
 pub fn same_archives<S: Store, T: Store>(one: &Collector<S>, two: &Collector<T>)
-    ensures entries { (events others : List Told)
+    ensures entries { (events others : List AcceptedEvent)
         → Stands one.now.connections.items (S.entries one.now.store) [] events
         → Stands two.now.connections.items (T.entries two.now.store) [] others
         → IsSettled one.now.connections.items → IsSettled two.now.connections.items
         → ReceivedSame events others → S.entries one.now.store ≡ T.entries two.now.store }
-    ensures texts { (events others : List Told)
+    ensures texts { (events others : List AcceptedEvent)
         → Stands one.now.connections.items (S.entries one.now.store) [] events
         → Stands two.now.connections.items (T.entries two.now.store) [] others
         → IsSettled one.now.connections.items → IsSettled two.now.connections.items
@@ -227,7 +227,7 @@ pub fn merged_archives<S: Store, T: Store, U: Store>(
     two: &Collector<T>,
     all: &Collector<U>,
 )
-    ensures { (events others both : List Told) (merged : List Entry)
+    ensures { (events others both : List AcceptedEvent) (merged : List Entry)
         → Stands one.now.connections.items (S.entries one.now.store) [] events
         → Stands two.now.connections.items (T.entries two.now.store) [] others
         → Stands all.now.connections.items (U.entries all.now.store) [] both

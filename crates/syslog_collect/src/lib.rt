@@ -7,9 +7,9 @@
 //!
 //! The words of these contracts stand in `specs/`:
 //!
-//! - History: what a list of events says, with no word of how a collector works. `Told` is an event
-//!   that was accepted, `AreAcceptable` says which events may come, and `after` folds them into the
-//!   openings with their octets and the datagrams.
+//! - History: what a list of events says, with no word of how a collector works. `AcceptedEvent` is
+//!   an event that was accepted, `AreAcceptable` says which events may come, and `history_of` folds
+//!   them into the openings with their octets and the datagrams.
 //! - Frames: `HasFrames`, the frames of all openings and datagrams; `IsReceived`, the received set:
 //!   the records that a frame of at most `FRAME_MAX` octets spells, each as its entry.
 //! - Standing: `Stands`, where a collector is after events over a first set. Each call's clause

@@ -3,11 +3,11 @@
 ghost use Rattle.std.specs.Prelude.{◌≡◌, ◌++◌, ◌<◌, ◌+◌, List, vec_capacity, vec_len};
 ghost use Rattle.archive_text.specs.Entries.{Entry};
 ghost use Rattle.syslog_collect.specs.Headline.{IsSettled};
-ghost use Rattle.syslog_collect.specs.History.{Told, after, nothing};
+ghost use Rattle.syslog_collect.specs.History.{AcceptedEvent, history_of};
 ghost use Rattle.syslog_collect.specs.Logs.{LogGrows, LogsDatagram};
 ghost use Rattle.syslog_collect.specs.Runs.{IfAllDone, IfDone, LogsFrames, event_end};
-ghost use Rattle.syslog_collect.specs.Runs.{piece_octets, told_all, told_by, told_datagram_end};
-ghost use Rattle.syslog_collect.specs.Runs.{told_event, told_octets, told_run};
+ghost use Rattle.syslog_collect.specs.Runs.{piece_octets, accepted_all, accepted_by, accepted_datagram_end};
+ghost use Rattle.syslog_collect.specs.Runs.{accepted_event, nonempty_piece, accepted_run};
 ghost use Rattle.syslog_collect.specs.Standing.{Stands};
 
 use crate::collector::{Collector, place};
@@ -30,20 +30,20 @@ fn end_of(answer: Result<(), CollectFault>) -> EventEnd
 impl<S: Store> Collector<S> {
     /// A piece, advanced until its rest is empty, and at least once.
     fn piece(&mut self, alloc: Global, conn: u32, octets: &[u8], log: &mut Vec<Outcome>) -> EventEnd
-        ensures stands { (first : List Entry) (events : List Told)
+        ensures stands { (first : List Entry) (events : List AcceptedEvent)
             → Stands self.old.connections.items (S.entries self.old.store) first events
             → Stands self.new.connections.items (S.entries self.new.store) first
-            (events ++ told_octets conn (piece_octets octets.now result)) }
-        ensures logs { (first : List Entry) (events : List Told)
+            (events ++ nonempty_piece conn (piece_octets octets.now result)) }
+        ensures logs { (first : List Entry) (events : List AcceptedEvent)
             → Stands self.old.connections.items (S.entries self.old.store) first events
             → LogsFrames (S.entries self.old.store) (S.entries self.new.store)
             log.old.items log.new.items }
         ensures settled { IfDone result (IsSettled self.old.connections.items
             → IsSettled self.new.connections.items) }
-        ensures logged { (first : List Entry) (events : List Told)
+        ensures logged { (first : List Entry) (events : List AcceptedEvent)
             → Stands self.old.connections.items (S.entries self.old.store) first events
             → IsSettled self.old.connections.items
-            → IfDone result (LogGrows (after nothing events) (told_octets conn octets.now)
+            → IfDone result (LogGrows (history_of events) (nonempty_piece conn octets.now)
             (S.entries self.old.store) (S.entries self.new.store) log.old.items log.new.items) }
     {
         match place(&self.connections, conn) {
@@ -64,10 +64,10 @@ impl<S: Store> Collector<S> {
     /// A datagram, whose outcome the log has room for.
     fn logged_datagram(&mut self, alloc: Global, octets: &[u8], log: &mut Vec<Outcome>) -> EventEnd
         requires { vec_len log.old < vec_capacity log.old }
-        ensures stands { (first : List Entry) (events : List Told)
+        ensures stands { (first : List Entry) (events : List AcceptedEvent)
             → Stands self.old.connections.items (S.entries self.old.store) first events
             → Stands self.new.connections.items (S.entries self.new.store) first
-            (events ++ told_datagram_end octets.now result) }
+            (events ++ accepted_datagram_end octets.now result) }
         ensures logs { LogsFrames (S.entries self.old.store) (S.entries self.new.store)
             log.old.items log.new.items }
         ensures connections { self.new.connections.items ≡ self.old.connections.items }
@@ -87,21 +87,21 @@ impl<S: Store> Collector<S> {
     }
 
     /// One event, as far as it goes. Room for an outcome is made in the log first.
-    fn hear(&mut self, alloc: Global, event: Event<'_>, log: &mut Vec<Outcome>) -> EventEnd
-        ensures stands { (first : List Entry) (events : List Told)
+    fn run_event(&mut self, alloc: Global, event: Event<'_>, log: &mut Vec<Outcome>) -> EventEnd
+        ensures stands { (first : List Entry) (events : List AcceptedEvent)
             → Stands self.old.connections.items (S.entries self.old.store) first events
             → Stands self.new.connections.items (S.entries self.new.store) first
-            (events ++ told_by event.entry result) }
-        ensures logs { (first : List Entry) (events : List Told)
+            (events ++ accepted_by event.entry result) }
+        ensures logs { (first : List Entry) (events : List AcceptedEvent)
             → Stands self.old.connections.items (S.entries self.old.store) first events
             → LogsFrames (S.entries self.old.store) (S.entries self.new.store)
             log.old.items log.new.items }
         ensures settled { IfDone result (IsSettled self.old.connections.items
             → IsSettled self.new.connections.items) }
-        ensures logged { (first : List Entry) (events : List Told)
+        ensures logged { (first : List Entry) (events : List AcceptedEvent)
             → Stands self.old.connections.items (S.entries self.old.store) first events
             → IsSettled self.old.connections.items
-            → IfDone result (LogGrows (after nothing events) (told_event event.entry)
+            → IfDone result (LogGrows (history_of events) (accepted_event event.entry)
             (S.entries self.old.store) (S.entries self.new.store) log.old.items log.new.items) }
     {
         if log.reserve(1).is_err() {
@@ -121,11 +121,11 @@ impl<S: Store> Collector<S> {
     /// Handles events in order, up to the first that is refused, and appends each outcome to the
     /// log. The octets of a piece that follow a bad count are dropped.
     pub fn run(&mut self, alloc: Global, events: &[Event<'_>], log: &mut Vec<Outcome>) -> RunEnd
-        ensures stands { (first : List Entry) (before : List Told)
+        ensures stands { (first : List Entry) (before : List AcceptedEvent)
             → Stands self.old.connections.items (S.entries self.old.store) first before
             → Stands self.new.connections.items (S.entries self.new.store) first
-            (before ++ told_run events.now result) }
-        ensures logs { (first : List Entry) (before : List Told)
+            (before ++ accepted_run events.now result) }
+        ensures logs { (first : List Entry) (before : List AcceptedEvent)
             → Stands self.old.connections.items (S.entries self.old.store) first before
             → LogsFrames (S.entries self.old.store) (S.entries self.new.store)
             log.old.items log.new.items }
@@ -133,14 +133,14 @@ impl<S: Store> Collector<S> {
         ensures settled { IfAllDone result (IsSettled self.old.connections.items
             → IsSettled self.new.connections.items) }
         // The log has the outcomes in the order in which the frames' last octets came.
-        ensures logged { (first : List Entry) (before : List Told)
+        ensures logged { (first : List Entry) (before : List AcceptedEvent)
             → Stands self.old.connections.items (S.entries self.old.store) first before
             → IsSettled self.old.connections.items
-            → IfAllDone result (LogGrows (after nothing before) (told_all events.now)
+            → IfAllDone result (LogGrows (history_of before) (accepted_all events.now)
             (S.entries self.old.store) (S.entries self.new.store) log.old.items log.new.items) }
     {
         for (at, event) in events.iter().enumerate() {
-            if let EventEnd::Stopped { taken, fault } = self.hear(alloc, *event, log) {
+            if let EventEnd::Stopped { taken, fault } = self.run_event(alloc, *event, log) {
                 return RunEnd::Stopped { at, taken, fault };
             }
         }
