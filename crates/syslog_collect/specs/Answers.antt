@@ -212,3 +212,15 @@ IfUnreleased (Err TooManyOpen) P = Unit {0}
 IfUnreleased (Err ConnFailed) P = Unit {0}
 IfUnreleased (Err StreamTooLong) P = Unit {0}
 IfUnreleased (Err (Memory n)) P = Unit {0}
+
+-- where a call was refused and has taken nothing: each refusal but want of memory and an unfinished frame
+abbrev pub IfRefused : {A : Type 0} → Result A CollectFault → Type 0 → Type 0
+IfRefused (Ok a) P = Unit {0}
+IfRefused (Err (Memory n)) P = Unit {0}
+IfRefused (Err (Unterminated start)) P = Unit {0}
+IfRefused (Err AlreadyOpen) P = P
+IfRefused (Err TooManyOpen) P = P
+IfRefused (Err NotOpen) P = P
+IfRefused (Err ConnFailed) P = P
+IfRefused (Err StreamTooLong) P = P
+IfRefused (Err Unreleased) P = P

@@ -2,7 +2,7 @@
 
 ghost use Rattle.std.specs.Prelude.{◌≡◌, ◌<◌, ◌≤◌, ℕ, List, IfOk, OnErr, OnOk, length};
 ghost use Rattle.syslog_frame.specs.Scan.{HasReady, IsFailed, IsReading};
-ghost use Rattle.syslog_collect.specs.Answers.{IsBadCount, IsCause, IsUsedWithin, AdvancesBy};
+ghost use Rattle.syslog_collect.specs.Answers.{AdvancesBy, IfRefused, IsBadCount, IsCause, IsUsedWithin};
 ghost use Rattle.syslog_collect.specs.Answers.{accepted_octets, answered, dropped_octets};
 ghost use Rattle.syslog_collect.specs.History.{Stream};
 ghost use Rattle.syslog_collect.specs.Standing.{IsAt};
@@ -28,9 +28,11 @@ pub fn advance_connection<S: Store>(
     ensures live { OnOk result (¬ (IsFailed connection.old.scanner)) }
     ensures number { connection.new.number ≡ connection.old.number }
 
-    // Why it is refused.
+    // Why it is refused, and that nothing has changed then, but where memory was refused.
     ensures cause { (s : Stream) (handled : List (List ℕ)) → IsAt connection.old s handled
         → IsCause piece.now result s }
+    ensures unchanged { IfRefused result
+        ((connection.new ≡ connection.old) × (store.new ≡ store.old)) }
     // What was accepted, with the octets that follow a bad one or without them.
     ensures moves { (s : Stream) (handled : List (List ℕ)) → IsAt connection.old s handled
         → AdvancesBy (accepted_octets piece.now result) connection.old connection.new

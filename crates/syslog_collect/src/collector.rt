@@ -4,8 +4,8 @@ ghost use Rattle.std.specs.Prelude.{◌≡◌, ◌⊎◌, ◌↔◌, ◌++◌, �
 ghost use Rattle.std.specs.List.{position_from};
 ghost use Rattle.archive_text.specs.Entries.{Entry, Has};
 ghost use Rattle.archive_text.specs.Text.{IsArchive, text_of};
-ghost use Rattle.syslog_collect.specs.Answers.{IfUnreleased, IsAnswerAt, IsEnding, IsOpening, IsUsedWithin};
-ghost use Rattle.syslog_collect.specs.Answers.{Reports, accepted_octets, dropped_octets, used_octets};
+ghost use Rattle.syslog_collect.specs.Answers.{IfRefused, IfUnreleased, IsAnswerAt, IsEnding, IsOpening};
+ghost use Rattle.syslog_collect.specs.Answers.{IsUsedWithin, Reports, accepted_octets, dropped_octets, used_octets};
 ghost use Rattle.syslog_collect.specs.Answers.{accepted_datagram, accepted_ending, accepted_opening, accepted_piece};
 ghost use Rattle.syslog_collect.specs.Frames.{IsReceived};
 ghost use Rattle.syslog_collect.specs.Headline.{IsSettled, IsUnion, ReceivedBoth, ReceivedSame};
@@ -126,6 +126,9 @@ impl<S: Store> Collector<S> {
         ensures cause { (first : List Entry) (events : List AcceptedEvent)
             → Stands self.old.connections.items (S.entries self.old.store) first events
             → IsAnswerAt conn piece.now result (history_of events) }
+        // A refusal changes nothing, but where memory was refused.
+        ensures unchanged { IfRefused result ((self.new.connections.items ≡ self.old.connections.items)
+            × (self.new.store ≡ self.old.store)) }
         // After Ok no frame of the connection is left ready.
         ensures settled { OnOk result (IsSettled self.old.connections.items
             → IsSettled self.new.connections.items) }
@@ -166,6 +169,8 @@ impl<S: Store> Collector<S> {
         ensures unreleased { (first : List Entry) (events : List AcceptedEvent)
             → Stands self.old.connections.items (S.entries self.old.store) first events
             → IfUnreleased result (¬ (IsSettled self.old.connections.items)) }
+        ensures unchanged { IfRefused result
+            (self.new.connections.items ≡ self.old.connections.items) }
         ensures settled { IsSettled self.old.connections.items
             → IsSettled self.new.connections.items }
         ensures store { self.new.store ≡ self.old.store }

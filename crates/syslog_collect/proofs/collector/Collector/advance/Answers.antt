@@ -4,7 +4,7 @@ use Rattle.syslog_collect.specs.Answers.{accepted_octets, answered, dropped_octe
 use Rattle.syslog_collect.specs.declared.connection.Connection.{Connection}
 use Rattle.syslog_collect.proofs.Headline.{reports_found, settled_advance}
 use Rattle.syslog_collect.proofs.Places.{place_from, within}
-use Rattle.syslog_collect.proofs.Steps.{advance_found, cause_found, not_open}
+use Rattle.syslog_collect.proofs.Steps.{advance_found, cause_found, not_open, unchanged_found}
 use Rattle.syslog_collect.proofs.collector.Collector.advance.Goals as goal
 
 pub index_mut-requires : goal.index_mut-requires
@@ -43,3 +43,9 @@ returns-in-Some-clause-cause g c first events was =
 
 pub returns-in-Some-clause-settled : goal.returns-in-Some-clause-settled
 returns-in-Some-clause-settled g c = settled_advance c.advance_connection.result c.args.self.now.connections.items c.in-Some.at c.advance_connection.new.connection c.advance_connection.ensures.settled
+
+pub returns-in-Some-clause-unchanged : goal.returns-in-Some-clause-unchanged
+returns-in-Some-clause-unchanged g c =
+    let is = subst (λ (ls : List Connection). place_from c.args.conn 0 ls ≡ Some c.in-Some.at) c.deref.ensures.value (sym c.in-Some.ensures) in
+    unchanged_found c.advance_connection.result c.args.conn c.in-Some.at c.index_mut.result.now c.advance_connection.new.connection c.args.self.now.connections.items _ _ is c.index_mut.ensures.value
+    c.advance_connection.ensures.unchanged
