@@ -1,5 +1,5 @@
 -- A run, event by event.
-use Rattle.std.proofs.Common.{◌≡◌, ℕ, zero, suc, ◌+◌, ◌<◌, true, false, cond, eqb, List, [], ◌∷◌, ◌++◌, length, take, drop, get_or, set as set_at, inl, inr, append_assoc, refl, sym, ◌∙◌, ap, subst, arith}
+use Rattle.std.proofs.Common.{◌≡◌, ℕ, zero, suc, ◌+◌, ◌<◌, true, false, cond, eqb, List, [], ◌∷◌, ◌++◌, length, take, drop, get_or, set as set_at, inl, inr, refl, sym, ◌∙◌, ap, subst, arith}
 use Rattle.std.specs.Prelude.{Some, Result, Ok, Err}
 use Rattle.std.proofs.lemmas.List.{append-nil}
 use denote.Bor.{Bor}
@@ -13,15 +13,13 @@ use Rattle.syslog_collect.specs.declared.event.EventEnd.TheVariants.{Done as end
 use Rattle.syslog_collect.specs.declared.fault.CollectFault.{CollectFault}
 use Rattle.syslog_collect.specs.declared.fault.CollectFault.TheVariants.{AlreadyOpen, TooManyOpen, NotOpen, ConnFailed, StreamTooLong, Unreleased, Unterminated, Memory}
 use Rattle.syslog_collect.specs.declared.outcome.Outcome.{Outcome}
-use Rattle.syslog_collect.specs.Answers.{accepted_ending, accepted_opening}
+use Rattle.syslog_collect.specs.Answers.{Advances, accepted_ending, accepted_opening}
 use Rattle.syslog_collect.specs.History.{History, MayContinue, Piece, Stream, AcceptedEvent, history_of, accept, with_piece, with_octets}
-use Rattle.syslog_collect.specs.Outcomes.{AreReported, IsOutcome, IsReported}
-use Rattle.syslog_collect.specs.declared.outcome.Outcome.TheVariants.{New, Held, Refused, TooLong, BadCount}
-use Rattle.syslog_collect.specs.Runs.{Logs, LogsFrames, event_end, piece_octets, accepted_all, accepted_by, accepted_datagram_end, accepted_event, accepted_first, nonempty_piece, accepted_part}
+use Rattle.syslog_collect.specs.Outcomes.{AreReported}
+use Rattle.syslog_collect.specs.Runs.{IfDone, Logs, LogsAdvance, accepted_all, accepted_by, accepted_datagram_end, accepted_event, accepted_first, accepted_part, accepted_piece_end, event_end, nonempty_piece, piece_octets}
 use Rattle.syslog_collect.specs.Standing.{IsAt, Stands, StandsAt}
-use Rattle.syslog_collect.proofs.Pieces.{reported_then}
 use Rattle.syslog_collect.proofs.Places.{AdvancesOn, found_here, opening_at, place_from}
-use Rattle.syslog_collect.proofs.Steps.{moved, step}
+use Rattle.syslog_collect.proofs.Steps.{advance_step, moved, step}
 
 -- ---- a piece, by what was logged of it
 
@@ -75,35 +73,17 @@ logged_found c n x y ls kept now first es (z ∷ zs) l m is item logs was =
     step ls (set_at ls n y) kept now first es (Piece c (z ∷ zs)) was (rw there.is (may_of x y kept now z zs l m there.opening there.handled (logs there.opening there.handled there.at)))
     (moved c n x y ls kept now first h (z ∷ zs) (drop (length l) m) at (λ s d a. on_of x y kept now (z ∷ zs) l m s d a (logs s d a)) was.stands_at)
 
-frames_of_logs : (x y : Connection) (a b : List Entry) (o : List ℕ) (l m : List Outcome) (s : Stream) (d : List (List ℕ)) → Logs x y a b o l m s d → LogsFrames a b l m
-frames_of_logs x y a b o l m s d (os, log, inl (none, same, kept, quiet)) = (os, [], log, subst (λ (u : List Outcome). AreReported a b [] u) (sym quiet) (refl, kept))
-frames_of_logs x y a b o l m s d (os, log, inr moves) = (os, moves.fresh, log, moves.reported)
-
-pub frames_found : (c n : ℕ) (x y : Connection) (ls : List Connection) (kept now first : List Entry) (es : List AcceptedEvent) (o : List ℕ) (l m : List Outcome)
-    → place_from c 0 ls ≡ Some n → x ≡ get_or ls n x → ((s : Stream) (d : List (List ℕ)) → IsAt x s d → Logs x y kept now o l m s d)
-    → Stands ls kept first es → LogsFrames kept now l m
-frames_found c n x y ls kept now first es o l m is item logs was =
-    let there = opening_at c n x ls (history_of es).streams was.stands_at.handled was.stands_at.follow (found_here c n x ls is item) in
-    frames_of_logs x y kept now o l m there.opening there.handled (logs there.opening there.handled there.at)
-
--- ---- logs
-
-pub logs_none : (a b : List Entry) (l m : List Outcome) → b ≡ a → m ≡ l → LogsFrames a b l m
-logs_none a b l m kept same = ([], [], same ∙ sym (append-nil l), (refl, kept))
-
-logs_one : (a b : List Entry) (f : List ℕ) (o : Outcome) → IsOutcome a b f o → IsReported a b (f ∷ []) o
-logs_one a b f New h = (f, refl, h)
-logs_one a b f Held h = (f, refl, h)
-logs_one a b f (Refused fault) h = (f, refl, h)
-logs_one a b f TooLong h = (f, refl, h)
-logs_one a b f (BadCount at) h = absurd h
-
-pub logs_frame : (a b : List Entry) (l m : List Outcome) (f : List ℕ) (o : Outcome) → IsOutcome a b f o → m ≡ l ++ o ∷ [] → LogsFrames a b l m
-logs_frame a b l m f o out log = (o ∷ [], f ∷ [], log, (f ∷ [], [], b, refl, logs_one a b f o out, (refl, refl)))
-
-pub logs_frames_then : (a b c : List Entry) (l m n : List Outcome) → LogsFrames a b l m → LogsFrames b c m n → LogsFrames a c l n
-logs_frames_then a b c l m n (os, fs, log, reported) (ps, gs, more, later) =
-    (os ++ ps, fs ++ gs, more ∙ ap (λ (u : List Outcome). u ++ ps) log ∙ append_assoc l os ps, reported_then a b c fs gs os ps reported later)
+-- a piece of the connection that was found, as far as it went
+pub piece_found : (c n : ℕ) (x y : Connection) (ls : List Connection) (kept now first : List Entry) (es : List AcceptedEvent) (o : List ℕ) (r : EventEnd) (l m : List Outcome)
+    → place_from c 0 ls ≡ Some n → x ≡ get_or ls n x → ((s : Stream) (d : List (List ℕ)) → IsAt x s d → Logs x y kept now (piece_octets o r) l m s d)
+    → ((s : Stream) (d : List (List ℕ)) → IsAt x s d → IfDone r (LogsAdvance x y kept now o l m s d))
+    → Stands ls kept first es → Stands (set_at ls n y) now first (es ++ accepted_piece_end c o r)
+piece_found c n x y ls kept now first es o end_Done l m is item logs accepted was =
+    advance_step c n x y ls kept now first es o (drop (length l) m) (found_here c n x ls is item) (λ s d at. adv s d (accepted s d at)) was
+  where
+    adv : (s : Stream) (d : List (List ℕ)) → LogsAdvance x y kept now o l m s d → Advances x y kept now o (drop (length l) m) s d
+    adv s d (os, log, moves) = subst (λ (u : List Outcome). Advances x y kept now o u s d) (grown l m os log) moves
+piece_found c n x y ls kept now first es o (end_Stopped k fault) l m is item logs accepted was = logged_found c n x y ls kept now first es (take k o) l m is item logs was
 
 -- ---- events
 
@@ -122,7 +102,7 @@ ending_accepted c (Err StreamTooLong) = refl
 ending_accepted c (Err Unreleased) = refl
 ending_accepted c (Err (Memory n)) = refl
 
-pub piece_accepted : (c : ℕ) (o : Bor (List ℕ)) (r : EventEnd) → nonempty_piece c (piece_octets o.now r) ≡ accepted_by (event_Piece c o) r
+pub piece_accepted : (c : ℕ) (o : Bor (List ℕ)) (r : EventEnd) → accepted_piece_end c o.now r ≡ accepted_by (event_Piece c o) r
 piece_accepted c o end_Done = refl
 piece_accepted c o (end_Stopped n fault) = refl
 
@@ -137,12 +117,12 @@ accepted_nothing (event_Piece c o) = refl
 accepted_nothing (event_Ended c) = refl
 accepted_nothing (event_Datagram o) = refl
 
-pub accepted_all-next : (es : List Event) (n : ℕ) (d : Event) → n < length es → accepted_all (take (n + 1) es) ≡ accepted_all (take n es) ++ accepted_event (get_or es n d)
+pub accepted_all-next : (es : List Event) (n : ℕ) (d : Event) → n < length es → accepted_all (take (n + 1) es) ≡ accepted_all (take n es) ++ accepted_event (get_or es n d) ∷ []
 accepted_all-next [] n d h = absurd (omega arith)
-accepted_all-next (e ∷ es) zero d h = append-nil (accepted_event e)
+accepted_all-next (e ∷ es) zero d h = refl
 accepted_all-next (e ∷ es) (suc n) d h =
     let next : suc n + 1 ≡ suc (n + 1) = omega arith in
-    rw next (ap (λ (xs : List AcceptedEvent). accepted_event e ++ xs) (accepted_all-next es n d (omega arith)) ∙ sym (append_assoc (accepted_event e) (accepted_all (take n es)) (accepted_event (get_or es n d))))
+    rw next (ap (λ (xs : List AcceptedEvent). accepted_event e ∷ xs) (accepted_all-next es n d (omega arith)))
 
 pub accepted_first-here : (es : List Event) (n k : ℕ) (fault : CollectFault) (d : Event) → n < length es → accepted_first (drop n es) k fault ≡ accepted_part (get_or es n d) k fault
 accepted_first-here [] n k fault d h = absurd (omega arith)
@@ -153,4 +133,4 @@ pub accepted_all-whole : (es : List Event) (n : ℕ) → n ≡ length es → acc
 accepted_all-whole [] zero h = refl
 accepted_all-whole [] (suc n) h = refl
 accepted_all-whole (e ∷ es) zero h = absurd (omega arith)
-accepted_all-whole (e ∷ es) (suc n) h = ap (λ (xs : List AcceptedEvent). accepted_event e ++ xs) (accepted_all-whole es n (omega arith))
+accepted_all-whole (e ∷ es) (suc n) h = ap (λ (xs : List AcceptedEvent). accepted_event e ∷ xs) (accepted_all-whole es n (omega arith))

@@ -1,6 +1,6 @@
 -- A settled collector holds what was received.
-use Rattle.std.proofs.Common.{◌≡◌, ℕ, zero, suc, ◌+◌, List, [], ◌∷◌, ◌++◌, length, get_or, set as set_at, inl, inr, refl, sym, ◌∙◌, ap, subst}
-use Rattle.std.specs.Prelude.{◌⊎◌, ◌↔◌, Some, Result, Ok, Err, IfOk, OnOk}
+use Rattle.std.proofs.Common.{◌≡◌, ℕ, zero, suc, ◌+◌, List, [], ◌∷◌, ◌++◌, length, set as set_at, inl, inr, refl, sym, ◌∙◌, ap, subst}
+use Rattle.std.specs.Prelude.{◌⊎◌, ◌↔◌, Result, Ok, Err, OnOk}
 use Rattle.std.specs.List.{remove}
 use Rattle.syslog_frame.specs.Scan.{HasFrame, HasReady}
 use Rattle.syslog_frame.specs.declared.limits.TheConstants.{FRAME_MAX}
@@ -11,17 +11,13 @@ use Rattle.archive_text.specs.Entries.{Entry, Has}
 use Rattle.archive_text.specs.Text.{IsArchive}
 use Rattle.archive_text.proofs.Ascending.{same_members}
 use Rattle.syslog_collect.specs.declared.connection.Connection.{Connection}
-use Rattle.syslog_collect.specs.declared.fault.Advance.{Advance}
-use Rattle.syslog_collect.specs.declared.fault.CollectFault.{CollectFault}
-use Rattle.syslog_collect.specs.Answers.{AdvancesBy, Reports, accepted_octets, answered, used_octets}
-use Rattle.syslog_collect.specs.Outcomes.{outcomes_of}
-use Rattle.syslog_collect.proofs.Places.{found_here, opening_at, place_from}
 use Rattle.syslog_collect.specs.declared.event.EventEnd.{EventEnd}
 use Rattle.syslog_collect.specs.declared.event.EventEnd.TheVariants.{Done as end_Done, Stopped as end_Stopped}
 use Rattle.syslog_collect.specs.Runs.{IfDone}
 use Rattle.syslog_collect.specs.Frames.{AreFramesOf, HasFrames, IsFramesOf, IsReceived, IsSpelled, all_of}
 use Rattle.syslog_collect.specs.Headline.{IsSettled, IsUnion, ReceivedBoth, ReceivedSame}
-use Rattle.syslog_collect.specs.History.{History, Stream, AcceptedEvent, history_of, with_octets}
+use Rattle.syslog_collect.specs.History.{History, Stream, AcceptedEvent, history_of}
+use Rattle.syslog_collect.proofs.Places.{AtPlace}
 use Rattle.syslog_collect.specs.Standing.{AreAt, IsAt, Stands}
 
 -- where no frame is ready, the frames that were handled are those of the opening
@@ -56,6 +52,11 @@ settled_remove [] zero h = tt
 settled_remove [] (suc i) h = tt
 settled_remove (d ∷ cs) zero h = h.1
 settled_remove (d ∷ cs) (suc i) h = (h.0, settled_remove cs i h.1)
+
+pub settled_at : (c i : ℕ) (x : Connection) (ls : List Connection) → IsSettled ls → AtPlace c ls i x → ¬ (HasFrame x.scanner)
+settled_at c i x [] settled at = absurd at
+settled_at c zero x (l ∷ ls) settled at = subst (λ (z : Connection). ¬ (HasFrame z.scanner)) at.0 settled.0
+settled_at c (suc i) x (l ∷ ls) settled at = settled_at c i x ls settled.1 at.1
 
 pub settled_advance : {T E : Type 0} (r : Result T E) (cs : List Connection) (n : ℕ) (c : Connection) → OnOk r (¬ (HasReady c.scanner)) → OnOk r (IsSettled cs → IsSettled (set_at cs n c))
 settled_advance (Ok x) cs n c quiet = λ h. settled_set cs n c h (λ f. quiet (inl f))
@@ -129,13 +130,3 @@ union_entries most cs ds bs kept other all merged es fs gs a b one two three set
       | inl p ↦ inl ((holds_just cs kept es one settled x).1 p)
       | inr q ↦ inr ((holds_just ds other fs two settled_too x).1 q)
     ]))
-
--- after an advance that answers Ok, its outcome is that of the last frame
-pub reports_found : (c n : ℕ) (x y : Connection) (ls : List Connection) (kept now first : List Entry) (es : List AcceptedEvent) (piece : List ℕ) (r : Result Advance CollectFault)
-    → place_from c 0 ls ≡ Some n → x ≡ get_or ls n x → ((s : Stream) (d : List (List ℕ)) → IsAt x s d → AdvancesBy (accepted_octets piece r) x y kept now (answered r) s d)
-    → OnOk r (¬ (HasReady y.scanner)) → Stands ls kept first es → IfOk r (λ a. Reports c (used_octets piece a) (history_of es) kept now (outcomes_of a.outcome))
-reports_found c n x y ls kept now first es piece (Ok a) is item moves quiet was =
-    let there = opening_at c n x ls (history_of es).streams was.stands_at.handled was.stands_at.follow (found_here c n x ls is item) in
-    let m = moves there.opening there.handled there.at in
-    rw there.is (there.handled, m.fresh, one_settled y (with_octets there.opening (used_octets piece a)) (there.handled ++ m.fresh) m.now_at (λ f. quiet (inl f)), m.reported, m.marks)
-reports_found c n x y ls kept now first es piece (Err fault) is item moves quiet was = tt

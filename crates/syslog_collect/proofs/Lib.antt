@@ -4,6 +4,7 @@ pub mod Moving
 pub mod Gains
 pub mod Places
 pub mod Steps
+pub mod Waiting
 pub mod Headline
 pub mod Pieces
 pub mod EventRuns

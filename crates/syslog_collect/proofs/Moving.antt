@@ -37,7 +37,7 @@ begins_nothing Lf = (framed Lf [], ([], (tt, refl)))
 not_bad : (s : Stream) (frames : List (List ℕ)) (rest : List ℕ) → Frames s.framing s.octets frames rest → Begins (Whole s.framing) rest → ¬ (HoldsBadCount s)
 not_bad s frames rest are begins (fs, q, at, bad) = bad.none (subst (Begins (Whole s.framing)) (unique_frames s.framing s.octets frames fs rest q are bad.frames_are).1 begins)
 
-ended_or_not : (phase : Phase) → (phase ≡ Ended) ⊎ (phase ≢ Ended)
+pub ended_or_not : (phase : Phase) → (phase ≡ Ended) ⊎ (phase ≢ Ended)
 ended_or_not Ended = inl refl
 ended_or_not Counting = inr (λ e. absurd (cc))
 ended_or_not Inside = inr (λ e. absurd (cc))

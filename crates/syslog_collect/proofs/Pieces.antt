@@ -15,7 +15,7 @@ use Rattle.syslog_collect.specs.declared.outcome.Outcome.TheVariants.{New, Held,
 use Rattle.syslog_collect.specs.Answers.{IsBadCount, IsUsedWithin, ReportsBadCount, Advances, AdvancesBy, accepted_count, dropped_octets}
 use Rattle.syslog_collect.specs.History.{HoldsBadCount, Stream, with_octets}
 use Rattle.syslog_collect.specs.Outcomes.{AreReported, outcomes_of}
-use Rattle.syslog_collect.specs.Runs.{Logs, AdvancesOrStays, pending, used_before}
+use Rattle.syslog_collect.specs.Runs.{Logs, LogsAdvance, AdvancesOrStays, pending, used_before}
 use Rattle.syslog_collect.specs.Standing.{IsAt}
 
 -- ---- reports, one after the other
@@ -49,6 +49,27 @@ moves_then x y z a b c o p os ps s d m n = record {
   marks = subst (λ (t : Stream). ReportsBadCount (os ++ ps) t) (with_octets_twice s o p) (marks_then os ps (with_octets s o) (with_octets (with_octets s o) p) n.may.0 m.marks n.marks);
 }
 
+-- what was logged of octets, and then of more that moved it
+logs_then_advance : (x y z : Connection) (a b c : List Entry) (o p : List ℕ) (l m n : List Outcome) (s : Stream) (d : List (List ℕ)) → IsAt x s d → Logs x y a b o l m s d
+    → ((t : Stream) (e : List (List ℕ)) → IsAt y t e → LogsAdvance y z b c p m n t e) → LogsAdvance x z a c (o ++ p) l n s d
+logs_then_advance x y z a b c o p l m n s d at (os, log, inl (none, same, kept, quiet)) next =
+    let second = next s d (subst (λ (w : Connection). IsAt w s d) (sym same) at) in (
+      second.0,
+      second.1 ∙ ap (λ (u : List Outcome). u ++ second.0) (log ∙ ap (λ (u : List Outcome). l ++ u) quiet ∙ append-nil l),
+      subst (λ (u : List ℕ). Advances x z a c (u ++ p) second.0 s d) (sym none)
+          (subst (λ (w : Connection). Advances w z a c p second.0 s d) same (subst (λ (w : List Entry). Advances y z w c p second.0 s d) kept second.2)),
+    )
+logs_then_advance x y z a b c o p l m n s d at (os, log, inr moved) next =
+    let second = next (with_octets s o) (d ++ moved.fresh) moved.now_at in (
+      os ++ second.0,
+      second.1 ∙ ap (λ (u : List Outcome). u ++ second.0) log ∙ append_assoc l os second.0,
+      moves_then x y z a b c o p os second.0 s d moved second.2,
+    )
+
+pub logs_on_advance : (x y z : Connection) (a b c : List Entry) (o p whole : List ℕ) (l m n : List Outcome) (s : Stream) (d : List (List ℕ)) → o ++ p ≡ whole → IsAt x s d → Logs x y a b o l m s d
+    → ((t : Stream) (e : List (List ℕ)) → IsAt y t e → LogsAdvance y z b c p m n t e) → LogsAdvance x z a c whole l n s d
+logs_on_advance x y z a b c o p whole l m n s d is at first next = subst (λ (u : List ℕ). LogsAdvance x z a c u l n s d) is (logs_then_advance x y z a b c o p l m n s d at first next)
+
 -- what was logged of octets, and then of more
 pub logs_then : (x y z : Connection) (a b c : List Entry) (o p : List ℕ) (l m n : List Outcome) (s : Stream) (d : List (List ℕ)) → IsAt x s d → Logs x y a b o l m s d
     → ((t : Stream) (e : List (List ℕ)) → IsAt y t e → Logs y z b c p m n t e) → Logs x z a c (o ++ p) l n s d
@@ -75,6 +96,9 @@ logs_then x y z a b c o p l m n s d at (os, log, inr moved) next =
 pub logs_on : (x y z : Connection) (a b c : List Entry) (o p whole : List ℕ) (l m n : List Outcome) (s : Stream) (d : List (List ℕ)) → o ++ p ≡ whole → IsAt x s d → Logs x y a b o l m s d
     → ((t : Stream) (e : List (List ℕ)) → IsAt y t e → Logs y z b c p m n t e) → Logs x z a c whole l n s d
 logs_on x y z a b c o p whole l m n s d is at first next = subst (λ (u : List ℕ). Logs x z a c u l n s d) is (logs_then x y z a b c o p l m n s d at first next)
+
+pub logs_of : (x y : Connection) (a b : List Entry) (o : List ℕ) (l m : List Outcome) (s : Stream) (d : List (List ℕ)) → LogsAdvance x y a b o l m s d → Logs x y a b o l m s d
+logs_of x y a b o l m s d (os, log, moves) = (os, log, inr moves)
 
 -- nothing came, and nothing changed
 pub logs_nothing : (x : Connection) (a : List Entry) (l m : List Outcome) (s : Stream) (d : List (List ℕ)) → m ≡ l → Logs x x a a [] l m s d
@@ -133,12 +157,12 @@ accepted_used m n (Some TooLong) h = refl
 accepted_used m n (Some (BadCount at)) h = absurd (h tt)
 
 pub step_ended : (x y : Connection) (a b : List Entry) (rest : List ℕ) (l m : List Outcome) (n : ℕ) (o : Option Outcome) (s : Stream) (d : List (List ℕ)) → m ≡ l ++ outcomes_of o → IsBadCount o ⊎ (length rest ≤ n)
-    → Advances x y a b (take (accepted_count (length rest) n o) rest) (outcomes_of o) s d → Logs x y a b rest l m s d
-step_ended x y a b rest l m n o s d log ends moves = (outcomes_of o, log, inr (subst (λ (u : List ℕ). Advances x y a b u (outcomes_of o) s d) (accepted_whole rest n o ends) moves))
+    → Advances x y a b (take (accepted_count (length rest) n o) rest) (outcomes_of o) s d → LogsAdvance x y a b rest l m s d
+step_ended x y a b rest l m n o s d log ends moves = (outcomes_of o, log, subst (λ (u : List ℕ). Advances x y a b u (outcomes_of o) s d) (accepted_whole rest n o ends) moves)
 
 pub step_on : (x y : Connection) (a b : List Entry) (rest : List ℕ) (l m : List Outcome) (n : ℕ) (o : Option Outcome) (s : Stream) (d : List (List ℕ)) → m ≡ l ++ outcomes_of o → ¬ (IsBadCount o)
-    → Advances x y a b (take (accepted_count (length rest) n o) rest) (outcomes_of o) s d → Logs x y a b (take n rest) l m s d
-step_on x y a b rest l m n o s d log good moves = (outcomes_of o, log, inr (subst (λ (k : ℕ). Advances x y a b (take k rest) (outcomes_of o) s d) (accepted_used (length rest) n o good) moves))
+    → Advances x y a b (take (accepted_count (length rest) n o) rest) (outcomes_of o) s d → LogsAdvance x y a b (take n rest) l m s d
+step_on x y a b rest l m n o s d log good moves = (outcomes_of o, log, subst (λ (k : ℕ). Advances x y a b (take k rest) (outcomes_of o) s d) (accepted_used (length rest) n o good) moves)
 
 -- ---- the pieces of a piece
 

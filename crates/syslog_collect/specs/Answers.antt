@@ -12,7 +12,6 @@ use Rattle.syslog_collect.specs.declared.fault.CollectFault.TheVariants.{Already
 use Rattle.syslog_collect.specs.declared.limits.TheConstants.{CONNECTIONS_MAX}
 use Rattle.syslog_collect.specs.declared.outcome.Outcome.{Outcome}
 use Rattle.syslog_collect.specs.declared.outcome.Outcome.TheVariants.{New, Held, Refused, TooLong, BadCount}
-use Rattle.syslog_collect.specs.Frames.{IsFramesOf}
 use Rattle.syslog_collect.specs.History.{History, HoldsBadCount, MayContinue, Stream, AcceptedEvent, Opened, Piece, Ended, Datagram, with_octets, stream_of}
 use Rattle.syslog_collect.specs.Outcomes.{AreReported, IsRecordFrame, outcomes_of}
 use Rattle.syslog_collect.specs.Standing.{IsAt}
@@ -117,17 +116,17 @@ IsCause piece (Err TooManyOpen) s = ⊥
 IsCause piece (Err Unreleased) s = ⊥
 IsCause piece (Err (Unterminated start)) s = ⊥
 
--- no more is used than there is
+-- no more is used than there is; and no refusal of another call is answered
 abbrev pub IsUsedWithin : List ℕ → Result Advance CollectFault → Type 0
 IsUsedWithin piece (Ok a) = a.used ≤ length piece
 IsUsedWithin piece (Err (Memory n)) = n ≤ length piece
+IsUsedWithin piece (Err NotOpen) = Unit {0}
 IsUsedWithin piece (Err ConnFailed) = Unit {0}
 IsUsedWithin piece (Err StreamTooLong) = Unit {0}
-IsUsedWithin piece (Err NotOpen) = Unit {0}
-IsUsedWithin piece (Err AlreadyOpen) = Unit {0}
-IsUsedWithin piece (Err TooManyOpen) = Unit {0}
-IsUsedWithin piece (Err Unreleased) = Unit {0}
-IsUsedWithin piece (Err (Unterminated start)) = Unit {0}
+IsUsedWithin piece (Err AlreadyOpen) = ⊥
+IsUsedWithin piece (Err TooManyOpen) = ⊥
+IsUsedWithin piece (Err Unreleased) = ⊥
+IsUsedWithin piece (Err (Unterminated start)) = ⊥
 
 -- what an advance of a number answers after a history: the number is not open; or a cause at its opening
 abbrev pub IsAnswerAt : ℕ → List ℕ → Result Advance CollectFault → History → Type 0
@@ -140,11 +139,6 @@ IsAnswerAt c piece (Err AlreadyOpen) h = ⊥
 IsAnswerAt c piece (Err TooManyOpen) h = ⊥
 IsAnswerAt c piece (Err Unreleased) h = ⊥
 IsAnswerAt c piece (Err (Unterminated start)) h = ⊥
-
--- octets of a number complete these last frames of its opening, and the outcomes report them
-abbrev pub Reports : ℕ → List ℕ → History → List Entry → List Entry → List Outcome → Type 0
-Reports c octets h kept_old kept_new outcomes = IsSomeAnd (stream_of c h.streams) (λ s. (before : List (List ℕ)) × (last : List (List ℕ))
-    × IsFramesOf (with_octets s octets) (before ++ last) × AreReported kept_old kept_new last outcomes × ReportsBadCount outcomes (with_octets s octets))
 
 -- the event that an opening adds
 abbrev pub accepted_opening : {U : Type 0} → ℕ → Framing → Result U CollectFault → List AcceptedEvent
@@ -224,3 +218,15 @@ IfRefused (Err NotOpen) P = P
 IfRefused (Err ConnFailed) P = P
 IfRefused (Err StreamTooLong) P = P
 IfRefused (Err Unreleased) P = P
+
+-- where memory was refused
+abbrev pub IfMemory : {A : Type 0} → Result A CollectFault → Type 0 → Type 0
+IfMemory (Ok a) P = Unit {0}
+IfMemory (Err (Memory n)) P = P
+IfMemory (Err (Unterminated start)) P = Unit {0}
+IfMemory (Err AlreadyOpen) P = Unit {0}
+IfMemory (Err TooManyOpen) P = Unit {0}
+IfMemory (Err NotOpen) P = Unit {0}
+IfMemory (Err ConnFailed) P = Unit {0}
+IfMemory (Err StreamTooLong) P = Unit {0}
+IfMemory (Err Unreleased) P = Unit {0}

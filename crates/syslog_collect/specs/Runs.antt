@@ -17,7 +17,6 @@ use Rattle.syslog_collect.specs.declared.piece.Step.{Step}
 use Rattle.syslog_collect.specs.declared.piece.Step.TheVariants.{Stopped as step_Stopped, Ended as step_Ended, On}
 use Rattle.syslog_collect.specs.Answers.{Advances}
 use Rattle.syslog_collect.specs.History.{Datagram, Ended, Opened, Piece, Stream, AcceptedEvent}
-use Rattle.syslog_collect.specs.Outcomes.{AreReported}
 
 -- how many octets were taken before a fault
 abbrev pub used_before : CollectFault → ℕ
@@ -74,7 +73,12 @@ abbrev pub AdvancesOrStays : Connection → Connection → List Entry → List E
 AdvancesOrStays old new kept_old kept_new octets outcomes s handled =
     ((octets ≡ []) × (new ≡ old) × (kept_new ≡ kept_old) × (outcomes ≡ [])) ⊎ Advances old new kept_old kept_new octets outcomes s handled
 
--- and the log grew by the outcomes
+-- octets moved it, and the log grew by the outcomes
+abbrev pub LogsAdvance : Connection → Connection → List Entry → List Entry → List ℕ → List Outcome → List Outcome → Stream → List (List ℕ) → Type 0
+LogsAdvance old new kept_old kept_new octets log_old log_new s handled =
+    (outcomes : List Outcome) × (log_new ≡ log_old ++ outcomes) × Advances old new kept_old kept_new octets outcomes s handled
+
+-- the same, or nothing came
 abbrev pub Logs : Connection → Connection → List Entry → List Entry → List ℕ → List Outcome → List Outcome → Stream → List (List ℕ) → Type 0
 Logs old new kept_old kept_new octets log_old log_new s handled =
     (outcomes : List Outcome) × (log_new ≡ log_old ++ outcomes) × AdvancesOrStays old new kept_old kept_new octets outcomes s handled
@@ -103,12 +107,12 @@ accepted_refused_end c StreamTooLong = []
 accepted_refused_end c Unreleased = []
 accepted_refused_end c (Memory n) = []
 
--- what an event adds that was accepted
-abbrev pub accepted_event : Event → List AcceptedEvent
-accepted_event (event_Opened c k) = Opened c k ∷ []
-accepted_event (event_Piece c o) = nonempty_piece c o.now
-accepted_event (event_Ended c) = Ended c ∷ []
-accepted_event (event_Datagram o) = Datagram o.now ∷ []
+-- an event that was accepted
+abbrev pub accepted_event : Event → AcceptedEvent
+accepted_event (event_Opened c k) = Opened c k
+accepted_event (event_Piece c o) = Piece c o.now
+accepted_event (event_Ended c) = Ended c
+accepted_event (event_Datagram o) = Datagram o.now
 
 -- what an event adds that was refused after so many octets
 abbrev pub accepted_part : Event → ℕ → CollectFault → List AcceptedEvent
@@ -117,9 +121,15 @@ accepted_part (event_Piece c o) n fault = nonempty_piece c (take n o.now)
 accepted_part (event_Ended c) n fault = accepted_refused_end c fault
 accepted_part (event_Datagram o) n fault = []
 
+-- what an event adds, by how it ended
 abbrev pub accepted_by : Event → EventEnd → List AcceptedEvent
-accepted_by e end_Done = accepted_event e
+accepted_by e end_Done = accepted_event e ∷ []
 accepted_by e (end_Stopped n fault) = accepted_part e n fault
+
+-- a piece's
+abbrev pub accepted_piece_end : ℕ → List ℕ → EventEnd → List AcceptedEvent
+accepted_piece_end c octets end_Done = Piece c octets ∷ []
+accepted_piece_end c octets (end_Stopped n fault) = nonempty_piece c (take n octets)
 
 -- a datagram's
 abbrev pub accepted_datagram_end : List ℕ → EventEnd → List AcceptedEvent
@@ -131,10 +141,10 @@ abbrev pub event_end : {U : Type 0} → Result U CollectFault → EventEnd
 event_end (Ok u) = end_Done
 event_end (Err fault) = end_Stopped 0 fault
 
--- what all events add, one after the other
+-- what all events add
 abbrev pub accepted_all : List Event → List AcceptedEvent
 accepted_all [] = []
-accepted_all (e ∷ es) = accepted_event e ++ accepted_all es
+accepted_all (e ∷ es) = accepted_event e ∷ accepted_all es
 
 -- the part of the first of the events
 abbrev pub accepted_first : List Event → ℕ → CollectFault → List AcceptedEvent
@@ -145,8 +155,3 @@ accepted_first (e ∷ es) n fault = accepted_part e n fault
 abbrev pub accepted_run : List Event → RunEnd → List AcceptedEvent
 accepted_run es Done = accepted_all es
 accepted_run es (Stopped at n fault) = accepted_all (take at es) ++ accepted_first (drop at es) n fault
-
--- the log grew by the outcomes of frames that were handled, in order
-abbrev pub LogsFrames : List Entry → List Entry → List Outcome → List Outcome → Type 0
-LogsFrames kept_old kept_new log_old log_new = (outcomes : List Outcome) × (frames : List (List ℕ))
-    × (log_new ≡ log_old ++ outcomes) × AreReported kept_old kept_new frames outcomes

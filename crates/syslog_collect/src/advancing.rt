@@ -1,8 +1,9 @@
 //! What a connection does with a piece.
 
 ghost use Rattle.std.specs.Prelude.{◌≡◌, ◌<◌, ◌≤◌, ℕ, List, IfOk, OnErr, OnOk, length};
-ghost use Rattle.syslog_frame.specs.Scan.{HasReady, IsFailed, IsReading};
-ghost use Rattle.syslog_collect.specs.Answers.{AdvancesBy, IfRefused, IsBadCount, IsCause, IsUsedWithin};
+ghost use Rattle.syslog_frame.specs.Scan.{HasFrame, HasReady, IsFailed, IsReading};
+ghost use Rattle.syslog_collect.specs.Answers.{AdvancesBy, IfMemory, IfRefused};
+ghost use Rattle.syslog_collect.specs.Answers.{IsBadCount, IsCause, IsUsedWithin};
 ghost use Rattle.syslog_collect.specs.Answers.{accepted_octets, answered, dropped_octets};
 ghost use Rattle.syslog_collect.specs.History.{Stream};
 ghost use Rattle.syslog_collect.specs.Standing.{IsAt};
@@ -27,6 +28,9 @@ pub fn advance_connection<S: Store>(
         → a.used ≡ 0 → IsBadCount a.outcome) }
     ensures live { OnOk result (¬ (IsFailed connection.old.scanner)) }
     ensures number { connection.new.number ≡ connection.old.number }
+    // Where memory was refused, the frame stays ready, and the store is what it was.
+    ensures waits { IfMemory result (HasFrame connection.new.scanner) }
+    ensures err { OnErr result (S.entries store.new ≡ S.entries store.old) }
 
     // Why it is refused, and that nothing has changed then, but where memory was refused.
     ensures cause { (s : Stream) (handled : List (List ℕ)) → IsAt connection.old s handled

@@ -5,11 +5,12 @@ ghost use Rattle.std.specs.List.{position_from};
 ghost use Rattle.archive_text.specs.Entries.{Entry, Has};
 ghost use Rattle.archive_text.specs.Text.{IsArchive, text_of};
 ghost use Rattle.syslog_collect.specs.Answers.{IfRefused, IfUnreleased, IsAnswerAt, IsEnding, IsOpening};
-ghost use Rattle.syslog_collect.specs.Answers.{IsUsedWithin, Reports, accepted_octets, dropped_octets, used_octets};
+ghost use Rattle.syslog_collect.specs.Answers.{IsUsedWithin, accepted_octets, dropped_octets, used_octets};
 ghost use Rattle.syslog_collect.specs.Answers.{accepted_datagram, accepted_ending, accepted_opening, accepted_piece};
 ghost use Rattle.syslog_collect.specs.Frames.{IsReceived};
 ghost use Rattle.syslog_collect.specs.Headline.{IsSettled, IsUnion, ReceivedBoth, ReceivedSame};
 ghost use Rattle.syslog_collect.specs.History.{AcceptedEvent, history_of};
+ghost use Rattle.syslog_collect.specs.Logs.{Reports, waiting, waiting_then};
 ghost use Rattle.syslog_collect.specs.Outcomes.{IsOutcome, IsRecordFrame, outcomes_of};
 ghost use Rattle.syslog_collect.specs.Standing.{Stands};
 
@@ -74,6 +75,8 @@ impl<S: Store> Collector<S> {
             → IsOpening conn result (history_of events) }
         ensures settled { IsSettled self.old.connections.items
             → IsSettled self.new.connections.items }
+        ensures waits { (d : ℕ) → waiting self.new.connections.items d
+            ≡ waiting self.old.connections.items d }
         ensures err { OnErr result (self.new.connections.items ≡ self.old.connections.items) }
         ensures store { self.new.store ≡ self.old.store }
     {
@@ -118,17 +121,24 @@ impl<S: Store> Collector<S> {
             → Stands self.old.connections.items (S.entries self.old.store) first events
             → Stands self.new.connections.items (S.entries self.new.store) first
             (events ++ accepted_piece conn (dropped_octets piece.now result)) }
-        // The outcome is that of the last frame of the octets so far; and why the piece is refused.
+        // The outcome is that of the frame that waited, or else that the octets complete; there is
+        // none exactly where there is no such frame, and no bad count.
         ensures outcome { (first : List Entry) (events : List AcceptedEvent)
             → Stands self.old.connections.items (S.entries self.old.store) first events
             → IfOk result (λ a. Reports conn (used_octets piece.now a) (history_of events)
+            (waiting self.old.connections.items conn)
             (S.entries self.old.store) (S.entries self.new.store) (outcomes_of a.outcome)) }
+        // After Ok no frame of the connection waits; where memory was refused, one does.
+        ensures waits { (d : ℕ) → waiting self.new.connections.items d
+            ≡ waiting_then result conn (waiting self.old.connections.items) d }
+        // Why the piece is refused.
         ensures cause { (first : List Entry) (events : List AcceptedEvent)
             → Stands self.old.connections.items (S.entries self.old.store) first events
             → IsAnswerAt conn piece.now result (history_of events) }
         // A refusal changes nothing, but where memory was refused.
         ensures unchanged { IfRefused result ((self.new.connections.items ≡ self.old.connections.items)
             × (self.new.store ≡ self.old.store)) }
+        ensures err { OnErr result (S.entries self.new.store ≡ S.entries self.old.store) }
         // After Ok no frame of the connection is left ready.
         ensures settled { OnOk result (IsSettled self.old.connections.items
             → IsSettled self.new.connections.items) }
@@ -173,6 +183,11 @@ impl<S: Store> Collector<S> {
             (self.new.connections.items ≡ self.old.connections.items) }
         ensures settled { IsSettled self.old.connections.items
             → IsSettled self.new.connections.items }
+        // No frame of another connection is lost.
+        ensures waits { (first : List Entry) (events : List AcceptedEvent)
+            → Stands self.old.connections.items (S.entries self.old.store) first events
+            → (d : ℕ) → waiting self.new.connections.items d
+            ≡ waiting self.old.connections.items d }
         ensures store { self.new.store ≡ self.old.store }
     {
         let at = match place(&self.connections, conn) {

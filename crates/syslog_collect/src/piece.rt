@@ -4,7 +4,7 @@ ghost use Rattle.std.specs.Prelude.{◌≡◌, ◌++◌, ◌<◌, ◌≤◌, ◌
 ghost use Rattle.syslog_collect.specs.Answers.{IsBadCount};
 ghost use Rattle.syslog_collect.specs.History.{Stream};
 ghost use Rattle.syslog_collect.specs.Outcomes.{outcomes_of};
-ghost use Rattle.syslog_collect.specs.Runs.{IfAccepted, IfDone, IsStepWithin, Logs, OnGoing};
+ghost use Rattle.syslog_collect.specs.Runs.{IfAccepted, IfDone, IsStepWithin, Logs, LogsAdvance, OnGoing};
 ghost use Rattle.syslog_collect.specs.Runs.{piece_octets, step_octets, used_before};
 ghost use Rattle.syslog_collect.specs.Standing.{IsAt};
 ghost use Rattle.syslog_frame.specs.Scan.{HasReady};
@@ -67,6 +67,9 @@ fn take_step<S: Store>(
     ensures moves { (s : Stream) (handled : List (List ℕ)) → IsAt connection.old s handled
         → Logs connection.old connection.new (S.entries store.old) (S.entries store.new)
         (step_octets rest.now result) log.old.items log.new.items s handled }
+    ensures accepted { (s : Stream) (handled : List (List ℕ)) → IsAt connection.old s handled
+        → IfAccepted result (LogsAdvance connection.old connection.new (S.entries store.old)
+        (S.entries store.new) (step_octets rest.now result) log.old.items log.new.items s handled) }
 {
     if log.reserve(1).is_err() {
         let fault = CollectFault::Memory { used: 0 };
@@ -98,6 +101,9 @@ pub fn take_piece<S: Store>(
     ensures moves { (s : Stream) (handled : List (List ℕ)) → IsAt connection.old s handled
         → Logs connection.old connection.new (S.entries store.old) (S.entries store.new)
         (piece_octets piece.now result) log.old.items log.new.items s handled }
+    ensures accepted { (s : Stream) (handled : List (List ℕ)) → IsAt connection.old s handled
+        → IfDone result (LogsAdvance connection.old connection.new (S.entries store.old)
+        (S.entries store.new) piece.now log.old.items log.new.items s handled) }
 {
     let mut taken = 0;
     'pieces: loop {

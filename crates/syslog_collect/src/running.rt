@@ -4,10 +4,10 @@ ghost use Rattle.std.specs.Prelude.{◌≡◌, ◌++◌, ◌<◌, ◌+◌, List,
 ghost use Rattle.archive_text.specs.Entries.{Entry};
 ghost use Rattle.syslog_collect.specs.Headline.{IsSettled};
 ghost use Rattle.syslog_collect.specs.History.{AcceptedEvent, history_of};
-ghost use Rattle.syslog_collect.specs.Logs.{LogGrows, LogsDatagram};
-ghost use Rattle.syslog_collect.specs.Runs.{IfAllDone, IfDone, LogsFrames, event_end};
-ghost use Rattle.syslog_collect.specs.Runs.{piece_octets, accepted_all, accepted_by, accepted_datagram_end};
-ghost use Rattle.syslog_collect.specs.Runs.{accepted_event, nonempty_piece, accepted_run};
+ghost use Rattle.syslog_collect.specs.Logs.{Grows, LogsDatagram, LogsEventEnd, LogsPiece, LogsRun};
+ghost use Rattle.syslog_collect.specs.Logs.{waiting};
+ghost use Rattle.syslog_collect.specs.Runs.{IfAllDone, IfDone, accepted_by, accepted_datagram_end};
+ghost use Rattle.syslog_collect.specs.Runs.{accepted_piece_end, accepted_run, event_end};
 ghost use Rattle.syslog_collect.specs.Standing.{Stands};
 
 use crate::collector::{Collector, place};
@@ -33,18 +33,14 @@ impl<S: Store> Collector<S> {
         ensures stands { (first : List Entry) (events : List AcceptedEvent)
             → Stands self.old.connections.items (S.entries self.old.store) first events
             → Stands self.new.connections.items (S.entries self.new.store) first
-            (events ++ nonempty_piece conn (piece_octets octets.now result)) }
-        ensures logs { (first : List Entry) (events : List AcceptedEvent)
-            → Stands self.old.connections.items (S.entries self.old.store) first events
-            → LogsFrames (S.entries self.old.store) (S.entries self.new.store)
-            log.old.items log.new.items }
+            (events ++ accepted_piece_end conn octets.now result) }
         ensures settled { IfDone result (IsSettled self.old.connections.items
             → IsSettled self.new.connections.items) }
         ensures logged { (first : List Entry) (events : List AcceptedEvent)
             → Stands self.old.connections.items (S.entries self.old.store) first events
-            → IsSettled self.old.connections.items
-            → IfDone result (LogGrows (history_of events) (nonempty_piece conn octets.now)
-            (S.entries self.old.store) (S.entries self.new.store) log.old.items log.new.items) }
+            → Grows (LogsPiece (history_of events) (waiting self.old.connections.items)
+            (waiting self.new.connections.items) conn octets.now result
+            (S.entries self.old.store) (S.entries self.new.store)) log.old.items log.new.items }
     {
         match place(&self.connections, conn) {
             None => EventEnd::Stopped {
@@ -68,11 +64,9 @@ impl<S: Store> Collector<S> {
             → Stands self.old.connections.items (S.entries self.old.store) first events
             → Stands self.new.connections.items (S.entries self.new.store) first
             (events ++ accepted_datagram_end octets.now result) }
-        ensures logs { LogsFrames (S.entries self.old.store) (S.entries self.new.store)
-            log.old.items log.new.items }
         ensures connections { self.new.connections.items ≡ self.old.connections.items }
-        ensures logged { IfDone result (LogsDatagram octets.now (S.entries self.old.store)
-            (S.entries self.new.store) log.old.items log.new.items) }
+        ensures logged { Grows (LogsDatagram octets.now result (S.entries self.old.store)
+            (S.entries self.new.store)) log.old.items log.new.items }
     {
         match self.datagram(alloc, octets) {
             Ok(outcome) => {
@@ -92,17 +86,13 @@ impl<S: Store> Collector<S> {
             → Stands self.old.connections.items (S.entries self.old.store) first events
             → Stands self.new.connections.items (S.entries self.new.store) first
             (events ++ accepted_by event.entry result) }
-        ensures logs { (first : List Entry) (events : List AcceptedEvent)
-            → Stands self.old.connections.items (S.entries self.old.store) first events
-            → LogsFrames (S.entries self.old.store) (S.entries self.new.store)
-            log.old.items log.new.items }
         ensures settled { IfDone result (IsSettled self.old.connections.items
             → IsSettled self.new.connections.items) }
         ensures logged { (first : List Entry) (events : List AcceptedEvent)
             → Stands self.old.connections.items (S.entries self.old.store) first events
-            → IsSettled self.old.connections.items
-            → IfDone result (LogGrows (history_of events) (accepted_event event.entry)
-            (S.entries self.old.store) (S.entries self.new.store) log.old.items log.new.items) }
+            → Grows (LogsEventEnd (history_of events) (waiting self.old.connections.items)
+            (waiting self.new.connections.items) event.entry result
+            (S.entries self.old.store) (S.entries self.new.store)) log.old.items log.new.items }
     {
         if log.reserve(1).is_err() {
             return EventEnd::Stopped {
@@ -125,19 +115,16 @@ impl<S: Store> Collector<S> {
             → Stands self.old.connections.items (S.entries self.old.store) first before
             → Stands self.new.connections.items (S.entries self.new.store) first
             (before ++ accepted_run events.now result) }
-        ensures logs { (first : List Entry) (before : List AcceptedEvent)
-            → Stands self.old.connections.items (S.entries self.old.store) first before
-            → LogsFrames (S.entries self.old.store) (S.entries self.new.store)
-            log.old.items log.new.items }
         // After Done no frame is left ready.
         ensures settled { IfAllDone result (IsSettled self.old.connections.items
             → IsSettled self.new.connections.items) }
-        // The log has the outcomes in the order in which the frames' last octets came.
+        // The log has the outcomes in the order in which the frames' last octets came: of a run
+        // that stops too, where a frame for which memory was refused waits for the next call.
         ensures logged { (first : List Entry) (before : List AcceptedEvent)
             → Stands self.old.connections.items (S.entries self.old.store) first before
-            → IsSettled self.old.connections.items
-            → IfAllDone result (LogGrows (history_of before) (accepted_all events.now)
-            (S.entries self.old.store) (S.entries self.new.store) log.old.items log.new.items) }
+            → Grows (LogsRun (history_of before) (waiting self.old.connections.items)
+            (waiting self.new.connections.items) events.now result
+            (S.entries self.old.store) (S.entries self.new.store)) log.old.items log.new.items }
     {
         for (at, event) in events.iter().enumerate() {
             if let EventEnd::Stopped { taken, fault } = self.run_event(alloc, *event, log) {

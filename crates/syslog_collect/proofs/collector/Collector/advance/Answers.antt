@@ -2,9 +2,11 @@ use Rattle.std.proofs.Common.{◌≡◌, List, sym, subst, arith}
 use Rattle.std.specs.Prelude.{Some, None}
 use Rattle.syslog_collect.specs.Answers.{accepted_octets, answered, dropped_octets}
 use Rattle.syslog_collect.specs.declared.connection.Connection.{Connection}
-use Rattle.syslog_collect.proofs.Headline.{reports_found, settled_advance}
+use Rattle.syslog_collect.proofs.Headline.{settled_advance}
+use Rattle.syslog_collect.proofs.Logging.{reports_found}
 use Rattle.syslog_collect.proofs.Places.{place_from, within}
 use Rattle.syslog_collect.proofs.Steps.{advance_found, cause_found, not_open, unchanged_found}
+use Rattle.syslog_collect.proofs.Waiting.{waiting_advance}
 use Rattle.syslog_collect.proofs.collector.Collector.advance.Goals as goal
 
 pub index_mut-requires : goal.index_mut-requires
@@ -49,3 +51,11 @@ returns-in-Some-clause-unchanged g c =
     let is = subst (λ (ls : List Connection). place_from c.args.conn 0 ls ≡ Some c.in-Some.at) c.deref.ensures.value (sym c.in-Some.ensures) in
     unchanged_found c.advance_connection.result c.args.conn c.in-Some.at c.index_mut.result.now c.advance_connection.new.connection c.args.self.now.connections.items _ _ is c.index_mut.ensures.value
     c.advance_connection.ensures.unchanged
+
+pub returns-in-Some-clause-waits : goal.returns-in-Some-clause-waits
+returns-in-Some-clause-waits g c d =
+    let is = subst (λ (ls : List Connection). place_from c.args.conn 0 ls ≡ Some c.in-Some.at) c.deref.ensures.value (sym c.in-Some.ensures) in
+    waiting_advance c.args.piece.now c.advance_connection.result c.args.conn c.in-Some.at c.index_mut.result.now c.advance_connection.new.connection c.args.self.now.connections.items _ _ c.advance_connection.ensures.within is
+    c.index_mut.ensures.value c.advance_connection.ensures.number c.advance_connection.ensures.settled c.advance_connection.ensures.waits
+    (unchanged_found c.advance_connection.result c.args.conn c.in-Some.at c.index_mut.result.now c.advance_connection.new.connection c.args.self.now.connections.items _ _ is c.index_mut.ensures.value
+    c.advance_connection.ensures.unchanged) d

@@ -1,4 +1,4 @@
-use Rattle.std.proofs.Common.{◌≡◌, ℕ, ◌<◌, List, length, is_some, inl, refl, sym, ◌∙◌, subst, arith}
+use Rattle.std.proofs.Common.{◌≡◌, ℕ, ◌<◌, List, length, is_some, inl, refl, sym, ◌∙◌, ap, subst, arith}
 use Rattle.std.specs.Prelude.{Option, Some, None, true, false}
 use Rattle.std.proofs.lemmas.Bool.{both_ways}
 use Rattle.syslog_collect.specs.declared.connection.Connection.{Connection}
@@ -6,6 +6,8 @@ use Rattle.syslog_collect.specs.declared.limits.TheConstants.{CONNECTIONS_MAX}
 use Rattle.syslog_collect.proofs.Headline.{settled_push}
 use Rattle.syslog_collect.proofs.Places.{place_from}
 use Rattle.syslog_collect.proofs.Steps.{count_open, is_open, not_open, open_step, still}
+use Rattle.syslog_collect.specs.Logs.{waiting}
+use Rattle.syslog_collect.proofs.Waiting.{ready_none, waiting_push}
 use Rattle.syslog_collect.proofs.collector.Collector.open_conn.Goals as goal
 
 none_of : (o : Option ℕ) → is_some o ≡ false → o ≡ None
@@ -57,3 +59,9 @@ returns-in-Err-clause-settled g c h = rw c.in-Err.ensures.items h
 
 pub returns-clause-settled : goal.returns-clause-settled
 returns-clause-settled g c h = rw c.in_default-push.ensures.items (settled_push _ _ h (λ f. c.in-Ok.ensures.stands.1.0 (inl f)))
+
+pub returns-in-Err-clause-waits : goal.returns-in-Err-clause-waits
+returns-in-Err-clause-waits g c d = ap (λ (ls : List Connection). waiting ls d) c.in-Err.ensures.items
+
+pub returns-clause-waits : goal.returns-clause-waits
+returns-clause-waits g c d = rw c.in_default-push.ensures.items (waiting_push _ c.args.self.now.connections.items d (ready_none _ (λ f. c.in-Ok.ensures.stands.1.0 (inl f))))
