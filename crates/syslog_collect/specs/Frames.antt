@@ -31,6 +31,15 @@ pub record HasFrames (h : History) (frames : List (List ℕ)) : Type 0 where
   pub ended_are : AreFramesOf h.ended ended_frames
   pub all : frames ≡ all_of open_frames ++ (all_of ended_frames ++ h.datagrams)
 
+-- the frame is one of these
+abbrev pub IsAmong : List (List ℕ) → List ℕ → Type 0
+IsAmong [] f = ⊥
+IsAmong (g ∷ gs) f = (g ≡ f) ⊎ IsAmong gs f
+
+-- the frame is one of the events'
+abbrev pub IsFrameOf : List AcceptedEvent → List ℕ → Type 0
+IsFrameOf es f = (frames : List (List ℕ)) × HasFrames (history_of es) frames × IsAmong frames f
+
 -- the entry is that of the record that a frame of at most `FRAME_MAX` octets spells
 abbrev pub IsEntryOfFrame : List ℕ → Entry → Type 0
 IsEntryOfFrame f x = (length f ≤ FRAME_MAX) × ((r : Parts ℤ) × WellFormed r f × IsEntryOf r x)
