@@ -13,6 +13,7 @@ mod decoding;
 mod distinct;
 mod element;
 mod fault;
+pub mod fields;
 mod header;
 mod lanes;
 mod law;

@@ -18,7 +18,7 @@ use std::alloc::{AllocError, Global};
 use syslog_value::{Element, Message, Param, Record, SdName, StructuredData, Word};
 
 /// The word of these octets.
-fn to_word<const N: usize>(
+pub fn to_word<const N: usize>(
     alloc: Global,
     octets: Option<&[u8]>,
 ) -> Result<Option<Word<N>>, AllocError>
@@ -113,7 +113,7 @@ fn to_elements(alloc: Global, octets: &[u8]) -> Result<Vec<Element>, AllocError>
 }
 
 /// The message of a text after the BOM, or of any octets.
-fn to_message(alloc: Global, view: &MessageView<'_>) -> Result<Message, AllocError>
+pub fn to_message(alloc: Global, view: &MessageView<'_>) -> Result<Message, AllocError>
     ensures { IfOk result (λ message. message ≡ message_parts view.now) }
 {
     if !view.has_mark {

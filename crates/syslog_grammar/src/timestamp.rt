@@ -146,7 +146,7 @@ fn hour_minute(octets: &[u8]) -> Result<((u8, u8), &[u8]), Stop>
 
 /// Reads the time of a day.
 #[inline(always)]
-fn clock(octets: &[u8]) -> Result<((u8, u8, u8), &[u8]), Stop>
+pub fn clock(octets: &[u8]) -> Result<((u8, u8, u8), &[u8]), Stop>
     ensures { Reads remaining_of Clock (λ x. (x.0, x.1.now)) octets.now result }
 {
     let ((hour, minute), rest) = hour_minute(octets)?;

@@ -1,0 +1,125 @@
+-- The canonical octets of a packet's record are at most 64 more than the packet's.
+use Rattle.std.proofs.Common.{◌≡◌, ℕ, ◌+◌, ◌≤◌, List, [], ◌∷◌, ◌++◌, length, sym, ap, subst, ◌∙◌, arith, inl, inr}
+use Rattle.std.specs.Prelude.{ℤ, Option, Some, None, decimal}
+use Rattle.std.proofs.lemmas.List.{length-append}
+use Rattle.octet_language.specs.Reading.{Follows}
+use Rattle.octet_language.proofs.Decimal.{next_digit, one_digit}
+use Rattle.syslog_value.specs.Parts.{MessageParts, AnyOctets, Utf8Text, Parts}
+use Rattle.syslog_grammar.specs.Canonical.{Canonical, HeaderForm, SpacedWord, TimeForm, message_form, word_form}
+use Rattle.syslog_grammar.specs.Grammar.{Message, Priority}
+use Rattle.syslog_grammar.proofs.Bounded.{civil_len}
+use Rattle.syslog_legacy.specs.declared.clock.LegacyClock.{LegacyClock}
+use Rattle.syslog_legacy.specs.Hosts.{Host, IsNilable}
+use Rattle.syslog_legacy.specs.Readings.{IsRead, legacy_parts}
+use Rattle.syslog_legacy.specs.Splits.{FrontParts, Splits}
+use Rattle.syslog_legacy.specs.Tags.{BehindSpace, ProcText}
+use Rattle.syslog_legacy.specs.Timestamps.{TimestampText}
+
+abbrev len : List ℕ → ℕ
+len b = length b
+
+together : (x y b : List ℕ) → b ≡ x ++ y → len b ≡ len x + len y
+together x y b e = ap length e ∙ length-append x y
+
+-- ---- what a record's header takes
+
+time_len : (t : Option ℤ) (b : List ℕ) → TimeForm t b → len b ≤ 27
+time_len None b h = omega (arith, ap length h)
+time_len (Some i) b (c, exists, e, f) = omega (arith, ap length f, civil_len c)
+
+spaced_len : (w : Option (List ℕ)) (b : List ℕ) → SpacedWord w b → len b ≡ len (word_form w) + 1
+spaced_len w b (x, y, e, h, k) = omega (arith, together x y b e, ap length h, ap length k)
+
+header_len : (p : ℕ) (time : Option ℤ) (h a i : Option (List ℕ)) (b : List ℕ) → HeaderForm p time h a i None b
+    → len b ≤ len (decimal p) + 4 + 28 + (len (word_form h) + 1) + (len (word_form a) + 1) + (len (word_form i) + 1) + 2
+unfolding HeaderForm
+header_len p time h a i b (u0, v0, f0, g0, (u2, v2, f2, (u1, v1, f1, g1, k1), (u3, v3, f3, g3, (u4, v4, f4, g4, (u5, v5, f5, g5, g6))))) =
+    omega (
+      arith,
+      together u0 v0 b f0,
+      together u2 v2 v0 f2,
+      together u1 v1 u2 f1,
+      together u3 v3 v2 f3,
+      together u4 v4 v3 f4,
+      together u5 v5 v4 f5,
+      ap length g0,
+      length-append (decimal p) (62 ∷ 49 ∷ 32 ∷ []),
+      time_len time u1 g1,
+      ap length k1,
+      spaced_len h u3 g3,
+      spaced_len a u4 g4,
+      spaced_len i u5 g5,
+      spaced_len None v5 g6,
+    )
+
+-- ---- what a packet's parts take
+
+nilable_len : (w : Option (List ℕ)) (b : List ℕ) → IsNilable w b → len (word_form w) ≡ len b
+nilable_len None b h = sym (ap length h)
+nilable_len (Some w) b h = sym (ap length h.1)
+
+host_len : (w : Option (List ℕ)) (b rest : List ℕ) → Host w b rest → len (word_form w) + len rest ≤ len b
+host_len w b rest (text, (r, n), inl e) = omega (arith, together text (32 ∷ rest) b e, nilable_len w text n)
+host_len w b rest (text, (r, n), inr (e, f)) = omega (arith, ap length e, ap length f, nilable_len w text n)
+
+proc_len : (p : Option (List ℕ)) (b : List ℕ) → ProcText p b → len (word_form p) ≤ len b
+proc_len p b (inl (e, f)) = omega (arith, ap (λ (o : Option (List ℕ)). len (word_form o)) e, ap length f)
+proc_len p b (inr (x, y, e, h, (u, v, f, (s, t, g, (r, n), k), l))) =
+    omega (arith, together x y b e, together u v y f, together s t u g, nilable_len p s n)
+
+space_len : (b rest : List ℕ) → BehindSpace b rest → len rest ≤ len b
+space_len b rest (inl e) = omega (arith, ap length e)
+space_len b rest (inr (out, e)) = omega (arith, ap length e)
+
+priority_len : (v : ℕ) (b rest : List ℕ) → Follows (Priority v) b rest → len (decimal v) + 2 + len rest ≤ len b
+priority_len v b rest (t, e, (x, y, f, h, (u, w, g, (n, i), j))) =
+    omega (arith, together t rest b e, together x y t f, together u w y g, ap length h, ap length i, ap length j)
+
+follows_len : {A : List ℕ → Type 0} (b rest : List ℕ) → Follows A b rest → len rest ≤ len b
+follows_len b rest (t, e, h) = omega (arith, together t rest b e)
+
+-- what a front and a message take of a packet
+abbrev taken : FrontParts → List ℕ → ℕ
+taken f m = len (decimal f.priority) + (len (word_form f.hostname) + len (word_form f.app_name) + len (word_form f.proc_id)) + len m
+
+digits_13 : len (decimal 13) ≡ 2
+digits_13 =
+    omega (arith, ap length (next_digit 1 51 (omega arith) (omega arith, omega arith) (omega arith)), ap length (one_digit 49 (omega arith, omega arith)), length-append (decimal 1) (51 ∷ []))
+
+front_taken : (clock : LegacyClock) (b : List ℕ) (f : FrontParts) (m : List ℕ) → Splits clock b f m → taken f m ≤ len b + 5
+front_taken clock b f m (inl (none, (e, h))) =
+    omega (arith, ap (λ (g : FrontParts). taken g m) e, ap length h, digits_13)
+front_taken clock b f m (inr (v, r, p, inl (none, (e, h)))) = omega (arith, ap (λ (g : FrontParts). taken g m) e, ap length h, priority_len v b r p)
+front_taken clock b f m (inr (v, r, p, inr (t, s, q, inl (none, (e, h))))) =
+    omega (arith, ap (λ (g : FrontParts). taken g m) e, ap length h, priority_len v b r p, follows_len {A = TimestampText clock t} r s q)
+front_taken clock b f m (inr (v, r, p, inr (t, s, q, inr (host, u, k, inl (none, (e, h)))))) =
+    omega (arith, ap (λ (g : FrontParts). taken g m) e, ap length h, priority_len v b r p, follows_len {A = TimestampText clock t} r s q, host_len host s u k)
+front_taken clock b f m (inr (v, r, p, inr (t, s, q, inr (host, u, k, inr (tag, w, (behind, (x, g, (y, z, i, (a, n), j)), l), (e, h)))))) =
+    omega (
+      arith,
+      ap (λ (g : FrontParts). taken g m) e,
+      ap length h,
+      priority_len v b r p,
+      follows_len {A = TimestampText clock t} r s q,
+      host_len host s u k,
+      together x behind u g,
+      together y z x i,
+      nilable_len tag.app_name y n,
+      proc_len tag.proc_id z j,
+      space_len behind w l,
+    )
+
+message_len : (m : MessageParts) (b : List ℕ) → Message m b → len (message_form m) ≤ len b + 1
+message_len (AnyOctets []) b h = omega arith
+message_len (AnyOctets (x ∷ octets)) b h = omega (arith, ap length h.2)
+message_len (Utf8Text text) b (t, (x, y, e, h, k)) = omega (arith, together x y b e, ap length h, ap length k)
+
+-- the canonical octets of a record of these parts
+form_len : (f : FrontParts) (message : MessageParts) (octets c : List ℕ) → Message message octets → Canonical (legacy_parts f message) c → len c ≤ taken f octets + 44
+form_len f message octets c h (u, v, g, i, (w, z, j, o, q)) =
+    omega (arith, together u v c g, together w z v j, ap length o, ap length q, header_len f.priority f.time f.hostname f.app_name f.proc_id u i, message_len message octets h)
+
+pub legacy_bounded : (clock : LegacyClock) (r : Parts ℤ) (b c : List ℕ) (packet entry : ℕ) → IsRead clock b r → Canonical r c → length b ≤ packet → packet + 64 ≤ entry → length c ≤ entry
+legacy_bounded clock r b c packet entry h k most room =
+    let form : Canonical (legacy_parts h.front h.message) c = subst (λ (q : Parts ℤ). Canonical q c) h.is k in
+    omega (arith, form_len h.front h.message h.octets c h.means form, front_taken clock b h.front h.octets h.splits)

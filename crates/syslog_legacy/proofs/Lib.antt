@@ -1,0 +1,9 @@
+pub mod Longest
+pub mod Hosts
+pub mod Tags
+pub mod Months
+pub mod Times
+pub mod Splitting
+pub mod OneAnswer
+pub mod Valid
+pub mod Bounds

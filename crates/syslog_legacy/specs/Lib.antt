@@ -1,0 +1,11 @@
+pub mod Clocks
+pub mod NewForm
+pub mod Timestamps
+pub mod Hosts
+pub mod Tags
+pub mod TagViews
+pub mod Splits
+pub mod FrontViews
+pub mod Messages
+pub mod Readings
+pub mod Views

@@ -1,0 +1,55 @@
+//! What precedes the message of a legacy packet (RFC 3164, section 4).
+
+ghost use Rattle.syslog_legacy.specs.FrontViews.{front_parts};
+ghost use Rattle.syslog_legacy.specs.Splits.{Splits};
+
+use crate::clock::LegacyClock;
+use crate::host::host;
+use crate::tag::read_tag;
+use crate::timestamp::timestamp;
+use syslog_grammar::fields::priority;
+use syslog_value::{Facility, Instant, Priority, Severity};
+
+/// The fields before the message, as they lie in the octets.
+#[derive(Clone, Copy, Debug, PartialEq, Eq)]
+pub struct Front<'a> {
+    pub priority: Priority,
+    pub instant: Option<Instant>,
+    pub hostname: Option<&'a [u8]>,
+    pub app_name: Option<&'a [u8]>,
+    pub proc_id: Option<&'a [u8]>,
+}
+
+/// Splits a packet into what precedes the message, and the message.
+///
+/// Where a part does not come, all that is left is the message. Without PRI the priority is 13,
+/// user.notice (4.3.3).
+pub fn split<'a>(clock: &LegacyClock, octets: &'a [u8]) -> (Front<'a>, &'a [u8])
+    ensures { Splits clock.now octets.now (front_parts result.0) result.1.now }
+{
+    let mut front = Front {
+        priority: Priority::new(Facility::User, Severity::Notice),
+        instant: None,
+        hostname: None,
+        app_name: None,
+        proc_id: None,
+    };
+    let Ok((value, rest)) = priority(octets) else {
+        return (front, octets);
+    };
+    front.priority = Priority::from_value(value).unwrap();
+    let Some((instant, behind_time)) = timestamp(clock, rest) else {
+        return (front, rest);
+    };
+    front.instant = Some(instant);
+    let Some((hostname, behind_host)) = host(behind_time) else {
+        return (front, behind_time);
+    };
+    front.hostname = hostname;
+    let Some((tag, message)) = read_tag(behind_host) else {
+        return (front, behind_host);
+    };
+    front.app_name = tag.app_name;
+    front.proc_id = tag.proc_id;
+    (front, message)
+}

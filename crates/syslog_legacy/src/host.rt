@@ -1,0 +1,24 @@
+//! HOSTNAME of a legacy packet (RFC 3164, section 4.1.2).
+
+ghost use Rattle.std.specs.Prelude.{MatchOption, option_map};
+ghost use Rattle.syslog_legacy.specs.Hosts.{Host};
+ghost use Rattle.syslog_legacy.specs.Splits.{Lacks};
+
+use crate::octets::behind;
+use crate::runs::{host_run, nilable};
+
+/// Reads a host, which is None for NILVALUE, and the space that follows it.
+pub fn host(octets: &[u8]) -> Option<(Option<&[u8]>, &[u8])>
+    ensures { MatchOption result (Lacks Host octets.now)
+        (λ x. Host (option_map (λ s. s.now) x.0) octets.now x.1.now) }
+{
+    let (run, rest) = host_run(octets);
+    if run.is_empty() {
+        return None;
+    }
+    if rest.is_empty() {
+        return Some((nilable(run), rest));
+    }
+    let rest = behind(b' ', rest)?;
+    Some((nilable(run), rest))
+}

@@ -1,0 +1,28 @@
+//! Legacy syslog records: packets of the form that RFC 3164, section 4, describes.
+//!
+//! With a clock that gives the year and the offset from UTC, any octets are a record of RFC 5424's
+//! parts, or a message that starts with the byte order mark and is no UTF-8. Nothing is inserted:
+//! no time, no host, and no year but that of the clock.
+#![tactic(auto)]
+
+mod canonical;
+mod clock;
+mod fault;
+mod front;
+mod host;
+mod law;
+mod new_form;
+mod octets;
+mod owned;
+mod runs;
+mod tag;
+mod timestamp;
+mod view;
+
+pub use canonical::put_legacy_canonical;
+pub use clock::LegacyClock;
+pub use fault::{LegacyFault, MessageNotUtf8};
+pub use law::{legacy_canonical_is_bounded, legacy_is_a_record, packets_have_one_answer};
+pub use new_form::has_new_form;
+pub use owned::read_legacy;
+pub use view::{LegacyView, legacy_view};
