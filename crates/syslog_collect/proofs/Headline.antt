@@ -10,6 +10,7 @@ use Rattle.syslog_frame.proofs.Reading.{frames_read}
 use Rattle.archive_text.specs.Entries.{Entry, Has}
 use Rattle.archive_text.specs.Text.{IsArchive}
 use Rattle.archive_text.proofs.Ascending.{same_members}
+use Rattle.syslog_collect.specs.Readings.{Clock}
 use Rattle.syslog_collect.specs.declared.connection.Connection.{Connection}
 use Rattle.syslog_collect.specs.declared.event.EventEnd.{EventEnd}
 use Rattle.syslog_collect.specs.declared.event.EventEnd.TheVariants.{Done as end_Done, Stopped as end_Stopped}
@@ -87,8 +88,8 @@ one_history h fs gs a b =
     a.all ∙ ap (λ (z : List (List (List ℕ))). all_of z ++ (all_of a.ended_frames ++ h.datagrams)) (one_each h.streams a.open_frames b.open_frames a.open_are b.open_are)
     ∙ ap (λ (z : List (List (List ℕ))). all_of b.open_frames ++ (all_of z ++ h.datagrams)) (one_each h.ended a.ended_frames b.ended_frames a.ended_are b.ended_are) ∙ sym b.all
 
-pub holds_received : (cs : List Connection) (kept first : List Entry) (es : List AcceptedEvent) → Stands cs kept first es → IsSettled cs → (x : Entry) → Has kept x ↔ (Has first x ⊎ IsReceived es x)
-holds_received cs kept first es was settled x =
+pub holds_received : (clock : Clock) (cs : List Connection) (kept first : List Entry) (es : List AcceptedEvent) → Stands clock cs kept first es → IsSettled cs → (x : Entry) → Has kept x ↔ (Has first x ⊎ IsReceived clock es x)
+holds_received clock cs kept first es was settled x =
     let h = history_of es in
     let sa = was.stands_at in
     let fs = all_of sa.handled ++ (all_of sa.ended_frames ++ h.datagrams) in
@@ -96,37 +97,37 @@ holds_received cs kept first es was settled x =
       λ k. elim ((sa.gains x).0 k) [ inl a ↦ inl a | inr b ↦ inr (fs, are, b) ],
       λ k. elim k [
         | inl a ↦ (sa.gains x).1 (inl a)
-        | inr (gs, others, b) ↦ (sa.gains x).1 (inr (subst (λ (z : List (List ℕ)). IsSpelled z x) (one_history h gs fs others are) b))
+        | inr (gs, others, b) ↦ (sa.gains x).1 (inr (subst (λ (z : List (List ℕ)). IsSpelled clock z x) (one_history h gs fs others are) b))
       ],
     )
 
 -- over an empty store, just what was received
-pub holds_just : (cs : List Connection) (kept : List Entry) (es : List AcceptedEvent) → Stands cs kept [] es → IsSettled cs → (x : Entry) → Has kept x ↔ IsReceived es x
-holds_just cs kept es was settled x =
-    let h = holds_received cs kept [] es was settled x in (
+pub holds_just : (clock : Clock) (cs : List Connection) (kept : List Entry) (es : List AcceptedEvent) → Stands clock cs kept [] es → IsSettled cs → (x : Entry) → Has kept x ↔ IsReceived clock es x
+holds_just clock cs kept es was settled x =
+    let h = holds_received clock cs kept [] es was settled x in (
       λ k. elim (h.0 k) [ inl a ↦ absurd a | inr b ↦ b ],
       λ r. h.1 (inr r),
     )
 
 -- two settled collectors that received the same hold the same entries
-pub same_entries : (most : ℕ) (cs ds : List Connection) (kept other : List Entry) (es fs : List AcceptedEvent) → IsArchive most kept → IsArchive most other
-    → Stands cs kept [] es → Stands ds other [] fs → IsSettled cs → IsSettled ds → ReceivedSame es fs → kept ≡ other
-same_entries most cs ds kept other es fs a b one two settled settled_too same =
+pub same_entries : (clock : Clock) (most : ℕ) (cs ds : List Connection) (kept other : List Entry) (es fs : List AcceptedEvent) → IsArchive most kept → IsArchive most other
+    → Stands clock cs kept [] es → Stands clock ds other [] fs → IsSettled cs → IsSettled ds → ReceivedSame clock es fs → kept ≡ other
+same_entries clock most cs ds kept other es fs a b one two settled settled_too same =
     same_members kept other a.ascending b.ascending
-    (λ x k. (holds_just ds other fs two settled_too x).1 ((same x).0 ((holds_just cs kept es one settled x).0 k)))
-    (λ x k. (holds_just cs kept es one settled x).1 ((same x).1 ((holds_just ds other fs two settled_too x).0 k)))
+    (λ x k. (holds_just clock ds other fs two settled_too x).1 ((same x).0 ((holds_just clock cs kept es one settled x).0 k)))
+    (λ x k. (holds_just clock cs kept es one settled x).1 ((same x).1 ((holds_just clock ds other fs two settled_too x).0 k)))
 
 -- the entries of two settled collectors together are those of a third that received what they did
-pub union_entries : (most : ℕ) (cs ds bs : List Connection) (kept other all merged : List Entry) (es fs gs : List AcceptedEvent) → IsArchive most all → IsArchive most merged
-    → Stands cs kept [] es → Stands ds other [] fs → Stands bs all [] gs → IsSettled cs → IsSettled ds → IsSettled bs
-    → ReceivedBoth gs es fs → IsUnion merged kept other → merged ≡ all
-union_entries most cs ds bs kept other all merged es fs gs a b one two three settled settled_too settled_three received union =
+pub union_entries : (clock : Clock) (most : ℕ) (cs ds bs : List Connection) (kept other all merged : List Entry) (es fs gs : List AcceptedEvent) → IsArchive most all → IsArchive most merged
+    → Stands clock cs kept [] es → Stands clock ds other [] fs → Stands clock bs all [] gs → IsSettled cs → IsSettled ds → IsSettled bs
+    → ReceivedBoth clock gs es fs → IsUnion merged kept other → merged ≡ all
+union_entries clock most cs ds bs kept other all merged es fs gs a b one two three settled settled_too settled_three received union =
     same_members merged all b.ascending a.ascending
-    (λ x k. (holds_just bs all gs three settled_three x).1 ((received x).1 (elim ((union x).0 k) [
-      | inl p ↦ inl ((holds_just cs kept es one settled x).0 p)
-      | inr q ↦ inr ((holds_just ds other fs two settled_too x).0 q)
+    (λ x k. (holds_just clock bs all gs three settled_three x).1 ((received x).1 (elim ((union x).0 k) [
+      | inl p ↦ inl ((holds_just clock cs kept es one settled x).0 p)
+      | inr q ↦ inr ((holds_just clock ds other fs two settled_too x).0 q)
     ])))
-    (λ x k. (union x).1 (elim ((received x).0 ((holds_just bs all gs three settled_three x).0 k)) [
-      | inl p ↦ inl ((holds_just cs kept es one settled x).1 p)
-      | inr q ↦ inr ((holds_just ds other fs two settled_too x).1 q)
+    (λ x k. (union x).1 (elim ((received x).0 ((holds_just clock bs all gs three settled_three x).0 k)) [
+      | inl p ↦ inl ((holds_just clock cs kept es one settled x).1 p)
+      | inr q ↦ inr ((holds_just clock ds other fs two settled_too x).1 q)
     ]))

@@ -1,4 +1,5 @@
 pub mod Spelling
+pub mod OneReading
 pub mod Received
 pub mod Ready
 pub mod Moving

@@ -5,13 +5,14 @@ use Rattle.syslog_frame.specs.Frames.{Frames, IsBadAt}
 use Rattle.syslog_frame.specs.declared.framing.Framing.{Framing}
 use Rattle.syslog_frame.specs.declared.limits.TheConstants.{POSITION_MAX}
 use Rattle.archive_text.specs.Entries.{Entry}
+use Rattle.syslog_collect.specs.Readings.{Clock}
 use Rattle.syslog_collect.specs.declared.connection.Connection.{Connection}
 use Rattle.syslog_collect.specs.declared.fault.Advance.{Advance}
 use Rattle.syslog_collect.specs.declared.fault.CollectFault.{CollectFault}
 use Rattle.syslog_collect.specs.declared.fault.CollectFault.TheVariants.{AlreadyOpen, TooManyOpen, NotOpen, ConnFailed, StreamTooLong, Unreleased, Unterminated, Memory}
 use Rattle.syslog_collect.specs.declared.limits.TheConstants.{CONNECTIONS_MAX}
 use Rattle.syslog_collect.specs.declared.outcome.Outcome.{Outcome}
-use Rattle.syslog_collect.specs.declared.outcome.Outcome.TheVariants.{New, Held, Refused, TooLong, BadCount}
+use Rattle.syslog_collect.specs.declared.outcome.Outcome.TheVariants.{New, Held, Refused, RefusedLegacy, TooLong, BadCount}
 use Rattle.syslog_collect.specs.History.{History, HoldsBadCount, MayContinue, Stream, AcceptedEvent, Opened, Piece, Ended, Datagram, with_octets, stream_of}
 use Rattle.syslog_collect.specs.Outcomes.{AreReported, IsRecordFrame, outcomes_of}
 use Rattle.syslog_collect.specs.Standing.{IsAt}
@@ -22,6 +23,7 @@ accepted_count bad n None = n
 accepted_count bad n (Some New) = n
 accepted_count bad n (Some Held) = n
 accepted_count bad n (Some (Refused fault)) = n
+accepted_count bad n (Some (RefusedLegacy offset)) = n
 accepted_count bad n (Some TooLong) = n
 accepted_count bad n (Some (BadCount at)) = bad
 
@@ -31,6 +33,7 @@ IsBadCount None = ⊥
 IsBadCount (Some New) = ⊥
 IsBadCount (Some Held) = ⊥
 IsBadCount (Some (Refused fault)) = ⊥
+IsBadCount (Some (RefusedLegacy offset)) = ⊥
 IsBadCount (Some TooLong) = ⊥
 IsBadCount (Some (BadCount at)) = Unit {0}
 
@@ -83,38 +86,39 @@ ReportsBadCount (BadCount at ∷ os) s = HoldsBadCountAt s at × (os ≡ [])
 ReportsBadCount (New ∷ os) s = ReportsBadCount os s
 ReportsBadCount (Held ∷ os) s = ReportsBadCount os s
 ReportsBadCount (Refused fault ∷ os) s = ReportsBadCount os s
+ReportsBadCount (RefusedLegacy offset ∷ os) s = ReportsBadCount os s
 ReportsBadCount (TooLong ∷ os) s = ReportsBadCount os s
 
 -- what a connection at an opening does with octets: it is at the opening with them, these frames more
 -- were handled, and these outcomes report them
-pub record Advances (old new : Connection) (kept_old kept_new : List Entry) (octets : List ℕ)
+pub record Advances (clock : Clock) (old new : Connection) (kept_old kept_new : List Entry) (octets : List ℕ)
     (outcomes : List Outcome) (s : Stream) (handled : List (List ℕ)) : Type 0 where
   pub may : MayContinue octets s
   pub fresh : List (List ℕ)
   pub now_at : IsAt new (with_octets s octets) (handled ++ fresh)
-  pub reported : AreReported kept_old kept_new fresh outcomes
+  pub reported : AreReported clock kept_old kept_new fresh outcomes
   pub marks : ReportsBadCount outcomes (with_octets s octets)
 
 -- by what was accepted: where nothing was, nothing changes
-abbrev pub AdvancesBy : Option (List ℕ) → Connection → Connection → List Entry → List Entry → List Outcome → Stream → List (List ℕ) → Type 0
-AdvancesBy None old new kept_old kept_new outcomes s handled = (new ≡ old) × (kept_new ≡ kept_old) × (outcomes ≡ [])
-AdvancesBy (Some octets) old new kept_old kept_new outcomes s handled = Advances old new kept_old kept_new octets outcomes s handled
+abbrev pub AdvancesBy : Clock → Option (List ℕ) → Connection → Connection → List Entry → List Entry → List Outcome → Stream → List (List ℕ) → Type 0
+AdvancesBy clock None old new kept_old kept_new outcomes s handled = (new ≡ old) × (kept_new ≡ kept_old) × (outcomes ≡ [])
+AdvancesBy clock (Some octets) old new kept_old kept_new outcomes s handled = Advances clock old new kept_old kept_new octets outcomes s handled
 
 -- with these octets the opening is whole frames, and the last of them spells a record
-abbrev pub EndsInRecord : Stream → List ℕ → Type 0
-EndsInRecord s octets = (frames : List (List ℕ)) × (f : List ℕ) × Frames s.framing (s.octets ++ octets) (frames ++ f ∷ []) [] × IsRecordFrame f
+abbrev pub EndsInRecord : Clock → Stream → List ℕ → Type 0
+EndsInRecord clock s octets = (frames : List (List ℕ)) × (f : List ℕ) × Frames s.framing (s.octets ++ octets) (frames ++ f ∷ []) [] × IsRecordFrame clock f
 
 -- why an advance of a connection at an opening is refused, the first cause that holds
-abbrev pub IsCause : List ℕ → Result Advance CollectFault → Stream → Type 0
-IsCause piece (Ok a) s = ¬ (HoldsBadCount s)
-IsCause piece (Err (Memory n)) s = ¬ (HoldsBadCount s) × EndsInRecord s (take n piece)
-IsCause piece (Err ConnFailed) s = HoldsBadCount s
-IsCause piece (Err StreamTooLong) s = ¬ (HoldsBadCount s) × (POSITION_MAX < length s.octets + length piece)
-IsCause piece (Err NotOpen) s = ⊥
-IsCause piece (Err AlreadyOpen) s = ⊥
-IsCause piece (Err TooManyOpen) s = ⊥
-IsCause piece (Err Unreleased) s = ⊥
-IsCause piece (Err (Unterminated start)) s = ⊥
+abbrev pub IsCause : Clock → List ℕ → Result Advance CollectFault → Stream → Type 0
+IsCause clock piece (Ok a) s = ¬ (HoldsBadCount s)
+IsCause clock piece (Err (Memory n)) s = ¬ (HoldsBadCount s) × EndsInRecord clock s (take n piece)
+IsCause clock piece (Err ConnFailed) s = HoldsBadCount s
+IsCause clock piece (Err StreamTooLong) s = ¬ (HoldsBadCount s) × (POSITION_MAX < length s.octets + length piece)
+IsCause clock piece (Err NotOpen) s = ⊥
+IsCause clock piece (Err AlreadyOpen) s = ⊥
+IsCause clock piece (Err TooManyOpen) s = ⊥
+IsCause clock piece (Err Unreleased) s = ⊥
+IsCause clock piece (Err (Unterminated start)) s = ⊥
 
 -- no more is used than there is; and no refusal of another call is answered
 abbrev pub IsUsedWithin : List ℕ → Result Advance CollectFault → Type 0
@@ -129,16 +133,16 @@ IsUsedWithin piece (Err Unreleased) = ⊥
 IsUsedWithin piece (Err (Unterminated start)) = ⊥
 
 -- what an advance of a number answers after a history: the number is not open; or a cause at its opening
-abbrev pub IsAnswerAt : ℕ → List ℕ → Result Advance CollectFault → History → Type 0
-IsAnswerAt c piece (Err NotOpen) h = stream_of c h.streams ≡ None
-IsAnswerAt c piece (Ok a) h = IsSomeAnd (stream_of c h.streams) (IsCause piece (Ok a))
-IsAnswerAt c piece (Err (Memory n)) h = IsSomeAnd (stream_of c h.streams) (IsCause piece (Err (Memory n)))
-IsAnswerAt c piece (Err ConnFailed) h = IsSomeAnd (stream_of c h.streams) (IsCause piece (Err ConnFailed))
-IsAnswerAt c piece (Err StreamTooLong) h = IsSomeAnd (stream_of c h.streams) (IsCause piece (Err StreamTooLong))
-IsAnswerAt c piece (Err AlreadyOpen) h = ⊥
-IsAnswerAt c piece (Err TooManyOpen) h = ⊥
-IsAnswerAt c piece (Err Unreleased) h = ⊥
-IsAnswerAt c piece (Err (Unterminated start)) h = ⊥
+abbrev pub IsAnswerAt : Clock → ℕ → List ℕ → Result Advance CollectFault → History → Type 0
+IsAnswerAt clock c piece (Err NotOpen) h = stream_of c h.streams ≡ None
+IsAnswerAt clock c piece (Ok a) h = IsSomeAnd (stream_of c h.streams) (IsCause clock piece (Ok a))
+IsAnswerAt clock c piece (Err (Memory n)) h = IsSomeAnd (stream_of c h.streams) (IsCause clock piece (Err (Memory n)))
+IsAnswerAt clock c piece (Err ConnFailed) h = IsSomeAnd (stream_of c h.streams) (IsCause clock piece (Err ConnFailed))
+IsAnswerAt clock c piece (Err StreamTooLong) h = IsSomeAnd (stream_of c h.streams) (IsCause clock piece (Err StreamTooLong))
+IsAnswerAt clock c piece (Err AlreadyOpen) h = ⊥
+IsAnswerAt clock c piece (Err TooManyOpen) h = ⊥
+IsAnswerAt clock c piece (Err Unreleased) h = ⊥
+IsAnswerAt clock c piece (Err (Unterminated start)) h = ⊥
 
 -- the event that an opening adds
 abbrev pub accepted_opening : {U : Type 0} → ℕ → Framing → Result U CollectFault → List AcceptedEvent

@@ -3,6 +3,7 @@ use Rattle.std.specs.Prelude.{◌≡◌, ◌==◌, ◌⊎◌, ℕ, cond, List, [
 use Rattle.syslog_frame.specs.declared.phase.Phase.{Phase}
 use Rattle.syslog_frame.specs.declared.phase.Phase.TheVariants.{Counting, Inside, Ended as phase_Ended, BadCount as phase_BadCount, Failed}
 use Rattle.archive_text.specs.Entries.{Entry}
+use Rattle.syslog_collect.specs.Readings.{Clock}
 use Rattle.syslog_collect.specs.declared.connection.Connection.{Connection}
 use Rattle.syslog_collect.specs.declared.event.Event.{Event}
 use Rattle.syslog_collect.specs.declared.event.Event.TheVariants.{Opened as event_Opened, Piece as event_Piece, Ended as event_Ended, Datagram as event_Datagram}
@@ -59,7 +60,7 @@ waiting_then (Err (Unterminated start)) c w d = w d
 
 -- the outcomes of an opening's frames where octets come: of those that waited, and of those that the octets
 -- complete, but for those that wait now
-pub record LogsOctets (s : Stream) (o : List ℕ) (waited waits : ℕ) (old new : List Entry) (os : List Outcome) : Type 0 where
+pub record LogsOctets (clock : Clock) (s : Stream) (o : List ℕ) (waited waits : ℕ) (old new : List Entry) (os : List Outcome) : Type 0 where
   pub handled : List (List ℕ)
   pub waiting_before : List (List ℕ)
   pub logged : List (List ℕ)
@@ -68,25 +69,25 @@ pub record LogsOctets (s : Stream) (o : List ℕ) (waited waits : ℕ) (old new 
   pub count_before : length waiting_before ≡ waited
   pub now : IsFramesOf (with_octets s o) (handled ++ (logged ++ waiting_now))
   pub count_now : length waiting_now ≡ waits
-  pub outcomes : AreReported old new logged os
+  pub outcomes : AreReported clock old new logged os
   pub bad_count : ReportsBadCount os (with_octets s o)
 
 -- octets of a number are handled, so that none of its frames waits
-abbrev pub Reports : ℕ → List ℕ → History → ℕ → List Entry → List Entry → List Outcome → Type 0
-Reports c o h waited old new os = IsSomeAnd (stream_of c h.streams) (λ s. LogsOctets s o waited 0 old new os)
+abbrev pub Reports : Clock → ℕ → List ℕ → History → ℕ → List Entry → List Entry → List Outcome → Type 0
+Reports clock c o h waited old new os = IsSomeAnd (stream_of c h.streams) (λ s. LogsOctets clock s o waited 0 old new os)
 
 -- the outcomes of an event, where so many frames waited
-abbrev pub LogsEvent : History → (ℕ → ℕ) → AcceptedEvent → List Entry → List Entry → List Outcome → Type 0
-LogsEvent h w (Opened c k) old new os = (os ≡ []) × (new ≡ old)
-LogsEvent h w (Ended c) old new os = (os ≡ []) × (new ≡ old)
-LogsEvent h w (Datagram o) old new os = (x : Outcome) × (os ≡ x ∷ []) × IsOutcome old new o x
-LogsEvent h w (Piece c o) old new os = Reports c o h (w c) old new os
+abbrev pub LogsEvent : Clock → History → (ℕ → ℕ) → AcceptedEvent → List Entry → List Entry → List Outcome → Type 0
+LogsEvent clock h w (Opened c k) old new os = (os ≡ []) × (new ≡ old)
+LogsEvent clock h w (Ended c) old new os = (os ≡ []) × (new ≡ old)
+LogsEvent clock h w (Datagram o) old new os = (x : Outcome) × (os ≡ x ∷ []) × IsOutcome clock old new o x
+LogsEvent clock h w (Piece c o) old new os = Reports clock c o h (w c) old new os
 
 -- the outcomes of events, one after the other: w waited before, and v wait after them
-abbrev pub IsLogOf : History → (ℕ → ℕ) → List AcceptedEvent → (ℕ → ℕ) → List Entry → List Entry → List Outcome → Type 0
-IsLogOf h w [] v old new os = (os ≡ []) × (new ≡ old) × ((d : ℕ) → v d ≡ w d)
-IsLogOf h w (e ∷ es) v old new os = (here : List Outcome) × (later : List Outcome) × (between : List Entry)
-    × (os ≡ here ++ later) × LogsEvent h w e old between here × IsLogOf (accept h e) (waiting_after w e) es v between new later
+abbrev pub IsLogOf : Clock → History → (ℕ → ℕ) → List AcceptedEvent → (ℕ → ℕ) → List Entry → List Entry → List Outcome → Type 0
+IsLogOf clock h w [] v old new os = (os ≡ []) × (new ≡ old) × ((d : ℕ) → v d ≡ w d)
+IsLogOf clock h w (e ∷ es) v old new os = (here : List Outcome) × (later : List Outcome) × (between : List Entry)
+    × (os ≡ here ++ later) × LogsEvent clock h w e old between here × IsLogOf clock (accept h e) (waiting_after w e) es v between new later
 
 -- ---- the outcomes of a run
 
@@ -95,43 +96,43 @@ abbrev pub LogsNothing : (ℕ → ℕ) → (ℕ → ℕ) → List Entry → List
 LogsNothing w v old new os = (os ≡ []) × (new ≡ old) × ((d : ℕ) → v d ≡ w d)
 
 -- the outcomes of the octets of a number that were taken before it was refused: nothing; or a frame may wait now
-abbrev pub LogsPart : History → (ℕ → ℕ) → (ℕ → ℕ) → ℕ → List ℕ → List Entry → List Entry → List Outcome → Type 0
-LogsPart h w v c o old new os = ((o ≡ []) × LogsNothing w v old new os)
-    ⊎ (IsSomeAnd (stream_of c h.streams) (λ s. LogsOctets s o (w c) (v c) old new os) × ((d : ℕ) → ¬ (c ≡ d) → v d ≡ w d))
+abbrev pub LogsPart : Clock → History → (ℕ → ℕ) → (ℕ → ℕ) → ℕ → List ℕ → List Entry → List Entry → List Outcome → Type 0
+LogsPart clock h w v c o old new os = ((o ≡ []) × LogsNothing w v old new os)
+    ⊎ (IsSomeAnd (stream_of c h.streams) (λ s. LogsOctets clock s o (w c) (v c) old new os) × ((d : ℕ) → ¬ (c ≡ d) → v d ≡ w d))
 
 -- the outcomes of a piece of a number
-abbrev pub LogsPiece : History → (ℕ → ℕ) → (ℕ → ℕ) → ℕ → List ℕ → EventEnd → List Entry → List Entry → List Outcome → Type 0
-LogsPiece h w v c o end_Done old new os = LogsEvent h w (Piece c o) old new os × ((d : ℕ) → v d ≡ waiting_after w (Piece c o) d)
-LogsPiece h w v c o (end_Stopped n fault) old new os = LogsPart h w v c (take n o) old new os
+abbrev pub LogsPiece : Clock → History → (ℕ → ℕ) → (ℕ → ℕ) → ℕ → List ℕ → EventEnd → List Entry → List Entry → List Outcome → Type 0
+LogsPiece clock h w v c o end_Done old new os = LogsEvent clock h w (Piece c o) old new os × ((d : ℕ) → v d ≡ waiting_after w (Piece c o) d)
+LogsPiece clock h w v c o (end_Stopped n fault) old new os = LogsPart clock h w v c (take n o) old new os
 
 -- of a datagram
-abbrev pub LogsDatagram : List ℕ → EventEnd → List Entry → List Entry → List Outcome → Type 0
-LogsDatagram o end_Done old new os = (x : Outcome) × (os ≡ x ∷ []) × IsOutcome old new o x
-LogsDatagram o (end_Stopped n fault) old new os = (os ≡ []) × (new ≡ old)
+abbrev pub LogsDatagram : Clock → List ℕ → EventEnd → List Entry → List Entry → List Outcome → Type 0
+LogsDatagram clock o end_Done old new os = (x : Outcome) × (os ≡ x ∷ []) × IsOutcome clock old new o x
+LogsDatagram clock o (end_Stopped n fault) old new os = (os ≡ []) × (new ≡ old)
 
 -- of an event that was refused after so many octets
-abbrev pub LogsRefused : History → (ℕ → ℕ) → (ℕ → ℕ) → Event → ℕ → List Entry → List Entry → List Outcome → Type 0
-LogsRefused h w v (event_Opened c k) n old new os = LogsNothing w v old new os
-LogsRefused h w v (event_Piece c o) n old new os = LogsPart h w v c (take n o.now) old new os
-LogsRefused h w v (event_Ended c) n old new os = LogsNothing w v old new os
-LogsRefused h w v (event_Datagram o) n old new os = LogsNothing w v old new os
+abbrev pub LogsRefused : Clock → History → (ℕ → ℕ) → (ℕ → ℕ) → Event → ℕ → List Entry → List Entry → List Outcome → Type 0
+LogsRefused clock h w v (event_Opened c k) n old new os = LogsNothing w v old new os
+LogsRefused clock h w v (event_Piece c o) n old new os = LogsPart clock h w v c (take n o.now) old new os
+LogsRefused clock h w v (event_Ended c) n old new os = LogsNothing w v old new os
+LogsRefused clock h w v (event_Datagram o) n old new os = LogsNothing w v old new os
 
 -- of an event, as far as it went
-abbrev pub LogsEventEnd : History → (ℕ → ℕ) → (ℕ → ℕ) → Event → EventEnd → List Entry → List Entry → List Outcome → Type 0
-LogsEventEnd h w v e end_Done old new os = LogsEvent h w (accepted_event e) old new os × ((d : ℕ) → v d ≡ waiting_after w (accepted_event e) d)
-LogsEventEnd h w v e (end_Stopped n fault) old new os = LogsRefused h w v e n old new os
+abbrev pub LogsEventEnd : Clock → History → (ℕ → ℕ) → (ℕ → ℕ) → Event → EventEnd → List Entry → List Entry → List Outcome → Type 0
+LogsEventEnd clock h w v e end_Done old new os = LogsEvent clock h w (accepted_event e) old new os × ((d : ℕ) → v d ≡ waiting_after w (accepted_event e) d)
+LogsEventEnd clock h w v e (end_Stopped n fault) old new os = LogsRefused clock h w v e n old new os
 
 -- of the first event, which was refused
-abbrev pub LogsFirst : History → (ℕ → ℕ) → (ℕ → ℕ) → List Event → ℕ → List Entry → List Entry → List Outcome → Type 0
-LogsFirst h w v [] n old new os = ⊥
-LogsFirst h w v (e ∷ es) n old new os = LogsRefused h w v e n old new os
+abbrev pub LogsFirst : Clock → History → (ℕ → ℕ) → (ℕ → ℕ) → List Event → ℕ → List Entry → List Entry → List Outcome → Type 0
+LogsFirst clock h w v [] n old new os = ⊥
+LogsFirst clock h w v (e ∷ es) n old new os = LogsRefused clock h w v e n old new os
 
 -- the outcomes of a run: of all events; or of those before the one that was refused, and of what was taken there
-abbrev pub LogsRun : History → (ℕ → ℕ) → (ℕ → ℕ) → List Event → RunEnd → List Entry → List Entry → List Outcome → Type 0
-LogsRun h w v es Done old new os = IsLogOf h w (accepted_all es) v old new os
-LogsRun h w v es (Stopped at n fault) old new os = (u : ℕ → ℕ) × (here : List Outcome) × (later : List Outcome) × (between : List Entry)
-    × (os ≡ here ++ later) × IsLogOf h w (accepted_all (take at es)) u old between here
-    × LogsFirst (history_after h (accepted_all (take at es))) u v (drop at es) n between new later
+abbrev pub LogsRun : Clock → History → (ℕ → ℕ) → (ℕ → ℕ) → List Event → RunEnd → List Entry → List Entry → List Outcome → Type 0
+LogsRun clock h w v es Done old new os = IsLogOf clock h w (accepted_all es) v old new os
+LogsRun clock h w v es (Stopped at n fault) old new os = (u : ℕ → ℕ) × (here : List Outcome) × (later : List Outcome) × (between : List Entry)
+    × (os ≡ here ++ later) × IsLogOf clock h w (accepted_all (take at es)) u old between here
+    × LogsFirst clock (history_after h (accepted_all (take at es))) u v (drop at es) n between new later
 
 -- a log grew by such outcomes
 abbrev pub Grows : (List Outcome → Type 0) → List Outcome → List Outcome → Type 0

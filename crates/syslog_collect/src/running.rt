@@ -31,14 +31,15 @@ impl<S: Store> Collector<S> {
     /// A piece, advanced until its rest is empty, and at least once.
     fn piece(&mut self, alloc: Global, conn: u32, octets: &[u8], log: &mut Vec<Outcome>) -> EventEnd
         ensures stands { (first : List Entry) (events : List AcceptedEvent)
-            → Stands self.old.connections.items (S.entries self.old.store) first events
-            → Stands self.new.connections.items (S.entries self.new.store) first
+            → Stands self.old.clock self.old.connections.items (S.entries self.old.store) first events
+            → Stands self.new.clock self.new.connections.items (S.entries self.new.store) first
             (events ++ accepted_piece_end conn octets.now result) }
         ensures settled { IfDone result (IsSettled self.old.connections.items
             → IsSettled self.new.connections.items) }
+        ensures clock { self.new.clock ≡ self.old.clock }
         ensures logged { (first : List Entry) (events : List AcceptedEvent)
-            → Stands self.old.connections.items (S.entries self.old.store) first events
-            → Grows (LogsPiece (history_of events) (waiting self.old.connections.items)
+            → Stands self.old.clock self.old.connections.items (S.entries self.old.store) first events
+            → Grows (LogsPiece self.old.clock (history_of events) (waiting self.old.connections.items)
             (waiting self.new.connections.items) conn octets.now result
             (S.entries self.old.store) (S.entries self.new.store)) log.old.items log.new.items }
     {
@@ -49,6 +50,7 @@ impl<S: Store> Collector<S> {
             },
             Some(at) => take_piece(
                 alloc,
+                self.clock,
                 &mut self.connections[at],
                 &mut self.store,
                 octets,
@@ -61,11 +63,12 @@ impl<S: Store> Collector<S> {
     fn logged_datagram(&mut self, alloc: Global, octets: &[u8], log: &mut Vec<Outcome>) -> EventEnd
         requires { vec_len log.old < vec_capacity log.old }
         ensures stands { (first : List Entry) (events : List AcceptedEvent)
-            → Stands self.old.connections.items (S.entries self.old.store) first events
-            → Stands self.new.connections.items (S.entries self.new.store) first
+            → Stands self.old.clock self.old.connections.items (S.entries self.old.store) first events
+            → Stands self.new.clock self.new.connections.items (S.entries self.new.store) first
             (events ++ accepted_datagram_end octets.now result) }
         ensures connections { self.new.connections.items ≡ self.old.connections.items }
-        ensures logged { Grows (LogsDatagram octets.now result (S.entries self.old.store)
+        ensures clock { self.new.clock ≡ self.old.clock }
+        ensures logged { Grows (LogsDatagram self.old.clock octets.now result (S.entries self.old.store)
             (S.entries self.new.store)) log.old.items log.new.items }
     {
         match self.datagram(alloc, octets) {
@@ -83,14 +86,15 @@ impl<S: Store> Collector<S> {
     /// One event, as far as it goes. Room for an outcome is made in the log first.
     fn run_event(&mut self, alloc: Global, event: Event<'_>, log: &mut Vec<Outcome>) -> EventEnd
         ensures stands { (first : List Entry) (events : List AcceptedEvent)
-            → Stands self.old.connections.items (S.entries self.old.store) first events
-            → Stands self.new.connections.items (S.entries self.new.store) first
+            → Stands self.old.clock self.old.connections.items (S.entries self.old.store) first events
+            → Stands self.new.clock self.new.connections.items (S.entries self.new.store) first
             (events ++ accepted_by event.entry result) }
         ensures settled { IfDone result (IsSettled self.old.connections.items
             → IsSettled self.new.connections.items) }
+        ensures clock { self.new.clock ≡ self.old.clock }
         ensures logged { (first : List Entry) (events : List AcceptedEvent)
-            → Stands self.old.connections.items (S.entries self.old.store) first events
-            → Grows (LogsEventEnd (history_of events) (waiting self.old.connections.items)
+            → Stands self.old.clock self.old.connections.items (S.entries self.old.store) first events
+            → Grows (LogsEventEnd self.old.clock (history_of events) (waiting self.old.connections.items)
             (waiting self.new.connections.items) event.entry result
             (S.entries self.old.store) (S.entries self.new.store)) log.old.items log.new.items }
     {
@@ -112,17 +116,18 @@ impl<S: Store> Collector<S> {
     /// log. The octets of a piece that follow a bad count are dropped.
     pub fn run(&mut self, alloc: Global, events: &[Event<'_>], log: &mut Vec<Outcome>) -> RunEnd
         ensures stands { (first : List Entry) (before : List AcceptedEvent)
-            → Stands self.old.connections.items (S.entries self.old.store) first before
-            → Stands self.new.connections.items (S.entries self.new.store) first
+            → Stands self.old.clock self.old.connections.items (S.entries self.old.store) first before
+            → Stands self.new.clock self.new.connections.items (S.entries self.new.store) first
             (before ++ accepted_run events.now result) }
         // After Done no frame is left ready.
         ensures settled { IfAllDone result (IsSettled self.old.connections.items
             → IsSettled self.new.connections.items) }
         // The log has the outcomes in the order in which the frames' last octets came: of a run
         // that stops too, where a frame for which memory was refused waits for the next call.
+        ensures clock { self.new.clock ≡ self.old.clock }
         ensures logged { (first : List Entry) (before : List AcceptedEvent)
-            → Stands self.old.connections.items (S.entries self.old.store) first before
-            → Grows (LogsRun (history_of before) (waiting self.old.connections.items)
+            → Stands self.old.clock self.old.connections.items (S.entries self.old.store) first before
+            → Grows (LogsRun self.old.clock (history_of before) (waiting self.old.connections.items)
             (waiting self.new.connections.items) events.now result
             (S.entries self.old.store) (S.entries self.new.store)) log.old.items log.new.items }
     {

@@ -16,12 +16,12 @@ index_mut-requires g c =
     omega (arith, within c.args.conn c.in-Some.at c.args.self.now.connections.items is)
 
 pub returns-in-None-clause-logged : goal.returns-in-None-clause-logged
-returns-in-None-clause-logged g c first events was = nothing_of_piece (history_of events) (waiting c.args.self.now.connections.items) c.args.conn c.args.octets.now NotOpen _ _
+returns-in-None-clause-logged g c first events was = nothing_of_piece c.args.self.now.clock (history_of events) (waiting c.args.self.now.connections.items) c.args.conn c.args.octets.now NotOpen _ _
 
 pub returns-in-Some-clause-stands : goal.returns-in-Some-clause-stands
 returns-in-Some-clause-stands g c first events was =
     let is = subst (λ (ls : List Connection). place_from c.args.conn 0 ls ≡ Some c.in-Some.at) c.deref.ensures.value (sym c.in-Some.ensures) in
-    piece_found c.args.conn c.in-Some.at c.index_mut.result.now c.take_piece.new.connection c.args.self.now.connections.items _ _ first events c.args.octets.now c.take_piece.result _ _
+    piece_found c.args.self.now.clock c.args.conn c.in-Some.at c.index_mut.result.now c.take_piece.new.connection c.args.self.now.connections.items _ _ first events c.args.octets.now c.take_piece.result _ _
     is c.index_mut.ensures.value c.take_piece.ensures.moves c.take_piece.ensures.accepted was
 
 pub returns-in-Some-clause-settled : goal.returns-in-Some-clause-settled
@@ -30,6 +30,6 @@ returns-in-Some-clause-settled g c = settled_piece c.take_piece.result c.args.se
 pub returns-in-Some-clause-logged : goal.returns-in-Some-clause-logged
 returns-in-Some-clause-logged g c first events was =
     let is = subst (λ (ls : List Connection). place_from c.args.conn 0 ls ≡ Some c.in-Some.at) c.deref.ensures.value (sym c.in-Some.ensures) in
-    piece_logged c.args.conn c.in-Some.at c.index_mut.result.now c.take_piece.new.connection c.args.self.now.connections.items (g.S.Store.entries c.args.self.now.store)
+    piece_logged c.args.self.now.clock c.args.conn c.in-Some.at c.index_mut.result.now c.take_piece.new.connection c.args.self.now.connections.items (g.S.Store.entries c.args.self.now.store)
     (g.S.Store.entries c.take_piece.new.store) first events c.args.octets.now c.take_piece.result c.args.log.now.items c.take_piece.new.log.items is c.index_mut.ensures.value c.take_piece.ensures.moves
     c.take_piece.ensures.accepted c.take_piece.ensures.settled was
