@@ -1,6 +1,6 @@
 -- A settled collector holds what was received.
-use Rattle.std.proofs.Common.{◌≡◌, ℕ, zero, suc, ◌+◌, List, [], ◌∷◌, ◌++◌, length, get_or, set as set_at, inl, inr, refl, sym, ◌∙◌, ap, subst}
-use Rattle.std.specs.Prelude.{◌⊎◌, ◌↔◌, Some, Result, Ok, Err, IfOk, OnOk}
+use Rattle.std.proofs.Common.{◌≡◌, ℕ, zero, suc, ◌+◌, List, [], ◌∷◌, ◌++◌, length, set as set_at, inl, inr, refl, sym, ◌∙◌, ap, subst}
+use Rattle.std.specs.Prelude.{◌⊎◌, ◌↔◌, Result, Ok, Err, OnOk}
 use Rattle.std.specs.List.{remove}
 use Rattle.syslog_frame.specs.Scan.{HasFrame, HasReady}
 use Rattle.syslog_frame.specs.declared.limits.TheConstants.{FRAME_MAX}
@@ -10,18 +10,15 @@ use Rattle.syslog_frame.proofs.Reading.{frames_read}
 use Rattle.archive_text.specs.Entries.{Entry, Has}
 use Rattle.archive_text.specs.Text.{IsArchive}
 use Rattle.archive_text.proofs.Ascending.{same_members}
+use Rattle.syslog_collect.specs.Readings.{Clock}
 use Rattle.syslog_collect.specs.declared.connection.Connection.{Connection}
-use Rattle.syslog_collect.specs.declared.fault.Advance.{Advance}
-use Rattle.syslog_collect.specs.declared.fault.CollectFault.{CollectFault}
-use Rattle.syslog_collect.specs.Answers.{MovesBy, Reports, accepted_octets, answered, used_octets}
-use Rattle.syslog_collect.specs.Outcomes.{outcomes_of}
-use Rattle.syslog_collect.proofs.Places.{found_here, opening_at, place_from}
 use Rattle.syslog_collect.specs.declared.event.EventEnd.{EventEnd}
 use Rattle.syslog_collect.specs.declared.event.EventEnd.TheVariants.{Done as end_Done, Stopped as end_Stopped}
 use Rattle.syslog_collect.specs.Runs.{IfDone}
 use Rattle.syslog_collect.specs.Frames.{AreFramesOf, HasFrames, IsFramesOf, IsReceived, IsSpelled, all_of}
 use Rattle.syslog_collect.specs.Headline.{IsSettled, IsUnion, ReceivedBoth, ReceivedSame}
-use Rattle.syslog_collect.specs.History.{History, Stream, Told, after, longer, nothing}
+use Rattle.syslog_collect.specs.History.{History, Stream, AcceptedEvent, history_of}
+use Rattle.syslog_collect.proofs.Places.{AtPlace}
 use Rattle.syslog_collect.specs.Standing.{AreAt, IsAt, Stands}
 
 -- where no frame is ready, the frames that were handled are those of the opening
@@ -57,6 +54,11 @@ settled_remove [] (suc i) h = tt
 settled_remove (d ∷ cs) zero h = h.1
 settled_remove (d ∷ cs) (suc i) h = (h.0, settled_remove cs i h.1)
 
+pub settled_at : (c i : ℕ) (x : Connection) (ls : List Connection) → IsSettled ls → AtPlace c ls i x → ¬ (HasFrame x.scanner)
+settled_at c i x [] settled at = absurd at
+settled_at c zero x (l ∷ ls) settled at = subst (λ (z : Connection). ¬ (HasFrame z.scanner)) at.0 settled.0
+settled_at c (suc i) x (l ∷ ls) settled at = settled_at c i x ls settled.1 at.1
+
 pub settled_advance : {T E : Type 0} (r : Result T E) (cs : List Connection) (n : ℕ) (c : Connection) → OnOk r (¬ (HasReady c.scanner)) → OnOk r (IsSettled cs → IsSettled (set_at cs n c))
 settled_advance (Ok x) cs n c quiet = λ h. settled_set cs n c h (λ f. quiet (inl f))
 settled_advance (Err e) cs n c quiet = tt
@@ -86,56 +88,46 @@ one_history h fs gs a b =
     a.all ∙ ap (λ (z : List (List (List ℕ))). all_of z ++ (all_of a.ended_frames ++ h.datagrams)) (one_each h.streams a.open_frames b.open_frames a.open_are b.open_are)
     ∙ ap (λ (z : List (List (List ℕ))). all_of b.open_frames ++ (all_of z ++ h.datagrams)) (one_each h.ended a.ended_frames b.ended_frames a.ended_are b.ended_are) ∙ sym b.all
 
-pub holds_received : (cs : List Connection) (kept first : List Entry) (es : List Told) → Stands cs kept first es → IsSettled cs → (x : Entry) → Has kept x ↔ (Has first x ⊎ IsReceived es x)
-holds_received cs kept first es was settled x =
-    let h = after nothing es in
+pub holds_received : (clock : Clock) (cs : List Connection) (kept first : List Entry) (es : List AcceptedEvent) → Stands clock cs kept first es → IsSettled cs → (x : Entry) → Has kept x ↔ (Has first x ⊎ IsReceived clock es x)
+holds_received clock cs kept first es was settled x =
+    let h = history_of es in
     let sa = was.stands_at in
     let fs = all_of sa.handled ++ (all_of sa.ended_frames ++ h.datagrams) in
     let are : HasFrames h fs = record { open_frames = sa.handled; ended_frames = sa.ended_frames; open_are = all_settled cs h.streams sa.handled sa.follow settled; ended_are = sa.ended_are; all = refl } in (
       λ k. elim ((sa.gains x).0 k) [ inl a ↦ inl a | inr b ↦ inr (fs, are, b) ],
       λ k. elim k [
         | inl a ↦ (sa.gains x).1 (inl a)
-        | inr (gs, others, b) ↦ (sa.gains x).1 (inr (subst (λ (z : List (List ℕ)). IsSpelled z x) (one_history h gs fs others are) b))
+        | inr (gs, others, b) ↦ (sa.gains x).1 (inr (subst (λ (z : List (List ℕ)). IsSpelled clock z x) (one_history h gs fs others are) b))
       ],
     )
 
 -- over an empty store, just what was received
-pub holds_just : (cs : List Connection) (kept : List Entry) (es : List Told) → Stands cs kept [] es → IsSettled cs → (x : Entry) → Has kept x ↔ IsReceived es x
-holds_just cs kept es was settled x =
-    let h = holds_received cs kept [] es was settled x in (
+pub holds_just : (clock : Clock) (cs : List Connection) (kept : List Entry) (es : List AcceptedEvent) → Stands clock cs kept [] es → IsSettled cs → (x : Entry) → Has kept x ↔ IsReceived clock es x
+holds_just clock cs kept es was settled x =
+    let h = holds_received clock cs kept [] es was settled x in (
       λ k. elim (h.0 k) [ inl a ↦ absurd a | inr b ↦ b ],
       λ r. h.1 (inr r),
     )
 
 -- two settled collectors that received the same hold the same entries
-pub same_entries : (most : ℕ) (cs ds : List Connection) (kept other : List Entry) (es fs : List Told) → IsArchive most kept → IsArchive most other
-    → Stands cs kept [] es → Stands ds other [] fs → IsSettled cs → IsSettled ds → ReceivedSame es fs → kept ≡ other
-same_entries most cs ds kept other es fs a b one two settled settled_too same =
+pub same_entries : (clock : Clock) (most : ℕ) (cs ds : List Connection) (kept other : List Entry) (es fs : List AcceptedEvent) → IsArchive most kept → IsArchive most other
+    → Stands clock cs kept [] es → Stands clock ds other [] fs → IsSettled cs → IsSettled ds → ReceivedSame clock es fs → kept ≡ other
+same_entries clock most cs ds kept other es fs a b one two settled settled_too same =
     same_members kept other a.ascending b.ascending
-    (λ x k. (holds_just ds other fs two settled_too x).1 ((same x).0 ((holds_just cs kept es one settled x).0 k)))
-    (λ x k. (holds_just cs kept es one settled x).1 ((same x).1 ((holds_just ds other fs two settled_too x).0 k)))
+    (λ x k. (holds_just clock ds other fs two settled_too x).1 ((same x).0 ((holds_just clock cs kept es one settled x).0 k)))
+    (λ x k. (holds_just clock cs kept es one settled x).1 ((same x).1 ((holds_just clock ds other fs two settled_too x).0 k)))
 
 -- the entries of two settled collectors together are those of a third that received what they did
-pub union_entries : (most : ℕ) (cs ds bs : List Connection) (kept other all merged : List Entry) (es fs gs : List Told) → IsArchive most all → IsArchive most merged
-    → Stands cs kept [] es → Stands ds other [] fs → Stands bs all [] gs → IsSettled cs → IsSettled ds → IsSettled bs
-    → ReceivedBoth gs es fs → IsUnion merged kept other → merged ≡ all
-union_entries most cs ds bs kept other all merged es fs gs a b one two three settled settled_too settled_three received union =
+pub union_entries : (clock : Clock) (most : ℕ) (cs ds bs : List Connection) (kept other all merged : List Entry) (es fs gs : List AcceptedEvent) → IsArchive most all → IsArchive most merged
+    → Stands clock cs kept [] es → Stands clock ds other [] fs → Stands clock bs all [] gs → IsSettled cs → IsSettled ds → IsSettled bs
+    → ReceivedBoth clock gs es fs → IsUnion merged kept other → merged ≡ all
+union_entries clock most cs ds bs kept other all merged es fs gs a b one two three settled settled_too settled_three received union =
     same_members merged all b.ascending a.ascending
-    (λ x k. (holds_just bs all gs three settled_three x).1 ((received x).1 (elim ((union x).0 k) [
-      | inl p ↦ inl ((holds_just cs kept es one settled x).0 p)
-      | inr q ↦ inr ((holds_just ds other fs two settled_too x).0 q)
+    (λ x k. (holds_just clock bs all gs three settled_three x).1 ((received x).1 (elim ((union x).0 k) [
+      | inl p ↦ inl ((holds_just clock cs kept es one settled x).0 p)
+      | inr q ↦ inr ((holds_just clock ds other fs two settled_too x).0 q)
     ])))
-    (λ x k. (union x).1 (elim ((received x).0 ((holds_just bs all gs three settled_three x).0 k)) [
-      | inl p ↦ inl ((holds_just cs kept es one settled x).1 p)
-      | inr q ↦ inr ((holds_just ds other fs two settled_too x).1 q)
+    (λ x k. (union x).1 (elim ((received x).0 ((holds_just clock bs all gs three settled_three x).0 k)) [
+      | inl p ↦ inl ((holds_just clock cs kept es one settled x).1 p)
+      | inr q ↦ inr ((holds_just clock ds other fs two settled_too x).1 q)
     ]))
-
--- after an advance that answers Ok, its outcome is that of the last frame
-pub reports_found : (c n : ℕ) (x y : Connection) (ls : List Connection) (kept now first : List Entry) (es : List Told) (piece : List ℕ) (r : Result Advance CollectFault)
-    → place_from c 0 ls ≡ Some n → x ≡ get_or ls n x → ((s : Stream) (d : List (List ℕ)) → IsAt x s d → MovesBy (accepted_octets piece r) x y kept now (answered r) s d)
-    → OnOk r (¬ (HasReady y.scanner)) → Stands ls kept first es → IfOk r (λ a. Reports c (used_octets piece a) (after nothing es) kept now (outcomes_of a.outcome))
-reports_found c n x y ls kept now first es piece (Ok a) is item moves quiet was =
-    let there = opening_at c n x ls (after nothing es).streams was.stands_at.handled was.stands_at.follow (found_here c n x ls is item) in
-    let m = moves there.opening there.handled there.at in
-    rw there.is (there.handled, m.fresh, one_settled y (longer there.opening (used_octets piece a)) (there.handled ++ m.fresh) m.now_at (λ f. quiet (inl f)), m.reported, m.marks)
-reports_found c n x y ls kept now first es piece (Err fault) is item moves quiet was = tt

@@ -1,9 +1,12 @@
 pub mod Spelling
+pub mod OneReading
+pub mod Received
 pub mod Ready
 pub mod Moving
 pub mod Gains
 pub mod Places
 pub mod Steps
+pub mod Waiting
 pub mod Headline
 pub mod Pieces
 pub mod EventRuns

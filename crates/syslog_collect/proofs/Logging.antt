@@ -1,99 +1,171 @@
--- What is logged where no frame is left ready.
-use Rattle.std.proofs.Common.{◌≡◌, ℕ, zero, suc, List, [], ◌∷◌, ◌++◌, get_or, inl, inr, append_assoc, refl, sym, ◌∙◌, ap, subst}
-use Rattle.std.specs.Prelude.{Some}
-use Rattle.std.proofs.lemmas.List.{append-nil, append_cancel_left}
-use Rattle.syslog_frame.specs.Scan.{HasFrame, HasReady}
-use Rattle.syslog_frame.proofs.FrameLaws.{unique_frames}
+-- What is logged of events, one after the other.
+use Rattle.std.proofs.Common.{◌≡◌, ◌<◌, ℕ, zero, suc, length, drop, arith, List, [], ◌∷◌, ◌++◌, get_or, set as set_at, take, inl, inr, append_assoc, refl, sym, ◌∙◌, ap, subst}
+use Rattle.std.specs.Prelude.{Some, Result, Ok, Err, IfOk, OnOk}
+use denote.Bor.{Bor}
+use Rattle.syslog_frame.specs.declared.framing.Framing.{Framing}
+use Rattle.syslog_collect.specs.Readings.{Clock}
+use Rattle.syslog_collect.specs.declared.event.Event.{Event}
+use Rattle.syslog_collect.specs.declared.event.Event.TheVariants.{Opened as event_Opened, Piece as event_Piece, Ended as event_Ended, Datagram as event_Datagram}
+use Rattle.syslog_collect.specs.declared.event.RunEnd.TheVariants.{Stopped}
+use Rattle.syslog_collect.specs.declared.fault.Advance.{Advance}
+use Rattle.syslog_collect.specs.declared.fault.CollectFault.{CollectFault}
+use Rattle.syslog_collect.specs.Answers.{Advances, AdvancesBy, accepted_octets, answered, used_octets}
+use Rattle.std.proofs.lemmas.List.{append-nil}
+use Rattle.syslog_frame.specs.Scan.{HasReady}
 use Rattle.archive_text.specs.Entries.{Entry}
 use Rattle.syslog_collect.specs.declared.connection.Connection.{Connection}
 use Rattle.syslog_collect.specs.declared.event.EventEnd.{EventEnd}
 use Rattle.syslog_collect.specs.declared.event.EventEnd.TheVariants.{Done as end_Done, Stopped as end_Stopped}
 use Rattle.syslog_collect.specs.declared.outcome.Outcome.{Outcome}
-use Rattle.syslog_collect.specs.declared.outcome.Outcome.TheVariants.{New, Held, Refused, TooLong, BadCount}
-use Rattle.syslog_collect.specs.Answers.{MarksBad}
+use Rattle.syslog_collect.specs.Outcomes.{outcomes_of}
 use Rattle.syslog_collect.specs.Frames.{IsFramesOf}
-use Rattle.syslog_collect.specs.Headline.{IsSettled}
-use Rattle.syslog_collect.specs.History.{Datagram, History, IsBad, Stream, Told, after, hear, longer, nothing, stream_of}
-use Rattle.syslog_collect.specs.Logs.{IsLogOf, LogGrows, LogsDatagram, LogsEvent}
-use Rattle.syslog_collect.specs.Outcomes.{AreReported}
-use Rattle.syslog_collect.specs.Runs.{IfDone, Logs, piece_octets, told_octets}
+use Rattle.syslog_collect.specs.History.{AcceptedEvent, History, Stream, accept, history_after, history_of, with_octets}
+use Rattle.syslog_collect.specs.Logs.{Grows, IsLogOf, LogsDatagram, LogsEvent, LogsEventEnd, LogsFirst, LogsOctets, LogsPiece, LogsRefused, LogsRun, Reports, ready_count, waiting, waiting_after}
+use Rattle.syslog_collect.specs.Runs.{IfDone, Logs, LogsAdvance, accepted_all, accepted_event, piece_octets}
 use Rattle.syslog_collect.specs.Standing.{IsAt, Stands}
-use Rattle.syslog_collect.proofs.Headline.{one_settled}
-use Rattle.syslog_collect.proofs.Places.{AtPlace, found_here, opening_at, place_from}
+use Rattle.syslog_collect.proofs.Places.{AtPlace, found_here, opening_at, place_from, set_same}
+use Rattle.syslog_collect.proofs.Waiting.{frames_waiting, place_set, ready_none, waiting_at, waiting_other, waiting_set}
 
--- no frame and no bad count, no outcome
-nothing_more : (a b : List Entry) (os : List Outcome) (s : Stream) → AreReported a b [] os → MarksBad os s → ¬ (IsBad s) → (os ≡ []) × (b ≡ a)
-nothing_more a b [] s (none, same) marks good = (refl, same)
-nothing_more a b (BadCount at ∷ os) s h marks good = absurd (good (marks.0.0, marks.0.1, at, marks.0.2))
-nothing_more a b (New ∷ os) s (here, later, mid, is, (f, e, out), more) marks good = let no : [] ≡ f ∷ later = is ∙ ap (λ (u : List (List ℕ)). u ++ later) e in absurd (cc)
-nothing_more a b (Held ∷ os) s (here, later, mid, is, (f, e, out), more) marks good = let no : [] ≡ f ∷ later = is ∙ ap (λ (u : List (List ℕ)). u ++ later) e in absurd (cc)
-nothing_more a b (Refused fault ∷ os) s (here, later, mid, is, (f, e, out), more) marks good = let no : [] ≡ f ∷ later = is ∙ ap (λ (u : List (List ℕ)). u ++ later) e in absurd (cc)
-nothing_more a b (TooLong ∷ os) s (here, later, mid, is, (f, e, out), more) marks good = let no : [] ≡ f ∷ later = is ∙ ap (λ (u : List (List ℕ)). u ++ later) e in absurd (cc)
+-- ---- octets of one connection
 
-longer_none : (s : Stream) → longer s [] ≡ s
-longer_none s = ap (λ (z : List ℕ). let t : Stream = record { number = s.number; framing = s.framing; octets = z } in t) (append-nil s.octets)
+pub logs_octets : (clock : Clock) (x y : Connection) (a b : List Entry) (o : List ℕ) (os : List Outcome) (s : Stream) (d : List (List ℕ)) → IsAt x s d → Advances clock x y a b o os s d
+    → LogsOctets clock s o (ready_count x.scanner.phase) (ready_count y.scanner.phase) a b os
+logs_octets clock x y a b o os s d at moves =
+    let before = frames_waiting x s d at in
+    let now = frames_waiting y (with_octets s o) (d ++ moves.fresh) moves.now_at in
+    record {
+      handled = d;
+      waiting_before = before.left;
+      logged = moves.fresh;
+      waiting_now = now.left;
+      before = before.frames;
+      count_before = before.count;
+      now = subst (λ (fs : List (List ℕ)). IsFramesOf (with_octets s o) fs) (append_assoc d moves.fresh now.left) now.frames;
+      count_now = now.count;
+      outcomes = moves.reported;
+      bad_count = moves.marks;
+    }
 
--- the frames of an opening go on with none
-no_fresh : (s : Stream) (d fresh : List (List ℕ)) → IsFramesOf s d → IsFramesOf s (d ++ fresh) → fresh ≡ []
-no_fresh s d fresh p q = sym (append_cancel_left d [] fresh (append-nil d ∙ (unique_frames s.framing s.octets d (d ++ fresh) p.0 q.0 p.1 q.1).0))
+-- the same by the numbers
+logs_there : (clock : Clock) (c n : ℕ) (x y : Connection) (ls : List Connection) (a b : List Entry) (o : List ℕ) (os : List Outcome) (s : Stream) (d : List (List ℕ)) → AtPlace c ls n x → IsAt x s d → Advances clock x y a b o os s d
+    → LogsOctets clock s o (waiting ls c) (ready_count y.scanner.phase) a b os
+logs_there clock c n x y ls a b o os s d here at moves = subst (λ (w : ℕ). LogsOctets clock s o w (ready_count y.scanner.phase) a b os) (sym (waiting_at c n x ls here)) (logs_octets clock x y a b o os s d at moves)
 
-piece_log : (h : History) (c : ℕ) (s : Stream) (d : List (List ℕ)) (x y : Connection) (a b : List Entry) (o : List ℕ) (l m : List Outcome) → stream_of c h.streams ≡ Some s → IsAt x s d
-    → ¬ (HasFrame x.scanner) → ¬ (HasFrame y.scanner) → Logs x y a b o l m s d → LogGrows h (told_octets c o) a b l m
-piece_log h c s d x y a b [] l m is at quiet still (os, log, inl (none, same, kept, silent)) = (os, log, (silent, kept))
-piece_log h c s d x y a b [] l m is at quiet still (os, log, inr moves) =
-    let now = subst (λ (t : Stream). IsFramesOf t (d ++ moves.fresh)) (longer_none s) (one_settled y (longer s []) (d ++ moves.fresh) moves.now_at still) in
-    let none = no_fresh s d moves.fresh (one_settled x s d at quiet) now in
-    (os, log, nothing_more a b os s (subst (λ (fs : List (List ℕ)). AreReported a b fs os) none moves.reported) (subst (λ (t : Stream). MarksBad os t) (longer_none s) moves.marks) moves.may.0)
-piece_log h c s d x y a b (z ∷ zs) l m is at quiet still (os, log, inl (none, same, kept, silent)) = absurd (cc)
-piece_log h c s d x y a b (z ∷ zs) l m is at quiet still (os, log, inr moves) = (
-  os,
-  log,
-  (
-    os,
-    [],
-    b,
-    sym (append-nil os),
-    rw is (d, moves.fresh, one_settled x s d at quiet, one_settled y (longer s (z ∷ zs)) (d ++ moves.fresh) moves.now_at still, moves.reported, moves.marks),
-    (refl, refl),
-  ),
-)
+-- after an advance that answers Ok, its outcome is that of the frame that waited, or of the next
+pub reports_found : (clock : Clock) (c n : ℕ) (x y : Connection) (ls : List Connection) (kept now first : List Entry) (es : List AcceptedEvent) (piece : List ℕ) (r : Result Advance CollectFault)
+    → place_from c 0 ls ≡ Some n → x ≡ get_or ls n x → ((s : Stream) (d : List (List ℕ)) → IsAt x s d → AdvancesBy clock (accepted_octets piece r) x y kept now (answered r) s d)
+    → OnOk r (¬ (HasReady y.scanner)) → Stands clock ls kept first es → IfOk r (λ a. Reports clock c (used_octets piece a) (history_of es) (waiting ls c) kept now (outcomes_of a.outcome))
+reports_found clock c n x y ls kept now first es piece (Ok a) is item moves quiet was =
+    let here = found_here c n x ls is item in
+    let there = opening_at c n x ls (history_of es).streams was.stands_at.handled was.stands_at.follow here in
+    let logs = logs_there clock c n x y ls kept now (used_octets piece a) (outcomes_of a.outcome) there.opening there.handled here there.at (moves there.opening there.handled there.at) in
+    rw there.is (subst (λ (k : ℕ). LogsOctets clock there.opening (used_octets piece a) (waiting ls c) k kept now (outcomes_of a.outcome)) (ready_none y.scanner.phase (λ f. quiet (inl f))) logs)
+reports_found clock c n x y ls kept now first es piece (Err fault) is item moves quiet was = tt
 
-pub settled_at : (c i : ℕ) (x : Connection) (ls : List Connection) → IsSettled ls → AtPlace c ls i x → ¬ (HasFrame x.scanner)
-settled_at c i x [] settled at = absurd at
-settled_at c zero x (l ∷ ls) settled at = subst (λ (z : Connection). ¬ (HasFrame z.scanner)) at.0 settled.0
-settled_at c (suc i) x (l ∷ ls) settled at = settled_at c i x ls settled.1 at.1
+-- ---- a piece
 
-pub piece_logged : (c n : ℕ) (x y : Connection) (ls : List Connection) (kept now first : List Entry) (es : List Told) (o : List ℕ) (r : EventEnd) (l m : List Outcome)
-    → place_from c 0 ls ≡ Some n → x ≡ get_or ls n x → ((s : Stream) (d : List (List ℕ)) → IsAt x s d → Logs x y kept now (piece_octets o r) l m s d) → IfDone r (¬ (HasReady y.scanner))
-    → Stands ls kept first es → IsSettled ls → IfDone r (LogGrows (after nothing es) (told_octets c o) kept now l m)
-piece_logged c n x y ls kept now first es o end_Done l m is item logs quiet was settled =
-    let at = found_here c n x ls is item in
-    let there = opening_at c n x ls (after nothing es).streams was.stands_at.handled was.stands_at.follow at in
-    piece_log (after nothing es) c there.opening there.handled x y kept now o l m there.is there.at (settled_at c n x ls settled at) (λ f. quiet (inl f)) (logs there.opening there.handled there.at)
-piece_logged c n x y ls kept now first es o (end_Stopped k fault) l m is item logs quiet was settled = tt
+same_number : (clock : Clock) (x y : Connection) (a b : List Entry) (o : List ℕ) (os : List Outcome) (s : Stream) (d : List (List ℕ)) → IsAt x s d → Advances clock x y a b o os s d → y.number ≡ x.number
+same_number clock x y a b o os s d at moves = moves.now_at.number ∙ sym at.number
 
--- an event without an outcome
-pub silent_event : (h : History) (e : Told) (a b : List Entry) (l m : List Outcome) → LogsEvent h e a b [] → m ≡ l → LogGrows h (e ∷ []) a b l m
-silent_event h e a b l m logs same = ([], same ∙ sym (append-nil l), ([], [], b, refl, logs, (refl, refl)))
+pub piece_logged : (clock : Clock) (c n : ℕ) (x y : Connection) (ls : List Connection) (kept now first : List Entry) (es : List AcceptedEvent) (o : List ℕ) (r : EventEnd) (l m : List Outcome)
+    → place_from c 0 ls ≡ Some n → x ≡ get_or ls n x → ((s : Stream) (d : List (List ℕ)) → IsAt x s d → Logs clock x y kept now (piece_octets o r) l m s d)
+    → ((s : Stream) (d : List (List ℕ)) → IsAt x s d → IfDone r (LogsAdvance clock x y kept now o l m s d)) → IfDone r (¬ (HasReady y.scanner))
+    → Stands clock ls kept first es → Grows (LogsPiece clock (history_of es) (waiting ls) (waiting (set_at ls n y)) c o r kept now) l m
+piece_logged clock c n x y ls kept now first es o end_Done l m is item logs accepted quiet was =
+    let here = found_here c n x ls is item in
+    let there = opening_at c n x ls (history_of es).streams was.stands_at.handled was.stands_at.follow here in
+    let done = accepted there.opening there.handled there.at in
+    let none = ready_none y.scanner.phase (λ f. quiet (inl f)) in
+    let octets = logs_there clock c n x y ls kept now o done.0 there.opening there.handled here there.at done.2 in (
+      done.0,
+      done.1,
+      (
+        rw there.is (subst (λ (k : ℕ). LogsOctets clock there.opening o (waiting ls c) k kept now done.0) none octets),
+        waiting_set c n 0 x y ls (same_number clock x y kept now o done.0 there.opening there.handled there.at done.2) here none,
+      ),
+    )
+piece_logged clock c n x y ls kept now first es o (end_Stopped k fault) l m is item logs accepted quiet was =
+    let here = found_here c n x ls is item in
+    let there = opening_at c n x ls (history_of es).streams was.stands_at.handled was.stands_at.follow here in
+    let part = logs there.opening there.handled there.at in (
+      part.0,
+      part.1,
+      elim part.2 [
+        | inl (none, same, kept_same, silent) ↦ inl (none, (silent, kept_same, λ d. ap (λ (zs : List Connection). waiting zs d) (ap (λ (z : Connection). set_at ls n z) same ∙ set_same c n x ls here)))
+        | inr moves ↦
+            let number = same_number clock x y kept now (take k o) part.0 there.opening there.handled there.at moves in
+            let octets = logs_there clock c n x y ls kept now (take k o) part.0 there.opening there.handled here there.at moves in
+            let now_there = waiting_at c n y (set_at ls n y) (place_set c n x y ls number here) in
+            inr (rw there.is (subst (λ (v : ℕ). LogsOctets clock there.opening (take k o) (waiting ls c) v kept now part.0) (sym now_there) octets), λ d ne. waiting_other c n d x y ls number here ne)
+      ],
+    )
 
-pub datagram_logged : (h : History) (o : List ℕ) (r : EventEnd) (a b : List Entry) (l m : List Outcome) → IfDone r (LogsDatagram o a b l m) → IfDone r (LogGrows h (Datagram o ∷ []) a b l m)
-datagram_logged h o end_Done a b l m (x, log, out) = (x ∷ [], log, (x ∷ [], [], b, refl, (x, refl, out), (refl, refl)))
-datagram_logged h o (end_Stopped k fault) a b l m done = tt
+-- nothing of a piece
+pub nothing_of_piece : (clock : Clock) (h : History) (w : ℕ → ℕ) (c : ℕ) (o : List ℕ) (fault : CollectFault) (a : List Entry) (l : List Outcome) → Grows (LogsPiece clock h w w c o (end_Stopped 0 fault) a a) l l
+nothing_of_piece clock h w c o fault a l = ([], sym (append-nil l), inl (refl, (refl, refl, λ d. refl)))
+
+-- ---- an event
+
+pub opened_logged : (clock : Clock) (h : History) (w v : ℕ → ℕ) (c : ℕ) (k : Framing) (r : EventEnd) (a b : List Entry) (l m : List Outcome) → m ≡ l → b ≡ a → ((d : ℕ) → v d ≡ w d) → Grows (LogsEventEnd clock h w v (event_Opened c k) r a b) l m
+opened_logged clock h w v c k end_Done a b l m same kept waits = ([], same ∙ sym (append-nil l), ((refl, kept), waits))
+opened_logged clock h w v c k (end_Stopped n fault) a b l m same kept waits = ([], same ∙ sym (append-nil l), (refl, kept, waits))
+
+pub ended_logged : (clock : Clock) (h : History) (w v : ℕ → ℕ) (c : ℕ) (r : EventEnd) (a b : List Entry) (l m : List Outcome) → m ≡ l → b ≡ a → ((d : ℕ) → v d ≡ w d) → Grows (LogsEventEnd clock h w v (event_Ended c) r a b) l m
+ended_logged clock h w v c end_Done a b l m same kept waits = ([], same ∙ sym (append-nil l), ((refl, kept), waits))
+ended_logged clock h w v c (end_Stopped n fault) a b l m same kept waits = ([], same ∙ sym (append-nil l), (refl, kept, waits))
+
+pub piece_event_logged : (clock : Clock) (h : History) (w v : ℕ → ℕ) (c : ℕ) (o : Bor (List ℕ)) (r : EventEnd) (a b : List Entry) (l m : List Outcome) → Grows (LogsPiece clock h w v c o.now r a b) l m → Grows (LogsEventEnd clock h w v (event_Piece c o) r a b) l m
+piece_event_logged clock h w v c o end_Done a b l m logs = logs
+piece_event_logged clock h w v c o (end_Stopped n fault) a b l m logs = logs
+
+pub datagram_logged : (clock : Clock) (h : History) (w v : ℕ → ℕ) (o : Bor (List ℕ)) (r : EventEnd) (a b : List Entry) (l m : List Outcome) → ((d : ℕ) → v d ≡ w d) → Grows (LogsDatagram clock o.now r a b) l m → Grows (LogsEventEnd clock h w v (event_Datagram o) r a b) l m
+datagram_logged clock h w v o end_Done a b l m waits (os, log, out) = (os, log, (out, waits))
+datagram_logged clock h w v o (end_Stopped n fault) a b l m waits (os, log, (none, same)) = (os, log, (none, same, waits))
+
+-- nothing of an event
+pub nothing_logged : (clock : Clock) (h : History) (w : ℕ → ℕ) (e : Event) (fault : CollectFault) (a : List Entry) (l m : List Outcome) → m ≡ l → Grows (LogsEventEnd clock h w w e (end_Stopped 0 fault) a a) l m
+nothing_logged clock h w (event_Opened c k) fault a l m same = ([], same ∙ sym (append-nil l), (refl, refl, λ d. refl))
+nothing_logged clock h w (event_Piece c o) fault a l m same = ([], same ∙ sym (append-nil l), inl (refl, (refl, refl, λ d. refl)))
+nothing_logged clock h w (event_Ended c) fault a l m same = ([], same ∙ sym (append-nil l), (refl, refl, λ d. refl))
+nothing_logged clock h w (event_Datagram o) fault a l m same = ([], same ∙ sym (append-nil l), (refl, refl, λ d. refl))
 
 -- ---- one event after the other
 
-pub after-append : (h : History) (es fs : List Told) → after h (es ++ fs) ≡ after (after h es) fs
-after-append h [] fs = refl
-after-append h (e ∷ es) fs = after-append (hear h e) es fs
+pub history_after-append : (h : History) (es fs : List AcceptedEvent) → history_after h (es ++ fs) ≡ history_after (history_after h es) fs
+history_after-append h [] fs = refl
+history_after-append h (e ∷ es) fs = history_after-append (accept h e) es fs
 
-log_then : (h : History) (es fs : List Told) (a b c : List Entry) (os ps : List Outcome) → IsLogOf h es a b os → IsLogOf (after h es) fs b c ps → IsLogOf h (es ++ fs) a c (os ++ ps)
-log_then h [] fs a b c os ps (none, same) later =
-    subst (λ (u : List Outcome). IsLogOf h fs a c (u ++ ps)) (sym none) (subst (λ (u : List Entry). IsLogOf h fs u c ps) same later)
-log_then h (e ∷ es) fs a b c os ps (here, rest, mid, is, one, more) later =
-    (here, rest ++ ps, mid, ap (λ (u : List Outcome). u ++ ps) is ∙ append_assoc here rest ps, one, log_then (hear h e) es fs mid b c rest ps more later)
+log_push : (clock : Clock) (h : History) (w : ℕ → ℕ) (es : List AcceptedEvent) (e : AcceptedEvent) (u v : ℕ → ℕ) (a b c : List Entry) (os ps : List Outcome) → IsLogOf clock h w es u a b os
+    → LogsEvent clock (history_after h es) u e b c ps → ((d : ℕ) → v d ≡ waiting_after u e d) → IsLogOf clock h w (es ++ e ∷ []) v a c (os ++ ps)
+log_push clock h w [] e u v a b c os ps (none, same, is) logs waits =
+    let all : u ≡ w = λ i d. is d i in (
+      ps,
+      [],
+      c,
+      ap (λ (z : List Outcome). z ++ ps) none ∙ sym (append-nil ps),
+      subst (λ (k : List Entry). LogsEvent clock h w e k c ps) same (subst (λ (f : ℕ → ℕ). LogsEvent clock h f e b c ps) all logs),
+      (refl, refl, λ d. waits d ∙ ap (λ (f : ℕ → ℕ). waiting_after f e d) all),
+    )
+log_push clock h w (f ∷ es) e u v a b c os ps (here, later, mid, is, one, more) logs waits =
+    (here, later ++ ps, mid, ap (λ (z : List Outcome). z ++ ps) is ∙ append_assoc here later ps, one, log_push clock (accept h f) (waiting_after w f) es e u v mid b c later ps more logs waits)
 
-pub grows_then : (h : History) (es fs : List Told) (a b c : List Entry) (l m n : List Outcome) → LogGrows h es a b l m → LogGrows (after h es) fs b c m n → LogGrows h (es ++ fs) a c l n
-grows_then h es fs a b c l m n (os, log, is) (ps, more, later) = (os ++ ps, more ∙ ap (λ (u : List Outcome). u ++ ps) log ∙ append_assoc l os ps, log_then h es fs a b c os ps is later)
+pub grows_push : (clock : Clock) (h : History) (w : ℕ → ℕ) (es : List AcceptedEvent) (e : Event) (u v : ℕ → ℕ) (a b c : List Entry) (l m n : List Outcome) → Grows (IsLogOf clock h w es u a b) l m
+    → Grows (LogsEventEnd clock (history_after h es) u v e end_Done b c) m n → Grows (IsLogOf clock h w (es ++ accepted_event e ∷ []) v a c) l n
+grows_push clock h w es e u v a b c l m n (os, log, is) (ps, more, (logs, waits)) =
+    (os ++ ps, more ∙ ap (λ (z : List Outcome). z ++ ps) log ∙ append_assoc l os ps, log_push clock h w es (accepted_event e) u v a b c os ps is logs waits)
 
-pub grows_none : (h : History) (a : List Entry) (l : List Outcome) → LogGrows h [] a a l l
-grows_none h a l = ([], sym (append-nil l), (refl, refl))
+pub grows_none : (clock : Clock) (h : History) (w : ℕ → ℕ) (a : List Entry) (l : List Outcome) → Grows (IsLogOf clock h w [] w a a) l l
+grows_none clock h w a l = ([], sym (append-nil l), (refl, refl, λ d. refl))
+
+first_here : (clock : Clock) (h : History) (w v : ℕ → ℕ) (es : List Event) (n k : ℕ) (d : Event) (a b : List Entry) (os : List Outcome) → n < length es → LogsRefused clock h w v (get_or es n d) k a b os → LogsFirst clock h w v (drop n es) k a b os
+first_here clock h w v [] n k d a b os lt logs = absurd (omega arith)
+first_here clock h w v (e ∷ es) zero k d a b os lt logs = logs
+first_here clock h w v (e ∷ es) (suc n) k d a b os lt logs = first_here clock h w v es n k d a b os (omega arith) logs
+
+pub run_stopped : (clock : Clock) (h : History) (w u v : ℕ → ℕ) (es : List Event) (n k : ℕ) (fault : CollectFault) (d : Event) (a b c : List Entry) (l m t : List Outcome) → n < length es → Grows (IsLogOf clock h w (accepted_all (take n es)) u a b) l m
+    → Grows (LogsEventEnd clock (history_after h (accepted_all (take n es))) u v (get_or es n d) (end_Stopped k fault) b c) m t → Grows (LogsRun clock h w v es (Stopped n k fault) a c) l t
+run_stopped clock h w u v es n k fault d a b c l m t lt (os, log, is) (ps, more, logs) = (
+  os ++ ps,
+  more ∙ ap (λ (z : List Outcome). z ++ ps) log ∙ append_assoc l os ps,
+  (u, os, ps, b, refl, is, first_here clock (history_after h (accepted_all (take n es))) u v es n k d b c ps lt logs),
+)

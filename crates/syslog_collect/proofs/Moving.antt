@@ -20,11 +20,12 @@ use Rattle.syslog_frame.proofs.FrameLaws.{unique_frames}
 use Rattle.syslog_frame.proofs.Reading.{frames_read, frames_with}
 use Rattle.syslog_frame.proofs.Standing.{whole_ended}
 use Rattle.archive_text.specs.Entries.{Entry}
+use Rattle.syslog_collect.specs.Readings.{Clock}
 use Rattle.syslog_collect.specs.declared.connection.Connection.{Connection}
 use Rattle.syslog_collect.specs.declared.outcome.Outcome.{Outcome}
-use Rattle.syslog_collect.specs.declared.outcome.Outcome.TheVariants.{New, Held, Refused, TooLong, BadCount}
-use Rattle.syslog_collect.specs.Answers.{EndsInRecord, MarksBad, Moves, accepted_count}
-use Rattle.syslog_collect.specs.History.{IsBad, Stream, longer}
+use Rattle.syslog_collect.specs.declared.outcome.Outcome.TheVariants.{New, Held, Refused, RefusedLegacy, TooLong, BadCount}
+use Rattle.syslog_collect.specs.Answers.{EndsInRecord, ReportsBadCount, Advances, accepted_count}
+use Rattle.syslog_collect.specs.History.{HoldsBadCount, Stream, with_octets}
 use Rattle.syslog_collect.specs.Outcomes.{HandlesFrame, HandlesReady, HasRecord, IsOutcome, IsReported, outcomes_of}
 use Rattle.syslog_collect.specs.Standing.{IsAt, IsOpenAt}
 
@@ -34,10 +35,10 @@ begins_nothing Counted = (framed Counted (0 ∷ []), (0 ∷ [], ((omega arith, o
 begins_nothing Lf = (framed Lf [], ([], (tt, refl)))
 
 -- where a stream's rest begins a frame, it holds no bad count
-not_bad : (s : Stream) (frames : List (List ℕ)) (rest : List ℕ) → Frames s.framing s.octets frames rest → Begins (Whole s.framing) rest → ¬ (IsBad s)
+not_bad : (s : Stream) (frames : List (List ℕ)) (rest : List ℕ) → Frames s.framing s.octets frames rest → Begins (Whole s.framing) rest → ¬ (HoldsBadCount s)
 not_bad s frames rest are begins (fs, q, at, bad) = bad.none (subst (Begins (Whole s.framing)) (unique_frames s.framing s.octets frames fs rest q are bad.frames_are).1 begins)
 
-ended_or_not : (phase : Phase) → (phase ≡ Ended) ⊎ (phase ≢ Ended)
+pub ended_or_not : (phase : Phase) → (phase ≡ Ended) ⊎ (phase ≢ Ended)
 ended_or_not Ended = inl refl
 ended_or_not Counting = inr (λ e. absurd (cc))
 ended_or_not Inside = inr (λ e. absurd (cc))
@@ -45,7 +46,7 @@ ended_or_not phase_BadCount = inr (λ e. absurd (cc))
 ended_or_not Failed = inr (λ e. absurd (cc))
 
 -- the octets that an open connection has taken hold no bad count
-pub good_open : (scanner : Scan) (s : Stream) (handled : List (List ℕ)) → IsOpenAt scanner s handled → ¬ (IsBad s)
+pub good_open : (scanner : Scan) (s : Stream) (handled : List (List ℕ)) → IsOpenAt scanner s handled → ¬ (HoldsBadCount s)
 good_open scanner s handled at =
     elim (ended_or_not scanner.phase) [
       | inl ended ↦
@@ -62,7 +63,7 @@ pub open_unless_failed : (c : Connection) (s : Stream) (handled : List (List ℕ
 open_unless_failed c s handled live at = elim at.scanner [ inl here ↦ here | inr broken ↦ absurd (live broken.failed) ]
 
 -- one that has, holds a bad count
-pub bad_where_failed : (c : Connection) (s : Stream) (handled : List (List ℕ)) → IsFailed c.scanner → IsAt c s handled → IsBad s
+pub bad_where_failed : (c : Connection) (s : Stream) (handled : List (List ℕ)) → IsFailed c.scanner → IsAt c s handled → HoldsBadCount s
 bad_where_failed c s handled failed at = elim at.scanner [
   | inl here ↦ absurd (stands_not_failed FRAME_MAX c.scanner s.framing (0 + length s.octets) here.rest here.reads.stands failed)
   | inr broken ↦ (handled, broken.rest, broken.offset, broken.bad)
@@ -149,12 +150,12 @@ take_past octets piece n m lt =
     append_assoc octets (take (n + 1) piece) (take (m - (n + 1)) (drop (n + 1) piece))
     ∙ ap (λ (u : List ℕ). octets ++ u) (sym (take_add (n + 1) (m - (n + 1)) piece) ∙ ap (λ (k : ℕ). take k piece) (sym e))
 
-module _ (old new : Connection) (kept_old kept_new : List Entry) (s : Stream) (handled : List (List ℕ)) (piece : List ℕ) (n : ℕ) (number : new.number ≡ s.number) (at : IsOpenAt old.scanner s handled) where
+module _ (clock : Clock) (old new : Connection) (kept_old kept_new : List Entry) (s : Stream) (handled : List (List ℕ)) (piece : List ℕ) (n : ℕ) (number : new.number ≡ s.number) (at : IsOpenAt old.scanner s handled) where
   within_bound : (mid : Scan) → IsPushed old.scanner mid piece n → length s.octets + n ≤ POSITION_MAX
   within_bound mid p = omega (arith, position_of old.scanner s handled at, p.position, p.bound)
 
   -- octets were taken, and no frame was handled
-  pub takes_octets : IsPushed old.scanner new.scanner piece n → ¬ (HasBadCount new.scanner) → kept_new ≡ kept_old → Moves old new kept_old kept_new (take n piece) [] s handled
+  pub takes_octets : IsPushed old.scanner new.scanner piece n → ¬ (HasBadCount new.scanner) → kept_new ≡ kept_old → Advances clock old new kept_old kept_new (take n piece) [] s handled
   takes_octets p good kept = record {
     may = (good_open old.scanner s handled at, few s piece n (within_bound new.scanner p));
     fresh = [];
@@ -167,7 +168,7 @@ module _ (old new : Connection) (kept_old kept_new : List Entry) (s : Stream) (h
       });
     };
     reported = (refl, kept);
-    marks = good_open new.scanner (longer s (take n piece)) handled (record {
+    marks = good_open new.scanner (with_octets s (take n piece)) handled (record {
       rest = at.rest ++ take n piece;
       reads = (p.reads s.framing 0 s.octets handled at.rest at.reads at.good).reads;
       good = good;
@@ -175,8 +176,8 @@ module _ (old new : Connection) (kept_old kept_new : List Entry) (s : Stream) (h
   }
 
   -- a frame was handled
-  pub handles_frame : (mid : Scan) (o : Outcome) → IsPushed old.scanner mid piece n → IsReleased mid new.scanner → HandlesFrame mid kept_old kept_new o
-      → ((f : List ℕ) → IsOutcome kept_old kept_new f o → IsReported kept_old kept_new (f ∷ []) o) → ((t : Stream) → ¬ (IsBad t) → MarksBad (o ∷ []) t) → Moves old new kept_old kept_new (take n piece) (o ∷ []) s handled
+  pub handles_frame : (mid : Scan) (o : Outcome) → IsPushed old.scanner mid piece n → IsReleased mid new.scanner → HandlesFrame clock mid kept_old kept_new o
+      → ((f : List ℕ) → IsOutcome clock kept_old kept_new f o → IsReported clock kept_old kept_new (f ∷ []) o) → ((t : Stream) → ¬ (HoldsBadCount t) → ReportsBadCount (o ∷ []) t) → Advances clock old new kept_old kept_new (take n piece) (o ∷ []) s handled
   handles_frame mid o p r (ready, h) reports unmarked =
       let on = (p.reads s.framing 0 s.octets handled at.rest at.reads at.good).reads in
       let f = h s.framing 0 (s.octets ++ take n piece) handled (at.rest ++ take n piece) on in
@@ -192,7 +193,7 @@ module _ (old new : Connection) (kept_old kept_new : List Entry) (s : Stream) (h
           });
         };
         reported = (f.0 ∷ [], [], kept_new, refl, reports f.0 f.2, (refl, refl));
-        marks = unmarked (longer s (take n piece)) (good_open new.scanner (longer s (take n piece)) (handled ++ f.0 ∷ []) (record {
+        marks = unmarked (with_octets s (take n piece)) (good_open new.scanner (with_octets s (take n piece)) (handled ++ f.0 ∷ []) (record {
           rest = [];
           reads = r.reads s.framing 0 (s.octets ++ take n piece) handled (at.rest ++ take n piece) f.0 on f.1;
           good = λ bad. (r.frame ready).0 (inr bad);
@@ -201,7 +202,7 @@ module _ (old new : Connection) (kept_old kept_new : List Entry) (s : Stream) (h
 
   -- a bad count was met, and released; m octets are accepted
   pub breaks : (mid : Scan) (offset m : ℕ) → offset ≡ mid.position → IsPushed old.scanner mid piece n → IsReleased mid new.scanner → HasBadCount mid → n < m → m ≤ length piece → kept_new ≡ kept_old
-      → Moves old new kept_old kept_new (take m piece) (BadCount offset ∷ []) s handled
+      → Advances clock old new kept_old kept_new (take m piece) (BadCount offset ∷ []) s handled
   breaks mid offset m at_is p r bad lt le kept =
       let on = p.reads s.framing 0 s.octets handled at.rest at.reads at.good in
       let more = take (m - (n + 1)) (drop (n + 1) piece) in
@@ -232,16 +233,16 @@ module _ (old new : Connection) (kept_old kept_new : List Entry) (s : Stream) (h
       }
 
 -- what is ready after a push was handled and released
-pub advanced : (old new : Connection) (mid : Scan) (kept_old kept_new : List Entry) (piece : List ℕ) (n m : ℕ) (o : Option Outcome) (s : Stream) (handled : List (List ℕ))
-    → new.number ≡ old.number → IsPushed old.scanner mid piece n → HandlesReady mid kept_old kept_new o → IsReleased mid new.scanner → (n < length piece → (n < m) × (m ≤ length piece))
-    → IsAt old s handled → Moves old new kept_old kept_new (take (accepted_count m n o) piece) (outcomes_of o) s handled
-advanced old new mid kept_old kept_new piece n m None s handled number p (quiet, same) r bounds at =
+pub advanced : (clock : Clock) (old new : Connection) (mid : Scan) (kept_old kept_new : List Entry) (piece : List ℕ) (n m : ℕ) (o : Option Outcome) (s : Stream) (handled : List (List ℕ))
+    → new.number ≡ old.number → IsPushed old.scanner mid piece n → HandlesReady clock mid kept_old kept_new o → IsReleased mid new.scanner → (n < length piece → (n < m) × (m ≤ length piece))
+    → IsAt old s handled → Advances clock old new kept_old kept_new (take (accepted_count m n o) piece) (outcomes_of o) s handled
+advanced clock old new mid kept_old kept_new piece n m None s handled number p (quiet, same) r bounds at =
     let here = open_unless_failed old s handled p.live at in
     let unready : ¬ (HasReady mid) = λ ready. elim quiet [
       | inl reading ↦ reading.0 ready
       | inr failed ↦ elim ready [ inl frame ↦ absurd (apart mid.phase frame failed) | inr bad ↦ absurd (apart_bad mid.phase bad failed) ]
     ] in
-    takes_octets old new kept_old kept_new s handled piece n (number ∙ at.number) here (subst (λ (z : Scan). IsPushed old.scanner z piece n) (sym (r.same unready)) p)
+    takes_octets clock old new kept_old kept_new s handled piece n (number ∙ at.number) here (subst (λ (z : Scan). IsPushed old.scanner z piece n) (sym (r.same unready)) p)
     (λ z. unready (inr (subst HasBadCount (r.same unready) z))) same
   where
     apart : (phase : Phase) → phase ≡ Ended → phase ≡ Failed → ⊥
@@ -249,41 +250,43 @@ advanced old new mid kept_old kept_new piece n m None s handled number p (quiet,
 
     apart_bad : (phase : Phase) → phase ≡ phase_BadCount → phase ≡ Failed → ⊥
     apart_bad phase a b = absurd cc
-advanced old new mid kept_old kept_new piece n m (Some (BadCount offset)) s handled number p (bad, at_is, same) r bounds at =
+advanced clock old new mid kept_old kept_new piece n m (Some (BadCount offset)) s handled number p (bad, at_is, same) r bounds at =
     let here = open_unless_failed old s handled p.live at in
     let some = bounds (p.takes bad s.framing 0 s.octets handled here.rest here.reads here.good) in
-    breaks old new kept_old kept_new s handled piece n (number ∙ at.number) here mid offset m at_is p r bad some.0 some.1 same
-advanced old new mid kept_old kept_new piece n m (Some New) s handled number p h r bounds at =
-    handles_frame old new kept_old kept_new s handled piece n (number ∙ at.number) (open_unless_failed old s handled p.live at) mid New p r h (λ f out. (f, refl, out)) (λ t good. good)
-advanced old new mid kept_old kept_new piece n m (Some Held) s handled number p h r bounds at =
-    handles_frame old new kept_old kept_new s handled piece n (number ∙ at.number) (open_unless_failed old s handled p.live at) mid Held p r h (λ f out. (f, refl, out)) (λ t good. good)
-advanced old new mid kept_old kept_new piece n m (Some (Refused fault)) s handled number p h r bounds at =
-    handles_frame old new kept_old kept_new s handled piece n (number ∙ at.number) (open_unless_failed old s handled p.live at) mid (Refused fault) p r h (λ f out. (f, refl, out)) (λ t good. good)
-advanced old new mid kept_old kept_new piece n m (Some TooLong) s handled number p h r bounds at =
-    handles_frame old new kept_old kept_new s handled piece n (number ∙ at.number) (open_unless_failed old s handled p.live at) mid TooLong p r h (λ f out. (f, refl, out)) (λ t good. good)
+    breaks clock old new kept_old kept_new s handled piece n (number ∙ at.number) here mid offset m at_is p r bad some.0 some.1 same
+advanced clock old new mid kept_old kept_new piece n m (Some New) s handled number p h r bounds at =
+    handles_frame clock old new kept_old kept_new s handled piece n (number ∙ at.number) (open_unless_failed old s handled p.live at) mid New p r h (λ f out. (f, refl, out)) (λ t good. good)
+advanced clock old new mid kept_old kept_new piece n m (Some Held) s handled number p h r bounds at =
+    handles_frame clock old new kept_old kept_new s handled piece n (number ∙ at.number) (open_unless_failed old s handled p.live at) mid Held p r h (λ f out. (f, refl, out)) (λ t good. good)
+advanced clock old new mid kept_old kept_new piece n m (Some (Refused fault)) s handled number p h r bounds at =
+    handles_frame clock old new kept_old kept_new s handled piece n (number ∙ at.number) (open_unless_failed old s handled p.live at) mid (Refused fault) p r h (λ f out. (f, refl, out)) (λ t good. good)
+advanced clock old new mid kept_old kept_new piece n m (Some (RefusedLegacy offset)) s handled number p h r bounds at =
+    handles_frame clock old new kept_old kept_new s handled piece n (number ∙ at.number) (open_unless_failed old s handled p.live at) mid (RefusedLegacy offset) p r h (λ f out. (f, refl, out)) (λ t good. good)
+advanced clock old new mid kept_old kept_new piece n m (Some TooLong) s handled number p h r bounds at =
+    handles_frame clock old new kept_old kept_new s handled piece n (number ∙ at.number) (open_unless_failed old s handled p.live at) mid TooLong p r h (λ f out. (f, refl, out)) (λ t good. good)
 
 -- octets were taken, and the memory of the frame that is ready was refused
-pub waiting : (old new : Connection) (kept_old kept_new : List Entry) (piece : List ℕ) (n : ℕ) (s : Stream) (handled : List (List ℕ))
+pub waiting : (clock : Clock) (old new : Connection) (kept_old kept_new : List Entry) (piece : List ℕ) (n : ℕ) (s : Stream) (handled : List (List ℕ))
     → new.number ≡ old.number → IsPushed old.scanner new.scanner piece n → HasFrame new.scanner → kept_new ≡ kept_old → IsAt old s handled
-    → Moves old new kept_old kept_new (take n piece) [] s handled
-waiting old new kept_old kept_new piece n s handled number p frame kept at =
-    takes_octets old new kept_old kept_new s handled piece n (number ∙ at.number) (open_unless_failed old s handled p.live at) p (λ bad. bad_not_frame new.scanner bad frame) kept
+    → Advances clock old new kept_old kept_new (take n piece) [] s handled
+waiting clock old new kept_old kept_new piece n s handled number p frame kept at =
+    takes_octets clock old new kept_old kept_new s handled piece n (number ∙ at.number) (open_unless_failed old s handled p.live at) p (λ bad. bad_not_frame new.scanner bad frame) kept
 
 -- why a piece is too long
 pub too_long : (c : Connection) (s : Stream) (handled : List (List ℕ)) (piece : List ℕ) → IsReading c.scanner → POSITION_MAX < c.scanner.position + length piece → IsAt c s handled
-    → ¬ (IsBad s) × (POSITION_MAX < length s.octets + length piece)
+    → ¬ (HoldsBadCount s) × (POSITION_MAX < length s.octets + length piece)
 too_long c s handled piece reading lt at =
     let here = open_unless_failed c s handled reading.1 at in
     (good_open c.scanner s handled here, omega (arith, position_of c.scanner s handled here, lt))
 
 -- a connection that has not failed holds no bad count
-pub good_unless_failed : (c : Connection) (s : Stream) (handled : List (List ℕ)) → ¬ (IsFailed c.scanner) → IsAt c s handled → ¬ (IsBad s)
+pub good_unless_failed : (c : Connection) (s : Stream) (handled : List (List ℕ)) → ¬ (IsFailed c.scanner) → IsAt c s handled → ¬ (HoldsBadCount s)
 good_unless_failed c s handled live at = good_open c.scanner s handled (open_unless_failed c s handled live at)
 
 -- memory was refused for a record
-pub waiting_record : (c : Connection) (mid : Scan) (s : Stream) (handled : List (List ℕ)) (piece : List ℕ) (n : ℕ) → IsPushed c.scanner mid piece n → HasRecord mid → IsAt c s handled
-    → ¬ (IsBad s) × EndsInRecord s (take n piece)
-waiting_record c mid s handled piece n p record_ready at =
+pub waiting_record : (clock : Clock) (c : Connection) (mid : Scan) (s : Stream) (handled : List (List ℕ)) (piece : List ℕ) (n : ℕ) → IsPushed c.scanner mid piece n → HasRecord clock mid → IsAt c s handled
+    → ¬ (HoldsBadCount s) × EndsInRecord clock s (take n piece)
+waiting_record clock c mid s handled piece n p record_ready at =
     let here = open_unless_failed c s handled p.live at in
     let on = (p.reads s.framing 0 s.octets handled here.rest here.reads here.good).reads in
     let f = record_ready s.framing 0 (s.octets ++ take n piece) handled (here.rest ++ take n piece) on in

@@ -7,87 +7,113 @@ use Rattle.syslog_frame.specs.declared.phase.Phase.{Phase}
 use Rattle.syslog_frame.specs.declared.phase.Phase.TheVariants.{Counting, Inside, Ended as phase_Ended, BadCount as phase_BadCount, Failed}
 use Rattle.syslog_frame.proofs.Cuts.{take_add}
 use Rattle.archive_text.specs.Entries.{Entry}
+use Rattle.syslog_collect.specs.Readings.{Clock}
 use Rattle.syslog_collect.specs.declared.connection.Connection.{Connection}
 use Rattle.syslog_collect.specs.declared.fault.CollectFault.{CollectFault}
 use Rattle.syslog_collect.specs.declared.fault.CollectFault.TheVariants.{AlreadyOpen, TooManyOpen, NotOpen, ConnFailed, StreamTooLong, Unreleased, Unterminated, Memory}
 use Rattle.syslog_collect.specs.declared.outcome.Outcome.{Outcome}
-use Rattle.syslog_collect.specs.declared.outcome.Outcome.TheVariants.{New, Held, Refused, TooLong, BadCount}
-use Rattle.syslog_collect.specs.Answers.{IsBadCount, IsUsedWithin, MarksBad, Moves, MovesBy, accepted_count, dropped_octets}
-use Rattle.syslog_collect.specs.History.{IsBad, Stream, longer}
+use Rattle.syslog_collect.specs.declared.outcome.Outcome.TheVariants.{New, Held, Refused, RefusedLegacy, TooLong, BadCount}
+use Rattle.syslog_collect.specs.Answers.{IsBadCount, IsUsedWithin, ReportsBadCount, Advances, AdvancesBy, accepted_count, dropped_octets}
+use Rattle.syslog_collect.specs.History.{HoldsBadCount, Stream, with_octets}
 use Rattle.syslog_collect.specs.Outcomes.{AreReported, outcomes_of}
-use Rattle.syslog_collect.specs.Runs.{Logs, MovesOrStays, pending, used_before}
+use Rattle.syslog_collect.specs.Runs.{Logs, LogsAdvance, AdvancesOrStays, pending, used_before}
 use Rattle.syslog_collect.specs.Standing.{IsAt}
 
 -- ---- reports, one after the other
 
-pub reported_then : (a b c : List Entry) (fs gs : List (List ℕ)) (os ps : List Outcome) → AreReported a b fs os → AreReported b c gs ps → AreReported a c (fs ++ gs) (os ++ ps)
-reported_then a b c fs gs [] ps (none, same) later = subst (λ (z : List (List ℕ)). AreReported a c (z ++ gs) ps) (sym none) (subst (λ (z : List Entry). AreReported z c gs ps) same later)
-reported_then a b c fs gs (o ∷ os) ps (here, rest, mid, is, one, more) later =
-    (here, rest ++ gs, mid, ap (λ (z : List (List ℕ)). z ++ gs) is ∙ append_assoc here rest gs, one, reported_then mid b c rest gs os ps more later)
+pub reported_then : (clock : Clock) (a b c : List Entry) (fs gs : List (List ℕ)) (os ps : List Outcome) → AreReported clock a b fs os → AreReported clock b c gs ps → AreReported clock a c (fs ++ gs) (os ++ ps)
+reported_then clock a b c fs gs [] ps (none, same) later = subst (λ (z : List (List ℕ)). AreReported clock a c (z ++ gs) ps) (sym none) (subst (λ (z : List Entry). AreReported clock z c gs ps) same later)
+reported_then clock a b c fs gs (o ∷ os) ps (here, rest, mid, is, one, more) later =
+    (here, rest ++ gs, mid, ap (λ (z : List (List ℕ)). z ++ gs) is ∙ append_assoc here rest gs, one, reported_then clock mid b c rest gs os ps more later)
 
 -- ---- moves, one after the other
 
-longer_twice : (s : Stream) (o p : List ℕ) → longer (longer s o) p ≡ longer s (o ++ p)
-longer_twice s o p = ap (λ (z : List ℕ). let t : Stream = record { number = s.number; framing = s.framing; octets = z } in t) (append_assoc s.octets o p)
+with_octets_twice : (s : Stream) (o p : List ℕ) → with_octets (with_octets s o) p ≡ with_octets s (o ++ p)
+with_octets_twice s o p = ap (λ (z : List ℕ). let t : Stream = record { number = s.number; framing = s.framing; octets = z } in t) (append_assoc s.octets o p)
 
 -- outcomes of octets that hold no bad count, and of more octets
-marks_then : (os ps : List Outcome) (s t : Stream) → ¬ (IsBad s) → MarksBad os s → MarksBad ps t → MarksBad (os ++ ps) t
+marks_then : (os ps : List Outcome) (s t : Stream) → ¬ (HoldsBadCount s) → ReportsBadCount os s → ReportsBadCount ps t → ReportsBadCount (os ++ ps) t
 marks_then [] ps s t good h k = k
 marks_then (BadCount at ∷ os) ps s t good h k = absurd (good (h.0.0, h.0.1, at, h.0.2))
 marks_then (New ∷ os) ps s t good h k = marks_then os ps s t good h k
 marks_then (Held ∷ os) ps s t good h k = marks_then os ps s t good h k
 marks_then (Refused fault ∷ os) ps s t good h k = marks_then os ps s t good h k
+marks_then (RefusedLegacy offset ∷ os) ps s t good h k = marks_then os ps s t good h k
 marks_then (TooLong ∷ os) ps s t good h k = marks_then os ps s t good h k
 
-moves_then : (x y z : Connection) (a b c : List Entry) (o p : List ℕ) (os ps : List Outcome) (s : Stream) (d : List (List ℕ)) → (m : Moves x y a b o os s d)
-    → Moves y z b c p ps (longer s o) (d ++ m.fresh) → Moves x z a c (o ++ p) (os ++ ps) s d
-moves_then x y z a b c o p os ps s d m n = record {
+moves_then : (clock : Clock) (x y z : Connection) (a b c : List Entry) (o p : List ℕ) (os ps : List Outcome) (s : Stream) (d : List (List ℕ)) → (m : Advances clock x y a b o os s d)
+    → Advances clock y z b c p ps (with_octets s o) (d ++ m.fresh) → Advances clock x z a c (o ++ p) (os ++ ps) s d
+moves_then clock x y z a b c o p os ps s d m n = record {
   may = (m.may.0, omega (arith, n.may.1, length-append s.octets o, length-append o p));
   fresh = m.fresh ++ n.fresh;
-  now_at = subst (λ (t : Stream). IsAt z t (d ++ (m.fresh ++ n.fresh))) (longer_twice s o p) (subst (λ (fs : List (List ℕ)). IsAt z (longer (longer s o) p) fs) (append_assoc d m.fresh n.fresh) n.now_at);
-  reported = reported_then a b c m.fresh n.fresh os ps m.reported n.reported;
-  marks = subst (λ (t : Stream). MarksBad (os ++ ps) t) (longer_twice s o p) (marks_then os ps (longer s o) (longer (longer s o) p) n.may.0 m.marks n.marks);
+  now_at = subst (λ (t : Stream). IsAt z t (d ++ (m.fresh ++ n.fresh))) (with_octets_twice s o p) (subst (λ (fs : List (List ℕ)). IsAt z (with_octets (with_octets s o) p) fs) (append_assoc d m.fresh n.fresh) n.now_at);
+  reported = reported_then clock a b c m.fresh n.fresh os ps m.reported n.reported;
+  marks = subst (λ (t : Stream). ReportsBadCount (os ++ ps) t) (with_octets_twice s o p) (marks_then os ps (with_octets s o) (with_octets (with_octets s o) p) n.may.0 m.marks n.marks);
 }
 
--- what was logged of octets, and then of more
-pub logs_then : (x y z : Connection) (a b c : List Entry) (o p : List ℕ) (l m n : List Outcome) (s : Stream) (d : List (List ℕ)) → IsAt x s d → Logs x y a b o l m s d
-    → ((t : Stream) (e : List (List ℕ)) → IsAt y t e → Logs y z b c p m n t e) → Logs x z a c (o ++ p) l n s d
-logs_then x y z a b c o p l m n s d at (os, log, inl (none, same, kept, quiet)) next =
+-- what was logged of octets, and then of more that moved it
+logs_then_advance : (clock : Clock) (x y z : Connection) (a b c : List Entry) (o p : List ℕ) (l m n : List Outcome) (s : Stream) (d : List (List ℕ)) → IsAt x s d → Logs clock x y a b o l m s d
+    → ((t : Stream) (e : List (List ℕ)) → IsAt y t e → LogsAdvance clock y z b c p m n t e) → LogsAdvance clock x z a c (o ++ p) l n s d
+logs_then_advance clock x y z a b c o p l m n s d at (os, log, inl (none, same, kept, quiet)) next =
     let second = next s d (subst (λ (w : Connection). IsAt w s d) (sym same) at) in (
       second.0,
       second.1 ∙ ap (λ (u : List Outcome). u ++ second.0) (log ∙ ap (λ (u : List Outcome). l ++ u) quiet ∙ append-nil l),
-      subst (λ (u : List ℕ). MovesOrStays x z a c (u ++ p) second.0 s d) (sym none)
-          (subst (λ (w : Connection). MovesOrStays w z a c p second.0 s d) same (subst (λ (w : List Entry). MovesOrStays y z w c p second.0 s d) kept second.2)),
+      subst (λ (u : List ℕ). Advances clock x z a c (u ++ p) second.0 s d) (sym none)
+          (subst (λ (w : Connection). Advances clock w z a c p second.0 s d) same (subst (λ (w : List Entry). Advances clock y z w c p second.0 s d) kept second.2)),
     )
-logs_then x y z a b c o p l m n s d at (os, log, inr moved) next =
-    let second = next (longer s o) (d ++ moved.fresh) moved.now_at in (
+logs_then_advance clock x y z a b c o p l m n s d at (os, log, inr moved) next =
+    let second = next (with_octets s o) (d ++ moved.fresh) moved.now_at in (
+      os ++ second.0,
+      second.1 ∙ ap (λ (u : List Outcome). u ++ second.0) log ∙ append_assoc l os second.0,
+      moves_then clock x y z a b c o p os second.0 s d moved second.2,
+    )
+
+pub logs_on_advance : (clock : Clock) (x y z : Connection) (a b c : List Entry) (o p whole : List ℕ) (l m n : List Outcome) (s : Stream) (d : List (List ℕ)) → o ++ p ≡ whole → IsAt x s d → Logs clock x y a b o l m s d
+    → ((t : Stream) (e : List (List ℕ)) → IsAt y t e → LogsAdvance clock y z b c p m n t e) → LogsAdvance clock x z a c whole l n s d
+logs_on_advance clock x y z a b c o p whole l m n s d is at first next = subst (λ (u : List ℕ). LogsAdvance clock x z a c u l n s d) is (logs_then_advance clock x y z a b c o p l m n s d at first next)
+
+-- what was logged of octets, and then of more
+pub logs_then : (clock : Clock) (x y z : Connection) (a b c : List Entry) (o p : List ℕ) (l m n : List Outcome) (s : Stream) (d : List (List ℕ)) → IsAt x s d → Logs clock x y a b o l m s d
+    → ((t : Stream) (e : List (List ℕ)) → IsAt y t e → Logs clock y z b c p m n t e) → Logs clock x z a c (o ++ p) l n s d
+logs_then clock x y z a b c o p l m n s d at (os, log, inl (none, same, kept, quiet)) next =
+    let second = next s d (subst (λ (w : Connection). IsAt w s d) (sym same) at) in (
+      second.0,
+      second.1 ∙ ap (λ (u : List Outcome). u ++ second.0) (log ∙ ap (λ (u : List Outcome). l ++ u) quiet ∙ append-nil l),
+      subst (λ (u : List ℕ). AdvancesOrStays clock x z a c (u ++ p) second.0 s d) (sym none)
+          (subst (λ (w : Connection). AdvancesOrStays clock w z a c p second.0 s d) same (subst (λ (w : List Entry). AdvancesOrStays clock y z w c p second.0 s d) kept second.2)),
+    )
+logs_then clock x y z a b c o p l m n s d at (os, log, inr moved) next =
+    let second = next (with_octets s o) (d ++ moved.fresh) moved.now_at in (
       os ++ second.0,
       second.1 ∙ ap (λ (u : List Outcome). u ++ second.0) log ∙ append_assoc l os second.0,
       elim second.2 [
         | inl (none, same, kept, quiet) ↦
-            subst (λ (u : List ℕ). MovesOrStays x z a c u (os ++ second.0) s d) (sym (ap (λ (v : List ℕ). o ++ v) none ∙ append-nil o))
-            (subst (λ (u : List Outcome). MovesOrStays x z a c o u s d) (sym (ap (λ (v : List Outcome). os ++ v) quiet ∙ append-nil os))
-            (subst (λ (w : Connection). MovesOrStays x w a c o os s d) (sym same) (subst (λ (w : List Entry). MovesOrStays x y a w o os s d) (sym kept) (inr moved))))
-        | inr more ↦ inr (moves_then x y z a b c o p os second.0 s d moved more)
+            subst (λ (u : List ℕ). AdvancesOrStays clock x z a c u (os ++ second.0) s d) (sym (ap (λ (v : List ℕ). o ++ v) none ∙ append-nil o))
+            (subst (λ (u : List Outcome). AdvancesOrStays clock x z a c o u s d) (sym (ap (λ (v : List Outcome). os ++ v) quiet ∙ append-nil os))
+            (subst (λ (w : Connection). AdvancesOrStays clock x w a c o os s d) (sym same) (subst (λ (w : List Entry). AdvancesOrStays clock x y a w o os s d) (sym kept) (inr moved))))
+        | inr more ↦ inr (moves_then clock x y z a b c o p os second.0 s d moved more)
       ],
     )
 
-pub logs_on : (x y z : Connection) (a b c : List Entry) (o p whole : List ℕ) (l m n : List Outcome) (s : Stream) (d : List (List ℕ)) → o ++ p ≡ whole → IsAt x s d → Logs x y a b o l m s d
-    → ((t : Stream) (e : List (List ℕ)) → IsAt y t e → Logs y z b c p m n t e) → Logs x z a c whole l n s d
-logs_on x y z a b c o p whole l m n s d is at first next = subst (λ (u : List ℕ). Logs x z a c u l n s d) is (logs_then x y z a b c o p l m n s d at first next)
+pub logs_on : (clock : Clock) (x y z : Connection) (a b c : List Entry) (o p whole : List ℕ) (l m n : List Outcome) (s : Stream) (d : List (List ℕ)) → o ++ p ≡ whole → IsAt x s d → Logs clock x y a b o l m s d
+    → ((t : Stream) (e : List (List ℕ)) → IsAt y t e → Logs clock y z b c p m n t e) → Logs clock x z a c whole l n s d
+logs_on clock x y z a b c o p whole l m n s d is at first next = subst (λ (u : List ℕ). Logs clock x z a c u l n s d) is (logs_then clock x y z a b c o p l m n s d at first next)
+
+pub logs_of : (clock : Clock) (x y : Connection) (a b : List Entry) (o : List ℕ) (l m : List Outcome) (s : Stream) (d : List (List ℕ)) → LogsAdvance clock x y a b o l m s d → Logs clock x y a b o l m s d
+logs_of clock x y a b o l m s d (os, log, moves) = (os, log, inr moves)
 
 -- nothing came, and nothing changed
-pub logs_nothing : (x : Connection) (a : List Entry) (l m : List Outcome) (s : Stream) (d : List (List ℕ)) → m ≡ l → Logs x x a a [] l m s d
-logs_nothing x a l m s d same = ([], same ∙ sym (append-nil l), inl (refl, refl, refl, refl))
+pub logs_nothing : (clock : Clock) (x : Connection) (a : List Entry) (l m : List Outcome) (s : Stream) (d : List (List ℕ)) → m ≡ l → Logs clock x x a a [] l m s d
+logs_nothing clock x a l m s d same = ([], same ∙ sym (append-nil l), inl (refl, refl, refl, refl))
 
 -- ---- one step
 
 -- an advance that was refused
-pub refused : (x y : Connection) (a b : List Entry) (rest : List ℕ) (l m : List Outcome) (fault : CollectFault) (n : ℕ) (s : Stream) (d : List (List ℕ)) → n ≡ used_before fault → m ≡ l
-    → MovesBy (dropped_octets rest (Err fault)) x y a b [] s d → Logs x y a b (take n rest) l m s d
-refused x y a b rest l m fault n s d is log moves = ([], log ∙ sym (append-nil l), rw is (stays fault moves))
+pub refused : (clock : Clock) (x y : Connection) (a b : List Entry) (rest : List ℕ) (l m : List Outcome) (fault : CollectFault) (n : ℕ) (s : Stream) (d : List (List ℕ)) → n ≡ used_before fault → m ≡ l
+    → AdvancesBy clock (dropped_octets rest (Err fault)) x y a b [] s d → Logs clock x y a b (take n rest) l m s d
+refused clock x y a b rest l m fault n s d is log moves = ([], log ∙ sym (append-nil l), rw is (stays fault moves))
   where
-    stays : (f : CollectFault) → MovesBy (dropped_octets rest (Err f)) x y a b [] s d → MovesOrStays x y a b (take (used_before f) rest) [] s d
+    stays : (f : CollectFault) → AdvancesBy clock (dropped_octets rest (Err f)) x y a b [] s d → AdvancesOrStays clock x y a b (take (used_before f) rest) [] s d
     stays (Memory k) h = inr h
     stays AlreadyOpen h = inl (refl, h.0, h.1, refl)
     stays TooManyOpen h = inl (refl, h.0, h.1, refl)
@@ -111,34 +137,37 @@ take_whole : (rest : List ℕ) (n : ℕ) → length rest ≤ n → take n rest �
 take_whole rest n le = take_all n rest le
 
 -- at the end of the rest, all of it was accepted
-accepted_all : (rest : List ℕ) (n : ℕ) (o : Option Outcome) → IsBadCount o ⊎ (length rest ≤ n) → take (accepted_count (length rest) n o) rest ≡ rest
-accepted_all rest n (Some (BadCount at)) h = take_whole rest (length rest) (omega arith)
-accepted_all rest n None (inr le) = take_whole rest n le
-accepted_all rest n (Some New) (inr le) = take_whole rest n le
-accepted_all rest n (Some Held) (inr le) = take_whole rest n le
-accepted_all rest n (Some (Refused fault)) (inr le) = take_whole rest n le
-accepted_all rest n (Some TooLong) (inr le) = take_whole rest n le
-accepted_all rest n None (inl bad) = absurd bad
-accepted_all rest n (Some New) (inl bad) = absurd bad
-accepted_all rest n (Some Held) (inl bad) = absurd bad
-accepted_all rest n (Some (Refused fault)) (inl bad) = absurd bad
-accepted_all rest n (Some TooLong) (inl bad) = absurd bad
+accepted_whole : (rest : List ℕ) (n : ℕ) (o : Option Outcome) → IsBadCount o ⊎ (length rest ≤ n) → take (accepted_count (length rest) n o) rest ≡ rest
+accepted_whole rest n (Some (BadCount at)) h = take_whole rest (length rest) (omega arith)
+accepted_whole rest n None (inr le) = take_whole rest n le
+accepted_whole rest n (Some New) (inr le) = take_whole rest n le
+accepted_whole rest n (Some Held) (inr le) = take_whole rest n le
+accepted_whole rest n (Some (Refused fault)) (inr le) = take_whole rest n le
+accepted_whole rest n (Some (RefusedLegacy offset)) (inr le) = take_whole rest n le
+accepted_whole rest n (Some TooLong) (inr le) = take_whole rest n le
+accepted_whole rest n None (inl bad) = absurd bad
+accepted_whole rest n (Some New) (inl bad) = absurd bad
+accepted_whole rest n (Some Held) (inl bad) = absurd bad
+accepted_whole rest n (Some (Refused fault)) (inl bad) = absurd bad
+accepted_whole rest n (Some (RefusedLegacy offset)) (inl bad) = absurd bad
+accepted_whole rest n (Some TooLong) (inl bad) = absurd bad
 
 accepted_used : (m n : ℕ) (o : Option Outcome) → ¬ (IsBadCount o) → accepted_count m n o ≡ n
 accepted_used m n None h = refl
 accepted_used m n (Some New) h = refl
 accepted_used m n (Some Held) h = refl
 accepted_used m n (Some (Refused fault)) h = refl
+accepted_used m n (Some (RefusedLegacy offset)) h = refl
 accepted_used m n (Some TooLong) h = refl
 accepted_used m n (Some (BadCount at)) h = absurd (h tt)
 
-pub step_ended : (x y : Connection) (a b : List Entry) (rest : List ℕ) (l m : List Outcome) (n : ℕ) (o : Option Outcome) (s : Stream) (d : List (List ℕ)) → m ≡ l ++ outcomes_of o → IsBadCount o ⊎ (length rest ≤ n)
-    → Moves x y a b (take (accepted_count (length rest) n o) rest) (outcomes_of o) s d → Logs x y a b rest l m s d
-step_ended x y a b rest l m n o s d log ends moves = (outcomes_of o, log, inr (subst (λ (u : List ℕ). Moves x y a b u (outcomes_of o) s d) (accepted_all rest n o ends) moves))
+pub step_ended : (clock : Clock) (x y : Connection) (a b : List Entry) (rest : List ℕ) (l m : List Outcome) (n : ℕ) (o : Option Outcome) (s : Stream) (d : List (List ℕ)) → m ≡ l ++ outcomes_of o → IsBadCount o ⊎ (length rest ≤ n)
+    → Advances clock x y a b (take (accepted_count (length rest) n o) rest) (outcomes_of o) s d → LogsAdvance clock x y a b rest l m s d
+step_ended clock x y a b rest l m n o s d log ends moves = (outcomes_of o, log, subst (λ (u : List ℕ). Advances clock x y a b u (outcomes_of o) s d) (accepted_whole rest n o ends) moves)
 
-pub step_on : (x y : Connection) (a b : List Entry) (rest : List ℕ) (l m : List Outcome) (n : ℕ) (o : Option Outcome) (s : Stream) (d : List (List ℕ)) → m ≡ l ++ outcomes_of o → ¬ (IsBadCount o)
-    → Moves x y a b (take (accepted_count (length rest) n o) rest) (outcomes_of o) s d → Logs x y a b (take n rest) l m s d
-step_on x y a b rest l m n o s d log good moves = (outcomes_of o, log, inr (subst (λ (k : ℕ). Moves x y a b (take k rest) (outcomes_of o) s d) (accepted_used (length rest) n o good) moves))
+pub step_on : (clock : Clock) (x y : Connection) (a b : List Entry) (rest : List ℕ) (l m : List Outcome) (n : ℕ) (o : Option Outcome) (s : Stream) (d : List (List ℕ)) → m ≡ l ++ outcomes_of o → ¬ (IsBadCount o)
+    → Advances clock x y a b (take (accepted_count (length rest) n o) rest) (outcomes_of o) s d → LogsAdvance clock x y a b (take n rest) l m s d
+step_on clock x y a b rest l m n o s d log good moves = (outcomes_of o, log, subst (λ (k : ℕ). Advances clock x y a b (take k rest) (outcomes_of o) s d) (accepted_used (length rest) n o good) moves)
 
 -- ---- the pieces of a piece
 

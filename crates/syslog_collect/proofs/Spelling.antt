@@ -9,14 +9,19 @@ use Rattle.syslog_grammar.specs.Canonical.{Canonical, HeaderForm, SpacedWord, Ti
 use Rattle.syslog_grammar.specs.ViewParts.{IsViewOf, ViewParts}
 use Rattle.syslog_grammar.specs.WellFormed.{WellFormed}
 use Rattle.syslog_grammar.proofs.Bounded.{canonical_bounded}
-use Rattle.syslog_grammar.proofs.CanonicalParses.{canonical_once}
-use Rattle.syslog_grammar.proofs.Laws.{one_meaning, same_parts}
+use Rattle.syslog_grammar.proofs.Laws.{same_parts}
 use Rattle.syslog_grammar.proofs.RecordsOf.{some_record}
 use Rattle.syslog_grammar.proofs.Valid.{well_formed_valid}
+use Rattle.syslog_value.specs.Instants.{IsOffset}
+use Rattle.syslog_legacy.specs.Clocks.{IsYear}
+use Rattle.syslog_legacy.specs.Readings.{Legacy, ReadAs}
+use Rattle.syslog_legacy.specs.declared.clock.LegacyClock.{LegacyClock}
+use Rattle.syslog_legacy.proofs.Bounds.{legacy_bounded}
+use Rattle.syslog_legacy.proofs.Valid.{read_valid}
 use Rattle.syslog_frame.specs.declared.limits.TheConstants.{FRAME_MAX}
 use Rattle.archive_text.specs.Entries.{Entry, IsEntryOf}
 use Rattle.archive_text.specs.declared.limits.TheConstants.{ENTRY_MAX}
-use Rattle.syslog_collect.specs.Outcomes.{HasEntry}
+use Rattle.syslog_collect.specs.Outcomes.{HasEntry, HasFittingEntry}
 
 -- texts one after the other
 join : (A B : Language) (x y : List ℕ) → A x → B y → (A ⋅ B) (x ++ y)
@@ -57,10 +62,20 @@ has_entry_with b s i c is valid value view = has_entry_at b s (civil_text c) (su
 pub fits_archive : (f : List ℕ) (r : Parts ℤ) (e : Entry) → WellFormed r f → IsEntryOf r e → length f ≤ FRAME_MAX → ENTRY_MAX < length e.octets → ⊥
 fits_archive f r e wf entry le lt = omega (arith, canonical_bounded r f e.octets FRAME_MAX wf entry.canonical le, lt)
 
--- octets spell one entry
-pub one_entry : (f : List ℕ) (r q : Parts ℤ) (e x : Entry) → WellFormed r f → WellFormed q f → IsEntryOf r e → IsEntryOf q x → e ≡ x
-one_entry f r q e x wr wq er ex =
-    let same = one_meaning r q f wr wq in
-    let instants : e.instant ≡ x.instant = er.instant ∙ ap (λ (p : Parts ℤ). p.time) same ∙ sym ex.instant in
-    let octets : e.octets ≡ x.octets = canonical_once q e.octets x.octets (subst (λ (p : Parts ℤ). Canonical p e.octets) same er.canonical) ex.canonical in
-    λ i. record { instant = instants i; octets = octets i }
+-- the record of a legacy packet within the limit has an entry that fits an archive
+legacy_entry : (clock : LegacyClock) (r : Parts ℤ) (b time : List ℕ) → IsYear clock.year → IsOffset clock.offset_minutes → TimeForm r.time time → Legacy clock (ReadAs r) b → length b ≤ FRAME_MAX
+    → HasFittingEntry r
+legacy_entry clock r b time year offset t is le =
+    let c = canonical r time t in (
+      record { instant = r.time; octets = c.0 },
+      record { valid = read_valid clock r b year offset is; instant = refl; canonical = c.1 },
+      legacy_bounded clock r b c.0 FRAME_MAX ENTRY_MAX is c.1 le (omega arith),
+    )
+
+pub legacy_entry_without : (clock : LegacyClock) (r : Parts ℤ) (b : List ℕ) → IsYear clock.year → IsOffset clock.offset_minutes → r.time ≡ None → Legacy clock (ReadAs r) b → length b ≤ FRAME_MAX → HasFittingEntry r
+legacy_entry_without clock r b year offset none is le = legacy_entry clock r b (45 ∷ []) year offset (subst (λ i. TimeForm i (45 ∷ [])) (sym none) refl) is le
+
+pub legacy_entry_with : (clock : LegacyClock) (r : Parts ℤ) (b : List ℕ) (i : ℤ) (c : Civil) → IsYear clock.year → IsOffset clock.offset_minutes → r.time ≡ Some i → IsCivil c → instant_of c (pos 0) ≡ i
+    → Legacy clock (ReadAs r) b → length b ≤ FRAME_MAX → HasFittingEntry r
+legacy_entry_with clock r b i c year offset some valid value is le =
+    legacy_entry clock r b (civil_text c) year offset (subst (λ j. TimeForm j (civil_text c)) (sym some) (c, valid, value, refl)) is le

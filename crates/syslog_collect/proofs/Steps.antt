@@ -11,142 +11,162 @@ use Rattle.syslog_frame.specs.Frames.{Frames}
 use Rattle.syslog_frame.specs.declared.phase.Phase.{Phase}
 use Rattle.syslog_frame.specs.declared.phase.Phase.TheVariants.{BadCount as phase_BadCount, Failed}
 use Rattle.archive_text.specs.Entries.{Entry}
+use Rattle.syslog_collect.specs.Readings.{Clock}
 use Rattle.syslog_collect.specs.declared.connection.Connection.{Connection}
 use Rattle.syslog_collect.specs.declared.fault.Advance.{Advance}
 use Rattle.syslog_collect.specs.declared.fault.CollectFault.{CollectFault}
 use Rattle.syslog_collect.specs.declared.fault.CollectFault.TheVariants.{AlreadyOpen, TooManyOpen, NotOpen, ConnFailed, StreamTooLong, Unreleased, Unterminated, Memory}
 use Rattle.syslog_collect.specs.declared.limits.TheConstants.{CONNECTIONS_MAX}
 use Rattle.syslog_collect.specs.declared.outcome.Outcome.{Outcome}
-use Rattle.syslog_collect.specs.Answers.{EndsWhole, IsAnswerAt, IsCause, IsUnfinished, Moves, MovesBy, told_datagram, told_piece}
+use Rattle.syslog_collect.specs.Answers.{EndsWhole, IfRefused, IsAnswerAt, IsCause, IsUnfinished, Advances, AdvancesBy, accepted_datagram, accepted_piece}
 use Rattle.syslog_collect.specs.Frames.{AreFramesOf, Gains, all_of}
-use Rattle.syslog_collect.specs.History.{Datagram, IsBad, Ended, History, MayHear, MayHearAll, Opened, Piece, Stream, Told, after, hear, nothing, stream_of}
+use Rattle.syslog_collect.specs.History.{Datagram, HoldsBadCount, Ended, History, MayAccept, MayAcceptAll, Opened, Piece, Stream, AcceptedEvent, history_after, history_of, accept, initial, stream_of}
 use Rattle.syslog_collect.specs.Outcomes.{IsOutcome}
 use Rattle.syslog_collect.specs.Standing.{IsAt, Stands, StandsAt}
 use Rattle.syslog_collect.proofs.Gains.{Joins, SpellSame, all_of-append, gains_also, gains_frame, gains_more, gains_nothing, gains_reported, joins_append, joins_before, spelled_after, spelled_before, spelled_either}
 use Rattle.syslog_collect.proofs.Moving.{good_open, open_unless_failed}
-use Rattle.syslog_collect.proofs.Places.{AtPlace, IsHandled, MovesOn, advance_at, close_at, follow_push, found_at, found_here, no_stream, opening_at, place_from, same_count, set_same}
+use Rattle.syslog_collect.proofs.Places.{AtPlace, IsHandled, AdvancesOn, advance_at, close_at, follow_push, found_at, found_here, no_stream, opening_at, place_from, same_count, set_same}
 
-pub after-push : (h : History) (es : List Told) (e : Told) → after h (es ++ e ∷ []) ≡ hear (after h es) e
-after-push h [] e = refl
-after-push h (x ∷ es) e = after-push (hear h x) es e
+pub history_after-push : (h : History) (es : List AcceptedEvent) (e : AcceptedEvent) → history_after h (es ++ e ∷ []) ≡ accept (history_after h es) e
+history_after-push h [] e = refl
+history_after-push h (x ∷ es) e = history_after-push (accept h x) es e
 
-pub may_push : (h : History) (es : List Told) (e : Told) → MayHearAll h es → MayHear (after h es) e → MayHearAll h (es ++ e ∷ [])
+pub may_push : (h : History) (es : List AcceptedEvent) (e : AcceptedEvent) → MayAcceptAll h es → MayAccept (history_after h es) e → MayAcceptAll h (es ++ e ∷ [])
 may_push h [] e all may = (may, tt)
-may_push h (x ∷ es) e all may = (all.0, may_push (hear h x) es e all.1 may)
+may_push h (x ∷ es) e all may = (all.0, may_push (accept h x) es e all.1 may)
 
 -- one event more
-pub step : (ls ms : List Connection) (kept now first : List Entry) (es : List Told) (e : Told) → Stands ls kept first es → MayHear (after nothing es) e
-    → StandsAt ms now first (hear (after nothing es) e) → Stands ms now first (es ++ e ∷ [])
-step ls ms kept now first es e was may next = record {
-  acceptable = may_push nothing es e was.acceptable may;
-  stands_at = subst (λ (h : History). StandsAt ms now first h) (sym (after-push nothing es e)) next;
+pub step : (clock : Clock) (ls ms : List Connection) (kept now first : List Entry) (es : List AcceptedEvent) (e : AcceptedEvent) → Stands clock ls kept first es → MayAccept (history_of es) e
+    → StandsAt clock ms now first (accept (history_of es) e) → Stands clock ms now first (es ++ e ∷ [])
+step clock ls ms kept now first es e was may next = record {
+  acceptable = may_push initial es e was.acceptable may;
+  stands_at = subst (λ (h : History). StandsAt clock ms now first h) (sym (history_after-push initial es e)) next;
 }
 
 -- no event more
-pub still : (ls : List Connection) (kept now first : List Entry) (es : List Told) → now ≡ kept → Stands ls kept first es → Stands ls now first (es ++ [])
-still ls kept now first es same was = rw (append-nil es, same) was
+pub still : (clock : Clock) (ls : List Connection) (kept now first : List Entry) (es : List AcceptedEvent) → now ≡ kept → Stands clock ls kept first es → Stands clock ls now first (es ++ [])
+still clock ls kept now first es same was = rw (append-nil es, same) was
 
 -- before any event
-pub stands_first : (kept : List Entry) → Stands [] kept kept []
-stands_first kept = record {
+pub stands_first : (clock : Clock) (kept : List Entry) → Stands clock [] kept kept []
+stands_first clock kept = record {
   acceptable = tt;
-  stands_at = record { handled = []; ended_frames = []; follow = tt; ended_are = tt; gains = gains_nothing kept };
+  stands_at = record { handled = []; ended_frames = []; follow = tt; ended_are = tt; gains = gains_nothing clock kept };
 }
 
-pub datagram_step : (ls : List Connection) (kept now first : List Entry) (es : List Told) (octets : List ℕ) (o : Outcome) → IsOutcome kept now octets o
-    → Stands ls kept first es → Stands ls now first (es ++ Datagram octets ∷ [])
-datagram_step ls kept now first es octets o out was =
-    let h = after nothing es in
+pub datagram_step : (clock : Clock) (ls : List Connection) (kept now first : List Entry) (es : List AcceptedEvent) (octets : List ℕ) (o : Outcome) → IsOutcome clock kept now octets o
+    → Stands clock ls kept first es → Stands clock ls now first (es ++ Datagram octets ∷ [])
+datagram_step clock ls kept now first es octets o out was =
+    let h = history_of es in
     let at = was.stands_at in
     let fs = all_of at.handled in
     let es' = all_of at.ended_frames in
-    step ls ls kept now first es (Datagram octets) was tt (record {
+    step clock ls ls kept now first es (Datagram octets) was tt (record {
       handled = at.handled;
       ended_frames = at.ended_frames;
       follow = at.follow;
       ended_are = at.ended_are;
-      gains = gains_more first kept now (fs ++ (es' ++ h.datagrams)) (fs ++ (es' ++ (h.datagrams ++ octets ∷ []))) (octets ∷ []) at.gains (gains_frame kept now octets o out)
-          (subst (λ (z : List (List ℕ)). Joins z (fs ++ (es' ++ h.datagrams)) (octets ∷ [])) (append_assoc fs (es' ++ h.datagrams) (octets ∷ []) ∙ ap (λ (z : List (List ℕ)). fs ++ z) (append_assoc es' h.datagrams (octets ∷ [])))
-          (joins_append (fs ++ (es' ++ h.datagrams)) (octets ∷ [])));
+      gains = gains_more clock first kept now (fs ++ (es' ++ h.datagrams)) (fs ++ (es' ++ (h.datagrams ++ octets ∷ []))) (octets ∷ []) at.gains (gains_frame clock kept now octets o out)
+          (subst (λ (z : List (List ℕ)). Joins clock z (fs ++ (es' ++ h.datagrams)) (octets ∷ [])) (append_assoc fs (es' ++ h.datagrams) (octets ∷ []) ∙ ap (λ (z : List (List ℕ)). fs ++ z) (append_assoc es' h.datagrams (octets ∷ [])))
+          (joins_append clock (fs ++ (es' ++ h.datagrams)) (octets ∷ [])));
     })
 
 -- one connection's octets
-pub moved : (c i : ℕ) (x y : Connection) (ls : List Connection) (kept now first : List Entry) (h : History) (o : List ℕ) (outcomes : List Outcome)
-    → AtPlace c ls i x → ((s : Stream) (d : List (List ℕ)) → IsAt x s d → MovesOn x y kept now o outcomes s d)
-    → StandsAt ls kept first h → StandsAt (set_at ls i y) now first (hear h (Piece c o))
-moved c i x y ls kept now first h o outcomes at moves sa =
-    let a = advance_at c i x y ls h.streams sa.handled kept now o outcomes sa.follow at moves in
+pub moved : (clock : Clock) (c i : ℕ) (x y : Connection) (ls : List Connection) (kept now first : List Entry) (h : History) (o : List ℕ) (outcomes : List Outcome)
+    → AtPlace c ls i x → ((s : Stream) (d : List (List ℕ)) → IsAt x s d → AdvancesOn clock x y kept now o outcomes s d)
+    → StandsAt clock ls kept first h → StandsAt clock (set_at ls i y) now first (accept h (Piece c o))
+moved clock c i x y ls kept now first h o outcomes at moves sa =
+    let a = advance_at clock c i x y ls h.streams sa.handled kept now o outcomes sa.follow at moves in
     let past = all_of sa.ended_frames ++ h.datagrams in
     record {
       handled = a.now_handled;
       ended_frames = sa.ended_frames;
       follow = a.follow;
       ended_are = sa.ended_are;
-      gains = gains_more first kept now (all_of sa.handled ++ past) (all_of a.now_handled ++ past) a.fresh sa.gains (gains_reported kept now a.fresh outcomes a.reported)
-          (joins_before (all_of a.now_handled) (all_of sa.handled) a.fresh past a.joins);
+      gains = gains_more clock first kept now (all_of sa.handled ++ past) (all_of a.now_handled ++ past) a.fresh sa.gains (gains_reported clock kept now a.fresh outcomes a.reported)
+          (joins_before clock (all_of a.now_handled) (all_of sa.handled) a.fresh past a.joins);
     }
 
-pub advance_step : (c i : ℕ) (x y : Connection) (ls : List Connection) (kept now first : List Entry) (es : List Told) (o : List ℕ) (outcomes : List Outcome)
-    → AtPlace c ls i x → ((s : Stream) (d : List (List ℕ)) → IsAt x s d → Moves x y kept now o outcomes s d)
-    → Stands ls kept first es → Stands (set_at ls i y) now first (es ++ Piece c o ∷ [])
-advance_step c i x y ls kept now first es o outcomes at moves was =
-    let h = after nothing es in
+pub advance_step : (clock : Clock) (c i : ℕ) (x y : Connection) (ls : List Connection) (kept now first : List Entry) (es : List AcceptedEvent) (o : List ℕ) (outcomes : List Outcome)
+    → AtPlace c ls i x → ((s : Stream) (d : List (List ℕ)) → IsAt x s d → Advances clock x y kept now o outcomes s d)
+    → Stands clock ls kept first es → Stands clock (set_at ls i y) now first (es ++ Piece c o ∷ [])
+advance_step clock c i x y ls kept now first es o outcomes at moves was =
+    let h = history_of es in
     let there = opening_at c i x ls h.streams was.stands_at.handled was.stands_at.follow at in
-    step ls (set_at ls i y) kept now first es (Piece c o) was (rw there.is (moves there.opening there.handled there.at).may)
-    (moved c i x y ls kept now first h o outcomes at
+    step clock ls (set_at ls i y) kept now first es (Piece c o) was (rw there.is (moves there.opening there.handled there.at).may)
+    (moved clock c i x y ls kept now first h o outcomes at
     (λ s d a. let m = moves s d a in record { fresh = m.fresh; now_at = m.now_at; reported = m.reported }) was.stands_at)
 
 -- the same, by the place that was found and by what was accepted
-pub advance_found : (c n : ℕ) (x y : Connection) (ls : List Connection) (kept now first : List Entry) (es : List Told) (accepted : Option (List ℕ)) (outcomes : List Outcome)
-    → place_from c 0 ls ≡ Some n → x ≡ get_or ls n x → ((s : Stream) (d : List (List ℕ)) → IsAt x s d → MovesBy accepted x y kept now outcomes s d)
-    → Stands ls kept first es → Stands (set_at ls n y) now first (es ++ told_piece c accepted)
-advance_found c n x y ls kept now first es None outcomes is item moves was =
+pub advance_found : (clock : Clock) (c n : ℕ) (x y : Connection) (ls : List Connection) (kept now first : List Entry) (es : List AcceptedEvent) (accepted : Option (List ℕ)) (outcomes : List Outcome)
+    → place_from c 0 ls ≡ Some n → x ≡ get_or ls n x → ((s : Stream) (d : List (List ℕ)) → IsAt x s d → AdvancesBy clock accepted x y kept now outcomes s d)
+    → Stands clock ls kept first es → Stands clock (set_at ls n y) now first (es ++ accepted_piece c accepted)
+advance_found clock c n x y ls kept now first es None outcomes is item moves was =
     let at = found_here c n x ls is item in
-    let there = opening_at c n x ls (after nothing es).streams was.stands_at.handled was.stands_at.follow at in
+    let there = opening_at c n x ls (history_of es).streams was.stands_at.handled was.stands_at.follow at in
     let unchanged = moves there.opening there.handled there.at in
     let same : set_at ls n y ≡ ls = ap (λ (z : Connection). set_at ls n z) unchanged.0 ∙ set_same c n x ls at in
     rw (append-nil es, same, unchanged.1) was
-advance_found c n x y ls kept now first es (Some o) outcomes is item moves was =
-    advance_step c n x y ls kept now first es o outcomes (found_here c n x ls is item) moves was
+advance_found clock c n x y ls kept now first es (Some o) outcomes is item moves was =
+    advance_step clock c n x y ls kept now first es o outcomes (found_here c n x ls is item) moves was
+
+-- where a connection is what it was, so are all
+pub unchanged_found : {T A : Type 0} (r : Result A CollectFault) (c n : ℕ) (x y : Connection) (ls : List Connection) (was now : T)
+    → place_from c 0 ls ≡ Some n → x ≡ get_or ls n x → IfRefused r ((y ≡ x) × (now ≡ was)) → IfRefused r ((set_at ls n y ≡ ls) × (now ≡ was))
+unchanged_found {T = T} {A = A} r c n x y ls was now is item h = each r h
+  where
+    all : (y ≡ x) × (now ≡ was) → (set_at ls n y ≡ ls) × (now ≡ was)
+    all (same, kept) = (ap (λ (z : Connection). set_at ls n z) same ∙ set_same c n x ls (found_here c n x ls is item), kept)
+
+    each : (q : Result A CollectFault) → IfRefused q ((y ≡ x) × (now ≡ was)) → IfRefused q ((set_at ls n y ≡ ls) × (now ≡ was))
+    each (Ok a) k = tt
+    each (Err (Memory m)) k = tt
+    each (Err (Unterminated start)) k = tt
+    each (Err AlreadyOpen) k = all k
+    each (Err TooManyOpen) k = all k
+    each (Err NotOpen) k = all k
+    each (Err ConnFailed) k = all k
+    each (Err StreamTooLong) k = all k
+    each (Err Unreleased) k = all k
 
 -- why an advance is refused
-answer_at : (c : ℕ) (piece : List ℕ) (r : Result Advance CollectFault) (h : History) (s : Stream) → stream_of c h.streams ≡ Some s → IsCause piece r s → IsAnswerAt c piece r h
-answer_at c piece (Ok a) h s is cause = rw is cause
-answer_at c piece (Err (Memory n)) h s is cause = rw is cause
-answer_at c piece (Err ConnFailed) h s is cause = rw is cause
-answer_at c piece (Err StreamTooLong) h s is cause = rw is cause
-answer_at c piece (Err NotOpen) h s is cause = absurd cause
-answer_at c piece (Err AlreadyOpen) h s is cause = absurd cause
-answer_at c piece (Err TooManyOpen) h s is cause = absurd cause
-answer_at c piece (Err Unreleased) h s is cause = absurd cause
-answer_at c piece (Err (Unterminated start)) h s is cause = absurd cause
+answer_at : (clock : Clock) (c : ℕ) (piece : List ℕ) (r : Result Advance CollectFault) (h : History) (s : Stream) → stream_of c h.streams ≡ Some s → IsCause clock piece r s → IsAnswerAt clock c piece r h
+answer_at clock c piece (Ok a) h s is cause = rw is cause
+answer_at clock c piece (Err (Memory n)) h s is cause = rw is cause
+answer_at clock c piece (Err ConnFailed) h s is cause = rw is cause
+answer_at clock c piece (Err StreamTooLong) h s is cause = rw is cause
+answer_at clock c piece (Err NotOpen) h s is cause = absurd cause
+answer_at clock c piece (Err AlreadyOpen) h s is cause = absurd cause
+answer_at clock c piece (Err TooManyOpen) h s is cause = absurd cause
+answer_at clock c piece (Err Unreleased) h s is cause = absurd cause
+answer_at clock c piece (Err (Unterminated start)) h s is cause = absurd cause
 
-pub cause_found : (c n : ℕ) (x : Connection) (ls : List Connection) (kept first : List Entry) (es : List Told) (piece : List ℕ) (r : Result Advance CollectFault)
-    → place_from c 0 ls ≡ Some n → x ≡ get_or ls n x → ((s : Stream) (d : List (List ℕ)) → IsAt x s d → IsCause piece r s) → Stands ls kept first es → IsAnswerAt c piece r (after nothing es)
-cause_found c n x ls kept first es piece r is item cause was =
-    let there = opening_at c n x ls (after nothing es).streams was.stands_at.handled was.stands_at.follow (found_here c n x ls is item) in
-    answer_at c piece r (after nothing es) there.opening there.is (cause there.opening there.handled there.at)
+pub cause_found : (clock : Clock) (c n : ℕ) (x : Connection) (ls : List Connection) (kept first : List Entry) (es : List AcceptedEvent) (piece : List ℕ) (r : Result Advance CollectFault)
+    → place_from c 0 ls ≡ Some n → x ≡ get_or ls n x → ((s : Stream) (d : List (List ℕ)) → IsAt x s d → IsCause clock piece r s) → Stands clock ls kept first es → IsAnswerAt clock c piece r (history_of es)
+cause_found clock c n x ls kept first es piece r is item cause was =
+    let there = opening_at c n x ls (history_of es).streams was.stands_at.handled was.stands_at.follow (found_here c n x ls is item) in
+    answer_at clock c piece r (history_of es) there.opening there.is (cause there.opening there.handled there.at)
 
-pub not_open : (c : ℕ) (ls : List Connection) (kept first : List Entry) (es : List Told) → place_from c 0 ls ≡ None → Stands ls kept first es → stream_of c (after nothing es).streams ≡ None
-not_open c ls kept first es absent was = no_stream c 0 ls (after nothing es).streams was.stands_at.handled was.stands_at.follow absent
+pub not_open : (clock : Clock) (c : ℕ) (ls : List Connection) (kept first : List Entry) (es : List AcceptedEvent) → place_from c 0 ls ≡ None → Stands clock ls kept first es → stream_of c (history_of es).streams ≡ None
+not_open clock c ls kept first es absent was = no_stream c 0 ls (history_of es).streams was.stands_at.handled was.stands_at.follow absent
 
 -- a connection is opened
-pub open_step : (c : ℕ) (k : Framing) (scanner : Scan) (ls : List Connection) (kept first : List Entry) (es : List Told)
+pub open_step : (clock : Clock) (c : ℕ) (k : Framing) (scanner : Scan) (ls : List Connection) (kept first : List Entry) (es : List AcceptedEvent)
     → place_from c 0 ls ≡ None → length ls < CONNECTIONS_MAX → Reads FRAME_MAX scanner k 0 [] [] [] → IsReading scanner
-    → Stands ls kept first es → Stands (ls ++ record { number = c; scanner = scanner } ∷ []) kept first (es ++ Opened c k ∷ [])
-open_step c k scanner ls kept first es absent room reads reading was =
-    let h = after nothing es in
+    → Stands clock ls kept first es → Stands clock (ls ++ record { number = c; scanner = scanner } ∷ []) kept first (es ++ Opened c k ∷ [])
+open_step clock c k scanner ls kept first es absent room reads reading was =
+    let h = history_of es in
     let sa = was.stands_at in
     let few : length h.streams < CONNECTIONS_MAX = omega (arith, same_count ls h.streams sa.handled sa.follow, room) in
     let s : Stream = record { number = c; framing = k; octets = [] } in
     let past = all_of sa.ended_frames ++ h.datagrams in
     let same : all_of (sa.handled ++ [] ∷ []) ≡ all_of sa.handled = all_of-append sa.handled ([] ∷ []) ∙ append-nil (all_of sa.handled) in
-    step ls _ kept kept first es (Opened c k) was (not_open c ls kept first es absent was, few) (record {
+    step clock ls _ kept kept first es (Opened c k) was (not_open clock c ls kept first es absent was, few) (record {
       handled = sa.handled ++ [] ∷ [];
       ended_frames = sa.ended_frames;
       follow = follow_push _ s [] ls h.streams sa.handled sa.follow (record { number = refl; scanner = inl (record { rest = []; reads = reads; good = λ bad. reading.0 (inr bad) }) });
       ended_are = sa.ended_are;
-      gains = subst (λ (z : List (List ℕ)). Gains first kept (z ++ past)) (sym same) sa.gains;
+      gains = subst (λ (z : List (List ℕ)). Gains clock first kept (z ++ past)) (sym same) sa.gains;
     })
 
 -- ---- the end of a connection
@@ -158,68 +178,68 @@ are_frames_push (s ∷ ss) ts [] gone f g = absurd f
 are_frames_push (s ∷ ss) ts (x ∷ fs) gone f g = (f.0, are_frames_push ss ts fs gone f.1 g)
 
 -- frames of an opening that ended are still among the frames
-spell_moved : (ds still ended : List (List (List ℕ))) (gone datagrams : List (List ℕ)) → Joins (all_of ds) (all_of still) gone
-    → SpellSame (all_of ds ++ (all_of ended ++ datagrams)) (all_of still ++ (all_of (ended ++ gone ∷ []) ++ datagrams))
-spell_moved ds still ended gone datagrams j x =
+spell_moved : (clock : Clock) (ds still ended : List (List (List ℕ))) (gone datagrams : List (List ℕ)) → Joins clock (all_of ds) (all_of still) gone
+    → SpellSame clock (all_of ds ++ (all_of ended ++ datagrams)) (all_of still ++ (all_of (ended ++ gone ∷ []) ++ datagrams))
+spell_moved clock ds still ended gone datagrams j x =
     let both : all_of (ended ++ gone ∷ []) ≡ all_of ended ++ gone = all_of-append ended (gone ∷ []) ∙ ap (λ (z : List (List ℕ)). all_of ended ++ z) (append-nil gone) in
     rw both (
-      λ h. elim (spelled_either (all_of ds) (all_of ended ++ datagrams) x h) [
+      λ h. elim (spelled_either clock (all_of ds) (all_of ended ++ datagrams) x h) [
         | inl d ↦ elim ((j x).0 d) [
-          | inl s ↦ spelled_before (all_of still) ((all_of ended ++ gone) ++ datagrams) x s
-          | inr g ↦ spelled_after (all_of still) ((all_of ended ++ gone) ++ datagrams) x (spelled_before (all_of ended ++ gone) datagrams x (spelled_after (all_of ended) gone x g))
+          | inl s ↦ spelled_before clock (all_of still) ((all_of ended ++ gone) ++ datagrams) x s
+          | inr g ↦ spelled_after clock (all_of still) ((all_of ended ++ gone) ++ datagrams) x (spelled_before clock (all_of ended ++ gone) datagrams x (spelled_after clock (all_of ended) gone x g))
         ]
-        | inr p ↦ spelled_after (all_of still) ((all_of ended ++ gone) ++ datagrams) x (elim (spelled_either (all_of ended) datagrams x p) [
-          | inl e ↦ spelled_before (all_of ended ++ gone) datagrams x (spelled_before (all_of ended) gone x e)
-          | inr d ↦ spelled_after (all_of ended ++ gone) datagrams x d
+        | inr p ↦ spelled_after clock (all_of still) ((all_of ended ++ gone) ++ datagrams) x (elim (spelled_either clock (all_of ended) datagrams x p) [
+          | inl e ↦ spelled_before clock (all_of ended ++ gone) datagrams x (spelled_before clock (all_of ended) gone x e)
+          | inr d ↦ spelled_after clock (all_of ended ++ gone) datagrams x d
         ])
       ],
-      λ h. elim (spelled_either (all_of still) ((all_of ended ++ gone) ++ datagrams) x h) [
-        | inl s ↦ spelled_before (all_of ds) (all_of ended ++ datagrams) x ((j x).1 (inl s))
-        | inr p ↦ elim (spelled_either (all_of ended ++ gone) datagrams x p) [
-          | inl eg ↦ elim (spelled_either (all_of ended) gone x eg) [
-            | inl e ↦ spelled_after (all_of ds) (all_of ended ++ datagrams) x (spelled_before (all_of ended) datagrams x e)
-            | inr g ↦ spelled_before (all_of ds) (all_of ended ++ datagrams) x ((j x).1 (inr g))
+      λ h. elim (spelled_either clock (all_of still) ((all_of ended ++ gone) ++ datagrams) x h) [
+        | inl s ↦ spelled_before clock (all_of ds) (all_of ended ++ datagrams) x ((j x).1 (inl s))
+        | inr p ↦ elim (spelled_either clock (all_of ended ++ gone) datagrams x p) [
+          | inl eg ↦ elim (spelled_either clock (all_of ended) gone x eg) [
+            | inl e ↦ spelled_after clock (all_of ds) (all_of ended ++ datagrams) x (spelled_before clock (all_of ended) datagrams x e)
+            | inr g ↦ spelled_before clock (all_of ds) (all_of ended ++ datagrams) x ((j x).1 (inr g))
           ]
-          | inr d ↦ spelled_after (all_of ds) (all_of ended ++ datagrams) x (spelled_after (all_of ended) datagrams x d)
+          | inr d ↦ spelled_after clock (all_of ds) (all_of ended ++ datagrams) x (spelled_after clock (all_of ended) datagrams x d)
         ]
       ],
     )
 
-pub close_step : (c i : ℕ) (x : Connection) (ls : List Connection) (kept first : List Entry) (es : List Told) → AtPlace c ls i x → IsHandled x
-    → Stands ls kept first es → Stands (remove ls i) kept first (es ++ Ended c ∷ [])
-close_step c i x ls kept first es at none was =
-    let h = after nothing es in
+pub close_step : (clock : Clock) (c i : ℕ) (x : Connection) (ls : List Connection) (kept first : List Entry) (es : List AcceptedEvent) → AtPlace c ls i x → IsHandled x
+    → Stands clock ls kept first es → Stands clock (remove ls i) kept first (es ++ Ended c ∷ [])
+close_step clock c i x ls kept first es at none was =
+    let h = history_of es in
     let sa = was.stands_at in
-    let z = close_at c i x ls h.streams sa.handled sa.follow at none in
-    step ls (remove ls i) kept kept first es (Ended c) was z.was_open (record {
+    let z = close_at clock c i x ls h.streams sa.handled sa.follow at none in
+    step clock ls (remove ls i) kept kept first es (Ended c) was z.was_open (record {
       handled = z.still;
       ended_frames = sa.ended_frames ++ z.gone ∷ [];
       follow = z.follow;
       ended_are = are_frames_push h.ended _ sa.ended_frames z.gone sa.ended_are z.gone_are;
-      gains = gains_also first kept _ _ sa.gains (spell_moved sa.handled z.still sa.ended_frames z.gone h.datagrams z.joins);
+      gains = gains_also clock first kept _ _ sa.gains (spell_moved clock sa.handled z.still sa.ended_frames z.gone h.datagrams z.joins);
     })
 
-pub close_found : (c n : ℕ) (x : Connection) (ls : List Connection) (kept first : List Entry) (es : List Told) → place_from c 0 ls ≡ Some n → x ≡ get_or ls n x → IsHandled x
-    → Stands ls kept first es → Stands (remove ls n) kept first (es ++ Ended c ∷ [])
-close_found c n x ls kept first es is item none was = close_step c n x ls kept first es (found_here c n x ls is item) none was
+pub close_found : (clock : Clock) (c n : ℕ) (x : Connection) (ls : List Connection) (kept first : List Entry) (es : List AcceptedEvent) → place_from c 0 ls ≡ Some n → x ≡ get_or ls n x → IsHandled x
+    → Stands clock ls kept first es → Stands clock (remove ls n) kept first (es ++ Ended c ∷ [])
+close_found clock c n x ls kept first es is item none was = close_step clock c n x ls kept first es (found_here c n x ls is item) none was
 
 -- ---- the answers of the calls
 
-pub datagram_answer : {E : Type 0} (ls : List Connection) (kept now first : List Entry) (es : List Told) (octets : List ℕ) (r : Result Outcome E) → IfOk r (λ o. IsOutcome kept now octets o) → OnErr r (now ≡ kept)
-    → Stands ls kept first es → Stands ls now first (es ++ told_datagram octets r)
-datagram_answer ls kept now first es octets (Ok o) out same was = datagram_step ls kept now first es octets o out was
-datagram_answer ls kept now first es octets (Err e) out same was = still ls kept now first es same was
+pub datagram_answer : {E : Type 0} (clock : Clock) (ls : List Connection) (kept now first : List Entry) (es : List AcceptedEvent) (octets : List ℕ) (r : Result Outcome E) → IfOk r (λ o. IsOutcome clock kept now octets o) → OnErr r (now ≡ kept)
+    → Stands clock ls kept first es → Stands clock ls now first (es ++ accepted_datagram octets r)
+datagram_answer clock ls kept now first es octets (Ok o) out same was = datagram_step clock ls kept now first es octets o out was
+datagram_answer clock ls kept now first es octets (Err e) out same was = still clock ls kept now first es same was
 
 -- a number whose connection was found is open
-pub is_open : (c n : ℕ) (ls : List Connection) (kept first : List Entry) (es : List Told) → place_from c 0 ls ≡ Some n → Stands ls kept first es → IsSome (stream_of c (after nothing es).streams)
-is_open c n ls kept first es is was =
+pub is_open : (clock : Clock) (c n : ℕ) (ls : List Connection) (kept first : List Entry) (es : List AcceptedEvent) → place_from c 0 ls ≡ Some n → Stands clock ls kept first es → IsSome (stream_of c (history_of es).streams)
+is_open clock c n ls kept first es is was =
     let found = found_at c 0 n ls is in
-    let there = opening_at c found.0 found.1 ls (after nothing es).streams was.stands_at.handled was.stands_at.follow found.3 in
+    let there = opening_at c found.0 found.1 ls (history_of es).streams was.stands_at.handled was.stands_at.follow found.3 in
     rw there.is refl
 
 -- as many connections as openings
-pub count_open : (ls : List Connection) (kept first : List Entry) (es : List Told) → Stands ls kept first es → length ls ≡ length (after nothing es).streams
-count_open ls kept first es was = same_count ls (after nothing es).streams was.stands_at.handled was.stands_at.follow
+pub count_open : (clock : Clock) (ls : List Connection) (kept first : List Entry) (es : List AcceptedEvent) → Stands clock ls kept first es → length ls ≡ length (history_of es).streams
+count_open clock ls kept first es was = same_count ls (history_of es).streams was.stands_at.handled was.stands_at.follow
 
 -- all frames of a connection's opening were handled where its scanner says so
 pub handled_by : (x : Connection) → ((kind : Framing) (first : ℕ) (octets : List ℕ) (frames : List (List ℕ)) (rest : List ℕ) → Reads FRAME_MAX x.scanner kind first octets frames rest
@@ -231,18 +251,18 @@ handled_by x h s d at = elim at.scanner [
 
 unfinished_one : (start : ℕ) (x : Connection) (s : Stream) (d : List (List ℕ)) → ¬ (IsFailed x.scanner)
     → ((kind : Framing) (first : ℕ) (octets : List ℕ) (frames : List (List ℕ)) (rest : List ℕ) → Reads FRAME_MAX x.scanner kind first octets frames rest
-    → Frames kind octets frames rest × (0 < length rest) × (start + length rest ≡ first + length octets)) → IsAt x s d → ¬ (IsBad s) × IsUnfinished start s
+    → Frames kind octets frames rest × (0 < length rest) × (start + length rest ≡ first + length octets)) → IsAt x s d → ¬ (HoldsBadCount s) × IsUnfinished start s
 unfinished_one start x s d live h at =
     let here = open_unless_failed x s d live at in
     let e = h s.framing 0 s.octets d here.rest here.reads in
     (good_open x.scanner s d here, (d, here.rest, e.0, e.1, omega (arith, e.2)))
 
-pub unfinished_at : (c n start : ℕ) (x : Connection) (ls : List Connection) (kept first : List Entry) (es : List Told) → place_from c 0 ls ≡ Some n → x ≡ get_or ls n x → ¬ (IsFailed x.scanner)
+pub unfinished_at : (clock : Clock) (c n start : ℕ) (x : Connection) (ls : List Connection) (kept first : List Entry) (es : List AcceptedEvent) → place_from c 0 ls ≡ Some n → x ≡ get_or ls n x → ¬ (IsFailed x.scanner)
     → ((kind : Framing) (first : ℕ) (octets : List ℕ) (frames : List (List ℕ)) (rest : List ℕ) → Reads FRAME_MAX x.scanner kind first octets frames rest
     → Frames kind octets frames rest × (0 < length rest) × (start + length rest ≡ first + length octets))
-    → Stands ls kept first es → IsSomeAnd (stream_of c (after nothing es).streams) (λ s. ¬ (IsBad s) × IsUnfinished start s)
-unfinished_at c n start x ls kept first es is item live h was =
-    let there = opening_at c n x ls (after nothing es).streams was.stands_at.handled was.stands_at.follow (found_here c n x ls is item) in
+    → Stands clock ls kept first es → IsSomeAnd (stream_of c (history_of es).streams) (λ s. ¬ (HoldsBadCount s) × IsUnfinished start s)
+unfinished_at clock c n start x ls kept first es is item live h was =
+    let there = opening_at c n x ls (history_of es).streams was.stands_at.handled was.stands_at.follow (found_here c n x ls is item) in
     rw there.is (unfinished_one start x there.opening there.handled live h there.at)
 
 -- an opening whose end is accepted is whole frames, or holds a bad count
@@ -253,18 +273,18 @@ ended_one x s d h at = elim at.scanner [
   | inr broken ↦ inl (d, broken.rest, broken.offset, broken.bad)
 ]
 
-pub ended_at : (c n : ℕ) (x : Connection) (ls : List Connection) (kept first : List Entry) (es : List Told) → place_from c 0 ls ≡ Some n → x ≡ get_or ls n x
+pub ended_at : (clock : Clock) (c n : ℕ) (x : Connection) (ls : List Connection) (kept first : List Entry) (es : List AcceptedEvent) → place_from c 0 ls ≡ Some n → x ≡ get_or ls n x
     → ((kind : Framing) (first : ℕ) (octets : List ℕ) (frames : List (List ℕ)) (rest : List ℕ) → Reads FRAME_MAX x.scanner kind first octets frames rest → Frames kind octets frames [])
-    → Stands ls kept first es → IsSomeAnd (stream_of c (after nothing es).streams) EndsWhole
-ended_at c n x ls kept first es is item h was =
-    let there = opening_at c n x ls (after nothing es).streams was.stands_at.handled was.stands_at.follow (found_here c n x ls is item) in
+    → Stands clock ls kept first es → IsSomeAnd (stream_of c (history_of es).streams) EndsWhole
+ended_at clock c n x ls kept first es is item h was =
+    let there = opening_at c n x ls (history_of es).streams was.stands_at.handled was.stands_at.follow (found_here c n x ls is item) in
     rw there.is (ended_one x there.opening there.handled h there.at)
 
 -- what is ready in a connection is a frame
-pub ready_frame : (c n : ℕ) (x : Connection) (ls : List Connection) (kept first : List Entry) (es : List Told) → place_from c 0 ls ≡ Some n → x ≡ get_or ls n x → HasReady x.scanner
-    → Stands ls kept first es → HasFrame x.scanner
-ready_frame c n x ls kept first es is item ready was =
-    let there = opening_at c n x ls (after nothing es).streams was.stands_at.handled was.stands_at.follow (found_here c n x ls is item) in
+pub ready_frame : (clock : Clock) (c n : ℕ) (x : Connection) (ls : List Connection) (kept first : List Entry) (es : List AcceptedEvent) → place_from c 0 ls ≡ Some n → x ≡ get_or ls n x → HasReady x.scanner
+    → Stands clock ls kept first es → HasFrame x.scanner
+ready_frame clock c n x ls kept first es is item ready was =
+    let there = opening_at c n x ls (history_of es).streams was.stands_at.handled was.stands_at.follow (found_here c n x ls is item) in
     elim ready [
       | inl frame ↦ frame
       | inr bad ↦ elim there.at.scanner [ inl here ↦ absurd (here.good bad) | inr broken ↦ absurd (bad_not_failed x.scanner.phase bad broken.failed) ]

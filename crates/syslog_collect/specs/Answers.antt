@@ -5,15 +5,15 @@ use Rattle.syslog_frame.specs.Frames.{Frames, IsBadAt}
 use Rattle.syslog_frame.specs.declared.framing.Framing.{Framing}
 use Rattle.syslog_frame.specs.declared.limits.TheConstants.{POSITION_MAX}
 use Rattle.archive_text.specs.Entries.{Entry}
+use Rattle.syslog_collect.specs.Readings.{Clock}
 use Rattle.syslog_collect.specs.declared.connection.Connection.{Connection}
 use Rattle.syslog_collect.specs.declared.fault.Advance.{Advance}
 use Rattle.syslog_collect.specs.declared.fault.CollectFault.{CollectFault}
 use Rattle.syslog_collect.specs.declared.fault.CollectFault.TheVariants.{AlreadyOpen, TooManyOpen, NotOpen, ConnFailed, StreamTooLong, Unreleased, Unterminated, Memory}
 use Rattle.syslog_collect.specs.declared.limits.TheConstants.{CONNECTIONS_MAX}
 use Rattle.syslog_collect.specs.declared.outcome.Outcome.{Outcome}
-use Rattle.syslog_collect.specs.declared.outcome.Outcome.TheVariants.{New, Held, Refused, TooLong, BadCount}
-use Rattle.syslog_collect.specs.Frames.{IsFramesOf}
-use Rattle.syslog_collect.specs.History.{History, IsBad, MayGrow, Stream, Told, Opened, Piece, Ended, Datagram, longer, stream_of}
+use Rattle.syslog_collect.specs.declared.outcome.Outcome.TheVariants.{New, Held, Refused, RefusedLegacy, TooLong, BadCount}
+use Rattle.syslog_collect.specs.History.{History, HoldsBadCount, MayContinue, Stream, AcceptedEvent, Opened, Piece, Ended, Datagram, with_octets, stream_of}
 use Rattle.syslog_collect.specs.Outcomes.{AreReported, IsRecordFrame, outcomes_of}
 use Rattle.syslog_collect.specs.Standing.{IsAt}
 
@@ -23,6 +23,7 @@ accepted_count bad n None = n
 accepted_count bad n (Some New) = n
 accepted_count bad n (Some Held) = n
 accepted_count bad n (Some (Refused fault)) = n
+accepted_count bad n (Some (RefusedLegacy offset)) = n
 accepted_count bad n (Some TooLong) = n
 accepted_count bad n (Some (BadCount at)) = bad
 
@@ -32,6 +33,7 @@ IsBadCount None = ⊥
 IsBadCount (Some New) = ⊥
 IsBadCount (Some Held) = ⊥
 IsBadCount (Some (Refused fault)) = ⊥
+IsBadCount (Some (RefusedLegacy offset)) = ⊥
 IsBadCount (Some TooLong) = ⊥
 IsBadCount (Some (BadCount at)) = Unit {0}
 
@@ -69,104 +71,100 @@ answered (Ok a) = outcomes_of a.outcome
 answered (Err fault) = []
 
 -- the events that a piece of a number adds
-abbrev pub told_piece : ℕ → Option (List ℕ) → List Told
-told_piece c None = []
-told_piece c (Some octets) = Piece c octets ∷ []
+abbrev pub accepted_piece : ℕ → Option (List ℕ) → List AcceptedEvent
+accepted_piece c None = []
+accepted_piece c (Some octets) = Piece c octets ∷ []
 
 -- the octets of an opening are bad at this offset
-abbrev pub IsBadOffset : Stream → ℕ → Type 0
-IsBadOffset s at = (frames : List (List ℕ)) × (rest : List ℕ) × IsBadAt s.framing s.octets frames rest at
+abbrev pub HoldsBadCountAt : Stream → ℕ → Type 0
+HoldsBadCountAt s at = (frames : List (List ℕ)) × (rest : List ℕ) × IsBadAt s.framing s.octets frames rest at
 
 -- a bad count is the last of the outcomes exactly where the octets of the opening are bad, at their offset
-abbrev pub MarksBad : List Outcome → Stream → Type 0
-MarksBad [] s = ¬ (IsBad s)
-MarksBad (BadCount at ∷ os) s = IsBadOffset s at × (os ≡ [])
-MarksBad (New ∷ os) s = MarksBad os s
-MarksBad (Held ∷ os) s = MarksBad os s
-MarksBad (Refused fault ∷ os) s = MarksBad os s
-MarksBad (TooLong ∷ os) s = MarksBad os s
+abbrev pub ReportsBadCount : List Outcome → Stream → Type 0
+ReportsBadCount [] s = ¬ (HoldsBadCount s)
+ReportsBadCount (BadCount at ∷ os) s = HoldsBadCountAt s at × (os ≡ [])
+ReportsBadCount (New ∷ os) s = ReportsBadCount os s
+ReportsBadCount (Held ∷ os) s = ReportsBadCount os s
+ReportsBadCount (Refused fault ∷ os) s = ReportsBadCount os s
+ReportsBadCount (RefusedLegacy offset ∷ os) s = ReportsBadCount os s
+ReportsBadCount (TooLong ∷ os) s = ReportsBadCount os s
 
 -- what a connection at an opening does with octets: it is at the opening with them, these frames more
 -- were handled, and these outcomes report them
-pub record Moves (old new : Connection) (kept_old kept_new : List Entry) (octets : List ℕ)
+pub record Advances (clock : Clock) (old new : Connection) (kept_old kept_new : List Entry) (octets : List ℕ)
     (outcomes : List Outcome) (s : Stream) (handled : List (List ℕ)) : Type 0 where
-  pub may : MayGrow octets s
+  pub may : MayContinue octets s
   pub fresh : List (List ℕ)
-  pub now_at : IsAt new (longer s octets) (handled ++ fresh)
-  pub reported : AreReported kept_old kept_new fresh outcomes
-  pub marks : MarksBad outcomes (longer s octets)
+  pub now_at : IsAt new (with_octets s octets) (handled ++ fresh)
+  pub reported : AreReported clock kept_old kept_new fresh outcomes
+  pub marks : ReportsBadCount outcomes (with_octets s octets)
 
 -- by what was accepted: where nothing was, nothing changes
-abbrev pub MovesBy : Option (List ℕ) → Connection → Connection → List Entry → List Entry → List Outcome → Stream → List (List ℕ) → Type 0
-MovesBy None old new kept_old kept_new outcomes s handled = (new ≡ old) × (kept_new ≡ kept_old) × (outcomes ≡ [])
-MovesBy (Some octets) old new kept_old kept_new outcomes s handled = Moves old new kept_old kept_new octets outcomes s handled
+abbrev pub AdvancesBy : Clock → Option (List ℕ) → Connection → Connection → List Entry → List Entry → List Outcome → Stream → List (List ℕ) → Type 0
+AdvancesBy clock None old new kept_old kept_new outcomes s handled = (new ≡ old) × (kept_new ≡ kept_old) × (outcomes ≡ [])
+AdvancesBy clock (Some octets) old new kept_old kept_new outcomes s handled = Advances clock old new kept_old kept_new octets outcomes s handled
 
 -- with these octets the opening is whole frames, and the last of them spells a record
-abbrev pub EndsInRecord : Stream → List ℕ → Type 0
-EndsInRecord s octets = (frames : List (List ℕ)) × (f : List ℕ) × Frames s.framing (s.octets ++ octets) (frames ++ f ∷ []) [] × IsRecordFrame f
+abbrev pub EndsInRecord : Clock → Stream → List ℕ → Type 0
+EndsInRecord clock s octets = (frames : List (List ℕ)) × (f : List ℕ) × Frames s.framing (s.octets ++ octets) (frames ++ f ∷ []) [] × IsRecordFrame clock f
 
 -- why an advance of a connection at an opening is refused, the first cause that holds
-abbrev pub IsCause : List ℕ → Result Advance CollectFault → Stream → Type 0
-IsCause piece (Ok a) s = ¬ (IsBad s)
-IsCause piece (Err (Memory n)) s = ¬ (IsBad s) × EndsInRecord s (take n piece)
-IsCause piece (Err ConnFailed) s = IsBad s
-IsCause piece (Err StreamTooLong) s = ¬ (IsBad s) × (POSITION_MAX < length s.octets + length piece)
-IsCause piece (Err NotOpen) s = ⊥
-IsCause piece (Err AlreadyOpen) s = ⊥
-IsCause piece (Err TooManyOpen) s = ⊥
-IsCause piece (Err Unreleased) s = ⊥
-IsCause piece (Err (Unterminated start)) s = ⊥
+abbrev pub IsCause : Clock → List ℕ → Result Advance CollectFault → Stream → Type 0
+IsCause clock piece (Ok a) s = ¬ (HoldsBadCount s)
+IsCause clock piece (Err (Memory n)) s = ¬ (HoldsBadCount s) × EndsInRecord clock s (take n piece)
+IsCause clock piece (Err ConnFailed) s = HoldsBadCount s
+IsCause clock piece (Err StreamTooLong) s = ¬ (HoldsBadCount s) × (POSITION_MAX < length s.octets + length piece)
+IsCause clock piece (Err NotOpen) s = ⊥
+IsCause clock piece (Err AlreadyOpen) s = ⊥
+IsCause clock piece (Err TooManyOpen) s = ⊥
+IsCause clock piece (Err Unreleased) s = ⊥
+IsCause clock piece (Err (Unterminated start)) s = ⊥
 
--- no more is used than there is
+-- no more is used than there is; and no refusal of another call is answered
 abbrev pub IsUsedWithin : List ℕ → Result Advance CollectFault → Type 0
 IsUsedWithin piece (Ok a) = a.used ≤ length piece
 IsUsedWithin piece (Err (Memory n)) = n ≤ length piece
+IsUsedWithin piece (Err NotOpen) = Unit {0}
 IsUsedWithin piece (Err ConnFailed) = Unit {0}
 IsUsedWithin piece (Err StreamTooLong) = Unit {0}
-IsUsedWithin piece (Err NotOpen) = Unit {0}
-IsUsedWithin piece (Err AlreadyOpen) = Unit {0}
-IsUsedWithin piece (Err TooManyOpen) = Unit {0}
-IsUsedWithin piece (Err Unreleased) = Unit {0}
-IsUsedWithin piece (Err (Unterminated start)) = Unit {0}
+IsUsedWithin piece (Err AlreadyOpen) = ⊥
+IsUsedWithin piece (Err TooManyOpen) = ⊥
+IsUsedWithin piece (Err Unreleased) = ⊥
+IsUsedWithin piece (Err (Unterminated start)) = ⊥
 
 -- what an advance of a number answers after a history: the number is not open; or a cause at its opening
-abbrev pub IsAnswerAt : ℕ → List ℕ → Result Advance CollectFault → History → Type 0
-IsAnswerAt c piece (Err NotOpen) h = stream_of c h.streams ≡ None
-IsAnswerAt c piece (Ok a) h = IsSomeAnd (stream_of c h.streams) (IsCause piece (Ok a))
-IsAnswerAt c piece (Err (Memory n)) h = IsSomeAnd (stream_of c h.streams) (IsCause piece (Err (Memory n)))
-IsAnswerAt c piece (Err ConnFailed) h = IsSomeAnd (stream_of c h.streams) (IsCause piece (Err ConnFailed))
-IsAnswerAt c piece (Err StreamTooLong) h = IsSomeAnd (stream_of c h.streams) (IsCause piece (Err StreamTooLong))
-IsAnswerAt c piece (Err AlreadyOpen) h = ⊥
-IsAnswerAt c piece (Err TooManyOpen) h = ⊥
-IsAnswerAt c piece (Err Unreleased) h = ⊥
-IsAnswerAt c piece (Err (Unterminated start)) h = ⊥
-
--- octets of a number complete these last frames of its opening, and the outcomes report them
-abbrev pub Reports : ℕ → List ℕ → History → List Entry → List Entry → List Outcome → Type 0
-Reports c octets h kept_old kept_new outcomes = IsSomeAnd (stream_of c h.streams) (λ s. (before : List (List ℕ)) × (last : List (List ℕ))
-    × IsFramesOf (longer s octets) (before ++ last) × AreReported kept_old kept_new last outcomes × MarksBad outcomes (longer s octets))
+abbrev pub IsAnswerAt : Clock → ℕ → List ℕ → Result Advance CollectFault → History → Type 0
+IsAnswerAt clock c piece (Err NotOpen) h = stream_of c h.streams ≡ None
+IsAnswerAt clock c piece (Ok a) h = IsSomeAnd (stream_of c h.streams) (IsCause clock piece (Ok a))
+IsAnswerAt clock c piece (Err (Memory n)) h = IsSomeAnd (stream_of c h.streams) (IsCause clock piece (Err (Memory n)))
+IsAnswerAt clock c piece (Err ConnFailed) h = IsSomeAnd (stream_of c h.streams) (IsCause clock piece (Err ConnFailed))
+IsAnswerAt clock c piece (Err StreamTooLong) h = IsSomeAnd (stream_of c h.streams) (IsCause clock piece (Err StreamTooLong))
+IsAnswerAt clock c piece (Err AlreadyOpen) h = ⊥
+IsAnswerAt clock c piece (Err TooManyOpen) h = ⊥
+IsAnswerAt clock c piece (Err Unreleased) h = ⊥
+IsAnswerAt clock c piece (Err (Unterminated start)) h = ⊥
 
 -- the event that an opening adds
-abbrev pub told_opening : {U : Type 0} → ℕ → Framing → Result U CollectFault → List Told
-told_opening c k (Ok u) = Opened c k ∷ []
-told_opening c k (Err fault) = []
+abbrev pub accepted_opening : {U : Type 0} → ℕ → Framing → Result U CollectFault → List AcceptedEvent
+accepted_opening c k (Ok u) = Opened c k ∷ []
+accepted_opening c k (Err fault) = []
 
 -- the event that an end adds: also where the last frame is unfinished
-abbrev pub told_ending : {U : Type 0} → ℕ → Result U CollectFault → List Told
-told_ending c (Ok u) = Ended c ∷ []
-told_ending c (Err (Unterminated start)) = Ended c ∷ []
-told_ending c (Err NotOpen) = []
-told_ending c (Err AlreadyOpen) = []
-told_ending c (Err TooManyOpen) = []
-told_ending c (Err ConnFailed) = []
-told_ending c (Err StreamTooLong) = []
-told_ending c (Err Unreleased) = []
-told_ending c (Err (Memory n)) = []
+abbrev pub accepted_ending : {U : Type 0} → ℕ → Result U CollectFault → List AcceptedEvent
+accepted_ending c (Ok u) = Ended c ∷ []
+accepted_ending c (Err (Unterminated start)) = Ended c ∷ []
+accepted_ending c (Err NotOpen) = []
+accepted_ending c (Err AlreadyOpen) = []
+accepted_ending c (Err TooManyOpen) = []
+accepted_ending c (Err ConnFailed) = []
+accepted_ending c (Err StreamTooLong) = []
+accepted_ending c (Err Unreleased) = []
+accepted_ending c (Err (Memory n)) = []
 
 -- the event that a datagram adds
-abbrev pub told_datagram : {E : Type 0} → List ℕ → Result Outcome E → List Told
-told_datagram octets (Ok o) = Datagram octets ∷ []
-told_datagram octets (Err fault) = []
+abbrev pub accepted_datagram : {E : Type 0} → List ℕ → Result Outcome E → List AcceptedEvent
+accepted_datagram octets (Ok o) = Datagram octets ∷ []
+accepted_datagram octets (Err fault) = []
 
 -- what the opening of a number answers after a history, the first cause that holds
 abbrev pub IsOpening : {U : Type 0} → ℕ → Result U CollectFault → History → Type 0
@@ -187,14 +185,14 @@ IsUnfinished start s = (frames : List (List ℕ)) × (rest : List ℕ) × Frames
 
 -- the octets of an opening are whole frames, or hold a bad count
 abbrev pub EndsWhole : Stream → Type 0
-EndsWhole s = IsBad s ⊎ ((frames : List (List ℕ)) × Frames s.framing s.octets frames [])
+EndsWhole s = HoldsBadCount s ⊎ ((frames : List (List ℕ)) × Frames s.framing s.octets frames [])
 
 -- what the end of a number answers after a history
 abbrev pub IsEnding : {U : Type 0} → ℕ → Result U CollectFault → History → Type 0
 IsEnding c (Ok u) h = IsSomeAnd (stream_of c h.streams) EndsWhole
 IsEnding c (Err NotOpen) h = stream_of c h.streams ≡ None
 IsEnding c (Err Unreleased) h = IsSome (stream_of c h.streams)
-IsEnding c (Err (Unterminated start)) h = IsSomeAnd (stream_of c h.streams) (λ s. ¬ (IsBad s) × IsUnfinished start s)
+IsEnding c (Err (Unterminated start)) h = IsSomeAnd (stream_of c h.streams) (λ s. ¬ (HoldsBadCount s) × IsUnfinished start s)
 IsEnding c (Err AlreadyOpen) h = ⊥
 IsEnding c (Err TooManyOpen) h = ⊥
 IsEnding c (Err ConnFailed) h = ⊥
@@ -212,3 +210,27 @@ IfUnreleased (Err TooManyOpen) P = Unit {0}
 IfUnreleased (Err ConnFailed) P = Unit {0}
 IfUnreleased (Err StreamTooLong) P = Unit {0}
 IfUnreleased (Err (Memory n)) P = Unit {0}
+
+-- where a call was refused and has taken nothing: each refusal but want of memory and an unfinished frame
+abbrev pub IfRefused : {A : Type 0} → Result A CollectFault → Type 0 → Type 0
+IfRefused (Ok a) P = Unit {0}
+IfRefused (Err (Memory n)) P = Unit {0}
+IfRefused (Err (Unterminated start)) P = Unit {0}
+IfRefused (Err AlreadyOpen) P = P
+IfRefused (Err TooManyOpen) P = P
+IfRefused (Err NotOpen) P = P
+IfRefused (Err ConnFailed) P = P
+IfRefused (Err StreamTooLong) P = P
+IfRefused (Err Unreleased) P = P
+
+-- where memory was refused
+abbrev pub IfMemory : {A : Type 0} → Result A CollectFault → Type 0 → Type 0
+IfMemory (Ok a) P = Unit {0}
+IfMemory (Err (Memory n)) P = P
+IfMemory (Err (Unterminated start)) P = Unit {0}
+IfMemory (Err AlreadyOpen) P = Unit {0}
+IfMemory (Err TooManyOpen) P = Unit {0}
+IfMemory (Err NotOpen) P = Unit {0}
+IfMemory (Err ConnFailed) P = Unit {0}
+IfMemory (Err StreamTooLong) P = Unit {0}
+IfMemory (Err Unreleased) P = Unit {0}

@@ -1,11 +1,11 @@
 -- The frames of openings and datagrams, and the entries of the records that they spell.
 use Rattle.std.specs.Prelude.{◌≡◌, ℕ, ℤ, ◌≤◌, ◌⊎◌, ◌↔◌, List, [], ◌∷◌, ◌++◌, length}
 use Rattle.syslog_value.specs.Parts.{Parts}
-use Rattle.syslog_grammar.specs.WellFormed.{WellFormed}
+use Rattle.syslog_collect.specs.Readings.{Clock, IsReadAs}
 use Rattle.syslog_frame.specs.Frames.{Frames}
 use Rattle.syslog_frame.specs.declared.limits.TheConstants.{FRAME_MAX}
 use Rattle.archive_text.specs.Entries.{Entry, Has, IsEntryOf}
-use Rattle.syslog_collect.specs.History.{History, Stream, Told, after, nothing}
+use Rattle.syslog_collect.specs.History.{History, Stream, AcceptedEvent, history_of}
 
 -- these are the frames of an opening
 abbrev pub IsFramesOf : Stream → List (List ℕ) → Type 0
@@ -31,19 +31,28 @@ pub record HasFrames (h : History) (frames : List (List ℕ)) : Type 0 where
   pub ended_are : AreFramesOf h.ended ended_frames
   pub all : frames ≡ all_of open_frames ++ (all_of ended_frames ++ h.datagrams)
 
--- the entry is that of the record that a frame of at most `FRAME_MAX` octets spells
-abbrev pub IsEntryOfFrame : List ℕ → Entry → Type 0
-IsEntryOfFrame f x = (length f ≤ FRAME_MAX) × ((r : Parts ℤ) × WellFormed r f × IsEntryOf r x)
+-- the frame is one of these
+abbrev pub IsAmong : List (List ℕ) → List ℕ → Type 0
+IsAmong [] f = ⊥
+IsAmong (g ∷ gs) f = (g ≡ f) ⊎ IsAmong gs f
+
+-- the frame is one of the events'
+abbrev pub IsFrameOf : List AcceptedEvent → List ℕ → Type 0
+IsFrameOf es f = (frames : List (List ℕ)) × HasFrames (history_of es) frames × IsAmong frames f
+
+-- the entry is that of the record as which a frame of at most `FRAME_MAX` octets is read
+abbrev pub IsEntryOfFrame : Clock → List ℕ → Entry → Type 0
+IsEntryOfFrame clock f x = (length f ≤ FRAME_MAX) × ((r : Parts ℤ) × IsReadAs clock r f × IsEntryOf r x)
 
 -- the entry is that of one of the frames
-abbrev pub IsSpelled : List (List ℕ) → Entry → Type 0
-IsSpelled [] x = ⊥
-IsSpelled (f ∷ fs) x = IsEntryOfFrame f x ⊎ IsSpelled fs x
+abbrev pub IsSpelled : Clock → List (List ℕ) → Entry → Type 0
+IsSpelled clock [] x = ⊥
+IsSpelled clock (f ∷ fs) x = IsEntryOfFrame clock f x ⊎ IsSpelled clock fs x
 
--- the received set: the entries of the records that the frames of the events spell
-abbrev pub IsReceived : List Told → Entry → Type 0
-IsReceived es x = (frames : List (List ℕ)) × HasFrames (after nothing es) frames × IsSpelled frames x
+-- the received set: the entries of the records as which the frames of the events are read
+abbrev pub IsReceived : Clock → List AcceptedEvent → Entry → Type 0
+IsReceived clock es x = (frames : List (List ℕ)) × HasFrames (history_of es) frames × IsSpelled clock frames x
 
 -- the entries are those before and those of the frames, and no other
-abbrev pub Gains : List Entry → List Entry → List (List ℕ) → Type 0
-Gains old new frames = (x : Entry) → Has new x ↔ (Has old x ⊎ IsSpelled frames x)
+abbrev pub Gains : Clock → List Entry → List Entry → List (List ℕ) → Type 0
+Gains clock old new frames = (x : Entry) → Has new x ↔ (Has old x ⊎ IsSpelled clock frames x)

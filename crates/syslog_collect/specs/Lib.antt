@@ -1,3 +1,4 @@
+pub mod Readings
 pub mod Frames
 pub mod History
 pub mod Outcomes

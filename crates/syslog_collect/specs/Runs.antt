@@ -3,6 +3,7 @@ use Rattle.std.specs.Prelude.{◌≡◌, ℕ, ◌<◌, ◌≤◌, ◌⊎◌, Lis
 use Rattle.syslog_frame.specs.declared.phase.Phase.{Phase}
 use Rattle.syslog_frame.specs.declared.phase.Phase.TheVariants.{Counting, Inside, Ended as phase_Ended, BadCount as phase_BadCount, Failed}
 use Rattle.archive_text.specs.Entries.{Entry}
+use Rattle.syslog_collect.specs.Readings.{Clock}
 use Rattle.syslog_collect.specs.declared.connection.Connection.{Connection}
 use Rattle.syslog_collect.specs.declared.event.Event.{Event}
 use Rattle.syslog_collect.specs.declared.event.Event.TheVariants.{Opened as event_Opened, Piece as event_Piece, Ended as event_Ended, Datagram as event_Datagram}
@@ -15,9 +16,8 @@ use Rattle.syslog_collect.specs.declared.fault.CollectFault.TheVariants.{Already
 use Rattle.syslog_collect.specs.declared.outcome.Outcome.{Outcome}
 use Rattle.syslog_collect.specs.declared.piece.Step.{Step}
 use Rattle.syslog_collect.specs.declared.piece.Step.TheVariants.{Stopped as step_Stopped, Ended as step_Ended, On}
-use Rattle.syslog_collect.specs.Answers.{Moves}
-use Rattle.syslog_collect.specs.History.{Datagram, Ended, Opened, Piece, Stream, Told}
-use Rattle.syslog_collect.specs.Outcomes.{AreReported}
+use Rattle.syslog_collect.specs.Answers.{Advances}
+use Rattle.syslog_collect.specs.History.{Datagram, Ended, Opened, Piece, Stream, AcceptedEvent}
 
 -- how many octets were taken before a fault
 abbrev pub used_before : CollectFault → ℕ
@@ -70,14 +70,19 @@ piece_octets piece end_Done = piece
 piece_octets piece (end_Stopped taken fault) = take taken piece
 
 -- a connection moved by octets; or there were none, and nothing changed
-abbrev pub MovesOrStays : Connection → Connection → List Entry → List Entry → List ℕ → List Outcome → Stream → List (List ℕ) → Type 0
-MovesOrStays old new kept_old kept_new octets outcomes s handled =
-    ((octets ≡ []) × (new ≡ old) × (kept_new ≡ kept_old) × (outcomes ≡ [])) ⊎ Moves old new kept_old kept_new octets outcomes s handled
+abbrev pub AdvancesOrStays : Clock → Connection → Connection → List Entry → List Entry → List ℕ → List Outcome → Stream → List (List ℕ) → Type 0
+AdvancesOrStays clock old new kept_old kept_new octets outcomes s handled =
+    ((octets ≡ []) × (new ≡ old) × (kept_new ≡ kept_old) × (outcomes ≡ [])) ⊎ Advances clock old new kept_old kept_new octets outcomes s handled
 
--- and the log grew by the outcomes
-abbrev pub Logs : Connection → Connection → List Entry → List Entry → List ℕ → List Outcome → List Outcome → Stream → List (List ℕ) → Type 0
-Logs old new kept_old kept_new octets log_old log_new s handled =
-    (outcomes : List Outcome) × (log_new ≡ log_old ++ outcomes) × MovesOrStays old new kept_old kept_new octets outcomes s handled
+-- octets moved it, and the log grew by the outcomes
+abbrev pub LogsAdvance : Clock → Connection → Connection → List Entry → List Entry → List ℕ → List Outcome → List Outcome → Stream → List (List ℕ) → Type 0
+LogsAdvance clock old new kept_old kept_new octets log_old log_new s handled =
+    (outcomes : List Outcome) × (log_new ≡ log_old ++ outcomes) × Advances clock old new kept_old kept_new octets outcomes s handled
+
+-- the same, or nothing came
+abbrev pub Logs : Clock → Connection → Connection → List Entry → List Entry → List ℕ → List Outcome → List Outcome → Stream → List (List ℕ) → Type 0
+Logs clock old new kept_old kept_new octets log_old log_new s handled =
+    (outcomes : List Outcome) × (log_new ≡ log_old ++ outcomes) × AdvancesOrStays clock old new kept_old kept_new octets outcomes s handled
 
 -- whether a frame or a bad count is ready, as a number
 abbrev pub pending : Phase → ℕ
@@ -88,65 +93,66 @@ pending Inside = 0
 pending Failed = 0
 
 -- octets of a number, of which none are no event
-abbrev pub told_octets : ℕ → List ℕ → List Told
-told_octets c [] = []
-told_octets c (x ∷ xs) = Piece c (x ∷ xs) ∷ []
+abbrev pub nonempty_piece : ℕ → List ℕ → List AcceptedEvent
+nonempty_piece c [] = []
+nonempty_piece c (x ∷ xs) = Piece c (x ∷ xs) ∷ []
 
 -- the end of a number, where it is refused: an unfinished frame ends the connection too
-abbrev pub told_refused_end : ℕ → CollectFault → List Told
-told_refused_end c (Unterminated start) = Ended c ∷ []
-told_refused_end c AlreadyOpen = []
-told_refused_end c TooManyOpen = []
-told_refused_end c NotOpen = []
-told_refused_end c ConnFailed = []
-told_refused_end c StreamTooLong = []
-told_refused_end c Unreleased = []
-told_refused_end c (Memory n) = []
+abbrev pub accepted_refused_end : ℕ → CollectFault → List AcceptedEvent
+accepted_refused_end c (Unterminated start) = Ended c ∷ []
+accepted_refused_end c AlreadyOpen = []
+accepted_refused_end c TooManyOpen = []
+accepted_refused_end c NotOpen = []
+accepted_refused_end c ConnFailed = []
+accepted_refused_end c StreamTooLong = []
+accepted_refused_end c Unreleased = []
+accepted_refused_end c (Memory n) = []
 
--- what an event adds that was accepted
-abbrev pub told_event : Event → List Told
-told_event (event_Opened c k) = Opened c k ∷ []
-told_event (event_Piece c o) = told_octets c o.now
-told_event (event_Ended c) = Ended c ∷ []
-told_event (event_Datagram o) = Datagram o.now ∷ []
+-- an event that was accepted
+abbrev pub accepted_event : Event → AcceptedEvent
+accepted_event (event_Opened c k) = Opened c k
+accepted_event (event_Piece c o) = Piece c o.now
+accepted_event (event_Ended c) = Ended c
+accepted_event (event_Datagram o) = Datagram o.now
 
 -- what an event adds that was refused after so many octets
-abbrev pub told_part : Event → ℕ → CollectFault → List Told
-told_part (event_Opened c k) n fault = []
-told_part (event_Piece c o) n fault = told_octets c (take n o.now)
-told_part (event_Ended c) n fault = told_refused_end c fault
-told_part (event_Datagram o) n fault = []
+abbrev pub accepted_part : Event → ℕ → CollectFault → List AcceptedEvent
+accepted_part (event_Opened c k) n fault = []
+accepted_part (event_Piece c o) n fault = nonempty_piece c (take n o.now)
+accepted_part (event_Ended c) n fault = accepted_refused_end c fault
+accepted_part (event_Datagram o) n fault = []
 
-abbrev pub told_by : Event → EventEnd → List Told
-told_by e end_Done = told_event e
-told_by e (end_Stopped n fault) = told_part e n fault
+-- what an event adds, by how it ended
+abbrev pub accepted_by : Event → EventEnd → List AcceptedEvent
+accepted_by e end_Done = accepted_event e ∷ []
+accepted_by e (end_Stopped n fault) = accepted_part e n fault
+
+-- a piece's
+abbrev pub accepted_piece_end : ℕ → List ℕ → EventEnd → List AcceptedEvent
+accepted_piece_end c octets end_Done = Piece c octets ∷ []
+accepted_piece_end c octets (end_Stopped n fault) = nonempty_piece c (take n octets)
 
 -- a datagram's
-abbrev pub told_datagram_end : List ℕ → EventEnd → List Told
-told_datagram_end octets end_Done = Datagram octets ∷ []
-told_datagram_end octets (end_Stopped n fault) = []
+abbrev pub accepted_datagram_end : List ℕ → EventEnd → List AcceptedEvent
+accepted_datagram_end octets end_Done = Datagram octets ∷ []
+accepted_datagram_end octets (end_Stopped n fault) = []
 
 -- how an event ended whose call answered this
 abbrev pub event_end : {U : Type 0} → Result U CollectFault → EventEnd
 event_end (Ok u) = end_Done
 event_end (Err fault) = end_Stopped 0 fault
 
--- what all events add, one after the other
-abbrev pub told_all : List Event → List Told
-told_all [] = []
-told_all (e ∷ es) = told_event e ++ told_all es
+-- what all events add
+abbrev pub accepted_all : List Event → List AcceptedEvent
+accepted_all [] = []
+accepted_all (e ∷ es) = accepted_event e ∷ accepted_all es
 
 -- the part of the first of the events
-abbrev pub told_first : List Event → ℕ → CollectFault → List Told
-told_first [] n fault = []
-told_first (e ∷ es) n fault = told_part e n fault
+abbrev pub accepted_first : List Event → ℕ → CollectFault → List AcceptedEvent
+accepted_first [] n fault = []
+accepted_first (e ∷ es) n fault = accepted_part e n fault
 
 -- what a run accepted: all events; or those before the one that was refused, and a part of that
-abbrev pub told_run : List Event → RunEnd → List Told
-told_run es Done = told_all es
-told_run es (Stopped at n fault) = told_all (take at es) ++ told_first (drop at es) n fault
-
--- the log grew by the outcomes of frames that were handled, in order
-abbrev pub LogsFrames : List Entry → List Entry → List Outcome → List Outcome → Type 0
-LogsFrames kept_old kept_new log_old log_new = (outcomes : List Outcome) × (frames : List (List ℕ))
-    × (log_new ≡ log_old ++ outcomes) × AreReported kept_old kept_new frames outcomes
+abbrev pub accepted_run : List Event → RunEnd → List AcceptedEvent
+accepted_run es Done = accepted_all es
+accepted_run es (Stopped at n fault) = accepted_all (take at es) ++ accepted_first (drop at es) n fault

@@ -1,8 +1,9 @@
 //! What a connection does with a piece.
 
 ghost use Rattle.std.specs.Prelude.{◌≡◌, ◌<◌, ◌≤◌, ℕ, List, IfOk, OnErr, OnOk, length};
-ghost use Rattle.syslog_frame.specs.Scan.{HasReady, IsFailed, IsReading};
-ghost use Rattle.syslog_collect.specs.Answers.{IsBadCount, IsCause, IsUsedWithin, MovesBy};
+ghost use Rattle.syslog_frame.specs.Scan.{HasFrame, HasReady, IsFailed, IsReading};
+ghost use Rattle.syslog_collect.specs.Answers.{AdvancesBy, IfMemory, IfRefused};
+ghost use Rattle.syslog_collect.specs.Answers.{IsBadCount, IsCause, IsUsedWithin};
 ghost use Rattle.syslog_collect.specs.Answers.{accepted_octets, answered, dropped_octets};
 ghost use Rattle.syslog_collect.specs.History.{Stream};
 ghost use Rattle.syslog_collect.specs.Standing.{IsAt};
@@ -12,10 +13,12 @@ use crate::fault::{Advance, CollectFault};
 use archive_text::Store;
 use std::alloc::Global;
 use syslog_frame::ScanFault;
+use syslog_legacy::LegacyClock;
 
 /// Takes octets of a piece up to the end of a frame at most, and handles the frame that is ready.
 pub fn advance_connection<S: Store>(
     alloc: Global,
+    clock: Option<LegacyClock>,
     connection: &mut Connection,
     store: &mut S,
     piece: &[u8],
@@ -27,16 +30,21 @@ pub fn advance_connection<S: Store>(
         → a.used ≡ 0 → IsBadCount a.outcome) }
     ensures live { OnOk result (¬ (IsFailed connection.old.scanner)) }
     ensures number { connection.new.number ≡ connection.old.number }
+    // Where memory was refused, the frame stays ready, and the store is what it was.
+    ensures waits { IfMemory result (HasFrame connection.new.scanner) }
+    ensures err { OnErr result (S.entries store.new ≡ S.entries store.old) }
 
-    // Why it is refused.
+    // Why it is refused, and that nothing has changed then, but where memory was refused.
     ensures cause { (s : Stream) (handled : List (List ℕ)) → IsAt connection.old s handled
-        → IsCause piece.now result s }
+        → IsCause clock piece.now result s }
+    ensures unchanged { IfRefused result
+        ((connection.new ≡ connection.old) × (store.new ≡ store.old)) }
     // What was accepted, with the octets that follow a bad one or without them.
     ensures moves { (s : Stream) (handled : List (List ℕ)) → IsAt connection.old s handled
-        → MovesBy (accepted_octets piece.now result) connection.old connection.new
+        → AdvancesBy clock (accepted_octets piece.now result) connection.old connection.new
         (S.entries store.old) (S.entries store.new) (answered result) s handled }
     ensures drops { (s : Stream) (handled : List (List ℕ)) → IsAt connection.old s handled
-        → MovesBy (dropped_octets piece.now result) connection.old connection.new
+        → AdvancesBy clock (dropped_octets piece.now result) connection.old connection.new
         (S.entries store.old) (S.entries store.new) (answered result) s handled }
 {
     let used = match connection.scanner.push(piece) {
@@ -44,7 +52,7 @@ pub fn advance_connection<S: Store>(
         Err(ScanFault::Failed) => return Err(CollectFault::ConnFailed),
         Err(ScanFault::StreamTooLong) => return Err(CollectFault::StreamTooLong),
     };
-    let Ok(outcome) = handle_ready(alloc, &connection.scanner, store) else {
+    let Ok(outcome) = handle_ready(alloc, clock, &connection.scanner, store) else {
         return Err(CollectFault::Memory { used });
     };
     let _ = connection.scanner.release();

@@ -4,12 +4,13 @@ ghost use Rattle.std.specs.Prelude.{◌≡◌, ◌⊎◌, ◌↔◌, ◌++◌, �
 ghost use Rattle.std.specs.List.{position_from};
 ghost use Rattle.archive_text.specs.Entries.{Entry, Has};
 ghost use Rattle.archive_text.specs.Text.{IsArchive, text_of};
-ghost use Rattle.syslog_collect.specs.Answers.{IfUnreleased, IsAnswerAt, IsEnding, IsOpening, IsUsedWithin};
-ghost use Rattle.syslog_collect.specs.Answers.{Reports, accepted_octets, dropped_octets, used_octets};
-ghost use Rattle.syslog_collect.specs.Answers.{told_datagram, told_ending, told_opening, told_piece};
+ghost use Rattle.syslog_collect.specs.Answers.{IfRefused, IfUnreleased, IsAnswerAt, IsEnding, IsOpening};
+ghost use Rattle.syslog_collect.specs.Answers.{IsUsedWithin, accepted_octets, dropped_octets, used_octets};
+ghost use Rattle.syslog_collect.specs.Answers.{accepted_datagram, accepted_ending, accepted_opening, accepted_piece};
 ghost use Rattle.syslog_collect.specs.Frames.{IsReceived};
 ghost use Rattle.syslog_collect.specs.Headline.{IsSettled, IsUnion, ReceivedBoth, ReceivedSame};
-ghost use Rattle.syslog_collect.specs.History.{Told, after, nothing};
+ghost use Rattle.syslog_collect.specs.History.{AcceptedEvent, history_of};
+ghost use Rattle.syslog_collect.specs.Logs.{Reports, waiting, waiting_then};
 ghost use Rattle.syslog_collect.specs.Outcomes.{IsOutcome, IsRecordFrame, outcomes_of};
 ghost use Rattle.syslog_collect.specs.Standing.{Stands};
 
@@ -21,16 +22,18 @@ use crate::outcome::Outcome;
 use archive_text::{ENTRY_MAX, Store};
 use std::alloc::{AllocError, Global};
 use syslog_frame::{EndFault, Framing, Scanner};
+use syslog_legacy::LegacyClock;
 
 /// A collector: open connections, and the store into which the records of their frames go.
 ///
 /// A store with the records of all frames that came is reached in any cut of the streams into
-/// pieces, any order of the connections' pieces and any repetition. There is no clock for legacy
-/// records (RFC 3164) yet: a frame that is no record of RFC 5424 is refused.
+/// pieces, any order of the connections' pieces and any repetition. With a clock, frames without
+/// the front of RFC 5424 are read as legacy packets (RFC 3164).
 #[derive(Drop)]
 pub struct Collector<S> {
     pub(crate) store: S,
     pub(crate) connections: Vec<Connection>,
+    pub(crate) clock: Option<LegacyClock>,
 }
 
 /// Where the connection of a number is.
@@ -45,14 +48,19 @@ pub(crate) fn place(connections: &[Connection], number: u32) -> Option<usize>
 impl<S: Store> Collector<S> {
     /// A collector over a store, with room for `CONNECTIONS_MAX` connections. Where that is
     /// refused, the store comes back.
-    pub fn new(alloc: Global, store: S) -> Result<Collector<S>, S>
+    pub fn new(alloc: Global, store: S, clock: Option<LegacyClock>) -> Result<Collector<S>, S>
         ensures stands { IfOk result (λ c.
-            Stands c.connections.items (S.entries c.store) (S.entries store) []) }
+            Stands clock c.connections.items (S.entries c.store) (S.entries store) []) }
         ensures settled { IfOk result (λ c. IsSettled c.connections.items) }
+        ensures clock { IfOk result (λ c. c.clock ≡ clock) }
         ensures back { IfErr result (λ s. s ≡ store) }
     {
         match Vec::with_capacity(alloc, CONNECTIONS_MAX) {
-            Ok(connections) => Ok(Collector { store, connections }),
+            Ok(connections) => Ok(Collector {
+                store,
+                connections,
+                clock,
+            }),
             Err(_) => Err(store),
         }
     }
@@ -65,17 +73,20 @@ impl<S: Store> Collector<S> {
         conn: u32,
         framing: Framing,
     ) -> Result<(), CollectFault>
-        ensures stands { (first : List Entry) (events : List Told)
-            → Stands self.old.connections.items (S.entries self.old.store) first events
-            → Stands self.new.connections.items (S.entries self.new.store) first
-            (events ++ told_opening conn framing result) }
-        ensures cause { (first : List Entry) (events : List Told)
-            → Stands self.old.connections.items (S.entries self.old.store) first events
-            → IsOpening conn result (after nothing events) }
+        ensures stands { (first : List Entry) (events : List AcceptedEvent)
+            → Stands self.old.clock self.old.connections.items (S.entries self.old.store) first events
+            → Stands self.new.clock self.new.connections.items (S.entries self.new.store) first
+            (events ++ accepted_opening conn framing result) }
+        ensures cause { (first : List Entry) (events : List AcceptedEvent)
+            → Stands self.old.clock self.old.connections.items (S.entries self.old.store) first events
+            → IsOpening conn result (history_of events) }
         ensures settled { IsSettled self.old.connections.items
             → IsSettled self.new.connections.items }
+        ensures waits { (d : ℕ) → waiting self.new.connections.items d
+            ≡ waiting self.old.connections.items d }
         ensures err { OnErr result (self.new.connections.items ≡ self.old.connections.items) }
         ensures store { self.new.store ≡ self.old.store }
+        ensures clock { self.new.clock ≡ self.old.clock }
     {
         if place(&self.connections, conn).is_some() {
             return Err(CollectFault::AlreadyOpen);
@@ -109,66 +120,91 @@ impl<S: Store> Collector<S> {
     ) -> Result<Advance, CollectFault>
         ensures within { IsUsedWithin piece.now result }
         // It stands at the events with what was accepted: the octets used, and a bad one.
-        ensures stands { (first : List Entry) (events : List Told)
-            → Stands self.old.connections.items (S.entries self.old.store) first events
-            → Stands self.new.connections.items (S.entries self.new.store) first
-            (events ++ told_piece conn (accepted_octets piece.now result)) }
+        ensures stands { (first : List Entry) (events : List AcceptedEvent)
+            → Stands self.old.clock self.old.connections.items (S.entries self.old.store) first events
+            → Stands self.new.clock self.new.connections.items (S.entries self.new.store) first
+            (events ++ accepted_piece conn (accepted_octets piece.now result)) }
         // The octets that follow a bad one change nothing.
-        ensures drops { (first : List Entry) (events : List Told)
-            → Stands self.old.connections.items (S.entries self.old.store) first events
-            → Stands self.new.connections.items (S.entries self.new.store) first
-            (events ++ told_piece conn (dropped_octets piece.now result)) }
-        // The outcome is that of the last frame of the octets so far; and why the piece is refused.
-        ensures outcome { (first : List Entry) (events : List Told)
-            → Stands self.old.connections.items (S.entries self.old.store) first events
-            → IfOk result (λ a. Reports conn (used_octets piece.now a) (after nothing events)
+        ensures drops { (first : List Entry) (events : List AcceptedEvent)
+            → Stands self.old.clock self.old.connections.items (S.entries self.old.store) first events
+            → Stands self.new.clock self.new.connections.items (S.entries self.new.store) first
+            (events ++ accepted_piece conn (dropped_octets piece.now result)) }
+        // The outcome is that of the frame that waited, or else that the octets complete; there is
+        // none exactly where there is no such frame, and no bad count.
+        ensures outcome { (first : List Entry) (events : List AcceptedEvent)
+            → Stands self.old.clock self.old.connections.items (S.entries self.old.store) first events
+            → IfOk result (λ a. Reports self.old.clock conn (used_octets piece.now a) (history_of events)
+            (waiting self.old.connections.items conn)
             (S.entries self.old.store) (S.entries self.new.store) (outcomes_of a.outcome)) }
-        ensures cause { (first : List Entry) (events : List Told)
-            → Stands self.old.connections.items (S.entries self.old.store) first events
-            → IsAnswerAt conn piece.now result (after nothing events) }
+        // After Ok no frame of the connection waits; where memory was refused, one does.
+        ensures waits { (d : ℕ) → waiting self.new.connections.items d
+            ≡ waiting_then result conn (waiting self.old.connections.items) d }
+        // Why the piece is refused.
+        ensures cause { (first : List Entry) (events : List AcceptedEvent)
+            → Stands self.old.clock self.old.connections.items (S.entries self.old.store) first events
+            → IsAnswerAt self.old.clock conn piece.now result (history_of events) }
+        // A refusal changes nothing, but where memory was refused.
+        ensures unchanged { IfRefused result ((self.new.connections.items ≡ self.old.connections.items)
+            × (self.new.store ≡ self.old.store)) }
+        ensures err { OnErr result (S.entries self.new.store ≡ S.entries self.old.store) }
+        ensures clock { self.new.clock ≡ self.old.clock }
         // After Ok no frame of the connection is left ready.
         ensures settled { OnOk result (IsSettled self.old.connections.items
             → IsSettled self.new.connections.items) }
     {
         match place(&self.connections, conn) {
             None => Err(CollectFault::NotOpen),
-            Some(at) => {
-                advance_connection(alloc, &mut self.connections[at], &mut self.store, piece)
-            }
+            Some(at) => advance_connection(
+                alloc,
+                self.clock,
+                &mut self.connections[at],
+                &mut self.store,
+                piece,
+            ),
         }
     }
 
     /// Handles a datagram.
     pub fn datagram(&mut self, alloc: Global, octets: &[u8]) -> Result<Outcome, AllocError>
-        ensures stands { (first : List Entry) (events : List Told)
-            → Stands self.old.connections.items (S.entries self.old.store) first events
-            → Stands self.new.connections.items (S.entries self.new.store) first
-            (events ++ told_datagram octets.now result) }
+        ensures stands { (first : List Entry) (events : List AcceptedEvent)
+            → Stands self.old.clock self.old.connections.items (S.entries self.old.store) first events
+            → Stands self.new.clock self.new.connections.items (S.entries self.new.store) first
+            (events ++ accepted_datagram octets.now result) }
         ensures outcome { IfOk result (λ o.
-            IsOutcome (S.entries self.old.store) (S.entries self.new.store) octets.now o) }
+            IsOutcome self.old.clock (S.entries self.old.store) (S.entries self.new.store)
+            octets.now o) }
         ensures err { OnErr result (S.entries self.new.store ≡ S.entries self.old.store) }
         ensures connections { self.new.connections.items ≡ self.old.connections.items }
-        ensures spelled { OnErr result (IsRecordFrame octets.now) }
+        ensures clock { self.new.clock ≡ self.old.clock }
+        ensures spelled { OnErr result (IsRecordFrame self.old.clock octets.now) }
     {
-        handle(alloc, &mut self.store, octets)
+        handle(alloc, self.clock, &mut self.store, octets)
     }
 
     /// Ends a connection. It is closed after Ok, and after `Unterminated` too; one whose stream
     /// held a bad count is closed with Ok.
     pub fn end_conn(&mut self, conn: u32) -> Result<(), CollectFault>
-        ensures stands { (first : List Entry) (events : List Told)
-            → Stands self.old.connections.items (S.entries self.old.store) first events
-            → Stands self.new.connections.items (S.entries self.new.store) first
-            (events ++ told_ending conn result) }
-        ensures cause { (first : List Entry) (events : List Told)
-            → Stands self.old.connections.items (S.entries self.old.store) first events
-            → IsEnding conn result (after nothing events) }
-        ensures unreleased { (first : List Entry) (events : List Told)
-            → Stands self.old.connections.items (S.entries self.old.store) first events
+        ensures stands { (first : List Entry) (events : List AcceptedEvent)
+            → Stands self.old.clock self.old.connections.items (S.entries self.old.store) first events
+            → Stands self.new.clock self.new.connections.items (S.entries self.new.store) first
+            (events ++ accepted_ending conn result) }
+        ensures cause { (first : List Entry) (events : List AcceptedEvent)
+            → Stands self.old.clock self.old.connections.items (S.entries self.old.store) first events
+            → IsEnding conn result (history_of events) }
+        ensures unreleased { (first : List Entry) (events : List AcceptedEvent)
+            → Stands self.old.clock self.old.connections.items (S.entries self.old.store) first events
             → IfUnreleased result (¬ (IsSettled self.old.connections.items)) }
+        ensures unchanged { IfRefused result
+            (self.new.connections.items ≡ self.old.connections.items) }
         ensures settled { IsSettled self.old.connections.items
             → IsSettled self.new.connections.items }
+        // No frame of another connection is lost.
+        ensures waits { (first : List Entry) (events : List AcceptedEvent)
+            → Stands self.old.clock self.old.connections.items (S.entries self.old.store) first events
+            → (d : ℕ) → waiting self.new.connections.items d
+            ≡ waiting self.old.connections.items d }
         ensures store { self.new.store ≡ self.old.store }
+        ensures clock { self.new.clock ≡ self.old.clock }
     {
         let at = match place(&self.connections, conn) {
             None => return Err(CollectFault::NotOpen),
@@ -194,10 +230,10 @@ impl<S: Store> Collector<S> {
     /// The store. Where no frame is left ready, it holds what was there first and the received set.
     pub fn store(&self) -> &S
         ensures same { result.now ≡ self.now.store }
-        ensures received { (first : List Entry) (events : List Told)
-            → Stands self.now.connections.items (S.entries self.now.store) first events
+        ensures received { (first : List Entry) (events : List AcceptedEvent)
+            → Stands self.now.clock self.now.connections.items (S.entries self.now.store) first events
             → IsSettled self.now.connections.items
-            → (x : Entry) → Has (S.entries result.now) x ↔ (Has first x ⊎ IsReceived events x) }
+            → (x : Entry) → Has (S.entries result.now) x ↔ (Has first x ⊎ IsReceived self.now.clock events x) }
     {
         &self.store
     }
@@ -205,34 +241,36 @@ impl<S: Store> Collector<S> {
 
 /// The headline: two collectors over stores that were empty, of any two kinds, whose received sets
 /// are equal, hold the same entries, in one order. So their archives, as `Store::write` writes them,
-/// are byte-equal, whatever the framings, cuts, orders, interleavings and repetitions were.
+/// are byte-equal, whatever the framings, cuts, orders, interleavings and repetitions were. Both
+/// have the same clock for legacy packets, or none.
 pub fn same_archives<S: Store, T: Store>(one: &Collector<S>, two: &Collector<T>)
-    ensures entries { (events others : List Told)
-        → Stands one.now.connections.items (S.entries one.now.store) [] events
-        → Stands two.now.connections.items (T.entries two.now.store) [] others
+    ensures entries { (events others : List AcceptedEvent) → one.now.clock ≡ two.now.clock
+        → Stands one.now.clock one.now.connections.items (S.entries one.now.store) [] events
+        → Stands two.now.clock two.now.connections.items (T.entries two.now.store) [] others
         → IsSettled one.now.connections.items → IsSettled two.now.connections.items
-        → ReceivedSame events others → S.entries one.now.store ≡ T.entries two.now.store }
-    ensures texts { (events others : List Told)
-        → Stands one.now.connections.items (S.entries one.now.store) [] events
-        → Stands two.now.connections.items (T.entries two.now.store) [] others
+        → ReceivedSame one.now.clock events others → S.entries one.now.store ≡ T.entries two.now.store }
+    ensures texts { (events others : List AcceptedEvent) → one.now.clock ≡ two.now.clock
+        → Stands one.now.clock one.now.connections.items (S.entries one.now.store) [] events
+        → Stands two.now.clock two.now.connections.items (T.entries two.now.store) [] others
         → IsSettled one.now.connections.items → IsSettled two.now.connections.items
-        → ReceivedSame events others
+        → ReceivedSame one.now.clock events others
         → text_of (S.entries one.now.store) ≡ text_of (T.entries two.now.store) }
 {}
 
 /// Merging: the union of the archives of two collectors is the archive of a collector that received
-/// what the two did.
+/// what the two did. All have the same clock for legacy packets, or none.
 pub fn merged_archives<S: Store, T: Store, U: Store>(
     one: &Collector<S>,
     two: &Collector<T>,
     all: &Collector<U>,
 )
-    ensures { (events others both : List Told) (merged : List Entry)
-        → Stands one.now.connections.items (S.entries one.now.store) [] events
-        → Stands two.now.connections.items (T.entries two.now.store) [] others
-        → Stands all.now.connections.items (U.entries all.now.store) [] both
+    ensures { (events others both : List AcceptedEvent) (merged : List Entry)
+        → one.now.clock ≡ two.now.clock → one.now.clock ≡ all.now.clock
+        → Stands one.now.clock one.now.connections.items (S.entries one.now.store) [] events
+        → Stands two.now.clock two.now.connections.items (T.entries two.now.store) [] others
+        → Stands all.now.clock all.now.connections.items (U.entries all.now.store) [] both
         → IsSettled one.now.connections.items → IsSettled two.now.connections.items
-        → IsSettled all.now.connections.items → ReceivedBoth both events others
+        → IsSettled all.now.connections.items → ReceivedBoth one.now.clock both events others
         → IsArchive ENTRY_MAX merged
         → IsUnion merged (S.entries one.now.store) (T.entries two.now.store)
         → merged ≡ U.entries all.now.store }

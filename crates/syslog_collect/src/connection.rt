@@ -2,15 +2,19 @@
 
 ghost use Rattle.std.specs.Prelude.{◌≡◌, ◌≤◌, ◌<◌, ◌⊎◌, ℕ, List, length, IfOk, OnErr, OnOk};
 ghost use Rattle.syslog_grammar.specs.ViewParts.{IsViewOf, view_parts};
+ghost use Rattle.syslog_legacy.specs.NewForm.{HasNewForm};
+ghost use Rattle.syslog_legacy.specs.Readings.{Legacy, ReadAs};
+ghost use Rattle.syslog_legacy.specs.Views.{legacy_view_parts};
 ghost use Rattle.syslog_frame.specs.Scan.{HasFrame};
-ghost use Rattle.syslog_collect.specs.Outcomes.{HandlesReady, HasEntry, HasRecord};
-ghost use Rattle.syslog_collect.specs.Outcomes.{IsOutcome, IsRecordFrame};
+ghost use Rattle.syslog_collect.specs.Outcomes.{HandlesReady, HasEntry, HasFittingEntry, HasRecord};
+ghost use Rattle.syslog_collect.specs.Outcomes.{IsOutcome, IsRecordFrame, added_outcome};
 
 use crate::outcome::Outcome;
 use archive_text::{AddFault, Added, Store};
 use std::alloc::{AllocError, Global};
 use syslog_frame::{FRAME_MAX, Ready, Scanner};
 use syslog_grammar::{RecordView, view};
+use syslog_legacy::{LegacyClock, LegacyView, has_new_form, legacy_view};
 
 /// An open connection.
 #[derive(Drop)]
@@ -31,24 +35,79 @@ fn has_entry(shown: &RecordView<'_>)
     }
 }
 
-/// Adds the record of a frame to a store, if it is one.
-pub fn handle<S: Store>(alloc: Global, store: &mut S, frame: &[u8]) -> Result<Outcome, AllocError>
-    ensures outcome { IfOk result (λ o.
-        IsOutcome (S.entries store.old) (S.entries store.new) frame.now o) }
-    ensures err { OnErr result (S.entries store.new ≡ S.entries store.old) }
-    // Memory is refused for records alone.
-    ensures spelled { OnErr result (IsRecordFrame frame.now) }
+/// The record that a legacy view shows has an entry, which fits an archive.
+fn has_legacy_entry(clock: &LegacyClock, shown: &LegacyView<'_>)
+    ensures { (b : List ℕ) → Legacy clock.now (ReadAs (legacy_view_parts shown.now)) b
+        → length b ≤ FRAME_MAX → HasFittingEntry (legacy_view_parts shown.now) }
 {
-    if frame.len() > FRAME_MAX {
-        return Ok(Outcome::TooLong);
+    let _year = clock.year();
+    let _offset = clock.offset_minutes();
+    match shown.instant() {
+        None => {}
+        Some(instant) => {
+            let _civil = instant.civil();
+        }
     }
+}
+
+fn outcome_of(added: Added) -> Outcome
+    ensures { result ≡ added_outcome added }
+{
+    match added {
+        Added::New => Outcome::New,
+        Added::Held => Outcome::Held,
+    }
+}
+
+/// Adds the record of a legacy packet to a store.
+fn handle_legacy<S: Store>(
+    alloc: Global,
+    clock: &LegacyClock,
+    store: &mut S,
+    packet: &[u8],
+) -> Result<Outcome, AllocError>
+    requires within { length packet.now ≤ FRAME_MAX }
+    requires legacy { ¬ (HasNewForm packet.now) }
+    ensures outcome { IfOk result (λ o.
+        IsOutcome (Some clock.now) (S.entries store.old) (S.entries store.new) packet.now o) }
+    ensures err { OnErr result (S.entries store.new ≡ S.entries store.old) }
+    ensures spelled { OnErr result (IsRecordFrame (Some clock.now) packet.now) }
+{
+    let shown = match legacy_view(clock, packet) {
+        Ok(shown) => shown,
+        Err(fault) => {
+            return Ok(Outcome::RefusedLegacy {
+                offset: fault.offset,
+            });
+        }
+    };
+    let Ok(owned) = shown.to_record(alloc) else {
+        return Err(AllocError);
+    };
+    match store.add(alloc, &owned) {
+        Ok(added) => Ok(outcome_of(added)),
+        Err(AddFault::Memory) => Err(AllocError),
+        Err(AddFault::TooLong) => {
+            has_legacy_entry(clock, &shown);
+            unreachable!()
+        }
+    }
+}
+
+/// Adds the record of a frame in the form of RFC 5424 to a store.
+fn handle_new<S: Store>(alloc: Global, store: &mut S, frame: &[u8]) -> Result<Outcome, AllocError>
+    requires { length frame.now ≤ FRAME_MAX }
+    ensures outcome { IfOk result (λ o.
+        IsOutcome None (S.entries store.old) (S.entries store.new) frame.now o) }
+    ensures err { OnErr result (S.entries store.new ≡ S.entries store.old) }
+    ensures spelled { OnErr result (IsRecordFrame None frame.now) }
+{
     let shown = match view(frame) {
         Ok(shown) => shown,
         Err(fault) => return Ok(Outcome::Refused(fault)),
     };
     match store.add_view(alloc, &shown) {
-        Ok(Added::New) => Ok(Outcome::New),
-        Ok(Added::Held) => Ok(Outcome::Held),
+        Ok(added) => Ok(outcome_of(added)),
         Err(AddFault::Memory) => Err(AllocError),
         Err(AddFault::TooLong) => {
             has_entry(&shown);
@@ -57,23 +116,50 @@ pub fn handle<S: Store>(alloc: Global, store: &mut S, frame: &[u8]) -> Result<Ou
     }
 }
 
+/// Adds the record of a frame to a store, if it is one. With a clock, a frame without the front of
+/// RFC 5424 is a legacy packet.
+pub fn handle<S: Store>(
+    alloc: Global,
+    clock: Option<LegacyClock>,
+    store: &mut S,
+    frame: &[u8],
+) -> Result<Outcome, AllocError>
+    ensures outcome { IfOk result (λ o.
+        IsOutcome clock (S.entries store.old) (S.entries store.new) frame.now o) }
+    ensures err { OnErr result (S.entries store.new ≡ S.entries store.old) }
+    // Memory is refused for records alone.
+    ensures spelled { OnErr result (IsRecordFrame clock frame.now) }
+{
+    if frame.len() > FRAME_MAX {
+        return Ok(Outcome::TooLong);
+    }
+    let Some(clock) = clock else {
+        return handle_new(alloc, store, frame);
+    };
+    if has_new_form(frame) {
+        return handle_new(alloc, store, frame);
+    }
+    handle_legacy(alloc, &clock, store, frame)
+}
+
 /// Handles what a scanner has ready, and leaves it ready.
 pub fn handle_ready<S: Store>(
     alloc: Global,
+    clock: Option<LegacyClock>,
     scanner: &Scanner,
     store: &mut S,
 ) -> Result<Option<Outcome>, AllocError>
     ensures handles { IfOk result (λ o.
-        HandlesReady scanner.now (S.entries store.old) (S.entries store.new) o) }
+        HandlesReady clock scanner.now (S.entries store.old) (S.entries store.new) o) }
     ensures err { OnErr result (S.entries store.new ≡ S.entries store.old) }
     ensures waits { OnErr result (HasFrame scanner.now) }
-    ensures spelled { OnErr result (HasRecord scanner.now) }
+    ensures spelled { OnErr result (HasRecord clock scanner.now) }
 {
     match scanner.ready() {
         None => Ok(None),
         Some(Ready::BadCount { at }) => Ok(Some(Outcome::BadCount { at })),
         Some(Ready::TooLong) => Ok(Some(Outcome::TooLong)),
-        Some(Ready::Frame(frame)) => match handle(alloc, store, frame) {
+        Some(Ready::Frame(frame)) => match handle(alloc, clock, store, frame) {
             Ok(outcome) => Ok(Some(outcome)),
             Err(fault) => Err(fault),
         },

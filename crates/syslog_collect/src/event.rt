@@ -1,4 +1,4 @@
-//! What a collector is told, and how a run of it ends.
+//! The events that a collector is given, and how a run over them ends.
 
 use crate::fault::CollectFault;
 use syslog_frame::Framing;

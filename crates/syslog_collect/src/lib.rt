@@ -5,18 +5,25 @@
 //! archives. That is the contract of [`same_archives`]; [`merged_archives`] says the same of the
 //! union of two archives, and [`Collector::store`] that the store is the received set.
 //!
+//! A collector with a `LegacyClock` reads each frame without the front of RFC 5424 as a legacy
+//! packet (RFC 3164); then both collectors have the same clock.
+//!
 //! The words of these contracts stand in `specs/`:
 //!
-//! - History: what a list of events says, with no word of how a collector works. `Told` is an event
-//!   that was accepted, `AreAcceptable` says which events may come, and `after` folds them into the
-//!   openings with their octets and the datagrams.
+//! - History: what a list of events says, with no word of how a collector works. `AcceptedEvent` is
+//!   an event that was accepted, `AreAcceptable` says which events may come, and `history_of` folds
+//!   them into the openings with their octets and the datagrams.
+//! - Readings: `IsReadAs`, the record as which a frame is read. Without a clock it is the record of
+//!   RFC 5424 that the frame spells ([`frames_have_one_reading`]).
 //! - Frames: `HasFrames`, the frames of all openings and datagrams; `IsReceived`, the received set:
-//!   the records that a frame of at most `FRAME_MAX` octets spells, each as its entry.
+//!   the records as which a frame of at most `FRAME_MAX` octets is read, each as its entry
+//!   ([`received_records`]).
 //! - Standing: `Stands`, where a collector is after events over a first set. Each call's clause
 //!   `stands` says that it then stands at these events with those that the call accepted.
 //! - Answers and Runs: what a call or a run accepted, as a function of its answer, and the cause of
 //!   each refusal. Outcomes: what becomes of a frame.
-//! - Logs: the log of a run, outcome by outcome.
+//! - Logs: `LogsRun`, the log of a run, outcome by outcome; `waiting`, how many frames of a
+//!   connection wait, since memory was refused for them.
 //! - Headline: `IsSettled`, that no frame is left ready, and `ReceivedSame`.
 #![tactic(auto)]
 
@@ -25,6 +32,7 @@ mod collector;
 mod connection;
 mod event;
 mod fault;
+mod law;
 mod limits;
 mod outcome;
 mod piece;
@@ -33,5 +41,6 @@ mod running;
 pub use collector::{Collector, merged_archives, same_archives};
 pub use event::{Event, RunEnd};
 pub use fault::{Advance, CollectFault};
+pub use law::{frames_have_one_reading, received_records};
 pub use limits::CONNECTIONS_MAX;
 pub use outcome::Outcome;

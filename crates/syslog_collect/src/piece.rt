@@ -4,7 +4,7 @@ ghost use Rattle.std.specs.Prelude.{◌≡◌, ◌++◌, ◌<◌, ◌≤◌, ◌
 ghost use Rattle.syslog_collect.specs.Answers.{IsBadCount};
 ghost use Rattle.syslog_collect.specs.History.{Stream};
 ghost use Rattle.syslog_collect.specs.Outcomes.{outcomes_of};
-ghost use Rattle.syslog_collect.specs.Runs.{IfAccepted, IfDone, IsStepWithin, Logs, OnGoing};
+ghost use Rattle.syslog_collect.specs.Runs.{IfAccepted, IfDone, IsStepWithin, Logs, LogsAdvance, OnGoing};
 ghost use Rattle.syslog_collect.specs.Runs.{piece_octets, step_octets, used_before};
 ghost use Rattle.syslog_collect.specs.Standing.{IsAt};
 ghost use Rattle.syslog_frame.specs.Scan.{HasReady};
@@ -16,6 +16,7 @@ use crate::fault::CollectFault;
 use crate::outcome::Outcome;
 use archive_text::Store;
 use std::alloc::Global;
+use syslog_legacy::LegacyClock;
 
 /// What one advance did with the rest of a piece.
 #[derive(Clone, Copy, Debug)]
@@ -56,6 +57,7 @@ pub fn note(log: &mut Vec<Outcome>, outcome: Option<Outcome>)
 /// Advances a connection once, and appends the outcome to the log, in which room is made first.
 fn take_step<S: Store>(
     alloc: Global,
+    clock: Option<LegacyClock>,
     connection: &mut Connection,
     store: &mut S,
     rest: &[u8],
@@ -65,14 +67,17 @@ fn take_step<S: Store>(
     ensures settled { IfAccepted result (¬ (HasReady connection.new.scanner)) }
     ensures progress { OnGoing result (λ used. (0 < used) ⊎ HasReady connection.old.scanner) }
     ensures moves { (s : Stream) (handled : List (List ℕ)) → IsAt connection.old s handled
-        → Logs connection.old connection.new (S.entries store.old) (S.entries store.new)
+        → Logs clock connection.old connection.new (S.entries store.old) (S.entries store.new)
         (step_octets rest.now result) log.old.items log.new.items s handled }
+    ensures accepted { (s : Stream) (handled : List (List ℕ)) → IsAt connection.old s handled
+        → IfAccepted result (LogsAdvance clock connection.old connection.new (S.entries store.old)
+        (S.entries store.new) (step_octets rest.now result) log.old.items log.new.items s handled) }
 {
     if log.reserve(1).is_err() {
         let fault = CollectFault::Memory { used: 0 };
         return Step::Stopped { used: 0, fault };
     }
-    let advance = match advance_connection(alloc, connection, store, rest) {
+    let advance = match advance_connection(alloc, clock, connection, store, rest) {
         Ok(advance) => advance,
         Err(fault) => {
             let used = used_of(fault);
@@ -89,6 +94,7 @@ fn take_step<S: Store>(
 /// Advances a connection until the piece is used up, and at least once.
 pub fn take_piece<S: Store>(
     alloc: Global,
+    clock: Option<LegacyClock>,
     connection: &mut Connection,
     store: &mut S,
     piece: &[u8],
@@ -96,12 +102,15 @@ pub fn take_piece<S: Store>(
 ) -> EventEnd
     ensures settled { IfDone result (¬ (HasReady connection.new.scanner)) }
     ensures moves { (s : Stream) (handled : List (List ℕ)) → IsAt connection.old s handled
-        → Logs connection.old connection.new (S.entries store.old) (S.entries store.new)
+        → Logs clock connection.old connection.new (S.entries store.old) (S.entries store.new)
         (piece_octets piece.now result) log.old.items log.new.items s handled }
+    ensures accepted { (s : Stream) (handled : List (List ℕ)) → IsAt connection.old s handled
+        → IfDone result (LogsAdvance clock connection.old connection.new (S.entries store.old)
+        (S.entries store.new) piece.now log.old.items log.new.items s handled) }
 {
     let mut taken = 0;
     'pieces: loop {
-        match take_step(alloc, connection, store, &piece[taken..], log) {
+        match take_step(alloc, clock, connection, store, &piece[taken..], log) {
             Step::Stopped { used, fault } => {
                 return EventEnd::Stopped {
                     taken: taken + used,

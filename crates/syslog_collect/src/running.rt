@@ -3,11 +3,11 @@
 ghost use Rattle.std.specs.Prelude.{◌≡◌, ◌++◌, ◌<◌, ◌+◌, List, vec_capacity, vec_len};
 ghost use Rattle.archive_text.specs.Entries.{Entry};
 ghost use Rattle.syslog_collect.specs.Headline.{IsSettled};
-ghost use Rattle.syslog_collect.specs.History.{Told, after, nothing};
-ghost use Rattle.syslog_collect.specs.Logs.{LogGrows, LogsDatagram};
-ghost use Rattle.syslog_collect.specs.Runs.{IfAllDone, IfDone, LogsFrames, event_end};
-ghost use Rattle.syslog_collect.specs.Runs.{piece_octets, told_all, told_by, told_datagram_end};
-ghost use Rattle.syslog_collect.specs.Runs.{told_event, told_octets, told_run};
+ghost use Rattle.syslog_collect.specs.History.{AcceptedEvent, history_of};
+ghost use Rattle.syslog_collect.specs.Logs.{Grows, LogsDatagram, LogsEventEnd, LogsPiece, LogsRun};
+ghost use Rattle.syslog_collect.specs.Logs.{waiting};
+ghost use Rattle.syslog_collect.specs.Runs.{IfAllDone, IfDone, accepted_by, accepted_datagram_end};
+ghost use Rattle.syslog_collect.specs.Runs.{accepted_piece_end, accepted_run, event_end};
 ghost use Rattle.syslog_collect.specs.Standing.{Stands};
 
 use crate::collector::{Collector, place};
@@ -30,21 +30,18 @@ fn end_of(answer: Result<(), CollectFault>) -> EventEnd
 impl<S: Store> Collector<S> {
     /// A piece, advanced until its rest is empty, and at least once.
     fn piece(&mut self, alloc: Global, conn: u32, octets: &[u8], log: &mut Vec<Outcome>) -> EventEnd
-        ensures stands { (first : List Entry) (events : List Told)
-            → Stands self.old.connections.items (S.entries self.old.store) first events
-            → Stands self.new.connections.items (S.entries self.new.store) first
-            (events ++ told_octets conn (piece_octets octets.now result)) }
-        ensures logs { (first : List Entry) (events : List Told)
-            → Stands self.old.connections.items (S.entries self.old.store) first events
-            → LogsFrames (S.entries self.old.store) (S.entries self.new.store)
-            log.old.items log.new.items }
+        ensures stands { (first : List Entry) (events : List AcceptedEvent)
+            → Stands self.old.clock self.old.connections.items (S.entries self.old.store) first events
+            → Stands self.new.clock self.new.connections.items (S.entries self.new.store) first
+            (events ++ accepted_piece_end conn octets.now result) }
         ensures settled { IfDone result (IsSettled self.old.connections.items
             → IsSettled self.new.connections.items) }
-        ensures logged { (first : List Entry) (events : List Told)
-            → Stands self.old.connections.items (S.entries self.old.store) first events
-            → IsSettled self.old.connections.items
-            → IfDone result (LogGrows (after nothing events) (told_octets conn octets.now)
-            (S.entries self.old.store) (S.entries self.new.store) log.old.items log.new.items) }
+        ensures clock { self.new.clock ≡ self.old.clock }
+        ensures logged { (first : List Entry) (events : List AcceptedEvent)
+            → Stands self.old.clock self.old.connections.items (S.entries self.old.store) first events
+            → Grows (LogsPiece self.old.clock (history_of events) (waiting self.old.connections.items)
+            (waiting self.new.connections.items) conn octets.now result
+            (S.entries self.old.store) (S.entries self.new.store)) log.old.items log.new.items }
     {
         match place(&self.connections, conn) {
             None => EventEnd::Stopped {
@@ -53,6 +50,7 @@ impl<S: Store> Collector<S> {
             },
             Some(at) => take_piece(
                 alloc,
+                self.clock,
                 &mut self.connections[at],
                 &mut self.store,
                 octets,
@@ -64,15 +62,14 @@ impl<S: Store> Collector<S> {
     /// A datagram, whose outcome the log has room for.
     fn logged_datagram(&mut self, alloc: Global, octets: &[u8], log: &mut Vec<Outcome>) -> EventEnd
         requires { vec_len log.old < vec_capacity log.old }
-        ensures stands { (first : List Entry) (events : List Told)
-            → Stands self.old.connections.items (S.entries self.old.store) first events
-            → Stands self.new.connections.items (S.entries self.new.store) first
-            (events ++ told_datagram_end octets.now result) }
-        ensures logs { LogsFrames (S.entries self.old.store) (S.entries self.new.store)
-            log.old.items log.new.items }
+        ensures stands { (first : List Entry) (events : List AcceptedEvent)
+            → Stands self.old.clock self.old.connections.items (S.entries self.old.store) first events
+            → Stands self.new.clock self.new.connections.items (S.entries self.new.store) first
+            (events ++ accepted_datagram_end octets.now result) }
         ensures connections { self.new.connections.items ≡ self.old.connections.items }
-        ensures logged { IfDone result (LogsDatagram octets.now (S.entries self.old.store)
-            (S.entries self.new.store) log.old.items log.new.items) }
+        ensures clock { self.new.clock ≡ self.old.clock }
+        ensures logged { Grows (LogsDatagram self.old.clock octets.now result (S.entries self.old.store)
+            (S.entries self.new.store)) log.old.items log.new.items }
     {
         match self.datagram(alloc, octets) {
             Ok(outcome) => {
@@ -87,22 +84,19 @@ impl<S: Store> Collector<S> {
     }
 
     /// One event, as far as it goes. Room for an outcome is made in the log first.
-    fn hear(&mut self, alloc: Global, event: Event<'_>, log: &mut Vec<Outcome>) -> EventEnd
-        ensures stands { (first : List Entry) (events : List Told)
-            → Stands self.old.connections.items (S.entries self.old.store) first events
-            → Stands self.new.connections.items (S.entries self.new.store) first
-            (events ++ told_by event.entry result) }
-        ensures logs { (first : List Entry) (events : List Told)
-            → Stands self.old.connections.items (S.entries self.old.store) first events
-            → LogsFrames (S.entries self.old.store) (S.entries self.new.store)
-            log.old.items log.new.items }
+    fn run_event(&mut self, alloc: Global, event: Event<'_>, log: &mut Vec<Outcome>) -> EventEnd
+        ensures stands { (first : List Entry) (events : List AcceptedEvent)
+            → Stands self.old.clock self.old.connections.items (S.entries self.old.store) first events
+            → Stands self.new.clock self.new.connections.items (S.entries self.new.store) first
+            (events ++ accepted_by event.entry result) }
         ensures settled { IfDone result (IsSettled self.old.connections.items
             → IsSettled self.new.connections.items) }
-        ensures logged { (first : List Entry) (events : List Told)
-            → Stands self.old.connections.items (S.entries self.old.store) first events
-            → IsSettled self.old.connections.items
-            → IfDone result (LogGrows (after nothing events) (told_event event.entry)
-            (S.entries self.old.store) (S.entries self.new.store) log.old.items log.new.items) }
+        ensures clock { self.new.clock ≡ self.old.clock }
+        ensures logged { (first : List Entry) (events : List AcceptedEvent)
+            → Stands self.old.clock self.old.connections.items (S.entries self.old.store) first events
+            → Grows (LogsEventEnd self.old.clock (history_of events) (waiting self.old.connections.items)
+            (waiting self.new.connections.items) event.entry result
+            (S.entries self.old.store) (S.entries self.new.store)) log.old.items log.new.items }
     {
         if log.reserve(1).is_err() {
             return EventEnd::Stopped {
@@ -121,26 +115,24 @@ impl<S: Store> Collector<S> {
     /// Handles events in order, up to the first that is refused, and appends each outcome to the
     /// log. The octets of a piece that follow a bad count are dropped.
     pub fn run(&mut self, alloc: Global, events: &[Event<'_>], log: &mut Vec<Outcome>) -> RunEnd
-        ensures stands { (first : List Entry) (before : List Told)
-            → Stands self.old.connections.items (S.entries self.old.store) first before
-            → Stands self.new.connections.items (S.entries self.new.store) first
-            (before ++ told_run events.now result) }
-        ensures logs { (first : List Entry) (before : List Told)
-            → Stands self.old.connections.items (S.entries self.old.store) first before
-            → LogsFrames (S.entries self.old.store) (S.entries self.new.store)
-            log.old.items log.new.items }
+        ensures stands { (first : List Entry) (before : List AcceptedEvent)
+            → Stands self.old.clock self.old.connections.items (S.entries self.old.store) first before
+            → Stands self.new.clock self.new.connections.items (S.entries self.new.store) first
+            (before ++ accepted_run events.now result) }
         // After Done no frame is left ready.
         ensures settled { IfAllDone result (IsSettled self.old.connections.items
             → IsSettled self.new.connections.items) }
-        // The log has the outcomes in the order in which the frames' last octets came.
-        ensures logged { (first : List Entry) (before : List Told)
-            → Stands self.old.connections.items (S.entries self.old.store) first before
-            → IsSettled self.old.connections.items
-            → IfAllDone result (LogGrows (after nothing before) (told_all events.now)
-            (S.entries self.old.store) (S.entries self.new.store) log.old.items log.new.items) }
+        // The log has the outcomes in the order in which the frames' last octets came: of a run
+        // that stops too, where a frame for which memory was refused waits for the next call.
+        ensures clock { self.new.clock ≡ self.old.clock }
+        ensures logged { (first : List Entry) (before : List AcceptedEvent)
+            → Stands self.old.clock self.old.connections.items (S.entries self.old.store) first before
+            → Grows (LogsRun self.old.clock (history_of before) (waiting self.old.connections.items)
+            (waiting self.new.connections.items) events.now result
+            (S.entries self.old.store) (S.entries self.new.store)) log.old.items log.new.items }
     {
         for (at, event) in events.iter().enumerate() {
-            if let EventEnd::Stopped { taken, fault } = self.hear(alloc, *event, log) {
+            if let EventEnd::Stopped { taken, fault } = self.run_event(alloc, *event, log) {
                 return RunEnd::Stopped { at, taken, fault };
             }
         }

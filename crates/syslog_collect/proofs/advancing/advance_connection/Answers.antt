@@ -10,19 +10,19 @@ returns-in-Err-StreamTooLong-clause-cause g c s handled at =
 pub returns-in_default-clause-cause : goal.returns-in_default-clause-cause
 returns-in_default-clause-cause g c s handled at =
     let e = c.in-Ok.ensures in
-    waiting_record c.args.connection.now c.push.new.self s handled c.args.piece.now c.in-Ok.used
+    waiting_record c.args.clock c.args.connection.now c.push.new.self s handled c.args.piece.now c.in-Ok.used
     (pushed _ _ c.args.piece.now c.in-Ok.used e.failed e.too_long e.waits e.within e.position e.bound e.reads e.takes) c.in_default.ensures.spelled at
 
 pub returns-in_default-clause-moves : goal.returns-in_default-clause-moves
 returns-in_default-clause-moves g c s handled at =
     let e = c.in-Ok.ensures in
-    waiting c.args.connection.now _ _ _ c.args.piece.now c.in-Ok.used s handled refl
+    waiting c.args.clock c.args.connection.now _ _ _ c.args.piece.now c.in-Ok.used s handled refl
     (pushed _ _ c.args.piece.now c.in-Ok.used e.failed e.too_long e.waits e.within e.position e.bound e.reads e.takes) c.in_default.ensures.waits c.in_default.ensures.err at
 
 pub returns-in_default-clause-drops : goal.returns-in_default-clause-drops
 returns-in_default-clause-drops g c s handled at =
     let e = c.in-Ok.ensures in
-    waiting c.args.connection.now _ _ _ c.args.piece.now c.in-Ok.used s handled refl
+    waiting c.args.clock c.args.connection.now _ _ _ c.args.piece.now c.in-Ok.used s handled refl
     (pushed _ _ c.args.piece.now c.in-Ok.used e.failed e.too_long e.waits e.within e.position e.bound e.reads e.takes) c.in_default.ensures.waits c.in_default.ensures.err at
 
 pub returns-clause-cause : goal.returns-clause-cause
@@ -35,7 +35,7 @@ pub returns-clause-moves : goal.returns-clause-moves
 returns-clause-moves g c s handled at =
     let e = c.in-Ok.ensures in
     let r = c.release.ensures in
-    advanced c.args.connection.now _ c.push.new.self _ _ c.args.piece.now c.in-Ok.used (c.in-Ok.used + 1) c.in-Ok-handle_ready.outcome s handled refl
+    advanced c.args.clock c.args.connection.now _ c.push.new.self _ _ c.args.piece.now c.in-Ok.used (c.in-Ok.used + 1) c.in-Ok-handle_ready.outcome s handled refl
     (pushed _ _ c.args.piece.now c.in-Ok.used e.failed e.too_long e.waits e.within e.position e.bound e.reads e.takes) c.in-Ok-handle_ready.ensures.handles
     (released _ _ c.release.result r.value r.same r.frame r.failed r.reads) (λ lt. (omega arith, omega (arith, lt))) at
 
@@ -43,7 +43,7 @@ pub returns-clause-drops : goal.returns-clause-drops
 returns-clause-drops g c s handled at =
     let e = c.in-Ok.ensures in
     let r = c.release.ensures in
-    advanced c.args.connection.now _ c.push.new.self _ _ c.args.piece.now c.in-Ok.used (length c.args.piece.now) c.in-Ok-handle_ready.outcome s handled refl
+    advanced c.args.clock c.args.connection.now _ c.push.new.self _ _ c.args.piece.now c.in-Ok.used (length c.args.piece.now) c.in-Ok-handle_ready.outcome s handled refl
     (pushed _ _ c.args.piece.now c.in-Ok.used e.failed e.too_long e.waits e.within e.position e.bound e.reads e.takes) c.in-Ok-handle_ready.ensures.handles
     (released _ _ c.release.result r.value r.same r.frame r.failed r.reads) (λ lt. (lt, omega arith)) at
 

@@ -1,12 +1,9 @@
-use Rattle.std.proofs.Common.{refl}
-use Rattle.syslog_collect.proofs.EventRuns.{logs_frame, logs_none}
+use Rattle.std.proofs.Common.{[], ◌∷◌, refl, sym}
+use Rattle.std.proofs.lemmas.List.{append-nil}
 use Rattle.syslog_collect.proofs.collector.Collector.logged_datagram.Goals as goal
 
-pub returns-in-Ok-clause-logs : goal.returns-in-Ok-clause-logs
-returns-in-Ok-clause-logs g c = logs_frame _ _ _ _ c.args.octets.now c.in-Ok.outcome c.in-Ok.ensures.outcome c.note.ensures
-
-pub returns-in-Err-clause-logs : goal.returns-in-Err-clause-logs
-returns-in-Err-clause-logs g c = logs_none _ _ _ _ c.in-Err.ensures.err refl
-
 pub returns-in-Ok-clause-logged : goal.returns-in-Ok-clause-logged
-returns-in-Ok-clause-logged g c = (c.in-Ok.outcome, c.note.ensures, c.in-Ok.ensures.outcome)
+returns-in-Ok-clause-logged g c = (c.in-Ok.outcome ∷ [], c.note.ensures, (c.in-Ok.outcome, refl, c.in-Ok.ensures.outcome))
+
+pub returns-in-Err-clause-logged : goal.returns-in-Err-clause-logged
+returns-in-Err-clause-logged g c = ([], sym (append-nil c.args.log.now.items), (refl, c.in-Err.ensures.err))

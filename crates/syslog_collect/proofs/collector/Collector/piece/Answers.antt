@@ -1,11 +1,13 @@
-use Rattle.std.proofs.Common.{◌≡◌, List, sym, subst, arith, refl}
+use Rattle.std.proofs.Common.{◌≡◌, List, sym, subst, arith}
 use Rattle.std.specs.Prelude.{Some}
-use Rattle.syslog_collect.specs.Runs.{piece_octets}
 use Rattle.syslog_collect.specs.declared.connection.Connection.{Connection}
+use Rattle.syslog_collect.specs.History.{history_of}
+use Rattle.syslog_collect.specs.Logs.{waiting}
+use Rattle.syslog_collect.specs.declared.fault.CollectFault.TheVariants.{NotOpen}
 use Rattle.syslog_collect.proofs.Headline.{settled_piece}
-use Rattle.syslog_collect.proofs.Logging.{piece_logged}
+use Rattle.syslog_collect.proofs.Logging.{nothing_of_piece, piece_logged}
 use Rattle.syslog_collect.proofs.Places.{place_from, within}
-use Rattle.syslog_collect.proofs.EventRuns.{frames_found, logged_found, logs_none}
+use Rattle.syslog_collect.proofs.EventRuns.{piece_found}
 use Rattle.syslog_collect.proofs.collector.Collector.piece.Goals as goal
 
 pub index_mut-requires : goal.index_mut-requires
@@ -13,27 +15,21 @@ index_mut-requires g c =
     let is = subst (λ (ls : List Connection). place_from c.args.conn 0 ls ≡ Some c.in-Some.at) c.deref.ensures.value (sym c.in-Some.ensures) in
     omega (arith, within c.args.conn c.in-Some.at c.args.self.now.connections.items is)
 
-pub returns-in-None-clause-logs : goal.returns-in-None-clause-logs
-returns-in-None-clause-logs g c first events was = logs_none _ _ _ _ refl refl
+pub returns-in-None-clause-logged : goal.returns-in-None-clause-logged
+returns-in-None-clause-logged g c first events was = nothing_of_piece c.args.self.now.clock (history_of events) (waiting c.args.self.now.connections.items) c.args.conn c.args.octets.now NotOpen _ _
 
 pub returns-in-Some-clause-stands : goal.returns-in-Some-clause-stands
 returns-in-Some-clause-stands g c first events was =
     let is = subst (λ (ls : List Connection). place_from c.args.conn 0 ls ≡ Some c.in-Some.at) c.deref.ensures.value (sym c.in-Some.ensures) in
-    logged_found c.args.conn c.in-Some.at c.index_mut.result.now c.take_piece.new.connection c.args.self.now.connections.items _ _ first events
-    (piece_octets c.args.octets.now c.take_piece.result) _ _ is c.index_mut.ensures.value c.take_piece.ensures.moves was
-
-pub returns-in-Some-clause-logs : goal.returns-in-Some-clause-logs
-returns-in-Some-clause-logs g c first events was =
-    let is = subst (λ (ls : List Connection). place_from c.args.conn 0 ls ≡ Some c.in-Some.at) c.deref.ensures.value (sym c.in-Some.ensures) in
-    frames_found c.args.conn c.in-Some.at c.index_mut.result.now c.take_piece.new.connection c.args.self.now.connections.items _ _ first events
-    (piece_octets c.args.octets.now c.take_piece.result) _ _ is c.index_mut.ensures.value c.take_piece.ensures.moves was
+    piece_found c.args.self.now.clock c.args.conn c.in-Some.at c.index_mut.result.now c.take_piece.new.connection c.args.self.now.connections.items _ _ first events c.args.octets.now c.take_piece.result _ _
+    is c.index_mut.ensures.value c.take_piece.ensures.moves c.take_piece.ensures.accepted was
 
 pub returns-in-Some-clause-settled : goal.returns-in-Some-clause-settled
 returns-in-Some-clause-settled g c = settled_piece c.take_piece.result c.args.self.now.connections.items c.in-Some.at c.take_piece.new.connection c.take_piece.ensures.settled
 
 pub returns-in-Some-clause-logged : goal.returns-in-Some-clause-logged
-returns-in-Some-clause-logged g c first events was settled =
+returns-in-Some-clause-logged g c first events was =
     let is = subst (λ (ls : List Connection). place_from c.args.conn 0 ls ≡ Some c.in-Some.at) c.deref.ensures.value (sym c.in-Some.ensures) in
-    piece_logged c.args.conn c.in-Some.at c.index_mut.result.now c.take_piece.new.connection c.args.self.now.connections.items (g.S.Store.entries c.args.self.now.store)
+    piece_logged c.args.self.now.clock c.args.conn c.in-Some.at c.index_mut.result.now c.take_piece.new.connection c.args.self.now.connections.items (g.S.Store.entries c.args.self.now.store)
     (g.S.Store.entries c.take_piece.new.store) first events c.args.octets.now c.take_piece.result c.args.log.now.items c.take_piece.new.log.items is c.index_mut.ensures.value c.take_piece.ensures.moves
-    c.take_piece.ensures.settled was settled
+    c.take_piece.ensures.accepted c.take_piece.ensures.settled was

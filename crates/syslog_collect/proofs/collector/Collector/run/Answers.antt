@@ -1,34 +1,50 @@
-use Rattle.std.proofs.Common.{◌<◌, List, ◌++◌, length, get_or, take, append_assoc, sym, ◌∙◌, ap, refl, subst, arith}
+use Rattle.std.proofs.Common.{◌<◌, List, [], ◌∷◌, ◌++◌, length, get_or, take, append_assoc, sym, ◌∙◌, ap, subst, arith, refl}
 use Rattle.std.proofs.lemmas.List.{append-nil}
 use Rattle.syslog_frame.specs.declared.framing.Framing.TheVariants.{Counted}
 use Rattle.syslog_collect.specs.declared.event.Event.TheVariants.{Opened}
-use Rattle.syslog_collect.specs.History.{History, Told, after, nothing}
-use Rattle.syslog_collect.specs.Logs.{LogGrows}
-use Rattle.syslog_collect.specs.Runs.{told_all, told_event, told_part}
+use Rattle.syslog_collect.specs.History.{AcceptedEvent, History, history_of, initial}
+use Rattle.syslog_collect.specs.declared.event.EventEnd.TheVariants.{Done as end_Done, Stopped as end_Stopped}
+use Rattle.syslog_collect.specs.Logs.{Grows, IsLogOf, LogsEventEnd, waiting}
+use Rattle.syslog_collect.specs.Readings.{Clock}
+use Rattle.syslog_collect.specs.Runs.{accepted_all, accepted_event, accepted_part}
 use Rattle.syslog_collect.specs.Standing.{Stands}
-use Rattle.syslog_collect.proofs.Logging.{after-append, grows_none, grows_then}
-use Rattle.syslog_collect.proofs.EventRuns.{logs_frames_then, logs_none, told_all-next, told_all-whole, told_first-here}
+use Rattle.syslog_collect.proofs.Logging.{grows_none, grows_push, history_after-append, run_stopped}
+use Rattle.syslog_collect.proofs.EventRuns.{accepted_all-next, accepted_all-whole, accepted_first-here}
 use Rattle.syslog_collect.proofs.collector.Collector.run.Goals as goal
 
 pub returns-in-Stopped-clause-stands : goal.returns-in-Stopped-clause-stands
 returns-in-Stopped-clause-stands g c first before was =
     let es = c.args.events.now in
     let n = c.loop-at.at in
-    let heard = c.in-Stopped.ensures.stands first _ (c.loop-at.invariant.stands first before was) in
+    let accepted = c.in-Stopped.ensures.stands first _ (c.loop-at.invariant.stands first before was) in
     let here : n < length es = omega arith in
-    let same = append_assoc before (told_all (take n es)) (told_part (get_or es n (Opened 0 Counted)) c.in-Stopped.taken c.in-Stopped.fault)
-    ∙ ap (λ (ts : List Told). before ++ (told_all (take n es) ++ ts)) (sym (told_first-here es n c.in-Stopped.taken c.in-Stopped.fault (Opened 0 Counted) here)) in
-    subst (λ (ts : List Told). Stands c.hear.new.self.connections.items (g.S.Store.entries c.hear.new.self.store) first ts) same heard
+    let same = append_assoc before (accepted_all (take n es)) (accepted_part (get_or es n (Opened 0 Counted)) c.in-Stopped.taken c.in-Stopped.fault)
+    ∙ ap (λ (ts : List AcceptedEvent). before ++ (accepted_all (take n es) ++ ts)) (sym (accepted_first-here es n c.in-Stopped.taken c.in-Stopped.fault (Opened 0 Counted) here)) in
+    subst (λ (ts : List AcceptedEvent). Stands c.run_event.new.self.clock c.run_event.new.self.connections.items (g.S.Store.entries c.run_event.new.self.store) first ts) same accepted
 
-pub returns-in-Stopped-clause-logs : goal.returns-in-Stopped-clause-logs
-returns-in-Stopped-clause-logs g c first before was =
-    logs_frames_then _ _ _ _ _ _ (c.loop-at.invariant.logs first before was) (c.in-Stopped.ensures.logs first _ (c.loop-at.invariant.stands first before was))
+pub returns-in-Stopped-clause-logged : goal.returns-in-Stopped-clause-logged
+returns-in-Stopped-clause-logged g c first before was =
+    let es = c.args.events.now in
+    let n = c.loop-at.at in
+    let here : n < length es = omega arith in
+    let so_far = accepted_all (take n es) in
+    let a = g.S.Store.entries c.args.self.now.store in
+    let b = g.S.Store.entries c.loop-at.self.store in
+    let d = g.S.Store.entries c.run_event.new.self.store in
+    let u = waiting c.loop-at.self.connections.items in
+    let v = waiting c.run_event.new.self.connections.items in
+    run_stopped c.args.self.now.clock (history_of before) (waiting c.args.self.now.connections.items) u v es n c.in-Stopped.taken c.in-Stopped.fault (Opened 0 Counted) a b d c.args.log.now.items c.loop-at.log.items c.run_event.new.log.items
+    here (c.loop-at.invariant.log first before was)
+    (subst (λ (h : History). Grows (LogsEventEnd c.args.self.now.clock h u v (get_or es n (Opened 0 Counted)) (end_Stopped c.in-Stopped.taken c.in-Stopped.fault) b d) c.loop-at.log.items c.run_event.new.log.items)
+    (history_after-append initial before so_far)
+    (subst (λ (k : Clock). Grows (LogsEventEnd k (history_of (before ++ so_far)) u v (get_or es n (Opened 0 Counted)) (end_Stopped c.in-Stopped.taken c.in-Stopped.fault) b d) c.loop-at.log.items c.run_event.new.log.items)
+    c.loop-at.invariant.clock (c.in-Stopped.ensures.logged first (before ++ so_far) (c.loop-at.invariant.stands first before was))))
 
 pub loop-at-init : goal.loop-at-init
 loop-at-init g c = record {
   stands = λ first before was. rw append-nil was;
-  logs = λ first before was. logs_none _ _ _ _ refl refl;
-  log = λ first before was settled. grows_none (after nothing before) _ _;
+  clock = refl;
+  log = λ first before was. grows_none c.args.self.now.clock (history_of before) _ _ _;
   settled = λ h. h;
 }
 
@@ -39,35 +55,37 @@ loop-at-preserved g c = record {
       let n = c.loop-at.at in
       let heard = c.in_default.ensures.stands first _ (c.loop-at.invariant.stands first before was) in
       let here : n < length es = omega arith in
-      let same = append_assoc before (told_all (take n es)) (told_event (get_or es n (Opened 0 Counted)))
-      ∙ ap (λ (ts : List Told). before ++ ts) (sym (told_all-next es n (Opened 0 Counted) here)) in
-      subst (λ (ts : List Told). Stands c.hear.new.self.connections.items (g.S.Store.entries c.hear.new.self.store) first ts) same heard;
-  logs = λ first before was.
-      logs_frames_then _ _ _ _ _ _ (c.loop-at.invariant.logs first before was) (c.in_default.ensures.logs first _ (c.loop-at.invariant.stands first before was));
-  log = λ first before was settled.
+      let same = append_assoc before (accepted_all (take n es)) (accepted_event (get_or es n (Opened 0 Counted)) ∷ [])
+      ∙ ap (λ (ts : List AcceptedEvent). before ++ ts) (sym (accepted_all-next es n (Opened 0 Counted) here)) in
+      subst (λ (ts : List AcceptedEvent). Stands c.run_event.new.self.clock c.run_event.new.self.connections.items (g.S.Store.entries c.run_event.new.self.store) first ts) same heard;
+  log = λ first before was.
       let es = c.args.events.now in
       let n = c.loop-at.at in
       let here : n < length es = omega arith in
+      let so_far = accepted_all (take n es) in
       let a = g.S.Store.entries c.args.self.now.store in
       let b = g.S.Store.entries c.loop-at.self.store in
-      let d = g.S.Store.entries c.hear.new.self.store in
+      let d = g.S.Store.entries c.run_event.new.self.store in
       let e = get_or es n (Opened 0 Counted) in
-      subst (λ (ts : List Told). LogGrows (after nothing before) ts a d c.args.log.now.items c.hear.new.log.items) (sym (told_all-next es n (Opened 0 Counted) here))
-      (grows_then (after nothing before) (told_all (take n es)) (told_event e) a b d c.args.log.now.items c.loop-at.log.items c.hear.new.log.items (c.loop-at.invariant.log first before was settled)
-      (subst (λ (h : History). LogGrows h (told_event e) b d c.loop-at.log.items c.hear.new.log.items) (after-append nothing before (told_all (take n es)))
-      (c.in_default.ensures.logged first (before ++ told_all (take n es)) (c.loop-at.invariant.stands first before was) (c.loop-at.invariant.settled settled))));
+      let w = waiting c.args.self.now.connections.items in
+      let u = waiting c.loop-at.self.connections.items in
+      let v = waiting c.run_event.new.self.connections.items in
+      subst (λ (ts : List AcceptedEvent). Grows (IsLogOf c.args.self.now.clock (history_of before) w ts v a d) c.args.log.now.items c.run_event.new.log.items) (sym (accepted_all-next es n (Opened 0 Counted) here))
+      (grows_push c.args.self.now.clock (history_of before) w so_far e u v a b d c.args.log.now.items c.loop-at.log.items c.run_event.new.log.items (c.loop-at.invariant.log first before was)
+      (subst (λ (h : History). Grows (LogsEventEnd c.args.self.now.clock h u v e end_Done b d) c.loop-at.log.items c.run_event.new.log.items) (history_after-append initial before so_far)
+      (subst (λ (k : Clock). Grows (LogsEventEnd k (history_of (before ++ so_far)) u v e end_Done b d) c.loop-at.log.items c.run_event.new.log.items) c.loop-at.invariant.clock
+      (c.in_default.ensures.logged first (before ++ so_far) (c.loop-at.invariant.stands first before was)))));
+  clock = c.run_event.ensures.clock ∙ c.loop-at.invariant.clock;
   settled = λ h. c.in_default.ensures.settled (c.loop-at.invariant.settled h);
 }
 
 pub returns-clause-stands : goal.returns-clause-stands
 returns-clause-stands g c first before was =
-    subst (λ (ts : List Told). Stands c.loop-at.self.connections.items (g.S.Store.entries c.loop-at.self.store) first (before ++ ts))
-    (told_all-whole c.args.events.now c.loop-at.at (omega arith)) (c.loop-at.invariant.stands first before was)
-
-pub returns-clause-logs : goal.returns-clause-logs
-returns-clause-logs g c first before was = c.loop-at.invariant.logs first before was
+    subst (λ (ts : List AcceptedEvent). Stands c.loop-at.self.clock c.loop-at.self.connections.items (g.S.Store.entries c.loop-at.self.store) first (before ++ ts))
+    (accepted_all-whole c.args.events.now c.loop-at.at (omega arith)) (c.loop-at.invariant.stands first before was)
 
 pub returns-clause-logged : goal.returns-clause-logged
-returns-clause-logged g c first before was settled =
-    subst (λ (ts : List Told). LogGrows (after nothing before) ts (g.S.Store.entries c.args.self.now.store) (g.S.Store.entries c.loop-at.self.store) c.args.log.now.items c.loop-at.log.items)
-    (told_all-whole c.args.events.now c.loop-at.at (omega arith)) (c.loop-at.invariant.log first before was settled)
+returns-clause-logged g c first before was =
+    subst (λ (ts : List AcceptedEvent). Grows (IsLogOf c.args.self.now.clock (history_of before) (waiting c.args.self.now.connections.items) ts (waiting c.loop-at.self.connections.items)
+    (g.S.Store.entries c.args.self.now.store) (g.S.Store.entries c.loop-at.self.store)) c.args.log.now.items c.loop-at.log.items)
+    (accepted_all-whole c.args.events.now c.loop-at.at (omega arith)) (c.loop-at.invariant.log first before was)

@@ -1,0 +1,90 @@
+use Rattle.std.proofs.Common.{List, ◌++◌, ap, ◌∙◌, refl, sym, subst}
+use Rattle.syslog_collect.specs.History.{AcceptedEvent, history_of}
+use Rattle.syslog_collect.specs.declared.connection.Connection.{Connection}
+use Rattle.syslog_collect.specs.declared.event.Event.{Event}
+use Rattle.syslog_collect.specs.declared.event.Event.TheVariants.{Opened, Ended}
+use Rattle.syslog_collect.specs.declared.event.EventEnd.{EventEnd}
+use Rattle.syslog_collect.specs.declared.outcome.Outcome.{Outcome}
+use Rattle.syslog_collect.specs.declared.fault.CollectFault.TheVariants.{Memory}
+use Rattle.syslog_collect.specs.Logs.{Grows, LogsDatagram, LogsEventEnd, LogsPiece, waiting}
+use Rattle.syslog_collect.specs.Runs.{accepted_by}
+use Rattle.syslog_collect.specs.Standing.{Stands}
+use Rattle.syslog_collect.proofs.Logging.{datagram_logged, ended_logged, nothing_logged, opened_logged, piece_event_logged}
+use Rattle.syslog_collect.proofs.EventRuns.{accepted_nothing, datagram_accepted, ending_accepted, opening_accepted, piece_accepted}
+use Rattle.syslog_collect.proofs.Steps.{still}
+use Rattle.syslog_collect.proofs.collector.Collector.run_event.Goals as goal
+
+pub returns-then-is_err-clause-stands : goal.returns-then-is_err-clause-stands
+returns-then-is_err-clause-stands g c first events was =
+    subst (λ (ts : List AcceptedEvent). Stands c.args.self.now.clock c.args.self.now.connections.items (g.S.Store.entries c.args.self.now.store) first (events ++ ts)) (sym (accepted_nothing c.args.event))
+    (still c.args.self.now.clock c.args.self.now.connections.items _ _ first events refl was)
+
+pub returns-then-is_err-clause-logged : goal.returns-then-is_err-clause-logged
+returns-then-is_err-clause-logged g c first events was = nothing_logged c.args.self.now.clock (history_of events) (waiting c.args.self.now.connections.items) c.args.event (Memory 0) (g.S.Store.entries c.args.self.now.store) c.args.log.now.items c.reserve.new.self.items c.reserve.ensures.items
+
+pub returns-in-Opened-clause-stands : goal.returns-in-Opened-clause-stands
+returns-in-Opened-clause-stands g c first events was =
+    let accepted = opening_accepted c.in-Opened.conn c.in-Opened.framing c.open_conn.result ∙ ap (λ (r : EventEnd). accepted_by (Opened c.in-Opened.conn c.in-Opened.framing) r) (sym c.end_of.ensures) in
+    subst (λ (e : Event). Stands c.open_conn.new.self.clock c.open_conn.new.self.connections.items (g.S.Store.entries c.open_conn.new.self.store) first (events ++ accepted_by e c.end_of.result)) (sym c.in-Opened.is)
+    (subst (λ (ts : List AcceptedEvent). Stands c.open_conn.new.self.clock c.open_conn.new.self.connections.items (g.S.Store.entries c.open_conn.new.self.store) first (events ++ ts)) accepted (c.open_conn.ensures.stands first events was))
+
+pub returns-in-Piece-clause-stands : goal.returns-in-Piece-clause-stands
+returns-in-Piece-clause-stands g c first events was =
+    let accepted = piece_accepted c.in-Piece.conn c.in-Piece.octets c.piece.result in
+    subst (λ (e : Event). Stands c.piece.new.self.clock c.piece.new.self.connections.items (g.S.Store.entries c.piece.new.self.store) first (events ++ accepted_by e c.piece.result)) (sym c.in-Piece.is)
+    (subst (λ (ts : List AcceptedEvent). Stands c.piece.new.self.clock c.piece.new.self.connections.items (g.S.Store.entries c.piece.new.self.store) first (events ++ ts)) accepted (c.piece.ensures.stands first events was))
+
+pub returns-in-Ended-clause-stands : goal.returns-in-Ended-clause-stands
+returns-in-Ended-clause-stands g c first events was =
+    let accepted = ending_accepted c.in-Ended.conn c.end_conn.result ∙ ap (λ (r : EventEnd). accepted_by (Ended c.in-Ended.conn) r) (sym c.end_of-in-Ended.ensures) in
+    subst (λ (e : Event). Stands c.end_conn.new.self.clock c.end_conn.new.self.connections.items (g.S.Store.entries c.end_conn.new.self.store) first (events ++ accepted_by e c.end_of-in-Ended.result)) (sym c.in-Ended.is)
+    (subst (λ (ts : List AcceptedEvent). Stands c.end_conn.new.self.clock c.end_conn.new.self.connections.items (g.S.Store.entries c.end_conn.new.self.store) first (events ++ ts)) accepted (c.end_conn.ensures.stands first events was))
+
+pub returns-in-Datagram-clause-stands : goal.returns-in-Datagram-clause-stands
+returns-in-Datagram-clause-stands g c first events was =
+    let accepted = datagram_accepted c.in-Datagram.octets c.logged_datagram.result in
+    subst (λ (e : Event). Stands c.logged_datagram.new.self.clock c.logged_datagram.new.self.connections.items (g.S.Store.entries c.logged_datagram.new.self.store) first (events ++ accepted_by e c.logged_datagram.result)) (sym c.in-Datagram.is)
+    (subst (λ (ts : List AcceptedEvent). Stands c.logged_datagram.new.self.clock c.logged_datagram.new.self.connections.items (g.S.Store.entries c.logged_datagram.new.self.store) first (events ++ ts)) accepted (c.logged_datagram.ensures.stands first events was))
+
+pub returns-in-Opened-clause-logged : goal.returns-in-Opened-clause-logged
+returns-in-Opened-clause-logged g c first events was =
+    let h = history_of events in
+    let w = waiting c.args.self.now.connections.items in
+    let v = waiting c.open_conn.new.self.connections.items in
+    let a = g.S.Store.entries c.args.self.now.store in
+    let b = g.S.Store.entries c.open_conn.new.self.store in
+    subst (λ (e : Event). Grows (LogsEventEnd c.args.self.now.clock h w v e c.end_of.result a b) c.args.log.now.items c.reserve.new.self.items) (sym c.in-Opened.is)
+    (opened_logged c.args.self.now.clock h w v c.in-Opened.conn c.in-Opened.framing c.end_of.result a b c.args.log.now.items c.reserve.new.self.items c.reserve.ensures.items (ap (g.S.Store.entries) c.open_conn.ensures.store) c.open_conn.ensures.waits)
+
+pub returns-in-Piece-clause-logged : goal.returns-in-Piece-clause-logged
+returns-in-Piece-clause-logged g c first events was =
+    let h = history_of events in
+    let w = waiting c.args.self.now.connections.items in
+    let v = waiting c.piece.new.self.connections.items in
+    let a = g.S.Store.entries c.args.self.now.store in
+    let b = g.S.Store.entries c.piece.new.self.store in
+    subst (λ (e : Event). Grows (LogsEventEnd c.args.self.now.clock h w v e c.piece.result a b) c.args.log.now.items c.piece.new.log.items) (sym c.in-Piece.is)
+    (piece_event_logged c.args.self.now.clock h w v c.in-Piece.conn c.in-Piece.octets c.piece.result a b c.args.log.now.items c.piece.new.log.items
+    (subst (λ (l : List Outcome). Grows (LogsPiece c.args.self.now.clock h w v c.in-Piece.conn c.in-Piece.octets.now c.piece.result a b) l c.piece.new.log.items) c.reserve.ensures.items (c.piece.ensures.logged first events was)))
+
+pub returns-in-Ended-clause-logged : goal.returns-in-Ended-clause-logged
+returns-in-Ended-clause-logged g c first events was =
+    let h = history_of events in
+    let w = waiting c.args.self.now.connections.items in
+    let v = waiting c.end_conn.new.self.connections.items in
+    let a = g.S.Store.entries c.args.self.now.store in
+    let b = g.S.Store.entries c.end_conn.new.self.store in
+    subst (λ (e : Event). Grows (LogsEventEnd c.args.self.now.clock h w v e c.end_of-in-Ended.result a b) c.args.log.now.items c.reserve.new.self.items) (sym c.in-Ended.is)
+    (ended_logged c.args.self.now.clock h w v c.in-Ended.conn c.end_of-in-Ended.result a b c.args.log.now.items c.reserve.new.self.items c.reserve.ensures.items (ap (g.S.Store.entries) c.end_conn.ensures.store) (c.end_conn.ensures.waits first events was))
+
+pub returns-in-Datagram-clause-logged : goal.returns-in-Datagram-clause-logged
+returns-in-Datagram-clause-logged g c first events was =
+    let h = history_of events in
+    let w = waiting c.args.self.now.connections.items in
+    let v = waiting c.logged_datagram.new.self.connections.items in
+    let a = g.S.Store.entries c.args.self.now.store in
+    let b = g.S.Store.entries c.logged_datagram.new.self.store in
+    subst (λ (e : Event). Grows (LogsEventEnd c.args.self.now.clock h w v e c.logged_datagram.result a b) c.args.log.now.items c.logged_datagram.new.log.items) (sym c.in-Datagram.is)
+    (datagram_logged c.args.self.now.clock h w v c.in-Datagram.octets c.logged_datagram.result a b c.args.log.now.items c.logged_datagram.new.log.items
+    (λ d. ap (λ (ls : List Connection). waiting ls d) c.logged_datagram.ensures.connections)
+    (subst (λ (l : List Outcome). Grows (LogsDatagram c.args.self.now.clock c.in-Datagram.octets.now c.logged_datagram.result a b) l c.logged_datagram.new.log.items) c.reserve.ensures.items c.logged_datagram.ensures.logged))

@@ -1,0 +1,26 @@
+-- How a frame is read: as a record of RFC 5424; or, under a clock and without its front, as a legacy packet.
+use Rattle.std.specs.Prelude.{ℕ, ℤ, List, ◌⊎◌, Option, Some, None}
+use Rattle.syslog_value.specs.Parts.{Parts}
+use Rattle.syslog_grammar.specs.WellFormed.{WellFormed}
+use Rattle.syslog_legacy.specs.NewForm.{HasNewForm}
+use Rattle.syslog_legacy.specs.Readings.{Legacy, NotUtf8At, ReadAs}
+use Rattle.syslog_legacy.specs.declared.clock.LegacyClock.{LegacyClock}
+
+-- the clock of legacy packets, if they are read at all
+abbrev pub Clock : Type 0
+Clock = Option LegacyClock
+
+-- the frame is read as a legacy packet
+abbrev pub IsLegacy : Clock → List ℕ → Type 0
+IsLegacy None f = ⊥
+IsLegacy (Some clock) f = ¬ (HasNewForm f)
+
+-- the frame is read as this record
+abbrev pub IsReadAs : Clock → Parts ℤ → List ℕ → Type 0
+IsReadAs None r f = WellFormed r f
+IsReadAs (Some clock) r f = (HasNewForm f × WellFormed r f) ⊎ (¬ (HasNewForm f) × Legacy clock (ReadAs r) f)
+
+-- the frame is a legacy packet whose message starts with the BOM and is no UTF-8 at this offset
+abbrev pub IsNotUtf8At : Clock → ℕ → List ℕ → Type 0
+IsNotUtf8At None offset f = ⊥
+IsNotUtf8At (Some clock) offset f = ¬ (HasNewForm f) × Legacy clock (NotUtf8At offset) f
