@@ -6,7 +6,7 @@ use Rattle.std.proofs.lemmas.List.{length-take, take_all}
 use Rattle.frame_engine.specs.Handling.{Done}
 use Rattle.frame_engine.specs.Streams.{WritesPrefixOf}
 
-take_zero : (s : List ℕ) → take 0 s ≡ []
+pub take_zero : (s : List ℕ) → take 0 s ≡ []
 take_zero [] = refl
 take_zero (x ∷ s) = refl
 
