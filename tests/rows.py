@@ -154,3 +154,60 @@ STREAMS = [
               b'message any "hello"\n' % n for n in (1, 3)), b"2 syntax priority 0\n"),
     ("show writes in no framing", ["show", "--to", "lf"], HELLO, 2, b"", None),
 ]
+
+A = b"<13>1 - h a - - - x"
+Y = b"<14>1 2024-02-29T23:30:00.000000Z h a - - - y"
+Z = b"<12>1 2024-02-29T23:00:00.000000Z h a - - - z"
+
+
+def entries(*records):
+    """Records as the entries of a text."""
+    return b"".join(b"%d %b" % (len(one), one) for one in records)
+
+
+# words, standard input, status, standard output, standard error
+ARCHIVED = [
+    ("one instant in two zones", ["archive", *LF],
+     b"<14>1 2024-03-01T00:30:00+01:00 h a - - -\n<14>1 2024-02-29T23:30:00.0Z h a - - -\n", 0, entries(B), b""),
+    ("no message, and the mark", ["archive", *COUNTED], entries(NIL + b"- " + MARK, NIL + b"- ", NIL + b"-"), 0,
+     entries(NIL + b"-", NIL + b"- " + MARK), b""),
+    ("a datagram", ["archive"], HELLO, 0, entries(HELLO), b""),
+    ("an empty datagram", ["archive"], b"", 1, b"", b"1 syntax priority 0\n"),
+    ("no frames", ["archive", *COUNTED], b"", 0, b"", b""),
+    ("frames that are no records", ["archive", *LF], b"x\n" + A + b"\n\n", 1, entries(A), b"1 syntax priority 0\n3 syntax priority 0\n"),
+    ("lines", ["archive", *LF], LINES + b"\n", 1, entries(NIL + b"-"), REPORTED),
+    ("an unfinished line", ["archive", *LF], LINES, 1, b"", REPORTED + b"unterminated 65540\n"),
+    ("a bad count", ["archive", *COUNTED], entries(A) + b"x" + entries(Y), 1, entries(A), b"2 bad-count 22\n"),
+    ("an unfinished frame", ["archive", *COUNTED], entries(A) + b"45 <14>1", 1, entries(A), b"unterminated 22\n"),
+    ("the longest canonical form", ["archive"], LARGEST, 0, entries(NIL + b'[a k="' + b"\\\\n" * 32_756 + b'"]'), b""),
+    ("archive writes in no framing", ["archive", "--to", "lf"], HELLO, 2, b"", None),
+    ("a file too few", ["merge", "a"], b"", 2, b"", None),
+    ("a file too many", ["merge", "a", "b", "c"], b"", 2, b"", None),
+    ("no file", ["migrate"], b"", 2, b"", None),
+]
+
+# two files, status, standard output, standard error
+MERGED = [
+    ("the union", entries(A, Z), entries(A, Y), 0, entries(A, Z, Y), b""),
+    ("the union, the other way round", entries(A, Y), entries(A, Z), 0, entries(A, Z, Y), b""),
+    ("an archive with itself", entries(A, Z, Y), entries(A, Z, Y), 0, entries(A, Z, Y), b""),
+    ("no records", b"", b"", 0, b"", b""),
+    ("entries that do not ascend", entries(Y, A), b"", 1, entries(Y), b"left not-ascending 48\n"),
+    ("an entry that is repeated", b"", entries(A, A), 1, entries(A), b"right not-ascending 22\n"),
+    ("a cut archive", entries(A, Y)[:-1], b"", 1, entries(A), b"left bad-frame 69\n"),
+    ("a count that is none", b"x", b"x", 1, b"", b"left bad-frame 0\n"),
+    ("the first fault that is met", entries(A) + b"x", b"x", 1, b"", b"right bad-frame 0\n"),
+    ("an entry that is no record", b"4 <0>1", b"", 1, b"", b"left bad-entry 0 syntax version 4\n"),
+    ("an entry that is not canonical", entries(NIL + b"- "), b"", 1, b"", b"left not-canonical 0\n"),
+    ("an entry that is too long", b"131078 ", b"", 1, b"", b"left entry-too-long 0\n"),
+]
+
+# a file, status, standard output, standard error
+MIGRATED = [
+    ("two orders of elements", entries(NIL + b"[a][b]", NIL + b"[b][a]"), 0, entries(NIL + b"[a][b]"), b""),
+    ("another order of entries", entries(NIL + b"[b][c]", NIL + b"[c][a]"), 0, entries(NIL + b"[a][c]", NIL + b"[b][c]"), b""),
+    ("entries that do not ascend", entries(NIL + b"[b][a]", NIL + b"[a][b]"), 1, b"", b"old not-ascending 24\n"),
+    ("an archive", entries(A, Z, Y), 0, entries(A, Z, Y), b""),
+    ("no octets", b"", 0, b"", b""),
+    ("a cut archive", entries(A)[:-1], 1, b"", b"old bad-frame 21\n"),
+]

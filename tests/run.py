@@ -16,6 +16,7 @@ from pathlib import Path
 
 sys.dont_write_bytecode = True
 import reference
+from archives import archives
 from rows import ELEMENTS, EXAMPLE, HELLO, MARK, RECORDS, REFUSED, STREAMS, WORDS
 
 HERE = Path(__file__).resolve().parent
@@ -380,6 +381,7 @@ def main():
         pieces(program, results, shim, f"{folder}/counts")
         many_ids(program, results)
         trials(trial, results, shim, f"{folder}/counts")
+        archives(run, counts, is_refused, results, program, shim, folder, mutations(5_000))
     print(f"{results.passed} passed, {results.failed} failed")
     sys.exit(1 if results.failed else 0)
 

@@ -1,7 +1,8 @@
-/* Preloaded before the program: lets one allocation, read or write fail, or one read or write be
-   short. Each is chosen by a number counted from 1:
+/* Preloaded before the program: lets one allocation, open, read or write fail, or one read or write
+   be short. Each is chosen by a number counted from 1:
 
      SHIM_MALLOC=N        the Nth call of malloc, realloc or calloc returns a null pointer
+     SHIM_OPEN=N          the Nth open fails with EACCES
      SHIM_READ=N          the Nth read fails with EIO
      SHIM_READ_SHORT=N    the Nth read gives at most one octet
      SHIM_READ_AGAIN=N    the Nth read is interrupted (EINTR)
@@ -15,12 +16,13 @@
 #include <dlfcn.h>
 #include <errno.h>
 #include <fcntl.h>
+#include <stdarg.h>
 #include <stdio.h>
 #include <stdlib.h>
 #include <string.h>
 #include <unistd.h>
 
-static unsigned long allocations, reads, writes;
+static unsigned long allocations, opens, reads, writes;
 static int quiet;
 
 static unsigned long chosen(const char *name) {
@@ -53,6 +55,38 @@ void *realloc(void *old, size_t size) {
   return next(old, size);
 }
 
+static int kept(void) {
+  if (quiet) return 0;
+  opens++;
+  return opens == chosen("SHIM_OPEN");
+}
+
+typedef int opening(const char *, int, ...);
+
+static mode_t mode_in(int flags, va_list rest) { return flags & (O_CREAT | O_TMPFILE) ? va_arg(rest, mode_t) : 0; }
+
+int open(const char *path, int flags, ...) {
+  static opening *next;
+  if (!next) { quiet++; next = (opening *)dlsym(RTLD_NEXT, "open"); quiet--; }
+  if (kept()) { errno = EACCES; return -1; }
+  va_list rest;
+  va_start(rest, flags);
+  mode_t mode = mode_in(flags, rest);
+  va_end(rest);
+  return next(path, flags, mode);
+}
+
+int open64(const char *path, int flags, ...) {
+  static opening *next;
+  if (!next) { quiet++; next = (opening *)dlsym(RTLD_NEXT, "open64"); quiet--; }
+  if (kept()) { errno = EACCES; return -1; }
+  va_list rest;
+  va_start(rest, flags);
+  mode_t mode = mode_in(flags, rest);
+  va_end(rest);
+  return next(path, flags, mode);
+}
+
 ssize_t read(int fd, void *room, size_t size) {
   static ssize_t (*next)(int, void *, size_t);
   if (!next) { quiet++; next = (ssize_t (*)(int, void *, size_t))dlsym(RTLD_NEXT, "read"); quiet--; }
@@ -81,7 +115,7 @@ __attribute__((destructor)) static void report(void) {
   int fd = open(name, O_WRONLY | O_CREAT | O_TRUNC, 0644);
   if (fd < 0) return;
   char text[128];
-  int n = snprintf(text, sizeof text, "%lu %lu %lu\n", allocations, reads, writes);
+  int n = snprintf(text, sizeof text, "%lu %lu %lu %lu\n", allocations, reads, writes, opens);
   ssize_t (*next)(int, const void *, size_t) = (ssize_t (*)(int, const void *, size_t))dlsym(RTLD_NEXT, "write");
   if (next(fd, text, (size_t)n) != n) _exit(99);
   close(fd);

@@ -1,20 +1,80 @@
 //! The program over any devices and files.
 
-ghost use Rattle.std.specs.Prelude.{◌≡◌, ◌≢◌, ◌≤◌, ◌<◌, ◌+◌, ◌^◌, ◌⊎◌, Option, Some, None, map, string_bytes};
+ghost use Rattle.std.specs.Prelude.{◌≡◌, ◌≢◌, ◌≤◌, ◌<◌, ◌+◌, ◌^◌, ◌⊎◌, List, ℕ, Option, Some, None, IfSome, map, string_bytes};
 ghost use Rattle.syslog_value.specs.Device.{AreSmall};
+ghost use Rattle.syslog_frame.specs.declared.framing.Framing.{Framing};
 ghost use Rattle.frame_engine.specs.Checked.{check_handling, refused_line};
 ghost use Rattle.frame_engine.specs.Converted.{convert_handling, noted_line};
-ghost use Rattle.command_line.specs.Requests.{parsed};
 ghost use Rattle.frame_engine.specs.Showing.{show_handling};
 ghost use Rattle.frame_engine.specs.Streams.{AnswersWith, InputDone, WritesPrefixOf};
-ghost use Rattle.syslog_frame.specs.declared.framing.Framing.{Framing};
 ghost use Rattle.frame_engine.specs.declared.input_framing.InputFraming.{InputFraming};
+ghost use Rattle.archive_engine.specs.Archived.{ArchiveDone};
+ghost use Rattle.archive_engine.specs.Merged.{IsMerged};
+ghost use Rattle.archive_engine.specs.Migrated.{MigrateDone};
+ghost use Rattle.command_line.specs.Requests.{Asked, parsed};
+ghost use Rattle.command_line.specs.Requests.{Check as check, Show as show, Convert as convert};
+ghost use Rattle.command_line.specs.Requests.{Archive as archive, Merge as merge, Migrate as migrate};
+ghost use Rattle.syslogbox.specs.Inputs.{ReadsInput};
 
 use crate::files::Files;
+use archive_engine::{archive_input, merge_archives, migrate_archive};
 use command_line::{Request, WordsFault, read_words};
 use frame_engine::{Check, Convert, FAULT, NO_MEMORY, Show, note, scan_input};
 use std::alloc::Global;
 use syslog_value::{Input, Output, READER_CALLS};
+
+// Joins the archives of two files. Both are opened before either is read.
+fn merge_files<W: Output, N: Output, F: Files>(
+    alloc: Global,
+    left: &str,
+    right: &str,
+    writer: &mut W,
+    notes: &mut N,
+    files: &mut F,
+) -> u8
+    ensures known { result ≤ 3 }
+    ensures merged { result < 1 → IfSome (F.stored files.old) (λ octets.
+        IfSome (octets left.now) (λ x. AnswersWith (IsMerged x) (octets right.now) result
+        (W.taken writer.old) (W.taken writer.new) (N.taken notes.old) (N.taken notes.new))) }
+    ensures unknown { IfSome (F.stored files.old) (λ octets.
+        (octets left.now ≡ None) ⊎ (octets right.now ≡ None) →
+        (2 ≤ result) × (W.taken writer.new ≡ W.taken writer.old)) }
+    ensures failed { N.failures notes.old < N.failures notes.new → result ≡ FAULT }
+    ensures write_failed { W.failures writer.old < W.failures writer.new → result ≡ FAULT }
+{
+    let Some(mut left) = files.reader(left) else {
+        return note(notes, b"left no file\n", FAULT);
+    };
+    let Some(mut right) = files.reader(right) else {
+        return note(notes, b"right no file\n", FAULT);
+    };
+    merge_archives(alloc, &mut left, &mut right, writer, notes)
+}
+
+// Brings the old archive of a file into the present form.
+fn migrate_file<W: Output, N: Output, F: Files>(
+    alloc: Global,
+    file: &str,
+    writer: &mut W,
+    notes: &mut N,
+    files: &mut F,
+) -> u8
+    ensures known { result ≤ 3 }
+    ensures migrated { result < 2 → IfSome (F.stored files.old) (λ octets.
+        AnswersWith MigrateDone (octets file.now) result
+        (W.taken writer.old) (W.taken writer.new) (N.taken notes.old) (N.taken notes.new)) }
+    ensures prefix { IfSome (F.stored files.old) (λ octets. WritesPrefixOf MigrateDone
+        (octets file.now) (W.taken writer.old) (W.taken writer.new)) }
+    ensures unknown { IfSome (F.stored files.old) (λ octets. octets file.now ≡ None →
+        (2 ≤ result) × (W.taken writer.new ≡ W.taken writer.old)) }
+    ensures failed { N.failures notes.old < N.failures notes.new → result ≡ FAULT }
+    ensures write_failed { W.failures writer.old < W.failures writer.new → result ≡ FAULT }
+{
+    let Some(mut old) = files.reader(file) else {
+        return note(notes, b"old no file\n", FAULT);
+    };
+    migrate_archive(alloc, &mut old, writer, notes)
+}
 
 /// Does what the words ask for and returns the exit status: 0 done, 1 something was refused, 2 the
 /// words or a device are at fault, 3 out of memory. The words do not begin with the program's name.
@@ -27,41 +87,79 @@ pub fn run<R: Input, W: Output, N: Output, F: Files>(
     reader: &mut R,
     writer: &mut W,
     notes: &mut N,
-    _files: &mut F,
+    files: &mut F,
 ) -> u8
     ensures known { result ≤ 3 }
 
     // `convert`, where no device fails and memory suffices: the canonical octets of each record in
     // the order of the frames, in the framing that was asked for
     ensures converted { (input_framing : InputFraming) (to : Option Framing)
-        → parsed (map string_bytes words.now) ≡ Some (Request.Convert input_framing to)
+        → parsed (map string_bytes words.now) ≡ Some (convert input_framing to)
         → result < 2 → AnswersWith
         (InputDone (convert_handling to) noted_line input_framing) (R.left reader.old) result
         (W.taken writer.old) (W.taken writer.new) (N.taken notes.old) (N.taken notes.new) }
 
     // `check`, likewise: one line for each frame, and one on how a stream ends
     ensures checked { (input_framing : InputFraming)
-        → parsed (map string_bytes words.now) ≡ Some (Request.Check input_framing)
+        → parsed (map string_bytes words.now) ≡ Some (check input_framing)
         → result < 2 → AnswersWith
         (InputDone check_handling refused_line input_framing) (R.left reader.old) result
         (W.taken writer.old) (W.taken writer.new) (N.taken notes.old) (N.taken notes.new) }
 
     // `show`, likewise: the fields of each record, one line each
     ensures shown { (input_framing : InputFraming)
-        → parsed (map string_bytes words.now) ≡ Some (Request.Show input_framing)
+        → parsed (map string_bytes words.now) ≡ Some (show input_framing)
         → result < 2 → AnswersWith
         (InputDone show_handling noted_line input_framing) (R.left reader.old) result
         (W.taken writer.old) (W.taken writer.new) (N.taken notes.old) (N.taken notes.new) }
 
-    // whatever the status, `convert` writes a prefix of the right output
-    ensures prefix { (input_framing : InputFraming) (to : Option Framing)
-        → parsed (map string_bytes words.now) ≡ Some (Request.Convert input_framing to) →
+    // `archive`, likewise: the archive of the received set, and a line on what is refused
+    ensures archived { (input_framing : InputFraming)
+        → parsed (map string_bytes words.now) ≡ Some (archive input_framing)
+        → result < 2 → AnswersWith (ArchiveDone input_framing) (R.left reader.old) result
+        (W.taken writer.old) (W.taken writer.new) (N.taken notes.old) (N.taken notes.new) }
+
+    // `merge`, where it answers 0: both files are archives, and their union was written
+    ensures merged { (left right : List ℕ)
+        → parsed (map string_bytes words.now) ≡ Some (merge left right)
+        → result < 1 → IfSome (F.stored files.old) (λ octets.
+        IfSome (octets left) (λ x. AnswersWith (IsMerged x) (octets right) result
+        (W.taken writer.old) (W.taken writer.new) (N.taken notes.old) (N.taken notes.new))) }
+
+    // `migrate`: the archive of the migrated set, or a line on why the file is no old archive
+    ensures migrated { (file : List ℕ)
+        → parsed (map string_bytes words.now) ≡ Some (migrate file)
+        → result < 2 → IfSome (F.stored files.old) (λ octets.
+        AnswersWith MigrateDone (octets file) result
+        (W.taken writer.old) (W.taken writer.new) (N.taken notes.old) (N.taken notes.new)) }
+
+    // whatever the status, a prefix of the right output was written
+    ensures convert_prefix { (input_framing : InputFraming) (to : Option Framing)
+        → parsed (map string_bytes words.now) ≡ Some (convert input_framing to) →
         WritesPrefixOf (InputDone (convert_handling to) noted_line input_framing)
         (R.left reader.old) (W.taken writer.old) (W.taken writer.new) }
+    ensures archive_prefix { (input_framing : InputFraming)
+        → parsed (map string_bytes words.now) ≡ Some (archive input_framing) →
+        WritesPrefixOf (ArchiveDone input_framing)
+        (R.left reader.old) (W.taken writer.old) (W.taken writer.new) }
+    ensures migrate_prefix { (file : List ℕ)
+        → parsed (map string_bytes words.now) ≡ Some (migrate file) →
+        IfSome (F.stored files.old) (λ octets. WritesPrefixOf MigrateDone (octets file)
+        (W.taken writer.old) (W.taken writer.new)) }
+
+    // of a name without a file nothing is written
+    ensures merge_unknown { (left right : List ℕ)
+        → parsed (map string_bytes words.now) ≡ Some (merge left right)
+        → IfSome (F.stored files.old) (λ octets. (octets left ≡ None) ⊎ (octets right ≡ None) →
+        (2 ≤ result) × (W.taken writer.new ≡ W.taken writer.old)) }
+    ensures migrate_unknown { (file : List ℕ)
+        → parsed (map string_bytes words.now) ≡ Some (migrate file)
+        → IfSome (F.stored files.old) (λ octets. octets file ≡ None →
+        (2 ≤ result) × (W.taken writer.new ≡ W.taken writer.old)) }
 
     // status 2 only where a device failed or the input has no end
-    ensures cause { parsed (map string_bytes words.now) ≢ None →
-        AreSmall (R.calls reader.old) (R.failures reader.old) →
+    ensures cause { (asked : Asked) → parsed (map string_bytes words.now) ≡ Some asked →
+        ReadsInput asked → AreSmall (R.calls reader.old) (R.failures reader.old) →
         W.failures writer.old < 2 ^ 63 → N.failures notes.old < 2 ^ 63 → result ≡ FAULT →
         (R.failures reader.old < R.failures reader.new)
         ⊎ (W.failures writer.old < W.failures writer.new)
@@ -71,7 +169,8 @@ pub fn run<R: Input, W: Output, N: Output, F: Files>(
 
     // words that are no request: no device but `notes` is touched
     ensures usage { parsed (map string_bytes words.now) ≡ None → (2 ≤ result)
-        × (W.taken writer.new ≡ W.taken writer.old) × (R.left reader.new ≡ R.left reader.old) }
+        × (W.taken writer.new ≡ W.taken writer.old) × (R.left reader.new ≡ R.left reader.old)
+        × (F.stored files.new ≡ F.stored files.old) }
 
     // a device that fails gives status 2
     ensures failed { N.failures notes.old < N.failures notes.new → result ≡ FAULT }
@@ -89,6 +188,13 @@ pub fn run<R: Input, W: Output, N: Output, F: Files>(
             let handler = Convert { alloc, to };
             scan_input(alloc, input_framing, &handler, reader, writer, notes)
         }
+        Ok(Request::Archive { input_framing }) => {
+            archive_input(alloc, input_framing, reader, writer, notes)
+        }
+        Ok(Request::Merge { left, right }) => {
+            merge_files(alloc, left, right, writer, notes, files)
+        }
+        Ok(Request::Migrate { file }) => migrate_file(alloc, file, writer, notes, files),
         Err(WordsFault::Usage(text)) => note(notes, text.as_bytes(), FAULT),
         Err(WordsFault::Memory) => note(notes, b"want of memory\n", NO_MEMORY),
     }

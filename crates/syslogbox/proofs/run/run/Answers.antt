@@ -1,13 +1,23 @@
 use Rattle.frame_engine.proofs.ConvertLemmas.{convert_output}
-use Rattle.syslogbox.proofs.RequestLemmas.{same_request}
+use Rattle.syslogbox.proofs.RequestLemmas.{same_check, same_convert, same_show}
 use Rattle.syslogbox.proofs.run.run.Goals as goal
+
+pub returns-in-Ok-Check-clause-checked : goal.returns-in-Ok-Check-clause-checked
+returns-in-Ok-Check-clause-checked g c = λ input_framing h few.
+    let same = same_check c.in-Ok-Check.input_framing input_framing c.in-Ok-Check.field-0 _ c.in-Ok-Check.field-0-is c.in-Ok-Check.ensures.ok h in
+    rw same at (c.scan_input.ensures.answer few)
+
+pub returns-in-Ok-Show-clause-shown : goal.returns-in-Ok-Show-clause-shown
+returns-in-Ok-Show-clause-shown g c = λ input_framing h few.
+    let same = same_show c.in-Ok-Show.input_framing input_framing c.in-Ok-Show.field-0 _ c.in-Ok-Show.field-0-is c.in-Ok-Show.ensures.ok h in
+    rw same at (c.scan_input-in-Ok-Show.ensures.answer few)
 
 pub returns-in-Ok-Convert-clause-converted : goal.returns-in-Ok-Convert-clause-converted
 returns-in-Ok-Convert-clause-converted g c = λ input_framing to h few.
-    let same = same_request c.in-Ok-Convert.input_framing input_framing c.in-Ok-Convert.to to c.in-Ok-Convert.field-0 _ c.in-Ok-Convert.field-0-is c.in-Ok-Convert.ensures.ok h in
+    let same = same_convert c.in-Ok-Convert.input_framing input_framing c.in-Ok-Convert.to to c.in-Ok-Convert.field-0 _ c.in-Ok-Convert.field-0-is c.in-Ok-Convert.ensures.ok h in
     rw (same.0, same.1) at (c.scan_input-in-Ok-Convert.ensures.answer few)
 
-pub returns-in-Ok-Convert-clause-prefix : goal.returns-in-Ok-Convert-clause-prefix
-returns-in-Ok-Convert-clause-prefix g c = λ input_framing to h.
-    let same = same_request c.in-Ok-Convert.input_framing input_framing c.in-Ok-Convert.to to c.in-Ok-Convert.field-0 _ c.in-Ok-Convert.field-0-is c.in-Ok-Convert.ensures.ok h in
+pub returns-in-Ok-Convert-clause-convert_prefix : goal.returns-in-Ok-Convert-clause-convert_prefix
+returns-in-Ok-Convert-clause-convert_prefix g c = λ input_framing to h.
+    let same = same_convert c.in-Ok-Convert.input_framing input_framing c.in-Ok-Convert.to to c.in-Ok-Convert.field-0 _ c.in-Ok-Convert.field-0-is c.in-Ok-Convert.ensures.ok h in
     rw (same.0, same.1) at (c.scan_input-in-Ok-Convert.ensures.prefix (convert_output c.in-Ok-Convert.to))

@@ -1,0 +1,7 @@
+pub mod ArchiveLemmas
+pub mod MergeLemmas
+pub mod MigrateLemmas
+pub mod OutcomeLemmas
+pub mod ReceiveLemmas
+pub mod StreamLemmas
+pub mod WrittenLemmas

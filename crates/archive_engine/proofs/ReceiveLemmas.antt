@@ -1,0 +1,203 @@
+-- What the collector of one input heard and holds.
+use Rattle.std.proofs.Common.{◌≡◌, ℕ, ◌+◌, ◌<◌, inl, inr, List, [], ◌∷◌, ◌++◌, Option, None, Some, length, refl, sym, ap, subst, ◌∙◌, arith}
+use Rattle.std.specs.Prelude.{◌↔◌, Ok, Err}
+use Rattle.std.proofs.lemmas.List.{append-nil}
+use Rattle.octet_language.specs.Language.{Begins}
+use Rattle.syslog_frame.specs.Frames.{Frames, Whole, framed}
+use Rattle.syslog_frame.specs.declared.framing.Framing.{Framing}
+use Rattle.syslog_frame.specs.declared.framing.Framing.TheVariants.{Counted, Lf}
+use Rattle.syslog_frame.specs.declared.limits.TheConstants.{FRAME_MAX}
+use Rattle.syslog_frame.proofs.Calls.{begins_reading, none_unless_frame, open_reading, reading_standing}
+use Rattle.syslog_frame.proofs.FrameLaws.{concatenation, unique_frames}
+use Rattle.syslog_frame.proofs.Reading.{frames_read}
+use Rattle.archive_text.specs.Entries.{Entry, Has}
+use Rattle.syslog_collect.specs.Answers.{IfUnreleased, IsEnding, MarksBad}
+use Rattle.syslog_collect.specs.Frames.{AreFramesOf, HasFrames, all_of}
+use Rattle.syslog_collect.specs.Headline.{IsSettled}
+use Rattle.syslog_collect.specs.History.{Datagram, History, IsBad, Opened, Piece, Told, after, hear, nothing}
+use Rattle.syslog_collect.specs.Logs.{IsLogOf, LogGrows}
+use Rattle.syslog_collect.specs.Outcomes.{AreReported, IsOutcome}
+use Rattle.syslog_collect.specs.Runs.{told_octets}
+use Rattle.syslog_collect.specs.Standing.{AreAt, Stands}
+use Rattle.syslog_collect.specs.declared.connection.Connection.{Connection}
+use Rattle.syslog_collect.specs.declared.fault.CollectFault.{CollectFault}
+use Rattle.syslog_collect.specs.declared.fault.CollectFault.TheVariants.{AlreadyOpen, TooManyOpen, NotOpen, ConnFailed, StreamTooLong, Unreleased, Unterminated, Memory}
+use Rattle.syslog_collect.specs.declared.outcome.Outcome.{Outcome}
+use Rattle.syslog_collect.proofs.Headline.{holds_just}
+use Rattle.syslog_collect.proofs.Steps.{after-push}
+use Rattle.frame_engine.specs.Converted.{noted_line}
+use Rattle.frame_engine.specs.Handling.{Done, nothing as none_done}
+use Rattle.frame_engine.specs.Streams.{ReportsEnd}
+use Rattle.frame_engine.specs.declared.input_framing.InputFraming.{InputFraming}
+use Rattle.frame_engine.specs.declared.input_framing.InputFraming.TheVariants as input
+use Rattle.frame_engine.specs.declared.line.Line.TheVariants.{Unterminated as Unfinished}
+use Rattle.archive_engine.specs.Archived.{AreFramesIn, IsReceivedIn}
+use Rattle.archive_engine.specs.Receiving.{LogsPiece, Receives, StopsAt, heard, opening}
+
+-- ---- what was heard
+
+pub receives_datagram : (cs : List Connection) (kept : List Entry) (octets : List ℕ) → Stands cs kept [] (Datagram octets ∷ []) → IsSettled cs → Receives cs kept input.Datagram octets
+receives_datagram cs kept octets stands settled = record { events = Datagram octets ∷ []; stands = stands; settled = settled; history = refl }
+
+pub receives_opening : (cs : List Connection) (kept : List Entry) (kind : Framing) → Stands cs kept [] (Opened 0 kind ∷ []) → IsSettled cs → Receives cs kept (input.Stream kind) []
+receives_opening cs kept kind stands settled = record { events = Opened 0 kind ∷ []; stands = stands; settled = settled; history = refl }
+
+-- some octets are an event
+told_some : (octets : List ℕ) → 0 < length octets → told_octets 0 octets ≡ Piece 0 octets ∷ []
+told_some [] h = absurd (omega (arith, h))
+told_some (x ∷ octets) h = refl
+
+pub receives_piece : (cs ds : List Connection) (kept now : List Entry) (kind : Framing) (given octets : List ℕ) → 0 < length octets → (r : Receives cs kept (input.Stream kind) given)
+    → Stands ds now [] (r.events ++ told_octets 0 octets) → IsSettled ds → Receives ds now (input.Stream kind) (given ++ octets)
+receives_piece cs ds kept now kind given octets some r stands settled = record {
+  events = r.events ++ Piece 0 octets ∷ [];
+  stands = subst (λ (es : List Told). Stands ds now [] (r.events ++ es)) (told_some octets some) stands;
+  settled = settled;
+  history = after-push nothing r.events (Piece 0 octets) ∙ ap (λ (h : History). hear h (Piece 0 octets)) r.history;
+}
+
+-- ---- its outcomes
+
+logs_here : (kind : Framing) (given octets : List ℕ) (old new : List Entry) (os : List Outcome) → IsLogOf (heard (input.Stream kind) given) (Piece 0 octets ∷ []) old new os → LogsPiece kind given octets old new os
+logs_here kind given octets old new os (here, later, between, parts, (before, last, was, are, reported, marks), (none, same)) =
+    let all : here ≡ os = sym (parts ∙ ap (λ (xs : List Outcome). here ++ xs) none ∙ append-nil here) in
+    record {
+      before = before;
+      last = last;
+      rest_before = was.0;
+      rest = are.0;
+      frames_before = was.1;
+      frames_are = are.1;
+      reported = subst (λ (es : List Entry). AreReported old es last os) (sym same) (subst (AreReported old between last) all reported);
+      marks = subst (λ (xs : List Outcome). MarksBad xs (opening kind (given ++ octets))) all marks;
+    }
+
+pub logs_piece : (h : History) (kind : Framing) (given octets : List ℕ) (old new : List Entry) (os : List Outcome) → 0 < length octets → h ≡ heard (input.Stream kind) given
+    → IsLogOf h (told_octets 0 octets) old new os → LogsPiece kind given octets old new os
+logs_piece h kind given octets old new os some is logged =
+    logs_here kind given octets old new os (subst (λ (x : History). IsLogOf x (Piece 0 octets ∷ []) old new os) is (subst (λ (es : List Told). IsLogOf h es old new os) (told_some octets some) logged))
+
+-- the log of a run that began with none
+pub log_only : (h : History) (es fs : List Told) (a b : List Entry) (l m : List Outcome) → l ≡ [] → fs ≡ es → LogGrows h fs a b l m → IsLogOf h es a b m
+log_only h es fs a b l m none same (os, grown, logged) =
+    let all : os ≡ m = sym (grown ∙ ap (λ (xs : List Outcome). xs ++ os) none) in
+    subst (λ (x : List Told). IsLogOf h x a b m) same (subst (IsLogOf h fs a b) all logged)
+
+pub logs_datagram : (octets : List ℕ) (old new : List Entry) (os : List Outcome) → IsLogOf nothing (Datagram octets ∷ []) old new os → (x : Outcome) × (os ≡ x ∷ []) × IsOutcome old new octets x
+logs_datagram octets old new os (here, later, between, parts, (x, one, out), (none, same)) =
+    (x, parts ∙ ap (λ (xs : List Outcome). here ++ xs) none ∙ append-nil here ∙ one, subst (λ (es : List Entry). IsOutcome old es octets x) (sym same) out)
+
+-- ---- the received set
+
+frames_of_datagram : (octets : List ℕ) (frames : List (List ℕ)) → HasFrames (heard input.Datagram octets) frames → AreFramesIn input.Datagram octets frames
+frames_of_datagram octets frames h = of_none h.open_frames h.ended_frames h.open_are h.ended_are h.all
+  where
+    of_none : (fs gs : List (List (List ℕ))) → AreFramesOf [] fs → AreFramesOf [] gs → frames ≡ all_of fs ++ (all_of gs ++ octets ∷ []) → frames ≡ octets ∷ []
+    of_none [] [] a b e = e
+    of_none [] (g ∷ gs) a b e = absurd b
+    of_none (f ∷ fs) gs a b e = absurd a
+
+frames_of_stream : (kind : Framing) (octets : List ℕ) (frames : List (List ℕ)) → HasFrames (heard (input.Stream kind) octets) frames → AreFramesIn (input.Stream kind) octets frames
+frames_of_stream kind octets frames h = of_one h.open_frames h.ended_frames h.open_are h.ended_are h.all
+  where
+    of_one : (fs gs : List (List (List ℕ))) → AreFramesOf (opening kind octets ∷ []) fs → AreFramesOf [] gs → frames ≡ all_of fs ++ (all_of gs ++ []) → (rest : List ℕ) × Frames kind octets frames rest
+    of_one [] gs a b e = absurd a
+    of_one (f ∷ []) [] a b e =
+        let same : frames ≡ f = e ∙ append-nil (f ++ []) ∙ append-nil f in
+        (a.0.0, subst (λ (x : List (List ℕ)). Frames kind octets x a.0.0) (sym same) a.0.1)
+    of_one (f ∷ []) (g ∷ gs) a b e = absurd b
+    of_one (f ∷ (k ∷ fs)) gs a b e = absurd a.1
+
+frames_heard : (framing : InputFraming) (octets : List ℕ) (frames : List (List ℕ)) → HasFrames (heard framing octets) frames → AreFramesIn framing octets frames
+frames_heard input.Datagram octets frames h = frames_of_datagram octets frames h
+frames_heard (input.Stream kind) octets frames h = frames_of_stream kind octets frames h
+
+heard_frames : (framing : InputFraming) (octets : List ℕ) (frames : List (List ℕ)) → AreFramesIn framing octets frames → HasFrames (heard framing octets) frames
+heard_frames input.Datagram octets frames e = record { open_frames = []; ended_frames = []; open_are = tt; ended_are = tt; all = e }
+heard_frames (input.Stream kind) octets frames (rest, are) = record {
+  open_frames = frames ∷ [];
+  ended_frames = [];
+  open_are = ((rest, are), tt);
+  ended_are = tt;
+  all = sym (append-nil (frames ++ []) ∙ append-nil frames);
+}
+
+-- the entries that are held are those of the received set
+pub holds_heard : (cs : List Connection) (kept : List Entry) (framing : InputFraming) (octets : List ℕ) → Receives cs kept framing octets → (x : Entry) → Has kept x ↔ IsReceivedIn framing octets x
+holds_heard cs kept framing octets r x =
+    let held = holds_just cs kept r.events r.stands r.settled x in (
+      λ has. let (frames, are, spelled) = held.0 has in (frames, frames_heard framing octets frames (subst (λ (h : History). HasFrames h frames) r.history are), spelled),
+      λ h. held.1 (h.0, subst (λ (k : History). HasFrames k h.0) (sym r.history) (heard_frames framing octets h.0 h.1), h.2),
+    )
+
+-- ---- the end of a stream
+
+-- what is noted of where a stream stops
+abbrev pub stop_done : Option ℕ → Done
+stop_done None = none_done
+stop_done (Some start) = noted_line (Unfinished start)
+
+begins_nothing : (kind : Framing) → Begins (Whole kind) []
+begins_nothing Counted = (framed Counted (0 ∷ []), (0 ∷ [], ((omega arith, omega arith), refl)))
+begins_nothing Lf = (framed Lf [], ([], (tt, refl)))
+
+-- no octets hold no bad count
+pub good_start : (kind : Framing) → ¬ (IsBad (opening kind []))
+good_start kind (frames, rest, at, bad) =
+    let same = unique_frames kind [] [] frames [] rest (concatenation kind [] tt) bad.frames_are in
+    bad.none (subst (Begins (Whole kind)) same.1 (begins_nothing kind))
+
+begins_at : (cs : List Connection) (kind : Framing) (given : List ℕ) (handled : List (List (List ℕ))) → AreAt cs (opening kind given ∷ []) handled → IsSettled cs → ¬ (IsBad (opening kind given))
+    → (frames : List (List ℕ)) (rest : List ℕ) → Frames kind given frames rest → Begins (Whole kind) rest
+begins_at [] kind given [] at settled good frames rest are = absurd at
+begins_at [] kind given (f ∷ fs) at settled good frames rest are = absurd at
+begins_at (c ∷ cs) kind given [] at settled good frames rest are = absurd at
+begins_at (c ∷ cs) kind given (f ∷ fs) at settled good frames rest are = elim at.0.scanner [
+  | inl here ↦
+      let none = none_unless_frame FRAME_MAX c.scanner kind (0 + length given) here.rest settled.0 here.reads.stands in
+      let whole = frames_read FRAME_MAX c.scanner kind 0 given f here.rest here.reads none in
+      let same = unique_frames kind given f frames here.rest rest whole are in
+      let reading = reading_standing FRAME_MAX c.scanner kind (0 + length given) here.rest settled.0 here.good here.reads.stands in
+      subst (Begins (Whole kind)) same.1 (begins_reading FRAME_MAX c.scanner kind (0 + length given) here.rest (open_reading c.scanner reading) here.reads.stands)
+  | inr broken ↦ absurd (good (f, broken.rest, broken.offset, broken.bad))
+]
+
+pub begins_rest : (cs : List Connection) (kept : List Entry) (kind : Framing) (given : List ℕ) → Receives cs kept (input.Stream kind) given → ¬ (IsBad (opening kind given))
+    → (frames : List (List ℕ)) (rest : List ℕ) → Frames kind given frames rest → Begins (Whole kind) rest
+begins_rest cs kept kind given r good =
+    let at = r.stands.stands_at in
+    begins_at cs kind given at.handled (subst (λ (h : History). AreAt cs h.streams at.handled) r.history at.follow) r.settled good
+
+pub stops_whole : (U : Type 0) (kind : Framing) (given : List ℕ) (u : U) (h : History) → h ≡ heard (input.Stream kind) given → IsEnding 0 (Ok u) h → ¬ (IsBad (opening kind given)) → StopsAt kind given None
+stops_whole U kind given u h is ending good =
+    let here = subst (λ (k : History). IsEnding {U = U} 0 (Ok u) k) is ending in
+    elim here [ inl bad ↦ absurd (good bad) | inr whole ↦ whole ]
+
+pub stops_inside : (U : Type 0) (cs : List Connection) (kept : List Entry) (kind : Framing) (given : List ℕ) (start : ℕ) → (r : Receives cs kept (input.Stream kind) given) → IsEnding {U = U} 0 (Err (Unterminated start)) (after nothing r.events)
+    → ¬ (IsBad (opening kind given)) → StopsAt kind given (Some start)
+stops_inside U cs kept kind given start r ending good =
+    let here = subst (λ (k : History). IsEnding {U = U} 0 (Err (Unterminated start)) k) r.history ending in
+    let (frames, rest, are, some, place) = here.1 in
+    (frames, rest, are, some, begins_rest cs kept kind given r good frames rest are, place)
+
+-- which is what is reported of it
+pub stop_reported : (kind : Framing) (given : List ℕ) (frames : List (List ℕ)) (rest : List ℕ) (stop : Option ℕ) → StopsAt kind given stop → Frames kind given frames rest → ReportsEnd noted_line kind given frames rest (stop_done stop)
+stop_reported kind given frames rest None (fs, whole) are = inl ((unique_frames kind given frames fs rest [] are whole).1, refl)
+stop_reported kind given frames rest (Some start) (fs, q, inside, some, begins, place) are =
+    let same : q ≡ rest = (unique_frames kind given fs frames q rest inside are).1 in
+    inr (inl (start, subst (λ (x : List ℕ). 0 < length x) same some, subst (Begins (Whole kind)) same begins, omega (arith, place, ap length same), refl))
+
+-- a stream that is open and of which no frame is ready ends so or so
+pub ends_so : (U : Type 0) (h : History) (kind : Framing) (given : List ℕ) (fault : CollectFault) (settled : Type 0) → h ≡ heard (input.Stream kind) given → IsEnding {U = U} 0 (Err fault) h → IfUnreleased {U = U} (Err fault) (¬ settled) → settled
+    → ((start : ℕ) → fault ≡ Unterminated start → ⊥) → ⊥
+ends_so U h kind given fault settled is ending unreleased quiet other = of_fault fault (subst (λ (k : History). IsEnding {U = U} 0 (Err fault) k) is ending) unreleased other
+  where
+    of_fault : (f : CollectFault) → IsEnding {U = U} 0 (Err f) (heard (input.Stream kind) given) → IfUnreleased {U = U} (Err f) (¬ settled) → ((start : ℕ) → f ≡ Unterminated start → ⊥) → ⊥
+    of_fault AlreadyOpen e u o = e
+    of_fault TooManyOpen e u o = e
+    of_fault NotOpen e u o = absurd cc
+    of_fault ConnFailed e u o = e
+    of_fault StreamTooLong e u o = e
+    of_fault Unreleased e u o = u quiet
+    of_fault (Unterminated start) e u o = o start refl
+    of_fault (Memory n) e u o = e

@@ -1,0 +1,7 @@
+use Rattle.std.proofs.Common.{[]}
+use Rattle.archive_engine.proofs.ArchiveLemmas.{both_ok}
+use Rattle.archive_engine.proofs.ReceiveLemmas.{receives_opening}
+use Rattle.archive_engine.proofs.reception.Reception.open.Goals as goal
+
+pub returns : goal.returns
+returns g c = both_ok c.hear.result _ _ _ (λ stands settled. receives_opening _ _ c.args.framing (stands [] [] c.requires.stands) (settled c.requires.settled)) c.hear.ensures.stands c.hear.ensures.settled

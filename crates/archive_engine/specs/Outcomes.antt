@@ -1,0 +1,32 @@
+-- What is noted of outcomes.
+use Rattle.std.specs.Prelude.{ℕ, ◌+◌, List, [], ◌∷◌, Bool, true, false, ◌||◌, if◌then◌else◌}
+use Rattle.syslog_collect.specs.declared.outcome.Outcome.{Outcome}
+use Rattle.syslog_collect.specs.declared.outcome.Outcome.TheVariants.{New, Held, Refused, TooLong, BadCount}
+use Rattle.frame_engine.specs.Converted.{noted_line}
+use Rattle.frame_engine.specs.Handling.{Done, nothing, then_done}
+use Rattle.frame_engine.specs.declared.line.Line.TheVariants as line
+
+-- of the frame with this number
+abbrev pub noted_outcome : ℕ → Outcome → Done
+noted_outcome n New = nothing
+noted_outcome n Held = nothing
+noted_outcome n (Refused fault) = noted_line (line.Refused n fault)
+noted_outcome n TooLong = noted_line (line.TooLong n)
+noted_outcome n (BadCount at) = noted_line (line.BadCount n at)
+
+abbrev pub is_bad_count : Outcome → Bool
+is_bad_count New = false
+is_bad_count Held = false
+is_bad_count (Refused fault) = false
+is_bad_count TooLong = false
+is_bad_count (BadCount at) = true
+
+-- of outcomes up to a bad count, the first of them with this number
+abbrev pub noted_outcomes : ℕ → List Outcome → Done
+noted_outcomes n [] = nothing
+noted_outcomes n (o ∷ os) = if is_bad_count o then noted_outcome n o else then_done (noted_outcome n o) (noted_outcomes (n + 1) os)
+
+-- one of them is a bad count
+abbrev pub has_bad_count : List Outcome → Bool
+has_bad_count [] = false
+has_bad_count (o ∷ os) = is_bad_count o || has_bad_count os

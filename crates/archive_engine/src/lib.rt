@@ -1,0 +1,17 @@
+//! What the commands on archives do, over any devices: [`archive_input`] writes the records of an
+//! input as an archive, [`merge_archives`] joins two archives, [`migrate_archive`] brings an old one
+//! into the present form.
+#![tactic(auto)]
+
+mod archive;
+mod faults;
+mod lines;
+mod merge;
+mod migrate;
+mod receiving;
+mod reception;
+mod stopped;
+
+pub use archive::archive_input;
+pub use merge::merge_archives;
+pub use migrate::migrate_archive;

@@ -1,0 +1,135 @@
+//! A collector that receives one input.
+
+ghost use Rattle.std.specs.Prelude.{◌≡◌, ◌<◌, ◌++◌, ◌∷◌, List, ℕ, [], IfOk, OnOk, length};
+ghost use Rattle.archive_text.specs.Entries.{Entry};
+ghost use Rattle.syslog_collect.specs.History.{IsBad, Told, after, nothing};
+ghost use Rattle.syslog_collect.specs.Headline.{IsSettled};
+ghost use Rattle.syslog_collect.specs.Logs.{IsLogOf};
+ghost use Rattle.syslog_collect.specs.Outcomes.{IsOutcome};
+ghost use Rattle.syslog_collect.specs.Runs.{told_event};
+ghost use Rattle.syslog_collect.specs.Standing.{Stands};
+ghost use Rattle.syslog_collect.specs.declared.outcome.Outcome.{Outcome};
+ghost use Rattle.syslog_frame.specs.declared.framing.Framing.{Framing};
+ghost use Rattle.frame_engine.specs.declared.input_framing.InputFraming.TheVariants.{Datagram, Stream};
+ghost use Rattle.archive_engine.specs.Receiving.{HeardNothing, LogsPiece, Receives, StopsAt, opening};
+
+use archive_text::Store;
+use std::alloc::{AllocError, Global};
+use syslog_collect::{CollectFault, Collector, Event, Outcome, RunEnd};
+use syslog_frame::Framing;
+
+// the number of the one connection
+const CONN: u32 = 0;
+
+/// A collector that receives one input, and the outcomes of what it received last.
+#[derive(Drop)]
+pub struct Reception<S> {
+    pub collector: Collector<S>,
+    pub outcomes: Vec<Outcome>,
+}
+
+impl<S: Store + Drop> Reception<S> {
+    /// Nothing was received.
+    pub fn new(alloc: Global, store: S) -> Result<Reception<S>, AllocError>
+        requires { S.entries store ≡ [] }
+        ensures { IfOk result (λ r.
+            HeardNothing r.collector.connections.items (S.entries r.collector.store)) }
+    {
+        match Collector::new(alloc, store) {
+            Ok(collector) => Ok(Reception {
+                collector,
+                outcomes: Vec::new(alloc),
+            }),
+            Err(_) => Err(AllocError),
+        }
+    }
+
+    // Hands one event to the collector, and keeps its outcomes alone.
+    fn hear(&mut self, alloc: Global, event: Event<'_>) -> Result<(), AllocError>
+        ensures stands { OnOk result ((first : List Entry) (before : List Told)
+            → Stands self.old.collector.connections.items (S.entries self.old.collector.store) first before
+            → Stands self.new.collector.connections.items (S.entries self.new.collector.store) first
+            (before ++ told_event event.entry)) }
+        ensures settled { OnOk result (IsSettled self.old.collector.connections.items
+            → IsSettled self.new.collector.connections.items) }
+        ensures logged { OnOk result ((first : List Entry) (before : List Told)
+            → Stands self.old.collector.connections.items (S.entries self.old.collector.store) first before
+            → IsSettled self.old.collector.connections.items
+            → IsLogOf (after nothing before) (told_event event.entry)
+            (S.entries self.old.collector.store) (S.entries self.new.collector.store)
+            self.new.outcomes.items) }
+    {
+        self.outcomes.clear();
+        match self.collector.run(alloc, &[event], &mut self.outcomes) {
+            RunEnd::Done => Ok(()),
+            RunEnd::Stopped { .. } => Err(AllocError),
+        }
+    }
+
+    /// Receives a datagram.
+    pub fn datagram(&mut self, alloc: Global, octets: &[u8]) -> Result<(), AllocError>
+        requires { HeardNothing self.old.collector.connections.items
+            (S.entries self.old.collector.store) }
+        ensures receives { OnOk result (Receives self.new.collector.connections.items
+            (S.entries self.new.collector.store) Datagram octets.now) }
+        ensures logs { OnOk result ((x : Outcome) × (self.new.outcomes.items ≡ x ∷ [])
+            × IsOutcome (S.entries self.old.collector.store) (S.entries self.new.collector.store)
+            octets.now x) }
+    {
+        self.hear(alloc, Event::Datagram { octets })
+    }
+
+    /// Begins to receive a stream.
+    pub fn open(&mut self, alloc: Global, framing: Framing) -> Result<(), AllocError>
+        requires { HeardNothing self.old.collector.connections.items
+            (S.entries self.old.collector.store) }
+        ensures { OnOk result (Receives self.new.collector.connections.items
+            (S.entries self.new.collector.store) (Stream framing) []) }
+    {
+        self.hear(
+            alloc,
+            Event::Opened {
+                conn: CONN,
+                framing,
+            },
+        )
+    }
+
+    /// Receives octets of a stream.
+    pub fn piece(&mut self, alloc: Global, octets: &[u8]) -> Result<(), AllocError>
+        requires { 0 < length octets.now }
+        ensures receives { OnOk result ((kind : Framing) (given : List ℕ)
+            → Receives self.old.collector.connections.items
+            (S.entries self.old.collector.store) (Stream kind) given
+            → Receives self.new.collector.connections.items
+            (S.entries self.new.collector.store) (Stream kind) (given ++ octets.now)) }
+        ensures logs { OnOk result ((kind : Framing) (given : List ℕ)
+            → Receives self.old.collector.connections.items
+            (S.entries self.old.collector.store) (Stream kind) given
+            → LogsPiece kind given octets.now (S.entries self.old.collector.store)
+            (S.entries self.new.collector.store) self.new.outcomes.items) }
+    {
+        self.hear(alloc, Event::Piece { conn: CONN, octets })
+    }
+
+    /// Ends a stream that was received to its end. Returns where its unfinished frame begins, if it
+    /// has one.
+    pub fn end(&mut self) -> Option<u64>
+        requires { (kind : Framing) × (given : List ℕ)
+            × Receives self.old.collector.connections.items
+            (S.entries self.old.collector.store) (Stream kind) given }
+        ensures stops { (kind : Framing) (given : List ℕ)
+            → Receives self.old.collector.connections.items
+            (S.entries self.old.collector.store) (Stream kind) given
+            → ¬ (IsBad (opening kind given)) → StopsAt kind given result }
+        ensures same { self.new.collector.store ≡ self.old.collector.store }
+    {
+        let Err(fault) = self.collector.end_conn(CONN) else {
+            return None;
+        };
+        match fault {
+            CollectFault::Unterminated { start } => Some(start),
+            _ => unreachable!(),
+        }
+    }
+}
