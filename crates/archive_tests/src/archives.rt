@@ -1,32 +1,15 @@
 //! Archives whose texts are known from outside.
 
+use crate::support::{A, ARCHIVE, B, C, store_of, text_of};
 use archive_text::{Added, ArchiveFault};
 use archive_vec::{ReadFault, VecArchive, merge};
 use std::alloc::Global;
 use std::test::Fail;
-use syslog_grammar::{Fault, Field, decode, view};
-use syslog_value::ToWrite;
-
-const A: &[u8] = b"<13>1 - h a - - - x";
-
-const B: &[u8] = b"<14>1 2024-02-29T23:30:00.000000Z h a - - - y";
-
-const C: &[u8] = b"<12>1 2024-02-29T23:00:00.000000Z h a - - - z";
+use syslog_grammar::{Fault, Field, decode};
 
 // The archive of these records.
 fn archive_of(alloc: Global, records: &[&[u8]]) -> Result<VecArchive, Fail> {
-    let mut archive = VecArchive::new(alloc);
-    for octets in records {
-        let seen = view(octets).ok().ok_or("no record")?;
-        archive.add_view(alloc, &seen)?;
-    }
-    Ok(archive)
-}
-
-fn text_of(alloc: Global, archive: &VecArchive) -> Result<Vec<u8>, Fail> {
-    let mut writer = ToWrite::new(Vec::new(alloc));
-    archive.write(&mut writer)?;
-    Ok(writer.into_inner())
+    store_of(alloc, VecArchive::new(alloc), records)
 }
 
 #[test]
@@ -63,6 +46,20 @@ fn a_text_that_is_no_archive_is_refused_where_it_goes_wrong(rt: HostRuntime) {
     }
 }
 
+#[test]
+fn a_cut_archive_is_read_at_the_end_of_an_entry_alone(rt: HostRuntime) -> Result<(), Fail> {
+    assert_eq!(rt; ARCHIVE.len(), 118);
+    for cut in 0..118 {
+        let found = VecArchive::read(rt.alloc(), &ARCHIVE[..cut]).err();
+        let expected = match cut {
+            0 | 22 | 70 => None,
+            _ => Some(ReadFault::Bad(ArchiveFault::BadFrame { at: cut as u64 })),
+        };
+        assert_eq!(rt; found, expected);
+    }
+    Ok(())
+}
+
 // The text of the archive of the records of two archives.
 fn merged_text(alloc: Global, left: &[&[u8]], right: &[&[u8]]) -> Result<Vec<u8>, Fail> {
     let left = archive_of(alloc, left)?;
@@ -73,15 +70,13 @@ fn merged_text(alloc: Global, left: &[&[u8]], right: &[&[u8]]) -> Result<Vec<u8>
 
 #[test]
 fn archives_are_merged(rt: HostRuntime) -> Result<(), Fail> {
-    let joined =
-        b"19 <13>1 - h a - - - x45 <12>1 2024-02-29T23:00:00.000000Z h a - - - z45 <14>1 2024-02-29T23:30:00.000000Z h a - - - y".as_slice();
     for (left, right) in [
         ([C, A].as_slice(), [B, A].as_slice()),
         ([A, B].as_slice(), [A, C].as_slice()),
         ([B, C, A].as_slice(), [A, B, C].as_slice()),
     ] {
         let text = merged_text(rt.alloc(), left, right)?;
-        assert_eq!(rt; text.as_slice(), joined);
+        assert_eq!(rt; text.as_slice(), ARCHIVE);
     }
     Ok(())
 }

@@ -7,3 +7,9 @@ mod archives;
 mod collectors;
 #[cfg(test)]
 mod migrations;
+#[cfg(test)]
+mod refusals;
+#[cfg(test)]
+mod support;
+#[cfg(test)]
+mod writers;
