@@ -15,6 +15,7 @@ from random import Random
 from pathlib import Path
 
 sys.dont_write_bytecode = True
+import library
 import reference
 from rows import ELEMENTS, EXAMPLE, HELLO, MARK, RECORDS, REFUSED, STREAMS, WORDS
 
@@ -380,6 +381,7 @@ def main():
         pieces(program, results, shim, f"{folder}/counts")
         many_ids(program, results)
         trials(trial, results, shim, f"{folder}/counts")
+        library.library(run, counts, trial, results, shim, f"{folder}/counts")
     print(f"{results.passed} passed, {results.failed} failed")
     sys.exit(1 if results.failed else 0)
 
