@@ -1,9 +1,11 @@
 //! Archives whose texts are known from outside.
 
 use crate::support::{A, ARCHIVE, B, C, store_of, text_of};
-use archive_text::{Added, ArchiveFault};
+use archive_pages::PagedArchive;
+use archive_text::{Added, ArchiveFault, Store};
 use archive_vec::{ReadFault, VecArchive, merge};
 use std::alloc::Global;
+use std::process::Abort;
 use std::test::Fail;
 use syslog_grammar::{Fault, Field, decode};
 
@@ -88,6 +90,43 @@ fn nothing_merged_with_nothing_is_nothing(rt: HostRuntime) -> Result<(), Fail> {
     Ok(())
 }
 
+const BOM_ALONE: &[u8] = b"<0>1 - - - - - - \xef\xbb\xbf";
+
+#[test]
+fn the_empty_message_and_the_bom_are_merged(rt: HostRuntime) -> Result<(), Fail> {
+    let joined = b"16 <0>1 - - - - - -20 <0>1 - - - - - - \xef\xbb\xbf".as_slice();
+    let none = [b"<0>1 - - - - - -".as_slice()];
+    let text = merged_text(rt.alloc(), none.as_slice(), &[BOM_ALONE])?;
+    assert_eq!(rt; text.as_slice(), joined);
+    let text = merged_text(rt.alloc(), &[BOM_ALONE], none.as_slice())?;
+    assert_eq!(rt; text.as_slice(), joined);
+    Ok(())
+}
+
+const EXAMPLE: &[u8] =
+    b"<165>1 2003-08-24T05:14:15.000003-07:00 192.0.2.1 myproc 8710 - - %% It's time to make the do-nuts.";
+
+// A record is added once, and held then.
+fn one_is_added<S: Store>(rt: &(impl Abort + AllocGlobal), store: &mut S) -> Result<(), Fail> {
+    let alloc = rt.alloc();
+    let record = decode(alloc, EXAMPLE).ok().ok_or("no record")?;
+    assert_eq!(rt; store.holds(alloc, &record), Ok(false));
+    assert_eq!(rt; store.add(alloc, &record), Ok(Added::New));
+    assert_eq!(rt; store.add(alloc, &record), Ok(Added::Held));
+    assert_eq!(rt; store.holds(alloc, &record), Ok(true));
+    assert_eq!(rt; store.len(), 1);
+    let expected =
+        b"94 <165>1 2003-08-24T12:14:15.000003Z 192.0.2.1 myproc 8710 - - %% It's time to make the do-nuts.".as_slice();
+    assert_eq!(rt; text_of(alloc, store)?.as_slice(), expected);
+    Ok(())
+}
+
+#[test]
+fn the_example_of_the_standard_is_added_once(rt: HostRuntime) -> Result<(), Fail> {
+    one_is_added(&rt, &mut VecArchive::new(rt.alloc()))?;
+    one_is_added(&rt, &mut PagedArchive::new(rt.alloc()))
+}
+
 #[test]
 fn the_longest_record_is_archived(rt: HostRuntime) -> Result<(), Fail> {
     let alloc = rt.alloc();
@@ -125,15 +164,5 @@ fn the_empty_message_is_none_but_with_the_bom(rt: HostRuntime) -> Result<(), Fai
     }
     assert_eq!(rt; archive.get(0), Some(b"<0>1 - - - - - -".as_slice()));
     assert_eq!(rt; archive.get(2), None);
-    Ok(())
-}
-
-#[test]
-fn a_record_is_held_once_it_is_added(rt: HostRuntime) -> Result<(), Fail> {
-    let archive = archive_of(rt.alloc(), &[A])?;
-    for (octets, expected) in [(A, true), (B, false)] {
-        let record = decode(rt.alloc(), octets).ok().ok_or("no record")?;
-        assert_eq!(rt; archive.holds(rt.alloc(), &record)?, expected);
-    }
     Ok(())
 }
