@@ -1,6 +1,6 @@
 //! Numbers that look random, the same ones for the same seed.
 
-ghost use Rattle.std.specs.Prelude.{◌≡◌, ◌<◌};
+ghost use Rattle.std.specs.Prelude.{◌<◌};
 
 /// A generator of numbers (splitmix64).
 #[derive(Drop)]
