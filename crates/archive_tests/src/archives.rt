@@ -103,8 +103,8 @@ fn the_empty_message_and_the_bom_are_merged(rt: HostRuntime) -> Result<(), Fail>
     Ok(())
 }
 
-const EXAMPLE: &[u8] =
-    b"<165>1 2003-08-24T05:14:15.000003-07:00 192.0.2.1 myproc 8710 - - %% It's time to make the do-nuts.";
+const EXAMPLE: &[u8] = b"<165>1 2003-08-24T05:14:15.000003-07:00 192.0.2.1 myproc 8710 - - \
+    %% It's time to make the do-nuts.";
 
 // A record is added once, and held then.
 fn one_is_added<S: Store>(rt: &(impl Abort + AllocGlobal), store: &mut S) -> Result<(), Fail> {
@@ -115,8 +115,9 @@ fn one_is_added<S: Store>(rt: &(impl Abort + AllocGlobal), store: &mut S) -> Res
     assert_eq!(rt; store.add(alloc, &record), Ok(Added::Held));
     assert_eq!(rt; store.holds(alloc, &record), Ok(true));
     assert_eq!(rt; store.len(), 1);
-    let expected =
-        b"94 <165>1 2003-08-24T12:14:15.000003Z 192.0.2.1 myproc 8710 - - %% It's time to make the do-nuts.".as_slice();
+    let expected = b"94 <165>1 2003-08-24T12:14:15.000003Z 192.0.2.1 myproc 8710 - - \
+        %% It's time to make the do-nuts."
+        .as_slice();
     assert_eq!(rt; text_of(alloc, store)?.as_slice(), expected);
     Ok(())
 }

@@ -1,4 +1,5 @@
-//! Tests of archives and of the collector through their public calls. There is nothing to call here.
+//! Tests of archives and of the collector through their public calls. There is nothing to call
+//! here.
 #![tactic(auto)]
 
 #[cfg(test)]

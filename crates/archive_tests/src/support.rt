@@ -14,8 +14,9 @@ pub const B: &[u8] = b"<14>1 2024-02-29T23:30:00.000000Z h a - - - y";
 pub const C: &[u8] = b"<12>1 2024-02-29T23:00:00.000000Z h a - - - z";
 
 /// The archive of the three.
-pub const ARCHIVE: &[u8] =
-    b"19 <13>1 - h a - - - x45 <12>1 2024-02-29T23:00:00.000000Z h a - - - z45 <14>1 2024-02-29T23:30:00.000000Z h a - - - y";
+pub const ARCHIVE: &[u8] = b"19 <13>1 - h a - - - x\
+    45 <12>1 2024-02-29T23:00:00.000000Z h a - - - z\
+    45 <14>1 2024-02-29T23:30:00.000000Z h a - - - y";
 
 /// A store with the records of these octets added.
 pub fn store_of<S: Store + Drop>(

@@ -62,8 +62,8 @@ fn long_store<S: Store + Drop>(alloc: Global, mut store: S) -> Result<S, Fail> {
     Ok(store)
 }
 
-/// Each write fails in turn: what was written is a prefix, and as long as the answer says. Gives how
-/// many writes there are.
+/// Each write fails in turn: what was written is a prefix, and as long as the answer says. Gives
+/// how many writes there are.
 fn each_write_fails<S: Store>(rt: &(impl Abort + AllocGlobal), store: &S) -> Result<u64, Fail> {
     let alloc = rt.alloc();
     let text = text_of(alloc, store)?;

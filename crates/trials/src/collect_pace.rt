@@ -15,6 +15,9 @@ use syslog_grammar::view;
 /// How many records the stream of a round has.
 const RECORDS: u32 = 100_000;
 
+/// The host and the application of each record.
+const HOST: &str = "mymachine.example.com evntslog";
+
 /// Records of some 175 octets, or of some 220 with two elements, in counted frames. Their instants
 /// nearly ascend.
 fn stream(alloc: Global, has_elements: bool) -> io::Result<Vec<u8>> {
@@ -33,7 +36,7 @@ fn stream(alloc: Global, has_elements: bool) -> io::Result<Vec<u8>> {
         record.clear();
         write!(
             record,
-            "<165>1 2024-02-29T23:00:{second:02}.{micros:06}Z mymachine.example.com evntslog {process} ID47 {data} "
+            "<165>1 2024-02-29T23:00:{second:02}.{micros:06}Z {HOST} {process} ID47 {data} "
         )?;
         write!(
             record,

@@ -64,8 +64,8 @@ fn is_right_log(log: &[Outcome], new: usize, records: usize) -> bool {
     found == new && held.saturating_add(new) == records
 }
 
-/// The text of the archive of a collector that is given a set, but for one record perhaps, over some
-/// route.
+/// The text of the archive of a collector that is given a set, but for one record perhaps, over
+/// some route.
 fn collected<S: Store + Drop>(
     alloc: Global,
     random: &mut Random,

@@ -6,9 +6,11 @@ mod archive;
 mod collect;
 mod collect_pace;
 mod collecting;
+mod collector_calls;
 mod grammar;
 mod grow;
 mod headline;
+mod interleavings;
 mod joining;
 mod pace;
 mod random;
@@ -59,8 +61,8 @@ fn run(rt: &impl Print, alloc: Global, words: &[String]) -> io::Result<()> {
         ("grow", "migrate") => joining::migration(rt, alloc),
         ("grow", "collect") => collect::collect(rt, alloc),
         ("headline", seed) => headline::headline(rt, alloc, seed, word(words, 2)),
-        ("turns", "every") => turns::every_turn(rt, alloc, word(words, 2), word(words, 3)),
-        ("turns", seed) => turns::turns(rt, alloc, seed),
+        ("turns", "every") => interleavings::every_turn(rt, alloc, word(words, 2), word(words, 3)),
+        ("turns", seed) => interleavings::turns(rt, alloc, seed),
         _ => println!(rt; "{USAGE}"),
     }
 }

@@ -126,7 +126,8 @@ impl Route {
         Ok(route)
     }
 
-    /// The events of the route: pieces of any size, some of them empty, of connections in any turns.
+    /// The events of the route: pieces of any size, some of them empty, of connections in any
+    /// turns.
     pub fn events<'a>(
         &'a self,
         alloc: Global,
