@@ -15,6 +15,7 @@ from random import Random
 from pathlib import Path
 
 sys.dont_write_bytecode = True
+import library
 import reference
 from archives import archives
 from rows import ELEMENTS, EXAMPLE, HELLO, MARK, RECORDS, REFUSED, STREAMS, WORDS
@@ -382,6 +383,7 @@ def main():
         many_ids(program, results)
         trials(trial, results, shim, f"{folder}/counts")
         archives(run, counts, is_refused, results, program, shim, folder, mutations(5_000))
+        library.library(run, counts, trial, results, shim, f"{folder}/counts")
     print(f"{results.passed} passed, {results.failed} failed")
     sys.exit(1 if results.failed else 0)
 

@@ -1,32 +1,17 @@
 //! Archives whose texts are known from outside.
 
-use archive_text::{Added, ArchiveFault};
+use crate::support::{A, ARCHIVE, B, C, store_of, text_of};
+use archive_pages::PagedArchive;
+use archive_text::{Added, ArchiveFault, Store};
 use archive_vec::{ReadFault, VecArchive, merge};
 use std::alloc::Global;
+use std::process::Abort;
 use std::test::Fail;
-use syslog_grammar::{Fault, Field, decode, view};
-use syslog_value::ToWrite;
-
-const A: &[u8] = b"<13>1 - h a - - - x";
-
-const B: &[u8] = b"<14>1 2024-02-29T23:30:00.000000Z h a - - - y";
-
-const C: &[u8] = b"<12>1 2024-02-29T23:00:00.000000Z h a - - - z";
+use syslog_grammar::{Fault, Field, decode};
 
 // The archive of these records.
 fn archive_of(alloc: Global, records: &[&[u8]]) -> Result<VecArchive, Fail> {
-    let mut archive = VecArchive::new(alloc);
-    for octets in records {
-        let seen = view(octets).ok().ok_or("no record")?;
-        archive.add_view(alloc, &seen)?;
-    }
-    Ok(archive)
-}
-
-fn text_of(alloc: Global, archive: &VecArchive) -> Result<Vec<u8>, Fail> {
-    let mut writer = ToWrite::new(Vec::new(alloc));
-    archive.write(&mut writer)?;
-    Ok(writer.into_inner())
+    store_of(alloc, VecArchive::new(alloc), records)
 }
 
 #[test]
@@ -63,6 +48,20 @@ fn a_text_that_is_no_archive_is_refused_where_it_goes_wrong(rt: HostRuntime) {
     }
 }
 
+#[test]
+fn a_cut_archive_is_read_at_the_end_of_an_entry_alone(rt: HostRuntime) -> Result<(), Fail> {
+    assert_eq!(rt; ARCHIVE.len(), 118);
+    for cut in 0..118 {
+        let found = VecArchive::read(rt.alloc(), &ARCHIVE[..cut]).err();
+        let expected = match cut {
+            0 | 22 | 70 => None,
+            _ => Some(ReadFault::Bad(ArchiveFault::BadFrame { at: cut as u64 })),
+        };
+        assert_eq!(rt; found, expected);
+    }
+    Ok(())
+}
+
 // The text of the archive of the records of two archives.
 fn merged_text(alloc: Global, left: &[&[u8]], right: &[&[u8]]) -> Result<Vec<u8>, Fail> {
     let left = archive_of(alloc, left)?;
@@ -73,15 +72,13 @@ fn merged_text(alloc: Global, left: &[&[u8]], right: &[&[u8]]) -> Result<Vec<u8>
 
 #[test]
 fn archives_are_merged(rt: HostRuntime) -> Result<(), Fail> {
-    let joined =
-        b"19 <13>1 - h a - - - x45 <12>1 2024-02-29T23:00:00.000000Z h a - - - z45 <14>1 2024-02-29T23:30:00.000000Z h a - - - y".as_slice();
     for (left, right) in [
         ([C, A].as_slice(), [B, A].as_slice()),
         ([A, B].as_slice(), [A, C].as_slice()),
         ([B, C, A].as_slice(), [A, B, C].as_slice()),
     ] {
         let text = merged_text(rt.alloc(), left, right)?;
-        assert_eq!(rt; text.as_slice(), joined);
+        assert_eq!(rt; text.as_slice(), ARCHIVE);
     }
     Ok(())
 }
@@ -91,6 +88,44 @@ fn nothing_merged_with_nothing_is_nothing(rt: HostRuntime) -> Result<(), Fail> {
     let text = merged_text(rt.alloc(), &[], &[])?;
     assert_eq!(rt; text.len(), 0);
     Ok(())
+}
+
+const BOM_ALONE: &[u8] = b"<0>1 - - - - - - \xef\xbb\xbf";
+
+#[test]
+fn the_empty_message_and_the_bom_are_merged(rt: HostRuntime) -> Result<(), Fail> {
+    let joined = b"16 <0>1 - - - - - -20 <0>1 - - - - - - \xef\xbb\xbf".as_slice();
+    let none = [b"<0>1 - - - - - -".as_slice()];
+    let text = merged_text(rt.alloc(), none.as_slice(), &[BOM_ALONE])?;
+    assert_eq!(rt; text.as_slice(), joined);
+    let text = merged_text(rt.alloc(), &[BOM_ALONE], none.as_slice())?;
+    assert_eq!(rt; text.as_slice(), joined);
+    Ok(())
+}
+
+const EXAMPLE: &[u8] = b"<165>1 2003-08-24T05:14:15.000003-07:00 192.0.2.1 myproc 8710 - - \
+    %% It's time to make the do-nuts.";
+
+// A record is added once, and held then.
+fn one_is_added<S: Store>(rt: &(impl Abort + AllocGlobal), store: &mut S) -> Result<(), Fail> {
+    let alloc = rt.alloc();
+    let record = decode(alloc, EXAMPLE).ok().ok_or("no record")?;
+    assert_eq!(rt; store.holds(alloc, &record), Ok(false));
+    assert_eq!(rt; store.add(alloc, &record), Ok(Added::New));
+    assert_eq!(rt; store.add(alloc, &record), Ok(Added::Held));
+    assert_eq!(rt; store.holds(alloc, &record), Ok(true));
+    assert_eq!(rt; store.len(), 1);
+    let expected = b"94 <165>1 2003-08-24T12:14:15.000003Z 192.0.2.1 myproc 8710 - - \
+        %% It's time to make the do-nuts."
+        .as_slice();
+    assert_eq!(rt; text_of(alloc, store)?.as_slice(), expected);
+    Ok(())
+}
+
+#[test]
+fn the_example_of_the_standard_is_added_once(rt: HostRuntime) -> Result<(), Fail> {
+    one_is_added(&rt, &mut VecArchive::new(rt.alloc()))?;
+    one_is_added(&rt, &mut PagedArchive::new(rt.alloc()))
 }
 
 #[test]
@@ -130,15 +165,5 @@ fn the_empty_message_is_none_but_with_the_bom(rt: HostRuntime) -> Result<(), Fai
     }
     assert_eq!(rt; archive.get(0), Some(b"<0>1 - - - - - -".as_slice()));
     assert_eq!(rt; archive.get(2), None);
-    Ok(())
-}
-
-#[test]
-fn a_record_is_held_once_it_is_added(rt: HostRuntime) -> Result<(), Fail> {
-    let archive = archive_of(rt.alloc(), &[A])?;
-    for (octets, expected) in [(A, true), (B, false)] {
-        let record = decode(rt.alloc(), octets).ok().ok_or("no record")?;
-        assert_eq!(rt; archive.holds(rt.alloc(), &record)?, expected);
-    }
     Ok(())
 }

@@ -1,16 +1,13 @@
 //! Collectors over both stores.
 
+use crate::support::{A, ARCHIVE, B, collected};
 use archive_pages::PagedArchive;
-use archive_text::Store;
 use archive_vec::VecArchive;
+use std::alloc::Global;
+use std::process::Abort;
 use std::test::Fail;
-use syslog_collect::{Collector, Event, Outcome, RunEnd};
+use syslog_collect::{Event, Outcome, RunEnd};
 use syslog_frame::Framing;
-use syslog_value::ToWrite;
-
-const A: &[u8] = b"<13>1 - h a - - - x";
-
-const B: &[u8] = b"<14>1 2024-02-29T23:30:00.000000Z h a - - - y";
 
 const C_AS_A_LINE: &[u8] = b"<12>1 2024-02-29T23:00:00.000000Z h a - - - z\n";
 
@@ -19,8 +16,24 @@ const FIRST_STREAM: &[u8] = b"38 <14>1 2024-02-29T23:30:00Z h a - - - y19 <13>1 
 const SECOND_STREAM: &[u8] =
     b"38 <12>1 2024-02-29T23:00:00Z h a - - - z45 <14>1 2024-02-29T23:30:00.000000Z h a - - - y";
 
-const ARCHIVE: &[u8] =
-    b"19 <13>1 - h a - - - x45 <12>1 2024-02-29T23:00:00.000000Z h a - - - z45 <14>1 2024-02-29T23:30:00.000000Z h a - - - y";
+/// What a run over events logs, and the text of the archive then: the same over both stores.
+fn run_of(
+    rt: &(impl Abort + AllocGlobal),
+    events: &[Event<'_>],
+) -> Result<(Vec<Outcome>, Vec<u8>), Fail> {
+    let alloc = rt.alloc();
+    let (end, log, text) = collected(alloc, VecArchive::new(alloc), events)?;
+    let (end_of_pages, log_of_pages, text_of_pages) = collected(
+        alloc,
+        PagedArchive::new(alloc),
+        events,
+    )?;
+    assert_eq!(rt; end, RunEnd::Done);
+    assert_eq!(rt; end_of_pages, RunEnd::Done);
+    assert!(rt; log == log_of_pages);
+    assert!(rt; text == text_of_pages);
+    Ok((log, text))
+}
 
 #[test]
 fn datagrams_and_a_line_are_archived(rt: HostRuntime) -> Result<(), Fail> {
@@ -35,62 +48,108 @@ fn datagrams_and_a_line_are_archived(rt: HostRuntime) -> Result<(), Fail> {
         },
         Event::Ended { conn: 1 },
     ];
-    let Ok(mut collector) = Collector::new(rt.alloc(), VecArchive::new(rt.alloc())) else {
-        return Err("no memory")?;
-    };
-    let mut log = Vec::new(rt.alloc());
-    let end = collector.run(rt.alloc(), events.as_slice(), &mut log);
-    assert_eq!(rt; end, RunEnd::Done);
-    assert_eq!(rt;
-        log.as_slice(),
-        [Outcome::New, Outcome::New, Outcome::New].as_slice()
-    );
-    let mut writer = ToWrite::new(Vec::new(rt.alloc()));
-    collector.store().write(&mut writer)?;
-    assert_eq!(rt; writer.into_inner().as_slice(), ARCHIVE);
+    let (log, text) = run_of(&rt, events.as_slice())?;
+    let expected = [Outcome::New, Outcome::New, Outcome::New];
+    assert_eq!(rt; log.as_slice(), expected.as_slice());
+    assert_eq!(rt; text.as_slice(), ARCHIVE);
+    Ok(())
+}
+
+/// The two counted streams, each in two pieces, in turns.
+fn turns<'a>(first: (&'a [u8], &'a [u8]), second: (&'a [u8], &'a [u8])) -> [Event<'a>; 8] {
+    let framing = Framing::Counted;
+    [
+        Event::Opened { conn: 1, framing },
+        Event::Opened { conn: 2, framing },
+        Event::Piece {
+            conn: 1,
+            octets: first.0,
+        },
+        Event::Piece {
+            conn: 2,
+            octets: second.0,
+        },
+        Event::Piece {
+            conn: 1,
+            octets: first.1,
+        },
+        Event::Ended { conn: 1 },
+        Event::Piece {
+            conn: 2,
+            octets: second.1,
+        },
+        Event::Ended { conn: 2 },
+    ]
+}
+
+#[test]
+fn two_streams_are_cut_at_every_place(rt: HostRuntime) -> Result<(), Fail> {
+    for cut in 0..64 {
+        let first = FIRST_STREAM.split_at_checked(cut).ok_or("too short")?;
+        for other in 0..90 {
+            let second = SECOND_STREAM.split_at_checked(other).ok_or("too short")?;
+            let (log, text) = run_of(&rt, turns(first, second).as_slice())?;
+            assert_eq!(rt; log.len(), 4);
+            assert_eq!(rt; text.as_slice(), ARCHIVE);
+        }
+    }
+    Ok(())
+}
+
+/// What is logged of datagrams, and the text of the archive then.
+fn run_of_datagrams(
+    rt: &(impl Abort + AllocGlobal),
+    datagrams: &[&[u8]],
+) -> Result<(Vec<Outcome>, Vec<u8>), Fail> {
+    let mut events = Vec::new(rt.alloc());
+    for octets in datagrams {
+        events.push(Event::Datagram { octets })?;
+    }
+    run_of(rt, events.as_slice())
+}
+
+#[test]
+fn an_instant_in_two_zones_is_one_entry(rt: HostRuntime) -> Result<(), Fail> {
+    let (log, text) = run_of_datagrams(
+        &rt,
+        &[
+            b"<14>1 2024-03-01T00:30:00+01:00 h a - - -",
+            b"<14>1 2024-02-29T23:30:00.0Z h a - - -",
+        ],
+    )?;
+    assert_eq!(rt; log.as_slice(), [Outcome::New, Outcome::Held].as_slice());
+    let expected = b"43 <14>1 2024-02-29T23:30:00.000000Z h a - - -".as_slice();
+    assert_eq!(rt; text.as_slice(), expected);
+    Ok(())
+}
+
+const NO_MESSAGE: &[u8] = b"<0>1 - - - - - -";
+
+const EMPTY_MESSAGE: &[u8] = b"<0>1 - - - - - - ";
+
+const BOM_MESSAGE: &[u8] = b"<0>1 - - - - - - \xef\xbb\xbf";
+
+#[test]
+fn the_empty_message_is_none(rt: HostRuntime) -> Result<(), Fail> {
+    for datagrams in [[NO_MESSAGE, EMPTY_MESSAGE], [EMPTY_MESSAGE, NO_MESSAGE]] {
+        let (log, text) = run_of_datagrams(&rt, datagrams.as_slice())?;
+        assert_eq!(rt; log.as_slice(), [Outcome::New, Outcome::Held].as_slice());
+        assert_eq!(rt; text.as_slice(), b"16 <0>1 - - - - - -".as_slice());
+    }
     Ok(())
 }
 
 #[test]
-fn counted_streams_in_turns_are_archived(rt: HostRuntime) -> Result<(), Fail> {
-    let Ok(mut collector) = Collector::new(rt.alloc(), PagedArchive::new(rt.alloc())) else {
-        return Err("no memory")?;
-    };
-    let mut log = Vec::new(rt.alloc());
-    let framing = Framing::Counted;
-    let opened = [
-        Event::Opened { conn: 1, framing },
-        Event::Opened { conn: 2, framing },
-    ];
-    let end = collector.run(rt.alloc(), opened.as_slice(), &mut log);
-    assert_eq!(rt; end, RunEnd::Done);
-    for (first, second) in FIRST_STREAM.chunks(5).zip(SECOND_STREAM.chunks(5)) {
-        let turn = [
-            Event::Piece {
-                conn: 2,
-                octets: second,
-            },
-            Event::Piece {
-                conn: 1,
-                octets: first,
-            },
-        ];
-        let end = collector.run(rt.alloc(), turn.as_slice(), &mut log);
-        assert_eq!(rt; end, RunEnd::Done);
+fn the_bom_alone_is_a_message(rt: HostRuntime) -> Result<(), Fail> {
+    for datagrams in [
+        [NO_MESSAGE, BOM_MESSAGE, EMPTY_MESSAGE],
+        [BOM_MESSAGE, EMPTY_MESSAGE, BOM_MESSAGE],
+    ] {
+        let (log, text) = run_of_datagrams(&rt, datagrams.as_slice())?;
+        let expected = [Outcome::New, Outcome::New, Outcome::Held];
+        assert_eq!(rt; log.as_slice(), expected.as_slice());
+        let expected = b"16 <0>1 - - - - - -20 <0>1 - - - - - - \xef\xbb\xbf".as_slice();
+        assert_eq!(rt; text.as_slice(), expected);
     }
-    let (_, rest) = SECOND_STREAM.split_at(65);
-    let last = [Event::Piece {
-        conn: 2,
-        octets: rest,
-    }];
-    let end = collector.run(rt.alloc(), last.as_slice(), &mut log);
-    assert_eq!(rt; end, RunEnd::Done);
-    let ended = [Event::Ended { conn: 1 }, Event::Ended { conn: 2 }];
-    let end = collector.run(rt.alloc(), ended.as_slice(), &mut log);
-    assert_eq!(rt; end, RunEnd::Done);
-    assert_eq!(rt; log.len(), 4);
-    let mut writer = ToWrite::new(Vec::new(rt.alloc()));
-    collector.store().write(&mut writer)?;
-    assert_eq!(rt; writer.into_inner().as_slice(), ARCHIVE);
     Ok(())
 }

@@ -1,4 +1,5 @@
-//! Tests of archives and of the collector through their public calls. There is nothing to call here.
+//! Tests of archives and of the collector through their public calls. There is nothing to call
+//! here.
 #![tactic(auto)]
 
 #[cfg(test)]
@@ -7,3 +8,9 @@ mod archives;
 mod collectors;
 #[cfg(test)]
 mod migrations;
+#[cfg(test)]
+mod refusals;
+#[cfg(test)]
+mod support;
+#[cfg(test)]
+mod writers;

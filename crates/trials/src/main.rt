@@ -2,9 +2,25 @@
 //! fail. No trial reports a time; the script that runs it measures the process.
 #![tactic(auto)]
 
+mod archive;
+mod collect;
+mod collect_pace;
+mod collecting;
+mod collector_calls;
 mod grammar;
 mod grow;
+mod headline;
+mod interleavings;
+mod joining;
 mod pace;
+mod random;
+mod record_set;
+mod room;
+mod route;
+mod rows;
+mod sample;
+mod sampling;
+mod turns;
 mod value;
 
 use std::alloc::Global;
@@ -13,7 +29,11 @@ use std::{env, io};
 
 const USAGE: &str = "usage: trials time scan counted|lf SIZE ROUNDS
        trials time copy SIZE ROUNDS
-       trials grow frame|value|grammar";
+       trials time collect run|scan|add plain|elements ROUNDS
+       trials grow frame|value|grammar|archive|streams|migrate|collect
+       trials headline SEED ROUNDS
+       trials turns SEED
+       trials turns every PART PARTS";
 
 /// The word at an index, or an empty word where there is none.
 fn word(words: &[String], index: usize) -> &str {
@@ -30,9 +50,19 @@ fn run(rt: &impl Print, alloc: Global, words: &[String]) -> io::Result<()> {
             pace::scan(rt, alloc, word(words, 2), word(words, 3), word(words, 4))
         }
         ("time", "copy") => pace::copy(rt, alloc, word(words, 2), word(words, 3)),
+        ("time", "collect") => {
+            collect_pace::collect(rt, alloc, word(words, 2), word(words, 3), word(words, 4))
+        }
         ("grow", "frame") => grow::frame(rt, alloc),
         ("grow", "value") => value::value(rt, alloc),
         ("grow", "grammar") => grammar::grammar(rt, alloc),
+        ("grow", "archive") => archive::archive(rt, alloc),
+        ("grow", "streams") => joining::streams(rt, alloc),
+        ("grow", "migrate") => joining::migration(rt, alloc),
+        ("grow", "collect") => collect::collect(rt, alloc),
+        ("headline", seed) => headline::headline(rt, alloc, seed, word(words, 2)),
+        ("turns", "every") => interleavings::every_turn(rt, alloc, word(words, 2), word(words, 3)),
+        ("turns", seed) => interleavings::turns(rt, alloc, seed),
         _ => println!(rt; "{USAGE}"),
     }
 }

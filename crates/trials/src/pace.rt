@@ -5,7 +5,7 @@ use std::io;
 use syslog_frame::{Framing, Ready, Scanner, put_frame};
 
 /// The octets of a piece.
-const PIECE: usize = 4_096;
+pub const PIECE: usize = 4_096;
 
 /// About how many octets the stream of one round has: too many for a processor's nearest caches.
 const ROUND: usize = 4_096 * PIECE;
@@ -17,7 +17,7 @@ const SIZE_MAX: usize = 65_535;
 const ROUNDS_MAX: u32 = 10_000_000;
 
 /// The size of a frame and the number of rounds, where the words are numbers in range.
-fn numbers(size: &str, rounds: &str) -> Option<(usize, u32)> {
+pub fn numbers(size: &str, rounds: &str) -> Option<(usize, u32)> {
     let size: usize = size.parse().ok()?;
     let rounds: u32 = rounds.parse().ok()?;
     (size <= SIZE_MAX && rounds <= ROUNDS_MAX).then_some((size, rounds))
@@ -36,7 +36,7 @@ fn stream(alloc: Global, framing: Framing, size: usize) -> Result<Vec<u8>, Alloc
 }
 
 /// Scans a piece, and counts the octets of the frames that end in it.
-fn take(scanner: &mut Scanner, piece: &[u8]) -> u64 {
+pub fn take(scanner: &mut Scanner, piece: &[u8]) -> u64 {
     let mut rest = piece;
     let mut octets: u64 = 0;
     for _ in 0..=piece.len() {

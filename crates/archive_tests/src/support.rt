@@ -1,0 +1,60 @@
+//! What the tests share: three records, and collectors and archives of them.
+
+use archive_text::Store;
+use std::alloc::Global;
+use std::test::Fail;
+use syslog_collect::{Collector, Event, Outcome, RunEnd};
+use syslog_grammar::view;
+use syslog_value::ToWrite;
+
+pub const A: &[u8] = b"<13>1 - h a - - - x";
+
+pub const B: &[u8] = b"<14>1 2024-02-29T23:30:00.000000Z h a - - - y";
+
+pub const C: &[u8] = b"<12>1 2024-02-29T23:00:00.000000Z h a - - - z";
+
+/// The archive of the three.
+pub const ARCHIVE: &[u8] = b"19 <13>1 - h a - - - x\
+    45 <12>1 2024-02-29T23:00:00.000000Z h a - - - z\
+    45 <14>1 2024-02-29T23:30:00.000000Z h a - - - y";
+
+/// A store with the records of these octets added.
+pub fn store_of<S: Store + Drop>(
+    alloc: Global,
+    mut store: S,
+    records: &[&[u8]],
+) -> Result<S, Fail> {
+    for octets in records {
+        let seen = view(octets).ok().ok_or("no record")?;
+        store.add_view(alloc, &seen)?;
+    }
+    Ok(store)
+}
+
+/// The text of a store.
+pub fn text_of<S: Store>(alloc: Global, store: &S) -> Result<Vec<u8>, Fail> {
+    let mut writer = ToWrite::new(Vec::new(alloc));
+    store.write(&mut writer)?;
+    Ok(writer.into_inner())
+}
+
+/// A collector over a store.
+pub fn collector<S: Store + Drop>(alloc: Global, store: S) -> Result<Collector<S>, Fail> {
+    match Collector::new(alloc, store) {
+        Ok(collector) => Ok(collector),
+        Err(_) => Err("no memory")?,
+    }
+}
+
+/// The end of a run over events, what it logs, and the text of the archive then.
+pub fn collected<S: Store + Drop>(
+    alloc: Global,
+    store: S,
+    events: &[Event<'_>],
+) -> Result<(RunEnd, Vec<Outcome>, Vec<u8>), Fail> {
+    let mut collector = collector(alloc, store)?;
+    let mut log = Vec::new(alloc);
+    let end = collector.run(alloc, events, &mut log);
+    let text = text_of(alloc, collector.store())?;
+    Ok((end, log, text))
+}
