@@ -17,10 +17,7 @@ use crate::status::{DONE, FAULT, NO_MEMORY, REFUSED};
 use crate::stream::{end_stream, feed};
 use std::alloc::{AllocError, Global};
 use syslog_frame::{FRAME_MAX, Framing, Scanner};
-use syslog_value::{Input, Output, READER_CALLS, ReadAllFault, read_all, write_all};
-
-// the octets asked of a reader at a time
-const PIECE: usize = 4096;
+use syslog_value::{Input, Output, READ_MAX, READER_CALLS, ReadAllFault, read_all, write_all};
 
 // the octets held back before they are written
 const LARGE: usize = 65_536;
@@ -162,7 +159,7 @@ pub fn handle_stream<D: FrameHandler, R: Input, W: Output, N: Output>(
 {
     let mut scanner = Scanner::new(alloc, framing)?;
     let mut number = 1;
-    let mut piece = [0u8; PIECE];
+    let mut piece = [0u8; READ_MAX];
     for _turn in 0..READER_CALLS {
         let Ok(n) = reader.read(&mut piece) else {
             return Err(Stopped::Read);
@@ -176,7 +173,7 @@ pub fn handle_stream<D: FrameHandler, R: Input, W: Output, N: Output>(
             return Ok(());
         }
         // a read that came short has emptied its pipe: the next may wait for a sender
-        flush_due(n < PIECE, done, writer, notes)?;
+        flush_due(n < READ_MAX, done, writer, notes)?;
     }
     Err(Stopped::Endless)
 }

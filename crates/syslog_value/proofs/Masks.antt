@@ -65,3 +65,24 @@ is_empty_mask m small = (
   (λ zero s held. held (ap (λ n. bit_and n (2 ^ severity_code s)) (eqb-true m 0 zero) ∙ and_zero_l (2 ^ severity_code s))),
   (λ none. eq-eqb m 0 (empty_is_zero m small none)),
 )
+
+-- a bit of the one mask is that of the other
+same_bit : (m n k : ℕ) → IsBitSet m k ↔ IsBitSet n k → bit_at m k ≡ bit_at n k
+same_bit m n k same =
+    elim (cases_lt 0 (bit_at m k)) [
+      | inl some ↦
+          let one : bit_at m k ≡ 1 = omega (arith, bit_at-lt m k) in
+          one ∙ sym (bit_of_set n k (same.0 (set_of_bit m k one)))
+      | inr nothing ↦
+          elim (cases_lt 0 (bit_at n k)) [
+            | inl some ↦
+                let one : bit_at n k ≡ 1 = omega (arith, bit_at-lt n k) in
+                bit_of_set m k (same.1 (set_of_bit n k one)) ∙ sym one
+            | inr nothing' ↦ omega arith
+          ]
+    ]
+
+pub same_mask : (m n : ℕ) → m < 256 → n < 256 → ((s : Severity) → Holds m s ↔ Holds n s) → m ≡ n
+same_mask m n small small' same =
+    same_from_bits_below 8 m n small small'
+    (λ k below. let (s, is) = severity_with_code k below in same_bit m n k (subst (λ k. IsBitSet m k ↔ IsBitSet n k) is (same s)))

@@ -215,6 +215,16 @@ mod tests {
     }
 
     #[test]
+    fn a_longer_write_passes_what_is_left(rt: HostRuntime) {
+        let mut fuse = Fuse::new(ToWrite::new(Vec::new(rt.alloc())), 5, 9);
+        assert_eq!(rt; fuse.write(b"abc"), Ok(3));
+        assert_eq!(rt; fuse.write(b"defg"), Ok(2));
+        assert_eq!(rt; fuse.write(b"f"), Err(DeviceFault));
+        let taken = fuse.into_inner().into_inner();
+        assert_eq!(rt; taken.as_slice(), b"abcde".as_slice());
+    }
+
+    #[test]
     fn the_loops_tell_a_fault(rt: HostRuntime) -> Result<(), Fail> {
         let mut reader = Fuse::new(FromRead::new(b"abcdef".as_slice()), 9, 1);
         let found = read_all(rt.alloc(), &mut reader, 9).err();

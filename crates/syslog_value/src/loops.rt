@@ -11,8 +11,8 @@ use thiserror::Error;
 /// The most calls of one reader.
 pub const READER_CALLS: u64 = 1_048_576;
 
-// octets asked of a reader at a time
-const PIECE: usize = 4096;
+/// The most octets asked of a reader per call.
+pub const READ_MAX: usize = 4096;
 
 /// The first `sent` octets were written, and then the writer failed.
 #[derive(Clone, Copy, Debug, PartialEq, Eq, Error)]
@@ -86,6 +86,7 @@ pub fn read_all<R: Input>(
         OnOk result (R.ends reader.old < R.ends reader.new) }
     ensures calls { AreSmall (R.calls reader.old) (R.failures reader.old) →
         R.calls reader.new ≤ R.calls reader.old + READER_CALLS }
+    ensures ends { R.ends reader.new ≤ R.ends reader.old + 1 }
     ensures device { AreSmall (R.calls reader.old) (R.failures reader.old) →
         IsErrOf result ReadAllFault.Device → R.failures reader.old < R.failures reader.new }
     ensures endless { AreSmall (R.calls reader.old) (R.failures reader.old) →
@@ -94,7 +95,7 @@ pub fn read_all<R: Input>(
         × (R.ends reader.new ≡ R.ends reader.old) }
 {
     let mut kept = Vec::new(alloc);
-    let mut piece = [0u8; PIECE];
+    let mut piece = [0u8; READ_MAX];
     for _turn in 0..READER_CALLS {
         let n = match reader.read(&mut piece) {
             Ok(n) => n,
@@ -113,6 +114,7 @@ pub fn read_all<R: Input>(
 mod tests {
     use super::*;
     use crate::{FromRead, ToWrite};
+    use std::io::Read;
     use std::test::Fail;
 
     #[test]
@@ -137,6 +139,16 @@ mod tests {
     #[test]
     fn an_input_without_an_end_is_told(rt: HostRuntime) {
         let mut reader = FromRead::new(std::io::repeat(7));
+        let found = read_all(rt.alloc(), &mut reader, 5).err();
+        assert_eq!(rt; found, Some(ReadAllFault::Endless));
+    }
+
+    #[test]
+    fn an_end_at_the_last_call_is_in_time(rt: HostRuntime) {
+        let most = (READER_CALLS - 1) * READ_MAX as u64;
+        let mut reader = FromRead::new(std::io::repeat(7).take(most));
+        assert!(rt; read_all(rt.alloc(), &mut reader, 5).is_ok());
+        let mut reader = FromRead::new(std::io::repeat(7).take(most + 1));
         let found = read_all(rt.alloc(), &mut reader, 5).err();
         assert_eq!(rt; found, Some(ReadAllFault::Endless));
     }

@@ -80,6 +80,11 @@ impl Mask {
     }
 }
 
+/// Masks that hold the same severities are equal.
+pub fn masks_are_their_severities(one: Mask, other: Mask)
+    ensures { ((s : Severity) → Holds one s ↔ Holds other s) → one ≡ other }
+{}
+
 #[cfg(test)]
 mod tests {
     use super::*;
