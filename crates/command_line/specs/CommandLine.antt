@@ -11,6 +11,10 @@ option_rule id = record (new_rule id) { long = Some id }
 abbrev pub default_rule : Text → Text → Rule
 default_rule id value = record (option_rule id) { defaults = value ∷ [] }
 
+-- a value that has to be given, by its place
+abbrev pub required_rule : Text → Rule
+required_rule id = record (new_rule id) { required = true }
+
 -- a command that reads records
 abbrev pub input_app : Text → App
 input_app name = with_rule (new_app name) (default_rule (codes "framing") (codes "datagram"))
@@ -19,12 +23,30 @@ input_app name = with_rule (new_app name) (default_rule (codes "framing") (codes
 abbrev pub convert_app : App
 convert_app = with_rule (input_app (codes "convert")) (option_rule (codes "to"))
 
+-- the command that joins the archives of two files
+abbrev pub merge_app : App
+merge_app =
+    with_rule (with_rule (new_app (codes "merge")) (required_rule (codes "LEFT"))) (required_rule (codes "RIGHT"))
+
+-- the command that brings the old archive of a file into the present form
+abbrev pub migrate_app : App
+migrate_app = with_rule (new_app (codes "migrate")) (required_rule (codes "FILE"))
+
 -- the words do not begin with the program's name, and a subcommand is required
 abbrev pub empty_app : App
 empty_app = on_top (λ s. record s { no_binary_name = true; subcommand_required = true }) (new_app (codes "syslogbox"))
 
+-- the commands that handle frames one by one
+abbrev pub with_frame_commands : App → App
+with_frame_commands a =
+    with_subcommand (with_subcommand (with_subcommand a (input_app (codes "show")).top)
+    (input_app (codes "check")).top) convert_app.top
+
+-- the commands that write an archive
+abbrev pub with_archive_commands : App → App
+with_archive_commands a =
+    with_subcommand (with_subcommand (with_subcommand a (input_app (codes "archive")).top) merge_app.top) migrate_app.top
+
 -- the whole command line
 abbrev pub line_app : App
-line_app =
-    with_subcommand (with_subcommand (with_subcommand empty_app (input_app (codes "show")).top)
-    (input_app (codes "check")).top) convert_app.top
+line_app = with_archive_commands (with_frame_commands empty_app)

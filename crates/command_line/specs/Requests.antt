@@ -11,9 +11,27 @@ use Rattle.command_line.specs.CommandLine.{line_app}
 use Rattle.frame_engine.specs.declared.input_framing.InputFraming.{InputFraming}
 use Rattle.frame_engine.specs.declared.input_framing.InputFraming.TheVariants.{Datagram, Stream}
 use Rattle.command_line.specs.declared.request.Request.{Request}
-use Rattle.command_line.specs.declared.request.Request.TheVariants.{Check, Convert, Show}
+use Rattle.command_line.specs.declared.request.Request.TheVariants as request
 use Rattle.command_line.specs.declared.words.WordsFault.{WordsFault}
 use Rattle.command_line.specs.declared.words.WordsFault.TheVariants.{Usage, Memory}
+
+-- a request, its files by their names
+pub data Asked : Type 0 where
+  Check : InputFraming → Asked
+  Show : InputFraming → Asked
+  Convert : InputFraming → Option Framing → Asked
+  Archive : InputFraming → Asked
+  Merge : Text → Text → Asked
+  Migrate : Text → Asked
+
+-- the request, without where its names lie in memory
+abbrev pub asked_by : Request → Asked
+asked_by (request.Check input_framing) = Check input_framing
+asked_by (request.Show input_framing) = Show input_framing
+asked_by (request.Convert input_framing to) = Convert input_framing to
+asked_by (request.Archive input_framing) = Archive input_framing
+asked_by (request.Merge left right) = Merge left.now right.now
+asked_by (request.Migrate file) = Migrate file.now
 
 -- the framing with this name
 abbrev pub framing_of : Text → Option Framing
@@ -28,11 +46,11 @@ abbrev pub input_framing_in : List Row → Option InputFraming
 input_framing_in rows = option_and_then input_framing_of (first_of (codes "framing") rows)
 
 -- `check` with the values of its options
-abbrev pub read_check : List Row → Option Request
+abbrev pub read_check : List Row → Option Asked
 read_check rows = option_map (λ input_framing. Check input_framing) (input_framing_in rows)
 
 -- `show` with the values of its options
-abbrev pub read_show : List Row → Option Request
+abbrev pub read_show : List Row → Option Asked
 read_show rows = option_map (λ input_framing. Show input_framing) (input_framing_in rows)
 
 -- the framing of an input, as one of frames
@@ -46,24 +64,40 @@ to_of input_framing None = Some (own_framing input_framing)
 to_of input_framing (Some name) = option_map (λ kind. Some kind) (framing_of name)
 
 -- `convert` with the values of its options
-abbrev pub read_convert : List Row → Option Request
+abbrev pub read_convert : List Row → Option Asked
 read_convert rows =
     option_and_then (λ input_framing. option_map (λ to. Convert input_framing to) (to_of input_framing (first_of (codes "to") rows))) (input_framing_in rows)
 
+-- `archive` with the values of its options
+abbrev pub read_archive : List Row → Option Asked
+read_archive rows = option_map (λ input_framing. Archive input_framing) (input_framing_in rows)
+
+-- `merge` with its files
+abbrev pub read_merge : List Row → Option Asked
+read_merge rows =
+    option_and_then (λ left. option_map (λ right. Merge left right) (first_of (codes "RIGHT") rows)) (first_of (codes "LEFT") rows)
+
+-- `migrate` with its file
+abbrev pub read_migrate : List Row → Option Asked
+read_migrate rows = option_map (λ file. Migrate file) (first_of (codes "FILE") rows)
+
 -- the request of a subcommand with the values of its options
-abbrev pub read_of : Text × List Row → Option Request
+abbrev pub read_of : Text × List Row → Option Asked
 read_of (name, rows) =
     if bytes_eq name (codes "check") then read_check rows
     else (if bytes_eq name (codes "convert") then read_convert rows
-    else (if bytes_eq name (codes "show") then read_show rows else None))
+    else (if bytes_eq name (codes "show") then read_show rows
+    else (if bytes_eq name (codes "archive") then read_archive rows
+    else (if bytes_eq name (codes "merge") then read_merge rows
+    else (if bytes_eq name (codes "migrate") then read_migrate rows else None)))))
 
 -- the request, where the parse has no fault
-abbrev pub request_of : Kinds → Option (Text × List Row) → Option Request
+abbrev pub request_of : Kinds → Option (Text × List Row) → Option Asked
 request_of [] rows = option_and_then read_of rows
 request_of (kind ∷ kinds) rows = None
 
 -- the request of the words, where they parse and their values are accepted: a function of the words alone
-unfoldable pub parsed : List Text → Option Request
+unfoldable pub parsed : List Text → Option Asked
 parsed words = request_of (fault_of line_app words) (subcommand_of line_app words)
 
 -- the fault is one of the words, and not of memory

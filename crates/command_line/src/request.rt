@@ -3,9 +3,9 @@
 use frame_engine::InputFraming;
 use syslog_frame::Framing;
 
-/// What the words of a command line ask for.
-#[derive(Clone, Copy, Debug, PartialEq, Eq)]
-pub enum Request {
+/// What the words of a command line ask for. Names of files are lent by the words.
+#[derive(Clone, Copy, Debug)]
+pub enum Request<'a> {
     /// `check`: one line for each frame.
     Check {
         input_framing: InputFraming,
@@ -18,5 +18,18 @@ pub enum Request {
     Convert {
         input_framing: InputFraming,
         to: Option<Framing>,
+    },
+    /// `archive`: the records of the input, as an archive.
+    Archive {
+        input_framing: InputFraming,
+    },
+    /// `merge`: the archive of the records of two archives.
+    Merge {
+        left: &'a str,
+        right: &'a str,
+    },
+    /// `migrate`: the archive that an old one is brought into.
+    Migrate {
+        file: &'a str,
     },
 }

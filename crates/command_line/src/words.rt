@@ -5,9 +5,12 @@ ghost use Rattle.clap.specs.Walk.{first_of};
 ghost use Rattle.clap.specs.Words.{app_of, found_of, rows_of, rule_of, subcommand_rows_of};
 ghost use Rattle.clap.specs.Simple.{new_app, with_rule, with_subcommand};
 ghost use Rattle.clap.specs.declared.builder.command.Command.TheViews.{out-Command as fields_of};
-ghost use Rattle.command_line.specs.CommandLine.{convert_app, default_rule, empty_app, input_app, line_app, option_rule};
-ghost use Rattle.command_line.specs.Requests.{IsUsage, input_framing_in, input_framing_of, framing_of, own_framing, parsed};
-ghost use Rattle.command_line.specs.Requests.{read_check, read_convert, read_of, read_show, to_of};
+ghost use Rattle.command_line.specs.CommandLine.{convert_app, default_rule, empty_app, input_app, line_app};
+ghost use Rattle.command_line.specs.CommandLine.{merge_app, migrate_app, option_rule, required_rule};
+ghost use Rattle.command_line.specs.CommandLine.{with_archive_commands, with_frame_commands};
+ghost use Rattle.command_line.specs.Requests.{IsUsage, asked_by, input_framing_in, input_framing_of, framing_of};
+ghost use Rattle.command_line.specs.Requests.{own_framing, parsed, read_archive, read_check, read_convert};
+ghost use Rattle.command_line.specs.Requests.{read_merge, read_migrate, read_of, read_show, to_of};
 
 use crate::request::Request;
 use clap::error::ErrorKind;
@@ -70,6 +73,14 @@ fn input_option<'a>(alloc: Global) -> Arg<'a>
     framing_option(alloc, "framing", help).default_value("datagram")
 }
 
+// A value that has to be given, by its place among the words.
+fn positional<'a>(alloc: Global, id: &'a str, help: &'a str) -> Arg<'a>
+    ensures rule { rule_of result ≡ required_rule id.entry.now }
+    ensures local { result.global ≡ false }
+{
+    described(Arg::new(alloc, id).required(true), help)
+}
+
 // The command with one more argument.
 fn with_arg<'a>(command: Command<'a>, arg: Arg<'a>) -> Result<Command<'a>, AllocError>
     requires arg_local { arg.global ≡ false }
@@ -114,6 +125,34 @@ fn convert_command<'a>(alloc: Global) -> Result<Command<'a>, AllocError>
     )
 }
 
+// The command that joins two archives.
+fn merge_command<'a>(alloc: Global) -> Result<Command<'a>, AllocError>
+    ensures app { IfOk result (λ c. app_of c ≡ merge_app) }
+    ensures local { IfOk result (λ c. (fields_of c).has_globals ≡ false) }
+{
+    let about = "Write the archive of the records of two archives";
+    let command = with_arg(
+        command(alloc, "merge", about),
+        positional(alloc, "LEFT", "File of an archive"),
+    )?;
+    with_arg(
+        command,
+        positional(alloc, "RIGHT", "File of another archive"),
+    )
+}
+
+// The command that brings an old archive into the present form.
+fn migrate_command<'a>(alloc: Global) -> Result<Command<'a>, AllocError>
+    ensures app { IfOk result (λ c. app_of c ≡ migrate_app) }
+    ensures local { IfOk result (λ c. (fields_of c).has_globals ≡ false) }
+{
+    let about = "Write the archive of an old one, whose elements are in the order of the octets";
+    with_arg(
+        command(alloc, "migrate", about),
+        positional(alloc, "FILE", "File of an old archive"),
+    )
+}
+
 // The command line with no subcommand yet.
 fn empty_line<'a>(alloc: Global) -> Command<'a>
     ensures { app_of result ≡ empty_app }
@@ -132,14 +171,34 @@ fn with_command<'a>(line: Command<'a>, command: Command<'a>) -> Result<Command<'
     line.subcommand(command)
 }
 
+// The commands that handle frames one by one.
+fn with_frame_commands<'a>(alloc: Global, line: Command<'a>) -> Result<Command<'a>, AllocError>
+    ensures { IfOk result (λ c. app_of c ≡ with_frame_commands (app_of line.entry)) }
+{
+    let show = input_command(alloc, "show", "Write the fields of each record")?;
+    let line = with_command(line, show)?;
+    let about = "Say for each frame whether it is a record, and if not, where it stops being one";
+    let check = input_command(alloc, "check", about)?;
+    let line = with_command(line, check)?;
+    with_command(line, convert_command(alloc)?)
+}
+
+// The commands that write an archive.
+fn with_archive_commands<'a>(alloc: Global, line: Command<'a>) -> Result<Command<'a>, AllocError>
+    ensures { IfOk result (λ c. app_of c ≡ with_archive_commands (app_of line.entry)) }
+{
+    let about = "Write the records as an archive: each once, in its canonical form, in one order";
+    let archive = input_command(alloc, "archive", about)?;
+    let line = with_command(line, archive)?;
+    let line = with_command(line, merge_command(alloc)?)?;
+    with_command(line, migrate_command(alloc)?)
+}
+
 fn whole_line<'a>(alloc: Global) -> Result<Command<'a>, AllocError>
     ensures { IfOk result (λ c. app_of c ≡ line_app) }
 {
-    let show = input_command(alloc, "show", "Write the fields of each record")?;
-    let line = with_command(empty_line(alloc), show)?;
-    let about = "Say for each frame whether it is a record, and if not, where it stops being one";
-    let check = input_command(alloc, "check", about)?;
-    with_command(with_command(line, check)?, convert_command(alloc)?)
+    let line = with_frame_commands(alloc, empty_line(alloc))?;
+    with_archive_commands(alloc, line)
 }
 
 fn value<'a>(matches: &ArgMatches<'a>, id: &str) -> Option<&'a str>
@@ -174,8 +233,8 @@ fn input_framing_of_matches(matches: &ArgMatches<'_>) -> Option<InputFraming>
     input_framing(value(matches, "framing")?)
 }
 
-fn read_check_words(matches: &ArgMatches<'_>) -> Option<Request>
-    ensures { result ≡ read_check (rows_of (found_of matches.now)) }
+fn read_check_words<'a>(matches: &ArgMatches<'a>) -> Option<Request<'a>>
+    ensures { option_map asked_by result ≡ read_check (rows_of (found_of matches.now)) }
 {
     let input_framing = input_framing_of_matches(matches)?;
     Some(Request::Check { input_framing })
@@ -202,29 +261,55 @@ fn to(input_framing: InputFraming, name: Option<&str>) -> Option<Option<Framing>
     }
 }
 
-fn read_convert_words(matches: &ArgMatches<'_>) -> Option<Request>
-    ensures { result ≡ read_convert (rows_of (found_of matches.now)) }
+fn read_convert_words<'a>(matches: &ArgMatches<'a>) -> Option<Request<'a>>
+    ensures { option_map asked_by result ≡ read_convert (rows_of (found_of matches.now)) }
 {
     let input_framing = input_framing_of_matches(matches)?;
     let to = to(input_framing, value(matches, "to"))?;
     Some(Request::Convert { input_framing, to })
 }
 
-fn read_show_words(matches: &ArgMatches<'_>) -> Option<Request>
-    ensures { result ≡ read_show (rows_of (found_of matches.now)) }
+fn read_show_words<'a>(matches: &ArgMatches<'a>) -> Option<Request<'a>>
+    ensures { option_map asked_by result ≡ read_show (rows_of (found_of matches.now)) }
 {
     let input_framing = input_framing_of_matches(matches)?;
     Some(Request::Show { input_framing })
 }
 
-fn asked_for(matches: &ArgMatches<'_>) -> Option<Request>
-    ensures { result ≡ option_and_then read_of (subcommand_rows_of matches.now) }
+fn read_archive_words<'a>(matches: &ArgMatches<'a>) -> Option<Request<'a>>
+    ensures { option_map asked_by result ≡ read_archive (rows_of (found_of matches.now)) }
+{
+    let input_framing = input_framing_of_matches(matches)?;
+    Some(Request::Archive { input_framing })
+}
+
+fn read_merge_words<'a>(matches: &ArgMatches<'a>) -> Option<Request<'a>>
+    ensures { option_map asked_by result ≡ read_merge (rows_of (found_of matches.now)) }
+{
+    let left = value(matches, "LEFT")?;
+    let right = value(matches, "RIGHT")?;
+    Some(Request::Merge { left, right })
+}
+
+fn read_migrate_words<'a>(matches: &ArgMatches<'a>) -> Option<Request<'a>>
+    ensures { option_map asked_by result ≡ read_migrate (rows_of (found_of matches.now)) }
+{
+    let file = value(matches, "FILE")?;
+    Some(Request::Migrate { file })
+}
+
+fn asked_for<'a>(matches: &ArgMatches<'a>) -> Option<Request<'a>>
+    ensures { option_map asked_by result
+        ≡ option_and_then read_of (subcommand_rows_of matches.now) }
 {
     let (name, inner) = matches.subcommand()?;
     match name {
         "check" => read_check_words(inner),
         "convert" => read_convert_words(inner),
         "show" => read_show_words(inner),
+        "archive" => read_archive_words(inner),
+        "merge" => read_merge_words(inner),
+        "migrate" => read_migrate_words(inner),
         _ => None,
     }
 }
@@ -249,9 +334,10 @@ fn unknown(alloc: Global) -> WordsFault {
 }
 
 /// Reads the words of a command line, which do not begin with the program's name.
-pub fn read_words<S: AsStr>(alloc: Global, words: &[S]) -> Result<Request, WordsFault>
-    ensures ok { IfOk result (λ r. parsed (map S.text words.now) ≡ Some r) }
-    ensures err { IfErr result (λ fault. IsUsage fault → parsed (map S.text words.now) ≡ None) }
+pub fn read_words<'a, S: AsStr>(alloc: Global, words: &'a [S]) -> Result<Request<'a>, WordsFault>
+    ensures ok { IfOk result (λ r. parsed (map S.text words.entry.now) ≡ Some (asked_by r)) }
+    ensures err { IfErr result (λ fault.
+        IsUsage fault → parsed (map S.text words.entry.now) ≡ None) }
 {
     let line = whole_line(alloc)?;
     match line.try_get_matches_from(words) {
