@@ -18,6 +18,7 @@ pub mod PartsLeft
 pub mod Instants
 pub mod WellFormed
 pub mod Canonical
+pub mod Lent
 pub mod Appending
 pub mod Escapes
 pub mod DecodeFaults

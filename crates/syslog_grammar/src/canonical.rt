@@ -99,7 +99,7 @@ pub fn put_message_part(octets: &[u8], has_mark: bool, out: &mut Vec<u8>) -> Res
 }
 
 /// The octets of a word.
-fn octets_of<const N: usize>(word: Option<&Word<N>>) -> Option<&[u8]>
+pub fn octets_of<const N: usize>(word: Option<&Word<N>>) -> Option<&[u8]>
     ensures { option_map (λ s. s.now) result ≡ option_copied word.entry }
 {
     match word {

@@ -16,6 +16,7 @@ mod fault;
 mod header;
 mod lanes;
 mod law;
+mod lent;
 mod message;
 mod name;
 mod owned;
@@ -47,6 +48,7 @@ pub use law::{
     canonical_is_bounded, canonical_is_injective, canonical_is_well_formed, octets_are_one_record,
     octets_have_one_fault, well_formed_is_a_record,
 };
+pub use lent::{LentRecord, put_lent};
 pub use parts::{Elements, Params};
 pub use record_view::RecordView;
 pub use same::same_value;

@@ -1,0 +1,5 @@
+pub mod Senders
+pub mod Sent
+pub mod Calls
+pub mod Views
+pub mod Answers

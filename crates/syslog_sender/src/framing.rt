@@ -1,0 +1,54 @@
+//! Octets to a writer as one frame.
+
+ghost use Rattle.std.specs.Prelude.{◌≡◌, ◌<◌, ◌^◌, ℕ, IfErr, IfOk, List, OnOk, Option, length};
+ghost use Rattle.syslog_frame.specs.Frames.{framed};
+ghost use Rattle.syslog_sender.specs.Answers.{IsFrameFault, IsWriteFault, TakesFrame};
+ghost use Rattle.syslog_sender.specs.Sent.{IsFrame};
+
+use crate::fault::SendFault;
+use std::alloc::Global;
+use syslog_frame::{Framing, PutFault, put_frame};
+use syslog_value::{Output, WriteFault, write_all};
+
+/// The frame of these octets.
+fn frame_of(alloc: Global, framing: Framing, octets: &[u8]) -> Result<Vec<u8>, SendFault>
+    requires { 0 < length octets.now }
+    ensures ok { IfOk result (λ frame.
+        IsFrame framing octets.now × (frame.items ≡ framed framing octets.now)) }
+    ensures err { IfErr result (λ fault. (old new : Option (List ℕ))
+        → IsFrameFault framing octets.now old new fault) }
+    ensures unwritten { IfErr result (λ fault. ¬ (IsWriteFault fault)) }
+{
+    let mut frame = Vec::new(alloc);
+    match put_frame(framing, octets, &mut frame) {
+        Ok(()) => Ok(frame),
+        Err(PutFault::HasLf) => Err(SendFault::HasLf),
+        Err(PutFault::TooLong) => Err(SendFault::TooLong),
+        Err(PutFault::Memory) => Err(SendFault::Memory),
+        Err(PutFault::Empty) => unreachable!(),
+    }
+}
+
+/// Writes octets, of which there is one at least, as one frame.
+pub fn write_frame<W: Output>(
+    alloc: Global,
+    framing: Framing,
+    octets: &[u8],
+    writer: &mut W,
+) -> Result<(), SendFault>
+    requires { 0 < length octets.now }
+    ensures ok { OnOk result
+        (TakesFrame framing octets.now (W.taken writer.old) (W.taken writer.new)) }
+    ensures err { IfErr result
+        (IsFrameFault framing octets.now (W.taken writer.old) (W.taken writer.new)) }
+    ensures same { IfErr result (λ fault. ¬ (IsWriteFault fault) → writer.new ≡ writer.old) }
+    ensures no_failure { OnOk result (W.failures writer.new ≡ W.failures writer.old) }
+    ensures cause { W.failures writer.old < 2 ^ 63 → IfErr result (λ fault.
+        IsWriteFault fault → W.failures writer.old < W.failures writer.new) }
+{
+    let frame = frame_of(alloc, framing, octets)?;
+    match write_all(writer, frame.as_slice()) {
+        Ok(()) => Ok(()),
+        Err(WriteFault { sent }) => Err(SendFault::Write { sent }),
+    }
+}
