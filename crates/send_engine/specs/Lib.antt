@@ -1,0 +1,3 @@
+pub mod Options
+pub mod Sending
+pub mod Values

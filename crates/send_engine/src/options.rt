@@ -1,0 +1,22 @@
+//! The options of `send`.
+
+/// The texts of the options of `send`, as they were given or by default.
+#[derive(Clone, Copy, Debug)]
+pub struct SendOptions<'a> {
+    /// The name of the sender's facility.
+    pub facility: &'a str,
+    /// The name of the record's severity.
+    pub severity: &'a str,
+    /// The name of the least severe severity that is let through.
+    pub up_to: &'a str,
+    pub hostname: Option<&'a str>,
+    pub app_name: Option<&'a str>,
+    pub proc_id: Option<&'a str>,
+    pub msg_id: Option<&'a str>,
+    /// Microseconds from 1970-01-01T00:00:00Z, in decimal digits.
+    pub micros: Option<&'a str>,
+    /// The name of the framing.
+    pub framing: &'a str,
+    /// The message.
+    pub text: &'a str,
+}
