@@ -8,7 +8,7 @@ use Rattle.syslog_frame.specs.declared.framing.Framing.{Framing}
 use Rattle.syslog_frame.proofs.FrameLaws.{some}
 use Rattle.archive_text.specs.Entries.{Entry}
 use Rattle.syslog_collect.specs.Answers.{IsBadOffset, MarksBad}
-use Rattle.syslog_collect.specs.History.{IsBad, Stream}
+use Rattle.syslog_collect.specs.History.{HoldsBadCount, Stream}
 use Rattle.syslog_collect.specs.Outcomes.{AreReported, IsOutcome}
 use Rattle.syslog_collect.specs.declared.outcome.Outcome.{Outcome}
 use Rattle.syslog_collect.specs.declared.outcome.Outcome.TheVariants.{New, Held, Refused, TooLong, BadCount}
@@ -106,7 +106,7 @@ bad_outcomes n old new fs (TooLong ∷ os) s (here, later, between, parts, (f, o
 bad_outcomes n old new fs (BadCount at ∷ os) s (here, later, between, parts, (none, same), more) marks bad = bad_last n at between new fs here later os s parts none more marks.0 marks.1
 
 -- without a bad count among the outcomes the stream is good so far
-pub marks_good : (os : List Outcome) (s : Stream) → MarksBad os s → has_bad_count os ≡ false → ¬ (IsBad s)
+pub marks_good : (os : List Outcome) (s : Stream) → MarksBad os s → has_bad_count os ≡ false → ¬ (HoldsBadCount s)
 marks_good [] s marks good = marks
 marks_good (New ∷ os) s marks good = marks_good os s marks good
 marks_good (Held ∷ os) s marks good = marks_good os s marks good

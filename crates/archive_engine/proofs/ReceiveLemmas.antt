@@ -14,10 +14,10 @@ use Rattle.archive_text.specs.Entries.{Entry, Has}
 use Rattle.syslog_collect.specs.Answers.{IfUnreleased, IsEnding, MarksBad}
 use Rattle.syslog_collect.specs.Frames.{AreFramesOf, HasFrames, all_of}
 use Rattle.syslog_collect.specs.Headline.{IsSettled}
-use Rattle.syslog_collect.specs.History.{Datagram, History, IsBad, Opened, Piece, Told, after, hear, nothing}
+use Rattle.syslog_collect.specs.History.{Datagram, History, HoldsBadCount, Opened, Piece, AcceptedEvent, history_after, accept, initial}
 use Rattle.syslog_collect.specs.Logs.{IsLogOf, LogGrows}
 use Rattle.syslog_collect.specs.Outcomes.{AreReported, IsOutcome}
-use Rattle.syslog_collect.specs.Runs.{told_octets}
+use Rattle.syslog_collect.specs.Runs.{nonempty_piece}
 use Rattle.syslog_collect.specs.Standing.{AreAt, Stands}
 use Rattle.syslog_collect.specs.declared.connection.Connection.{Connection}
 use Rattle.syslog_collect.specs.declared.fault.CollectFault.{CollectFault}
@@ -43,15 +43,15 @@ pub receives_opening : (cs : List Connection) (kept : List Entry) (kind : Framin
 receives_opening cs kept kind stands settled = record { events = Opened 0 kind ∷ []; stands = stands; settled = settled; history = refl }
 
 -- some octets are an event
-told_some : (octets : List ℕ) → 0 < length octets → told_octets 0 octets ≡ Piece 0 octets ∷ []
+told_some : (octets : List ℕ) → 0 < length octets → nonempty_piece 0 octets ≡ Piece 0 octets ∷ []
 told_some [] h = absurd (omega (arith, h))
 told_some (x ∷ octets) h = refl
 
 pub receives_piece : (cs ds : List Connection) (kept now : List Entry) (kind : Framing) (given octets : List ℕ) → 0 < length octets → (r : Receives cs kept (input.Stream kind) given)
-    → Stands ds now [] (r.events ++ told_octets 0 octets) → IsSettled ds → Receives ds now (input.Stream kind) (given ++ octets)
+    → Stands ds now [] (r.events ++ nonempty_piece 0 octets) → IsSettled ds → Receives ds now (input.Stream kind) (given ++ octets)
 receives_piece cs ds kept now kind given octets some r stands settled = record {
   events = r.events ++ Piece 0 octets ∷ [];
-  stands = subst (λ (es : List Told). Stands ds now [] (r.events ++ es)) (told_some octets some) stands;
+  stands = subst (λ (es : List AcceptedEvent). Stands ds now [] (r.events ++ es)) (told_some octets some) stands;
   settled = settled;
   history = after-push nothing r.events (Piece 0 octets) ∙ ap (λ (h : History). hear h (Piece 0 octets)) r.history;
 }
@@ -73,15 +73,15 @@ logs_here kind given octets old new os (here, later, between, parts, (before, la
     }
 
 pub logs_piece : (h : History) (kind : Framing) (given octets : List ℕ) (old new : List Entry) (os : List Outcome) → 0 < length octets → h ≡ heard (input.Stream kind) given
-    → IsLogOf h (told_octets 0 octets) old new os → LogsPiece kind given octets old new os
+    → IsLogOf h (nonempty_piece 0 octets) old new os → LogsPiece kind given octets old new os
 logs_piece h kind given octets old new os some is logged =
-    logs_here kind given octets old new os (subst (λ (x : History). IsLogOf x (Piece 0 octets ∷ []) old new os) is (subst (λ (es : List Told). IsLogOf h es old new os) (told_some octets some) logged))
+    logs_here kind given octets old new os (subst (λ (x : History). IsLogOf x (Piece 0 octets ∷ []) old new os) is (subst (λ (es : List AcceptedEvent). IsLogOf h es old new os) (told_some octets some) logged))
 
 -- the log of a run that began with none
-pub log_only : (h : History) (es fs : List Told) (a b : List Entry) (l m : List Outcome) → l ≡ [] → fs ≡ es → LogGrows h fs a b l m → IsLogOf h es a b m
+pub log_only : (h : History) (es fs : List AcceptedEvent) (a b : List Entry) (l m : List Outcome) → l ≡ [] → fs ≡ es → LogGrows h fs a b l m → IsLogOf h es a b m
 log_only h es fs a b l m none same (os, grown, logged) =
     let all : os ≡ m = sym (grown ∙ ap (λ (xs : List Outcome). xs ++ os) none) in
-    subst (λ (x : List Told). IsLogOf h x a b m) same (subst (IsLogOf h fs a b) all logged)
+    subst (λ (x : List AcceptedEvent). IsLogOf h x a b m) same (subst (IsLogOf h fs a b) all logged)
 
 pub logs_datagram : (octets : List ℕ) (old new : List Entry) (os : List Outcome) → IsLogOf nothing (Datagram octets ∷ []) old new os → (x : Outcome) × (os ≡ x ∷ []) × IsOutcome old new octets x
 logs_datagram octets old new os (here, later, between, parts, (x, one, out), (none, same)) =
@@ -142,12 +142,12 @@ begins_nothing Counted = (framed Counted (0 ∷ []), (0 ∷ [], ((omega arith, o
 begins_nothing Lf = (framed Lf [], ([], (tt, refl)))
 
 -- no octets hold no bad count
-pub good_start : (kind : Framing) → ¬ (IsBad (opening kind []))
+pub good_start : (kind : Framing) → ¬ (HoldsBadCount (opening kind []))
 good_start kind (frames, rest, at, bad) =
     let same = unique_frames kind [] [] frames [] rest (concatenation kind [] tt) bad.frames_are in
     bad.none (subst (Begins (Whole kind)) same.1 (begins_nothing kind))
 
-begins_at : (cs : List Connection) (kind : Framing) (given : List ℕ) (handled : List (List (List ℕ))) → AreAt cs (opening kind given ∷ []) handled → IsSettled cs → ¬ (IsBad (opening kind given))
+begins_at : (cs : List Connection) (kind : Framing) (given : List ℕ) (handled : List (List (List ℕ))) → AreAt cs (opening kind given ∷ []) handled → IsSettled cs → ¬ (HoldsBadCount (opening kind given))
     → (frames : List (List ℕ)) (rest : List ℕ) → Frames kind given frames rest → Begins (Whole kind) rest
 begins_at [] kind given [] at settled good frames rest are = absurd at
 begins_at [] kind given (f ∷ fs) at settled good frames rest are = absurd at
@@ -162,19 +162,19 @@ begins_at (c ∷ cs) kind given (f ∷ fs) at settled good frames rest are = eli
   | inr broken ↦ absurd (good (f, broken.rest, broken.offset, broken.bad))
 ]
 
-pub begins_rest : (cs : List Connection) (kept : List Entry) (kind : Framing) (given : List ℕ) → Receives cs kept (input.Stream kind) given → ¬ (IsBad (opening kind given))
+pub begins_rest : (cs : List Connection) (kept : List Entry) (kind : Framing) (given : List ℕ) → Receives cs kept (input.Stream kind) given → ¬ (HoldsBadCount (opening kind given))
     → (frames : List (List ℕ)) (rest : List ℕ) → Frames kind given frames rest → Begins (Whole kind) rest
 begins_rest cs kept kind given r good =
     let at = r.stands.stands_at in
     begins_at cs kind given at.handled (subst (λ (h : History). AreAt cs h.streams at.handled) r.history at.follow) r.settled good
 
-pub stops_whole : (U : Type 0) (kind : Framing) (given : List ℕ) (u : U) (h : History) → h ≡ heard (input.Stream kind) given → IsEnding 0 (Ok u) h → ¬ (IsBad (opening kind given)) → StopsAt kind given None
+pub stops_whole : (U : Type 0) (kind : Framing) (given : List ℕ) (u : U) (h : History) → h ≡ heard (input.Stream kind) given → IsEnding 0 (Ok u) h → ¬ (HoldsBadCount (opening kind given)) → StopsAt kind given None
 stops_whole U kind given u h is ending good =
     let here = subst (λ (k : History). IsEnding {U = U} 0 (Ok u) k) is ending in
     elim here [ inl bad ↦ absurd (good bad) | inr whole ↦ whole ]
 
-pub stops_inside : (U : Type 0) (cs : List Connection) (kept : List Entry) (kind : Framing) (given : List ℕ) (start : ℕ) → (r : Receives cs kept (input.Stream kind) given) → IsEnding {U = U} 0 (Err (Unterminated start)) (after nothing r.events)
-    → ¬ (IsBad (opening kind given)) → StopsAt kind given (Some start)
+pub stops_inside : (U : Type 0) (cs : List Connection) (kept : List Entry) (kind : Framing) (given : List ℕ) (start : ℕ) → (r : Receives cs kept (input.Stream kind) given) → IsEnding {U = U} 0 (Err (Unterminated start)) (history_after initial r.events)
+    → ¬ (HoldsBadCount (opening kind given)) → StopsAt kind given (Some start)
 stops_inside U cs kept kind given start r ending good =
     let here = subst (λ (k : History). IsEnding {U = U} 0 (Err (Unterminated start)) k) r.history ending in
     let (frames, rest, are, some, place) = here.1 in

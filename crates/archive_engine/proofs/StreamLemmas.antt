@@ -11,7 +11,7 @@ use Rattle.syslog_frame.specs.declared.limits.TheConstants.{FRAME_MAX}
 use Rattle.syslog_frame.proofs.FrameLaws.{bad_longer, concatenation, unique_frames}
 use Rattle.archive_text.specs.Entries.{Entry}
 use Rattle.syslog_collect.specs.Frames.{IsSpelled}
-use Rattle.syslog_collect.specs.History.{IsBad}
+use Rattle.syslog_collect.specs.History.{HoldsBadCount}
 use Rattle.syslog_collect.specs.Outcomes.{IsOutcome}
 use Rattle.syslog_collect.specs.declared.connection.Connection.{Connection}
 use Rattle.syslog_collect.specs.declared.outcome.Outcome.{Outcome}
@@ -239,7 +239,7 @@ streaming_start cs kept kind left notes lines r none = record { given = []; cons
 -- the end was given
 pub streaming_end : (kind : Framing) (turn number k : ℕ) (cs : List Connection) (kept now : List Entry) (a b c n0 n : Option (List ℕ)) (lines new : Done) (buf : List ℕ) → (h : IsStreaming kind turn number cs kept a b n0 n lines)
     → Consumes b c (take k buf) → k ≡ 0 → IsAtEnd c → now ≡ kept
-    → ((frames : List (List ℕ)) (rest : List ℕ) → Receives cs kept (input.Stream kind) h.given → ¬ (IsBad (opening kind h.given)) → Frames kind h.given frames rest → (d : Done) × ReportsEnd noted_line kind h.given frames rest d × (new ≡ then_done lines d))
+    → ((frames : List (List ℕ)) (rest : List ℕ) → Receives cs kept (input.Stream kind) h.given → ¬ (HoldsBadCount (opening kind h.given)) → Frames kind h.given frames rest → (d : Done) × ReportsEnd noted_line kind h.given frames rest d × (new ≡ then_done lines d))
     → IfSome a (λ stream. HasReceived (input.Stream kind) stream now n0 n new)
 streaming_end kind turn number k cs kept now a b c n0 n lines new buf h read none at_end same end =
     let all : h.given ++ take k buf ≡ h.given = ap (λ (x : List ℕ). h.given ++ x) (ap (λ (i : ℕ). take i buf) none ∙ take_zero buf) ∙ append-nil h.given in

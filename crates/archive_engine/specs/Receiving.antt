@@ -7,7 +7,7 @@ use Rattle.syslog_frame.specs.declared.framing.Framing.{Framing}
 use Rattle.archive_text.specs.Entries.{Entry, Has}
 use Rattle.syslog_collect.specs.Answers.{MarksBad}
 use Rattle.syslog_collect.specs.Headline.{IsSettled}
-use Rattle.syslog_collect.specs.History.{History, IsBad, Stream, Told, after, nothing}
+use Rattle.syslog_collect.specs.History.{History, HoldsBadCount, Stream, AcceptedEvent, history_after, initial}
 use Rattle.syslog_collect.specs.Outcomes.{AreReported}
 use Rattle.syslog_collect.specs.Standing.{Stands}
 use Rattle.syslog_collect.specs.declared.connection.Connection.{Connection}
@@ -35,10 +35,10 @@ pub record HeardNothing (cs : List Connection) (kept : List Entry) : Type 0 wher
 
 -- a collector over an empty store received these octets of an input, and no frame is left ready
 pub record Receives (cs : List Connection) (kept : List Entry) (framing : InputFraming) (octets : List ℕ) : Type 0 where
-  pub events : List Told
+  pub events : List AcceptedEvent
   pub stands : Stands cs kept [] events
   pub settled : IsSettled cs
-  pub history : after nothing events ≡ heard framing octets
+  pub history : history_after initial events ≡ heard framing octets
 
 -- the outcomes of octets that follow given ones on a stream: of the frames that they complete, and a bad count
 pub record LogsPiece (kind : Framing) (given octets : List ℕ) (old new : List Entry) (outcomes : List Outcome) : Type 0 where
@@ -64,7 +64,7 @@ pub record IsReceiving (kind : Framing) (given : List ℕ) (number : ℕ) (cs : 
   pub frames : List (List ℕ)
   pub rest : List ℕ
   pub frames_are : Frames kind given frames rest
-  pub good : ¬ (IsBad (opening kind given))
+  pub good : ¬ (HoldsBadCount (opening kind given))
   pub number_is : number ≡ length frames + 1
   pub notes : List ℕ
   pub reported : Appends notes_old notes_new notes

@@ -3,7 +3,7 @@
 ghost use Rattle.std.specs.Prelude.{◌≡◌, ◌<◌, ◌+◌, ◌^◌, ◌⊎◌, List, ℕ, Option, [], OnErr, OnOk, IfErr, IfSome, IsErrOf};
 ghost use Rattle.std.specs.Io.KnownBytes.{Appends};
 ghost use Rattle.syslog_value.specs.Device.{AreSmall};
-ghost use Rattle.syslog_collect.specs.History.{IsBad};
+ghost use Rattle.syslog_collect.specs.History.{HoldsBadCount};
 ghost use Rattle.syslog_frame.specs.Frames.{Frames};
 ghost use Rattle.syslog_frame.specs.declared.framing.Framing.{Framing};
 ghost use Rattle.frame_engine.specs.Converted.{noted_line};
@@ -61,7 +61,7 @@ fn end_stream<S: Store + Drop>(
     ensures ended { OnOk result ((kind : Framing) (given : List ℕ) (frames : List (List ℕ))
         (rest : List ℕ) → Receives reception.old.collector.connections.items
         (S.entries reception.old.collector.store) (Stream kind) given
-        → ¬ (IsBad (opening kind given)) → Frames kind given frames rest
+        → ¬ (HoldsBadCount (opening kind given)) → Frames kind given frames rest
         → (d : Done) × ReportsEnd noted_line kind given frames rest d
         × (done_of lines.new ≡ then_done (done_of lines.old) d)) }
     ensures same { reception.new.collector.store ≡ reception.old.collector.store }

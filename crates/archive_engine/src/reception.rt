@@ -2,11 +2,11 @@
 
 ghost use Rattle.std.specs.Prelude.{◌≡◌, ◌<◌, ◌++◌, ◌∷◌, List, ℕ, [], IfOk, OnOk, length};
 ghost use Rattle.archive_text.specs.Entries.{Entry};
-ghost use Rattle.syslog_collect.specs.History.{IsBad, Told, after, nothing};
+ghost use Rattle.syslog_collect.specs.History.{HoldsBadCount, AcceptedEvent, history_after, initial};
 ghost use Rattle.syslog_collect.specs.Headline.{IsSettled};
 ghost use Rattle.syslog_collect.specs.Logs.{IsLogOf};
 ghost use Rattle.syslog_collect.specs.Outcomes.{IsOutcome};
-ghost use Rattle.syslog_collect.specs.Runs.{told_event};
+ghost use Rattle.syslog_collect.specs.Runs.{accepted_event};
 ghost use Rattle.syslog_collect.specs.Standing.{Stands};
 ghost use Rattle.syslog_collect.specs.declared.outcome.Outcome.{Outcome};
 ghost use Rattle.syslog_frame.specs.declared.framing.Framing.{Framing};
@@ -46,16 +46,16 @@ impl<S: Store + Drop> Reception<S> {
 
     // Hands one event to the collector, and keeps its outcomes alone.
     fn hear(&mut self, alloc: Global, event: Event<'_>) -> Result<(), AllocError>
-        ensures stands { OnOk result ((first : List Entry) (before : List Told)
+        ensures stands { OnOk result ((first : List Entry) (before : List AcceptedEvent)
             → Stands self.old.collector.connections.items (S.entries self.old.collector.store) first before
             → Stands self.new.collector.connections.items (S.entries self.new.collector.store) first
-            (before ++ told_event event.entry)) }
+            (before ++ accepted_event event.entry)) }
         ensures settled { OnOk result (IsSettled self.old.collector.connections.items
             → IsSettled self.new.collector.connections.items) }
-        ensures logged { OnOk result ((first : List Entry) (before : List Told)
+        ensures logged { OnOk result ((first : List Entry) (before : List AcceptedEvent)
             → Stands self.old.collector.connections.items (S.entries self.old.collector.store) first before
             → IsSettled self.old.collector.connections.items
-            → IsLogOf (after nothing before) (told_event event.entry)
+            → IsLogOf (history_after initial before) (accepted_event event.entry)
             (S.entries self.old.collector.store) (S.entries self.new.collector.store)
             self.new.outcomes.items) }
     {
@@ -121,7 +121,7 @@ impl<S: Store + Drop> Reception<S> {
         ensures stops { (kind : Framing) (given : List ℕ)
             → Receives self.old.collector.connections.items
             (S.entries self.old.collector.store) (Stream kind) given
-            → ¬ (IsBad (opening kind given)) → StopsAt kind given result }
+            → ¬ (HoldsBadCount (opening kind given)) → StopsAt kind given result }
         ensures same { self.new.collector.store ≡ self.old.collector.store }
     {
         let Err(fault) = self.collector.end_conn(CONN) else {
