@@ -1,5 +1,5 @@
 -- What is noted of outcomes is what the frames that they report call for.
-use Rattle.std.proofs.Common.{◌≡◌, ℕ, ◌+◌, ◌≤◌, inl, inr, List, [], ◌∷◌, ◌++◌, Bool, true, false, length, refl, sym, ap, subst, ◌∙◌, arith}
+use Rattle.std.proofs.Common.{◌≡◌, ℕ, ◌+◌, ◌≤◌, inl, inr, List, [], ◌∷◌, ◌++◌, Bool, true, false, None, length, refl, sym, ap, subst, ◌∙◌, arith}
 use Rattle.std.specs.Prelude.{if◌then◌else◌}
 use Rattle.std.specs.List.{flat_map}
 use Rattle.std.proofs.lemmas.List.{length-append}
@@ -7,11 +7,11 @@ use Rattle.syslog_frame.specs.Frames.{Frames, framed}
 use Rattle.syslog_frame.specs.declared.framing.Framing.{Framing}
 use Rattle.syslog_frame.proofs.FrameLaws.{some}
 use Rattle.archive_text.specs.Entries.{Entry}
-use Rattle.syslog_collect.specs.Answers.{IsBadOffset, MarksBad}
+use Rattle.syslog_collect.specs.Answers.{HoldsBadCountAt, ReportsBadCount}
 use Rattle.syslog_collect.specs.History.{HoldsBadCount, Stream}
 use Rattle.syslog_collect.specs.Outcomes.{AreReported, IsOutcome}
 use Rattle.syslog_collect.specs.declared.outcome.Outcome.{Outcome}
-use Rattle.syslog_collect.specs.declared.outcome.Outcome.TheVariants.{New, Held, Refused, TooLong, BadCount}
+use Rattle.syslog_collect.specs.declared.outcome.Outcome.TheVariants.{New, Held, Refused, RefusedLegacy, TooLong, BadCount}
 use Rattle.frame_engine.specs.Converted.{noted_line}
 use Rattle.frame_engine.specs.Handling.{Done, Handling, HandledFrom, nothing, then_done}
 use Rattle.frame_engine.specs.declared.line.Line.TheVariants as line
@@ -22,10 +22,11 @@ use Rattle.archive_engine.specs.Outcomes.{has_bad_count, is_bad_count, noted_out
 noted_good : (n : ℕ) (o : Outcome) (os : List Outcome) → is_bad_count o ≡ false → noted_outcomes n (o ∷ os) ≡ then_done (noted_outcome n o) (noted_outcomes (n + 1) os)
 noted_good n o os e = ap (λ (b : Bool). if b then noted_outcome n o else then_done (noted_outcome n o) (noted_outcomes (n + 1) os)) e
 
-pub outcome_handled : (n : ℕ) (old new : List Entry) (f : List ℕ) (o : Outcome) → IsOutcome old new f o → archive_handling n f (noted_outcome n o)
+pub outcome_handled : (n : ℕ) (old new : List Entry) (f : List ℕ) (o : Outcome) → IsOutcome None old new f o → archive_handling n f (noted_outcome n o)
 outcome_handled n old new f New (few, (r, spelled, added)) = inr (inl (few, (r, spelled), refl))
 outcome_handled n old new f Held (few, (r, spelled, added)) = inr (inl (few, (r, spelled), refl))
-outcome_handled n old new f (Refused fault) (few, bad, none, same) = inr (inr (few, fault, bad, refl))
+outcome_handled n old new f (Refused fault) (few, quiet, bad, none, same) = inr (inr (few, fault, bad, refl))
+outcome_handled n old new f (RefusedLegacy offset) (few, bad, same) = absurd bad
 outcome_handled n old new f TooLong (long, same) = inl (long, refl)
 outcome_handled n old new f (BadCount at) h = absurd h
 
@@ -39,7 +40,7 @@ pub record BadOutcomes (n : ℕ) (fs : List (List ℕ)) (os : List Outcome) (s :
   pub of_frames : Done
   pub at : ℕ
   pub handled : HandledFrom archive_handling n fs of_frames
-  pub bad : IsBadOffset s at
+  pub bad : HoldsBadCountAt s at
   pub noted : noted_outcomes n os ≡ then_done of_frames (noted_line (line.BadCount (n + length fs) at))
   pub as_many : length os ≡ length fs + 1
 
@@ -52,22 +53,23 @@ frame_first n fs here later f a b parts one h more =
 one_longer : (fs here later : List (List ℕ)) (f : List ℕ) → fs ≡ here ++ later → here ≡ f ∷ [] → length fs ≡ length later + 1
 one_longer fs here later f parts one = omega (arith, ap length parts, ap length one, length-append here later)
 
-good_first : (n : ℕ) (old between : List Entry) (fs here later : List (List ℕ)) (f : List ℕ) (o : Outcome) (os : List Outcome) → fs ≡ here ++ later → here ≡ f ∷ [] → IsOutcome old between f o → is_bad_count o ≡ false
+good_first : (n : ℕ) (old between : List Entry) (fs here later : List (List ℕ)) (f : List ℕ) (o : Outcome) (os : List Outcome) → fs ≡ here ++ later → here ≡ f ∷ [] → IsOutcome None old between f o → is_bad_count o ≡ false
     → GoodOutcomes (n + 1) later os → GoodOutcomes n fs (o ∷ os)
 good_first n old between fs here later f o os parts one out good more = record {
   handled = subst (HandledFrom archive_handling n fs) (sym (noted_good n o os good)) (frame_first n fs here later f (noted_outcome n o) (noted_outcomes (n + 1) os) parts one (outcome_handled n old between f o out) more.handled);
   as_many = omega (arith, more.as_many, one_longer fs here later f parts one);
 }
 
-pub good_outcomes : (n : ℕ) (old new : List Entry) (fs : List (List ℕ)) (os : List Outcome) → AreReported old new fs os → has_bad_count os ≡ false → GoodOutcomes n fs os
+pub good_outcomes : (n : ℕ) (old new : List Entry) (fs : List (List ℕ)) (os : List Outcome) → AreReported None old new fs os → has_bad_count os ≡ false → GoodOutcomes n fs os
 good_outcomes n old new fs [] (e, same) good = record { handled = subst (λ (x : List (List ℕ)). HandledFrom archive_handling n x nothing) (sym e) refl; as_many = sym (ap length e) }
 good_outcomes n old new fs (New ∷ os) (here, later, between, parts, (f, one, out), more) good = good_first n old between fs here later f New os parts one out refl (good_outcomes (n + 1) between new later os more good)
 good_outcomes n old new fs (Held ∷ os) (here, later, between, parts, (f, one, out), more) good = good_first n old between fs here later f Held os parts one out refl (good_outcomes (n + 1) between new later os more good)
 good_outcomes n old new fs (Refused fault ∷ os) (here, later, between, parts, (f, one, out), more) good = good_first n old between fs here later f (Refused fault) os parts one out refl (good_outcomes (n + 1) between new later os more good)
+good_outcomes n old new fs (RefusedLegacy offset ∷ os) (here, later, between, parts, (f, one, out), more) good = good_first n old between fs here later f (RefusedLegacy offset) os parts one out refl (good_outcomes (n + 1) between new later os more good)
 good_outcomes n old new fs (TooLong ∷ os) (here, later, between, parts, (f, one, out), more) good = good_first n old between fs here later f TooLong os parts one out refl (good_outcomes (n + 1) between new later os more good)
 good_outcomes n old new fs (BadCount at ∷ os) h good = absurd cc
 
-bad_first : (n : ℕ) (old between : List Entry) (fs here later : List (List ℕ)) (f : List ℕ) (o : Outcome) (os : List Outcome) (s : Stream) → fs ≡ here ++ later → here ≡ f ∷ [] → IsOutcome old between f o → is_bad_count o ≡ false
+bad_first : (n : ℕ) (old between : List Entry) (fs here later : List (List ℕ)) (f : List ℕ) (o : Outcome) (os : List Outcome) (s : Stream) → fs ≡ here ++ later → here ≡ f ∷ [] → IsOutcome None old between f o → is_bad_count o ≡ false
     → BadOutcomes (n + 1) later os s → BadOutcomes n fs (o ∷ os) s
 bad_first n old between fs here later f o os s parts one out good more =
     let longer : length fs ≡ length later + 1 = one_longer fs here later f parts one in
@@ -83,7 +85,7 @@ bad_first n old between fs here later f o os s parts one out good more =
       as_many = omega (arith, more.as_many, longer);
     }
 
-bad_last : (n at : ℕ) (between new : List Entry) (fs here later : List (List ℕ)) (os : List Outcome) (s : Stream) → fs ≡ here ++ later → here ≡ [] → AreReported between new later os → IsBadOffset s at → os ≡ [] → BadOutcomes n fs (BadCount at ∷ os) s
+bad_last : (n at : ℕ) (between new : List Entry) (fs here later : List (List ℕ)) (os : List Outcome) (s : Stream) → fs ≡ here ++ later → here ≡ [] → AreReported None between new later os → HoldsBadCountAt s at → os ≡ [] → BadOutcomes n fs (BadCount at ∷ os) s
 bad_last n at between new fs here later [] s parts none (empty, same) bad e =
     let all : fs ≡ [] = parts ∙ ap (λ (x : List (List ℕ)). x ++ later) none ∙ empty in
     let number : n ≡ n + length fs = omega (arith, ap length all) in
@@ -97,24 +99,26 @@ bad_last n at between new fs here later [] s parts none (empty, same) bad e =
     }
 bad_last n at between new fs here later (o ∷ os) s parts none h bad e = absurd cc
 
-pub bad_outcomes : (n : ℕ) (old new : List Entry) (fs : List (List ℕ)) (os : List Outcome) (s : Stream) → AreReported old new fs os → MarksBad os s → has_bad_count os ≡ true → BadOutcomes n fs os s
+pub bad_outcomes : (n : ℕ) (old new : List Entry) (fs : List (List ℕ)) (os : List Outcome) (s : Stream) → AreReported None old new fs os → ReportsBadCount os s → has_bad_count os ≡ true → BadOutcomes n fs os s
 bad_outcomes n old new fs [] s h marks bad = absurd cc
 bad_outcomes n old new fs (New ∷ os) s (here, later, between, parts, (f, one, out), more) marks bad = bad_first n old between fs here later f New os s parts one out refl (bad_outcomes (n + 1) between new later os s more marks bad)
 bad_outcomes n old new fs (Held ∷ os) s (here, later, between, parts, (f, one, out), more) marks bad = bad_first n old between fs here later f Held os s parts one out refl (bad_outcomes (n + 1) between new later os s more marks bad)
 bad_outcomes n old new fs (Refused fault ∷ os) s (here, later, between, parts, (f, one, out), more) marks bad = bad_first n old between fs here later f (Refused fault) os s parts one out refl (bad_outcomes (n + 1) between new later os s more marks bad)
+bad_outcomes n old new fs (RefusedLegacy offset ∷ os) s (here, later, between, parts, (f, one, out), more) marks bad = bad_first n old between fs here later f (RefusedLegacy offset) os s parts one out refl (bad_outcomes (n + 1) between new later os s more marks bad)
 bad_outcomes n old new fs (TooLong ∷ os) s (here, later, between, parts, (f, one, out), more) marks bad = bad_first n old between fs here later f TooLong os s parts one out refl (bad_outcomes (n + 1) between new later os s more marks bad)
 bad_outcomes n old new fs (BadCount at ∷ os) s (here, later, between, parts, (none, same), more) marks bad = bad_last n at between new fs here later os s parts none more marks.0 marks.1
 
 -- without a bad count among the outcomes the stream is good so far
-pub marks_good : (os : List Outcome) (s : Stream) → MarksBad os s → has_bad_count os ≡ false → ¬ (HoldsBadCount s)
+pub marks_good : (os : List Outcome) (s : Stream) → ReportsBadCount os s → has_bad_count os ≡ false → ¬ (HoldsBadCount s)
 marks_good [] s marks good = marks
 marks_good (New ∷ os) s marks good = marks_good os s marks good
 marks_good (Held ∷ os) s marks good = marks_good os s marks good
 marks_good (Refused fault ∷ os) s marks good = marks_good os s marks good
+marks_good (RefusedLegacy offset ∷ os) s marks good = marks_good os s marks good
 marks_good (TooLong ∷ os) s marks good = marks_good os s marks good
 marks_good (BadCount at ∷ os) s marks good = absurd cc
 
-pub few_outcomes : (old new : List Entry) (fs : List (List ℕ)) (os : List Outcome) (s : Stream) → AreReported old new fs os → MarksBad os s → length os ≤ length fs + 1
+pub few_outcomes : (old new : List Entry) (fs : List (List ℕ)) (os : List Outcome) (s : Stream) → AreReported None old new fs os → ReportsBadCount os s → length os ≤ length fs + 1
 few_outcomes old new fs os s h marks = decided (has_bad_count os) refl
   where
     decided : (b : Bool) → has_bad_count os ≡ b → length os ≤ length fs + 1

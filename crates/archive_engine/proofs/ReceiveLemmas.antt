@@ -11,11 +11,11 @@ use Rattle.syslog_frame.proofs.Calls.{begins_reading, none_unless_frame, open_re
 use Rattle.syslog_frame.proofs.FrameLaws.{concatenation, unique_frames}
 use Rattle.syslog_frame.proofs.Reading.{frames_read}
 use Rattle.archive_text.specs.Entries.{Entry, Has}
-use Rattle.syslog_collect.specs.Answers.{IfUnreleased, IsEnding, MarksBad}
+use Rattle.syslog_collect.specs.Answers.{IfUnreleased, IsEnding, ReportsBadCount}
 use Rattle.syslog_collect.specs.Frames.{AreFramesOf, HasFrames, all_of}
 use Rattle.syslog_collect.specs.Headline.{IsSettled}
-use Rattle.syslog_collect.specs.History.{Datagram, History, HoldsBadCount, Opened, Piece, AcceptedEvent, history_after, accept, initial}
-use Rattle.syslog_collect.specs.Logs.{IsLogOf, LogGrows}
+use Rattle.syslog_collect.specs.History.{AcceptedEvent, Datagram, History, HoldsBadCount, Opened, Piece, accept, history_of, initial}
+use Rattle.syslog_collect.specs.Logs.{Grows, IsLogOf, LogsOctets, waiting}
 use Rattle.syslog_collect.specs.Outcomes.{AreReported, IsOutcome}
 use Rattle.syslog_collect.specs.Runs.{nonempty_piece}
 use Rattle.syslog_collect.specs.Standing.{AreAt, Stands}
@@ -24,7 +24,7 @@ use Rattle.syslog_collect.specs.declared.fault.CollectFault.{CollectFault}
 use Rattle.syslog_collect.specs.declared.fault.CollectFault.TheVariants.{AlreadyOpen, TooManyOpen, NotOpen, ConnFailed, StreamTooLong, Unreleased, Unterminated, Memory}
 use Rattle.syslog_collect.specs.declared.outcome.Outcome.{Outcome}
 use Rattle.syslog_collect.proofs.Headline.{holds_just}
-use Rattle.syslog_collect.proofs.Steps.{after-push}
+use Rattle.syslog_collect.proofs.Steps.{history_after-push}
 use Rattle.frame_engine.specs.Converted.{noted_line}
 use Rattle.frame_engine.specs.Handling.{Done, nothing as none_done}
 use Rattle.frame_engine.specs.Streams.{ReportsEnd}
@@ -36,10 +36,10 @@ use Rattle.archive_engine.specs.Receiving.{LogsPiece, Receives, StopsAt, heard, 
 
 -- ---- what was heard
 
-pub receives_datagram : (cs : List Connection) (kept : List Entry) (octets : List ℕ) → Stands cs kept [] (Datagram octets ∷ []) → IsSettled cs → Receives cs kept input.Datagram octets
+pub receives_datagram : (cs : List Connection) (kept : List Entry) (octets : List ℕ) → Stands None cs kept [] (Datagram octets ∷ []) → IsSettled cs → Receives cs kept input.Datagram octets
 receives_datagram cs kept octets stands settled = record { events = Datagram octets ∷ []; stands = stands; settled = settled; history = refl }
 
-pub receives_opening : (cs : List Connection) (kept : List Entry) (kind : Framing) → Stands cs kept [] (Opened 0 kind ∷ []) → IsSettled cs → Receives cs kept (input.Stream kind) []
+pub receives_opening : (cs : List Connection) (kept : List Entry) (kind : Framing) → Stands None cs kept [] (Opened 0 kind ∷ []) → IsSettled cs → Receives cs kept (input.Stream kind) []
 receives_opening cs kept kind stands settled = record { events = Opened 0 kind ∷ []; stands = stands; settled = settled; history = refl }
 
 -- some octets are an event
@@ -48,44 +48,65 @@ told_some [] h = absurd (omega (arith, h))
 told_some (x ∷ octets) h = refl
 
 pub receives_piece : (cs ds : List Connection) (kept now : List Entry) (kind : Framing) (given octets : List ℕ) → 0 < length octets → (r : Receives cs kept (input.Stream kind) given)
-    → Stands ds now [] (r.events ++ nonempty_piece 0 octets) → IsSettled ds → Receives ds now (input.Stream kind) (given ++ octets)
+    → Stands None ds now [] (r.events ++ nonempty_piece 0 octets) → IsSettled ds → Receives ds now (input.Stream kind) (given ++ octets)
 receives_piece cs ds kept now kind given octets some r stands settled = record {
   events = r.events ++ Piece 0 octets ∷ [];
-  stands = subst (λ (es : List AcceptedEvent). Stands ds now [] (r.events ++ es)) (told_some octets some) stands;
+  stands = subst (λ (es : List AcceptedEvent). Stands None ds now [] (r.events ++ es)) (told_some octets some) stands;
   settled = settled;
-  history = after-push nothing r.events (Piece 0 octets) ∙ ap (λ (h : History). hear h (Piece 0 octets)) r.history;
+  history = history_after-push initial r.events (Piece 0 octets) ∙ ap (λ (h : History). accept h (Piece 0 octets)) r.history;
 }
 
 -- ---- its outcomes
 
-logs_here : (kind : Framing) (given octets : List ℕ) (old new : List Entry) (os : List Outcome) → IsLogOf (heard (input.Stream kind) given) (Piece 0 octets ∷ []) old new os → LogsPiece kind given octets old new os
-logs_here kind given octets old new os (here, later, between, parts, (before, last, was, are, reported, marks), (none, same)) =
-    let all : here ≡ os = sym (parts ∙ ap (λ (xs : List Outcome). here ++ xs) none ∙ append-nil here) in
+none_of : (xs : List (List ℕ)) → length xs ≡ 0 → xs ≡ []
+none_of [] e = refl
+none_of (x ∷ xs) e = absurd (omega (arith, e))
+
+-- where no frame is ready, none waits
+pub none_waits : (cs : List Connection) → IsSettled cs → (d : ℕ) → waiting cs d ≡ 0
+none_waits [] settled d = refl
+none_waits (c ∷ cs) settled d = elim (true_or_false (c.number == d)) [
+  | inl here ↦ ap (λ (b : Bool). cond b (ready_count c.scanner.phase) (waiting cs d)) here ∙ none_ready c.scanner settled.0
+  | inr there ↦ ap (λ (b : Bool). cond b (ready_count c.scanner.phase) (waiting cs d)) there ∙ none_waits cs settled.1 d
+]
+
+logs_octets : (kind : Framing) (given octets : List ℕ) (old new : List Entry) (os : List Outcome) (waited : ℕ) → waited ≡ 0 → LogsOctets None (opening kind given) octets waited 0 old new os → LogsPiece kind given octets old new os
+logs_octets kind given octets old new os waited zero l =
+    let none : l.waiting_before ≡ [] = none_of l.waiting_before (l.count_before ∙ zero) in
+    let all : l.handled ++ l.waiting_before ≡ l.handled = ap (λ (x : List (List ℕ)). l.handled ++ x) none ∙ append-nil l.handled in
+    let behind : l.logged ++ l.waiting_now ≡ l.logged = ap (λ (x : List (List ℕ)). l.logged ++ x) (none_of l.waiting_now l.count_now) ∙ append-nil l.logged in
+    let (rest_before, frames_before) = l.before in
+    let (rest, frames_now) = l.now in
     record {
-      before = before;
-      last = last;
-      rest_before = was.0;
-      rest = are.0;
-      frames_before = was.1;
-      frames_are = are.1;
-      reported = subst (λ (es : List Entry). AreReported old es last os) (sym same) (subst (AreReported old between last) all reported);
-      marks = subst (λ (xs : List Outcome). MarksBad xs (opening kind (given ++ octets))) all marks;
+      before = l.handled;
+      last = l.logged;
+      rest_before = rest_before;
+      rest = rest;
+      frames_before = subst (λ (fs : List (List ℕ)). Frames kind given fs rest_before) all frames_before;
+      frames_are = subst (λ (fs : List (List ℕ)). Frames kind (given ++ octets) fs rest) (ap (λ (fs : List (List ℕ)). l.handled ++ fs) behind) frames_now;
+      reported = l.outcomes;
+      marks = l.bad_count;
     }
 
-pub logs_piece : (h : History) (kind : Framing) (given octets : List ℕ) (old new : List Entry) (os : List Outcome) → 0 < length octets → h ≡ heard (input.Stream kind) given
-    → IsLogOf h (nonempty_piece 0 octets) old new os → LogsPiece kind given octets old new os
-logs_piece h kind given octets old new os some is logged =
-    logs_here kind given octets old new os (subst (λ (x : History). IsLogOf x (Piece 0 octets ∷ []) old new os) is (subst (λ (es : List AcceptedEvent). IsLogOf h es old new os) (told_some octets some) logged))
+logs_here : (kind : Framing) (given octets : List ℕ) (w v : ℕ → ℕ) (old new : List Entry) (os : List Outcome) → w 0 ≡ 0 → IsLogOf None (heard (input.Stream kind) given) w (Piece 0 octets ∷ []) v old new os → LogsPiece kind given octets old new os
+logs_here kind given octets w v old new os zero (here, later, between, parts, logged, (none, same, waits)) =
+    let all : here ≡ os = sym (parts ∙ ap (λ (xs : List Outcome). here ++ xs) none ∙ append-nil here) in
+    subst (λ (es : List Entry). LogsPiece kind given octets old es os) (sym same) (subst (LogsPiece kind given octets old between) all (logs_octets kind given octets old between here (w 0) zero logged))
+
+pub logs_piece : (h : History) (kind : Framing) (given octets : List ℕ) (w v : ℕ → ℕ) (old new : List Entry) (os : List Outcome) → 0 < length octets → h ≡ heard (input.Stream kind) given
+    → w 0 ≡ 0 → IsLogOf None h w (nonempty_piece 0 octets) v old new os → LogsPiece kind given octets old new os
+logs_piece h kind given octets w v old new os some is zero logged =
+    logs_here kind given octets w v old new os zero (subst (λ (x : History). IsLogOf None x w (Piece 0 octets ∷ []) v old new os) is (subst (λ (es : List AcceptedEvent). IsLogOf None h w es v old new os) (told_some octets some) logged))
 
 -- the log of a run that began with none
-pub log_only : (h : History) (es fs : List AcceptedEvent) (a b : List Entry) (l m : List Outcome) → l ≡ [] → fs ≡ es → LogGrows h fs a b l m → IsLogOf h es a b m
-log_only h es fs a b l m none same (os, grown, logged) =
+pub log_only : (h : History) (w v : ℕ → ℕ) (es fs : List AcceptedEvent) (a b : List Entry) (l m : List Outcome) → l ≡ [] → fs ≡ es → Grows (IsLogOf None h w fs v a b) l m → IsLogOf None h w es v a b m
+log_only h w v es fs a b l m none same (os, grown, logged) =
     let all : os ≡ m = sym (grown ∙ ap (λ (xs : List Outcome). xs ++ os) none) in
-    subst (λ (x : List AcceptedEvent). IsLogOf h x a b m) same (subst (IsLogOf h fs a b) all logged)
+    subst (λ (x : List AcceptedEvent). IsLogOf None h w x v a b m) same (subst (IsLogOf None h w fs v a b) all logged)
 
-pub logs_datagram : (octets : List ℕ) (old new : List Entry) (os : List Outcome) → IsLogOf nothing (Datagram octets ∷ []) old new os → (x : Outcome) × (os ≡ x ∷ []) × IsOutcome old new octets x
-logs_datagram octets old new os (here, later, between, parts, (x, one, out), (none, same)) =
-    (x, parts ∙ ap (λ (xs : List Outcome). here ++ xs) none ∙ append-nil here ∙ one, subst (λ (es : List Entry). IsOutcome old es octets x) (sym same) out)
+pub logs_datagram : (octets : List ℕ) (w v : ℕ → ℕ) (old new : List Entry) (os : List Outcome) → IsLogOf None initial w (Datagram octets ∷ []) v old new os → (x : Outcome) × (os ≡ x ∷ []) × IsOutcome None old new octets x
+logs_datagram octets w v old new os (here, later, between, parts, (x, one, out), (none, same, waits)) =
+    (x, parts ∙ ap (λ (xs : List Outcome). here ++ xs) none ∙ append-nil here ∙ one, subst (λ (es : List Entry). IsOutcome None old es octets x) (sym same) out)
 
 -- ---- the received set
 
@@ -125,7 +146,7 @@ heard_frames (input.Stream kind) octets frames (rest, are) = record {
 -- the entries that are held are those of the received set
 pub holds_heard : (cs : List Connection) (kept : List Entry) (framing : InputFraming) (octets : List ℕ) → Receives cs kept framing octets → (x : Entry) → Has kept x ↔ IsReceivedIn framing octets x
 holds_heard cs kept framing octets r x =
-    let held = holds_just cs kept r.events r.stands r.settled x in (
+    let held = holds_just None cs kept r.events r.stands r.settled x in (
       λ has. let (frames, are, spelled) = held.0 has in (frames, frames_heard framing octets frames (subst (λ (h : History). HasFrames h frames) r.history are), spelled),
       λ h. held.1 (h.0, subst (λ (k : History). HasFrames k h.0) (sym r.history) (heard_frames framing octets h.0 h.1), h.2),
     )
@@ -173,7 +194,7 @@ stops_whole U kind given u h is ending good =
     let here = subst (λ (k : History). IsEnding {U = U} 0 (Ok u) k) is ending in
     elim here [ inl bad ↦ absurd (good bad) | inr whole ↦ whole ]
 
-pub stops_inside : (U : Type 0) (cs : List Connection) (kept : List Entry) (kind : Framing) (given : List ℕ) (start : ℕ) → (r : Receives cs kept (input.Stream kind) given) → IsEnding {U = U} 0 (Err (Unterminated start)) (history_after initial r.events)
+pub stops_inside : (U : Type 0) (cs : List Connection) (kept : List Entry) (kind : Framing) (given : List ℕ) (start : ℕ) → (r : Receives cs kept (input.Stream kind) given) → IsEnding {U = U} 0 (Err (Unterminated start)) (history_of r.events)
     → ¬ (HoldsBadCount (opening kind given)) → StopsAt kind given (Some start)
 stops_inside U cs kept kind given start r ending good =
     let here = subst (λ (k : History). IsEnding {U = U} 0 (Err (Unterminated start)) k) r.history ending in

@@ -15,7 +15,7 @@ use Rattle.syslog_collect.specs.History.{HoldsBadCount}
 use Rattle.syslog_collect.specs.Outcomes.{IsOutcome}
 use Rattle.syslog_collect.specs.declared.connection.Connection.{Connection}
 use Rattle.syslog_collect.specs.declared.outcome.Outcome.{Outcome}
-use Rattle.syslog_collect.specs.declared.outcome.Outcome.TheVariants.{New, Held, Refused, TooLong, BadCount}
+use Rattle.syslog_collect.specs.declared.outcome.Outcome.TheVariants.{New, Held, Refused, RefusedLegacy, TooLong, BadCount}
 use Rattle.frame_engine.specs.Converted.{noted_line}
 use Rattle.frame_engine.specs.Handling.{Done, HandledFrom, nothing, then_done}
 use Rattle.frame_engine.specs.Streams.{ReportsEnd, written_out}
@@ -115,8 +115,8 @@ received_end kind given number cs kept now a b n0 n lines new h read at_end same
 -- behind a bad count nothing more is received
 same_frames : (kind : Framing) (given more : List ℕ) (frames : List (List ℕ)) (rest : List ℕ) → Frames kind given frames rest → Frames kind (given ++ more) frames (rest ++ more) → (x : Entry) → IsReceivedIn (input.Stream kind) given x ↔ IsReceivedIn (input.Stream kind) (given ++ more) x
 same_frames kind given more frames rest short long x = (
-  λ h. (frames, (rest ++ more, long), subst (λ (fs : List (List ℕ)). IsSpelled fs x) (unique_frames kind given h.0 frames h.1.0 rest h.1.1 short).0 h.2),
-  λ h. (frames, (rest, short), subst (λ (fs : List (List ℕ)). IsSpelled fs x) (unique_frames kind (given ++ more) h.0 frames h.1.0 (rest ++ more) h.1.1 long).0 h.2),
+  λ h. (frames, (rest ++ more, long), subst (λ (fs : List (List ℕ)). IsSpelled None fs x) (unique_frames kind given h.0 frames h.1.0 rest h.1.1 short).0 h.2),
+  λ h. (frames, (rest, short), subst (λ (fs : List (List ℕ)). IsSpelled None fs x) (unique_frames kind (given ++ more) h.0 frames h.1.0 (rest ++ more) h.1.1 long).0 h.2),
 )
 
 stopped : (kind : Framing) (given octets more : List ℕ) (number : ℕ) (cs ds : List Connection) (kept now : List Entry) (n0 n : Option (List ℕ)) (lines new : Done) (os : List Outcome) → IsReceiving kind given number cs kept n0 n lines
@@ -168,7 +168,7 @@ received_bad kind given octets number cs ds kept now (Some xs) (Some ys) n0 n li
 
 -- ---- a datagram
 
-short_datagram : (cs : List Connection) (first kept : List Entry) (octets : List ℕ) (n : Option (List ℕ)) (new : Done) (x : Outcome) → Receives cs kept input.Datagram octets → IsOutcome first kept octets x → new ≡ noted_outcome 1 x → HasReceived input.Datagram octets kept n n new
+short_datagram : (cs : List Connection) (first kept : List Entry) (octets : List ℕ) (n : Option (List ℕ)) (new : Done) (x : Outcome) → Receives cs kept input.Datagram octets → IsOutcome None first kept octets x → new ≡ noted_outcome 1 x → HasReceived input.Datagram octets kept n n new
 short_datagram cs first kept octets n new x r out noted = record {
   lines = new;
   notes = [];
@@ -179,21 +179,22 @@ short_datagram cs first kept octets n new x r out noted = record {
 }
 
 -- an outcome of octets that are too many
-only_long : (first kept : List Entry) (octets : List ℕ) (x : Outcome) → FRAME_MAX < length octets → IsOutcome first kept octets x → x ≡ TooLong
+only_long : (first kept : List Entry) (octets : List ℕ) (x : Outcome) → FRAME_MAX < length octets → IsOutcome None first kept octets x → x ≡ TooLong
 only_long first kept octets New long (few, more) = absurd (omega (arith, few, long))
 only_long first kept octets Held long (few, more) = absurd (omega (arith, few, long))
-only_long first kept octets (Refused fault) long (few, bad, none, same) = absurd (omega (arith, few, long))
+only_long first kept octets (RefusedLegacy offset) long (few, bad, same) = absurd bad
+only_long first kept octets (Refused fault) long (few, quiet, bad, none, same) = absurd (omega (arith, few, long))
 only_long first kept octets TooLong long out = refl
 only_long first kept octets (BadCount at) long out = absurd out
 
 none_long : (octets : List ℕ) (x : Entry) → FRAME_MAX < length octets → ¬ (IsReceivedIn input.Datagram octets x)
-none_long octets x long (frames, one, spelled) = of_one (subst (λ (fs : List (List ℕ)). IsSpelled fs x) one spelled)
+none_long octets x long (frames, one, spelled) = of_one (subst (λ (fs : List (List ℕ)). IsSpelled None fs x) one spelled)
   where
-    of_one : IsSpelled (octets ∷ []) x → ⊥
+    of_one : IsSpelled None (octets ∷ []) x → ⊥
     of_one (inl (few, more)) = omega (arith, few, long)
     of_one (inr none) = none
 
-long_datagram : (cs : List Connection) (first kept : List Entry) (octets stream : List ℕ) (n : Option (List ℕ)) (new : Done) (x : Outcome) → Receives cs kept input.Datagram octets → IsOutcome first kept octets x → new ≡ noted_outcome 1 x
+long_datagram : (cs : List Connection) (first kept : List Entry) (octets stream : List ℕ) (n : Option (List ℕ)) (new : Done) (x : Outcome) → Receives cs kept input.Datagram octets → IsOutcome None first kept octets x → new ≡ noted_outcome 1 x
     → FRAME_MAX < length octets → FRAME_MAX < length stream → HasReceived input.Datagram stream kept n n new
 long_datagram cs first kept octets stream n new x r out noted long longer =
     let members = holds_heard cs kept input.Datagram octets r in
@@ -206,7 +207,7 @@ long_datagram cs first kept octets stream n new x r out noted long longer =
       whole = refl;
     }
 
-one_datagram : (cs : List Connection) (first kept : List Entry) (octets stream : List ℕ) (n : Option (List ℕ)) (new : Done) (x : Outcome) → octets ≡ take (FRAME_MAX + 1) stream → Receives cs kept input.Datagram octets → IsOutcome first kept octets x → new ≡ noted_outcome 1 x
+one_datagram : (cs : List Connection) (first kept : List Entry) (octets stream : List ℕ) (n : Option (List ℕ)) (new : Done) (x : Outcome) → octets ≡ take (FRAME_MAX + 1) stream → Receives cs kept input.Datagram octets → IsOutcome None first kept octets x → new ≡ noted_outcome 1 x
     → HasReceived input.Datagram stream kept n n new
 one_datagram cs first kept octets stream n new x is r out noted =
     elim (cases_lt FRAME_MAX (length octets)) [
@@ -221,11 +222,12 @@ noted_one : (x : Outcome) → noted_outcomes 1 (x ∷ []) ≡ noted_outcome 1 x
 noted_one New = then_nothing nothing
 noted_one Held = then_nothing nothing
 noted_one (Refused fault) = then_nothing (noted_line (line.Refused 1 fault))
+noted_one (RefusedLegacy offset) = then_nothing (noted_line (line.LegacyNotUtf8 1 offset))
 noted_one TooLong = then_nothing (noted_line (line.TooLong 1))
 noted_one (BadCount at) = refl
 
 pub received_datagram : (cs : List Connection) (first kept : List Entry) (octets : List ℕ) (a n : Option (List ℕ)) (old new : Done) (os : List Outcome) → IfSome a (λ stream. octets ≡ take (FRAME_MAX + 1) stream) → Receives cs kept input.Datagram octets
-    → (x : Outcome) × (os ≡ x ∷ []) × IsOutcome first kept octets x → old ≡ nothing → new ≡ then_done old (noted_outcomes 1 os) → IfSome a (λ stream. HasReceived input.Datagram stream kept n n new)
+    → (x : Outcome) × (os ≡ x ∷ []) × IsOutcome None first kept octets x → old ≡ nothing → new ≡ then_done old (noted_outcomes 1 os) → IfSome a (λ stream. HasReceived input.Datagram stream kept n n new)
 received_datagram cs first kept octets None n old new os is r out none noted = tt
 received_datagram cs first kept octets (Some stream) n old new os is r (x, one, out) none noted =
     let all : new ≡ noted_outcome 1 x = noted ∙ ap (λ (d : Done). then_done d (noted_outcomes 1 os)) none ∙ ap (noted_outcomes 1) one ∙ noted_one x in

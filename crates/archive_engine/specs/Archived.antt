@@ -1,5 +1,5 @@
 -- What comes of an input that is archived.
-use Rattle.std.specs.Prelude.{◌≡◌, ℕ, ◌<◌, ◌≤◌, ◌⊎◌, ◌↔◌, List, [], ◌∷◌, length}
+use Rattle.std.specs.Prelude.{None, ◌≡◌, ℕ, ◌<◌, ◌≤◌, ◌⊎◌, ◌↔◌, List, [], ◌∷◌, length}
 use Rattle.octet_language.specs.Language.{AnyOf}
 use Rattle.syslog_frame.specs.Frames.{Frames}
 use Rattle.syslog_frame.specs.declared.limits.TheConstants.{FRAME_MAX}
@@ -31,7 +31,7 @@ AreFramesIn (Stream kind) input frames = (rest : List ℕ) × Frames kind input 
 
 -- the received set of an input: the entries of the records that its frames spell
 abbrev pub IsReceivedIn : InputFraming → List ℕ → Entry → Type 0
-IsReceivedIn framing input x = (frames : List (List ℕ)) × AreFramesIn framing input frames × IsSpelled frames x
+IsReceivedIn framing input x = (frames : List (List ℕ)) × AreFramesIn framing input frames × IsSpelled None frames x
 
 -- the archive of the received set: of these records and no other
 pub record IsArchiveOf (framing : InputFraming) (input : List ℕ) (es : List Entry) : Type 0 where

@@ -1,7 +1,7 @@
 -- What is noted of outcomes.
 use Rattle.std.specs.Prelude.{ℕ, ◌+◌, List, [], ◌∷◌, Bool, true, false, ◌||◌, if◌then◌else◌}
 use Rattle.syslog_collect.specs.declared.outcome.Outcome.{Outcome}
-use Rattle.syslog_collect.specs.declared.outcome.Outcome.TheVariants.{New, Held, Refused, TooLong, BadCount}
+use Rattle.syslog_collect.specs.declared.outcome.Outcome.TheVariants.{New, Held, Refused, RefusedLegacy, TooLong, BadCount}
 use Rattle.frame_engine.specs.Converted.{noted_line}
 use Rattle.frame_engine.specs.Handling.{Done, nothing, then_done}
 use Rattle.frame_engine.specs.declared.line.Line.TheVariants as line
@@ -11,6 +11,7 @@ abbrev pub noted_outcome : ℕ → Outcome → Done
 noted_outcome n New = nothing
 noted_outcome n Held = nothing
 noted_outcome n (Refused fault) = noted_line (line.Refused n fault)
+noted_outcome n (RefusedLegacy offset) = noted_line (line.LegacyNotUtf8 n offset)
 noted_outcome n TooLong = noted_line (line.TooLong n)
 noted_outcome n (BadCount at) = noted_line (line.BadCount n at)
 
@@ -18,6 +19,7 @@ abbrev pub is_bad_count : Outcome → Bool
 is_bad_count New = false
 is_bad_count Held = false
 is_bad_count (Refused fault) = false
+is_bad_count (RefusedLegacy offset) = false
 is_bad_count TooLong = false
 is_bad_count (BadCount at) = true
 

@@ -5,9 +5,9 @@ use Rattle.octet_language.specs.Language.{Begins}
 use Rattle.syslog_frame.specs.Frames.{Frames, Whole}
 use Rattle.syslog_frame.specs.declared.framing.Framing.{Framing}
 use Rattle.archive_text.specs.Entries.{Entry, Has}
-use Rattle.syslog_collect.specs.Answers.{MarksBad}
+use Rattle.syslog_collect.specs.Answers.{ReportsBadCount}
 use Rattle.syslog_collect.specs.Headline.{IsSettled}
-use Rattle.syslog_collect.specs.History.{History, HoldsBadCount, Stream, AcceptedEvent, history_after, initial}
+use Rattle.syslog_collect.specs.History.{AcceptedEvent, History, HoldsBadCount, Stream, history_of}
 use Rattle.syslog_collect.specs.Outcomes.{AreReported}
 use Rattle.syslog_collect.specs.Standing.{Stands}
 use Rattle.syslog_collect.specs.declared.connection.Connection.{Connection}
@@ -30,15 +30,15 @@ heard (input.Stream kind) octets = record { streams = opening kind octets ∷ []
 
 -- a collector over an empty store heard nothing
 pub record HeardNothing (cs : List Connection) (kept : List Entry) : Type 0 where
-  pub stands : Stands cs kept [] []
+  pub stands : Stands None cs kept [] []
   pub settled : IsSettled cs
 
 -- a collector over an empty store received these octets of an input, and no frame is left ready
 pub record Receives (cs : List Connection) (kept : List Entry) (framing : InputFraming) (octets : List ℕ) : Type 0 where
   pub events : List AcceptedEvent
-  pub stands : Stands cs kept [] events
+  pub stands : Stands None cs kept [] events
   pub settled : IsSettled cs
-  pub history : history_after initial events ≡ heard framing octets
+  pub history : history_of events ≡ heard framing octets
 
 -- the outcomes of octets that follow given ones on a stream: of the frames that they complete, and a bad count
 pub record LogsPiece (kind : Framing) (given octets : List ℕ) (old new : List Entry) (outcomes : List Outcome) : Type 0 where
@@ -48,8 +48,8 @@ pub record LogsPiece (kind : Framing) (given octets : List ℕ) (old new : List 
   pub rest : List ℕ
   pub frames_before : Frames kind given before rest_before
   pub frames_are : Frames kind (given ++ octets) (before ++ last) rest
-  pub reported : AreReported old new last outcomes
-  pub marks : MarksBad outcomes (opening kind (given ++ octets))
+  pub reported : AreReported None old new last outcomes
+  pub marks : ReportsBadCount outcomes (opening kind (given ++ octets))
 
 -- where a stream stops: behind whole frames, or inside the frame that begins here
 abbrev pub StopsAt : Framing → List ℕ → Option ℕ → Type 0

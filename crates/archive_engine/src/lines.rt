@@ -35,6 +35,10 @@ fn note_outcome(
             note_line(alloc, Line::Refused { number, fault }, done)?;
             Ok(false)
         }
+        Outcome::RefusedLegacy { offset } => {
+            note_line(alloc, Line::LegacyNotUtf8 { number, offset }, done)?;
+            Ok(false)
+        }
         Outcome::TooLong => {
             note_line(alloc, Line::TooLong { number }, done)?;
             Ok(false)

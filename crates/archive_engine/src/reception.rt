@@ -1,10 +1,10 @@
 //! A collector that receives one input.
 
-ghost use Rattle.std.specs.Prelude.{◌≡◌, ◌<◌, ◌++◌, ◌∷◌, List, ℕ, [], IfOk, OnOk, length};
+ghost use Rattle.std.specs.Prelude.{◌≡◌, ◌<◌, ◌++◌, ◌∷◌, List, ℕ, [], IfOk, None, OnOk, length};
 ghost use Rattle.archive_text.specs.Entries.{Entry};
-ghost use Rattle.syslog_collect.specs.History.{HoldsBadCount, AcceptedEvent, history_after, initial};
+ghost use Rattle.syslog_collect.specs.History.{AcceptedEvent, HoldsBadCount, history_of};
 ghost use Rattle.syslog_collect.specs.Headline.{IsSettled};
-ghost use Rattle.syslog_collect.specs.Logs.{IsLogOf};
+ghost use Rattle.syslog_collect.specs.Logs.{IsLogOf, waiting};
 ghost use Rattle.syslog_collect.specs.Outcomes.{IsOutcome};
 ghost use Rattle.syslog_collect.specs.Runs.{accepted_event};
 ghost use Rattle.syslog_collect.specs.Standing.{Stands};
@@ -26,6 +26,7 @@ const CONN: u32 = 0;
 pub struct Reception<S> {
     pub collector: Collector<S>,
     pub outcomes: Vec<Outcome>,
+    ghost plain: { collector.clock ≡ None },
 }
 
 impl<S: Store + Drop> Reception<S> {
@@ -35,7 +36,7 @@ impl<S: Store + Drop> Reception<S> {
         ensures { IfOk result (λ r.
             HeardNothing r.collector.connections.items (S.entries r.collector.store)) }
     {
-        match Collector::new(alloc, store) {
+        match Collector::new(alloc, store, None) {
             Ok(collector) => Ok(Reception {
                 collector,
                 outcomes: Vec::new(alloc),
@@ -45,17 +46,18 @@ impl<S: Store + Drop> Reception<S> {
     }
 
     // Hands one event to the collector, and keeps its outcomes alone.
-    fn hear(&mut self, alloc: Global, event: Event<'_>) -> Result<(), AllocError>
+    fn run_event(&mut self, alloc: Global, event: Event<'_>) -> Result<(), AllocError>
         ensures stands { OnOk result ((first : List Entry) (before : List AcceptedEvent)
-            → Stands self.old.collector.connections.items (S.entries self.old.collector.store) first before
-            → Stands self.new.collector.connections.items (S.entries self.new.collector.store) first
+            → Stands None self.old.collector.connections.items (S.entries self.old.collector.store) first before
+            → Stands None self.new.collector.connections.items (S.entries self.new.collector.store) first
             (before ++ accepted_event event.entry)) }
         ensures settled { OnOk result (IsSettled self.old.collector.connections.items
             → IsSettled self.new.collector.connections.items) }
         ensures logged { OnOk result ((first : List Entry) (before : List AcceptedEvent)
-            → Stands self.old.collector.connections.items (S.entries self.old.collector.store) first before
+            → Stands None self.old.collector.connections.items (S.entries self.old.collector.store) first before
             → IsSettled self.old.collector.connections.items
-            → IsLogOf (history_after initial before) (accepted_event event.entry)
+            → IsLogOf None (history_of before) (waiting self.old.collector.connections.items)
+            (accepted_event event.entry) (waiting self.new.collector.connections.items)
             (S.entries self.old.collector.store) (S.entries self.new.collector.store)
             self.new.outcomes.items) }
     {
@@ -73,10 +75,10 @@ impl<S: Store + Drop> Reception<S> {
         ensures receives { OnOk result (Receives self.new.collector.connections.items
             (S.entries self.new.collector.store) Datagram octets.now) }
         ensures logs { OnOk result ((x : Outcome) × (self.new.outcomes.items ≡ x ∷ [])
-            × IsOutcome (S.entries self.old.collector.store) (S.entries self.new.collector.store)
+            × IsOutcome None (S.entries self.old.collector.store) (S.entries self.new.collector.store)
             octets.now x) }
     {
-        self.hear(alloc, Event::Datagram { octets })
+        self.run_event(alloc, Event::Datagram { octets })
     }
 
     /// Begins to receive a stream.
@@ -86,7 +88,7 @@ impl<S: Store + Drop> Reception<S> {
         ensures { OnOk result (Receives self.new.collector.connections.items
             (S.entries self.new.collector.store) (Stream framing) []) }
     {
-        self.hear(
+        self.run_event(
             alloc,
             Event::Opened {
                 conn: CONN,
@@ -109,7 +111,7 @@ impl<S: Store + Drop> Reception<S> {
             → LogsPiece kind given octets.now (S.entries self.old.collector.store)
             (S.entries self.new.collector.store) self.new.outcomes.items) }
     {
-        self.hear(alloc, Event::Piece { conn: CONN, octets })
+        self.run_event(alloc, Event::Piece { conn: CONN, octets })
     }
 
     /// Ends a stream that was received to its end. Returns where its unfinished frame begins, if it

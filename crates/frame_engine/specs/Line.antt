@@ -5,7 +5,7 @@ use Rattle.syslog_grammar.specs.declared.fault.Fault.TheVariants.{Syntax, Instan
 use Rattle.syslog_grammar.specs.declared.fault.Field.{Field}
 use Rattle.syslog_grammar.specs.declared.fault.Field.TheVariants as field
 use Rattle.frame_engine.specs.declared.line.Line.{Line}
-use Rattle.frame_engine.specs.declared.line.Line.TheVariants.{Accepted, Refused, TooLong, BadCount, HasLf, CanonicalTooLong, Unterminated}
+use Rattle.frame_engine.specs.declared.line.Line.TheVariants.{Accepted, LegacyNotUtf8, Refused, TooLong, BadCount, HasLf, CanonicalTooLong, Unterminated}
 
 -- the name of a field
 abbrev pub field_name : Field → List ℕ
@@ -29,6 +29,7 @@ fault_text (RepeatedId at) = codes "repeated-id " ++ decimal at
 abbrev pub line_text : Line → List ℕ
 line_text (Accepted n) = decimal n ++ codes " ok\n"
 line_text (Refused n fault) = decimal n ++ codes " " ++ fault_text fault ++ codes "\n"
+line_text (LegacyNotUtf8 n offset) = decimal n ++ codes " legacy-not-utf8 " ++ decimal offset ++ codes "\n"
 line_text (TooLong n) = decimal n ++ codes " too-long\n"
 line_text (BadCount n at) = decimal n ++ codes " bad-count " ++ decimal at ++ codes "\n"
 line_text (HasLf n) = decimal n ++ codes " has-lf\n"

@@ -15,6 +15,9 @@ pub enum Line {
     Accepted { number: u64 },
     /// The frame is no record, because of this fault.
     Refused { number: u64, fault: Fault },
+    /// The frame is a legacy packet whose message begins with the byte order mark and is not UTF-8
+    /// at this offset.
+    LegacyNotUtf8 { number: u64, offset: usize },
     /// The frame is longer than the limit.
     TooLong { number: u64 },
     /// The octet at this position does not continue any MSG-LEN.
@@ -101,6 +104,12 @@ fn append_line(out: &mut Vec<u8>, line: Line) -> Result<(), AllocError>
             put_number(out, number)?;
             put_text(out, b" ")?;
             append_fault(out, fault)?;
+            put_text(out, b"\n")
+        }
+        Line::LegacyNotUtf8 { number, offset } => {
+            put_number(out, number)?;
+            put_text(out, b" legacy-not-utf8 ")?;
+            put_offset(out, offset)?;
             put_text(out, b"\n")
         }
         Line::TooLong { number } => {

@@ -4,4 +4,4 @@ use Rattle.archive_engine.proofs.ReceiveLemmas.{receives_opening}
 use Rattle.archive_engine.proofs.reception.Reception.open.Goals as goal
 
 pub returns : goal.returns
-returns g c = both_ok c.hear.result _ _ _ (λ stands settled. receives_opening _ _ c.args.framing (stands [] [] c.requires.stands) (settled c.requires.settled)) c.hear.ensures.stands c.hear.ensures.settled
+returns g c = both_ok c.run_event.result _ _ _ (λ stands settled. receives_opening _ _ c.args.framing (stands [] [] c.requires.stands) (settled c.requires.settled)) c.run_event.ensures.stands c.run_event.ensures.settled

@@ -6,12 +6,12 @@ use Rattle.archive_engine.proofs.reception.Reception.piece.Goals as goal
 
 pub returns-clause-receives : goal.returns-clause-receives
 returns-clause-receives g c =
-    both_ok c.hear.result _ _ _
+    both_ok c.run_event.result _ _ _
     (λ stands settled kind given r. receives_piece _ _ _ _ kind given c.args.octets.now c.requires r (stands [] r.events r.stands) (settled r.settled))
-    c.hear.ensures.stands c.hear.ensures.settled
+    c.run_event.ensures.stands c.run_event.ensures.settled
 
 pub returns-clause-logs : goal.returns-clause-logs
 returns-clause-logs g c =
-    on_ok_weaker c.hear.result
+    on_ok_weaker c.run_event.result
     (λ logged kind given r. logs_piece _ kind given c.args.octets.now _ _ _ c.requires r.history (logged [] r.events r.stands r.settled))
-    c.hear.ensures.logged
+    c.run_event.ensures.logged

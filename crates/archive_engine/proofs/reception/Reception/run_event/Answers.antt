@@ -4,7 +4,7 @@ use Rattle.syslog_collect.specs.History.{AcceptedEvent}
 use Rattle.syslog_collect.specs.Runs.{accepted_event}
 use Rattle.syslog_collect.specs.Standing.{Stands}
 use Rattle.archive_engine.proofs.ReceiveLemmas.{log_only}
-use Rattle.archive_engine.proofs.reception.Reception.hear.Goals as goal
+use Rattle.archive_engine.proofs.reception.Reception.run_event.Goals as goal
 
 pub returns-in-Done-clause-stands : goal.returns-in-Done-clause-stands
 returns-in-Done-clause-stands g c = λ first before was.
