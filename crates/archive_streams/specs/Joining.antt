@@ -1,4 +1,4 @@
--- What becomes of two archives that are joined.
+-- What becomes of two archives that are joined. The front of octets is their longest prefix that is an archive.
 use Rattle.std.specs.Prelude.{◌≡◌, ℕ, ◌↔◌, ◌⊎◌, List, ◌++◌}
 use Rattle.archive_text.specs.Entries.{Entry, Has, IsAscending, IsBelow}
 use Rattle.archive_text.specs.Faults.{IsLongestArchive}
@@ -16,13 +16,14 @@ pub record IsUnion (xs ys zs : List Entry) : Type 0 where
   pub right : (e : Entry) → Has ys e → Has zs e
   pub only : (e : Entry) → Has zs e → Has xs e ⊎ Has ys e
 
--- a prefix of the text of the union of the two prefixes
+-- a prefix of the text of the union of the two fronts
 abbrev pub IsPrefixOfUnion : List ℕ → List ℕ → List ℕ → Type 0
 IsPrefixOfUnion x y written =
     (xs ys zs : List Entry) (r s : List ℕ) → IsLongestArchive ENTRY_MAX x xs r → IsLongestArchive ENTRY_MAX y ys s
     → IsUnion xs ys zs → (more : List ℕ) × (text_of zs ≡ written ++ more)
 
--- the text of the members of the two prefixes that are not above the greatest of the first
+-- the text of the members of the two fronts that are not above the greatest of the first; no octets
+-- where the first is empty
 abbrev pub IsUpToFirst : List ℕ → List ℕ → List ℕ → Type 0
 IsUpToFirst x y written =
     (xs ys : List Entry) (r s : List ℕ) → IsLongestArchive ENTRY_MAX x xs r → IsLongestArchive ENTRY_MAX y ys s
@@ -35,7 +36,7 @@ IsFirstWithin x y =
     (xs ys : List Entry) (r s : List ℕ) → IsLongestArchive ENTRY_MAX x xs r → IsLongestArchive ENTRY_MAX y ys s
     → (m : Entry) → Has xs m → IsWithin ys m
 
--- a member of the first front is above all of the second
+-- a member of the first front is above all of the second: the contrary of IsFirstWithin
 abbrev pub IsFirstAbove : List ℕ → List ℕ → Type 0
 IsFirstAbove x y =
     (xs ys : List Entry) (r s : List ℕ) → IsLongestArchive ENTRY_MAX x xs r → IsLongestArchive ENTRY_MAX y ys s
