@@ -6,7 +6,7 @@ use Rattle.octet_language.specs.Language.{Language, ◌⋅◌, AnyOf, IsPrefixFr
 use Rattle.octet_language.specs.Reading.{Fails, Follows}
 use Rattle.octet_language.proofs.Sequence.{IsPrefixFree-then}
 use Rattle.octet_language.proofs.Chain.{Fails-same, Follows-then, IsPrefixFree-same, Behind, further, fails_here, some_value}
-use Rattle.syslog_grammar.specs.Fields.{words_of}
+use Rattle.syslog_grammar.specs.Fields.{before_words, words_of}
 use Rattle.syslog_grammar.specs.Grammar.{HeaderParts, Header, Priority, Version, Word, Spaced, Nilable}
 use Rattle.syslog_grammar.specs.Time.{CivilTime, TimeText}
 use Rattle.syslog_grammar.proofs.Fractions.{AnyTime, nil_time, IsPrefixFree-nilable_time}
@@ -149,3 +149,8 @@ words_read r3 r4 r5 r6 r7 h h3 h4 h5 h6 =
 
 pub time_stands : (b r1 r2 : List ℕ) (v : ℕ) → Follows (Priority v) b r1 → Follows (Spaced Version) r1 r2 → Follows (AnyOf Priority ⋅ Spaced Version) b r2
 time_stands b r1 r2 v h0 h1 = Follows-then (AnyOf Priority) (Spaced Version) b r1 r2 (some_value Priority v b r1 h0) h1
+
+-- what comes before the words
+pub before_read : (b b1 b2 rest : List ℕ) (h : HeaderParts) → Follows (Priority h.priority) b b1 → Follows (Spaced Version) b1 b2 → Follows (Spaced (Nilable TimeText h.time)) b2 rest → Follows (before_words h) b rest
+before_read b b1 b2 rest h p v t =
+    Follows-then (Priority h.priority) (Spaced Version ⋅ Spaced (Nilable TimeText h.time)) b b1 rest p (Follows-then (Spaced Version) (Spaced (Nilable TimeText h.time)) b1 b2 rest v t)

@@ -191,14 +191,14 @@ view_record s es = record { priority = s.priority; time = s.instant; hostname = 
 abbrev pub ViewHeader : ViewParts → Language
 ViewHeader s = HeaderForm s.priority s.instant s.hostname s.app_name s.proc_id s.msg_id
 
-view_is : (s : ViewParts) (p : Parts CivilTime) → HasParts p s → IsById p.elements → IsMeaning p (view_record s p.elements)
-view_is s p h by_id = record { priority = h.priority; time = h.instant; hostname = h.hostname; app_name = h.app_name; proc_id = h.proc_id; msg_id = h.msg_id; elements = IsPermutation-refl p.elements; by_id = by_id; message = h.message }
+view_is : (b : List ℕ) (s : ViewParts) (p : Parts CivilTime) → HasParts b p s → IsById p.elements → IsMeaning p (view_record s p.elements)
+view_is b s p h by_id = record { priority = h.priority; time = h.instant; hostname = h.hostname; app_name = h.app_name; proc_id = h.proc_id; msg_id = h.msg_id; elements = IsPermutation-refl p.elements; by_id = by_id; message = h.message }
 
 pub record_written : (s : ViewParts) (old m1 m2 new : List ℕ) → Adds (ViewHeader s) old m1 → Adds (StructuredDataOf s.elements) m1 m2 → Adds (Only (message_form s.message)) m2 new → (b : List ℕ) → IsViewOf b s → AddsCanonical b old new
 record_written s old m1 m2 new (x, xh, xe) (y, yh, ye) (z, zh, ze) b (p, parse, range, distinct, h) =
     let elements = yh p.elements h.elements in (
       view_record s p.elements,
-      (p, parse, range, distinct, view_is s p h elements.1),
+      (p, parse, range, distinct, view_is b s p h elements.1),
       (x ++ (y ++ z), (x, y ++ z, refl, xh, (y, z, refl, elements.0, zh)), ze ∙ ap (λ (u : List ℕ). u ++ z) (ye ∙ ap (λ (u : List ℕ). u ++ y) xe) ∙ append_assoc (old ++ x) y z ∙ append_assoc old x (y ++ z)),
     )
 

@@ -142,5 +142,6 @@ view_of b s m k e h (es, d, distinct) = (
     elements = d;
     message = refl;
     behind_time = behind_time s k;
+    lies = k.behind;
   },
 )

@@ -4,7 +4,8 @@ use Rattle.octet_language.specs.Language.{Language, ◌⋅◌, AnyOf}
 use Rattle.octet_language.specs.Reading.{Follows}
 use Rattle.syslog_grammar.specs.declared.header.HeaderFields.{HeaderFields}
 use Rattle.syslog_grammar.specs.Dates.{time_of}
-use Rattle.syslog_grammar.specs.Grammar.{HeaderParts, Priority, Spaced, Version, WordFields}
+use Rattle.syslog_grammar.specs.Grammar.{HeaderParts, Nilable, Priority, Spaced, Version, WordFields}
+use Rattle.syslog_grammar.specs.Time.{TimeText}
 
 abbrev pub header_parts : HeaderFields → HeaderParts
 header_parts h = record {
@@ -19,6 +20,10 @@ header_parts h = record {
 -- the texts of the words of a header and their spaces
 abbrev pub words_of : HeaderParts → Language
 words_of h = WordFields h.hostname h.app_name h.proc_id h.msg_id
+
+-- the texts of what comes before the words: PRI, VERSION, the timestamp, and their spaces
+abbrev pub before_words : HeaderParts → Language
+before_words h = Priority h.priority ⋅ Spaced Version ⋅ Spaced (Nilable TimeText h.time)
 
 -- so many octets are left after PRI, VERSION and the space
 abbrev pub TimeStands : List ℕ → ℕ → Type 0

@@ -3,7 +3,7 @@ use Rattle.std.specs.Prelude.{◌≡◌, ◌≢◌, ℕ, ◌-◌, ◌<◌, ◌�
 use Rattle.octet_language.specs.Language.{AnyOf, IfFirst}
 use Rattle.octet_language.specs.Reading.{Follows}
 use Rattle.syslog_grammar.specs.Faults.{FaultOf, times}
-use Rattle.syslog_grammar.specs.Fields.{header_parts, words_of, TimeStands}
+use Rattle.syslog_grammar.specs.Fields.{header_parts, before_words, words_of, TimeStands}
 use Rattle.syslog_grammar.specs.Grammar.{Header, StructuredDataText, MessagePart}
 use Rattle.syslog_grammar.specs.Views.{message_parts}
 use Rattle.syslog_grammar.specs.declared.syntax.Parsed.{Parsed}
@@ -49,6 +49,7 @@ pub record IsParsed (b : List ℕ) (s : Parsed) : Type 0 where
   pub end : List ℕ
   pub fields : Follows (Header (header_parts s.fields)) b rest
   pub time : TimeStands b s.fields.time_remaining
+  pub behind : Follows (before_words (header_parts s.fields)) b s.fields.behind_time.now
   pub words : Follows (words_of (header_parts s.fields)) s.fields.behind_time.now rest
   pub parts : rest ≡ s.structured_data.now ++ end
   pub remaining : length rest ≡ s.structured_data_remaining

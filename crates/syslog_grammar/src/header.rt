@@ -2,7 +2,7 @@
 
 ghost use Rattle.std.specs.Prelude.{IfOk};
 ghost use Rattle.octet_language.specs.Reading.{Follows, Reads};
-ghost use Rattle.syslog_grammar.specs.Fields.{TimeStands, header_parts, words_of};
+ghost use Rattle.syslog_grammar.specs.Fields.{TimeStands, before_words, header_parts, words_of};
 ghost use Rattle.syslog_grammar.specs.Grammar.{Header as HeaderText};
 ghost use Rattle.syslog_grammar.specs.Stops.{remaining_of};
 
@@ -32,6 +32,8 @@ pub fn fields(octets: &[u8]) -> Result<(HeaderFields<'_>, &[u8]), Stop>
     ensures reads { Reads remaining_of HeaderText (λ x. (header_parts x.0, x.1.now))
         octets.now result }
     ensures time { IfOk result (λ x. TimeStands octets.now x.0.time_remaining) }
+    ensures behind { IfOk result (λ x.
+        Follows (before_words (header_parts x.0)) octets.now x.0.behind_time.now) }
     ensures words { IfOk result (λ x.
         Follows (words_of (header_parts x.0)) x.0.behind_time.now x.1.now) }
 {

@@ -15,7 +15,7 @@ pub struct Params<'a> {
 }
 
 impl<'a> Elements<'a> {
-    ghost use Rattle.std.specs.Prelude.{◌≡◌, List};
+    ghost use Rattle.std.specs.Prelude.{◌≡◌, ◌∷◌, ℕ, List};
     ghost use Rattle.octet_language.specs.Language.{Each};
     ghost use Rattle.syslog_value.specs.Parts.{ElementParts};
     ghost use Rattle.syslog_grammar.specs.Grammar.{StructuredDataText, Element};
@@ -23,8 +23,10 @@ impl<'a> Elements<'a> {
 
     /// The elements of a text of structured data.
     pub(crate) fn of_data(structured_data: &'a [u8]) -> Elements<'a>
-        ensures { (es : List ElementParts) → StructuredDataText es structured_data.now
+        ensures elements { (es : List ElementParts) → StructuredDataText es structured_data.now
             → Each Element es (elements_left result) }
+        ensures octets { (text : List ℕ) → structured_data.now ≡ 91 ∷ text
+            → elements_left result ≡ 91 ∷ text }
     {
         match structured_data {
             [b'[', ..] => Elements {

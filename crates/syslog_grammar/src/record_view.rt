@@ -39,7 +39,7 @@ pub struct RecordView<'a> {
 }
 
 impl<'a> RecordView<'a> {
-    ghost use Rattle.std.specs.Prelude.{◌≡◌, ◌↔◌, List, IsTrue};
+    ghost use Rattle.std.specs.Prelude.{◌≡◌, ◌↔◌, ◌∷◌, ℕ, List, IsTrue};
     ghost use Rattle.octet_language.specs.Language.{Each};
     ghost use Rattle.syslog_value.specs.Parts.{ElementParts};
     ghost use Rattle.syslog_grammar.specs.Grammar.{StructuredDataText, Element};
@@ -89,8 +89,10 @@ impl<'a> RecordView<'a> {
 
     /// The elements of the structured data, in the order of the octets.
     pub fn elements(&self) -> Elements<'a>
-        ensures { (es : List ElementParts) → StructuredDataText es (view_parts self.now).elements
+        ensures elements { (es : List ElementParts) → StructuredDataText es (view_parts self.now).elements
             → Each Element es (elements_left result) }
+        ensures octets { (text : List ℕ) → (view_parts self.now).elements ≡ 91 ∷ text
+            → elements_left result ≡ 91 ∷ text }
     {
         Elements::of_data(self.structured_data)
     }

@@ -1,6 +1,6 @@
 use Rattle.std.proofs.lemmas.Result.{err_from_is_err_and}
 use Rattle.syslog_grammar.specs.Fields.{header_parts}
-use Rattle.syslog_grammar.proofs.Headers.{bad_priority, bad_version, bad_time, bad_hostname, bad_app_name, bad_proc_id, bad_msg_id, header_read, time_stands, words_read}
+use Rattle.syslog_grammar.proofs.Headers.{bad_priority, bad_version, bad_time, bad_hostname, bad_app_name, bad_proc_id, bad_msg_id, header_read, time_stands, before_read, words_read}
 use Rattle.std.proofs.Common.{refl}
 use Rattle.syslog_grammar.proofs.header.fields.Goals as goal
 
@@ -53,3 +53,9 @@ returns-clause-words c =
     words_read c.in_ok-time.rest.now c.in_ok-hostname.rest.now c.in_ok-app_name.rest.now c.in_ok-proc_id.rest.now c.in_ok-msg_id.rest.now
     (header_parts record { priority = c.in_ok-priority.priority; time = c.in_ok-time.time; hostname = c.in_ok-hostname.hostname; app_name = c.in_ok-app_name.app_name; proc_id = c.in_ok-proc_id.proc_id; msg_id = c.in_ok-msg_id.msg_id; time_remaining = 0; behind_time = c.in_ok-time.rest })
     c.in_ok-hostname.ensures c.in_ok-app_name.ensures c.in_ok-proc_id.ensures c.in_ok-msg_id.ensures
+
+pub returns-clause-behind : goal.returns-clause-behind
+returns-clause-behind c =
+    before_read c.args.octets.now c.in_ok-priority.rest.now c.in_ok-rest.rest.now c.in_ok-time.rest.now
+    (header_parts record { priority = c.in_ok-priority.priority; time = c.in_ok-time.time; hostname = c.in_ok-hostname.hostname; app_name = c.in_ok-app_name.app_name; proc_id = c.in_ok-proc_id.proc_id; msg_id = c.in_ok-msg_id.msg_id; time_remaining = 0; behind_time = c.in_ok-time.rest })
+    c.in_ok-priority.ensures c.in_ok-rest.ensures c.in_ok-time.ensures
