@@ -1,6 +1,6 @@
 -- A frame is read in one way.
-use Rattle.std.proofs.Common.{◌≡◌, ◌≤◌, ℕ, List, length, inl, inr, refl, sym, ap, ◌∙◌, subst}
-use Rattle.std.specs.Prelude.{ℤ, ◌⊎◌, Some, None}
+use Rattle.std.proofs.Common.{◌≡◌, ◌≤◌, ℕ, List, length, inl, inr, sym, ap, ◌∙◌, subst}
+use Rattle.std.specs.Prelude.{ℤ, Some, None}
 use Rattle.octet_language.specs.Language.{AnyOf}
 use Rattle.syslog_value.specs.Parts.{Parts}
 use Rattle.syslog_grammar.specs.Canonical.{Canonical}
@@ -8,7 +8,7 @@ use Rattle.syslog_grammar.specs.WellFormed.{WellFormed}
 use Rattle.syslog_grammar.proofs.CanonicalParses.{canonical_once}
 use Rattle.syslog_grammar.proofs.Laws.{one_meaning}
 use Rattle.syslog_legacy.specs.NewForm.{HasNewForm}
-use Rattle.syslog_legacy.specs.Readings.{Answer, Legacy, NotUtf8At, ReadAs}
+use Rattle.syslog_legacy.specs.Readings.{Legacy, NotUtf8At, ReadAs}
 use Rattle.syslog_legacy.specs.declared.clock.LegacyClock.{LegacyClock}
 use Rattle.syslog_legacy.proofs.OneAnswer.{legacy_one}
 use Rattle.archive_text.specs.Entries.{Entry, IsEntryOf}

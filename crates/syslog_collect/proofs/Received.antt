@@ -1,6 +1,6 @@
 -- The records of a received set.
-use Rattle.std.proofs.Common.{◌≡◌, ℕ, ◌≤◌, List, [], ◌∷◌, length, inl, inr, refl, sym, ◌∙◌, ap, subst}
-use Rattle.std.specs.Prelude.{◌⊎◌, ◌↔◌, ℤ}
+use Rattle.std.proofs.Common.{ℕ, ◌≤◌, List, [], ◌∷◌, length, inl, inr, refl, sym, subst}
+use Rattle.std.specs.Prelude.{◌↔◌, ℤ}
 use Rattle.syslog_value.specs.Parts.{Parts}
 use Rattle.syslog_frame.specs.declared.limits.TheConstants.{FRAME_MAX}
 use Rattle.archive_text.specs.Entries.{Entry, IsEntryOf}

@@ -1,5 +1,5 @@
 -- The entry of the record that octets spell.
-use Rattle.std.proofs.Common.{◌≡◌, ℕ, ◌<◌, ◌≤◌, List, [], ◌∷◌, ◌++◌, length, refl, sym, ap, ◌∙◌, subst, arith}
+use Rattle.std.proofs.Common.{◌≡◌, ℕ, ◌<◌, ◌≤◌, List, [], ◌∷◌, ◌++◌, length, refl, sym, ◌∙◌, subst, arith}
 use Rattle.std.specs.Prelude.{ℤ, Option, Some, None, pos}
 use Rattle.octet_language.specs.Language.{Language, ◌⋅◌, Only}
 use Rattle.syslog_value.specs.Parts.{Parts}
