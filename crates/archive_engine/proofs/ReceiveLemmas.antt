@@ -1,5 +1,5 @@
 -- What the collector of one input heard and holds.
-use Rattle.std.proofs.Common.{◌≡◌, ℕ, ◌+◌, ◌<◌, inl, inr, List, [], ◌∷◌, ◌++◌, Option, None, Some, length, refl, sym, ap, subst, ◌∙◌, arith}
+use Rattle.std.proofs.Common.{◌≡◌, ℕ, ◌+◌, ◌<◌, inl, inr, List, [], ◌∷◌, ◌++◌, Option, None, Some, length, true, false, cond, eqb, refl, sym, ap, subst, ◌∙◌, arith}
 use Rattle.std.specs.Prelude.{◌↔◌, Ok, Err}
 use Rattle.std.proofs.lemmas.List.{append-nil}
 use Rattle.octet_language.specs.Language.{Begins}
@@ -15,7 +15,7 @@ use Rattle.syslog_collect.specs.Answers.{IfUnreleased, IsEnding, ReportsBadCount
 use Rattle.syslog_collect.specs.Frames.{AreFramesOf, HasFrames, all_of}
 use Rattle.syslog_collect.specs.Headline.{IsSettled}
 use Rattle.syslog_collect.specs.History.{AcceptedEvent, Datagram, History, HoldsBadCount, Opened, Piece, accept, history_of, initial}
-use Rattle.syslog_collect.specs.Logs.{Grows, IsLogOf, LogsOctets, waiting}
+use Rattle.syslog_collect.specs.Logs.{Grows, IsLogOf, LogsOctets, ready_count, waiting}
 use Rattle.syslog_collect.specs.Outcomes.{AreReported, IsOutcome}
 use Rattle.syslog_collect.specs.Runs.{nonempty_piece}
 use Rattle.syslog_collect.specs.Standing.{AreAt, Stands}
@@ -25,6 +25,7 @@ use Rattle.syslog_collect.specs.declared.fault.CollectFault.TheVariants.{Already
 use Rattle.syslog_collect.specs.declared.outcome.Outcome.{Outcome}
 use Rattle.syslog_collect.proofs.Headline.{holds_just}
 use Rattle.syslog_collect.proofs.Steps.{history_after-push}
+use Rattle.syslog_collect.proofs.Waiting.{ready_none}
 use Rattle.frame_engine.specs.Converted.{noted_line}
 use Rattle.frame_engine.specs.Handling.{Done, nothing as none_done}
 use Rattle.frame_engine.specs.Streams.{ReportsEnd}
@@ -65,9 +66,9 @@ none_of (x ∷ xs) e = absurd (omega (arith, e))
 -- where no frame is ready, none waits
 pub none_waits : (cs : List Connection) → IsSettled cs → (d : ℕ) → waiting cs d ≡ 0
 none_waits [] settled d = refl
-none_waits (c ∷ cs) settled d = elim (true_or_false (c.number == d)) [
-  | inl here ↦ ap (λ (b : Bool). cond b (ready_count c.scanner.phase) (waiting cs d)) here ∙ none_ready c.scanner settled.0
-  | inr there ↦ ap (λ (b : Bool). cond b (ready_count c.scanner.phase) (waiting cs d)) there ∙ none_waits cs settled.1 d
+none_waits (c ∷ cs) settled d = elim (eqb c.number d) as (λ b. cond b (ready_count c.scanner.phase) (waiting cs d) ≡ 0) [
+  | true ↦ ready_none c.scanner.phase settled.0
+  | false ↦ none_waits cs settled.1 d
 ]
 
 logs_octets : (kind : Framing) (given octets : List ℕ) (old new : List Entry) (os : List Outcome) (waited : ℕ) → waited ≡ 0 → LogsOctets None (opening kind given) octets waited 0 old new os → LogsPiece kind given octets old new os

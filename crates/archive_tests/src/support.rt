@@ -40,7 +40,7 @@ pub fn text_of<S: Store>(alloc: Global, store: &S) -> Result<Vec<u8>, Fail> {
 
 /// A collector over a store.
 pub fn collector<S: Store + Drop>(alloc: Global, store: S) -> Result<Collector<S>, Fail> {
-    match Collector::new(alloc, store) {
+    match Collector::new(alloc, store, None) {
         Ok(collector) => Ok(collector),
         Err(_) => Err("no memory")?,
     }

@@ -8,7 +8,7 @@ use syslog_value::ToWrite;
 
 /// A collector over a store. Where its memory is refused, the store comes back.
 pub fn collector<S: Store>(alloc: Global, store: S) -> Result<Collector<S>, S> {
-    Collector::new(alloc, store)
+    Collector::new(alloc, store, None)
 }
 
 /// Puts the text of a store in place of what a buffer holds. False where the buffer could not grow.

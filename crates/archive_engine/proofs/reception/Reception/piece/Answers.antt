@@ -1,7 +1,7 @@
 use Rattle.std.proofs.Common.{[]}
 use Rattle.std.proofs.lemmas.Result.{on_ok_weaker}
 use Rattle.archive_engine.proofs.ArchiveLemmas.{both_ok}
-use Rattle.archive_engine.proofs.ReceiveLemmas.{logs_piece, receives_piece}
+use Rattle.archive_engine.proofs.ReceiveLemmas.{logs_piece, none_waits, receives_piece}
 use Rattle.archive_engine.proofs.reception.Reception.piece.Goals as goal
 
 pub returns-clause-receives : goal.returns-clause-receives
@@ -13,5 +13,5 @@ returns-clause-receives g c =
 pub returns-clause-logs : goal.returns-clause-logs
 returns-clause-logs g c =
     on_ok_weaker c.run_event.result
-    (λ logged kind given r. logs_piece _ kind given c.args.octets.now _ _ _ c.requires r.history (logged [] r.events r.stands r.settled))
+    (λ logged kind given r. logs_piece _ kind given c.args.octets.now _ _ _ _ _ c.requires r.history (none_waits _ r.settled 0) (logged [] r.events r.stands r.settled))
     c.run_event.ensures.logged
