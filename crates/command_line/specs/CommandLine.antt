@@ -32,6 +32,25 @@ merge_app =
 abbrev pub migrate_app : App
 migrate_app = with_rule (new_app (codes "migrate")) (required_rule (codes "FILE"))
 
+-- the options of `send` that have a default value
+abbrev pub with_send_defaults : App → App
+with_send_defaults a =
+    with_rule (with_rule (with_rule (with_rule a (default_rule (codes "facility") (codes "user")))
+    (default_rule (codes "severity") (codes "notice"))) (default_rule (codes "up-to") (codes "debug")))
+    (default_rule (codes "framing") (codes "lf"))
+
+-- its options for the words of the header
+abbrev pub with_send_words : App → App
+with_send_words a =
+    with_rule (with_rule (with_rule (with_rule a (option_rule (codes "host"))) (option_rule (codes "app")))
+    (option_rule (codes "proc"))) (option_rule (codes "msgid"))
+
+-- the command that sends one record
+abbrev pub send_app : App
+send_app =
+    with_rule (with_rule (with_send_words (with_send_defaults (new_app (codes "send")))) (option_rule (codes "micros")))
+    (required_rule (codes "TEXT"))
+
 -- the words do not begin with the program's name, and a subcommand is required
 abbrev pub empty_app : App
 empty_app = on_top (λ s. record s { no_binary_name = true; subcommand_required = true }) (new_app (codes "syslogbox"))
@@ -49,4 +68,4 @@ with_archive_commands a =
 
 -- the whole command line
 abbrev pub line_app : App
-line_app = with_archive_commands (with_frame_commands empty_app)
+line_app = with_subcommand (with_archive_commands (with_frame_commands empty_app)) send_app.top

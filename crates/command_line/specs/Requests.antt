@@ -8,6 +8,7 @@ use Rattle.clap.specs.Kinds.{Kinds}
 use Rattle.syslog_frame.specs.declared.framing.Framing.{Framing}
 use Rattle.syslog_frame.specs.declared.framing.Framing.TheVariants.{Counted, Lf}
 use Rattle.command_line.specs.CommandLine.{line_app}
+use Rattle.send_engine.specs.Options.{OptionTexts, texts_of}
 use Rattle.frame_engine.specs.declared.input_framing.InputFraming.{InputFraming}
 use Rattle.frame_engine.specs.declared.input_framing.InputFraming.TheVariants.{Datagram, Stream}
 use Rattle.command_line.specs.declared.request.Request.{Request}
@@ -23,6 +24,7 @@ pub data Asked : Type 0 where
   Archive : InputFraming → Asked
   Merge : Text → Text → Asked
   Migrate : Text → Asked
+  Send : OptionTexts → Asked
 
 -- the request, without where its names lie in memory
 abbrev pub asked_by : Request → Asked
@@ -32,6 +34,7 @@ asked_by (request.Convert input_framing to) = Convert input_framing to
 asked_by (request.Archive input_framing) = Archive input_framing
 asked_by (request.Merge left right) = Merge left.now right.now
 asked_by (request.Migrate file) = Migrate file.now
+asked_by (request.Send options) = Send (texts_of options)
 
 -- the framing with this name
 abbrev pub framing_of : Text → Option Framing
@@ -81,6 +84,23 @@ read_merge rows =
 abbrev pub read_migrate : List Row → Option Asked
 read_migrate rows = option_map (λ file. Migrate file) (first_of (codes "FILE") rows)
 
+-- `send` with the texts of its options
+abbrev pub read_send : List Row → Option Asked
+read_send rows =
+    option_and_then (λ facility. option_and_then (λ severity. option_and_then (λ up_to. option_and_then (λ framing. option_map (λ text. Send record {
+      facility = facility;
+      severity = severity;
+      up_to = up_to;
+      hostname = first_of (codes "host") rows;
+      app_name = first_of (codes "app") rows;
+      proc_id = first_of (codes "proc") rows;
+      msg_id = first_of (codes "msgid") rows;
+      micros = first_of (codes "micros") rows;
+      framing = framing;
+      text = text;
+    }) (first_of (codes "TEXT") rows)) (first_of (codes "framing") rows)) (first_of (codes "up-to") rows))
+    (first_of (codes "severity") rows)) (first_of (codes "facility") rows)
+
 -- the request of a subcommand with the values of its options
 abbrev pub read_of : Text × List Row → Option Asked
 read_of (name, rows) =
@@ -89,7 +109,8 @@ read_of (name, rows) =
     else (if bytes_eq name (codes "show") then read_show rows
     else (if bytes_eq name (codes "archive") then read_archive rows
     else (if bytes_eq name (codes "merge") then read_merge rows
-    else (if bytes_eq name (codes "migrate") then read_migrate rows else None)))))
+    else (if bytes_eq name (codes "migrate") then read_migrate rows
+    else (if bytes_eq name (codes "send") then read_send rows else None))))))
 
 -- the request, where the parse has no fault
 abbrev pub request_of : Kinds → Option (Text × List Row) → Option Asked

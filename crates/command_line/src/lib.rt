@@ -2,6 +2,7 @@
 #![tactic(auto)]
 
 mod request;
+mod send_words;
 mod words;
 
 pub use request::Request;

@@ -1,6 +1,7 @@
 //! The request that a command line makes.
 
 use frame_engine::InputFraming;
+use send_engine::SendOptions;
 use syslog_frame::Framing;
 
 /// What the words of a command line ask for. Names of files are lent by the words.
@@ -31,5 +32,9 @@ pub enum Request<'a> {
     /// `migrate`: the archive that an old one is brought into.
     Migrate {
         file: &'a str,
+    },
+    /// `send`: one record, as a frame.
+    Send {
+        options: SendOptions<'a>,
     },
 }

@@ -13,6 +13,7 @@ ghost use Rattle.command_line.specs.Requests.{own_framing, parsed, read_archive,
 ghost use Rattle.command_line.specs.Requests.{read_merge, read_migrate, read_of, read_show, to_of};
 
 use crate::request::Request;
+use crate::send_words::{read_send_words, send_command};
 use clap::error::ErrorKind;
 use clap::{Arg, ArgMatches, Command};
 use frame_engine::InputFraming;
@@ -41,7 +42,7 @@ impl From<AllocError> for WordsFault {
 }
 
 // An option that takes a value.
-fn option<'a>(alloc: Global, id: &'a str) -> Arg<'a>
+pub(crate) fn option<'a>(alloc: Global, id: &'a str) -> Arg<'a>
     ensures rule { rule_of result ≡ option_rule id.entry.now }
     ensures local { result.global ≡ false }
 {
@@ -49,7 +50,7 @@ fn option<'a>(alloc: Global, id: &'a str) -> Arg<'a>
 }
 
 // An option with its help text.
-fn described<'a>(option: Arg<'a>, help: &'a str) -> Arg<'a>
+pub(crate) fn described<'a>(option: Arg<'a>, help: &'a str) -> Arg<'a>
     ensures rule { rule_of result ≡ rule_of option.entry }
     ensures local { result.global ≡ option.entry.global }
 {
@@ -74,7 +75,7 @@ fn input_option<'a>(alloc: Global) -> Arg<'a>
 }
 
 // A value that has to be given, by its place among the words.
-fn positional<'a>(alloc: Global, id: &'a str, help: &'a str) -> Arg<'a>
+pub(crate) fn positional<'a>(alloc: Global, id: &'a str, help: &'a str) -> Arg<'a>
     ensures rule { rule_of result ≡ required_rule id.entry.now }
     ensures local { result.global ≡ false }
 {
@@ -82,7 +83,7 @@ fn positional<'a>(alloc: Global, id: &'a str, help: &'a str) -> Arg<'a>
 }
 
 // The command with one more argument.
-fn with_arg<'a>(command: Command<'a>, arg: Arg<'a>) -> Result<Command<'a>, AllocError>
+pub(crate) fn with_arg<'a>(command: Command<'a>, arg: Arg<'a>) -> Result<Command<'a>, AllocError>
     requires arg_local { arg.global ≡ false }
     requires local { (fields_of command).has_globals ≡ false }
     ensures app { IfOk result (λ c.
@@ -93,7 +94,7 @@ fn with_arg<'a>(command: Command<'a>, arg: Arg<'a>) -> Result<Command<'a>, Alloc
 }
 
 // A command with its help text.
-fn command<'a>(alloc: Global, name: &'a str, about: &'a str) -> Command<'a>
+pub(crate) fn command<'a>(alloc: Global, name: &'a str, about: &'a str) -> Command<'a>
     ensures app { app_of result ≡ new_app name.entry.now }
     ensures local { (fields_of result).has_globals ≡ false }
 {
@@ -198,10 +199,11 @@ fn whole_line<'a>(alloc: Global) -> Result<Command<'a>, AllocError>
     ensures { IfOk result (λ c. app_of c ≡ line_app) }
 {
     let line = with_frame_commands(alloc, empty_line(alloc))?;
-    with_archive_commands(alloc, line)
+    let line = with_archive_commands(alloc, line)?;
+    with_command(line, send_command(alloc)?)
 }
 
-fn value<'a>(matches: &ArgMatches<'a>, id: &str) -> Option<&'a str>
+pub(crate) fn value<'a>(matches: &ArgMatches<'a>, id: &str) -> Option<&'a str>
     ensures { option_map (λ s. s.now) result ≡ first_of id.now (rows_of (found_of matches.now)) }
 {
     matches.get_str(id)
@@ -310,6 +312,7 @@ fn asked_for<'a>(matches: &ArgMatches<'a>) -> Option<Request<'a>>
         "archive" => read_archive_words(inner),
         "merge" => read_merge_words(inner),
         "migrate" => read_migrate_words(inner),
+        "send" => read_send_words(inner),
         _ => None,
     }
 }
