@@ -7,3 +7,4 @@ pub mod Turns
 pub mod Unions
 pub mod Merges
 pub mod Halts
+pub mod Stops

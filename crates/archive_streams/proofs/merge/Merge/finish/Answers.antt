@@ -1,5 +1,6 @@
-use Rattle.archive_streams.proofs.Halts.{end_halts, stopped_before, stopped_sent, stopped_whole}
+use Rattle.archive_streams.proofs.Halts.{end_halts}
 use Rattle.archive_streams.proofs.Merges.{joined_of}
+use Rattle.archive_streams.proofs.Stops.{stopped_before, stopped_sent, stopped_whole}
 use Rattle.archive_streams.proofs.merge.Merge.finish.Goals as goal
 
 pub returns-in-Ok-clause-joined : goal.returns-in-Ok-clause-joined

@@ -1,6 +1,6 @@
 use Rattle.std.proofs.Common.{rules}
 use Rattle.std.proofs.lemmas.Result.{IfErr-weaker}
-use Rattle.archive_streams.proofs.Halts.{is_not_write, stopped_write}
+use Rattle.archive_streams.proofs.Stops.{is_not_write, stopped_write}
 use Rattle.archive_streams.proofs.Turns.{if_ok_then}
 use Rattle.archive_streams.proofs.merge.Merge.run.Goals as goal
 
