@@ -3,7 +3,6 @@
 use crate::support::{A, ARCHIVE, B, collected};
 use archive_pages::PagedArchive;
 use archive_vec::VecArchive;
-use std::alloc::Global;
 use std::process::Abort;
 use std::test::Fail;
 use syslog_collect::{Event, Outcome, RunEnd};
