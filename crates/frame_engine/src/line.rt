@@ -1,6 +1,6 @@
 //! The lines on frames and streams.
 
-ghost use Rattle.std.specs.Prelude.{◌≡◌, ◌++◌, List, ℕ, OnOk, OnErr, decimal};
+ghost use Rattle.std.specs.Prelude.{◌≡◌, ◌++◌, List, ℕ, OnOk, OnErr, codes, decimal};
 ghost use Rattle.frame_engine.specs.Line.{fault_text, field_name, line_text};
 
 use itoa::Buffer;
@@ -90,6 +90,19 @@ fn append_fault(out: &mut Vec<u8>, fault: Fault) -> Result<(), AllocError>
     }
 }
 
+// Appends the number of a frame, words, a position and a line feed; where memory runs out, possibly
+// a part of it.
+fn append_at(out: &mut Vec<u8>, number: u64, words: &[u8], at: u64) -> Result<(), AllocError>
+    ensures ok { OnOk result (out.new.items
+        ≡ out.old.items ++ decimal number ++ words.now ++ decimal at ++ codes "\n") }
+    ensures err { (part : List ℕ) × (out.new.items ≡ out.old.items ++ part) }
+{
+    put_number(out, number)?;
+    put_text(out, words)?;
+    put_number(out, at)?;
+    put_text(out, b"\n")
+}
+
 // Appends a line; where memory runs out, possibly a part of it.
 fn append_line(out: &mut Vec<u8>, line: Line) -> Result<(), AllocError>
     ensures ok { OnOk result (out.new.items ≡ out.old.items ++ line_text line) }
@@ -107,21 +120,13 @@ fn append_line(out: &mut Vec<u8>, line: Line) -> Result<(), AllocError>
             put_text(out, b"\n")
         }
         Line::LegacyNotUtf8 { number, offset } => {
-            put_number(out, number)?;
-            put_text(out, b" legacy-not-utf8 ")?;
-            put_offset(out, offset)?;
-            put_text(out, b"\n")
+            append_at(out, number, b" legacy-not-utf8 ", offset as u64)
         }
         Line::TooLong { number } => {
             put_number(out, number)?;
             put_text(out, b" too-long\n")
         }
-        Line::BadCount { number, at } => {
-            put_number(out, number)?;
-            put_text(out, b" bad-count ")?;
-            put_number(out, at)?;
-            put_text(out, b"\n")
-        }
+        Line::BadCount { number, at } => append_at(out, number, b" bad-count ", at),
         Line::HasLf { number } => {
             put_number(out, number)?;
             put_text(out, b" has-lf\n")
