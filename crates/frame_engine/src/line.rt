@@ -90,11 +90,20 @@ fn append_fault(out: &mut Vec<u8>, fault: Fault) -> Result<(), AllocError>
     }
 }
 
+// Appends the number of a frame and words; where memory runs out, possibly a part of it.
+fn append_numbered(out: &mut Vec<u8>, number: u64, words: &[u8]) -> Result<(), AllocError>
+    ensures ok { OnOk result (out.new.items ≡ out.old.items ++ (decimal number ++ words.now)) }
+    ensures err { (part : List ℕ) × (out.new.items ≡ out.old.items ++ part) }
+{
+    put_number(out, number)?;
+    put_text(out, words)
+}
+
 // Appends the number of a frame, words, a position and a line feed; where memory runs out, possibly
 // a part of it.
 fn append_at(out: &mut Vec<u8>, number: u64, words: &[u8], at: u64) -> Result<(), AllocError>
     ensures ok { OnOk result (out.new.items
-        ≡ out.old.items ++ decimal number ++ words.now ++ decimal at ++ codes "\n") }
+        ≡ out.old.items ++ (decimal number ++ words.now ++ decimal at ++ codes "\n")) }
     ensures err { (part : List ℕ) × (out.new.items ≡ out.old.items ++ part) }
 {
     put_number(out, number)?;
@@ -109,10 +118,7 @@ fn append_line(out: &mut Vec<u8>, line: Line) -> Result<(), AllocError>
     ensures err { (part : List ℕ) × (out.new.items ≡ out.old.items ++ part) }
 {
     match line {
-        Line::Accepted { number } => {
-            put_number(out, number)?;
-            put_text(out, b" ok\n")
-        }
+        Line::Accepted { number } => append_numbered(out, number, b" ok\n"),
         Line::Refused { number, fault } => {
             put_number(out, number)?;
             put_text(out, b" ")?;
@@ -122,19 +128,10 @@ fn append_line(out: &mut Vec<u8>, line: Line) -> Result<(), AllocError>
         Line::LegacyNotUtf8 { number, offset } => {
             append_at(out, number, b" legacy-not-utf8 ", offset as u64)
         }
-        Line::TooLong { number } => {
-            put_number(out, number)?;
-            put_text(out, b" too-long\n")
-        }
+        Line::TooLong { number } => append_numbered(out, number, b" too-long\n"),
         Line::BadCount { number, at } => append_at(out, number, b" bad-count ", at),
-        Line::HasLf { number } => {
-            put_number(out, number)?;
-            put_text(out, b" has-lf\n")
-        }
-        Line::CanonicalTooLong { number } => {
-            put_number(out, number)?;
-            put_text(out, b" canonical-too-long\n")
-        }
+        Line::HasLf { number } => append_numbered(out, number, b" has-lf\n"),
+        Line::CanonicalTooLong { number } => append_numbered(out, number, b" canonical-too-long\n"),
         Line::Unterminated { start } => {
             put_text(out, b"unterminated ")?;
             put_number(out, start)?;

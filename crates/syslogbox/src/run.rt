@@ -1,6 +1,6 @@
 //! The program over any devices and files.
 
-ghost use Rattle.std.specs.Prelude.{◌≡◌, ◌≢◌, ◌≤◌, ◌<◌, ◌+◌, ◌^◌, ◌⊎◌, List, ℕ, Option, Some, None, IfSome, map, string_bytes};
+ghost use Rattle.std.specs.Prelude.{◌≡◌, ◌≢◌, ◌≤◌, ◌<◌, ◌+◌, ◌^◌, ◌⊎◌, List, ℕ, Option, Some, None, IfSome, map, string_bytes, take};
 ghost use Rattle.syslog_value.specs.Device.{AreSmall};
 ghost use Rattle.syslog_frame.specs.declared.framing.Framing.{Framing};
 ghost use Rattle.frame_engine.specs.Checked.{check_handling, refused_line};
@@ -14,12 +14,19 @@ ghost use Rattle.archive_engine.specs.Migrated.{MigrateDone};
 ghost use Rattle.command_line.specs.Requests.{Asked, parsed};
 ghost use Rattle.command_line.specs.Requests.{Check as check, Show as show, Convert as convert};
 ghost use Rattle.command_line.specs.Requests.{Archive as archive, Merge as merge, Migrate as migrate};
+ghost use Rattle.command_line.specs.Requests.{Send as send};
+ghost use Rattle.frame_engine.specs.Handling.{Done};
+ghost use Rattle.frame_engine.specs.Streams.{status_of};
+ghost use Rattle.send_engine.specs.Options.{NameNothing, OptionTexts};
+ghost use Rattle.send_engine.specs.Sending.{SendDone};
+ghost use Rattle.std.specs.Io.KnownBytes.{Appends};
 ghost use Rattle.syslogbox.specs.Inputs.{ReadsInput};
 
 use crate::files::Files;
 use archive_engine::{archive_input, merge_archives, migrate_archive};
 use command_line::{Request, WordsFault, read_words};
 use frame_engine::{Check, Convert, FAULT, NO_MEMORY, Show, note, scan_input};
+use send_engine::send_text;
 use std::alloc::Global;
 use syslog_value::{Input, Output, READER_CALLS};
 
@@ -133,7 +140,25 @@ pub fn run<R: Input, W: Output, N: Output, F: Files>(
         AnswersWith MigrateDone (octets file) result
         (W.taken writer.old) (W.taken writer.new) (N.taken notes.old) (N.taken notes.new)) }
 
+    // `send`: the frame of the record that the options ask for, unless it is held back or refused
+    ensures sent { (texts : OptionTexts)
+        → parsed (map string_bytes words.now) ≡ Some (send texts)
+        → result < 2 → (d : Done) × SendDone texts d × (result ≡ status_of d)
+        × Appends (W.taken writer.old) (W.taken writer.new) d.output
+        × Appends (N.taken notes.old) (N.taken notes.new) d.notes }
+    ensures send_refused { (texts : OptionTexts)
+        → parsed (map string_bytes words.now) ≡ Some (send texts) → NameNothing texts
+        → (2 ≤ result) × (W.taken writer.new ≡ W.taken writer.old) }
+
     // whatever the status, a prefix of the right output was written
+    ensures check_prefix { (input_framing : InputFraming)
+        → parsed (map string_bytes words.now) ≡ Some (check input_framing) →
+        WritesPrefixOf (InputDone check_handling refused_line input_framing)
+        (R.left reader.old) (W.taken writer.old) (W.taken writer.new) }
+    ensures show_prefix { (input_framing : InputFraming)
+        → parsed (map string_bytes words.now) ≡ Some (show input_framing) →
+        WritesPrefixOf (InputDone show_handling noted_line input_framing)
+        (R.left reader.old) (W.taken writer.old) (W.taken writer.new) }
     ensures convert_prefix { (input_framing : InputFraming) (to : Option Framing)
         → parsed (map string_bytes words.now) ≡ Some (convert input_framing to) →
         WritesPrefixOf (InputDone (convert_handling to) noted_line input_framing)
@@ -146,6 +171,10 @@ pub fn run<R: Input, W: Output, N: Output, F: Files>(
         → parsed (map string_bytes words.now) ≡ Some (migrate file) →
         IfSome (F.stored files.old) (λ octets. WritesPrefixOf MigrateDone (octets file)
         (W.taken writer.old) (W.taken writer.new)) }
+
+    ensures send_prefix { (texts : OptionTexts) (d : Done)
+        → parsed (map string_bytes words.now) ≡ Some (send texts) → SendDone texts d
+        → (n : ℕ) × Appends (W.taken writer.old) (W.taken writer.new) (take n d.output) }
 
     // of a name without a file nothing is written
     ensures merge_unknown { (left right : List ℕ)
@@ -195,6 +224,7 @@ pub fn run<R: Input, W: Output, N: Output, F: Files>(
             merge_files(alloc, left, right, writer, notes, files)
         }
         Ok(Request::Migrate { file }) => migrate_file(alloc, file, writer, notes, files),
+        Ok(Request::Send { options }) => send_text(alloc, &options, writer, notes),
         Err(WordsFault::Usage(text)) => note(notes, text.as_bytes(), FAULT),
         Err(WordsFault::Memory) => note(notes, b"want of memory\n", NO_MEMORY),
     }

@@ -1,5 +1,7 @@
+use Rattle.std.proofs.Common.{ap}
 use Rattle.frame_engine.proofs.ConvertLemmas.{convert_output}
-use Rattle.syslogbox.proofs.RequestLemmas.{same_check, same_convert, same_show}
+use Rattle.frame_engine.proofs.OutputLemmas.{check_output, show_output}
+use Rattle.syslogbox.proofs.RequestLemmas.{same_check, same_convert, same_send, same_show}
 use Rattle.syslogbox.proofs.run.run.Goals as goal
 
 pub returns-in-Ok-Check-clause-checked : goal.returns-in-Ok-Check-clause-checked
@@ -21,3 +23,29 @@ pub returns-in-Ok-Convert-clause-convert_prefix : goal.returns-in-Ok-Convert-cla
 returns-in-Ok-Convert-clause-convert_prefix g c = λ input_framing to h.
     let same = same_convert c.in-Ok-Convert.input_framing input_framing c.in-Ok-Convert.to to c.in-Ok-Convert.field-0 _ c.in-Ok-Convert.field-0-is c.in-Ok-Convert.ensures.ok h in
     rw (same.0, same.1) at (c.scan_input-in-Ok-Convert.ensures.prefix (convert_output c.in-Ok-Convert.to))
+
+pub returns-in-Ok-Check-clause-check_prefix : goal.returns-in-Ok-Check-clause-check_prefix
+returns-in-Ok-Check-clause-check_prefix g c = λ input_framing h.
+    let same = same_check c.in-Ok-Check.input_framing input_framing c.in-Ok-Check.field-0 _ c.in-Ok-Check.field-0-is c.in-Ok-Check.ensures.ok h in
+    rw same at (c.scan_input.ensures.prefix check_output)
+
+pub returns-in-Ok-Show-clause-show_prefix : goal.returns-in-Ok-Show-clause-show_prefix
+returns-in-Ok-Show-clause-show_prefix g c = λ input_framing h.
+    let same = same_show c.in-Ok-Show.input_framing input_framing c.in-Ok-Show.field-0 _ c.in-Ok-Show.field-0-is c.in-Ok-Show.ensures.ok h in
+    rw same at (c.scan_input-in-Ok-Show.ensures.prefix show_output)
+
+pub returns-in-Ok-Send-clause-sent : goal.returns-in-Ok-Send-clause-sent
+returns-in-Ok-Send-clause-sent g c = λ texts h few.
+    let same = same_send c.in-Ok-Send.options texts c.in-Ok-Send.field-0 _ c.in-Ok-Send.field-0-is c.in-Ok-Send.ensures.ok h in
+    rw same at (c.send_text.ensures.answer few)
+
+pub returns-in-Ok-Send-clause-send_prefix : goal.returns-in-Ok-Send-clause-send_prefix
+returns-in-Ok-Send-clause-send_prefix g c = λ texts d h done.
+    let same = same_send c.in-Ok-Send.options texts c.in-Ok-Send.field-0 _ c.in-Ok-Send.field-0-is c.in-Ok-Send.ensures.ok h in
+    c.send_text.ensures.prefix d (rw same done)
+
+pub returns-in-Ok-Send-clause-send_refused : goal.returns-in-Ok-Send-clause-send_refused
+returns-in-Ok-Send-clause-send_refused g c = λ texts h none.
+    let same = same_send c.in-Ok-Send.options texts c.in-Ok-Send.field-0 _ c.in-Ok-Send.field-0-is c.in-Ok-Send.ensures.ok h in
+    let refused = c.send_text.ensures.refused (rw same none) in
+    (refused.0, ap (λ w. g.W.Output.taken w) refused.1)
