@@ -4,4 +4,6 @@
 #[cfg(test)]
 mod canonical;
 #[cfg(test)]
+mod example;
+#[cfg(test)]
 mod reading;
