@@ -7,6 +7,7 @@ PROGRAM is syslogbox, TRIALS the program of trials of the libraries. Prints each
 """
 import os
 import re
+import select
 import shutil
 import subprocess
 import sys
@@ -365,6 +366,19 @@ def streams(program, results, count=400):
     results.check("each changed stream is converted as by the second reader", good["convert"] == count, str(good))
 
 
+def live(program, results):
+    """A line that goes in is answered while the input stays open."""
+    process = subprocess.Popen([program, "check", "--framing", "lf"], stdin=subprocess.PIPE, stdout=subprocess.PIPE)
+    for number in range(1, 4):
+        process.stdin.write(b"<0>1 - - - - - -\n")
+        process.stdin.flush()
+        ready, _, _ = select.select([process.stdout], [], [], 10)
+        answer = os.read(process.stdout.fileno(), 100) if ready else b""
+        results.check(f"live: line {number}", answer == b"%d ok\n" % number, repr(answer))
+    process.stdin.close()
+    results.check("live: the end", process.wait() == 0 and process.stdout.read() == b"", "")
+
+
 def main():
     program = str(Path(sys.argv[1]).resolve())
     trial = str(Path(sys.argv[2]).resolve())
@@ -381,6 +395,7 @@ def main():
         calls(program, results, shim, f"{folder}/counts")
         pieces(program, results, shim, f"{folder}/counts")
         many_ids(program, results)
+        live(program, results)
         trials(trial, results, shim, f"{folder}/counts")
         archives(run, counts, is_refused, results, program, shim, folder, mutations(5_000))
         library.library(run, counts, trial, results, shim, f"{folder}/counts")

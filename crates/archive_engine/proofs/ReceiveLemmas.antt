@@ -17,7 +17,7 @@ use Rattle.syslog_collect.specs.Headline.{IsSettled}
 use Rattle.syslog_collect.specs.History.{AcceptedEvent, Datagram, History, HoldsBadCount, Opened, Piece, accept, history_of, initial}
 use Rattle.syslog_collect.specs.Logs.{Grows, IsLogOf, LogsOctets, ready_count, waiting}
 use Rattle.syslog_collect.specs.Outcomes.{AreReported, IsOutcome}
-use Rattle.syslog_collect.specs.Runs.{nonempty_piece}
+use Rattle.syslog_collect.specs.Readings.{Clock}
 use Rattle.syslog_collect.specs.Standing.{AreAt, Stands}
 use Rattle.syslog_collect.specs.declared.connection.Connection.{Connection}
 use Rattle.syslog_collect.specs.declared.fault.CollectFault.{CollectFault}
@@ -35,6 +35,10 @@ use Rattle.frame_engine.specs.declared.line.Line.TheVariants.{Unterminated as Un
 use Rattle.archive_engine.specs.Archived.{AreFramesIn, IsReceivedIn}
 use Rattle.archive_engine.specs.Receiving.{LogsPiece, Receives, StopsAt, heard, opening}
 
+-- what holds without a clock holds under a clock that is none
+pub under : (k : Clock) (cs : List Connection) (kept first : List Entry) (es : List AcceptedEvent) → k ≡ None → Stands None cs kept first es → Stands k cs kept first es
+under k cs kept first es none h = subst (λ (x : Clock). Stands x cs kept first es) (sym none) h
+
 -- ---- what was heard
 
 pub receives_datagram : (cs : List Connection) (kept : List Entry) (octets : List ℕ) → Stands None cs kept [] (Datagram octets ∷ []) → IsSettled cs → Receives cs kept input.Datagram octets
@@ -43,16 +47,11 @@ receives_datagram cs kept octets stands settled = record { events = Datagram oct
 pub receives_opening : (cs : List Connection) (kept : List Entry) (kind : Framing) → Stands None cs kept [] (Opened 0 kind ∷ []) → IsSettled cs → Receives cs kept (input.Stream kind) []
 receives_opening cs kept kind stands settled = record { events = Opened 0 kind ∷ []; stands = stands; settled = settled; history = refl }
 
--- some octets are an event
-told_some : (octets : List ℕ) → 0 < length octets → nonempty_piece 0 octets ≡ Piece 0 octets ∷ []
-told_some [] h = absurd (omega (arith, h))
-told_some (x ∷ octets) h = refl
-
-pub receives_piece : (cs ds : List Connection) (kept now : List Entry) (kind : Framing) (given octets : List ℕ) → 0 < length octets → (r : Receives cs kept (input.Stream kind) given)
-    → Stands None ds now [] (r.events ++ nonempty_piece 0 octets) → IsSettled ds → Receives ds now (input.Stream kind) (given ++ octets)
-receives_piece cs ds kept now kind given octets some r stands settled = record {
+pub receives_piece : (cs ds : List Connection) (kept now : List Entry) (kind : Framing) (given octets : List ℕ) → (r : Receives cs kept (input.Stream kind) given)
+    → Stands None ds now [] (r.events ++ Piece 0 octets ∷ []) → IsSettled ds → Receives ds now (input.Stream kind) (given ++ octets)
+receives_piece cs ds kept now kind given octets r stands settled = record {
   events = r.events ++ Piece 0 octets ∷ [];
-  stands = subst (λ (es : List AcceptedEvent). Stands None ds now [] (r.events ++ es)) (told_some octets some) stands;
+  stands = stands;
   settled = settled;
   history = history_after-push initial r.events (Piece 0 octets) ∙ ap (λ (h : History). accept h (Piece 0 octets)) r.history;
 }
@@ -94,16 +93,16 @@ logs_here kind given octets w v old new os zero (here, later, between, parts, lo
     let all : here ≡ os = sym (parts ∙ ap (λ (xs : List Outcome). here ++ xs) none ∙ append-nil here) in
     subst (λ (es : List Entry). LogsPiece kind given octets old es os) (sym same) (subst (LogsPiece kind given octets old between) all (logs_octets kind given octets old between here (w 0) zero logged))
 
-pub logs_piece : (h : History) (kind : Framing) (given octets : List ℕ) (w v : ℕ → ℕ) (old new : List Entry) (os : List Outcome) → 0 < length octets → h ≡ heard (input.Stream kind) given
-    → w 0 ≡ 0 → IsLogOf None h w (nonempty_piece 0 octets) v old new os → LogsPiece kind given octets old new os
-logs_piece h kind given octets w v old new os some is zero logged =
-    logs_here kind given octets w v old new os zero (subst (λ (x : History). IsLogOf None x w (Piece 0 octets ∷ []) v old new os) is (subst (λ (es : List AcceptedEvent). IsLogOf None h w es v old new os) (told_some octets some) logged))
+pub logs_piece : (h : History) (kind : Framing) (given octets : List ℕ) (w v : ℕ → ℕ) (old new : List Entry) (os : List Outcome) → h ≡ heard (input.Stream kind) given
+    → w 0 ≡ 0 → IsLogOf None h w (Piece 0 octets ∷ []) v old new os → LogsPiece kind given octets old new os
+logs_piece h kind given octets w v old new os is zero logged =
+    logs_here kind given octets w v old new os zero (subst (λ (x : History). IsLogOf None x w (Piece 0 octets ∷ []) v old new os) is logged)
 
 -- the log of a run that began with none
-pub log_only : (h : History) (w v : ℕ → ℕ) (es fs : List AcceptedEvent) (a b : List Entry) (l m : List Outcome) → l ≡ [] → fs ≡ es → Grows (IsLogOf None h w fs v a b) l m → IsLogOf None h w es v a b m
-log_only h w v es fs a b l m none same (os, grown, logged) =
+pub log_only : (h : History) (w v : ℕ → ℕ) (es : List AcceptedEvent) (a b : List Entry) (l m : List Outcome) → l ≡ [] → Grows (IsLogOf None h w es v a b) l m → IsLogOf None h w es v a b m
+log_only h w v es a b l m none (os, grown, logged) =
     let all : os ≡ m = sym (grown ∙ ap (λ (xs : List Outcome). xs ++ os) none) in
-    subst (λ (x : List AcceptedEvent). IsLogOf None h w x v a b m) same (subst (IsLogOf None h w fs v a b) all logged)
+    subst (IsLogOf None h w es v a b) all logged
 
 pub logs_datagram : (octets : List ℕ) (w v : ℕ → ℕ) (old new : List Entry) (os : List Outcome) → IsLogOf None initial w (Datagram octets ∷ []) v old new os → (x : Outcome) × (os ≡ x ∷ []) × IsOutcome None old new octets x
 logs_datagram octets w v old new os (here, later, between, parts, (x, one, out), (none, same, waits)) =

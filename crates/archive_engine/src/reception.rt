@@ -50,14 +50,14 @@ impl<S: Store + Drop> Reception<S> {
         ensures stands { OnOk result ((first : List Entry) (before : List AcceptedEvent)
             → Stands None self.old.collector.connections.items (S.entries self.old.collector.store) first before
             → Stands None self.new.collector.connections.items (S.entries self.new.collector.store) first
-            (before ++ accepted_event event.entry)) }
+            (before ++ accepted_event event.entry ∷ [])) }
         ensures settled { OnOk result (IsSettled self.old.collector.connections.items
             → IsSettled self.new.collector.connections.items) }
         ensures logged { OnOk result ((first : List Entry) (before : List AcceptedEvent)
             → Stands None self.old.collector.connections.items (S.entries self.old.collector.store) first before
             → IsSettled self.old.collector.connections.items
             → IsLogOf None (history_of before) (waiting self.old.collector.connections.items)
-            (accepted_event event.entry) (waiting self.new.collector.connections.items)
+            (accepted_event event.entry ∷ []) (waiting self.new.collector.connections.items)
             (S.entries self.old.collector.store) (S.entries self.new.collector.store)
             self.new.outcomes.items) }
     {

@@ -1,8 +1,6 @@
-use Rattle.std.proofs.Common.{List, ℕ, None, ◌++◌, subst, sym, ◌∙◌}
-use Rattle.std.proofs.lemmas.List.{append-nil}
-use Rattle.archive_text.specs.Entries.{Entry}
+use Rattle.std.proofs.Common.{List, None, ◌∷◌, ◌++◌, [], subst, sym, ◌∙◌}
 use Rattle.syslog_collect.specs.History.{AcceptedEvent, history_of}
-use Rattle.syslog_collect.specs.Logs.{Grows, LogsRun, waiting}
+use Rattle.syslog_collect.specs.Logs.{Grows, IsLogOf, waiting}
 use Rattle.syslog_collect.specs.Readings.{Clock}
 use Rattle.syslog_collect.specs.Runs.{accepted_event}
 use Rattle.syslog_collect.specs.Standing.{Stands}
@@ -10,7 +8,13 @@ use Rattle.archive_engine.proofs.ReceiveLemmas.{log_only}
 use Rattle.archive_engine.proofs.reception.Reception.run_event.Goals as goal
 
 pub returns-in-Done-clause-stands : goal.returns-in-Done-clause-stands
-returns-in-Done-clause-stands g c = ?
+returns-in-Done-clause-stands g c = λ first before was.
+    let plain = c.args.self.now.plain in
+    let here = c.in-Done.ensures.stands first before (subst (λ (k : Clock). Stands k c.args.self.now.collector.connections.items (g.S.Store.entries c.args.self.now.collector.store) first before) (sym plain) was) in
+    subst (λ (k : Clock). Stands k c.run.new.self.connections.items (g.S.Store.entries c.run.new.self.store) first (before ++ accepted_event c.args.event ∷ [])) (c.in-Done.ensures.clock ∙ plain) here
 
 pub returns-in-Done-clause-logged : goal.returns-in-Done-clause-logged
-returns-in-Done-clause-logged g c = ?
+returns-in-Done-clause-logged g c = λ first before was settled.
+    let plain = c.args.self.now.plain in
+    let here = c.in-Done.ensures.logged first before (subst (λ (k : Clock). Stands k c.args.self.now.collector.connections.items (g.S.Store.entries c.args.self.now.collector.store) first before) (sym plain) was) in
+    log_only (history_of before) (waiting c.args.self.now.collector.connections.items) (waiting c.run.new.self.connections.items) (accepted_event c.args.event ∷ []) (g.S.Store.entries c.args.self.now.collector.store) (g.S.Store.entries c.run.new.self.store) _ _ c.clear.ensures.items (rw plain at here)
