@@ -1,4 +1,6 @@
-use Rattle.std.proofs.Common.{ap}
+use Rattle.std.proofs.Common.{ap, subst, sym}
+use Rattle.send_engine.specs.Options.{NameNothing, OptionTexts}
+use Rattle.send_engine.specs.Sending.{SendDone}
 use Rattle.frame_engine.proofs.ConvertLemmas.{convert_output}
 use Rattle.frame_engine.proofs.OutputLemmas.{check_output, show_output}
 use Rattle.syslogbox.proofs.RequestLemmas.{same_check, same_convert, same_send, same_show}
@@ -37,15 +39,16 @@ returns-in-Ok-Show-clause-show_prefix g c = λ input_framing h.
 pub returns-in-Ok-Send-clause-sent : goal.returns-in-Ok-Send-clause-sent
 returns-in-Ok-Send-clause-sent g c = λ texts h few.
     let same = same_send c.in-Ok-Send.options texts c.in-Ok-Send.field-0 _ c.in-Ok-Send.field-0-is c.in-Ok-Send.ensures.ok h in
-    rw same at (c.send_text.ensures.answer few)
+    let (d, done, status, taken, noted) = c.send_text.ensures.answer few in
+    (d, subst (λ (t : OptionTexts). SendDone t d) same done, status, taken, noted)
 
 pub returns-in-Ok-Send-clause-send_prefix : goal.returns-in-Ok-Send-clause-send_prefix
 returns-in-Ok-Send-clause-send_prefix g c = λ texts d h done.
     let same = same_send c.in-Ok-Send.options texts c.in-Ok-Send.field-0 _ c.in-Ok-Send.field-0-is c.in-Ok-Send.ensures.ok h in
-    c.send_text.ensures.prefix d (rw same done)
+    c.send_text.ensures.prefix d (subst (λ (t : OptionTexts). SendDone t d) (sym same) done)
 
 pub returns-in-Ok-Send-clause-send_refused : goal.returns-in-Ok-Send-clause-send_refused
 returns-in-Ok-Send-clause-send_refused g c = λ texts h none.
     let same = same_send c.in-Ok-Send.options texts c.in-Ok-Send.field-0 _ c.in-Ok-Send.field-0-is c.in-Ok-Send.ensures.ok h in
-    let refused = c.send_text.ensures.refused (rw same none) in
+    let refused = c.send_text.ensures.refused (subst NameNothing (sym same) none) in
     (refused.0, ap (λ w. g.W.Output.taken w) refused.1)
