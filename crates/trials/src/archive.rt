@@ -69,7 +69,8 @@ impl<'a, P: Print, S: Store> Trial<'a, P, S> {
     fn add_many(&mut self) -> io::Result<()> {
         let name = self.name;
         let mut octets = Vec::with_capacity(self.alloc, 64)?;
-        let mut note = "";
+        let mut refused = false;
+        let mut kept = true;
         for number in 0..600_u32 {
             octets.clear();
             let number = 1000 + number * 7 % 600;
@@ -79,11 +80,17 @@ impl<'a, P: Print, S: Store> Trial<'a, P, S> {
             };
             self.room.keep(&self.store);
             if let Err(AddFault::Memory) = self.store.add_view(self.alloc, &shown) {
-                note = self.room.left(&self.store);
+                refused = true;
+                kept &= self.room.is_kept(&self.store);
                 let _ = self.store.add_view(self.alloc, &shown);
             }
         }
         let count = self.store.len();
+        let note = match (refused, kept) {
+            (false, _) => "",
+            (true, true) => "memory, unchanged; ",
+            (true, false) => "memory, changed; ",
+        };
         println!(self.rt; "{name} add_view of many: {note}{count} records")
     }
 

@@ -29,9 +29,14 @@ impl Room {
         let _ = put_text(self.alloc, store, &mut self.before);
     }
 
+    /// Whether the store is as it was kept.
+    pub fn is_kept<S: Store>(&mut self, store: &S) -> bool {
+        put_text(self.alloc, store, &mut self.after) && self.after == self.before
+    }
+
     /// What is told of a call that answered want of memory: whether the store is as it was kept.
     pub fn left<S: Store>(&mut self, store: &S) -> &'static str {
-        if put_text(self.alloc, store, &mut self.after) && self.after == self.before {
+        if self.is_kept(store) {
             "memory, unchanged; "
         } else {
             "memory, changed; "
