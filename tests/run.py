@@ -20,6 +20,7 @@ import library
 import reference
 from archives import archives
 from rows import ELEMENTS, EXAMPLE, HELLO, MARK, RECORDS, REFUSED, STREAMS, WORDS
+from sending import sending
 
 HERE = Path(__file__).resolve().parent
 MANUAL = HERE.parent / "man/syslogbox.1"
@@ -396,6 +397,7 @@ def main():
         pieces(program, results, shim, f"{folder}/counts")
         many_ids(program, results)
         live(program, results)
+        sending(run, results, program, shim, f"{folder}/counts")
         trials(trial, results, shim, f"{folder}/counts")
         archives(run, counts, is_refused, results, program, shim, folder, mutations(5_000))
         library.library(run, counts, trial, results, shim, f"{folder}/counts")

@@ -13,12 +13,7 @@ use send_engine::SendOptions;
 use std::alloc::{AllocError, Global};
 
 // An option that takes a value, and has this one by default.
-fn default_option<'a>(
-    alloc: Global,
-    id: &'a str,
-    default: &'a str,
-    help: &'a str,
-) -> Arg<'a>
+fn default_option<'a>(alloc: Global, id: &'a str, default: &'a str, help: &'a str) -> Arg<'a>
     ensures rule { rule_of result ≡ default_rule id.entry.now default.entry.now }
     ensures local { result.global ≡ false }
 {

@@ -214,8 +214,8 @@ same_record : (t : OptionTexts) (v : OptionValues) (x : Values) (m : MessagePart
 unfolding parts
 same_record t v x m h =
     let priority : own_priority x.sender.facility (severity_code x.severity) ≡ facility_code (own_facility v.facility) * 8 + severity_code v.severity =
-      own_code x.sender.facility x.severity
-      ∙ ap₂ (λ (f : Facility) (s : Severity). facility_code f * 8 + severity_code s) h.sender.facility_is h.severity in
+    own_code x.sender.facility x.severity
+    ∙ ap₂ (λ (f : Facility) (s : Severity). facility_code f * 8 + severity_code s) h.sender.facility_is h.severity in
     same_parts _ _ _ _ _ _ _ _ _ _ _ _ m priority h.instant h.sender.hostname h.sender.app_name h.sender.proc_id h.msg_id
 
 -- whether the values are let through, by the texts
@@ -234,8 +234,18 @@ pub answered : (t : OptionTexts) (v : OptionValues) (x : Values) (m : MessagePar
     → (d : Done) × SendDone t d × (status ≡ status_of d) × Appends old new d.output × Appends before noted d.notes
 answered t v x m (Ok true) old new before noted status h (l, (octets, canonical, (frame, taken))) (zero, same) = (
   goes_out (framed x.framing octets),
-  (v, h.named, inr ((through t v x h.made).0 l, m, h.message, octets, subst (λ (r : Parts ℤ). Canonical r octets) (same_record t v x m h.made) canonical,
-   inl (subst (λ (k : Framing). IsFrame k octets) h.made.framing frame, ap (λ (k : Framing). goes_out (framed k octets)) h.made.framing))),
+  (
+    v,
+    h.named,
+    inr (
+      (through t v x h.made).0 l,
+      m,
+      h.message,
+      octets,
+      subst (λ (r : Parts ℤ). Canonical r octets) (same_record t v x m h.made) canonical,
+      inl (subst (λ (k : Framing). IsFrame k octets) h.made.framing frame, ap (λ (k : Framing). goes_out (framed k octets)) h.made.framing),
+    ),
+  ),
   zero,
   taken,
   subst (λ (s : Option (List ℕ)). Appends before s []) (sym same) (Appends-nil before),
@@ -249,16 +259,36 @@ answered t v x m (Ok false) old new before noted status h (l, kept) (zero, same)
 )
 answered t v x m (Err fault.HasLf) old new before noted status h (l, (octets, canonical, (kind, no_line)), kept) (one, said) = (
   refusal (codes "has-lf\n"),
-  (v, h.named, inr ((through t v x h.made).0 l, m, h.message, octets, subst (λ (r : Parts ℤ). Canonical r octets) (same_record t v x m h.made) canonical,
-   inr (inl (not_carried v.framing octets (sym h.made.framing ∙ kind) no_line, refl)))),
+  (
+    v,
+    h.named,
+    inr (
+      (through t v x h.made).0 l,
+      m,
+      h.message,
+      octets,
+      subst (λ (r : Parts ℤ). Canonical r octets) (same_record t v x m h.made) canonical,
+      inr (inl (not_carried v.framing octets (sym h.made.framing ∙ kind) no_line, refl)),
+    ),
+  ),
   one,
   subst (λ (s : Option (List ℕ)). Appends old s []) (sym (kept (λ w. w))) (Appends-nil old),
   said,
 )
 answered t v x m (Err fault.TooLong) old new before noted status h (l, (octets, canonical, (carried, long)), kept) (one, said) = (
   refusal (codes "canonical-too-long\n"),
-  (v, h.named, inr ((through t v x h.made).0 l, m, h.message, octets, subst (λ (r : Parts ℤ). Canonical r octets) (same_record t v x m h.made) canonical,
-   inr (inr (subst (λ (k : Framing). Carries k octets) h.made.framing carried, long, refl)))),
+  (
+    v,
+    h.named,
+    inr (
+      (through t v x h.made).0 l,
+      m,
+      h.message,
+      octets,
+      subst (λ (r : Parts ℤ). Canonical r octets) (same_record t v x m h.made) canonical,
+      inr (inr (subst (λ (k : Framing). Carries k octets) h.made.framing carried, long, refl)),
+    ),
+  ),
   one,
   subst (λ (s : Option (List ℕ)). Appends old s []) (sym (kept (λ w. w))) (Appends-nil old),
   said,

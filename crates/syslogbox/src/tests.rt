@@ -1,7 +1,9 @@
 //! Runs over devices in memory.
 
+mod archives;
 mod devices;
 mod rows;
+mod sending;
 mod streams;
 
 use super::memory::{MemoryFile, MemoryFiles};
@@ -21,6 +23,19 @@ struct Ran {
 }
 
 fn run_over(rt: &HostRuntime, words: &[&str], input: &[u8]) -> Result<Ran, Fail> {
+    let other = MemoryFile {
+        name: "other",
+        octets: input,
+    };
+    run_with(rt, words, input, &[other])
+}
+
+fn run_with(
+    rt: &HostRuntime,
+    words: &[&str],
+    input: &[u8],
+    files: &[MemoryFile<'_>],
+) -> Result<Ran, Fail> {
     let alloc = rt.alloc();
     let mut owned = Vec::new(alloc);
     for word in words {
@@ -29,8 +44,7 @@ fn run_over(rt: &HostRuntime, words: &[&str], input: &[u8]) -> Result<Ran, Fail>
     let mut reader = FromRead::new(input);
     let mut writer = ToWrite::new(Vec::new(alloc));
     let mut notes = ToWrite::new(Vec::new(alloc));
-    let files: [MemoryFile<'static>; 0] = [];
-    let mut files = MemoryFiles::new(&files);
+    let mut files = MemoryFiles::new(files);
     let status = run(
         alloc,
         owned.as_slice(),
@@ -65,7 +79,7 @@ fn a_datagram_may_have_65_535_octets(rt: HostRuntime) -> Result<(), Fail> {
 
 #[test]
 fn other_words_are_a_usage_fault(rt: HostRuntime) -> Result<(), Fail> {
-    let rows: [&[&str]; 11] = [
+    let rows: [&[&str]; 16] = [
         &[],
         &["--help"],
         &["help"],
@@ -77,6 +91,11 @@ fn other_words_are_a_usage_fault(rt: HostRuntime) -> Result<(), Fail> {
         &["check", "--to", "lf"],
         &["show", "--framing", ""],
         &["show", "--framing"],
+        &["archive", "--to", "lf"],
+        &["archive", "a"],
+        &["merge", "a"],
+        &["merge", "a", "b", "c"],
+        &["migrate"],
     ];
     for words in rows {
         let ran = run_over(&rt, words, HELLO)?;

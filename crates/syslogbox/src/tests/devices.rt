@@ -51,7 +51,7 @@ fn run_on_fuses(
 #[test]
 fn a_device_that_fails_is_reported(rt: HostRuntime) -> Result<(), Fail> {
     let most = u64::MAX;
-    let rows: [Row<'_>; 11] = [
+    let rows: [Row<'_>; 15] = [
         // the first or the second read fails, before any octet is written
         (&["convert"], HELLO, (0, most, most), b"", b"read fault\n"),
         (&["convert"], HELLO, (1, most, most), b"", b"read fault\n"),
@@ -84,6 +84,29 @@ fn a_device_that_fails_is_reported(rt: HostRuntime) -> Result<(), Fail> {
             b"<0>1 - - - - - -\n<1>1 - - - - - -\n",
             b"2 syntax priority 0\nread fault\n",
         ),
+        // an archive: lines met before are written before that on the fault, and no archive
+        (
+            &["archive", "--framing", "lf"],
+            STREAM,
+            (1, most, most),
+            b"",
+            b"2 syntax priority 0\nread fault\n",
+        ),
+        (
+            &["archive", "--framing", "lf"],
+            STREAM,
+            (most, 5, most),
+            b"16 <0",
+            b"2 syntax priority 0\nwrite fault\n",
+        ),
+        (
+            &["archive", "--framing", "lf"],
+            STREAM,
+            (most, most, 0),
+            b"",
+            b"",
+        ),
+        (&["archive"], HELLO, (0, most, most), b"", b"read fault\n"),
         // records are written though the lines on others cannot be
         (
             &["convert", "--framing", "lf"],

@@ -12,6 +12,6 @@ pub returns-then-not-is_canon_unsorted-clause-fault : goal.returns-then-not-is_c
 returns-then-not-is_canon_unsorted-clause-fault c = (
   c.in-Ok.ensures.some,
   λ e (r, is) same.
-    let never : false ≡ true = sym c.if-not-is_canon_unsorted.true ∙ c.is_canon_unsorted.ensures.1 (r, is.valid, subst (Canonical r) same is.canonical) in
-    absurd cc,
+      let never : false ≡ true = sym c.if-not-is_canon_unsorted.true ∙ c.is_canon_unsorted.ensures.1 (r, is.valid, subst (Canonical r) same is.canonical) in
+      absurd cc,
 )

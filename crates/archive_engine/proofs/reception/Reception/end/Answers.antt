@@ -1,4 +1,3 @@
-
 use Rattle.archive_engine.proofs.ReceiveLemmas.{ends_so, stops_inside, stops_whole, under}
 use Rattle.archive_engine.proofs.reception.Reception.end.Goals as goal
 
