@@ -17,7 +17,7 @@ use Rattle.syslog_collect.specs.Headline.{IsSettled}
 use Rattle.syslog_collect.specs.History.{AcceptedEvent, Datagram, History, HoldsBadCount, Opened, Piece, accept, history_of, initial}
 use Rattle.syslog_collect.specs.Logs.{Grows, IsLogOf, LogsOctets, ready_count, waiting}
 use Rattle.syslog_collect.specs.Outcomes.{AreReported, IsOutcome}
-use Rattle.syslog_collect.specs.Readings.{Clock}
+use Rattle.syslog_legacy.specs.FrameReadings.{Clock}
 use Rattle.syslog_collect.specs.Standing.{AreAt, Stands}
 use Rattle.syslog_collect.specs.declared.connection.Connection.{Connection}
 use Rattle.syslog_collect.specs.declared.fault.CollectFault.{CollectFault}

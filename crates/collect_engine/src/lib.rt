@@ -4,11 +4,13 @@
 //! came. [`ListSource`] is one in memory.
 #![tactic(auto)]
 
+mod collect_words;
 mod counts;
 mod list_source;
 mod source;
 mod step;
 
+pub use collect_words::{CollectWords, Transport};
 pub use list_source::ListSource;
 pub use source::Source;
 pub use step::Step;

@@ -20,7 +20,7 @@ use Rattle.syslog_frame.proofs.FrameLaws.{unique_frames}
 use Rattle.syslog_frame.proofs.Reading.{frames_read, frames_with}
 use Rattle.syslog_frame.proofs.Standing.{whole_ended}
 use Rattle.archive_text.specs.Entries.{Entry}
-use Rattle.syslog_collect.specs.Readings.{Clock}
+use Rattle.syslog_legacy.specs.FrameReadings.{Clock}
 use Rattle.syslog_collect.specs.declared.connection.Connection.{Connection}
 use Rattle.syslog_collect.specs.declared.outcome.Outcome.{Outcome}
 use Rattle.syslog_collect.specs.declared.outcome.Outcome.TheVariants.{New, Held, Refused, RefusedLegacy, TooLong, BadCount}

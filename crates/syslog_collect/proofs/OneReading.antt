@@ -17,7 +17,7 @@ use Rattle.archive_text.specs.Stores.{AddsRecord}
 use Rattle.archive_text.specs.declared.store.Added.{Added}
 use Rattle.archive_text.specs.declared.store.Added.TheVariants as added
 use Rattle.syslog_collect.specs.Outcomes.{AddsFrame, IsOutcome, IsRecordFrame, added_outcome}
-use Rattle.syslog_collect.specs.Readings.{Clock, IsLegacy, IsNotUtf8At, IsReadAs}
+use Rattle.syslog_legacy.specs.FrameReadings.{Clock, IsLegacy, IsNotUtf8At, IsReadAs}
 use Rattle.syslog_collect.specs.declared.outcome.Outcome.{Outcome}
 use Rattle.syslog_collect.specs.declared.outcome.Outcome.TheVariants.{New, Held, Refused, RefusedLegacy, TooLong, BadCount}
 

@@ -3,7 +3,7 @@ use Rattle.std.proofs.Common.{◌≡◌, ℕ, zero, suc, ◌+◌, ◌<◌, true,
 use Rattle.std.specs.Prelude.{Option, Some, None, IsSome}
 use Rattle.std.specs.List.{position_from, remove}
 use Rattle.archive_text.specs.Entries.{Entry}
-use Rattle.syslog_collect.specs.Readings.{Clock}
+use Rattle.syslog_legacy.specs.FrameReadings.{Clock}
 use Rattle.syslog_collect.specs.declared.connection.Connection.{Connection}
 use Rattle.syslog_collect.specs.declared.outcome.Outcome.{Outcome}
 use Rattle.syslog_collect.specs.Frames.{AreFramesOf, IsFramesOf, all_of}

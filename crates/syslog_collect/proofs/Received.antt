@@ -5,7 +5,7 @@ use Rattle.syslog_value.specs.Parts.{Parts}
 use Rattle.syslog_frame.specs.declared.limits.TheConstants.{FRAME_MAX}
 use Rattle.archive_text.specs.Entries.{Entry, IsEntryOf}
 use Rattle.archive_text.proofs.Texts.{one_record}
-use Rattle.syslog_collect.specs.Readings.{Clock, IsReadAs}
+use Rattle.syslog_legacy.specs.FrameReadings.{Clock, IsReadAs}
 use Rattle.syslog_collect.specs.Frames.{IsAmong, IsEntryOfFrame, IsFrameOf, IsReceived, IsSpelled}
 use Rattle.syslog_collect.specs.History.{AcceptedEvent}
 

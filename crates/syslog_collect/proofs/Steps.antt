@@ -11,7 +11,7 @@ use Rattle.syslog_frame.specs.Frames.{Frames}
 use Rattle.syslog_frame.specs.declared.phase.Phase.{Phase}
 use Rattle.syslog_frame.specs.declared.phase.Phase.TheVariants.{BadCount as phase_BadCount, Failed}
 use Rattle.archive_text.specs.Entries.{Entry}
-use Rattle.syslog_collect.specs.Readings.{Clock}
+use Rattle.syslog_legacy.specs.FrameReadings.{Clock}
 use Rattle.syslog_collect.specs.declared.connection.Connection.{Connection}
 use Rattle.syslog_collect.specs.declared.fault.Advance.{Advance}
 use Rattle.syslog_collect.specs.declared.fault.CollectFault.{CollectFault}

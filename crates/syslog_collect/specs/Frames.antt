@@ -1,7 +1,7 @@
 -- The frames of openings and datagrams, and the entries of the records that they spell.
 use Rattle.std.specs.Prelude.{◌≡◌, ℕ, ℤ, ◌≤◌, ◌⊎◌, ◌↔◌, List, [], ◌∷◌, ◌++◌, length}
 use Rattle.syslog_value.specs.Parts.{Parts}
-use Rattle.syslog_collect.specs.Readings.{Clock, IsReadAs}
+use Rattle.syslog_legacy.specs.FrameReadings.{Clock, IsReadAs}
 use Rattle.syslog_frame.specs.Frames.{Frames}
 use Rattle.syslog_frame.specs.declared.limits.TheConstants.{FRAME_MAX}
 use Rattle.archive_text.specs.Entries.{Entry, Has, IsEntryOf}

@@ -1,4 +1,3 @@
-pub mod Readings
 pub mod Frames
 pub mod History
 pub mod Outcomes

@@ -3,7 +3,7 @@ use Rattle.std.specs.Prelude.{◌≡◌, ℕ, ◌<◌, ◌≤◌, ◌⊎◌, Lis
 use Rattle.syslog_frame.specs.declared.phase.Phase.{Phase}
 use Rattle.syslog_frame.specs.declared.phase.Phase.TheVariants.{Counting, Inside, Ended as phase_Ended, BadCount as phase_BadCount, Failed}
 use Rattle.archive_text.specs.Entries.{Entry}
-use Rattle.syslog_collect.specs.Readings.{Clock}
+use Rattle.syslog_legacy.specs.FrameReadings.{Clock}
 use Rattle.syslog_collect.specs.declared.connection.Connection.{Connection}
 use Rattle.syslog_collect.specs.declared.event.Event.{Event}
 use Rattle.syslog_collect.specs.declared.event.Event.TheVariants.{Opened as event_Opened, Piece as event_Piece, Ended as event_Ended, Datagram as event_Datagram}

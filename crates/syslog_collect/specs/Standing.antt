@@ -5,7 +5,7 @@ use Rattle.syslog_frame.specs.Reads.{Reads}
 use Rattle.syslog_frame.specs.Scan.{Scan, HasBadCount, IsFailed}
 use Rattle.syslog_frame.specs.declared.limits.TheConstants.{FRAME_MAX}
 use Rattle.archive_text.specs.Entries.{Entry}
-use Rattle.syslog_collect.specs.Readings.{Clock}
+use Rattle.syslog_legacy.specs.FrameReadings.{Clock}
 use Rattle.syslog_collect.specs.declared.connection.Connection.{Connection}
 use Rattle.syslog_collect.specs.Frames.{AreFramesOf, Gains, all_of}
 use Rattle.syslog_collect.specs.History.{AreAcceptable, History, Stream, AcceptedEvent, history_of}

@@ -7,7 +7,7 @@ ghost use Rattle.syslog_frame.specs.declared.limits.TheConstants.{FRAME_MAX};
 ghost use Rattle.archive_text.specs.Entries.{Entry, IsEntryOf};
 ghost use Rattle.syslog_collect.specs.Frames.{IsFrameOf, IsReceived};
 ghost use Rattle.syslog_collect.specs.History.{AcceptedEvent};
-ghost use Rattle.syslog_collect.specs.Readings.{Clock, IsLegacy, IsNotUtf8At, IsReadAs};
+ghost use Rattle.syslog_legacy.specs.FrameReadings.{Clock, IsLegacy, IsNotUtf8At, IsReadAs};
 
 /// The received set is exactly the records as which some frame of at most `FRAME_MAX` octets is
 /// read.

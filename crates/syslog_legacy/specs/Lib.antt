@@ -9,3 +9,4 @@ pub mod FrontViews
 pub mod Messages
 pub mod Readings
 pub mod Views
+pub mod FrameReadings

@@ -1,5 +1,5 @@
 use Rattle.std.proofs.Common.{[], ap, subst, sym}
-use Rattle.syslog_collect.specs.Readings.{Clock}
+use Rattle.syslog_legacy.specs.FrameReadings.{Clock}
 use Rattle.syslog_collect.specs.Standing.{Stands}
 use Rattle.archive_text.specs.Text.{text_of}
 use Rattle.archive_text.specs.declared.limits.TheConstants.{ENTRY_MAX}

@@ -1,7 +1,7 @@
 use Rattle.std.proofs.Common.{List, None, ◌∷◌, ◌++◌, [], subst, sym, ◌∙◌}
 use Rattle.syslog_collect.specs.History.{AcceptedEvent, history_of}
 use Rattle.syslog_collect.specs.Logs.{Grows, IsLogOf, waiting}
-use Rattle.syslog_collect.specs.Readings.{Clock}
+use Rattle.syslog_legacy.specs.FrameReadings.{Clock}
 use Rattle.syslog_collect.specs.Runs.{accepted_event}
 use Rattle.syslog_collect.specs.Standing.{Stands}
 use Rattle.archive_engine.proofs.ReceiveLemmas.{log_only}

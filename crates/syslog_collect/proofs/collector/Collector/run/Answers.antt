@@ -5,7 +5,7 @@ use Rattle.syslog_collect.specs.declared.event.Event.TheVariants.{Opened}
 use Rattle.syslog_collect.specs.History.{AcceptedEvent, History, history_of, initial}
 use Rattle.syslog_collect.specs.declared.event.EventEnd.TheVariants.{Done as end_Done, Stopped as end_Stopped}
 use Rattle.syslog_collect.specs.Logs.{Grows, IsLogOf, LogsEventEnd, waiting}
-use Rattle.syslog_collect.specs.Readings.{Clock}
+use Rattle.syslog_legacy.specs.FrameReadings.{Clock}
 use Rattle.syslog_collect.specs.Runs.{accepted_all, accepted_event, accepted_part}
 use Rattle.syslog_collect.specs.Standing.{Stands}
 use Rattle.syslog_collect.proofs.Logging.{grows_none, grows_push, history_after-append, run_stopped}
