@@ -1,5 +1,6 @@
 -- What a decimal text begins with.
-use Rattle.std.proofs.Common.{◌≡◌, ℕ, ◌+◌, ◌-◌, ◌*◌, ◌^◌, ◌%◌, ◌/◌, ◌<◌, ◌≤◌, List, [], ◌∷◌, ◌++◌, length, get_or, refl, sym, ap, subst, ◌∙◌, arith, rules, inl, inr}
+use Rattle.std.proofs.Common.{◌≡◌, ℕ, ◌+◌, ◌-◌, ◌*◌, ◌^◌, ◌%◌, ◌/◌, ◌<◌, ◌≤◌, List, [], ◌∷◌, ◌++◌, length, get_or, refl}
+use Rattle.std.proofs.Common.{sym, ap, subst, ◌∙◌, arith, rules, inl, inr}
 use Rattle.std.specs.Fmt.{decimal}
 use Rattle.std.specs.List.{AllByRecursion}
 use Rattle.std.proofs.lemmas.Fmt.{decimal_by_steps, decimal_step, decimal_digit, first_decimal, digits_value-decimal}
@@ -38,16 +39,21 @@ no_zero v y z vs e =
     ]
 
 -- a decimal text that continues that of n: n is not 0, a digit follows, and the number is at least that large
-pub goes_on : (v n y : ℕ) (z : List ℕ) → v < 2 ^ 64 → n < 2 ^ 64 → decimal v ≡ decimal n ++ y ∷ z → (0 < n) × IsDigit y × (10 * n + (y - 48) ≤ v)
+pub goes_on : (v n y : ℕ) (z : List ℕ) → v < 2 ^ 64 → n < 2 ^ 64 → decimal v ≡ decimal n ++ y ∷ z
+    → (0 < n) × IsDigit y × (10 * n + (y - 48) ≤ v)
 goes_on v n y z vs ns e =
-    let digits = AllByRecursion-right IsDigit (decimal n) (y ∷ z) (subst (AllByRecursion IsDigit) e (digits_decimal v vs)) in
-    let far : read_on 0 (decimal v) ≡ read_on n (y ∷ z) = ap (read_on 0) e ∙ read_on-append 0 (decimal n) (y ∷ z) ∙ ap (λ (k : ℕ). read_on k (y ∷ z)) (value_decimal n ns) in
+    let digits = AllByRecursion-right IsDigit (decimal n) (y ∷ z)
+    (subst (AllByRecursion IsDigit) e (digits_decimal v vs)) in
+    let far : read_on 0 (decimal v) ≡ read_on n (y ∷ z) =
+    ap (read_on 0) e ∙ read_on-append 0 (decimal n) (y ∷ z) ∙ ap (λ (k : ℕ). read_on k (y ∷ z)) (value_decimal n ns)
+    in
     let least : 10 * n + (y - 48) ≤ v = omega (arith, value_decimal v vs, far, read_on-ge (10 * n + (y - 48)) z) in
     let positive : 0 < n = elim (cases_lt 0 n) [
       | inl lt ↦ lt
       | inr le ↦
           let zero-is : n ≡ 0 = omega arith in
-          absurd (no_zero v y z vs (e ∙ ap (λ (k : ℕ). decimal k ++ y ∷ z) zero-is ∙ ap (λ (s : List ℕ). s ++ y ∷ z) (decimal_digit 0 (omega arith))))
+          absurd (no_zero v y z vs (e ∙ ap (λ (k : ℕ). decimal k ++ y ∷ z) zero-is
+          ∙ ap (λ (s : List ℕ). s ++ y ∷ z) (decimal_digit 0 (omega arith))))
     ] in
     (positive, digits.0, least)
 
@@ -58,9 +64,11 @@ one_digit x d =
     decimal_digit (x - 48) (omega arith) ∙ ap (λ (k : ℕ). k ∷ []) back
 
 -- one more digit after a number
-pub next_digit : (n x : ℕ) → 0 < n → IsDigit x → 10 * n + (x - 48) < 2 ^ 64 → decimal (10 * n + (x - 48)) ≡ decimal n ++ x ∷ []
+pub next_digit : (n x : ℕ) → 0 < n → IsDigit x → 10 * n + (x - 48) < 2 ^ 64
+    → decimal (10 * n + (x - 48)) ≡ decimal n ++ x ∷ []
 next_digit n x positive d fits =
     let m = 10 * n + (x - 48) in
     let prefix : m / 10 ≡ n = omega arith in
     let last : 48 + m % 10 ≡ x = omega arith in
-    decimal_step m (omega arith) fits ∙ ap (λ (k : ℕ). decimal k ++ (48 + m % 10) ∷ []) prefix ∙ ap (λ (k : ℕ). decimal n ++ k ∷ []) last
+    decimal_step m (omega arith) fits ∙ ap (λ (k : ℕ). decimal k ++ (48 + m % 10) ∷ []) prefix
+    ∙ ap (λ (k : ℕ). decimal n ++ k ∷ []) last

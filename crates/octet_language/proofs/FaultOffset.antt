@@ -1,25 +1,35 @@
 -- Where a language stops is the end of the longest prefix that a text begins with.
-use Rattle.std.proofs.Common.{◌≡◌, ℕ, ◌-◌, ◌≤◌, List, [], ◌∷◌, ◌++◌, length, take, drop, refl, sym, ap, subst, ◌∙◌, append_assoc, arith, inl, inr}
+use Rattle.std.proofs.Common.{◌≡◌, ℕ, ◌-◌, ◌≤◌, List, [], ◌∷◌, ◌++◌, length, take, drop, refl, sym, ap, subst, ◌∙◌}
+use Rattle.std.proofs.Common.{append_assoc, arith, inl, inr}
 use Rattle.std.proofs.lemmas.List.{take_at, length-append, take-append-drop, length-take}
 use Rattle.octet_language.specs.Language.{Language, Begins, IsFaultOffset, Refuses, Stops}
 use Rattle.octet_language.proofs.Lists.{parted, one_more}
 
-longest : (L : Language) (p rest : List ℕ) (m : ℕ) → Refuses L p rest → m ≤ length (p ++ rest) → Begins L (take m (p ++ rest)) → m ≤ length p
+longest : (L : Language) (p rest : List ℕ) (m : ℕ) → Refuses L p rest → m ≤ length (p ++ rest)
+    → Begins L (take m (p ++ rest)) → m ≤ length p
 longest L p [] m r within b = omega (arith, length-append p [])
 longest L p (x ∷ rest) m r within b =
     let whole = take-append-drop m (p ++ x ∷ rest) in
     elim (parted (take m (p ++ x ∷ rest)) (drop m (p ++ x ∷ rest)) p x rest whole) [
-      | inl z ↦ absurd (r (z.0 ++ b.0, subst L (ap (λ (s : List ℕ). s ++ b.0) (z.1 ∙ sym (one_more p x z.0)) ∙ append_assoc (p ++ x ∷ []) z.0 b.0) b.1))
+      | inl z ↦ absurd (r (
+        z.0 ++ b.0,
+        subst L
+            (ap (λ (s : List ℕ). s ++ b.0) (z.1 ∙ sym (one_more p x z.0)) ∙ append_assoc (p ++ x ∷ []) z.0 b.0) b.1,
+      ))
       | inr w ↦ omega (arith, ap length w.1, length-append (take m (p ++ x ∷ rest)) w.0, length-take m (p ++ x ∷ rest))
     ]
 
-pub IsFaultOffset-from_stops : (L : Language) (b : List ℕ) (remaining : ℕ) → Stops L b remaining → IsFaultOffset L b (length b - remaining)
+pub IsFaultOffset-from_stops : (L : Language) (b : List ℕ) (remaining : ℕ) → Stops L b remaining
+    → IsFaultOffset L b (length b - remaining)
 IsFaultOffset-from_stops L b remaining s =
-    let n : length b - remaining ≡ length s.read = omega (arith, ap length s.parts, length-append s.read s.rest, s.count) in
+    let n : length b - remaining ≡ length s.read =
+    omega (arith, ap length s.parts, length-append s.read s.rest, s.count) in
     rw n (record {
       within = omega (arith, n);
-      begins = subst (Begins L) (sym (ap (take (length s.read)) s.parts ∙ take_at s.read s.rest (length s.read) refl)) s.begins;
-      longest = λ m within b'. longest L s.read s.rest m s.refuses (subst (λ (t : List ℕ). m ≤ length t) s.parts within) (subst (λ (t : List ℕ). Begins L (take m t)) s.parts b');
+      begins = subst (Begins L) (sym (ap (take (length s.read)) s.parts ∙ take_at s.read s.rest (length s.read) refl))
+          s.begins;
+      longest = λ m within b'. longest L s.read s.rest m s.refuses (subst (λ (t : List ℕ). m ≤ length t) s.parts within)
+          (subst (λ (t : List ℕ). Begins L (take m t)) s.parts b');
     })
 
 -- octets have at most one such offset

@@ -1,5 +1,6 @@
 -- Each stream has frames and a rest.
-use Rattle.std.proofs.Common.{◌≡◌, ℕ, zero, suc, ◌+◌, ◌-◌, ◌*◌, ◌<◌, ◌≤◌, List, [], ◌∷◌, ◌++◌, length, take, drop, refl, sym, ap, subst, ◌∙◌, append_assoc, arith, inl, inr, ◌⊎◌}
+use Rattle.std.proofs.Common.{◌≡◌, ℕ, zero, suc, ◌+◌, ◌-◌, ◌*◌, ◌<◌, ◌≤◌, List, [], ◌∷◌, ◌++◌, length, take, drop, refl}
+use Rattle.std.proofs.Common.{sym, ap, subst, ◌∙◌, append_assoc, arith, inl, inr, ◌⊎◌}
 use Rattle.std.specs.List.{flat_map}
 use Rattle.std.specs.Fmt.{decimal}
 use Rattle.std.proofs.lemmas.Bool.{cases_eq, cases_lt}
@@ -65,7 +66,9 @@ first_of_record n r b positive small e =
           frame = take n r;
           later = drop n r;
           can = (omega (arith, size, positive), omega (arith, size, small));
-          parts = e ∙ ap (λ (u : List ℕ). decimal n ++ 32 ∷ u) (sym (take-append-drop n r)) ∙ ap (λ (k : ℕ). decimal k ++ 32 ∷ (take n r ++ drop n r)) size ∙ sym (append_assoc (decimal (length (take n r))) (32 ∷ take n r) (drop n r));
+          parts = e ∙ ap (λ (u : List ℕ). decimal n ++ 32 ∷ u) (sym (take-append-drop n r))
+              ∙ ap (λ (k : ℕ). decimal k ++ 32 ∷ (take n r ++ drop n r)) size
+              ∙ sym (append_assoc (decimal (length (take n r))) (32 ∷ take n r) (drop n r));
         }
 
 -- what an octet does to a count: it is its next digit, the space after it, or refused
@@ -100,12 +103,17 @@ next_octet c x =
         ]
 
 first_of_counted : (c : ℕ) (q b : List ℕ) → c ≤ COUNT_MAX → IsCount c q → HasFirst Counted (q ++ b)
-first_of_counted c q [] small is = inr (NoPrefix-count (Whole Counted) HasPrefix-counted c (q ++ []) small (subst (IsCount c) (sym (append-nil q)) is))
+first_of_counted c q [] small is = inr (NoPrefix-count (Whole Counted) HasPrefix-counted c (q ++ []) small
+    (subst (IsCount c) (sym (append-nil q)) is))
 first_of_counted c q (x ∷ b) small is =
     elim (next_octet c x) [
-      | inl digit ↦ subst (HasFirst Counted) (one_more q x b) (first_of_counted (10 * c + (x - 48)) (q ++ x ∷ []) b digit.2 (count_digit c x q is digit))
-      | inr (inl space) ↦ first_of_record c b (q ++ x ∷ b) space.0 small (sym (one_more q x b) ∙ ap (λ (u : List ℕ). u ++ b) (count_space c x q is space.0 space.1) ∙ one_more (decimal c) 32 b)
-      | inr (inr refuses) ↦ inr (NoPrefix-refusal (Whole Counted) HasPrefix-counted c x q b (q ++ x ∷ b) (record { small = small; digits = is; refuses = refuses }) refl)
+      | inl digit ↦ subst (HasFirst Counted) (one_more q x b)
+          (first_of_counted (10 * c + (x - 48)) (q ++ x ∷ []) b digit.2 (count_digit c x q is digit))
+      | inr (inl space) ↦ first_of_record c b (q ++ x ∷ b) space.0 small
+          (sym (one_more q x b) ∙ ap (λ (u : List ℕ). u ++ b) (count_space c x q is space.0 space.1)
+          ∙ one_more (decimal c) 32 b)
+      | inr (inr refuses) ↦ inr (NoPrefix-refusal (Whole Counted) HasPrefix-counted c x q b (q ++ x ∷ b)
+          (record { small = small; digits = is; refuses = refuses }) refl)
     ]
 
 -- ---- streams
@@ -118,12 +126,14 @@ first_of Counted b = first_of_counted 0 [] b (omega arith) (inl (refl, refl))
 abbrev pub HasFrames : Framing → List ℕ → Type 0
 HasFrames kind stream = (frames : List (List ℕ)) × (rest : List ℕ) × Frames kind stream frames rest
 
-one_more_frame : (kind : Framing) (stream : List ℕ) (first : First kind stream) → HasFrames kind first.later → HasFrames kind stream
+one_more_frame : (kind : Framing) (stream : List ℕ) (first : First kind stream) → HasFrames kind first.later
+    → HasFrames kind stream
 one_more_frame kind stream first h = (
   first.frame ∷ h.0,
   h.1,
   record {
-    whole = first.parts ∙ ap (λ (u : List ℕ). framed kind first.frame ++ u) h.2.whole ∙ sym (append_assoc (framed kind first.frame) (flat_map (framed kind) h.0) h.1);
+    whole = first.parts ∙ ap (λ (u : List ℕ). framed kind first.frame ++ u) h.2.whole
+        ∙ sym (append_assoc (framed kind first.frame) (flat_map (framed kind) h.0) h.1);
     each = (first.can, h.2.each);
     none = h.2.none;
   },
@@ -134,7 +144,14 @@ frames_within zero kind [] within = ([], [], concatenation kind [] tt)
 frames_within zero kind (x ∷ stream) within = absurd (omega arith)
 frames_within (suc n) kind stream within =
     elim (first_of kind stream) [
-      | inl first ↦ one_more_frame kind stream first (frames_within n kind first.later (omega (arith, ap length first.parts, length-append (framed kind first.frame) first.later, some kind first.frame, within)))
+      | inl first ↦ one_more_frame kind stream first
+          (frames_within n kind first.later (omega (
+            arith,
+            ap length first.parts,
+            length-append (framed kind first.frame) first.later,
+            some kind first.frame,
+            within,
+          )))
       | inr none ↦ ([], stream, record { whole = refl; each = tt; none = none })
     ]
 

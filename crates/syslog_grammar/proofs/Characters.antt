@@ -13,13 +13,15 @@ use Rattle.syslog_grammar.proofs.Prefix.{Passes-behind}
 -- ---- rows
 
 -- an octet and what follows it
-pub octet_prefix : (r : Range) (rs : List Range) (x : ℕ) (s : List ℕ) → Each Octet (r ∷ rs) (x ∷ s) → (r.low ≤ x) × (x ≤ r.high) × Each Octet rs s
+pub octet_prefix : (r : Range) (rs : List Range) (x : ℕ) (s : List ℕ) → Each Octet (r ∷ rs) (x ∷ s)
+    → (r.low ≤ x) × (x ≤ r.high) × Each Octet rs s
 octet_prefix r rs x s (p, q, e, (y, f, low, high), h) =
     let both : x ∷ s ≡ y ∷ q = e ∙ ap (λ (k : List ℕ). k ++ q) f in
     let head : x ≡ y = heads x y s q both in
     (omega (arith, low, head), omega (arith, high, head), subst (Each Octet rs) (sym (tails x y s q both)) h)
 
-pub octet_cons : (r : Range) (rs : List Range) (x : ℕ) (s : List ℕ) → r.low ≤ x → x ≤ r.high → Each Octet rs s → Each Octet (r ∷ rs) (x ∷ s)
+pub octet_cons : (r : Range) (rs : List Range) (x : ℕ) (s : List ℕ) → r.low ≤ x → x ≤ r.high → Each Octet rs s
+    → Each Octet (r ∷ rs) (x ∷ s)
 octet_cons r rs x s low high h = (x ∷ [], s, refl, (x, refl, low, high), h)
 
 pub each_some : (r : Range) (rs : List Range) → ¬ (Each Octet (r ∷ rs) [])
@@ -41,13 +43,15 @@ outside (r ∷ rs) x s o (inl h) = let k = octet_prefix r.first r.behind x s h i
 outside (r ∷ rs) x s o (inr h) = outside rs x s o.1 h
 
 -- the one row in whose first range x is
-pub row_from : (before behind : List Row) (r : Row) (x : ℕ) (s : List ℕ) → Outside x before → Outside x behind → InRow (before ++ r ∷ behind) (x ∷ s) → Each Octet r.behind s
+pub row_from : (before behind : List Row) (r : Row) (x : ℕ) (s : List ℕ) → Outside x before → Outside x behind
+    → InRow (before ++ r ∷ behind) (x ∷ s) → Each Octet r.behind s
 row_from [] behind r x s o q (inl h) = (octet_prefix r.first r.behind x s h).2
 row_from [] behind r x s o q (inr h) = absurd (outside behind x s q h)
 row_from (b ∷ before) behind r x s o q (inl h) = let k = octet_prefix b.first b.behind x s h in absurd (o.0 k.0 k.1)
 row_from (b ∷ before) behind r x s o q (inr h) = row_from before behind r x s o.1 q h
 
-pub row_to : (before behind : List Row) (r : Row) (x : ℕ) (s : List ℕ) → r.first.low ≤ x → x ≤ r.first.high → Each Octet r.behind s → InRow (before ++ r ∷ behind) (x ∷ s)
+pub row_to : (before behind : List Row) (r : Row) (x : ℕ) (s : List ℕ) → r.first.low ≤ x → x ≤ r.first.high
+    → Each Octet r.behind s → InRow (before ++ r ∷ behind) (x ∷ s)
 row_to [] behind r x s low high h = inl (octet_cons r.first r.behind x s low high h)
 row_to (b ∷ before) behind r x s low high h = inr (row_to before behind r x s low high h)
 
@@ -56,8 +60,10 @@ unfolding IsCharacter
 character_some h = no_row table h
 
 -- where the first octet is that of a row, the character goes on as that row
-pub in_row : {X E : Type 0} (at : E → ℕ) (before behind : List Row) (r : Row) (x : ℕ) (b rest : List ℕ) (view : X → List ℕ) (res : Result X E)
-    → before ++ r ∷ behind ≡ table → r.first.low ≤ x → x ≤ r.first.high → Outside x before → Outside x behind → b ≡ x ∷ rest
+pub in_row : {X E : Type 0} (at : E → ℕ) (before behind : List Row) (r : Row) (x : ℕ) (b rest : List ℕ) (view : X
+    → List ℕ) (res : Result X E)
+    → before ++ r ∷ behind ≡ table → r.first.low ≤ x → x ≤ r.first.high → Outside x before → Outside x behind
+    → b ≡ x ∷ rest
     → Passes at (Each Octet r.behind) view rest res → Passes at IsCharacter view b res
 unfolding IsCharacter
 in_row at before behind r x b rest view res e low high o q f h =
@@ -114,17 +120,20 @@ IsPrefixFree-character [] s q t a b e = absurd (no_row table a)
 IsPrefixFree-character (x ∷ p) s [] t a b e = absurd (no_row table b)
 IsPrefixFree-character (x ∷ p) s (y ∷ q) t a b e =
     let wp = width table x p table_widths a in
-    let wq = subst (λ (k : ℕ). Width k (length (y ∷ q))) (sym (heads x y (p ++ s) (q ++ t) e)) (width table y q table_widths b) in
+    let wq = subst (λ (k : ℕ). Width k (length (y ∷ q))) (sym (heads x y (p ++ s) (q ++ t) e))
+    (width table y q table_widths b) in
     same_prefix (x ∷ p) (y ∷ q) s t (same_widths x (length (x ∷ p)) (length (y ∷ q)) wp wq) e
 
 -- an octet of a range
 pub IsPrefixFree-octet : (r : Range) → IsPrefixFree (Octet r)
 IsPrefixFree-octet r p s q t (x, e, l, h) (y, f, m, k) g =
-    e ∙ ap (λ (n : ℕ). n ∷ []) (heads x y s t (ap (λ (u : List ℕ). u ++ s) (sym e) ∙ g ∙ ap (λ (u : List ℕ). u ++ t) f)) ∙ sym f
+    e ∙ ap (λ (n : ℕ). n ∷ []) (heads x y s t (ap (λ (u : List ℕ). u ++ s) (sym e) ∙ g ∙ ap (λ (u : List ℕ). u ++ t) f))
+    ∙ sym f
 
 no_octet_refuses : (r : Range) (b : List ℕ) → IfFirst (λ x. ¬ ((r.low ≤ x) × (x ≤ r.high))) b → Refuses (Octet r) [] b
 no_octet_refuses r [] out = tt
-no_octet_refuses r (x ∷ b) out = λ (more, (y, e, l, h)). let same : x ≡ y = heads x y more [] e in out (omega (arith, l, same), omega (arith, h, same))
+no_octet_refuses r (x ∷ b) out = λ (more, (y, e, l, h)). let same : x ≡ y = heads x y more [] e in
+    out (omega (arith, l, same), omega (arith, h, same))
 
 no_octet_none : (r : Range) (b : List ℕ) → IfFirst (λ x. ¬ ((r.low ≤ x) × (x ≤ r.high))) b → NoPrefix (Octet r) b
 no_octet_none r [] out u v e (y, f, l, h) = let k : [] ≡ y ∷ v = e ∙ ap (λ (s : List ℕ). s ++ v) f in absurd cc
@@ -133,17 +142,28 @@ no_octet_none r (x ∷ b) out u v e (y, f, l, h) =
     out (omega (arith, l, same), omega (arith, h, same))
 
 -- at the end, or before an octet out of range
-pub no_octet : (r : Range) (b : List ℕ) → r.low ≤ r.high → IfFirst (λ x. ¬ ((r.low ≤ x) × (x ≤ r.high))) b → Fails (Octet r) b (length b)
+pub no_octet : (r : Range) (b : List ℕ) → r.low ≤ r.high → IfFirst (λ x. ¬ ((r.low ≤ x) × (x ≤ r.high))) b
+    → Fails (Octet r) b (length b)
 no_octet r b some out = record {
   none = no_octet_none r b out;
-  stops = record { read = []; rest = b; parts = refl; count = refl; begins = (r.low ∷ [], (r.low, refl, omega arith, some)); refuses = no_octet_refuses r b out };
+  stops = record {
+    read = [];
+    rest = b;
+    parts = refl;
+    count = refl;
+    begins =
+        (r.low ∷ [], (r.low, refl, omega arith, some));
+    refuses = no_octet_refuses r b out;
+  };
 }
 
-pub some_octet : (r : Range) (b : List ℕ) (x : ℕ) (rest : List ℕ) → b ≡ x ∷ rest → r.low ≤ x → x ≤ r.high → Follows (Octet r) b rest
+pub some_octet : (r : Range) (b : List ℕ) (x : ℕ) (rest : List ℕ) → b ≡ x ∷ rest → r.low ≤ x → x ≤ r.high
+    → Follows (Octet r) b rest
 some_octet r b x rest e l h = (x ∷ [], e, (x, refl, l, h))
 
 -- ranges one after the other
-pub Passes-last : {X E : Type 0} (at : E → ℕ) (r : Range) (view : X → List ℕ) (b : List ℕ) (res : Result X E) → Passes at (Octet r) view b res → Passes at (Each Octet (r ∷ [])) view b res
+pub Passes-last : {X E : Type 0} (at : E → ℕ) (r : Range) (view : X → List ℕ) (b : List ℕ) (res : Result X E)
+    → Passes at (Octet r) view b res → Passes at (Each Octet (r ∷ [])) view b res
 Passes-last at r view b (Ok x) (t, e, h) = (t, e, (t, [], sym (append-nil t), h, refl))
 Passes-last at r view b (Err s) f =
     Fails-same (Octet r) (Each Octet (r ∷ [])) b (at s)
@@ -155,7 +175,15 @@ pub no_character : (b : List ℕ) → IfFirst (λ x. Outside x table) b → Fail
 unfolding IsCharacter
 no_character b out = record {
   none = character_none b out;
-  stops = record { read = []; rest = b; parts = refl; count = refl; begins = (97 ∷ [], some_letter); refuses = character_refuses b out };
+  stops = record {
+    read = [];
+    rest = b;
+    parts = refl;
+    count = refl;
+    begins = (97 ∷ [], some_letter);
+    refuses =
+        character_refuses b out;
+  };
 }
   where
     some_letter : InRow table (97 ∷ [])
@@ -168,4 +196,5 @@ no_character b out = record {
     character_none : (b : List ℕ) → IfFirst (λ x. Outside x table) b → NoPrefix IsCharacter b
     character_none b out [] v e h = no_row table h
     character_none [] out (y ∷ u) v e h = absurd cc
-    character_none (x ∷ b) out (y ∷ u) v e h = outside table x u out (subst (λ (n : ℕ). InRow table (n ∷ u)) (sym (heads x y b (u ++ v) e)) h)
+    character_none (x ∷ b) out (y ∷ u) v e h =
+        outside table x u out (subst (λ (n : ℕ). InRow table (n ∷ u)) (sym (heads x y b (u ++ v) e)) h)

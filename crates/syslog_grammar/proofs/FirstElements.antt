@@ -1,5 +1,6 @@
 -- Where the first of known elements ends.
-use Rattle.std.proofs.Common.{◌≡◌, ◌≢◌, ℕ, zero, suc, ◌-◌, ◌<◌, true, List, [], ◌∷◌, ◌++◌, length, take, drop, get_or, refl, sym, ap, subst, ◌∙◌, append_assoc, arith, inl, inr, ◌⊎◌}
+use Rattle.std.proofs.Common.{◌≡◌, ◌≢◌, ℕ, zero, suc, ◌-◌, ◌<◌, true, List, [], ◌∷◌, ◌++◌, length, take, drop, get_or}
+use Rattle.std.proofs.Common.{refl, sym, ap, subst, ◌∙◌, append_assoc, arith, inl, inr, ◌⊎◌}
 use Rattle.std.specs.Prelude.{Some, None}
 use Rattle.std.specs.List.{AllByRecursion}
 use Rattle.std.proofs.lemmas.Bool.{cases_eq}
@@ -10,7 +11,8 @@ use Rattle.octet_language.specs.Language.{Each}
 use Rattle.octet_language.proofs.Lists.{heads, tails}
 use Rattle.syslog_value.specs.Parts.{ParamParts, IsNameOctet}
 use Rattle.syslog_grammar.specs.Canonical.{needs_escape}
-use Rattle.syslog_grammar.specs.FirstElements.{IsIdLength, IsNameLength, IsMarkedLength, IsPaired, SplitsElement, SplitsParam}
+use Rattle.syslog_grammar.specs.FirstElements.{IsIdLength, IsNameLength, IsMarkedLength, IsPaired, SplitsElement}
+use Rattle.syslog_grammar.specs.FirstElements.{SplitsParam}
 use Rattle.syslog_grammar.specs.Grammar.{Param}
 use Rattle.syslog_grammar.specs.Spans.{SpannedElement, SpannedParam}
 use Rattle.syslog_grammar.specs.Values.{IsSpecial, Piece}
@@ -21,13 +23,17 @@ use Rattle.syslog_grammar.proofs.Unescaped.{plain_bare, special_test}
 -- ---- the id
 
 stop_at : (k : ℕ) (id after : List ℕ) (x : ℕ) → AllByRecursion IsNameOctet id → (x ≡ 32) ⊎ (x ≡ 93)
-    → ((i : ℕ) → i < k → ¬ (is_byte2 32 93 (get_or (id ++ x ∷ after) i 0) ≡ true)) → is_byte2 32 93 (get_or (id ++ x ∷ after) k 0) ≡ true → k ≡ length id
+    → ((i : ℕ) → i < k → ¬ (is_byte2 32 93 (get_or (id ++ x ∷ after) i 0) ≡ true))
+    → is_byte2 32 93 (get_or (id ++ x ∷ after) k 0) ≡ true → k ≡ length id
 stop_at zero [] after x h s none here = refl
-stop_at (suc k) [] after x h s none here = absurd (none 0 (omega arith) (elim s [ inl e ↦ rw e refl | inr e ↦ rw e refl ]))
+stop_at (suc k) [] after x h s none here =
+    absurd (none 0 (omega arith) (elim s [ inl e ↦ rw e refl | inr e ↦ rw e refl ]))
 stop_at zero (y ∷ id) after x h s none here = absurd (grind (arith, nat_tests, h.0.0.0, h.0.0.1, h.0.2))
-stop_at (suc k) (y ∷ id) after x h s none here = ap suc (stop_at k id after x h.1 s (λ i less. none (suc i) (omega arith)) here)
+stop_at (suc k) (y ∷ id) after x h s none here =
+    ap suc (stop_at k id after x h.1 s (λ i less. none (suc i) (omega arith)) here)
 
-on_octets : (id after octets : List ℕ) (x k : ℕ) → octets ≡ id ++ x ∷ after → IsFirstByte (is_byte2 32 93) octets (Some k) → IsFirstByte (is_byte2 32 93) (id ++ x ∷ after) (Some k)
+on_octets : (id after octets : List ℕ) (x k : ℕ) → octets ≡ id ++ x ∷ after
+    → IsFirstByte (is_byte2 32 93) octets (Some k) → IsFirstByte (is_byte2 32 93) (id ++ x ∷ after) (Some k)
 on_octets id after octets x k e f = subst (λ (b : List ℕ). IsFirstByte (is_byte2 32 93) b (Some k)) e f
 
 pub id_found : (octets : List ℕ) (k : ℕ) → IsFirstByte (is_byte2 32 93) octets (Some k) → IsIdLength octets k
@@ -36,14 +42,16 @@ id_found octets k f id after x h s e =
     stop_at k id after x h s (λ i less. g.0.before i (omega arith) less) g.1
 
 -- a test that the octet behind a prefix passes
-behind_passes : (id after : List ℕ) (x : ℕ) → (x ≡ 32) ⊎ (x ≡ 93) → is_byte2 32 93 (get_or (id ++ x ∷ after) (length id) 0) ≡ true
+behind_passes : (id after : List ℕ) (x : ℕ) → (x ≡ 32) ⊎ (x ≡ 93)
+    → is_byte2 32 93 (get_or (id ++ x ∷ after) (length id) 0) ≡ true
 behind_passes [] after x (inl e) = rw e refl
 behind_passes [] after x (inr e) = rw e refl
 behind_passes (y ∷ id) after x s = behind_passes id after x s
 
 pub id_missing : (octets : List ℕ) → IsFirstByte (is_byte2 32 93) octets None → IsIdLength octets (length octets)
 id_missing octets f id after x h s e =
-    let g : IsFirstByte (is_byte2 32 93) (id ++ x ∷ after) None = subst (λ (b : List ℕ). IsFirstByte (is_byte2 32 93) b None) e f in
+    let g : IsFirstByte (is_byte2 32 93) (id ++ x ∷ after) None =
+    subst (λ (b : List ℕ). IsFirstByte (is_byte2 32 93) b None) e f in
     absurd (g (length id) (omega arith) (omega (arith, length-append id (x ∷ after))) (behind_passes id after x s))
 
 -- ---- the parameters
@@ -61,22 +69,29 @@ paired_two : (m y : ℕ) (s : List ℕ) → IsPaired m s → IsPaired m (92 ∷ 
 unfolding IsPaired
 paired_two m y s h = inl (refl, h)
 
-paired_bare : (m : ℕ) (c s : List ℕ) → IsMark m → AllByRecursion (λ x. ¬ (needs_escape x ≡ true)) c → IsPaired m s → IsPaired m (c ++ s)
+paired_bare : (m : ℕ) (c s : List ℕ) → IsMark m → AllByRecursion (λ x. ¬ (needs_escape x ≡ true)) c → IsPaired m s
+    → IsPaired m (c ++ s)
 paired_bare m [] s mark h p = p
 paired_bare m (x ∷ c) s mark h p =
-    paired_one m x (c ++ s) (λ e. h.0 (special_test x (inr (inl e)))) (λ e. h.0 (special_test x (subst IsSpecial (sym e) mark.0))) (paired_bare m c s mark h.1 p)
+    paired_one m x (c ++ s) (λ e. h.0 (special_test x (inr (inl e))))
+    (λ e. h.0 (special_test x (subst IsSpecial (sym e) mark.0))) (paired_bare m c s mark h.1 p)
 
 paired_piece : (m : ℕ) (t b s : List ℕ) → IsMark m → Piece t b → IsPaired m s → IsPaired m (b ++ s)
-paired_piece m t b s mark (inl (x, k, e, f)) p = subst (λ (u : List ℕ). IsPaired m (u ++ s)) (sym f) (paired_two m x s p)
+paired_piece m t b s mark (inl (x, k, e, f)) p =
+    subst (λ (u : List ℕ). IsPaired m (u ++ s)) (sym f) (paired_two m x s p)
 paired_piece m t b s mark (inr (inl ([], k, e, f))) p = absurd (character_some k.0)
 paired_piece m t b s mark (inr (inl (x ∷ c, k, e, f))) p =
-    subst (λ (u : List ℕ). IsPaired m (u ++ s)) (sym f) (paired_two m x (c ++ s) (paired_bare m c s mark (plain_bare (x ∷ c) k).1 p))
-paired_piece m t b s mark (inr (inr (k, e))) p = subst (λ (u : List ℕ). IsPaired m (u ++ s)) (sym e) (paired_bare m t s mark (plain_bare t k) p)
+    subst (λ (u : List ℕ). IsPaired m (u ++ s)) (sym f)
+    (paired_two m x (c ++ s) (paired_bare m c s mark (plain_bare (x ∷ c) k).1 p))
+paired_piece m t b s mark (inr (inr (k, e))) p =
+    subst (λ (u : List ℕ). IsPaired m (u ++ s)) (sym e) (paired_bare m t s mark (plain_bare t k) p)
 
-paired_pieces : (m : ℕ) (ts : List (List ℕ)) (b s : List ℕ) → IsMark m → Each Piece ts b → IsPaired m s → IsPaired m (b ++ s)
+paired_pieces : (m : ℕ) (ts : List (List ℕ)) (b s : List ℕ) → IsMark m → Each Piece ts b → IsPaired m s
+    → IsPaired m (b ++ s)
 paired_pieces m [] b s mark h p = subst (λ (u : List ℕ). IsPaired m (u ++ s)) (sym h) p
 paired_pieces m (t ∷ ts) b s mark (x, y, e, h, k) p =
-    subst (λ (u : List ℕ). IsPaired m u) (sym (ap (λ (u : List ℕ). u ++ s) e ∙ append_assoc x y s)) (paired_piece m t x (y ++ s) mark h (paired_pieces m ts y s mark k p))
+    subst (λ (u : List ℕ). IsPaired m u) (sym (ap (λ (u : List ℕ). u ++ s) e ∙ append_assoc x y s))
+    (paired_piece m t x (y ++ s) mark h (paired_pieces m ts y s mark k p))
 
 quote : IsMark 34
 quote = (inl refl, λ e. omega (arith, e))
@@ -97,18 +112,24 @@ paired_name (x ∷ []) s h p = elim (cases_eq x 92) [
   | inr e ↦ paired_one 93 x (61 ∷ s) e h.0.2 (paired_name [] s tt p)
 ]
 paired_name (x ∷ y ∷ n) s h p = elim (cases_eq x 92) [
-  | inl e ↦ subst (λ (k : ℕ). IsPaired 93 (k ∷ y ∷ n ++ 61 ∷ s)) (sym e) (paired_two 93 y (n ++ 61 ∷ s) (paired_name n s h.1.1 p))
+  | inl e ↦ subst (λ (k : ℕ). IsPaired 93 (k ∷ y ∷ n ++ 61 ∷ s)) (sym e)
+      (paired_two 93 y (n ++ 61 ∷ s) (paired_name n s h.1.1 p))
   | inr e ↦ paired_one 93 x ((y ∷ n) ++ 61 ∷ s) e h.0.2 (paired_name (y ∷ n) s h.1 p)
 ]
 
 paired_param : (p : ParamParts) (b s : List ℕ) → Param p b → IsPaired 93 s → IsPaired 93 (b ++ s)
 paired_param p b s (x, y, e, h, (n, w, g, (valid, k), (u, v, f, l, (q, r, i, m, o)))) t =
-    let value : IsPaired 93 (q ++ 34 ∷ s) = paired_pieces 93 m.0 q (34 ∷ s) bracket m.2 (paired_one 93 34 s (λ z. omega (arith, z)) (λ z. omega (arith, z)) t) in
+    let value : IsPaired 93 (q ++ 34 ∷ s) = paired_pieces 93 m.0 q (34 ∷ s) bracket m.2
+    (paired_one 93 34 s (λ z. omega (arith, z)) (λ z. omega (arith, z)) t) in
     let named : IsPaired 93 (n ++ 61 ∷ 34 ∷ (q ++ 34 ∷ s)) =
-    paired_name n (34 ∷ (q ++ 34 ∷ s)) (subst (AllByRecursion IsNameOctet) (sym k) valid.octets) (paired_one 93 34 (q ++ 34 ∷ s) (λ z. omega (arith, z)) (λ z. omega (arith, z)) value) in
+    paired_name n (34 ∷ (q ++ 34 ∷ s)) (subst (AllByRecursion IsNameOctet) (sym k) valid.octets)
+    (paired_one 93 34 (q ++ 34 ∷ s) (λ z. omega (arith, z)) (λ z. omega (arith, z)) value) in
     let all : b ++ s ≡ 32 ∷ (n ++ 61 ∷ 34 ∷ (q ++ 34 ∷ s)) =
-    rw (e, g, f, i, h, l, o) (ap (λ (u : List ℕ). 32 ∷ u) (append_assoc n (61 ∷ 34 ∷ (q ++ 34 ∷ [])) s ∙ ap (λ (u : List ℕ). n ++ 61 ∷ 34 ∷ u) (append_assoc q (34 ∷ []) s))) in
-    subst (IsPaired 93) (sym all) (paired_one 93 32 (n ++ 61 ∷ 34 ∷ (q ++ 34 ∷ s)) (λ z. omega (arith, z)) (λ z. omega (arith, z)) named)
+    rw (e, g, f, i, h, l, o) (ap (λ (u : List ℕ). 32 ∷ u)
+    (append_assoc n (61 ∷ 34 ∷ (q ++ 34 ∷ [])) s
+    ∙ ap (λ (u : List ℕ). n ++ 61 ∷ 34 ∷ u) (append_assoc q (34 ∷ []) s))) in
+    subst (IsPaired 93) (sym all) (paired_one 93 32 (n ++ 61 ∷ 34 ∷ (q ++ 34 ∷ s)) (λ z. omega (arith, z))
+    (λ z. omega (arith, z)) named)
 
 paired_params : (ps : List ParamParts) (b : List ℕ) → Each Param ps b → IsPaired 93 b
 unfolding IsPaired
@@ -119,8 +140,12 @@ at_mark : (m : ℕ) → is_byte2 92 m m ≡ true
 at_mark m = grind (arith, nat_tests)
 
 -- the octet at which a scan of such octets stops: the mark after them, or a backslash
-scanned : (m k : ℕ) (left after : List ℕ) → IsPaired m left → ((i : ℕ) → i < k → ¬ (is_byte2 92 m (get_or (left ++ m ∷ after) i 0) ≡ true)) → is_byte2 92 m (get_or (left ++ m ∷ after) k 0) ≡ true
-    → (drop k (left ++ m ∷ after) ≡ m ∷ after) ⊎ ((y : ℕ) × (others : List ℕ) × (drop k (left ++ m ∷ after) ≡ 92 ∷ y ∷ others ++ m ∷ after) × IsPaired m others)
+scanned : (m k : ℕ) (left after : List ℕ) → IsPaired m left
+    → ((i : ℕ) → i < k → ¬ (is_byte2 92 m (get_or (left ++ m ∷ after) i 0) ≡ true))
+    → is_byte2 92 m (get_or (left ++ m ∷ after) k 0) ≡ true
+    → (drop k (left ++ m ∷ after) ≡ m ∷ after)
+    ⊎ ((y : ℕ) × (others : List ℕ) × (drop k (left ++ m ∷ after) ≡ 92 ∷ y ∷ others ++ m ∷ after)
+    × IsPaired m others)
 unfolding IsPaired
 scanned m zero [] after p none here = inl refl
 scanned m (suc k) [] after p none here = absurd (none 0 (omega arith) (at_mark m))
@@ -129,46 +154,61 @@ scanned m (suc k) (x ∷ []) after p none here = scanned m k [] after tt (λ i l
 scanned m zero (x ∷ y ∷ s) after (inl (e, p)) none here = inr (y, s, ap (λ (u : ℕ). u ∷ y ∷ s ++ m ∷ after) e, p)
 scanned m zero (x ∷ y ∷ s) after (inr (a, (b, p))) none here = absurd (grind (arith, nat_tests, a, b))
 scanned m (suc k) (x ∷ y ∷ s) after (inl (e, p)) none here = absurd (none 0 (omega arith) (rw e refl))
-scanned m (suc k) (x ∷ y ∷ s) after (inr (a, (b, p))) none here = scanned m k (y ∷ s) after p (λ i less. none (suc i) (omega arith)) here
+scanned m (suc k) (x ∷ y ∷ s) after (inr (a, (b, p))) none here =
+    scanned m k (y ∷ s) after p (λ i less. none (suc i) (omega arith)) here
 
 -- what was scanned of the octets, and what is left before the mark
 pub record Scanned (m : ℕ) (octets rest : List ℕ) : Type 0 where
   pub done : List ℕ
   pub parts : octets ≡ done ++ rest
-  pub closes : (text after : List ℕ) → IsPaired m text → octets ≡ text ++ m ∷ after → (left : List ℕ) × (rest ≡ left ++ m ∷ after) × IsPaired m left
+  pub closes : (text after : List ℕ) → IsPaired m text → octets ≡ text ++ m ∷ after
+      → (left : List ℕ) × (rest ≡ left ++ m ∷ after) × IsPaired m left
 
 pub scanned_none : (m : ℕ) (octets : List ℕ) → Scanned m octets octets
 scanned_none m octets = record { done = []; parts = refl; closes = λ text after h e. (text, e, h) }
 
-scan_step : (m : ℕ) (rest left after found : List ℕ) (k : ℕ) → rest ≡ left ++ m ∷ after → IsPaired m left → IsFirstByte (is_byte2 92 m) rest (Some k) → found ≡ drop k rest
+scan_step : (m : ℕ) (rest left after found : List ℕ) (k : ℕ) → rest ≡ left ++ m ∷ after → IsPaired m left
+    → IsFirstByte (is_byte2 92 m) rest (Some k) → found ≡ drop k rest
     → (found ≡ m ∷ after) ⊎ ((y : ℕ) × (others : List ℕ) × (found ≡ 92 ∷ y ∷ others ++ m ∷ after) × IsPaired m others)
 scan_step m rest left after found k e p f d =
-    let g : IsFirstByte (is_byte2 92 m) (left ++ m ∷ after) (Some k) = subst (λ (b : List ℕ). IsFirstByte (is_byte2 92 m) b (Some k)) e f in
+    let g : IsFirstByte (is_byte2 92 m) (left ++ m ∷ after) (Some k) =
+    subst (λ (b : List ℕ). IsFirstByte (is_byte2 92 m) b (Some k)) e f in
     let at : found ≡ drop k (left ++ m ∷ after) = d ∙ ap (drop k) e in
     elim (scanned m k left after p (λ i less. g.0.before i (omega arith) less) g.1) [
       | inl s ↦ inl (at ∙ s)
       | inr (y, others, s, q) ↦ inr (y, others, at ∙ s, q)
     ]
 
-skipped : (found behind next : List ℕ) (x : ℕ) → found ≡ x ∷ behind → next ≡ drop 1 behind → (z : List ℕ) × (found ≡ z ++ next)
+skipped : (found behind next : List ℕ) (x : ℕ) → found ≡ x ∷ behind → next ≡ drop 1 behind
+    → (z : List ℕ) × (found ≡ z ++ next)
 skipped found [] next x e d = (x ∷ [], e ∙ ap (λ (u : List ℕ). x ∷ u) (sym d))
 skipped found (y ∷ s) next x e d = (x ∷ y ∷ [], e ∙ ap (λ (u : List ℕ). x ∷ y ∷ u) (sym d))
 
-pub scanned_more : (m : ℕ) (octets rest found behind next : List ℕ) (k x : ℕ) → IsFirstByte (is_byte2 92 m) rest (Some k) → found ≡ drop k rest → found ≡ x ∷ behind → x ≢ m → next ≡ drop 1 behind → Scanned m octets rest → Scanned m octets next
+pub scanned_more : (m : ℕ) (octets rest found behind next : List ℕ) (k x : ℕ)
+    → IsFirstByte (is_byte2 92 m) rest (Some k) → found ≡ drop k rest → found ≡ x ∷ behind → x ≢ m
+    → next ≡ drop 1 behind → Scanned m octets rest → Scanned m octets next
 scanned_more m octets rest found behind next k x f d e other n s =
     let z = skipped found behind next x e n in
     record {
       done = s.done ++ take k rest ++ z.0;
-      parts = s.parts ∙ ap (λ (u : List ℕ). s.done ++ u) (sym (take-append-drop k rest) ∙ ap (λ (u : List ℕ). take k rest ++ u) (sym d ∙ z.1)) ∙ simp append_assoc;
+      parts = s.parts ∙ ap (λ (u : List ℕ). s.done ++ u)
+          (sym (take-append-drop k rest) ∙ ap (λ (u : List ℕ). take k rest ++ u) (sym d ∙ z.1)) ∙ simp append_assoc;
       closes = λ text after h g.
           let c = s.closes text after h g in
           elim (scan_step m rest c.0 after found k c.1 c.2 f d) [
             | inl same ↦ absurd (other (heads x m behind after (sym e ∙ same)))
-            | inr (y, others, same, p) ↦ (others, n ∙ ap (drop 1) (tails x 92 behind (y ∷ others ++ m ∷ after) (sym e ∙ same)), p)
+            | inr (y, others, same, p) ↦ (
+              others,
+              n
+                  ∙ ap (drop 1) (tails x 92 behind (y ∷ others ++ m ∷ after) (sym e ∙ same)),
+              p,
+            )
           ];
     }
 
-pub scanned_end : (m : ℕ) (octets rest found behind : List ℕ) (k x n : ℕ) → m ≢ 92 → IsFirstByte (is_byte2 92 m) rest (Some k) → found ≡ drop k rest → found ≡ x ∷ behind → x ≡ m → n ≡ length octets - length found → Scanned m octets rest → IsMarkedLength m octets n
+pub scanned_end : (m : ℕ) (octets rest found behind : List ℕ) (k x n : ℕ) → m ≢ 92
+    → IsFirstByte (is_byte2 92 m) rest (Some k) → found ≡ drop k rest → found ≡ x ∷ behind → x ≡ m
+    → n ≡ length octets - length found → Scanned m octets rest → IsMarkedLength m octets n
 scanned_end m octets rest found behind k x n ne f d e here size s text after h g =
     let c = s.closes text after h g in
     elim (scan_step m rest c.0 after found k c.1 c.2 f d) [
@@ -181,10 +221,12 @@ closed : (m : ℕ) (left after : List ℕ) → is_byte2 92 m (get_or (left ++ m 
 closed m [] after = at_mark m
 closed m (x ∷ left) after = closed m left after
 
-pub scanned_missing : (m : ℕ) (octets rest : List ℕ) (n : ℕ) → IsFirstByte (is_byte2 92 m) rest None → Scanned m octets rest → IsMarkedLength m octets n
+pub scanned_missing : (m : ℕ) (octets rest : List ℕ) (n : ℕ) → IsFirstByte (is_byte2 92 m) rest None
+    → Scanned m octets rest → IsMarkedLength m octets n
 scanned_missing m octets rest n f s text after h g =
     let c = s.closes text after h g in
-    let none : IsFirstByte (is_byte2 92 m) (c.0 ++ m ∷ after) None = subst (λ (b : List ℕ). IsFirstByte (is_byte2 92 m) b None) c.1 f in
+    let none : IsFirstByte (is_byte2 92 m) (c.0 ++ m ∷ after) None =
+    subst (λ (b : List ℕ). IsFirstByte (is_byte2 92 m) b None) c.1 f in
     absurd (none (length c.0) (omega arith) (omega (arith, length-append c.0 (m ∷ after))) (closed m c.0 after))
 
 drop_at : (s t : List ℕ) → drop (length s) (s ++ t) ≡ t
@@ -194,15 +236,18 @@ drop_at (x ∷ s) t = drop_at s t
 -- ---- the name of a parameter
 
 equals_at : (k : ℕ) (name after : List ℕ) → AllByRecursion IsNameOctet name
-    → ((i : ℕ) → i < k → ¬ (is_byte 61 (get_or (name ++ 61 ∷ after) i 0) ≡ true)) → is_byte 61 (get_or (name ++ 61 ∷ after) k 0) ≡ true → k ≡ length name
+    → ((i : ℕ) → i < k → ¬ (is_byte 61 (get_or (name ++ 61 ∷ after) i 0) ≡ true))
+    → is_byte 61 (get_or (name ++ 61 ∷ after) k 0) ≡ true → k ≡ length name
 equals_at zero [] after h none here = refl
 equals_at (suc k) [] after h none here = absurd (none 0 (omega arith) refl)
 equals_at zero (y ∷ name) after h none here = absurd (grind (arith, nat_tests, h.0.1))
-equals_at (suc k) (y ∷ name) after h none here = ap suc (equals_at k name after h.1 (λ i less. none (suc i) (omega arith)) here)
+equals_at (suc k) (y ∷ name) after h none here =
+    ap suc (equals_at k name after h.1 (λ i less. none (suc i) (omega arith)) here)
 
 pub name_found : (octets : List ℕ) (k : ℕ) → IsFirstByte (is_byte 61) octets (Some k) → IsNameLength octets k
 name_found octets k f name after h e =
-    let g : IsFirstByte (is_byte 61) (name ++ 61 ∷ after) (Some k) = subst (λ (b : List ℕ). IsFirstByte (is_byte 61) b (Some k)) e f in
+    let g : IsFirstByte (is_byte 61) (name ++ 61 ∷ after) (Some k) =
+    subst (λ (b : List ℕ). IsFirstByte (is_byte 61) b (Some k)) e f in
     equals_at k name after h (λ i less. g.0.before i (omega arith) less) g.1
 
 behind_equals : (name after : List ℕ) → is_byte 61 (get_or (name ++ 61 ∷ after) (length name) 0) ≡ true
@@ -211,36 +256,71 @@ behind_equals (y ∷ name) after = behind_equals name after
 
 pub name_missing : (octets : List ℕ) → IsFirstByte (is_byte 61) octets None → IsNameLength octets (length octets)
 name_missing octets f name after h e =
-    let g : IsFirstByte (is_byte 61) (name ++ 61 ∷ after) None = subst (λ (b : List ℕ). IsFirstByte (is_byte 61) b None) e f in
+    let g : IsFirstByte (is_byte 61) (name ++ 61 ∷ after) None =
+    subst (λ (b : List ℕ). IsFirstByte (is_byte 61) b None) e f in
     absurd (g (length name) (omega arith) (omega (arith, length-append name (61 ∷ after))) (behind_equals name after))
 
 -- the parts of a parameter as they are found by their lengths
-pub param_split : (octets behind name rest marked value raw end next : List ℕ) (n m : ℕ) → behind ≡ drop 1 octets → IsNameLength behind n → name ≡ take n behind → rest ≡ drop n behind
-    → marked ≡ drop 1 rest → value ≡ drop 1 marked → IsMarkedLength 34 value m → raw ≡ take m value → end ≡ drop m value → next ≡ drop 1 end → SplitsParam octets (record { name = name; raw = raw }) next
-param_split octets behind name rest marked value raw end next n m b namelen i r q w rawlen p f g after (text, parts, (d, (x, y, e1, h, (z, t, e2, (valid, named), (u, v, e3, marks, (a, c, e4, spelled, close)))))) =
+pub param_split : (octets behind name rest marked value raw end next : List ℕ) (n m : ℕ) → behind ≡ drop 1 octets
+    → IsNameLength behind n → name ≡ take n behind → rest ≡ drop n behind
+    → marked ≡ drop 1 rest → value ≡ drop 1 marked → IsMarkedLength 34 value m → raw ≡ take m value → end ≡ drop m value
+    → next ≡ drop 1 end → SplitsParam octets (record { name = name; raw = raw }) next
+param_split octets behind name rest marked value raw end next n m b namelen i r q w rawlen p f g after
+    (text, parts, (d, (x, y, e1, h, (z, t, e2, (valid, named), (u, v, e3, marks, (a, c, e4, spelled, close)))))) =
     let inside : octets ≡ 32 ∷ (z ++ 61 ∷ 34 ∷ (a ++ 34 ∷ after)) =
-    parts ∙ rw (e1, e2, e3, e4, h, marks, close) (ap (λ (s : List ℕ). 32 ∷ s) (append_assoc z (61 ∷ 34 ∷ (a ++ 34 ∷ [])) after ∙ ap (λ (s : List ℕ). z ++ 61 ∷ 34 ∷ s) (append_assoc a (34 ∷ []) after))) in
+    parts ∙ rw (e1, e2, e3, e4, h, marks, close)
+    (ap (λ (s : List ℕ). 32 ∷ s) (append_assoc z (61 ∷ 34 ∷ (a ++ 34 ∷ [])) after
+    ∙ ap (λ (s : List ℕ). z ++ 61 ∷ 34 ∷ s) (append_assoc a (34 ∷ []) after))) in
     let behind_is : behind ≡ z ++ 61 ∷ 34 ∷ (a ++ 34 ∷ after) = b ∙ ap (drop 1) inside in
-    let n_is : n ≡ length z = namelen z (34 ∷ (a ++ 34 ∷ after)) (subst (AllByRecursion IsNameOctet) (sym named) valid.octets) behind_is in
+    let n_is : n ≡ length z = namelen z (34 ∷ (a ++ 34 ∷ after))
+    (subst (AllByRecursion IsNameOctet) (sym named) valid.octets) behind_is in
     let name_is : name ≡ z = i ∙ rw (n_is, behind_is) (take_at z (61 ∷ 34 ∷ (a ++ 34 ∷ after)) (length z) refl) in
-    let rest_is : rest ≡ 61 ∷ 34 ∷ (a ++ 34 ∷ after) = r ∙ rw (n_is, behind_is) (drop_at z (61 ∷ 34 ∷ (a ++ 34 ∷ after))) in
+    let rest_is : rest ≡ 61 ∷ 34 ∷ (a ++ 34 ∷ after) =
+    r ∙ rw (n_is, behind_is) (drop_at z (61 ∷ 34 ∷ (a ++ 34 ∷ after))) in
     let value_is : value ≡ a ++ 34 ∷ after = w ∙ ap (drop 1) (q ∙ ap (drop 1) rest_is) in
     let m_is : m ≡ length a = rawlen a after (paired_value spelled.0 a spelled.2) value_is in
     let raw_is : raw ≡ a = p ∙ rw (m_is, value_is) (take_at a (34 ∷ after) (length a) refl) in
     let end_is : end ≡ 34 ∷ after = f ∙ rw (m_is, value_is) (drop_at a (34 ∷ after)) in
     let next_is : next ≡ after = g ∙ ap (drop 1) end_is in
-    let spanned : SpannedParam (record { name = d.name; raw = a }) text =
-    (x, y, e1, h, (z, t, e2, (valid, named), (61 ∷ [], 34 ∷ v, e3 ∙ ap (λ (s : List ℕ). s ++ v) marks, refl, (34 ∷ [], v, refl, refl, (a, c, e4, ((spelled.0, spelled.2), refl), close))))) in
-    let by_raw : SpannedParam (record { name = d.name; raw = raw }) text = subst (λ (s : List ℕ). SpannedParam (record { name = d.name; raw = s }) text) (sym raw_is) spanned in
-    (text, parts ∙ ap (λ (s : List ℕ). text ++ s) (sym next_is), subst (λ (s : List ℕ). SpannedParam (record { name = s; raw = raw }) text) (sym (name_is ∙ named)) by_raw)
+    let spanned : SpannedParam (record { name = d.name; raw = a }) text = (
+      x,
+      y,
+      e1,
+      h,
+      (
+        z,
+        t,
+        e2,
+        (valid, named),
+        (
+          61 ∷ [],
+          34 ∷ v,
+          e3
+              ∙ ap (λ (s : List ℕ). s ++ v) marks,
+          refl,
+          (34 ∷ [], v, refl, refl, (a, c, e4, ((spelled.0, spelled.2), refl), close)),
+        ),
+      ),
+    ) in
+    let by_raw : SpannedParam (record { name = d.name; raw = raw }) text =
+    subst (λ (s : List ℕ). SpannedParam (record { name = d.name; raw = s }) text) (sym raw_is) spanned in (
+      text,
+      parts ∙ ap (λ (s : List ℕ). text ++ s) (sym next_is),
+      subst (λ (s : List ℕ). SpannedParam (record { name = s; raw = raw }) text) (sym (name_is ∙ named)) by_raw,
+    )
 
 -- ---- the element
 
 -- the parts of an element as they are found by their lengths
-pub element_split : (octets behind id rest params end next : List ℕ) (n m : ℕ) → behind ≡ drop 1 octets → IsIdLength behind n → id ≡ take n behind → rest ≡ drop n behind
-    → IsMarkedLength 93 rest m → params ≡ take m rest → end ≡ drop m rest → next ≡ drop 1 end → SplitsElement octets (record { id = id; params = params }) next
-element_split octets behind id rest params end next n m b idlen i r paramlen p f g after (text, parts, (e, (x, y, e1, h, (w, z, e2, (valid, name), (u, v, e3, each, close))))) =
-    let inside : octets ≡ 91 ∷ (w ++ (u ++ 93 ∷ after)) = parts ∙ rw (e1, e2, e3, h, close) (ap (λ (s : List ℕ). 91 ∷ s) (append_assoc w (u ++ 93 ∷ []) after ∙ ap (λ (s : List ℕ). w ++ s) (append_assoc u (93 ∷ []) after))) in
+pub element_split : (octets behind id rest params end next : List ℕ) (n m : ℕ) → behind ≡ drop 1 octets
+    → IsIdLength behind n → id ≡ take n behind → rest ≡ drop n behind
+    → IsMarkedLength 93 rest m → params ≡ take m rest → end ≡ drop m rest → next ≡ drop 1 end
+    → SplitsElement octets (record { id = id; params = params }) next
+element_split octets behind id rest params end next n m b idlen i r paramlen p f g after
+    (text, parts, (e, (x, y, e1, h, (w, z, e2, (valid, name), (u, v, e3, each, close))))) =
+    let inside : octets ≡ 91 ∷ (w ++ (u ++ 93 ∷ after)) =
+    parts ∙ rw (e1, e2, e3, h, close) (ap (λ (s : List ℕ). 91 ∷ s)
+    (append_assoc w (u ++ 93 ∷ []) after ∙ ap (λ (s : List ℕ). w ++ s) (append_assoc u (93 ∷ []) after))) in
     let behind_is : behind ≡ w ++ (u ++ 93 ∷ after) = b ∙ ap (drop 1) inside in
     let octets_of : AllByRecursion IsNameOctet w = subst (AllByRecursion IsNameOctet) (sym name) valid.octets in
     let n_is : n ≡ length w = id_ends e.params u after w behind behind_is octets_of each n idlen in
@@ -250,20 +330,36 @@ element_split octets behind id rest params end next n m b idlen i r paramlen p f
     let params_is : params ≡ u = p ∙ rw (m_is, rest_is) (take_at u (93 ∷ after) (length u) refl) in
     let end_is : end ≡ 93 ∷ after = f ∙ rw (m_is, rest_is) (drop_at u (93 ∷ after)) in
     let next_is : next ≡ after = g ∙ ap (drop 1) end_is in
-    let spanned : SpannedElement (record { id = e.id; params = u }) text = (x, y, e1, h, (w, z, e2, (valid, name), (u, v, e3, ((e.params, each), refl), close))) in
-    let by_params : SpannedElement (record { id = e.id; params = params }) text = subst (λ (s : List ℕ). SpannedElement (record { id = e.id; params = s }) text) (sym params_is) spanned in
-    (text, parts ∙ ap (λ (s : List ℕ). text ++ s) (sym next_is), subst (λ (s : List ℕ). SpannedElement (record { id = s; params = params }) text) (sym (id_is ∙ name)) by_params)
+    let spanned : SpannedElement (record { id = e.id; params = u }) text =
+    (x, y, e1, h, (w, z, e2, (valid, name), (u, v, e3, ((e.params, each), refl), close))) in
+    let by_params : SpannedElement (record { id = e.id; params = params }) text =
+    subst (λ (s : List ℕ). SpannedElement (record { id = e.id; params = s }) text) (sym params_is) spanned in (
+      text,
+      parts ∙ ap (λ (s : List ℕ). text ++ s) (sym next_is),
+      subst (λ (s : List ℕ). SpannedElement (record { id = s; params = params }) text) (sym (id_is ∙ name)) by_params,
+    )
   where
-    id_ends : (ps : List ParamParts) (u after w behind : List ℕ) → behind ≡ w ++ (u ++ 93 ∷ after) → AllByRecursion IsNameOctet w → Each Param ps u → (n : ℕ) → IsIdLength behind n → n ≡ length w
-    id_ends [] u after w behind e o each n len = len w after 93 o (inr refl) (e ∙ ap (λ (s : List ℕ). w ++ (s ++ 93 ∷ after)) each)
+    id_ends : (ps : List ParamParts) (u after w behind : List ℕ) → behind ≡ w ++ (u ++ 93 ∷ after)
+        → AllByRecursion IsNameOctet w → Each Param ps u → (n : ℕ) → IsIdLength behind n → n ≡ length w
+    id_ends [] u after w behind e o each n len =
+        len w after 93 o (inr refl) (e ∙ ap (λ (s : List ℕ). w ++ (s ++ 93 ∷ after)) each)
     id_ends (q ∷ ps) u after w behind e o (a, c, j, k, l) n len =
         let t = param_prefix a (q, k) in
-        len w (t.0 ++ (c ++ 93 ∷ after)) 32 o (inl refl) (e ∙ ap (λ (s : List ℕ). w ++ (s ++ 93 ∷ after)) (j ∙ ap (λ (s : List ℕ). s ++ c) t.1) ∙ ap (λ (s : List ℕ). w ++ 32 ∷ s) (append_assoc t.0 c (93 ∷ after)))
+        len w (t.0 ++ (c ++ 93 ∷ after)) 32 o (inl refl)
+        (e ∙ ap (λ (s : List ℕ). w ++ (s ++ 93 ∷ after)) (j ∙ ap (λ (s : List ℕ). s ++ c) t.1)
+        ∙ ap (λ (s : List ℕ). w ++ 32 ∷ s) (append_assoc t.0 c (93 ∷ after)))
 
 suffix_then : (a b c : List ℕ) (k : ℕ) → (p : List ℕ) × (a ≡ p ++ b) → c ≡ drop k b → (p : List ℕ) × (a ≡ p ++ c)
-suffix_then a b c k (p, e) d = (p ++ take k b, e ∙ ap (λ (u : List ℕ). p ++ u) (sym (take-append-drop k b) ∙ ap (λ (u : List ℕ). take k b ++ u) (sym d)) ∙ sym (append_assoc p (take k b) c))
+suffix_then a b c k (p, e) d = (
+  p ++ take k b,
+  e
+      ∙ ap (λ (u : List ℕ). p ++ u) (sym (take-append-drop k b) ∙ ap (λ (u : List ℕ). take k b ++ u) (sym d))
+      ∙ sym (append_assoc p (take k b) c),
+)
 
 -- what is left is what the octets end with
-pub element_suffix : (octets behind rest end next : List ℕ) (n m : ℕ) → behind ≡ drop 1 octets → rest ≡ drop n behind → end ≡ drop m rest → next ≡ drop 1 end → (p : List ℕ) × (octets ≡ p ++ next)
+pub element_suffix : (octets behind rest end next : List ℕ) (n m : ℕ) → behind ≡ drop 1 octets → rest ≡ drop n behind
+    → end ≡ drop m rest → next ≡ drop 1 end → (p : List ℕ) × (octets ≡ p ++ next)
 element_suffix octets behind rest end next n m b r e f =
-    suffix_then octets end next 1 (suffix_then octets rest end m (suffix_then octets behind rest n (suffix_then octets octets behind 1 ([], refl) b) r) e) f
+    suffix_then octets end next 1 (suffix_then octets rest end m
+    (suffix_then octets behind rest n (suffix_then octets octets behind 1 ([], refl) b) r) e) f

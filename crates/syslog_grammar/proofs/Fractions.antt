@@ -1,5 +1,6 @@
 -- The digits after the point, and the zone after them.
-use Rattle.std.proofs.Common.{◌≡◌, ◌≢◌, ℕ, zero, suc, ◌+◌, ◌-◌, ◌*◌, ◌/◌, ◌%◌, ◌<◌, ◌≤◌, List, [], ◌∷◌, ◌++◌, length, get_or, refl, sym, ap, subst, ◌∙◌, arith, inl, inr, ◌⊎◌}
+use Rattle.std.proofs.Common.{◌≡◌, ◌≢◌, ℕ, zero, suc, ◌+◌, ◌-◌, ◌*◌, ◌/◌, ◌%◌, ◌<◌, ◌≤◌, List, [], ◌∷◌, ◌++◌, length}
+use Rattle.std.proofs.Common.{get_or, refl, sym, ap, subst, ◌∙◌, arith, inl, inr, ◌⊎◌}
 use Rattle.std.specs.Prelude.{replicate, ℤ, pos, neg_ℤ, Some, None}
 use Rattle.std.specs.List.{AllByRecursion}
 use Rattle.std.proofs.lemmas.Bool.{cases_eq}
@@ -7,7 +8,8 @@ use Rattle.octet_language.specs.Digits.{IsDigit, read_on}
 use Rattle.octet_language.specs.Language.{Language, Only, ◌⋅◌, AnyOf, IsPrefixFree, IfFirst}
 use Rattle.octet_language.specs.Reading.{Fails, Follows}
 use Rattle.octet_language.proofs.Lists.{heads, tails, same_prefix}
-use Rattle.octet_language.proofs.Chain.{Fails-first, Fails-later, Fails-same, Follows-then, IsPrefixFree-only, IsPrefixFree-same}
+use Rattle.octet_language.proofs.Chain.{Fails-first, Fails-later, Fails-same, Follows-then, IsPrefixFree-only}
+use Rattle.octet_language.proofs.Chain.{IsPrefixFree-same}
 use Rattle.octet_language.proofs.Sequence.{IsPrefixFree-then}
 use Rattle.syslog_value.specs.declared.civil.Civil.{Civil}
 use Rattle.syslog_grammar.specs.Dates.{Date, Clock, FractionZone}
@@ -26,7 +28,8 @@ digit_value [] i h l = absurd (omega arith)
 digit_value (x ∷ ds) zero h l = h.0
 digit_value (x ∷ ds) (suc i) h l = digit_value ds i h.1 (omega arith)
 
-pub digit_here : (ds : List ℕ) (i : ℕ) → AllByRecursion IsDigit ds → i < length ds → (48 ≤ get_or ds i 0) × (get_or ds i 0 ≤ 57)
+pub digit_here : (ds : List ℕ) (i : ℕ) → AllByRecursion IsDigit ds → i < length ds
+    → (48 ≤ get_or ds i 0) × (get_or ds i 0 ≤ 57)
 digit_here ds i h l = digit_value ds i h l
 
 pub none_here : (ds : List ℕ) (i : ℕ) → length ds ≤ i → get_or ds i 0 ≡ 0
@@ -35,7 +38,10 @@ none_here (x ∷ ds) zero l = absurd (omega arith)
 none_here (x ∷ ds) (suc i) l = none_here ds i (omega arith)
 
 -- six digits by their offsets
-pub six_digits : (ds : List ℕ) → length ds ≤ 6 → 100000 * (get_or ds 0 0 - 48) + 10000 * (get_or ds 1 0 - 48) + 1000 * (get_or ds 2 0 - 48) + 100 * (get_or ds 3 0 - 48) + 10 * (get_or ds 4 0 - 48) + (get_or ds 5 0 - 48) ≡ read_on 0 (ds ++ replicate (6 - length ds) 48)
+pub six_digits : (ds : List ℕ) → length ds ≤ 6
+    → 100000 * (get_or ds 0 0 - 48) + 10000 * (get_or ds 1 0 - 48) + 1000 * (get_or ds 2 0 - 48) + 100
+    * (get_or ds 3 0 - 48) + 10 * (get_or ds 4 0 - 48) + (get_or ds 5 0 - 48)
+    ≡ read_on 0 (ds ++ replicate (6 - length ds) 48)
 six_digits [] h = omega arith
 six_digits (a ∷ []) h = omega arith
 six_digits (a ∷ b ∷ []) h = omega arith
@@ -54,7 +60,8 @@ pub utc : AnyZone (90 ∷ [])
 utc = (pos 0, inl (refl, refl))
 
 -- a text of a zone by its first octet
-zone_cases : (s : List ℕ) → AnyZone s → (s ≡ 90 ∷ []) ⊎ ((t : List ℕ) × AnyOf OffsetText t × ((s ≡ 43 ∷ t) ⊎ (s ≡ 45 ∷ t)))
+zone_cases : (s : List ℕ) → AnyZone s → (s ≡ 90 ∷ [])
+    ⊎ ((t : List ℕ) × AnyOf OffsetText t × ((s ≡ 43 ∷ t) ⊎ (s ≡ 45 ∷ t)))
 zone_cases s (o, inl (e, f)) = inl f
 zone_cases s (o, inr (m, inl (e, (x, y, f, h, k)))) = inr (y, (m, k), inl (f ∙ ap (λ (u : List ℕ). u ++ y) h))
 zone_cases s (o, inr (m, inr (e, (x, y, f, h, k)))) = inr (y, (m, k), inr (f ∙ ap (λ (u : List ℕ). u ++ y) h))
@@ -100,28 +107,52 @@ minus_from s h = elim (zone_cases (45 ∷ s) h) [
 minus_to : (s : List ℕ) → AnyOf OffsetText s → AnyZone (45 ∷ s)
 minus_to s (m, h) = (neg_ℤ (pos m), inr (m, inr (refl, (45 ∷ [], s, refl, refl, h))))
 
-pub bad_plus : (b rest : List ℕ) (x remaining : ℕ) → b ≡ x ∷ rest → x ≡ 43 → Fails (AnyOf OffsetText) rest remaining → Fails AnyZone b remaining
-bad_plus b rest x remaining e f g = Fails-behind (AnyOf OffsetText) AnyZone 43 b rest remaining plus_from plus_to zone_some (e ∙ ap (λ (n : ℕ). n ∷ rest) f) g
+pub bad_plus : (b rest : List ℕ) (x remaining : ℕ) → b ≡ x ∷ rest → x ≡ 43 → Fails (AnyOf OffsetText) rest remaining
+    → Fails AnyZone b remaining
+bad_plus b rest x remaining e f g = Fails-behind (AnyOf OffsetText) AnyZone 43 b rest remaining plus_from plus_to
+    zone_some (e ∙ ap (λ (n : ℕ). n ∷ rest) f) g
 
-pub bad_minus : (b rest : List ℕ) (x remaining : ℕ) → b ≡ x ∷ rest → x ≡ 45 → Fails (AnyOf OffsetText) rest remaining → Fails AnyZone b remaining
-bad_minus b rest x remaining e f g = Fails-behind (AnyOf OffsetText) AnyZone 45 b rest remaining minus_from minus_to zone_some (e ∙ ap (λ (n : ℕ). n ∷ rest) f) g
+pub bad_minus : (b rest : List ℕ) (x remaining : ℕ) → b ≡ x ∷ rest → x ≡ 45 → Fails (AnyOf OffsetText) rest remaining
+    → Fails AnyZone b remaining
+bad_minus b rest x remaining e f g = Fails-behind (AnyOf OffsetText) AnyZone 45 b rest remaining minus_from minus_to
+    zone_some (e ∙ ap (λ (n : ℕ). n ∷ rest) f) g
 
 pub zone_utc : (b rest : List ℕ) (x : ℕ) → b ≡ x ∷ rest → x ≡ 90 → Follows (ZoneText (pos 0)) b rest
 zone_utc b rest x e f = (90 ∷ [], e ∙ ap (λ (n : ℕ). n ∷ rest) f, inl (refl, refl))
 
-pub zone_plus : (b rest after : List ℕ) (x m : ℕ) (o : ℤ) → b ≡ x ∷ rest → x ≡ 43 → o ≡ pos m → Follows (OffsetText m) rest after → Follows (ZoneText o) b after
-zone_plus b rest after x m o e f i g = (43 ∷ g.0, e ∙ ap (λ (n : ℕ). n ∷ rest) f ∙ ap (λ (u : List ℕ). 43 ∷ u) g.1, inr (m, inl (i, (43 ∷ [], g.0, refl, refl, g.2))))
+pub zone_plus : (b rest after : List ℕ) (x m : ℕ) (o : ℤ) → b ≡ x ∷ rest → x ≡ 43 → o ≡ pos m
+    → Follows (OffsetText m) rest after → Follows (ZoneText o) b after
+zone_plus b rest after x m o e f i g = (
+  43 ∷ g.0,
+  e ∙ ap (λ (n : ℕ). n ∷ rest) f
+      ∙ ap (λ (u : List ℕ). 43 ∷ u) g.1,
+  inr (m, inl (i, (43 ∷ [], g.0, refl, refl, g.2))),
+)
 
-pub zone_minus : (b rest after : List ℕ) (x m : ℕ) (o : ℤ) → b ≡ x ∷ rest → x ≡ 45 → o ≡ neg_ℤ (pos m) → Follows (OffsetText m) rest after → Follows (ZoneText o) b after
-zone_minus b rest after x m o e f i g = (45 ∷ g.0, e ∙ ap (λ (n : ℕ). n ∷ rest) f ∙ ap (λ (u : List ℕ). 45 ∷ u) g.1, inr (m, inr (i, (45 ∷ [], g.0, refl, refl, g.2))))
+pub zone_minus : (b rest after : List ℕ) (x m : ℕ) (o : ℤ) → b ≡ x ∷ rest → x ≡ 45 → o ≡ neg_ℤ (pos m)
+    → Follows (OffsetText m) rest after → Follows (ZoneText o) b after
+zone_minus b rest after x m o e f i g = (
+  45 ∷ g.0,
+  e ∙ ap (λ (n : ℕ). n ∷ rest) f
+      ∙ ap (λ (u : List ℕ). 45 ∷ u) g.1,
+  inr (m, inr (i, (45 ∷ [], g.0, refl, refl, g.2))),
+)
 
 -- how long a zone is, by its first octet
 zone_length : (x : ℕ) (s : List ℕ) → AnyZone (x ∷ s) → (x ≡ 90 → length s ≡ 0) × (x ≢ 90 → length s ≡ 5)
 zone_length x s h = elim (zone_cases (x ∷ s) h) [
   | inl e ↦ (λ k. ap length (tails x 90 s [] e), λ k. absurd (k (heads x 90 s [] e)))
   | inr k ↦ elim k.2 [
-    | inl e ↦ (λ f. absurd (omega (arith, f, heads x 43 s k.0 e)), λ f. ap length (tails x 43 s k.0 e) ∙ offset_length k.0 k.1)
-    | inr e ↦ (λ f. absurd (omega (arith, f, heads x 45 s k.0 e)), λ f. ap length (tails x 45 s k.0 e) ∙ offset_length k.0 k.1)
+    | inl e ↦ (
+      λ f. absurd (omega (arith, f, heads x 43 s k.0 e)),
+      λ f. ap length (tails x 43 s k.0 e)
+          ∙ offset_length k.0 k.1,
+    )
+    | inr e ↦ (
+      λ f. absurd (omega (arith, f, heads x 45 s k.0 e)),
+      λ f. ap length (tails x 45 s k.0 e)
+          ∙ offset_length k.0 k.1,
+    )
   ]
 ]
 
@@ -184,13 +215,18 @@ OneAhead-fraction : OneAhead Fraction EndsFraction
 OneAhead-fraction p s q t h k u v e = elim (fraction_cases p h) [
   | inl a ↦ elim (fraction_cases q k) [
     | inl b ↦ a ∙ sym b
-    | inr b ↦ absurd (no_point s (b.0 ++ t) u (ap (λ (w : List ℕ). w ++ s) (sym a) ∙ e ∙ ap (λ (w : List ℕ). w ++ t) b.1))
+    | inr b ↦ absurd (no_point s (b.0 ++ t) u
+        (ap (λ (w : List ℕ). w ++ s) (sym a) ∙ e ∙ ap (λ (w : List ℕ). w ++ t) b.1))
   ]
   | inr a ↦ elim (fraction_cases q k) [
-    | inl b ↦ absurd (no_point t (a.0 ++ s) v (ap (λ (w : List ℕ). w ++ t) (sym b) ∙ sym e ∙ ap (λ (w : List ℕ). w ++ s) a.1))
+    | inl b ↦ absurd (no_point t (a.0 ++ s) v
+        (ap (λ (w : List ℕ). w ++ t) (sym b) ∙ sym e ∙ ap (λ (w : List ℕ). w ++ s) a.1))
     | inr b ↦
-        let rests : a.0 ++ s ≡ b.0 ++ t = tails 46 46 (a.0 ++ s) (b.0 ++ t) (ap (λ (w : List ℕ). w ++ s) (sym a.1) ∙ e ∙ ap (λ (w : List ℕ). w ++ t) b.1) in
-        let same = same_run IsDigit a.0 b.0 s t (decimals_runs.to a.0 a.2).octets (decimals_runs.to b.0 b.2).octets (IfFirst-weaker EndsFraction (Ends IsDigit) s (λ x n. n.0) u) (IfFirst-weaker EndsFraction (Ends IsDigit) t (λ x n. n.0) v) rests in
+        let rests : a.0 ++ s ≡ b.0 ++ t = tails 46 46 (a.0 ++ s) (b.0 ++ t)
+        (ap (λ (w : List ℕ). w ++ s) (sym a.1) ∙ e ∙ ap (λ (w : List ℕ). w ++ t) b.1) in
+        let same = same_run IsDigit a.0 b.0 s t (decimals_runs.to a.0 a.2).octets (decimals_runs.to b.0 b.2).octets
+        (IfFirst-weaker EndsFraction (Ends IsDigit) s (λ x n. n.0) u)
+        (IfFirst-weaker EndsFraction (Ends IsDigit) t (λ x n. n.0) v) rests in
         a.1 ∙ ap (λ (w : List ℕ). 46 ∷ w) same ∙ sym b.1
   ]
 ]
@@ -219,22 +255,33 @@ Point = AnyDecimals ⋅ AnyZone
 
 point_from : (s : List ℕ) → AnyFraction (46 ∷ s) → Point s
 point_from s (f, (x, y, e, h, k)) = elim (fraction_cases x (f.0, h)) [
-  | inl a ↦ absurd ((sign_apart 46 (zone_prefix 46 s (f.1, subst (ZoneText f.1) (sym (e ∙ ap (λ (u : List ℕ). u ++ y) a)) k))).1 refl)
+  | inl a ↦ absurd ((sign_apart 46 (zone_prefix 46 s
+      (f.1, subst (ZoneText f.1) (sym (e ∙ ap (λ (u : List ℕ). u ++ y) a)) k))).1 refl)
   | inr a ↦ (a.0, y, tails 46 46 s (a.0 ++ y) (e ∙ ap (λ (u : List ℕ). u ++ y) a.1), a.2, (f.1, k))
 ]
 
 point_to : (s : List ℕ) → Point s → AnyFraction (46 ∷ s)
-point_to s (x, y, e, (m, h), (o, k)) = ((m, o), (46 ∷ x, y, ap (λ (u : List ℕ). 46 ∷ u) e, inr (46 ∷ [], x, refl, refl, h), k))
+point_to s (x, y, e, (m, h), (o, k)) = (
+  (m, o),
+  (46 ∷ x, y, ap (λ (u : List ℕ). 46 ∷ u) e, inr (46 ∷ [], x, refl, refl, h), k),
+)
 
-pub bad_decimals : (b rest : List ℕ) (x remaining : ℕ) → b ≡ x ∷ rest → x ≡ 46 → StopsInRun IsDigit 6 rest remaining → Fails AnyFraction b remaining
+pub bad_decimals : (b rest : List ℕ) (x remaining : ℕ) → b ≡ x ∷ rest → x ≡ 46 → StopsInRun IsDigit 6 rest remaining
+    → Fails AnyFraction b remaining
 bad_decimals b rest x remaining e f g =
-    Fails-behind Point AnyFraction 46 b rest remaining point_from point_to fraction_some (e ∙ ap (λ (n : ℕ). n ∷ rest) f)
-    (Fails-run IsDigit 6 48 AnyDecimals AnyZone rest (90 ∷ []) remaining decimals_runs (omega arith) (omega arith, omega arith) utc IsPrefixFree-zone zone_starts g)
+    Fails-behind Point AnyFraction 46 b rest remaining point_from point_to fraction_some
+    (e ∙ ap (λ (n : ℕ). n ∷ rest) f)
+    (Fails-run IsDigit 6 48 AnyDecimals AnyZone rest (90 ∷ []) remaining decimals_runs (omega arith)
+    (omega arith, omega arith) utc IsPrefixFree-zone zone_starts g)
 
-pub bad_zone : (b rest after : List ℕ) (x m remaining : ℕ) → b ≡ x ∷ rest → x ≡ 46 → Follows (Decimals m) rest after × IfFirst (Ends IsDigit) after → Fails AnyZone after remaining → Fails AnyFraction b remaining
+pub bad_zone : (b rest after : List ℕ) (x m remaining : ℕ) → b ≡ x ∷ rest → x ≡ 46
+    → Follows (Decimals m) rest after × IfFirst (Ends IsDigit) after → Fails AnyZone after remaining
+    → Fails AnyFraction b remaining
 bad_zone b rest after x m remaining e f g h =
-    Fails-behind Point AnyFraction 46 b rest remaining point_from point_to fraction_some (e ∙ ap (λ (n : ℕ). n ∷ rest) f)
-    (Fails-ahead AnyDecimals AnyZone (Ends IsDigit) rest after remaining (OneAhead-runs IsDigit 6 AnyDecimals decimals_runs) zone_starts (g.0.0, g.0.1, (m, g.0.2)) g.1 h)
+    Fails-behind Point AnyFraction 46 b rest remaining point_from point_to fraction_some
+    (e ∙ ap (λ (n : ℕ). n ∷ rest) f)
+    (Fails-ahead AnyDecimals AnyZone (Ends IsDigit) rest after remaining
+    (OneAhead-runs IsDigit 6 AnyDecimals decimals_runs) zone_starts (g.0.0, g.0.1, (m, g.0.2)) g.1 h)
 
 alone_from : (x : ℕ) (s : List ℕ) → x ≢ 46 → AnyFraction (x ∷ s) → AnyZone (x ∷ s)
 alone_from x s ne (f, (y, z, e, h, k)) = elim (fraction_cases y (f.0, h)) [
@@ -245,16 +292,26 @@ alone_from x s ne (f, (y, z, e, h, k)) = elim (fraction_cases y (f.0, h)) [
 alone_to : (s : List ℕ) → AnyZone s → AnyFraction s
 alone_to s (o, h) = ((0, o), ([], s, refl, inl (refl, refl), h))
 
-pub bad_alone : (b rest : List ℕ) (x remaining : ℕ) → b ≡ x ∷ rest → x ≢ 46 → Fails AnyZone b remaining → Fails AnyFraction b remaining
-bad_alone b rest x remaining e ne f = Fails-alike AnyZone AnyFraction x b rest (90 ∷ []) remaining (λ s h. alone_from x s ne h) (λ s h. alone_to (x ∷ s) h) zone_some fraction_some only_utc e f
+pub bad_alone : (b rest : List ℕ) (x remaining : ℕ) → b ≡ x ∷ rest → x ≢ 46 → Fails AnyZone b remaining
+    → Fails AnyFraction b remaining
+bad_alone b rest x remaining e ne f = Fails-alike AnyZone AnyFraction x b rest (90 ∷ []) remaining
+    (λ s h. alone_from x s ne h) (λ s h. alone_to (x ∷ s) h) zone_some fraction_some only_utc e f
 
-pub point_read : (b rest after end : List ℕ) (x m : ℕ) (o o' : ℤ) → o' ≡ o → b ≡ x ∷ rest → x ≡ 46 → Follows (Decimals m) rest after → Follows (ZoneText o) after end → Follows (FractionZone (m, o')) b end
+pub point_read : (b rest after end : List ℕ) (x m : ℕ) (o o' : ℤ) → o' ≡ o → b ≡ x ∷ rest → x ≡ 46
+    → Follows (Decimals m) rest after → Follows (ZoneText o) after end → Follows (FractionZone (m, o')) b end
 point_read b rest after end x m o o' i e f g h' =
     let h = subst (λ (z : ℤ). Follows (ZoneText z) after end) (sym i) h' in
-    Follows-then (FractionText m) (ZoneText o') b after end (46 ∷ g.0, e ∙ ap (λ (n : ℕ). n ∷ rest) f ∙ ap (λ (u : List ℕ). 46 ∷ u) g.1, inr (46 ∷ [], g.0, refl, refl, g.2)) h
+    Follows-then (FractionText m) (ZoneText o') b after end (
+      46 ∷ g.0,
+      e ∙ ap (λ (n : ℕ). n ∷ rest) f
+          ∙ ap (λ (u : List ℕ). 46 ∷ u) g.1,
+      inr (46 ∷ [], g.0, refl, refl, g.2),
+    ) h
 
-pub alone_read : (b end : List ℕ) (o o' : ℤ) → o' ≡ o → Follows (ZoneText o) b end → Follows (FractionZone (0, o')) b end
-alone_read b end o o' i h = Follows-then (FractionText 0) (ZoneText o') b b end ([], refl, inl (refl, refl)) (subst (λ (z : ℤ). Follows (ZoneText z) b end) (sym i) h)
+pub alone_read : (b end : List ℕ) (o o' : ℤ) → o' ≡ o → Follows (ZoneText o) b end
+    → Follows (FractionZone (0, o')) b end
+alone_read b end o o' i h = Follows-then (FractionText 0) (ZoneText o') b b end ([], refl, inl (refl, refl))
+    (subst (λ (z : ℤ). Follows (ZoneText z) b end) (sym i) h)
 
 -- ---- the whole time
 
@@ -273,14 +330,46 @@ times_time s (x, y, e, (d, h), (z, w, f, k, (u, v, g, (c, l), (fz, (a, b, i, m, 
 
 time_times : (s : List ℕ) → AnyOf TimeText s → Times s
 time_times s (t, (x, y, e, h, (z, w, f, k, (u, v, g, l, (a, b, i, m, n))))) =
-    let o = t.civil in
-    (x, y, e, ((o.year, o.month, o.day), h), (z, w, f, k, (u, v, g, ((o.hour, o.minute, o.second), l), ((o.micros, t.offset), (a, b, i, m, n)))))
+    let o = t.civil in (
+      x,
+      y,
+      e,
+      ((o.year, o.month, o.day), h),
+      (
+        z,
+        w,
+        f,
+        k,
+        (u, v, g, ((o.hour, o.minute, o.second), l), ((o.micros, t.offset), (a, b, i, m, n))),
+      ),
+    )
 
 as_time : (b : List ℕ) (remaining : ℕ) → Fails Times b remaining → Fails (AnyOf TimeText) b remaining
 as_time b remaining f = Fails-same Times (AnyOf TimeText) b remaining times_time time_times f
 
 midnight : AnyOf Clock (padded 2 0 ++ 58 ∷ padded 2 0 ++ 58 ∷ padded 2 0)
-midnight = ((0, 0, 0), (padded 2 0, 58 ∷ padded 2 0 ++ 58 ∷ padded 2 0, refl, (omega arith, omega arith, refl), (58 ∷ [], padded 2 0 ++ 58 ∷ padded 2 0, refl, refl, (padded 2 0, 58 ∷ padded 2 0, refl, (omega arith, omega arith, refl), (58 ∷ [], padded 2 0, refl, refl, (omega arith, omega arith, refl))))))
+midnight = (
+  (0, 0, 0),
+  (
+    padded 2 0,
+    58 ∷ padded 2 0 ++ 58 ∷ padded 2 0,
+    refl,
+    (omega arith, omega arith, refl),
+    (
+      58 ∷ [],
+      padded 2 0 ++ 58 ∷ padded 2 0,
+      refl,
+      refl,
+      (
+        padded 2 0,
+        58 ∷ padded 2 0,
+        refl,
+        (omega arith, omega arith, refl),
+        (58 ∷ [], padded 2 0, refl, refl, (omega arith, omega arith, refl)),
+      ),
+    ),
+  ),
+)
 
 some_clock : ClockZone ((padded 2 0 ++ 58 ∷ padded 2 0 ++ 58 ∷ padded 2 0) ++ 90 ∷ [])
 some_clock = (padded 2 0 ++ 58 ∷ padded 2 0 ++ 58 ∷ padded 2 0, 90 ∷ [], refl, midnight, only_utc)
@@ -288,24 +377,39 @@ some_clock = (padded 2 0 ++ 58 ∷ padded 2 0 ++ 58 ∷ padded 2 0, 90 ∷ [], r
 pub bad_date : (b : List ℕ) (remaining : ℕ) → Fails (AnyOf Date) b remaining → Fails (AnyOf TimeText) b remaining
 bad_date b remaining f = as_time b remaining (bad_first (AnyOf Date) ClockZone 84 b _ remaining some_clock f)
 
-pub bad_octet : (b rest : List ℕ) (d : ℕ × ℕ × ℕ) (remaining : ℕ) → Follows (Date d) b rest → Fails (Only (84 ∷ [])) rest remaining → Fails (AnyOf TimeText) b remaining
-bad_octet b rest d remaining g f = as_time b remaining (bad_middle (AnyOf Date) ClockZone 84 b rest _ remaining IsPrefixFree-date some_clock (g.0, g.1, (d, g.2)) f)
+pub bad_octet : (b rest : List ℕ) (d : ℕ × ℕ × ℕ) (remaining : ℕ) → Follows (Date d) b rest
+    → Fails (Only (84 ∷ [])) rest remaining → Fails (AnyOf TimeText) b remaining
+bad_octet b rest d remaining g f = as_time b remaining
+    (bad_middle (AnyOf Date) ClockZone 84 b rest _ remaining IsPrefixFree-date some_clock (g.0, g.1, (d, g.2)) f)
 
-pub bad_clock : (b rest after : List ℕ) (d : ℕ × ℕ × ℕ) (remaining : ℕ) → Follows (Date d) b rest → Follows (Only (84 ∷ [])) rest after → Fails (AnyOf Clock) after remaining → Fails (AnyOf TimeText) b remaining
-bad_clock b rest after d remaining g h f = as_time b remaining (bad_second (AnyOf Date) ClockZone 84 b rest after remaining IsPrefixFree-date (g.0, g.1, (d, g.2)) h (Fails-first (AnyOf Clock) AnyFraction after (90 ∷ []) remaining only_utc f))
+pub bad_clock : (b rest after : List ℕ) (d : ℕ × ℕ × ℕ) (remaining : ℕ) → Follows (Date d) b rest
+    → Follows (Only (84 ∷ [])) rest after → Fails (AnyOf Clock) after remaining → Fails (AnyOf TimeText) b remaining
+bad_clock b rest after d remaining g h f =
+    as_time b remaining (bad_second (AnyOf Date) ClockZone 84 b rest after remaining IsPrefixFree-date
+    (g.0, g.1, (d, g.2)) h (Fails-first (AnyOf Clock) AnyFraction after (90 ∷ []) remaining only_utc f))
 
-pub bad_fraction : (b rest after end : List ℕ) (d c : ℕ × ℕ × ℕ) (remaining : ℕ) → Follows (Date d) b rest → Follows (Only (84 ∷ [])) rest after → Follows (Clock c) after end → Fails AnyFraction end remaining → Fails (AnyOf TimeText) b remaining
-bad_fraction b rest after end d c remaining g h i f = as_time b remaining (bad_second (AnyOf Date) ClockZone 84 b rest after remaining IsPrefixFree-date (g.0, g.1, (d, g.2)) h (Fails-later (AnyOf Clock) AnyFraction after end remaining IsPrefixFree-clock (i.0, i.1, (c, i.2)) f))
+pub bad_fraction : (b rest after end : List ℕ) (d c : ℕ × ℕ × ℕ) (remaining : ℕ) → Follows (Date d) b rest
+    → Follows (Only (84 ∷ [])) rest after → Follows (Clock c) after end → Fails AnyFraction end remaining
+    → Fails (AnyOf TimeText) b remaining
+bad_fraction b rest after end d c remaining g h i f =
+    as_time b remaining (bad_second (AnyOf Date) ClockZone 84 b rest after remaining IsPrefixFree-date
+    (g.0, g.1, (d, g.2)) h (Fails-later (AnyOf Clock) AnyFraction after end remaining IsPrefixFree-clock
+    (i.0, i.1, (c, i.2)) f))
 
-pub time_read : (b rest after end last : List ℕ) (d c : ℕ × ℕ × ℕ) (m : ℕ) (o o' : ℤ) → o' ≡ o → Follows (Date d) b rest → Follows (Only (84 ∷ [])) rest after → Follows (Clock c) after end → Follows (FractionZone (m, o)) end last → Follows (TimeText (record { civil = civil_of d c m; offset = o' })) b last
+pub time_read : (b rest after end last : List ℕ) (d c : ℕ × ℕ × ℕ) (m : ℕ) (o o' : ℤ) → o' ≡ o → Follows (Date d) b rest
+    → Follows (Only (84 ∷ [])) rest after → Follows (Clock c) after end → Follows (FractionZone (m, o)) end last
+    → Follows (TimeText (record { civil = civil_of d c m; offset = o' })) b last
 time_read b rest after end last d c m o o' same g h i j' =
     let f : ℕ × ℤ = (m, o') in
     let j = subst (λ (z : ℤ). Follows (FractionZone (m, z)) end last) (sym same) j' in
     Follows-then (Date d) (Only (84 ∷ []) ⋅ (Clock c ⋅ FractionZone f)) b rest last g
-    (Follows-then (Only (84 ∷ [])) (Clock c ⋅ FractionZone f) rest after last h (Follows-then (Clock c) (FractionZone f) after end last i j))
+    (Follows-then (Only (84 ∷ [])) (Clock c ⋅ FractionZone f) rest after last h
+    (Follows-then (Clock c) (FractionZone f) after end last i j))
 
 pub IsPrefixFree-time : IsPrefixFree (AnyOf TimeText)
-IsPrefixFree-time = IsPrefixFree-same Times (AnyOf TimeText) time_times (IsPrefixFree-between (AnyOf Date) ClockZone 84 IsPrefixFree-date (IsPrefixFree-then (AnyOf Clock) AnyFraction IsPrefixFree-clock IsPrefixFree-fraction))
+IsPrefixFree-time = IsPrefixFree-same Times (AnyOf TimeText) time_times
+    (IsPrefixFree-between (AnyOf Date) ClockZone 84 IsPrefixFree-date
+    (IsPrefixFree-then (AnyOf Clock) AnyFraction IsPrefixFree-clock IsPrefixFree-fraction))
 
 -- ---- a time or NILVALUE
 
@@ -314,8 +418,13 @@ AnyTime = AnyOf (λ t. Spaced (Nilable TimeText t))
 
 -- a time begins with a digit
 time_digit : (t : CivilTime) (s : List ℕ) → TimeText t s → (x : ℕ) × (r : List ℕ) × (s ≡ x ∷ r) × (48 ≤ x)
-time_digit t s (p, y, e, (a, c, f, (l, h), k), m) =
-    (48 + t.civil.year / 10 / 10 / 10 % 10, _, e ∙ ap (λ (u : List ℕ). u ++ y) (f ∙ ap (λ (u : List ℕ). u ++ c) h), omega arith)
+time_digit t s (p, y, e, (a, c, f, (l, h), k), m) = (
+  48 + t.civil.year / 10 / 10 / 10 % 10,
+  _,
+  e
+      ∙ ap (λ (u : List ℕ). u ++ y) (f ∙ ap (λ (u : List ℕ). u ++ c) h),
+  omega arith,
+)
 
 nil_from : (s : List ℕ) → AnyTime (45 ∷ s) → Only (32 ∷ []) s
 nil_from s (None, (x, y, e, h, k)) = tails 45 45 s y (e ∙ ap (λ (u : List ℕ). u ++ y) h) ∙ k
@@ -335,8 +444,10 @@ nilable_some (None, (x, y, e, h, k)) = let f : [] ≡ 45 ∷ y = e ∙ ap (λ (u
 nilable_some (Some t, ([], y, e, h, k)) = let f : ◌≡◌ {A = List ℕ} [] (32 ∷ []) = e ∙ k in absurd cc
 nilable_some (Some t, (x ∷ z, y, e, h, k)) = absurd cc
 
-pub bad_nil : (b rest : List ℕ) (x remaining : ℕ) → b ≡ x ∷ rest → x ≡ 45 → Fails (Only (32 ∷ [])) rest remaining → Fails AnyTime b remaining
-bad_nil b rest x remaining e f g = Fails-behind (Only (32 ∷ [])) AnyTime 45 b rest remaining nil_from nil_to nilable_some (e ∙ ap (λ (n : ℕ). n ∷ rest) f) g
+pub bad_nil : (b rest : List ℕ) (x remaining : ℕ) → b ≡ x ∷ rest → x ≡ 45 → Fails (Only (32 ∷ [])) rest remaining
+    → Fails AnyTime b remaining
+bad_nil b rest x remaining e f g = Fails-behind (Only (32 ∷ [])) AnyTime 45 b rest remaining nil_from nil_to
+    nilable_some (e ∙ ap (λ (n : ℕ). n ∷ rest) f) g
 
 abbrev SpacedTime : Language
 SpacedTime = AnyOf TimeText ⋅ Only (32 ∷ [])
@@ -352,19 +463,29 @@ some_from x s ne (Some t, (y, z, e, h, k)) = (y, z, e, (t, h), k)
 some_to : (s : List ℕ) → SpacedTime s → AnyTime s
 some_to s (y, z, e, (t, h), k) = (Some t, (y, z, e, h, k))
 
-as_some : (b rest : List ℕ) (x remaining : ℕ) → b ≡ x ∷ rest → x ≢ 45 → Fails SpacedTime b remaining → Fails AnyTime b remaining
-as_some b rest x remaining e ne f = Fails-alike SpacedTime AnyTime x b rest (45 ∷ 32 ∷ []) remaining (λ s h. some_from x s ne h) (λ s h. some_to (x ∷ s) h) spaced_some nilable_some nil_time e f
+as_some : (b rest : List ℕ) (x remaining : ℕ) → b ≡ x ∷ rest → x ≢ 45 → Fails SpacedTime b remaining
+    → Fails AnyTime b remaining
+as_some b rest x remaining e ne f = Fails-alike SpacedTime AnyTime x b rest (45 ∷ 32 ∷ []) remaining
+    (λ s h. some_from x s ne h) (λ s h. some_to (x ∷ s) h) spaced_some nilable_some nil_time e f
 
-pub bad_time : (b rest : List ℕ) (x remaining : ℕ) → b ≡ x ∷ rest → x ≢ 45 → Fails (AnyOf TimeText) b remaining → Fails AnyTime b remaining
-bad_time b rest x remaining e ne f = as_some b rest x remaining e ne (Fails-first (AnyOf TimeText) (Only (32 ∷ [])) b (32 ∷ []) remaining refl f)
+pub bad_time : (b rest : List ℕ) (x remaining : ℕ) → b ≡ x ∷ rest → x ≢ 45 → Fails (AnyOf TimeText) b remaining
+    → Fails AnyTime b remaining
+bad_time b rest x remaining e ne f = as_some b rest x remaining e ne
+    (Fails-first (AnyOf TimeText) (Only (32 ∷ [])) b (32 ∷ []) remaining refl f)
 
-pub bad_space : (b rest after : List ℕ) (x remaining : ℕ) (t : CivilTime) → b ≡ x ∷ rest → x ≢ 45 → Follows (TimeText t) b after → Fails (Only (32 ∷ [])) after remaining → Fails AnyTime b remaining
-bad_space b rest after x remaining t e ne g f = as_some b rest x remaining e ne (Fails-later (AnyOf TimeText) (Only (32 ∷ [])) b after remaining IsPrefixFree-time (g.0, g.1, (t, g.2)) f)
+pub bad_space : (b rest after : List ℕ) (x remaining : ℕ) (t : CivilTime) → b ≡ x ∷ rest → x ≢ 45
+    → Follows (TimeText t) b after → Fails (Only (32 ∷ [])) after remaining → Fails AnyTime b remaining
+bad_space b rest after x remaining t e ne g f =
+    as_some b rest x remaining e ne (Fails-later (AnyOf TimeText) (Only (32 ∷ [])) b after remaining IsPrefixFree-time
+    (g.0, g.1, (t, g.2)) f)
 
-pub nil_read : (b rest after : List ℕ) (x : ℕ) → b ≡ x ∷ rest → x ≡ 45 → Follows (Only (32 ∷ [])) rest after → Follows (Spaced (Nilable TimeText None)) b after
-nil_read b rest after x e f g = Follows-then (Only (45 ∷ [])) (Only (32 ∷ [])) b rest after (45 ∷ [], e ∙ ap (λ (n : ℕ). n ∷ rest) f, refl) g
+pub nil_read : (b rest after : List ℕ) (x : ℕ) → b ≡ x ∷ rest → x ≡ 45 → Follows (Only (32 ∷ [])) rest after
+    → Follows (Spaced (Nilable TimeText None)) b after
+nil_read b rest after x e f g = Follows-then (Only (45 ∷ [])) (Only (32 ∷ [])) b rest after
+    (45 ∷ [], e ∙ ap (λ (n : ℕ). n ∷ rest) f, refl) g
 
-pub some_read : (b rest after : List ℕ) (t : CivilTime) → Follows (TimeText t) b rest → Follows (Only (32 ∷ [])) rest after → Follows (Spaced (Nilable TimeText (Some t))) b after
+pub some_read : (b rest after : List ℕ) (t : CivilTime) → Follows (TimeText t) b rest
+    → Follows (Only (32 ∷ [])) rest after → Follows (Spaced (Nilable TimeText (Some t))) b after
 some_read b rest after t f g = Follows-then (TimeText t) (Only (32 ∷ [])) b rest after f g
 
 time_free : (s : List ℕ) → AnyTime s → SpacedTime s ⊎ (s ≡ 45 ∷ 32 ∷ [])
@@ -372,12 +493,14 @@ time_free s (None, (x, y, e, h, k)) = inr (e ∙ ap (λ (u : List ℕ). u ++ y) 
 time_free s (Some t, (x, y, e, h, k)) = inl (x, y, e, (t, h), k)
 
 IsPrefixFree-spaced_time : IsPrefixFree SpacedTime
-IsPrefixFree-spaced_time = IsPrefixFree-then (AnyOf TimeText) (Only (32 ∷ [])) IsPrefixFree-time (IsPrefixFree-only (32 ∷ []))
+IsPrefixFree-spaced_time = IsPrefixFree-then (AnyOf TimeText) (Only (32 ∷ [])) IsPrefixFree-time
+    (IsPrefixFree-only (32 ∷ []))
 
 spaced_digit : (s t r : List ℕ) → SpacedTime s → s ++ t ≡ 45 ∷ r → ⊥
 spaced_digit s t r (x, y, e, (v, h), k) f =
     let d = time_digit v x h in
-    let same : d.0 ≡ 45 = heads d.0 45 ((d.1 ++ y) ++ t) r (ap (λ (u : List ℕ). (u ++ y) ++ t) (sym d.2) ∙ ap (λ (u : List ℕ). u ++ t) (sym e) ∙ f) in
+    let same : d.0 ≡ 45 = heads d.0 45 ((d.1 ++ y) ++ t) r
+    (ap (λ (u : List ℕ). (u ++ y) ++ t) (sym d.2) ∙ ap (λ (u : List ℕ). u ++ t) (sym e) ∙ f) in
     omega (arith, same, d.3)
 
 pub IsPrefixFree-nilable_time : IsPrefixFree AnyTime

@@ -40,6 +40,8 @@ pub mod Bounded
 pub mod ValueForms
 pub mod Valid
 pub mod DataForms
+pub mod ReadForms
+pub mod ReadData
 pub mod TimeForms
 pub mod CanonicalForms
 pub mod Rewritten

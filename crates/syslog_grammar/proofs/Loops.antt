@@ -21,19 +21,28 @@ apart_mark m [] h = record { some = λ e. absurd cc; prefix = tt }
 apart_mark m (x ∷ b) h = record { some = λ e. absurd cc; prefix = λ w e. h (heads x m w [] e) }
 
 -- one more item
-pub carries_more : {V : Type 0} (A : V → Language) (m : ℕ) (b rest after : List ℕ) → IsPrefixFree (AnyOf A) → IfFirst (λ x. x ≢ m) rest → Follows (AnyOf A) rest after → Carries A (Only (m ∷ [])) b rest → Carries A (Only (m ∷ [])) b after
+pub carries_more : {V : Type 0} (A : V → Language) (m : ℕ) (b rest after : List ℕ) → IsPrefixFree (AnyOf A)
+    → IfFirst (λ x. x ≢ m) rest → Follows (AnyOf A) rest after → Carries A (Only (m ∷ [])) b rest
+    → Carries A (Only (m ∷ [])) b after
 carries_more A m b rest after one h p k = record {
-  good = λ end f. k.good end (let g = Follows-then (AnyOf A) (Many A (Only (m ∷ []))) rest after end p f in (g.0, g.1, many_more A (Only (m ∷ [])) g.0 g.2));
-  bad = λ remaining f. k.bad remaining (behind_item A (Only (m ∷ [])) rest after remaining one (apart_mark m rest h) p f);
+  good = λ end f. k.good end (let g = Follows-then (AnyOf A) (Many A (Only (m ∷ []))) rest after end p f in
+      (g.0, g.1, many_more A (Only (m ∷ [])) g.0 g.2));
+  bad = λ remaining f. k.bad remaining (behind_item A (Only (m ∷ [])) rest after remaining one (apart_mark m rest h) p
+      f);
 }
 
 -- the next item fails
-pub carried_fails : {V : Type 0} (A : V → Language) (m : ℕ) (b rest : List ℕ) (remaining : ℕ) → IfFirst (λ x. x ≢ m) rest → Carries A (Only (m ∷ [])) b rest → Fails (AnyOf A) rest remaining → Fails (Many A (Only (m ∷ []))) b remaining
-carried_fails A m b rest remaining h k f = k.bad remaining (item_fails A (Only (m ∷ [])) rest (m ∷ []) remaining refl (apart_mark m rest h) f)
+pub carried_fails : {V : Type 0} (A : V → Language) (m : ℕ) (b rest : List ℕ) (remaining : ℕ)
+    → IfFirst (λ x. x ≢ m) rest → Carries A (Only (m ∷ [])) b rest → Fails (AnyOf A) rest remaining
+    → Fails (Many A (Only (m ∷ []))) b remaining
+carried_fails A m b rest remaining h k f =
+    k.bad remaining (item_fails A (Only (m ∷ [])) rest (m ∷ []) remaining refl (apart_mark m rest h) f)
 
 -- the delimiter that ends the items
-pub carried_ends : {V : Type 0} (A : V → Language) (m : ℕ) (b rest after : List ℕ) (x : ℕ) → Carries A (Only (m ∷ [])) b rest → rest ≡ x ∷ after → x ≡ m → Follows (Many A (Only (m ∷ []))) b after
-carried_ends A m b rest after x k e f = k.good after (m ∷ [], e ∙ ap (λ (n : ℕ). n ∷ after) f, many_none A (Only (m ∷ [])) (m ∷ []) refl)
+pub carried_ends : {V : Type 0} (A : V → Language) (m : ℕ) (b rest after : List ℕ) (x : ℕ)
+    → Carries A (Only (m ∷ [])) b rest → rest ≡ x ∷ after → x ≡ m → Follows (Many A (Only (m ∷ []))) b after
+carried_ends A m b rest after x k e f = k.good after
+    (m ∷ [], e ∙ ap (λ (n : ℕ). n ∷ after) f, many_none A (Only (m ∷ [])) (m ∷ []) refl)
 
 -- a text that is not empty takes some octets
 pub takes_some : (L : Language) (rest after : List ℕ) → ¬ (L []) → Follows L rest after → length after < length rest
@@ -46,4 +55,8 @@ none_of_empty L some (x ∷ s) y e h = absurd cc
 
 -- no text, where no octet is left
 pub Fails-empty : (L : Language) (b t : List ℕ) → L t → ¬ (L []) → b ≡ [] → Fails L b (length b)
-Fails-empty L b t h some e = rw e (record { none = none_of_empty L some; stops = record { read = []; rest = []; parts = refl; count = refl; begins = (t, h); refuses = tt } })
+Fails-empty L b t h some e = rw e (record {
+  none = none_of_empty L some;
+  stops =
+      record { read = []; rest = []; parts = refl; count = refl; begins = (t, h); refuses = tt };
+})

@@ -12,7 +12,8 @@ use Rattle.syslog_grammar.specs.Utf8.{IsText, Character, IsCharacter}
 use Rattle.syslog_grammar.proofs.Characters.{IsPrefixFree-character}
 
 -- two languages with the same texts miss alike
-pub Misses-same : (L M : Language) (b : List ℕ) (remaining : ℕ) → ((s : List ℕ) → L s → M s) → ((s : List ℕ) → M s → L s) → Misses L b remaining → Misses M b remaining
+pub Misses-same : (L M : Language) (b : List ℕ) (remaining : ℕ) → ((s : List ℕ) → L s → M s)
+    → ((s : List ℕ) → M s → L s) → Misses L b remaining → Misses M b remaining
 Misses-same L M b remaining to from m = record {
   none = λ h. m.none (from b h);
   stops = record {
@@ -58,8 +59,10 @@ not_empty : (b p r more : List ℕ) (x : ℕ) → b ≡ p ++ x ∷ r → ¬ (Onl
 not_empty b [] r more x e = λ k. absurd cc
 not_empty b (y ∷ p) r more x e = λ k. absurd cc
 
-text_misses : (b : List ℕ) (remaining : ℕ) → b ≢ [] → Misses (AnyOf Character ⋅ Chars) b remaining → Misses IsText b remaining
-text_misses b remaining some m = Misses-same Chars IsText b remaining chars_text text_chars (Misses-many Character (Only []) b remaining some (not_empty b) m)
+text_misses : (b : List ℕ) (remaining : ℕ) → b ≢ [] → Misses (AnyOf Character ⋅ Chars) b remaining
+    → Misses IsText b remaining
+text_misses b remaining some m = Misses-same Chars IsText b remaining chars_text text_chars
+    (Misses-many Character (Only []) b remaining some (not_empty b) m)
 
 cons_some : (b rest : List ℕ) (x : ℕ) → b ≡ x ∷ rest → b ≢ []
 cons_some b rest x e k = absurd cc
@@ -67,22 +70,37 @@ cons_some b rest x e k = absurd cc
 any_character : (b rest : List ℕ) → Follows IsCharacter b rest → Follows (AnyOf Character) b rest
 any_character b rest (t, e, h) = (t, e, (t, (h, refl)))
 
-pub goes_more : (b rest after rest' : List ℕ) (x : ℕ) → rest ≡ x ∷ rest' → Follows IsCharacter rest after → Goes b rest → Goes b after
+pub goes_more : (b rest after rest' : List ℕ) (x : ℕ) → rest ≡ x ∷ rest' → Follows IsCharacter rest after → Goes b rest
+    → Goes b after
 goes_more b rest after rest' x e f g = record {
   good = λ h. g.good (one_text h);
-  bad = λ remaining m. g.bad remaining (text_misses rest remaining (cons_some rest rest' x e) (Misses-behind (AnyOf Character) Chars rest after remaining IsPrefixFree-any_character (any_character rest after f) (Misses-same IsText Chars after remaining text_chars chars_text m)));
+  bad = λ remaining m. g.bad remaining (text_misses rest remaining (cons_some rest rest' x e)
+      (Misses-behind (AnyOf Character) Chars rest after remaining IsPrefixFree-any_character
+      (any_character rest after f) (Misses-same IsText Chars after remaining text_chars chars_text m)));
 }
   where
     one_text : IsText after → IsText rest
     one_text (cs, h) = subst IsText (sym f.1) (f.0 ∷ cs, (f.0, after, refl, (f.2, refl), h))
 
-pub goes_bad : (b rest rest' : List ℕ) (x remaining : ℕ) → rest ≡ x ∷ rest' → Fails IsCharacter rest remaining → Goes b rest → Misses IsText b remaining
-goes_bad b rest rest' x remaining e f g = g.bad remaining (text_misses rest remaining (cons_some rest rest' x e) (Misses-field (AnyOf Character) Chars rest [] remaining (text_chars [] ([], refl)) any_fails))
+pub goes_bad : (b rest rest' : List ℕ) (x remaining : ℕ) → rest ≡ x ∷ rest' → Fails IsCharacter rest remaining
+    → Goes b rest → Misses IsText b remaining
+goes_bad b rest rest' x remaining e f g = g.bad remaining
+    (text_misses rest remaining (cons_some rest rest' x e)
+    (Misses-field (AnyOf Character) Chars rest [] remaining (text_chars [] ([], refl)) any_fails))
   where
     any_fails : Fails (AnyOf Character) rest remaining
     any_fails = record {
       none = λ x y d h. f.none x y d (from_character x h);
-      stops = record { read = f.stops.read; rest = f.stops.rest; parts = f.stops.parts; count = f.stops.count; begins = (f.stops.begins.0, (f.stops.read ++ f.stops.begins.0, (f.stops.begins.1, refl))); refuses = any_refuses f.stops.read f.stops.rest f.stops.refuses };
+      stops = record {
+        read = f.stops.read;
+        rest = f.stops.rest;
+        parts = f.stops.parts;
+        count = f.stops.count;
+        begins =
+            (f.stops.begins.0, (f.stops.read ++ f.stops.begins.0, (f.stops.begins.1, refl)));
+        refuses =
+            any_refuses f.stops.read f.stops.rest f.stops.refuses;
+      };
     }
       where
         any_refuses : (p r : List ℕ) → Refuses IsCharacter p r → Refuses (AnyOf Character) p r
@@ -105,7 +123,8 @@ message_read s (Utf8Text text, (h, (x, y, e, f, g))) =
     subst IsText (sym same) h
 
 -- after the BOM no text
-pub message_misses : (b rest : List ℕ) (remaining : ℕ) → b ≡ bom ++ rest → Misses IsText rest remaining → Misses (AnyOf Message) b remaining
+pub message_misses : (b rest : List ℕ) (remaining : ℕ) → b ≡ bom ++ rest → Misses IsText rest remaining
+    → Misses (AnyOf Message) b remaining
 message_misses b rest remaining e m = record {
   none = λ h. m.none (message_read rest (subst (AnyOf Message) e h));
   stops = record {
@@ -113,7 +132,13 @@ message_misses b rest remaining e m = record {
     rest = m.stops.rest;
     parts = e ∙ ap (λ (u : List ℕ). bom ++ u) m.stops.parts;
     count = m.stops.count;
-    begins = (m.stops.begins.0, (Utf8Text (m.stops.read ++ m.stops.begins.0), (m.stops.begins.1, (bom, m.stops.read ++ m.stops.begins.0, refl, refl, refl))));
+    begins = (
+      m.stops.begins.0,
+      (
+        Utf8Text (m.stops.read ++ m.stops.begins.0),
+        (m.stops.begins.1, (bom, m.stops.read ++ m.stops.begins.0, refl, refl, refl)),
+      ),
+    );
     refuses = message_refuses m.stops.read m.stops.rest m.stops.refuses;
   };
 }
@@ -138,7 +163,8 @@ from_tail s (m, inl (k, e)) = inr e
 from_tail s (m, inr (x, y, e, h, k)) = inl (x, y, e, h, (m, k))
 
 tail_or : (b : List ℕ) (remaining : ℕ) → b ≢ [] → Misses Spaces b remaining → Misses (AnyOf MessagePart) b remaining
-tail_or b remaining some m = Misses-or Spaces (Only []) (AnyOf MessagePart) b remaining to_tail from_tail some (not_empty b) m
+tail_or b remaining some m = Misses-or Spaces (Only []) (AnyOf MessagePart) b remaining to_tail from_tail some
+    (not_empty b) m
 
 pub empty_message : Message (AnyOctets []) []
 empty_message = (tt, (λ e. absurd cc), refl)
@@ -146,13 +172,18 @@ empty_message = (tt, (λ e. absurd cc), refl)
 no_message : AnyOf Message []
 no_message = (AnyOctets [], empty_message)
 
-pub tail_no_space : (b : List ℕ) (remaining : ℕ) → b ≢ [] → Fails (Only (32 ∷ [])) b remaining → Misses (AnyOf MessagePart) b remaining
-tail_no_space b remaining some f = tail_or b remaining some (Misses-field (Only (32 ∷ [])) (AnyOf Message) b [] remaining no_message f)
+pub tail_no_space : (b : List ℕ) (remaining : ℕ) → b ≢ [] → Fails (Only (32 ∷ [])) b remaining
+    → Misses (AnyOf MessagePart) b remaining
+tail_no_space b remaining some f = tail_or b remaining some
+    (Misses-field (Only (32 ∷ [])) (AnyOf Message) b [] remaining no_message f)
 
-pub tail_misses : (b rest : List ℕ) (remaining : ℕ) → b ≢ [] → Follows (Only (32 ∷ [])) b rest → Misses (AnyOf Message) rest remaining → Misses (AnyOf MessagePart) b remaining
-tail_misses b rest remaining some f m = tail_or b remaining some (Misses-behind (Only (32 ∷ [])) (AnyOf Message) b rest remaining (IsPrefixFree-only (32 ∷ [])) f m)
+pub tail_misses : (b rest : List ℕ) (remaining : ℕ) → b ≢ [] → Follows (Only (32 ∷ [])) b rest
+    → Misses (AnyOf Message) rest remaining → Misses (AnyOf MessagePart) b remaining
+tail_misses b rest remaining some f m = tail_or b remaining some
+    (Misses-behind (Only (32 ∷ [])) (AnyOf Message) b rest remaining (IsPrefixFree-only (32 ∷ [])) f m)
 
-pub spaced_tail : (b rest : List ℕ) (m : MessageParts) → Follows (Only (32 ∷ [])) b rest → Message m rest → MessagePart m b
+pub spaced_tail : (b rest : List ℕ) (m : MessageParts) → Follows (Only (32 ∷ [])) b rest → Message m rest
+    → MessagePart m b
 spaced_tail b rest m (t, e, h) k = inr (t, rest, e, h, k)
 
 pub empty_tail : (b : List ℕ) → b ≡ [] → MessagePart (AnyOctets b) b

@@ -14,7 +14,8 @@ EndsName = Ends IsNameOctet
 
 pub names : AreRuns IsNameOctet 32 (AnyOf Name)
 names = record {
-  to = λ b (w, (h, e)). subst (IsRun IsNameOctet 32) (sym e) (record { some = h.some; fits = h.fits; octets = h.octets });
+  to = λ b (w, (h, e)). subst (IsRun IsNameOctet 32) (sym e)
+      (record { some = h.some; fits = h.fits; octets = h.octets });
   from = λ b h. (b, (record { some = h.some; fits = h.fits; octets = h.octets }, refl));
 }
 
@@ -28,5 +29,7 @@ pub letter : AnyOf Name (97 ∷ [])
 letter = (97 ∷ [], (record { some = omega arith; fits = omega arith; octets = (letter_octet, tt) }, refl))
 
 -- a name that is not whole, whatever ends it
-pub Fails-name : (B : Language) (b t : List ℕ) (remaining : ℕ) → B t → IsPrefixFree B → StartsIn EndsName B → StopsInRun IsNameOctet 32 b remaining → Fails (AnyOf Name ⋅ B) b remaining
-Fails-name B b t remaining some one starts f = Fails-run IsNameOctet 32 97 (AnyOf Name) B b t remaining names (omega arith) letter_octet some one starts f
+pub Fails-name : (B : Language) (b t : List ℕ) (remaining : ℕ) → B t → IsPrefixFree B → StartsIn EndsName B
+    → StopsInRun IsNameOctet 32 b remaining → Fails (AnyOf Name ⋅ B) b remaining
+Fails-name B b t remaining some one starts f =
+    Fails-run IsNameOctet 32 97 (AnyOf Name) B b t remaining names (omega arith) letter_octet some one starts f

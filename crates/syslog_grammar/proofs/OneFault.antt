@@ -1,5 +1,6 @@
 -- Octets have at most one fault.
-use Rattle.std.proofs.Common.{◌≡◌, ℕ, zero, suc, ◌+◌, ◌<◌, ◌≤◌, List, [], ◌∷◌, ◌++◌, length, take, refl, sym, ap, subst, ◌∙◌, arith, inl, inr, ◌⊎◌}
+use Rattle.std.proofs.Common.{◌≡◌, ℕ, zero, suc, ◌+◌, ◌<◌, ◌≤◌, List, [], ◌∷◌, ◌++◌, length, take, refl, sym, ap, subst}
+use Rattle.std.proofs.Common.{◌∙◌, arith, inl, inr, ◌⊎◌}
 use Rattle.std.specs.Prelude.{◌==◌, cond}
 use Rattle.std.proofs.lemmas.List.Sums.{sum_by-append}
 use Rattle.octet_language.specs.Language.{Language, Only, ◌⋅◌, AnyOf, Each, IsFaultOffset, IsPrefixFree}
@@ -32,7 +33,13 @@ one_space A s (x, y, e, h, k) =
 -- a header holds the end of PRI and six spaces
 header_counts : (h : HeaderParts) (s : List ℕ) → Header h s → (0 < times 62 s) × (6 ≤ times 32 s)
 unfolding Header
-header_counts h s (x0, y0, e0, (a, c, g, i, (d, q, r, j, k)), (x1, y1, e1, h1, (x2, y2, e2, h2, (x3, y3, e3, h3, (x4, y4, e4, h4, (x5, y5, e5, h5, h6)))))) =
+header_counts h s (
+  x0,
+  y0,
+  e0,
+  (a, c, g, i, (d, q, r, j, k)),
+  (x1, y1, e1, h1, (x2, y2, e2, h2, (x3, y3, e3, h3, (x4, y4, e4, h4, (x5, y5, e5, h5, h6))))),
+) =
     let end : times 62 q ≡ 1 = ap (times 62) k in (
       omega (arith, joined 62 s x0 y0 e0, joined 62 x0 a c g, joined 62 c d q r, end),
       omega (
@@ -54,8 +61,10 @@ header_counts h s (x0, y0, e0, (a, c, g, i, (d, q, r, j, k)), (x1, y1, e1, h1, (
 
 held_counts : (s : List ℕ) → HoldsStructuredData s → (0 < times 62 s) × (6 ≤ times 32 s)
 held_counts s (x, y, e, (u, v, f, (h, k), l)) =
-    let header = header_counts h u k in
-    (omega (arith, joined 62 s x y e, joined 62 x u v f, header.0), omega (arith, joined 32 s x y e, joined 32 x u v f, header.1))
+    let header = header_counts h u k in (
+      omega (arith, joined 62 s x y e, joined 62 x u v f, header.0),
+      omega (arith, joined 32 s x y e, joined 32 x u v f, header.1),
+    )
 
 -- ---- the field
 
@@ -129,7 +138,8 @@ one_number s n m (inr (inr (inr (e, h)))) (inr (inr (inl (j, f, k, none)))) = ab
 one_number s n m (inr (inr (inr (e, h)))) (inr (inr (inr (f, k)))) = e ∙ sym f
 
 one_field : (s : List ℕ) (f g : Field) → EndsIn s f → EndsIn s g → f ≡ g
-one_field s f g h k = sym (numbered_back f) ∙ ap numbered (one_number s (number f) (number g) (number_of s f h) (number_of s g k)) ∙ numbered_back g
+one_field s f g h k = sym (numbered_back f)
+    ∙ ap numbered (one_number s (number f) (number g) (number_of s f h) (number_of s g k)) ∙ numbered_back g
 
 -- ---- the offset
 
@@ -144,7 +154,8 @@ one_end L b m n one (x, y, e, h, i) (u, v, f, k, j) = i ∙ ap length (one x y u
 
 IsPrefixFree-elements : (es : List ElementParts) → IsPrefixFree (Each Element es)
 IsPrefixFree-elements [] = IsPrefixFree-only []
-IsPrefixFree-elements (e ∷ es) = IsPrefixFree-then (Element e) (Each Element es) (λ p s q t h k. IsPrefixFree-element p s q t (e, h) (e, k)) (IsPrefixFree-elements es)
+IsPrefixFree-elements (e ∷ es) = IsPrefixFree-then (Element e) (Each Element es)
+    (λ p s q t h k. IsPrefixFree-element p s q t (e, h) (e, k)) (IsPrefixFree-elements es)
 
 IsPrefixFree-repeated : (es : List ElementParts) → IsPrefixFree (AnyOf Header ⋅ Each Element es ⋅ Only (91 ∷ []))
 IsPrefixFree-repeated es =
@@ -155,7 +166,8 @@ IsPrefixFree-repeated es =
 
 -- one list parted in two ways
 parted : (xs ys : List ElementParts) (x y : ElementParts) (s t : List ElementParts) → xs ++ x ∷ s ≡ ys ++ y ∷ t
-    → (xs ≡ ys) ⊎ (((more : List ElementParts) × (ys ≡ xs ++ x ∷ more)) ⊎ ((more : List ElementParts) × (xs ≡ ys ++ y ∷ more)))
+    → (xs ≡ ys) ⊎ (((more : List ElementParts) × (ys ≡ xs ++ x ∷ more))
+    ⊎ ((more : List ElementParts) × (xs ≡ ys ++ y ∷ more)))
 parted [] [] x y s t e = inl refl
 parted [] (b ∷ ys) x y s t e = let first : b ≡ x = cc in inr (inl (ys, ap (λ (k : ElementParts). k ∷ ys) first))
 parted (a ∷ xs) [] x y s t e = let first : a ≡ y = cc in inr (inr (xs, ap (λ (k : ElementParts). k ∷ xs) first))
@@ -164,8 +176,16 @@ parted (a ∷ xs) (b ∷ ys) x y s t e =
     let others : xs ++ x ∷ s ≡ ys ++ y ∷ t = cc in
     elim (parted xs ys x y s t others) [
       | inl same ↦ inl (ap (λ (k : ElementParts). k ∷ xs) first ∙ ap (λ (k : List ElementParts). b ∷ k) same)
-      | inr (inl m) ↦ inr (inl (m.0, ap (λ (k : ElementParts). k ∷ ys) (sym first) ∙ ap (λ (k : List ElementParts). a ∷ k) m.1))
-      | inr (inr m) ↦ inr (inr (m.0, ap (λ (k : ElementParts). k ∷ xs) first ∙ ap (λ (k : List ElementParts). b ∷ k) m.1))
+      | inr (inl m) ↦ inr (inl (
+        m.0,
+        ap (λ (k : ElementParts). k ∷ ys) (sym first)
+            ∙ ap (λ (k : List ElementParts). a ∷ k) m.1,
+      ))
+      | inr (inr m) ↦ inr (inr (
+        m.0,
+        ap (λ (k : ElementParts). k ∷ xs) first
+            ∙ ap (λ (k : List ElementParts). b ∷ k) m.1,
+      ))
     ]
 
 one_repeated : (es before others : List ElementParts) → Repeats es before → Repeats es others → before ≡ others
@@ -184,14 +204,23 @@ one_fault b (Syntax f m) (Syntax g n) (none, h, i) (none', k, j) =
     let same = one_field (take n b) f g (subst (λ (o : ℕ). EndsIn (take o b) f) offset i) j in
     ap (λ (o : ℕ). Syntax f o) offset ∙ ap (λ (s : Field). Syntax s n) same
 one_fault b (Syntax f m) (InstantRange n) (none, offset, ends) (p, h, out, offset') = absurd (none (p, h))
-one_fault b (Syntax f m) (RepeatedId n) (none, offset, ends) (p, h, in_range, before, found, offset') = absurd (none (p, h))
+one_fault b (Syntax f m) (RepeatedId n) (none, offset, ends) (p, h, in_range, before, found, offset') =
+    absurd (none (p, h))
 one_fault b (InstantRange m) (Syntax g n) (p, h, out, offset) (none, offset', ends) = absurd (none (p, h))
 one_fault b (InstantRange m) (InstantRange n) (p, h, out, offset) (s, k, out', offset') =
-    ap InstantRange (one_end (AnyOf Priority ⋅ Spaced Version) b m n (IsPrefixFree-then (AnyOf Priority) (Spaced Version) IsPrefixFree-priority IsPrefixFree-version) offset offset')
-one_fault b (InstantRange m) (RepeatedId n) (p, h, out, offset) (s, k, in_range, before, found, offset') = absurd (out (same_range p.time s.time (same_parts p s b h k).header.time in_range))
-one_fault b (RepeatedId m) (Syntax g n) (p, h, in_range, before, found, offset) (none, offset', ends) = absurd (none (p, h))
-one_fault b (RepeatedId m) (InstantRange n) (s, k, in_range, before, found, offset) (p, h, out, offset') = absurd (out (same_range p.time s.time (same_parts p s b h k).header.time in_range))
-one_fault b (RepeatedId m) (RepeatedId n) (p, h, in_range, before, found, offset) (s, k, in_range', others, found', offset') =
-    let same = one_repeated s.elements before others (subst (λ (es : List ElementParts). Repeats es before) (same_parts p s b h k).elements found) found' in
-    let there = subst (λ (es : List ElementParts). PrefixEnds (AnyOf Header ⋅ Each Element es ⋅ Only (91 ∷ [])) b m) same offset in
-    ap RepeatedId (one_end (AnyOf Header ⋅ Each Element others ⋅ Only (91 ∷ [])) b m n (IsPrefixFree-repeated others) there offset')
+    ap InstantRange (one_end (AnyOf Priority ⋅ Spaced Version) b m n
+    (IsPrefixFree-then (AnyOf Priority) (Spaced Version) IsPrefixFree-priority IsPrefixFree-version) offset offset')
+one_fault b (InstantRange m) (RepeatedId n) (p, h, out, offset) (s, k, in_range, before, found, offset') =
+    absurd (out (same_range p.time s.time (same_parts p s b h k).header.time in_range))
+one_fault b (RepeatedId m) (Syntax g n) (p, h, in_range, before, found, offset) (none, offset', ends) =
+    absurd (none (p, h))
+one_fault b (RepeatedId m) (InstantRange n) (s, k, in_range, before, found, offset) (p, h, out, offset') =
+    absurd (out (same_range p.time s.time (same_parts p s b h k).header.time in_range))
+one_fault b (RepeatedId m) (RepeatedId n) (p, h, in_range, before, found, offset)
+    (s, k, in_range', others, found', offset') =
+    let same = one_repeated s.elements before others
+    (subst (λ (es : List ElementParts). Repeats es before) (same_parts p s b h k).elements found) found' in
+    let there = subst (λ (es : List ElementParts). PrefixEnds (AnyOf Header ⋅ Each Element es ⋅ Only (91 ∷ [])) b m)
+    same offset in
+    ap RepeatedId (one_end (AnyOf Header ⋅ Each Element others ⋅ Only (91 ∷ [])) b m n (IsPrefixFree-repeated others)
+    there offset')

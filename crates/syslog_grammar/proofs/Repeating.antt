@@ -1,5 +1,6 @@
 -- Elements one by one, and the first id that repeats an earlier one.
-use Rattle.std.proofs.Common.{◌≡◌, ◌≢◌, ℕ, ◌+◌, ◌-◌, List, [], ◌∷◌, ◌++◌, length, take, refl, sym, ap, subst, ◌∙◌, append_assoc, arith, inl, inr, ◌⊎◌}
+use Rattle.std.proofs.Common.{◌≡◌, ◌≢◌, ℕ, ◌+◌, ◌-◌, List, [], ◌∷◌, ◌++◌, length, take, refl, sym, ap, subst, ◌∙◌}
+use Rattle.std.proofs.Common.{append_assoc, arith, inl, inr, ◌⊎◌}
 use Rattle.std.specs.Prelude.{Option, Some, None, IsTrue, ◌↔◌, Bool, true, false}
 use Rattle.std.specs.List.{AllByRecursion}
 use Rattle.std.specs.Ordering.{MatchOrdering}
@@ -19,7 +20,8 @@ use Rattle.syslog_grammar.specs.FirstElements.{SplitsElement}
 use Rattle.syslog_grammar.specs.Spans.{ElementSpan, SpannedElement}
 use Rattle.syslog_grammar.proofs.Ahead.{may_start}
 use Rattle.syslog_grammar.proofs.Names.{EndsName, OneAhead-name}
-use Rattle.syslog_grammar.proofs.ParamTexts.{SpannedParams, params_start, IsPrefixFree-element, spanned_element, element_prefix}
+use Rattle.syslog_grammar.proofs.ParamTexts.{SpannedParams, params_start, IsPrefixFree-element, spanned_element}
+use Rattle.syslog_grammar.proofs.ParamTexts.{element_prefix}
 
 -- ---- one element
 
@@ -30,7 +32,8 @@ same_name : (v w : ElementSpan) (x : List ℕ) → SpannedElement v x → Spanne
 same_name v w x (a, b, e, h, (c, d, f, (n, i), l)) (a', b', e', h', (c', d', f', (n', i'), l')) =
     let both : 91 ∷ b ≡ 91 ∷ b' = ap (λ (u : List ℕ). u ++ b) (sym h) ∙ sym e ∙ e' ∙ ap (λ (u : List ℕ). u ++ b') h' in
     let rests : c ++ d ≡ c' ++ d' = sym f ∙ tails 91 91 b b' both ∙ f' in
-    let same : c ≡ c' = OneAhead-name c d c' d' (v.id, (n, i)) (w.id, (n', i')) (spanned_prefix d (v.params, l)) (spanned_prefix d' (w.params, l')) rests in
+    let same : c ≡ c' = OneAhead-name c d c' d' (v.id, (n, i)) (w.id, (n', i')) (spanned_prefix d (v.params, l))
+    (spanned_prefix d' (w.params, l')) rests in
     sym i ∙ same ∙ i'
 
 element_id : (e : ElementParts) (x : List ℕ) → Element e x → (v : ElementSpan) × SpannedElement v x × (v.id ≡ e.id)
@@ -45,7 +48,8 @@ pub record Split (e : ElementParts) (es : List ElementParts) (rest behind : List
   pub same : e.id ≡ v.id
   pub others : Each Element es behind
 
-pub split : (e : ElementParts) (es : List ElementParts) (rest behind : List ℕ) (v : ElementSpan) → Each Element (e ∷ es) rest → SplitsElement rest v behind → Split e es rest behind v
+pub split : (e : ElementParts) (es : List ElementParts) (rest behind : List ℕ) (v : ElementSpan)
+    → Each Element (e ∷ es) rest → SplitsElement rest v behind → Split e es rest behind v
 split e es rest behind v (x, y, g, h, k) first =
     let (t, f, s) = first y (x, g, (e, h)) in
     let same : x ≡ t = IsPrefixFree-element x y t behind (e, h) (spanned_element t (v, s)) (sym g ∙ f) in
@@ -73,7 +77,9 @@ Seeks elements id rest = (es : List ElementParts) → Each Element es elements �
 pub seeks_all : (elements id : List ℕ) → Seeks elements id elements
 seeks_all elements id es h = record { todo = es; each = h; to = λ k. k; from = λ k. k }
 
-found_more : (id : List ℕ) (es todo : List ElementParts) (rest behind t : List ℕ) (x : ℕ) (v : ElementSpan) → rest ≡ x ∷ t → Each Element todo rest → (HasId id es → HasId id todo) → (HasId id todo → HasId id es) → SplitsElement rest v behind → v.id ≢ id → Left id es behind
+found_more : (id : List ℕ) (es todo : List ElementParts) (rest behind t : List ℕ) (x : ℕ) (v : ElementSpan)
+    → rest ≡ x ∷ t → Each Element todo rest → (HasId id es → HasId id todo) → (HasId id todo → HasId id es)
+    → SplitsElement rest v behind → v.id ≢ id → Left id es behind
 found_more id es [] rest behind t x v e h to from f ne = let i : ◌≡◌ {A = List ℕ} [] (x ∷ t) = sym h ∙ e in absurd cc
 found_more id es (d ∷ ds) rest behind t x v e h to from f ne =
     let s = split d ds rest behind v h f in
@@ -84,46 +90,59 @@ found_more id es (d ∷ ds) rest behind t x v e h to from f ne =
       from = λ k. from (inr k);
     }
 
-pub seeks_more : (elements id rest behind t : List ℕ) (x : ℕ) (v : ElementSpan) → rest ≡ x ∷ t → SplitsElement rest v behind → v.id ≢ id → Seeks elements id rest → Seeks elements id behind
+pub seeks_more : (elements id rest behind t : List ℕ) (x : ℕ) (v : ElementSpan) → rest ≡ x ∷ t
+    → SplitsElement rest v behind → v.id ≢ id → Seeks elements id rest → Seeks elements id behind
 seeks_more elements id rest behind t x v e f ne seeks es h =
     let k = seeks es h in
     found_more id es k.todo rest behind t x v e k.each k.to k.from f ne
 
-found_here : (id : List ℕ) (todo : List ElementParts) (rest behind t : List ℕ) (x : ℕ) (v : ElementSpan) → rest ≡ x ∷ t → Each Element todo rest → SplitsElement rest v behind → v.id ≡ id → HasId id todo
+found_here : (id : List ℕ) (todo : List ElementParts) (rest behind t : List ℕ) (x : ℕ) (v : ElementSpan) → rest ≡ x ∷ t
+    → Each Element todo rest → SplitsElement rest v behind → v.id ≡ id → HasId id todo
 found_here id [] rest behind t x v e h f g = let i : ◌≡◌ {A = List ℕ} [] (x ∷ t) = sym h ∙ e in absurd cc
 found_here id (d ∷ ds) rest behind t x v e h f g = inl ((split d ds rest behind v h f).same ∙ g)
 
-pub seeks_found : (elements id rest behind t : List ℕ) (x : ℕ) (v : ElementSpan) → rest ≡ x ∷ t → SplitsElement rest v behind → v.id ≡ id → Seeks elements id rest → (es : List ElementParts) → Each Element es elements → IsTrue true ↔ HasId id es
+pub seeks_found : (elements id rest behind t : List ℕ) (x : ℕ) (v : ElementSpan) → rest ≡ x ∷ t
+    → SplitsElement rest v behind → v.id ≡ id → Seeks elements id rest → (es : List ElementParts)
+    → Each Element es elements → IsTrue true ↔ HasId id es
 seeks_found elements id rest behind t x v e f g seeks es h =
     let k = seeks es h in
     (λ u. k.from (found_here id k.todo rest behind t x v e k.each f g), λ u. refl)
 
 none_left : (id : List ℕ) (todo : List ElementParts) → Each Element todo [] → HasId id todo → ⊥
 none_left id [] h k = k
-none_left id (d ∷ ds) (x, y, g, h, l) k = let f = element_prefix x (d, h) in let i : ◌≡◌ {A = List ℕ} [] (91 ∷ (f.0 ++ y)) = g ∙ ap (λ (u : List ℕ). u ++ y) f.1 in absurd cc
+none_left id (d ∷ ds) (x, y, g, h, l) k = let f = element_prefix x (d, h) in
+    let i : ◌≡◌ {A = List ℕ} [] (91 ∷ (f.0 ++ y)) = g ∙ ap (λ (u : List ℕ). u ++ y) f.1 in absurd cc
 
-pub seeks_end : (elements id rest : List ℕ) → rest ≡ [] → Seeks elements id rest → (es : List ElementParts) → Each Element es elements → IsTrue false ↔ HasId id es
+pub seeks_end : (elements id rest : List ℕ) → rest ≡ [] → Seeks elements id rest → (es : List ElementParts)
+    → Each Element es elements → IsTrue false ↔ HasId id es
 seeks_end elements id rest e seeks es h =
     let k = seeks es h in
     (λ u. absurd cc, λ u. absurd (none_left id k.todo (subst (Each Element k.todo) e k.each) (k.to u)))
 
 -- ---- distinct ids
 
-has_end : (id : List ℕ) (es : List ElementParts) (e : ElementParts) → HasId id (es ++ e ∷ []) → HasId id es ⊎ (e.id ≡ id)
+has_end : (id : List ℕ) (es : List ElementParts) (e : ElementParts) → HasId id (es ++ e ∷ [])
+    → HasId id es ⊎ (e.id ≡ id)
 has_end id [] e (inl h) = inr h
 has_end id [] e (inr h) = absurd h
 has_end id (d ∷ es) e (inl h) = inl (inl h)
 has_end id (d ∷ es) e (inr h) = elim (has_end id es e h) [ inl k ↦ inl (inr k) | inr k ↦ inr k ]
 
-distinct_end : (es : List ElementParts) (e : ElementParts) → AreDistinct es → ¬ (HasId e.id es) → AreDistinct (es ++ e ∷ [])
+distinct_end : (es : List ElementParts) (e : ElementParts) → AreDistinct es → ¬ (HasId e.id es)
+    → AreDistinct (es ++ e ∷ [])
 distinct_end [] e d none = (λ h. h, tt)
-distinct_end (f ∷ es) e d none = (λ h. elim (has_end f.id es e h) [ inl k ↦ d.0 k | inr k ↦ none (inl (sym k)) ], distinct_end es e d.1 (λ h. none (inr h)))
+distinct_end (f ∷ es) e d none = (
+  λ h. elim (has_end f.id es e h) [ inl k ↦ d.0 k | inr k ↦ none (inl (sym k)) ],
+  distinct_end es e d.1 (λ h. none (inr h)),
+)
 
-all_end : (P : ElementParts → Type 0) (es : List ElementParts) (e : ElementParts) → AllByRecursion P es → P e → AllByRecursion P (es ++ e ∷ [])
+all_end : (P : ElementParts → Type 0) (es : List ElementParts) (e : ElementParts) → AllByRecursion P es → P e
+    → AllByRecursion P (es ++ e ∷ [])
 all_end P [] e h p = (p, tt)
 all_end P (f ∷ es) e h p = (h.0, all_end P es e h.1 p)
 
-none_above : (id : List ℕ) (greatest : Option (List ℕ)) (es : List ElementParts) → IsAbove id greatest → AllByRecursion (λ e. IsAtMost e.id greatest) es → ¬ (HasId id es)
+none_above : (id : List ℕ) (greatest : Option (List ℕ)) (es : List ElementParts) → IsAbove id greatest
+    → AllByRecursion (λ e. IsAtMost e.id greatest) es → ¬ (HasId id es)
 none_above id greatest [] a h k = k
 none_above id None (e ∷ es) a h k = h.0
 none_above id (Some g) (e ∷ es) a h (inl k) = elim h.0 [
@@ -132,7 +151,8 @@ none_above id (Some g) (e ∷ es) a h (inl k) = elim h.0 [
 ]
 none_above id (Some g) (e ∷ es) a h (inr k) = none_above id (Some g) es a h.1 k
 
-raised : (id : List ℕ) (greatest : Option (List ℕ)) (es : List ElementParts) → IsAbove id greatest → AllByRecursion (λ e. IsAtMost e.id greatest) es → AllByRecursion (λ e. IsAtMost e.id (Some id)) es
+raised : (id : List ℕ) (greatest : Option (List ℕ)) (es : List ElementParts) → IsAbove id greatest
+    → AllByRecursion (λ e. IsAtMost e.id greatest) es → AllByRecursion (λ e. IsAtMost e.id (Some id)) es
 raised id greatest [] a h = tt
 raised id None (e ∷ es) a h = absurd h.0
 raised id (Some g) (e ∷ es) a h = (
@@ -145,13 +165,17 @@ raised id (Some g) (e ∷ es) a h = (
 
 -- ---- from the left
 
-each_end : (es : List ElementParts) (e : ElementParts) (p q : List ℕ) → Each Element es p → Element e q → Each Element (es ++ e ∷ []) (p ++ q)
+each_end : (es : List ElementParts) (e : ElementParts) (p q : List ℕ) → Each Element es p → Element e q
+    → Each Element (es ++ e ∷ []) (p ++ q)
 each_end [] e p q h k = (q, [], ap (λ (u : List ℕ). u ++ q) h ∙ sym (append-nil q), k, refl)
-each_end (f ∷ es) e p q (x, y, g, h, l) k = (x, y ++ q, ap (λ (u : List ℕ). u ++ q) g ∙ append_assoc x y q, h, each_end es e y q l k)
+each_end (f ∷ es) e p q (x, y, g, h, l) k =
+    (x, y ++ q, ap (λ (u : List ℕ). u ++ q) g ∙ append_assoc x y q, h, each_end es e y q l k)
 
-each_join : (es fs : List ElementParts) (p q : List ℕ) → Each Element es p → Each Element fs q → Each Element (es ++ fs) (p ++ q)
+each_join : (es fs : List ElementParts) (p q : List ℕ) → Each Element es p → Each Element fs q
+    → Each Element (es ++ fs) (p ++ q)
 each_join [] fs p q h k = subst (λ (u : List ℕ). Each Element fs (u ++ q)) (sym h) k
-each_join (f ∷ es) fs p q (x, y, g, h, l) k = (x, y ++ q, ap (λ (u : List ℕ). u ++ q) g ∙ append_assoc x y q, h, each_join es fs y q l k)
+each_join (f ∷ es) fs p q (x, y, g, h, l) k =
+    (x, y ++ q, ap (λ (u : List ℕ). u ++ q) g ∙ append_assoc x y q, h, each_join es fs y q l k)
 
 -- the same, with the greatest id that was met
 pub record Rising (text rest : List ℕ) (greatest : Option (List ℕ)) : Type 0 where
@@ -159,8 +183,16 @@ pub record Rising (text rest : List ℕ) (greatest : Option (List ℕ)) : Type 0
   pub most : AllByRecursion (λ e. IsAtMost e.id greatest) known.before
 
 pub rising_none : (text : List ℕ) → AnyOf StructuredDataText text → Rising text text None
-rising_none text ([], h) = record { known = record { prefix = []; before = []; parts = refl; each = refl; distinct = tt; more = inr (refl, h) }; most = tt }
-rising_none text (e ∷ es, h) = record { known = record { prefix = []; before = []; parts = refl; each = refl; distinct = tt; more = inl (e ∷ es, h) }; most = tt }
+rising_none text ([], h) = record {
+  known =
+      record { prefix = []; before = []; parts = refl; each = refl; distinct = tt; more = inr (refl, h) };
+  most = tt;
+}
+rising_none text (e ∷ es, h) = record {
+  known =
+      record { prefix = []; before = []; parts = refl; each = refl; distinct = tt; more = inl (e ∷ es, h) };
+  most = tt;
+}
 
 some_data : (es : List ElementParts) (text : List ℕ) → text ≢ [] → Each Element es text → StructuredDataText es text
 some_data [] text some h = absurd (some h)
@@ -183,12 +215,22 @@ not_bracket (d ∷ es) rest t x e (y, z, g, h, k) =
 pub known_nil : (text rest t : List ℕ) (x : ℕ) → rest ≡ x ∷ t → x ≢ 91 → Known text rest → HoldsDistinct text
 known_nil text rest t x e ne s = elim s.more [
   | inl k ↦ absurd (ne (not_bracket k.0 rest t x e k.1))
-  | inr k ↦ ([], s.parts ∙ ap (λ (u : List ℕ). u ++ rest) (subst (λ (es : List ElementParts). Each Element es s.prefix) k.0 s.each) ∙ k.1, tt)
+  | inr k ↦ (
+    [],
+    s.parts ∙ ap (λ (u : List ℕ). u ++ rest)
+        (subst (λ (es : List ElementParts). Each Element es s.prefix) k.0 s.each) ∙ k.1,
+    tt,
+  )
 ]
 
 pub known_end : (text rest : List ℕ) → AnyOf StructuredDataText text → rest ≡ [] → Known text rest → HoldsDistinct text
-known_end text rest d e s =
-    (s.before, some_data s.before text (data_some text d) (subst (Each Element s.before) (sym (s.parts ∙ ap (λ (u : List ℕ). s.prefix ++ u) e ∙ append-nil s.prefix)) s.each), s.distinct)
+known_end text rest d e s = (
+  s.before,
+  some_data s.before text (data_some text d)
+      (subst (Each Element s.before) (sym (s.parts ∙ ap (λ (u : List ℕ). s.prefix ++ u) e ∙ append-nil s.prefix))
+      s.each),
+  s.distinct,
+)
 
 -- the element that was read, and the others
 record Next (rest behind : List ℕ) (v : ElementSpan) : Type 0 where
@@ -197,12 +239,15 @@ record Next (rest behind : List ℕ) (v : ElementSpan) : Type 0 where
   pub whole : Each Element (element ∷ others) rest
   pub split : Split element others rest behind v
 
-next_of : (es : List ElementParts) (rest behind t : List ℕ) (x : ℕ) (v : ElementSpan) → rest ≡ x ∷ t → Each Element es rest → SplitsElement rest v behind → Next rest behind v
+next_of : (es : List ElementParts) (rest behind t : List ℕ) (x : ℕ) (v : ElementSpan) → rest ≡ x ∷ t
+    → Each Element es rest → SplitsElement rest v behind → Next rest behind v
 next_of [] rest behind t x v e h f =
     let i : ◌≡◌ {A = List ℕ} [] (x ∷ t) = sym h ∙ e in absurd cc
-next_of (d ∷ es) rest behind t x v e h f = record { element = d; others = es; whole = h; split = split d es rest behind v h f }
+next_of (d ∷ es) rest behind t x v e h f =
+    record { element = d; others = es; whole = h; split = split d es rest behind v h f }
 
-next : (text rest behind t : List ℕ) (x : ℕ) (v : ElementSpan) → rest ≡ x ∷ t → x ≡ 91 → SplitsElement rest v behind → Known text rest → Next rest behind v
+next : (text rest behind t : List ℕ) (x : ℕ) (v : ElementSpan) → rest ≡ x ∷ t → x ≡ 91 → SplitsElement rest v behind
+    → Known text rest → Next rest behind v
 next text rest behind t x v e g f s = elim s.more [
   | inl k ↦ next_of k.0 rest behind t x v e k.1 f
   | inr k ↦
@@ -214,48 +259,77 @@ prefix_is text prefix rest e =
     let n : length text - length rest ≡ length prefix = omega (arith, ap length e, length-append prefix rest) in
     rw (n, e) (take_at prefix rest (length prefix) refl)
 
-abbrev keep : (text rest behind : List ℕ) (v : ElementSpan) (s : Known text rest) → Next rest behind v → ¬ (HasId v.id s.before) → Known text behind
+abbrev keep : (text rest behind : List ℕ) (v : ElementSpan) (s : Known text rest) → Next rest behind v
+    → ¬ (HasId v.id s.before) → Known text behind
 keep text rest behind v s n none = record {
   prefix = s.prefix ++ n.split.prefix;
   before = s.before ++ n.element ∷ [];
-  parts = s.parts ∙ ap (λ (u : List ℕ). s.prefix ++ u) n.split.parts ∙ sym (append_assoc s.prefix n.split.prefix behind);
+  parts = s.parts ∙ ap (λ (u : List ℕ). s.prefix ++ u) n.split.parts
+      ∙ sym (append_assoc s.prefix n.split.prefix behind);
   each = each_end s.before n.element s.prefix n.split.prefix s.each n.split.text;
-  distinct = distinct_end s.before n.element s.distinct (λ h. none (subst (λ (id : List ℕ). HasId id s.before) n.split.same h));
+  distinct = distinct_end s.before n.element s.distinct
+      (λ h. none (subst (λ (id : List ℕ). HasId id s.before) n.split.same h));
   more = inl (n.others, n.split.others);
 }
 
 -- an id above all
-pub rising_above : (text rest behind t : List ℕ) (x : ℕ) (greatest : Option (List ℕ)) (v : ElementSpan) → rest ≡ x ∷ t → x ≡ 91 → SplitsElement rest v behind → IsAbove v.id greatest → Rising text rest greatest → Rising text behind (Some v.id)
+pub rising_above : (text rest behind t : List ℕ) (x : ℕ) (greatest : Option (List ℕ)) (v : ElementSpan) → rest ≡ x ∷ t
+    → x ≡ 91 → SplitsElement rest v behind → IsAbove v.id greatest → Rising text rest greatest
+    → Rising text behind (Some v.id)
 rising_above text rest behind t x greatest v e g f a s =
     let n = next text rest behind t x v e g f s.known in
     record {
       known = keep text rest behind v s.known n (none_above v.id greatest s.known.before a s.most);
-      most = all_end (λ e. IsAtMost e.id (Some v.id)) s.known.before n.element (raised v.id greatest s.known.before a s.most) (subst (λ (id : List ℕ). IsAtMost id (Some v.id)) (sym n.split.same) (inl refl));
+      most = all_end (λ e. IsAtMost e.id (Some v.id)) s.known.before n.element
+          (raised v.id greatest s.known.before a s.most)
+          (subst (λ (id : List ℕ). IsAtMost id (Some v.id)) (sym n.split.same) (inl refl));
     }
 
 -- an id that is not among those before
-pub known_new : (text rest behind t : List ℕ) (x : ℕ) (v : ElementSpan) (found : Bool) → rest ≡ x ∷ t → x ≡ 91 → SplitsElement rest v behind
-    → ((es : List ElementParts) → Each Element es (take (length text - length rest) text) → IsTrue found ↔ HasId v.id es) → found ≡ false → Known text rest → Known text behind
+pub known_new : (text rest behind t : List ℕ) (x : ℕ) (v : ElementSpan) (found : Bool) → rest ≡ x ∷ t → x ≡ 91
+    → SplitsElement rest v behind
+    → ((es : List ElementParts) → Each Element es (take (length text - length rest) text)
+    → IsTrue found ↔ HasId v.id es) → found ≡ false → Known text rest → Known text behind
 known_new text rest behind t x v found e g f finds isn s =
-    keep text rest behind v s (next text rest behind t x v e g f s) (λ h. apart ((finds s.before (subst (Each Element s.before) (sym (prefix_is text s.prefix rest s.parts)) s.each)).1 h))
+    keep text rest behind v s (next text rest behind t x v e g f s)
+    (λ h. apart ((finds s.before (subst (Each Element s.before) (sym (prefix_is text s.prefix rest s.parts))
+    s.each)).1 h))
   where
     apart : found ≡ true → ⊥
     apart y =
         let i : false ≡ true = sym isn ∙ y in absurd cc
 
 -- an id that is among those before
-pub known_repeated : (text rest behind t : List ℕ) (x : ℕ) (v : ElementSpan) (found : Bool) (at : ℕ) → AnyOf StructuredDataText text → rest ≡ x ∷ t → x ≡ 91 → SplitsElement rest v behind
-    → ((es : List ElementParts) → Each Element es (take (length text - length rest) text) → IsTrue found ↔ HasId v.id es) → found ≡ true → at ≡ length (take (length text - length rest) text) + 1 → Known text rest → HoldsRepeated text at
+pub known_repeated : (text rest behind t : List ℕ) (x : ℕ) (v : ElementSpan) (found : Bool) (at : ℕ)
+    → AnyOf StructuredDataText text → rest ≡ x ∷ t → x ≡ 91 → SplitsElement rest v behind
+    → ((es : List ElementParts) → Each Element es (take (length text - length rest) text)
+    → IsTrue found ↔ HasId v.id es) → found ≡ true → at ≡ length (take (length text - length rest) text) + 1
+    → Known text rest → HoldsRepeated text at
 known_repeated text rest behind t x v found at d e g f finds is offset s =
     let n = next text rest behind t x v e g f s in
     let prefix = prefix_is text s.prefix rest s.parts in
     let has : HasId v.id s.before = (finds s.before (subst (Each Element s.before) (sym prefix) s.each)).0 is in
     let all = s.before ++ n.element ∷ n.others in (
       all,
-      some_data all text (data_some text d) (subst (Each Element all) (sym s.parts) (each_join s.before (n.element ∷ n.others) s.prefix rest s.each n.whole)),
+      some_data all text (data_some text d) (subst (Each Element all) (sym s.parts)
+          (each_join s.before (n.element ∷ n.others) s.prefix rest s.each n.whole)),
       s.before,
-      record { element = n.element; behind = n.others; parts = refl; distinct = s.distinct; same = subst (λ (id : List ℕ). HasId id s.before) (sym n.split.same) has },
-      (s.prefix ++ 91 ∷ [], t, s.parts ∙ ap (λ (u : List ℕ). s.prefix ++ u) (e ∙ ap (λ (k : ℕ). k ∷ t) g) ∙ sym (append_assoc s.prefix (91 ∷ []) t), (s.prefix, 91 ∷ [], refl, s.each, refl), omega (arith, offset, ap length prefix, length-append s.prefix (91 ∷ []))),
+      record {
+        element = n.element;
+        behind = n.others;
+        parts = refl;
+        distinct = s.distinct;
+        same =
+            subst (λ (id : List ℕ). HasId id s.before) (sym n.split.same) has;
+      },
+      (
+        s.prefix ++ 91 ∷ [],
+        t,
+        s.parts ∙ ap (λ (u : List ℕ). s.prefix ++ u) (e ∙ ap (λ (k : ℕ). k ∷ t) g)
+            ∙ sym (append_assoc s.prefix (91 ∷ []) t),
+        (s.prefix, 91 ∷ [], refl, s.each, refl),
+        omega (arith, offset, ap length prefix, length-append s.prefix (91 ∷ [])),
+      ),
     )
 
 -- ---- so many elements further
@@ -263,14 +337,18 @@ known_repeated text rest behind t x v found at d e g f finds is offset s =
 pub skips_none : (elements : List ℕ) → Skips elements elements
 skips_none elements = record { prefix = []; parts = refl; both = λ es h. ([], es, refl, h) }
 
-pub skips_more : (elements rest behind t : List ℕ) (x : ℕ) (v : ElementSpan) → rest ≡ x ∷ t → SplitsElement rest v behind → (prefix : List ℕ) × (rest ≡ prefix ++ behind) → Skips elements rest → Skips elements behind
+pub skips_more : (elements rest behind t : List ℕ) (x : ℕ) (v : ElementSpan) → rest ≡ x ∷ t
+    → SplitsElement rest v behind → (prefix : List ℕ) × (rest ≡ prefix ++ behind) → Skips elements rest
+    → Skips elements behind
 skips_more elements rest behind t x v e f (text, parts) s = record {
   prefix = s.prefix ++ text;
   parts = s.parts ∙ ap (λ (u : List ℕ). s.prefix ++ u) parts ∙ sym (append_assoc s.prefix text behind);
   both = λ es h. let k = s.both es h in one k.0 k.1 k.2 k.3;
 }
   where
-    one : (us bs : List ElementParts) → Each Element us s.prefix → Each Element bs rest → (cs : List ElementParts) × (ds : List ElementParts) × Each Element cs (s.prefix ++ text) × Each Element ds behind
+    one : (us bs : List ElementParts) → Each Element us s.prefix → Each Element bs rest
+        → (cs : List ElementParts) × (ds : List ElementParts) × Each Element cs (s.prefix ++ text)
+        × Each Element ds behind
     one us [] h k =
         let i : ◌≡◌ {A = List ℕ} [] (x ∷ t) = sym k ∙ e in absurd cc
     one us (d ∷ bs) h k =
@@ -279,18 +357,22 @@ skips_more elements rest behind t x v e f (text, parts) s = record {
         (us ++ d ∷ [], bs, each_end us d s.prefix text h (subst (Element d) same p.text), p.others)
 
 -- elements further on, where the ids up to there differ
-pub known_further : (text rest behind t : List ℕ) (x : ℕ) → rest ≡ x ∷ t → x ≡ 91 → Skips rest behind → ((es : List ElementParts) → Each Element es (take (length text - length behind) text) → AreDistinct es) → Known text rest → Known text behind
+pub known_further : (text rest behind t : List ℕ) (x : ℕ) → rest ≡ x ∷ t → x ≡ 91 → Skips rest behind
+    → ((es : List ElementParts) → Each Element es (take (length text - length behind) text) → AreDistinct es)
+    → Known text rest → Known text behind
 known_further text rest behind t x e g k differ s = elim s.more [
   | inl m ↦
       let b = k.both m.0 m.1 in
-      let parts : text ≡ (s.prefix ++ k.prefix) ++ behind = s.parts ∙ ap (λ (u : List ℕ). s.prefix ++ u) k.parts ∙ sym (append_assoc s.prefix k.prefix behind) in
+      let parts : text ≡ (s.prefix ++ k.prefix) ++ behind =
+      s.parts ∙ ap (λ (u : List ℕ). s.prefix ++ u) k.parts ∙ sym (append_assoc s.prefix k.prefix behind) in
       let each = each_join s.before b.0 s.prefix k.prefix s.each b.2 in
       record {
         prefix = s.prefix ++ k.prefix;
         before = s.before ++ b.0;
         parts = parts;
         each = each;
-        distinct = differ (s.before ++ b.0) (subst (Each Element (s.before ++ b.0)) (sym (prefix_is text (s.prefix ++ k.prefix) behind parts)) each);
+        distinct = differ (s.before ++ b.0) (subst (Each Element (s.before ++ b.0))
+            (sym (prefix_is text (s.prefix ++ k.prefix) behind parts)) each);
         more = inl (b.1, b.3);
       }
   | inr m ↦
@@ -299,12 +381,16 @@ known_further text rest behind t x e g k differ s = elim s.more [
 
 -- ---- above the greatest
 
-pub above_when : (greatest id : List ℕ) (o : Ordering) → MatchOrdering o (OctetsBelow greatest id) (greatest ≡ id) (OctetsBelow id greatest) → o ≡ Less → OctetsBelow greatest id
+pub above_when : (greatest id : List ℕ) (o : Ordering)
+    → MatchOrdering o (OctetsBelow greatest id) (greatest ≡ id) (OctetsBelow id greatest) → o ≡ Less
+    → OctetsBelow greatest id
 above_when greatest id Less h e = h
 above_when greatest id Equal h e = absurd cc
 above_when greatest id Greater h e = absurd cc
 
-pub most_when : (greatest id : List ℕ) (o : Ordering) → MatchOrdering o (OctetsBelow greatest id) (greatest ≡ id) (OctetsBelow id greatest) → o ≢ Less → IsAtMost id (Some greatest)
+pub most_when : (greatest id : List ℕ) (o : Ordering)
+    → MatchOrdering o (OctetsBelow greatest id) (greatest ≡ id) (OctetsBelow id greatest) → o ≢ Less
+    → IsAtMost id (Some greatest)
 most_when greatest id Less h e = absurd (e refl)
 most_when greatest id Equal h e = inl (sym h)
 most_when greatest id Greater h e = inr h

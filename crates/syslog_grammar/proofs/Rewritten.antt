@@ -1,6 +1,7 @@
 -- Structured data that is written from its octets.
-use Rattle.std.proofs.Common.{◌≡◌, ℕ, List, [], ◌∷◌, ◌++◌, take, drop, refl, sym, ap, subst, ◌∙◌, append_assoc, inl, inr}
-use Rattle.std.specs.Prelude.{ℤ, Option, Some, None, Result, Ok, Err}
+use Rattle.std.proofs.Common.{◌≡◌, ℕ, List, [], ◌∷◌, ◌++◌, take, drop, refl, sym, ap, subst, ◌∙◌, append_assoc, inl}
+use Rattle.std.proofs.Common.{inr}
+use Rattle.std.specs.Prelude.{ℤ, Bool, IsTrue, Option, Some, None, Result, Ok, Err}
 use Rattle.std.specs.List.{flat_map}
 use Rattle.std.proofs.lemmas.List.{append-nil}
 use Rattle.std.proofs.lemmas.List.Sorted.{IsPermutation-refl}
@@ -11,10 +12,9 @@ use Rattle.syslog_value.specs.Parts.{ParamParts, ElementParts, Parts, IsById}
 use Rattle.syslog_grammar.specs.Appending.{Anything, Adds, Puts}
 use Rattle.syslog_grammar.specs.Canonical.{escaped, param_form, element_form, message_form, HeaderForm, SpacedWord}
 use Rattle.syslog_grammar.specs.Escapes.{MeansFirst}
-use Rattle.syslog_grammar.specs.Grammar.{Param, Element, WordFields}
+use Rattle.syslog_grammar.specs.Grammar.{Param, Element, StructuredDataText, WordFields}
 use Rattle.syslog_grammar.specs.Verbatim.{HasOneMessageForm, VerbatimForm}
-use Rattle.syslog_grammar.specs.Ids.{IsAbove, IsAtMost, IsRisingFrom, ids_of}
-use Rattle.syslog_grammar.specs.Reescaped.{ValueOf, ParamOf, ParamsOf, ElementOf, ElementsOf, StructuredDataOf, AreUnordered}
+use Rattle.syslog_grammar.specs.Reescaped.{ValueOf, ParamOf, ParamsOf, ElementOf, ElementsOf, StructuredDataOf}
 use Rattle.syslog_grammar.specs.ViewParts.{ViewParts, HasParts, IsViewOf}
 use Rattle.syslog_grammar.specs.FirstElements.{SplitsElement, SplitsParam}
 use Rattle.syslog_grammar.specs.Sorting.{SortedDataOf}
@@ -24,10 +24,11 @@ use Rattle.syslog_grammar.specs.Values.{Piece, Spells}
 use Rattle.syslog_grammar.specs.WellFormed.{IsMeaning, AddsCanonical}
 use Rattle.syslog_grammar.proofs.Appends.{adds_some}
 use Rattle.syslog_grammar.proofs.CanonicalForms.{word_formed}
-use Rattle.syslog_grammar.proofs.DataForms.{item, form_raw, form_text, first_item, of_rising, rising_of, none_met, not_above}
+use Rattle.syslog_grammar.proofs.DataForms.{item, form_raw, form_text, first_item}
 use Rattle.syslog_grammar.proofs.OwnedParts.{param_same, element_same}
 use Rattle.syslog_grammar.proofs.ParamTexts.{IsPrefixFree-param, spanned_param, param_prefix, element_prefix}
-use Rattle.syslog_grammar.proofs.ValueForms.{joined, runs, escape, lone_more, marked_at, at_mark, all_plain, escaped_join, escaped_special, free_rest}
+use Rattle.syslog_grammar.proofs.ValueForms.{joined, runs, escape, lone_more, marked_at, at_mark, all_plain}
+use Rattle.syslog_grammar.proofs.ValueForms.{escaped_join, escaped_special, free_rest}
 
 -- ---- values
 
@@ -35,7 +36,8 @@ use Rattle.syslog_grammar.proofs.ValueForms.{joined, runs, escape, lone_more, ma
 pub record Written (raw rest old out : List ℕ) : Type 0 where
   pub done : List ℕ
   pub parts : out ≡ old ++ done
-  pub is : (text : List ℕ) → Spells text raw → (ms : List (List ℕ)) × Each Piece ms rest × (escaped text ≡ done ++ escaped (joined ms))
+  pub is : (text : List ℕ) → Spells text raw
+      → (ms : List (List ℕ)) × Each Piece ms rest × (escaped text ≡ done ++ escaped (joined ms))
 
 pub written_all : (raw old : List ℕ) → Written raw raw old old
 written_all raw old = record { done = []; parts = sym (append-nil old); is = λ text h. (h.0, h.2, ap escaped h.1) }
@@ -44,48 +46,69 @@ pub written_begun : (raw rest old out : List ℕ) → Written raw rest old out �
 written_begun raw rest old out w = (w.done, tt, w.parts)
 
 -- the pieces after a backslash and what it means with the octet after it
-mark_next : (ms : List (List ℕ)) (t first behind : List ℕ) → MeansFirst (92 ∷ t) first behind → Each Piece ms (92 ∷ t) → (ks : List (List ℕ)) × Each Piece ks behind × (escaped (joined ms) ≡ 92 ∷ (first ++ escaped (joined ks)))
+mark_next : (ms : List (List ℕ)) (t first behind : List ℕ) → MeansFirst (92 ∷ t) first behind → Each Piece ms (92 ∷ t)
+    → (ks : List (List ℕ)) × Each Piece ks behind × (escaped (joined ms) ≡ 92 ∷ (first ++ escaped (joined ks)))
 mark_next ms t first behind (inl (x, s, e, f)) h =
     let same : t ≡ x ∷ behind = tails 92 92 t (x ∷ behind) e in
-    let q = escape ms x behind (subst (λ (u : List ℕ). Each Piece ms (92 ∷ u)) same h) s in
-    (q.behind, q.each, ap escaped q.means ∙ escaped_special x (joined q.behind) s ∙ ap (λ (u : List ℕ). 92 ∷ (u ++ escaped (joined q.behind))) (sym f))
+    let q = escape ms x behind (subst (λ (u : List ℕ). Each Piece ms (92 ∷ u)) same h) s in (
+      q.behind,
+      q.each,
+      ap escaped q.means ∙ escaped_special x (joined q.behind) s
+          ∙ ap (λ (u : List ℕ). 92 ∷ (u ++ escaped (joined q.behind))) (sym f),
+    )
 mark_next ms t first behind (inr (e, none, f)) h =
     let same : t ≡ behind = tails 92 92 t behind e in
-    let q = lone_more ms behind (subst (λ (u : List ℕ). Each Piece ms (92 ∷ u)) same h) none in
-    (q.0, q.1, ap escaped q.2 ∙ escaped_special 92 (joined q.0) (inr (inl refl)) ∙ ap (λ (u : List ℕ). 92 ∷ (u ++ escaped (joined q.0))) (sym f))
+    let q = lone_more ms behind (subst (λ (u : List ℕ). Each Piece ms (92 ∷ u)) same h) none in (
+      q.0,
+      q.1,
+      ap escaped q.2 ∙ escaped_special 92 (joined q.0) (inr (inl refl))
+          ∙ ap (λ (u : List ℕ). 92 ∷ (u ++ escaped (joined q.0))) (sym f),
+    )
 
-pub written_more : (raw rest old out m1 m2 m3 plain escaped_rest first behind : List ℕ) (k : ℕ) → Written raw rest old out → IsFirstByte (is_byte 92) rest (Some k)
+pub written_more : (raw rest old out m1 m2 m3 plain escaped_rest first behind : List ℕ) (k : ℕ)
+    → Written raw rest old out → IsFirstByte (is_byte 92) rest (Some k)
     → plain ≡ take k rest → escaped_rest ≡ drop k rest → MeansFirst escaped_rest first behind
     → Adds (Only plain) out m1 → Adds (Only (92 ∷ [])) m1 m2 → Adds (Only first) m2 m3 → Written raw behind old m3
 written_more raw rest old out m1 m2 m3 plain escaped_rest first behind k w f p m b (x, xs, xe) (y, ys, ye) (z, zs, ze) =
     let t = drop 1 escaped_rest in
     let at = marked_at rest escaped_rest t k f m refl in
-    let backslash : escaped_rest ≡ 92 ∷ t = m ∙ at_mark k rest f.0.high f.1 ∙ ap (λ (u : List ℕ). 92 ∷ drop 1 u) (sym m) in
+    let backslash : escaped_rest ≡ 92 ∷ t = m ∙ at_mark k rest f.0.high f.1 ∙ ap (λ (u : List ℕ). 92 ∷ drop 1 u) (sym m)
+    in
     record {
       done = w.done ++ plain ++ 92 ∷ [] ++ first;
-      parts = ze ∙ ap (λ (u : List ℕ). u ++ z) (ye ∙ ap (λ (u : List ℕ). u ++ y) (xe ∙ ap (λ (u : List ℕ). u ++ x) w.parts)) ∙ rw (xs, ys, zs) (simp append_assoc);
+      parts = ze ∙ ap (λ (u : List ℕ). u ++ z)
+          (ye ∙ ap (λ (u : List ℕ). u ++ y) (xe ∙ ap (λ (u : List ℕ). u ++ x) w.parts))
+          ∙ rw (xs, ys, zs) (simp append_assoc);
       is = λ text h.
           let l = w.is text h in
           let r = runs l.0 rest (take k rest) t l.1 at.parts at.free in
-          let q = mark_next r.behind t first behind (subst (λ (u : List ℕ). MeansFirst u first behind) backslash b) r.each in (
+          let q = mark_next r.behind t first behind (subst (λ (u : List ℕ). MeansFirst u first behind) backslash b)
+          r.each in (
             q.0,
             q.1,
-            l.2 ∙ ap (λ (u : List ℕ). w.done ++ escaped u) r.means ∙ ap (λ (u : List ℕ). w.done ++ u) (escaped_join (take k rest) (joined r.behind) ∙ ap (λ (u : List ℕ). u ++ escaped (joined r.behind)) (r.same ∙ sym p) ∙ ap (λ (u : List ℕ). plain ++ u) q.2)
+            l.2 ∙ ap (λ (u : List ℕ). w.done ++ escaped u) r.means
+                ∙ ap (λ (u : List ℕ). w.done ++ u) (escaped_join (take k rest) (joined r.behind)
+                ∙ ap (λ (u : List ℕ). u ++ escaped (joined r.behind)) (r.same ∙ sym p)
+                ∙ ap (λ (u : List ℕ). plain ++ u) q.2)
                 ∙ simp append_assoc,
           );
     }
 
-pub written_end : {X E : Type 0} (raw rest old out new : List ℕ) (r : Result X E) → Written raw rest old out → IsFirstByte (is_byte 92) rest None → Puts (Only rest) out new r → Puts (ValueOf raw) old new r
+pub written_end : {X E : Type 0} (raw rest old out new : List ℕ) (r : Result X E) → Written raw rest old out
+    → IsFirstByte (is_byte 92) rest None → Puts (Only rest) out new r → Puts (ValueOf raw) old new r
 written_end raw rest old out new (Ok x) w f (t, ts, te) = (
   w.done ++ rest,
-  λ text h. let l = w.is text h in sym (l.2 ∙ ap (λ (u : List ℕ). w.done ++ u) (sym (all_plain l.0 rest l.1 (free_rest rest f)))),
+  λ text h. let l = w.is text h in sym (l.2 ∙ ap (λ (u : List ℕ). w.done ++ u)
+      (sym (all_plain l.0 rest l.1 (free_rest rest f)))),
   te ∙ ap (λ (s : List ℕ). s ++ t) w.parts ∙ append_assoc old w.done t ∙ ap (λ (s : List ℕ). old ++ (w.done ++ s)) ts,
 )
-written_end raw rest old out new (Err x) w f a = adds_some Anything Anything old out new (written_begun raw rest old out w) a
+written_end raw rest old out new (Err x) w f a =
+    adds_some Anything Anything old out new (written_begun raw rest old out w) a
 
 -- ---- parameters
 
-param_written : (q : ParamParts) (v : ParamSpan) (b : List ℕ) → q.name ≡ v.name → Spells q.value v.raw → ParamOf v b → b ≡ param_form q
+param_written : (q : ParamParts) (v : ParamSpan) (b : List ℕ) → q.name ≡ v.name → Spells q.value v.raw → ParamOf v b
+    → b ≡ param_form q
 param_written q v b n s (x0, y0, e0, h0, (x1, y1, e1, h1, (x2, y2, e2, h2, (x3, y3, e3, h3, h4)))) =
     let value : x3 ≡ escaped q.value = h3 q.value s in
     e0 ∙ rw (h0, e1, h1, e2, h2, e3, value, h4, ← n) refl ∙ sym (form_raw q)
@@ -93,7 +116,8 @@ param_written q v b n s (x0, y0, e0, h0, (x1, y1, e1, h1, (x2, y2, e2, h2, (x3, 
 pub record ParamsWritten (params rest old out : List ℕ) : Type 0 where
   pub done : List ℕ
   pub parts : out ≡ old ++ done
-  pub is : (ps : List ParamParts) → Each Param ps params → (todo : List ParamParts) × Each Param todo rest × (flat_map param_form ps ≡ done ++ flat_map param_form todo)
+  pub is : (ps : List ParamParts) → Each Param ps params
+      → (todo : List ParamParts) × Each Param todo rest × (flat_map param_form ps ≡ done ++ flat_map param_form todo)
 
 pub params_all : (params old : List ℕ) → ParamsWritten params params old old
 params_all params old = record { done = []; parts = sym (append-nil old); is = λ ps h. (ps, h, refl) }
@@ -101,24 +125,36 @@ params_all params old = record { done = []; parts = sym (append-nil old); is = �
 pub params_begun : (params rest old out : List ℕ) → ParamsWritten params rest old out → Adds Anything old out
 params_begun params rest old out w = (w.done, tt, w.parts)
 
-pub params_more : (params rest behind after old out mid : List ℕ) (x : ℕ) (v : ParamSpan) → rest ≡ x ∷ after → SplitsParam rest v behind → Adds (ParamOf v) out mid → ParamsWritten params rest old out → ParamsWritten params behind old mid
+pub params_more : (params rest behind after old out mid : List ℕ) (x : ℕ) (v : ParamSpan) → rest ≡ x ∷ after
+    → SplitsParam rest v behind → Adds (ParamOf v) out mid → ParamsWritten params rest old out
+    → ParamsWritten params behind old mid
 params_more params rest behind after old out mid x v e f (z, zs, ze) w = record {
   done = w.done ++ z;
   parts = ze ∙ ap (λ (u : List ℕ). u ++ z) w.parts ∙ append_assoc old w.done z;
   is = λ ps h. let l = w.is ps h in one ps l.0 l.1 l.2;
 }
   where
-    one : (ps todo : List ParamParts) → Each Param todo rest → flat_map param_form ps ≡ w.done ++ flat_map param_form todo → (ks : List ParamParts) × Each Param ks behind × (flat_map param_form ps ≡ w.done ++ z ++ flat_map param_form ks)
+    one : (ps todo : List ParamParts) → Each Param todo rest
+        → flat_map param_form ps ≡ w.done ++ flat_map param_form todo
+        → (ks : List ParamParts) × Each Param ks behind
+        × (flat_map param_form ps ≡ w.done ++ z ++ flat_map param_form ks)
     one ps [] k g = let i : ◌≡◌ {A = List ℕ} [] (x ∷ after) = sym k ∙ e in absurd cc
     one ps (q ∷ todo) k g =
-        let i = item Param SpannedParam IsPrefixFree-param spanned_param q todo v rest behind k (f k.1 (k.0, k.2, (q, k.3))) in
-        let same = param_same q v i.0 i.2 i.3 in
-        (todo, i.4, g ∙ ap (λ (u : List ℕ). w.done ++ (u ++ flat_map param_form todo)) (sym (param_written q v z same.0 same.1 zs)) ∙ sym (append_assoc w.done z (flat_map param_form todo)))
+        let i = item Param SpannedParam IsPrefixFree-param spanned_param q todo v rest behind k
+        (f k.1 (k.0, k.2, (q, k.3))) in
+        let same = param_same q v i.0 i.2 i.3 in (
+          todo,
+          i.4,
+          g ∙ ap (λ (u : List ℕ). w.done ++ (u ++ flat_map param_form todo))
+              (sym (param_written q v z same.0 same.1 zs)) ∙ sym (append_assoc w.done z (flat_map param_form todo)),
+        )
 
-pub params_end : (params rest old out : List ℕ) → rest ≡ [] → ParamsWritten params rest old out → Adds (ParamsOf params) old out
+pub params_end : (params rest old out : List ℕ) → rest ≡ [] → ParamsWritten params rest old out
+    → Adds (ParamsOf params) old out
 params_end params rest old out e w = (w.done, λ ps h. let l = w.is ps h in one ps l.0 l.1 l.2, w.parts)
   where
-    one : (ps todo : List ParamParts) → Each Param todo rest → flat_map param_form ps ≡ w.done ++ flat_map param_form todo → w.done ≡ flat_map param_form ps
+    one : (ps todo : List ParamParts) → Each Param todo rest
+        → flat_map param_form ps ≡ w.done ++ flat_map param_form todo → w.done ≡ flat_map param_form ps
     one ps [] k g = sym (g ∙ append-nil w.done)
     one ps (q ∷ todo) (y, z, i, k, l) g =
         let s = param_prefix y (q, k) in
@@ -126,27 +162,26 @@ params_end params rest old out e w = (w.done, λ ps h. let l = w.is ps h in one 
 
 -- ---- elements
 
-pub element_written : (d : ElementParts) (v : ElementSpan) (b : List ℕ) → d.id ≡ v.id → Each Param d.params v.params → ElementOf v b → b ≡ element_form d
+pub element_written : (d : ElementParts) (v : ElementSpan) (b : List ℕ) → d.id ≡ v.id → Each Param d.params v.params
+    → ElementOf v b → b ≡ element_form d
 element_written d v b n s (x0, y0, e0, h0, (x1, y1, e1, h1, (x2, y2, e2, h2, h3))) =
     let params : x2 ≡ flat_map param_form d.params = h2 d.params s in
     e0 ∙ rw (h0, e1, h1, e2, params, h3, ← n) refl ∙ sym (form_text d)
 
-pub record ElementsWritten (elements rest : List ℕ) (met : Option (List ℕ)) (old out : List ℕ) : Type 0 where
+pub record ElementsWritten (elements rest old out : List ℕ) : Type 0 where
   pub done : List ℕ
   pub parts : out ≡ old ++ done
   pub is : (es : List ElementParts) → Each Element es elements
-      → (todo : List ElementParts) × Each Element todo rest × (flat_map element_form es ≡ done ++ flat_map element_form todo) × (IsRisingFrom met (ids_of todo) → IsById es)
-      × (IsById es → IsRisingFrom met (ids_of todo))
+      → (todo : List ElementParts) × Each Element todo rest
+      × (flat_map element_form es ≡ done ++ flat_map element_form todo)
 
-pub elements_all : (elements old : List ℕ) → ElementsWritten elements elements None old old
-elements_all elements old = record { done = []; parts = sym (append-nil old); is = λ es h. (es, h, refl, λ k. (of_rising None es k).1, λ k. rising_of None es (none_met es) k) }
+pub elements_all : (elements old : List ℕ) → ElementsWritten elements elements old old
+elements_all elements old = record { done = []; parts = sym (append-nil old); is = λ es h. (es, h, refl) }
 
-pub elements_begun : (elements rest : List ℕ) (met : Option (List ℕ)) (old out : List ℕ) → ElementsWritten elements rest met old out → Adds Anything old out
-elements_begun elements rest met old out w = (w.done, tt, w.parts)
-
-pub elements_more : (elements rest behind after old out mid : List ℕ) (x : ℕ) (v : ElementSpan) (met : Option (List ℕ)) → rest ≡ x ∷ after → SplitsElement rest v behind → IsAbove v.id met → Adds (ElementOf v) out mid
-    → ElementsWritten elements rest met old out → ElementsWritten elements behind (Some v.id) old mid
-elements_more elements rest behind after old out mid x v met e f above (z, zs, ze) w = record {
+pub elements_more : (elements rest behind after old out mid : List ℕ) (x : ℕ) (v : ElementSpan) → rest ≡ x ∷ after
+    → SplitsElement rest v behind → Adds (ElementOf v) out mid → ElementsWritten elements rest old out
+    → ElementsWritten elements behind old mid
+elements_more elements rest behind after old out mid x v e f (z, zs, ze) w = record {
   done = w.done ++ z;
   parts = ze ∙ ap (λ (u : List ℕ). u ++ z) w.parts ∙ append_assoc old w.done z;
   is = λ es h.
@@ -156,66 +191,131 @@ elements_more elements rest behind after old out mid x v met e f above (z, zs, z
         i.others,
         i.each,
         l.2 ∙ ap (λ (u : List ElementParts). w.done ++ flat_map element_form u) i.is
-            ∙ ap (λ (u : List ℕ). w.done ++ (u ++ flat_map element_form i.others)) (sym (element_written i.element v z same.0 same.1 zs)) ∙ sym (append_assoc w.done z (flat_map element_form i.others)),
-        λ rising.
-            l.3 (subst (λ (u : List ElementParts). IsRisingFrom met (ids_of u)) (sym i.is) (subst (λ (id : List ℕ). IsAbove id met) (sym same.0) above, subst (λ (id : List ℕ). IsRisingFrom (Some id) (ids_of i.others)) (sym same.0) rising)),
-        λ by_id.
-            let rising = subst (λ (u : List ElementParts). IsRisingFrom met (ids_of u)) i.is (l.4 by_id) in
-            subst (λ (id : List ℕ). IsRisingFrom (Some id) (ids_of i.others)) same.0 rising.1,
+            ∙ ap (λ (u : List ℕ). w.done ++ (u ++ flat_map element_form i.others))
+            (sym (element_written i.element v z same.0 same.1 zs))
+            ∙ sym (append_assoc w.done z (flat_map element_form i.others)),
       );
 }
 
-pub elements_end : (elements rest : List ℕ) (met : Option (List ℕ)) (old out : List ℕ) → rest ≡ [] → ElementsWritten elements rest met old out → Adds (ElementsOf elements) old out
-elements_end elements rest met old out e w = (w.done, λ es h. let l = w.is es h in one es l.0 l.1 l.2 l.3, w.parts)
+pub elements_end : (elements rest old out : List ℕ) → rest ≡ [] → ElementsWritten elements rest old out
+    → Adds (ElementsOf elements) old out
+elements_end elements rest old out e w = (w.done, λ es h. let l = w.is es h in one es l.0 l.1 l.2, w.parts)
   where
-    one : (es todo : List ElementParts) → Each Element todo rest → flat_map element_form es ≡ w.done ++ flat_map element_form todo → (IsRisingFrom met (ids_of todo) → IsById es) → (w.done ≡ flat_map element_form es) × IsById es
-    one es [] k g by_id = (sym (g ∙ append-nil w.done), by_id tt)
-    one es (q ∷ todo) (y, z, i, k, l) g by_id =
+    one : (es todo : List ElementParts) → Each Element todo rest
+        → flat_map element_form es ≡ w.done ++ flat_map element_form todo → w.done ≡ flat_map element_form es
+    one es [] k g = sym (g ∙ append-nil w.done)
+    one es (q ∷ todo) (y, z, i, k, l) g =
         let s = element_prefix y (q, k) in
         let j : ◌≡◌ {A = List ℕ} [] (91 ∷ (s.0 ++ z)) = sym e ∙ i ∙ ap (λ (t : List ℕ). t ++ z) s.1 in absurd cc
 
-pub elements_most : (elements rest behind after old out : List ℕ) (x : ℕ) (v : ElementSpan) (met : Option (List ℕ)) → rest ≡ x ∷ after → SplitsElement rest v behind → IsAtMost v.id met → ElementsWritten elements rest met old out → AreUnordered elements
-elements_most elements rest behind after old out x v met e f most w es h by_id =
-    let l = w.is es h in
-    let i = first_item rest behind after x v l.0 e f l.1 in
-    let rising = subst (λ (u : List ElementParts). IsRisingFrom met (ids_of u)) i.is (l.4 by_id) in
-    not_above v.id met most (subst (λ (id : List ℕ). IsAbove id met) (element_same i.element v i.text i.parse i.spanned).0 rising.0)
-
 -- ---- the record
+
+-- the elements of structured data stand by id
+abbrev pub IsOrdered : List ℕ → Type 0
+IsOrdered text = (es : List ElementParts) → StructuredDataText es text → IsById es
 
 -- the record that is shown, where its elements stand by id
 abbrev view_record : ViewParts → List ElementParts → Parts ℤ
-view_record s es = record { priority = s.priority; time = s.instant; hostname = s.hostname; app_name = s.app_name; proc_id = s.proc_id; msg_id = s.msg_id; elements = es; message = s.message }
+view_record s es = record {
+  priority = s.priority;
+  time = s.instant;
+  hostname = s.hostname;
+  app_name =
+      s.app_name;
+  proc_id = s.proc_id;
+  msg_id = s.msg_id;
+  elements = es;
+  message = s.message;
+}
 
 -- the header of what is shown
 abbrev pub ViewHeader : ViewParts → Language
 ViewHeader s = HeaderForm s.priority s.instant s.hostname s.app_name s.proc_id s.msg_id
 
-view_is : (b : List ℕ) (s : ViewParts) (p : Parts CivilTime) → HasParts b p s → IsById p.elements → IsMeaning p (view_record s p.elements)
-view_is b s p h by_id = record { priority = h.priority; time = h.instant; hostname = h.hostname; app_name = h.app_name; proc_id = h.proc_id; msg_id = h.msg_id; elements = IsPermutation-refl p.elements; by_id = by_id; message = h.message }
+view_is : (b : List ℕ) (s : ViewParts) (p : Parts CivilTime) → HasParts b p s → IsById p.elements
+    → IsMeaning p (view_record s p.elements)
+view_is b s p h by_id = record {
+  priority = h.priority;
+  time = h.instant;
+  hostname = h.hostname;
+  app_name =
+      h.app_name;
+  proc_id = h.proc_id;
+  msg_id = h.msg_id;
+  elements = IsPermutation-refl p.elements;
+  by_id =
+      by_id;
+  message = h.message;
+}
 
-pub record_written : (s : ViewParts) (old m1 m2 new : List ℕ) → Adds (ViewHeader s) old m1 → Adds (StructuredDataOf s.elements) m1 m2 → Adds (Only (message_form s.message)) m2 new → (b : List ℕ) → IsViewOf b s → AddsCanonical b old new
-record_written s old m1 m2 new (x, xh, xe) (y, yh, ye) (z, zh, ze) b (p, parse, range, distinct, h) =
+pub record_written : (s : ViewParts) (old m1 m2 new : List ℕ) → Adds (ViewHeader s) old m1
+    → Adds (StructuredDataOf s.elements) m1 m2 → IsOrdered s.elements → Adds (Only (message_form s.message)) m2 new
+    → (b : List ℕ) → IsViewOf b s → AddsCanonical b old new
+record_written s old m1 m2 new (x, xh, xe) (y, yh, ye) ordered (z, zh, ze) b (p, parse, range, distinct, h) =
     let elements = yh p.elements h.elements in (
       view_record s p.elements,
-      (p, parse, range, distinct, view_is b s p h elements.1),
-      (x ++ (y ++ z), (x, y ++ z, refl, xh, (y, z, refl, elements.0, zh)), ze ∙ ap (λ (u : List ℕ). u ++ z) (ye ∙ ap (λ (u : List ℕ). u ++ y) xe) ∙ append_assoc (old ++ x) y z ∙ append_assoc old x (y ++ z)),
+      (p, parse, range, distinct, view_is b s p h (ordered p.elements h.elements)),
+      (
+        x ++ (y ++ z),
+        (x, y ++ z, refl, xh, (y, z, refl, elements, zh)),
+        ze
+            ∙ ap (λ (u : List ℕ). u ++ z) (ye ∙ ap (λ (u : List ℕ). u ++ y) xe) ∙ append_assoc (old ++ x) y z
+            ∙ append_assoc old x (y ++ z),
+      ),
     )
 
-pub record_sorted : (s : ViewParts) (old m1 m2 new : List ℕ) → Adds (ViewHeader s) old m1 → Adds (SortedDataOf s.elements) m1 m2 → Adds (Only (message_form s.message)) m2 new → (b : List ℕ) → IsViewOf b s → AddsCanonical b old new
-record_sorted s old m1 m2 new (x, xh, xe) (y, yh, ye) (z, zh, ze) b (p, parse, range, distinct, h) =
-    let k = yh p.elements h.elements in (
+pub record_sorted : (a : Bool) (s : ViewParts) (old m1 m2 new : List ℕ) → Adds (ViewHeader s) old m1
+    → Adds (SortedDataOf a s.elements) m1 m2 → (IsTrue a → StructuredDataOf s.elements s.elements)
+    → Adds (Only (message_form s.message)) m2 new → (b : List ℕ) → IsViewOf b s
+    → AddsCanonical b old new
+record_sorted a s old m1 m2 new (x, xh, xe) (y, yh, ye) form (z, zh, ze) b (p, parse, range, distinct, h) =
+    let k = yh p.elements h.elements (λ u. form u p.elements h.elements) in (
       view_record s k.0,
-      (p, parse, range, distinct, record { priority = h.priority; time = h.instant; hostname = h.hostname; app_name = h.app_name; proc_id = h.proc_id; msg_id = h.msg_id; elements = k.1; by_id = k.2; message = h.message }),
-      (x ++ (y ++ z), (x, y ++ z, refl, xh, (y, z, refl, k.3, zh)), ze ∙ ap (λ (u : List ℕ). u ++ z) (ye ∙ ap (λ (u : List ℕ). u ++ y) xe) ∙ append_assoc (old ++ x) y z ∙ append_assoc old x (y ++ z)),
+      (
+        p,
+        parse,
+        range,
+        distinct,
+        record {
+          priority = h.priority;
+          time = h.instant;
+          hostname = h.hostname;
+          app_name =
+              h.app_name;
+          proc_id = h.proc_id;
+          msg_id = h.msg_id;
+          elements = k.1;
+          by_id = k.2;
+          message = h.message;
+        },
+      ),
+      (
+        x ++ (y ++ z),
+        (x, y ++ z, refl, xh, (y, z, refl, k.3, zh)),
+        ze
+            ∙ ap (λ (u : List ℕ). u ++ z) (ye ∙ ap (λ (u : List ℕ). u ++ y) xe) ∙ append_assoc (old ++ x) y z
+            ∙ append_assoc old x (y ++ z),
+      ),
     )
 
 -- ---- what lies in the octets
 
 -- the words of a text are canonical
-words_formed : (h a p m : Option (List ℕ)) (b : List ℕ) → WordFields h a p m b → (SpacedWord h ⋅ SpacedWord a ⋅ SpacedWord p ⋅ SpacedWord m) b
-words_formed h a p m b (x, y, e, k, (x', y', e', k', (x'', y'', e'', k'', l))) =
-    (x, y, e, word_formed 255 h x k, (x', y', e', word_formed 48 a x' k', (x'', y'', e'', word_formed 128 p x'' k'', word_formed 32 m y'' l)))
+words_formed : (h a p m : Option (List ℕ)) (b : List ℕ) → WordFields h a p m b
+    → (SpacedWord h ⋅ SpacedWord a ⋅ SpacedWord p ⋅ SpacedWord m) b
+words_formed h a p m b (x, y, e, k, (x', y', e', k', (x'', y'', e'', k'', l))) = (
+  x,
+  y,
+  e,
+  word_formed 255 h x k,
+  (
+    x',
+    y',
+    e',
+    word_formed 48 a x' k',
+    (x'', y'', e'', word_formed 128 p x'' k'', word_formed 32 m y'' l),
+  ),
+)
 
 -- seven texts, one after the other
 seven : (o f t g w e l : List ℕ) → ((o ++ (f ++ ((t ++ g) ++ w))) ++ e) ++ l ≡ o ++ (f ++ (t ++ (g ++ (w ++ (e ++ l)))))
@@ -224,15 +324,39 @@ seven o f t g w e l =
     ∙ ap (λ (x : List ℕ). o ++ x) (append_assoc f ((t ++ g) ++ w) (e ++ l)
     ∙ ap (λ (x : List ℕ). f ++ x) (append_assoc (t ++ g) w (e ++ l) ∙ append_assoc t g (w ++ (e ++ l))))
 
-pub record_verbatim : (s : ViewParts) (old new : List ℕ) → HasOneMessageForm s.message → StructuredDataOf s.elements s.elements → Adds (VerbatimForm s) old new → (b : List ℕ) → IsViewOf b s → AddsCanonical b old new
+pub record_verbatim : (s : ViewParts) (old new : List ℕ) → HasOneMessageForm s.message
+    → StructuredDataOf s.elements s.elements → IsOrdered s.elements → Adds (VerbatimForm s) old new → (b : List ℕ)
+    → IsViewOf b s → AddsCanonical b old new
 unfolding HeaderForm VerbatimForm
-record_verbatim s old new one dataform (text, (prefix, t1, e1, f, (time, t2, e2, t, (space, behind, e3, sp, be))), whole) b has_parts =
+record_verbatim s old new one dataform ordered (
+  text,
+  (prefix, t1, e1, f, (time, t2, e2, t, (space, behind, e3, sp, be))),
+  whole,
+) b has_parts =
     let (ws, t3, e4, words, (d, tl, e5, is, message_part)) = has_parts.4.behind_time in
     let header : List ℕ = prefix ++ ((time ++ space) ++ ws) in
     let reported : text ≡ prefix ++ (time ++ (space ++ (ws ++ (s.elements ++ tl)))) =
-    e1 ∙ ap (λ (x : List ℕ). prefix ++ x) (e2 ∙ ap (λ (x : List ℕ). time ++ x) (e3 ∙ ap (λ (x : List ℕ). space ++ x) (be ∙ e4 ∙ ap (λ (x : List ℕ). ws ++ x) (e5 ∙ ap (λ (x : List ℕ). x ++ tl) is)))) in
-    let all : new ≡ ((old ++ header) ++ s.elements) ++ tl = whole ∙ ap (λ (x : List ℕ). old ++ x) reported ∙ sym (seven old prefix time space ws s.elements tl) in
-    record_written s old (old ++ header) ((old ++ header) ++ s.elements) new
-    (header, (prefix, (time ++ space) ++ ws, refl, f, (time ++ space, ws, refl, (time, space, refl, t, sp), words_formed s.hostname s.app_name s.proc_id s.msg_id ws words)), refl)
-    (s.elements, dataform, refl)
+    e1 ∙ ap (λ (x : List ℕ). prefix ++ x) (e2
+    ∙ ap (λ (x : List ℕ). time ++ x) (e3 ∙ ap (λ (x : List ℕ). space ++ x)
+    (be ∙ e4 ∙ ap (λ (x : List ℕ). ws ++ x) (e5 ∙ ap (λ (x : List ℕ). x ++ tl) is)))) in
+    let all : new ≡ ((old ++ header) ++ s.elements) ++ tl =
+    whole ∙ ap (λ (x : List ℕ). old ++ x) reported ∙ sym (seven old prefix time space ws s.elements tl) in
+    record_written s old (old ++ header) ((old ++ header) ++ s.elements) new (
+      header,
+      (
+        prefix,
+        (time ++ space) ++ ws,
+        refl,
+        f,
+        (
+          time ++ space,
+          ws,
+          refl,
+          (time, space, refl, t, sp),
+          words_formed s.hostname s.app_name s.proc_id s.msg_id ws words,
+        ),
+      ),
+      refl,
+    )
+    (s.elements, dataform, refl) ordered
     (tl, one tl message_part, all) b has_parts

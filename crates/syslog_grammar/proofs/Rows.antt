@@ -11,7 +11,19 @@ use Rattle.syslog_grammar.specs.Time.{CivilTime, instant, TimeText, OffsetText}
 use Rattle.syslog_grammar.specs.Grammar.{Priority, SyslogMsg, Header, header_of}
 
 abbrev at : ℕ → ℕ → ℕ → ℕ → ℕ → ℕ → ℕ → ℤ → CivilTime
-at y mo d h mi s us o = record { civil = record { year = y; month = mo; day = d; hour = h; minute = mi; second = s; micros = us }; offset = o }
+at y mo d h mi s us o = record {
+  civil = record {
+    year = y;
+    month = mo;
+    day = d;
+    hour = h;
+    minute = mi;
+    second =
+        s;
+    micros = us;
+  };
+  offset = o;
+}
 
 -- RFC 5424, 6.2.3.1, example 3
 the_example : instant (at 2003 8 24 5 14 15 3 (negsuc 419)) ≡ pos 1061727255000003
@@ -35,7 +47,13 @@ both : {A B : Language} → (x y : List ℕ) → A x → B y → (A ⋅ B) (x ++
 both x y a b = (x, y, refl, a, b)
 
 zone_0700 : OffsetText 420 (codes "07:00")
-zone_0700 = (7, 0, refl, both (codes "07") (codes ":00") (omega arith, omega arith, refl) (both (codes ":") (codes "00") refl (omega arith, omega arith, refl)))
+zone_0700 = (
+  7,
+  0,
+  refl,
+  both (codes "07") (codes ":00") (omega arith, omega arith, refl)
+      (both (codes ":") (codes "00") refl (omega arith, omega arith, refl)),
+)
 
 example_text : TimeText (at 2003 8 24 5 14 15 3 (negsuc 419)) (codes "2003-08-24T05:14:15.000003-07:00")
 example_text =
@@ -51,8 +69,18 @@ example_text =
     (both (codes "14") (codes ":15") (omega arith, omega arith, refl)
     (both (codes ":") (codes "15") refl (omega arith, omega arith, refl)))))
     (both (codes ".000003") (codes "-07:00")
-    (inr (both (codes ".") (codes "000003") refl
-    (omega arith, omega arith, (zero_digit, (zero_digit, (zero_digit, (zero_digit, (zero_digit, ((omega arith, omega arith), tt)))))), refl)))
+    (inr (both (codes ".") (codes "000003") refl (
+      omega arith,
+      omega arith,
+      (
+        zero_digit,
+        (
+          zero_digit,
+          (zero_digit, (zero_digit, (zero_digit, ((omega arith, omega arith), tt)))),
+        ),
+      ),
+      refl,
+    )))
     (inr (420, inr (refl, both (codes "-") (codes "07:00") refl zone_0700))))))
   where
     zero_digit : (48 ≤ 48) × (48 ≤ 57)
@@ -70,7 +98,13 @@ euro = inr (inr (inr (inl (
   0x82 ∷ 0xac ∷ [],
   refl,
   (0xe2, refl, omega arith, omega arith),
-  (0x82 ∷ [], 0xac ∷ [], refl, (0x82, refl, omega arith, omega arith), (0xac ∷ [], [], refl, (0xac, refl, omega arith, omega arith), refl)),
+  (
+    0x82 ∷ [],
+    0xac ∷ [],
+    refl,
+    (0x82, refl, omega arith, omega arith),
+    (0xac ∷ [], [], refl, (0xac, refl, omega arith, omega arith), refl),
+  ),
 ))))
 
 apart : (x y : ℕ) → (x ≡ y → ⊥) → x ∷ [] ≡ y ∷ [] → ⊥
@@ -105,7 +139,17 @@ second_spelling = (
 
 -- the shortest record
 abbrev shortest : Parts CivilTime
-shortest = record { priority = 0; time = None; hostname = None; app_name = None; proc_id = None; msg_id = None; elements = []; message = AnyOctets [] }
+shortest = record {
+  priority = 0;
+  time = None;
+  hostname = None;
+  app_name = None;
+  proc_id = None;
+  msg_id =
+      None;
+  elements = [];
+  message = AnyOctets [];
+}
 
 nil : (Only (45 ∷ []) ⋅ Only (32 ∷ [])) (codes "- ")
 nil = (codes "-", codes " ", refl, refl, refl)

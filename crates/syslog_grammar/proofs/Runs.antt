@@ -1,17 +1,20 @@
 -- The octets at the start that a test holds of.
-use Rattle.std.proofs.Common.{◌≡◌, ℕ, zero, suc, ◌+◌, ◌<◌, List, [], ◌∷◌, ◌++◌, length, take, drop, get_or, refl, subst, sym, add-one, arith}
+use Rattle.std.proofs.Common.{◌≡◌, ℕ, zero, suc, ◌+◌, ◌<◌, List, [], ◌∷◌, ◌++◌, length, take, drop, get_or, refl, subst}
+use Rattle.std.proofs.Common.{sym, add-one, arith}
 use Rattle.std.specs.List.{AllByRecursion}
 use Rattle.octet_language.specs.Language.{Language, Only, ◌⋅◌, IfFirst}
 use Rattle.octet_language.specs.Reading.{Follows}
 use Rattle.octet_language.proofs.Lists.{one_more}
 
-run_suc : (P : ℕ → Type 0) (i : ℕ) (s : List ℕ) → i < length s → AllByRecursion P (take i s) → P (get_or s i 0) → AllByRecursion P (take (suc i) s)
+run_suc : (P : ℕ → Type 0) (i : ℕ) (s : List ℕ) → i < length s → AllByRecursion P (take i s) → P (get_or s i 0)
+    → AllByRecursion P (take (suc i) s)
 run_suc P i [] low h p = absurd (omega arith)
 run_suc P zero (x ∷ s) low h p = (p, tt)
 run_suc P (suc i) (x ∷ s) low h p = (h.0, run_suc P i s (omega arith) h.1 p)
 
 -- one more octet
-pub run_more : (P : ℕ → Type 0) (i : ℕ) (s : List ℕ) → i < length s → AllByRecursion P (take i s) → P (get_or s i 0) → AllByRecursion P (take (i + 1) s)
+pub run_more : (P : ℕ → Type 0) (i : ℕ) (s : List ℕ) → i < length s → AllByRecursion P (take i s) → P (get_or s i 0)
+    → AllByRecursion P (take (i + 1) s)
 run_more P i s low h p = rw add-one (run_suc P i s low h p)
 
 -- what holds of the octet at i holds of the prefix of what is left there
@@ -33,7 +36,8 @@ pub IfFirst-cons : (P : ℕ → Type 0) (b : List ℕ) (x : ℕ) (rest : List �
 IfFirst-cons P b x rest e p = subst (IfFirst P) (sym e) p
 
 -- a text, and a delimiter after it
-pub escaped_rest : (L : Language) (b p behind rest : List ℕ) (x y : ℕ) → L p → b ≡ p ++ behind → behind ≡ x ∷ rest → x ≡ y → Follows (L ⋅ Only (y ∷ [])) b rest
+pub escaped_rest : (L : Language) (b p behind rest : List ℕ) (x y : ℕ) → L p → b ≡ p ++ behind → behind ≡ x ∷ rest
+    → x ≡ y → Follows (L ⋅ Only (y ∷ [])) b rest
 escaped_rest L b p behind rest x y h e f g =
     subst (λ (k : List ℕ). Follows (L ⋅ Only (y ∷ [])) k rest) (sym (e'))
     (p ++ y ∷ [], sym (one_more p y rest), (p, y ∷ [], refl', h, refl'))

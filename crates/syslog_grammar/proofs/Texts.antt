@@ -6,7 +6,8 @@ use Rattle.octet_language.proofs.Chain.{Fails-same}
 use Rattle.syslog_grammar.specs.Spans.{Text}
 
 -- a text and what follows it fail alike where the text is lent
-pub Fails-text : (L Z : Language) (b : List ℕ) (remaining : ℕ) → Fails (L ⋅ Z) b remaining → Fails (AnyOf (λ t. Text L t ⋅ Z)) b remaining
+pub Fails-text : (L Z : Language) (b : List ℕ) (remaining : ℕ) → Fails (L ⋅ Z) b remaining
+    → Fails (AnyOf (λ t. Text L t ⋅ Z)) b remaining
 Fails-text L Z b remaining f =
     Fails-same (L ⋅ Z) (AnyOf (λ t. Text L t ⋅ Z)) b remaining
     (λ s (x, y, e, h, k). (x, (x, y, e, (h, refl), k)))

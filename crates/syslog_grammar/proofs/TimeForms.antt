@@ -1,5 +1,6 @@
 -- Whether a timestamp is in its canonical form.
-use Rattle.std.proofs.Common.{◌≡◌, ◌≢◌, ℕ, ◌<◌, List, [], ◌∷◌, ◌++◌, length, take, drop, refl, sym, ap, subst, ◌∙◌, append_assoc, arith, Bool, true, false}
+use Rattle.std.proofs.Common.{◌≡◌, ◌≢◌, ℕ, ◌<◌, List, [], ◌∷◌, ◌++◌, length, take, drop, refl, sym, ap, subst, ◌∙◌}
+use Rattle.std.proofs.Common.{append_assoc, arith, Bool, true, false}
 use Rattle.std.specs.Prelude.{◌↔◌, IsTrue, ℤ, Option, Some, None}
 use Rattle.std.proofs.lemmas.List.{length-append, take_at, append_cancel_right, take-append-drop}
 use Rattle.std.specs.Str.{bytes_eq}
@@ -36,24 +37,42 @@ of_text : (t : CivilTime) (c : Civil) (s : List ℕ) → TimeText t s → IsCivi
 of_text t c s h exists e = time_same t (at_utc c) s h (subst (TimeText (at_utc c)) (sym e) (civil_parsed c exists))
 
 -- the octets begin with a time in its form exactly where they begin with the text of its civil time and a space
-formed : (t : CivilTime) (octets rest more : List ℕ) → Follows (Spaced (Nilable TimeText (Some t))) octets rest → octets ≡ civil_text t.civil ++ 32 ∷ more → Follows (TimeSpace (Some (instant t))) octets more
+formed : (t : CivilTime) (octets rest more : List ℕ) → Follows (Spaced (Nilable TimeText (Some t))) octets rest
+    → octets ≡ civil_text t.civil ++ 32 ∷ more → Follows (TimeSpace (Some (instant t))) octets more
 formed t octets rest more (x, e, (s, y, f, h, k)) g =
     let exists = (time_exists t s h).0 in
-    let other : TimeSpace (Some (instant (at_utc t.civil))) (civil_text t.civil ++ 32 ∷ []) = (civil_text t.civil, 32 ∷ [], refl, (t.civil, exists, refl, refl), refl) in
-    let whole : octets ≡ (civil_text t.civil ++ 32 ∷ []) ++ more = g ∙ sym (append_assoc (civil_text t.civil) (32 ∷ []) more) in
+    let other : TimeSpace (Some (instant (at_utc t.civil))) (civil_text t.civil ++ 32 ∷ []) =
+    (civil_text t.civil, 32 ∷ [], refl, (t.civil, exists, refl, refl), refl) in
+    let whole : octets ≡ (civil_text t.civil ++ 32 ∷ []) ++ more =
+    g ∙ sym (append_assoc (civil_text t.civil) (32 ∷ []) more) in
     let same : x ≡ civil_text t.civil ++ 32 ∷ [] =
-    IsPrefixFree-nilable_time x rest (civil_text t.civil ++ 32 ∷ []) more (Some t, (s, y, f, h, k)) (any_time (Some (instant (at_utc t.civil))) (civil_text t.civil ++ 32 ∷ []) other) (sym e ∙ whole) in
-    let text : s ≡ civil_text t.civil = append_cancel_right s (civil_text t.civil) (32 ∷ []) (ap (λ (u : List ℕ). s ++ u) (sym k) ∙ sym f ∙ same) in
-    let utc : t ≡ at_utc t.civil = of_text t t.civil s h exists text in
-    (civil_text t.civil ++ 32 ∷ [], whole, (civil_text t.civil, 32 ∷ [], refl, (t.civil, exists, ap instant (sym utc), refl), refl))
+    IsPrefixFree-nilable_time x rest (civil_text t.civil ++ 32 ∷ []) more (Some t, (s, y, f, h, k))
+    (any_time (Some (instant (at_utc t.civil))) (civil_text t.civil ++ 32 ∷ []) other) (sym e ∙ whole) in
+    let text : s ≡ civil_text t.civil = append_cancel_right s (civil_text t.civil) (32 ∷ [])
+    (ap (λ (u : List ℕ). s ++ u) (sym k) ∙ sym f ∙ same) in
+    let utc : t ≡ at_utc t.civil = of_text t t.civil s h exists text in (
+      civil_text t.civil ++ 32 ∷ [],
+      whole,
+      (
+        civil_text t.civil,
+        32 ∷ [],
+        refl,
+        (t.civil, exists, ap instant (sym utc), refl),
+        refl,
+      ),
+    )
 
-pub unformed : (t : CivilTime) (octets rest more : List ℕ) → Follows (Spaced (Nilable TimeText (Some t))) octets rest → Follows (TimeSpace (Some (instant t))) octets more → octets ≡ civil_text t.civil ++ 32 ∷ more
+pub unformed : (t : CivilTime) (octets rest more : List ℕ) → Follows (Spaced (Nilable TimeText (Some t))) octets rest
+    → Follows (TimeSpace (Some (instant t))) octets more → octets ≡ civil_text t.civil ++ 32 ∷ more
 unformed t octets rest more (x, e, (s, y, f, h, k)) (u, g, (v, w, i, (c, exists, j, l), m)) =
-    let same : x ≡ u = IsPrefixFree-nilable_time x rest u more (Some t, (s, y, f, h, k)) (any_time (Some (instant t)) u (v, w, i, (c, exists, j, l), m)) (sym e ∙ g) in
-    let text : s ≡ v = append_cancel_right s v (32 ∷ []) (ap (λ (z : List ℕ). s ++ z) (sym k) ∙ sym f ∙ same ∙ i ∙ ap (λ (z : List ℕ). v ++ z) m) in
+    let same : x ≡ u = IsPrefixFree-nilable_time x rest u more (Some t, (s, y, f, h, k))
+    (any_time (Some (instant t)) u (v, w, i, (c, exists, j, l), m)) (sym e ∙ g) in
+    let text : s ≡ v = append_cancel_right s v (32 ∷ [])
+    (ap (λ (z : List ℕ). s ++ z) (sym k) ∙ sym f ∙ same ∙ i ∙ ap (λ (z : List ℕ). v ++ z) m) in
     let utc : t ≡ at_utc c = of_text t c s h exists (text ∙ l) in
     let civil : civil_text c ≡ civil_text t.civil = ap (λ (z : CivilTime). civil_text z.civil) (sym utc) in
-    g ∙ ap (λ (z : List ℕ). z ++ more) (i ∙ ap (λ (z : List ℕ). v ++ z) m) ∙ append_assoc v (32 ∷ []) more ∙ ap (λ (z : List ℕ). z ++ 32 ∷ more) (l ∙ civil)
+    g ∙ ap (λ (z : List ℕ). z ++ more) (i ∙ ap (λ (z : List ℕ). v ++ z) m) ∙ append_assoc v (32 ∷ []) more
+    ∙ ap (λ (z : List ℕ). z ++ 32 ∷ more) (l ∙ civil)
 
 -- ---- the test
 
@@ -66,32 +85,51 @@ IsFormed time octets = Begins (TimeSpace (Some (instant (time_of time)))) octets
 pub time_civil : (time : Timestamp) (octets : List ℕ) → Given time octets → IsCivil time.civil
 time_civil time octets (rest, (x, e, (s, y, f, h, k))) = (time_exists (time_of time) s h).0
 
-pub time_nil : (octets : List ℕ) → Begins (Spaced (Nilable TimeText None)) octets → IsTrue true ↔ Begins (TimeSpace None) octets
+pub time_nil : (octets : List ℕ) → Begins (Spaced (Nilable TimeText None)) octets
+    → IsTrue true ↔ Begins (TimeSpace None) octets
 time_nil octets h = (λ u. h, λ u. refl)
 
 short : (c : Civil) (octets more : List ℕ) → octets ≡ civil_text c ++ 32 ∷ more → length octets < 28 → ⊥
 short c octets more e h = omega (arith, ap length e, length-append (civil_text c) (32 ∷ more), civil_len c)
 
-pub time_short : (time : Timestamp) (octets : List ℕ) → Given time octets → length octets < 28 → IsTrue false ↔ IsFormed time octets
-time_short time octets (rest, h) l = (λ u. absurd cc, λ (more, k). absurd (short time.civil octets more (unformed (time_of time) octets rest more h k) l))
+pub time_short : (time : Timestamp) (octets : List ℕ) → Given time octets → length octets < 28
+    → IsTrue false ↔ IsFormed time octets
+time_short time octets (rest, h) l = (
+  λ u. absurd cc,
+  λ (more, k).
+      absurd (short time.civil octets more (unformed (time_of time) octets rest more h k) l),
+)
 
-prefixes : (c : Civil) (octets more : List ℕ) → octets ≡ civil_text c ++ 32 ∷ more → (take 27 octets ≡ civil_text c) × (drop 27 octets ≡ 32 ∷ more)
-prefixes c octets more e = (ap (take 27) e ∙ take_at (civil_text c) (32 ∷ more) 27 (civil_len c), ap (drop 27) e ∙ behind (civil_text c) (civil_len c))
+prefixes : (c : Civil) (octets more : List ℕ) → octets ≡ civil_text c ++ 32 ∷ more
+    → (take 27 octets ≡ civil_text c) × (drop 27 octets ≡ 32 ∷ more)
+prefixes c octets more e = (
+  ap (take 27) e ∙ take_at (civil_text c) (32 ∷ more) 27 (civil_len c),
+  ap (drop 27) e
+      ∙ behind (civil_text c) (civil_len c),
+)
   where
     behind : (s : List ℕ) → length s ≡ 27 → drop 27 (s ++ 32 ∷ more) ≡ 32 ∷ more
     behind s n = subst (λ (k : ℕ). drop k (s ++ 32 ∷ more) ≡ 32 ∷ more) n (drop-append_seam s (32 ∷ more))
 
-pub time_behind : (time : Timestamp) (octets prefix behind after : List ℕ) (x : ℕ) → Given time octets → prefix ≡ take 27 octets → behind ≡ drop 27 octets → behind ≡ x ∷ after → x ≢ 32 → IsTrue false ↔ IsFormed time octets
-time_behind time octets prefix behind after x (rest, h) f b e ne =
-    (λ u. absurd cc, λ (more, k). absurd (ne (heads x 32 after more (sym e ∙ b ∙ (prefixes time.civil octets more (unformed (time_of time) octets rest more h k)).1))))
+pub time_behind : (time : Timestamp) (octets prefix behind after : List ℕ) (x : ℕ) → Given time octets
+    → prefix ≡ take 27 octets → behind ≡ drop 27 octets → behind ≡ x ∷ after → x ≢ 32
+    → IsTrue false ↔ IsFormed time octets
+time_behind time octets prefix behind after x (rest, h) f b e ne = (
+  λ u. absurd cc,
+  λ (more, k). absurd (ne (heads x 32 after more
+      (sym e ∙ b ∙ (prefixes time.civil octets more (unformed (time_of time) octets rest more h k)).1))),
+)
 
-pub time_compared : (time : Timestamp) (octets prefix behind after text : List ℕ) (x : ℕ) (r : Bool) → Given time octets → prefix ≡ take 27 octets → behind ≡ drop 27 octets → behind ≡ x ∷ after → x ≡ 32
+pub time_compared : (time : Timestamp) (octets prefix behind after text : List ℕ) (x : ℕ) (r : Bool) → Given time octets
+    → prefix ≡ take 27 octets → behind ≡ drop 27 octets → behind ≡ x ∷ after → x ≡ 32
     → text ≡ civil_text time.civil → r ≡ bytes_eq prefix text → IsTrue r ↔ IsFormed time octets
 time_compared time octets prefix behind after text x r (rest, h) f b e is t test = (
   λ u.
       let same : prefix ≡ civil_text time.civil = (bytes_eq-Decides prefix text).0 (sym test ∙ u) ∙ t in
       let whole : octets ≡ civil_text time.civil ++ 32 ∷ after =
-      sym (take-append-drop 27 octets) ∙ ap (λ (s : List ℕ). s ++ drop 27 octets) (sym f ∙ same) ∙ ap (λ (s : List ℕ). civil_text time.civil ++ s) (sym b ∙ e ∙ ap (λ (n : ℕ). n ∷ after) is) in
+      sym (take-append-drop 27 octets) ∙ ap (λ (s : List ℕ). s ++ drop 27 octets) (sym f ∙ same)
+      ∙ ap (λ (s : List ℕ). civil_text time.civil ++ s) (sym b ∙ e ∙ ap (λ (n : ℕ). n ∷ after) is) in
       (after, formed (time_of time) octets rest after h whole),
-  λ (more, k). test ∙ (bytes_eq-Decides prefix text).1 (f ∙ (prefixes time.civil octets more (unformed (time_of time) octets rest more h k)).0 ∙ sym t),
+  λ (more, k). test ∙ (bytes_eq-Decides prefix text).1
+      (f ∙ (prefixes time.civil octets more (unformed (time_of time) octets rest more h k)).0 ∙ sym t),
 )

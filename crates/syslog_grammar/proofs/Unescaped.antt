@@ -1,5 +1,6 @@
 -- What a spelling of a value means, octet by octet.
-use Rattle.std.proofs.Common.{◌≡◌, ◌≢◌, ℕ, zero, suc, ◌<◌, ◌≤◌, Bool, true, false, List, [], ◌∷◌, ◌++◌, length, take, drop, get_or, refl, sym, ap, subst, ◌∙◌, append_assoc, arith, inl, inr, ◌⊎◌, eq-eqb}
+use Rattle.std.proofs.Common.{◌≡◌, ◌≢◌, ℕ, zero, suc, ◌<◌, ◌≤◌, Bool, true, false, List, [], ◌∷◌, ◌++◌, length, take}
+use Rattle.std.proofs.Common.{drop, get_or, refl, sym, ap, subst, ◌∙◌, append_assoc, arith, inl, inr, ◌⊎◌, eq-eqb}
 use Rattle.std.specs.Prelude.{◌&&◌, ◌==◌, Some, None}
 use Rattle.std.specs.List.{AllByRecursion, flat_map}
 use Rattle.std.proofs.lemmas.Bool.{cases_eq, eqb-true}
@@ -81,7 +82,8 @@ abbrev OneOrHigh : List Row → Type 0
 OneOrHigh [] = Unit {0}
 OneOrHigh (r ∷ rs) = ((r.behind ≡ []) ⊎ AreHigh (r.first ∷ r.behind)) × OneOrHigh rs
 
-one_or_high : (rs : List Row) (c : List ℕ) → OneOrHigh rs → InRow rs c → ((x : ℕ) × (c ≡ x ∷ [])) ⊎ AllByRecursion (λ x. 128 ≤ x) c
+one_or_high : (rs : List Row) (c : List ℕ) → OneOrHigh rs → InRow rs c
+    → ((x : ℕ) × (c ≡ x ∷ [])) ⊎ AllByRecursion (λ x. 128 ≤ x) c
 one_or_high [] c h k = absurd k
 one_or_high (r ∷ rs) c h (inr k) = one_or_high rs c h.1 k
 one_or_high (r ∷ rs) c (inr g, h) (inl k) = inr (high (r.first ∷ r.behind) c g k)
@@ -90,15 +92,39 @@ one_or_high (r ∷ rs) c (inl g, h) (inl (x, y, e, (n, f, low, most), k)) =
     inl (n, e ∙ rw (f, none) refl)
 
 rows : OneOrHigh table
-rows =
-    (inl refl, (inr (omega arith, (omega arith, tt)), (inr (omega arith, (omega arith, (omega arith, tt))), (inr (omega arith, (omega arith, (omega arith, tt))), (inr (omega arith, (omega arith, (omega arith, tt))), (inr (omega arith, (omega arith, (omega arith, tt))), (inr (omega arith, (omega arith, (omega arith, (omega arith, tt)))), (inr (omega arith, (omega arith, (omega arith, (omega arith, tt)))), (inr (omega arith, (omega arith, (omega arith, (omega arith, tt)))), tt)))))))))
+rows = (
+  inl refl,
+  (
+    inr (omega arith, (omega arith, tt)),
+    (
+      inr (omega arith, (omega arith, (omega arith, tt))),
+      (
+        inr (omega arith, (omega arith, (omega arith, tt))),
+        (
+          inr (omega arith, (omega arith, (omega arith, tt))),
+          (
+            inr (omega arith, (omega arith, (omega arith, tt))),
+            (
+              inr (omega arith, (omega arith, (omega arith, (omega arith, tt)))),
+              (
+                inr (omega arith, (omega arith, (omega arith, (omega arith, tt)))),
+                (inr (omega arith, (omega arith, (omega arith, (omega arith, tt)))), tt),
+              ),
+            ),
+          ),
+        ),
+      ),
+    ),
+  ),
+)
 
 -- a plain character begins with no octet that needs a backslash
 plain_first : (x : ℕ) (c : List ℕ) → IsPlain (x ∷ c) → ¬ (needs_escape x ≡ true)
 plain_first x c h e = no_special x c (test_special x e) h
 
 high_unescaped : (x : ℕ) → 128 ≤ x → ¬ (needs_escape x ≡ true)
-high_unescaped x h e = elim (test_special x e) [ inl k ↦ omega arith | inr (inl k) ↦ omega arith | inr (inr k) ↦ omega arith ]
+high_unescaped x h e = elim (test_special x e)
+    [ inl k ↦ omega arith | inr (inl k) ↦ omega arith | inr (inr k) ↦ omega arith ]
 
 -- a plain character needs no backslash
 pub plain_bare : (c : List ℕ) → IsPlain c → AllByRecursion (λ x. ¬ (needs_escape x ≡ true)) c
@@ -120,13 +146,15 @@ of_piece : (m b s : List ℕ) → Piece m b → unescaped (b ++ s) ≡ m ++ unes
 of_piece m b s (inl (x, k, e, f)) = rw (e, f) (left_out x s (special_test x k))
 of_piece m b s (inr (inl ([], k, e, f))) = absurd (character_some k.0)
 of_piece m b s (inr (inl (x ∷ c, k, e, f))) =
-    rw (e, f) (alone x (c ++ s) (plain_first x c k) ∙ ap (λ (t : List ℕ). 92 ∷ t) (kept_all (x ∷ c) s (plain_free (x ∷ c) k)))
+    rw (e, f) (alone x (c ++ s) (plain_first x c k)
+    ∙ ap (λ (t : List ℕ). 92 ∷ t) (kept_all (x ∷ c) s (plain_free (x ∷ c) k)))
 of_piece m b s (inr (inr (k, e))) = rw e (kept_all m s (plain_free m k))
 
 of_pieces : (ms : List (List ℕ)) (b : List ℕ) → Each Piece ms b → unescaped b ≡ flat_map (λ m. m) ms
 unfolding unescaped
 of_pieces [] b h = rw h refl
-of_pieces (m ∷ ms) b (x, y, e, h, k) = ap unescaped e ∙ of_piece m x y h ∙ ap (λ (t : List ℕ). m ++ t) (of_pieces ms y k)
+of_pieces (m ∷ ms) b (x, y, e, h, k) = ap unescaped e ∙ of_piece m x y h
+    ∙ ap (λ (t : List ℕ). m ++ t) (of_pieces ms y k)
 
 -- the text that a spelling means
 pub meaning : (text raw : List ℕ) → Spells text raw → unescaped raw ≡ text
@@ -135,7 +163,8 @@ meaning text raw (ms, e, h) = of_pieces ms raw h ∙ sym e
 -- ---- run by run
 
 -- what a backslash and the octets after it mean
-pub first_means : (octets first rest : List ℕ) → MeansFirst octets first rest → unescaped octets ≡ first ++ unescaped rest
+pub first_means : (octets first rest : List ℕ) → MeansFirst octets first rest
+    → unescaped octets ≡ first ++ unescaped rest
 first_means octets first rest (inl (x, k, e, f)) = rw (e, f) (left_out x rest (special_test x k))
 first_means octets first [] (inr (e, h, f)) = rw (e, f) last
 first_means octets first (x ∷ rest) (inr (e, h, f)) = rw (e, f) (alone x rest (λ t. h (test_special x t)))
@@ -147,23 +176,34 @@ pub record Unescapes (raw rest done : List ℕ) : Type 0 where
 pub unescapes_all : (raw : List ℕ) → Unescapes raw raw []
 unescapes_all raw = record { is = refl }
 
-pub free_prefix : (k : ℕ) (s : List ℕ) → ((i : ℕ) → i < k → ¬ ((get_or s i 0 == 92) ≡ true)) → AllByRecursion (λ x. x ≢ 92) (take k s)
+pub free_prefix : (k : ℕ) (s : List ℕ) → ((i : ℕ) → i < k → ¬ ((get_or s i 0 == 92) ≡ true))
+    → AllByRecursion (λ x. x ≢ 92) (take k s)
 free_prefix zero s h = tt
 free_prefix (suc k) [] h = tt
-free_prefix (suc k) (x ∷ s) h = (λ e. h 0 (omega arith) (eq-eqb x 92 e), free_prefix k s (λ i less. h (suc i) (omega arith)))
+free_prefix (suc k) (x ∷ s) h = (
+  λ e. h 0 (omega arith) (eq-eqb x 92 e),
+  free_prefix k s (λ i less. h (suc i) (omega arith)),
+)
 
-pub unescapes_more : (raw rest out m1 m2 plain escaped_rest first behind : List ℕ) (k : ℕ) → Unescapes raw rest out → IsFirstByte (is_byte 92) rest (Some k)
+pub unescapes_more : (raw rest out m1 m2 plain escaped_rest first behind : List ℕ) (k : ℕ) → Unescapes raw rest out
+    → IsFirstByte (is_byte 92) rest (Some k)
     → plain ≡ take k rest → escaped_rest ≡ drop k rest → MeansFirst escaped_rest first behind
     → Adds (Only plain) out m1 → Adds (Only first) m1 m2 → Unescapes raw behind m2
 unescapes_more raw rest out m1 m2 plain escaped_rest first behind k u f p m b (x, xs, xe) (y, ys, ye) =
     let parts : rest ≡ plain ++ escaped_rest = sym (take-append-drop k rest) ∙ rw (p, m) refl in
-    let run = kept_all plain escaped_rest (subst (AllByRecursion (λ n. n ≢ 92)) (sym p) (free_prefix k rest (λ i less. f.0.before i (omega arith) less))) in
-    let step : unescaped rest ≡ plain ++ (first ++ unescaped behind) = ap unescaped parts ∙ run ∙ ap (λ (t : List ℕ). plain ++ t) (first_means escaped_rest first behind b) in
+    let run = kept_all plain escaped_rest (subst (AllByRecursion (λ n. n ≢ 92)) (sym p)
+    (free_prefix k rest (λ i less. f.0.before i (omega arith) less))) in
+    let step : unescaped rest ≡ plain ++ (first ++ unescaped behind) =
+    ap unescaped parts ∙ run ∙ ap (λ (t : List ℕ). plain ++ t) (first_means escaped_rest first behind b) in
     record { is = u.is ∙ ap (λ (t : List ℕ). out ++ t) step ∙ sym (rw (ye, xe, xs, ys) (simp append_assoc)) }
 
-pub unescapes_end : (raw rest out new : List ℕ) → Unescapes raw rest out → IsFirstByte (is_byte 92) rest None → Adds (Only rest) out new → (text : List ℕ) → Spells text raw → new ≡ text
+pub unescapes_end : (raw rest out new : List ℕ) → Unescapes raw rest out → IsFirstByte (is_byte 92) rest None
+    → Adds (Only rest) out new → (text : List ℕ) → Spells text raw → new ≡ text
 unfolding unescaped
 unescapes_end raw rest out new u f (x, xs, xe) text h =
-    let free : AllByRecursion (λ n. n ≢ 92) rest = subst (AllByRecursion (λ n. n ≢ 92)) (take_all (length rest) rest (omega arith)) (free_prefix (length rest) rest (λ i less. f i (omega arith) less)) in
-    let whole : unescaped rest ≡ rest = ap unescaped (sym (append-nil rest)) ∙ kept_all rest [] free ∙ append-nil rest in
+    let free : AllByRecursion (λ n. n ≢ 92) rest =
+    subst (AllByRecursion (λ n. n ≢ 92)) (take_all (length rest) rest (omega arith))
+    (free_prefix (length rest) rest (λ i less. f i (omega arith) less)) in
+    let whole : unescaped rest ≡ rest = ap unescaped (sym (append-nil rest)) ∙ kept_all rest [] free ∙ append-nil rest
+    in
     xe ∙ ap (λ (t : List ℕ). out ++ t) (xs ∙ sym whole) ∙ sym u.is ∙ meaning text raw h

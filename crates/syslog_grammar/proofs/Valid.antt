@@ -4,9 +4,11 @@ use Rattle.std.specs.Prelude.{ℤ, Option, Some, None, IfSome, IsUtf8, option_ma
 use Rattle.std.specs.List.{AllByRecursion, flat_map}
 use Rattle.std.proofs.lemmas.Str.{IsUtf8-append, IsUtf8-nil}
 use Rattle.octet_language.specs.Language.{Each}
-use Rattle.syslog_value.specs.Parts.{ParamParts, ElementParts, MessageParts, AnyOctets, Utf8Text, Parts, IsWord, IsParam, IsElement, IsMessage, IsInstant, IsRecord}
+use Rattle.syslog_value.specs.Parts.{ParamParts, ElementParts, MessageParts, AnyOctets, Utf8Text, Parts, IsWord}
+use Rattle.syslog_value.specs.Parts.{IsParam, IsElement, IsMessage, IsInstant, IsRecord}
 use Rattle.syslog_grammar.specs.Faults.{IsInRange}
-use Rattle.syslog_grammar.specs.Grammar.{HeaderParts, Header, header_of, Nilable, Word, Spaced, Param, Element, StructuredDataText, Message, MessagePart, SyslogMsg}
+use Rattle.syslog_grammar.specs.Grammar.{HeaderParts, Header, header_of, Nilable, Word, Spaced, Param, Element}
+use Rattle.syslog_grammar.specs.Grammar.{StructuredDataText, Message, MessagePart, SyslogMsg}
 use Rattle.syslog_grammar.specs.Time.{CivilTime, instant}
 use Rattle.syslog_grammar.specs.Unsorted.{HasRecordParts}
 use Rattle.syslog_grammar.specs.Values.{IsSpecial, Piece, Spells}
@@ -25,7 +27,8 @@ special_utf8 x (inr (inr e)) = rw e (IsUtf8-character (93 ∷ []) (ascii 93 (ome
 
 piece_utf8 : (m b : List ℕ) → Piece m b → IsUtf8 m
 piece_utf8 m b (inl (x, k, e, f)) = subst IsUtf8 (sym e) (special_utf8 x k)
-piece_utf8 m b (inr (inl (c, k, e, f))) = subst IsUtf8 (sym e) (IsUtf8-append (92 ∷ []) c (special_utf8 92 (inr (inl refl))) (IsUtf8-character c k.0))
+piece_utf8 m b (inr (inl (c, k, e, f))) = subst IsUtf8 (sym e)
+    (IsUtf8-append (92 ∷ []) c (special_utf8 92 (inr (inl refl))) (IsUtf8-character c k.0))
 piece_utf8 m b (inr (inr (k, f))) = IsUtf8-character m k.0
 
 pieces_utf8 : (ms : List (List ℕ)) (b : List ℕ) → Each Piece ms b → IsUtf8 (flat_map (λ m. m) ms)
@@ -68,7 +71,19 @@ record Words (h : HeaderParts) : Type 0 where
 
 words : (h : HeaderParts) (b : List ℕ) → Header h b → Words h
 unfolding Header
-words h b (x0, y0, e0, h0, (x1, y1, e1, h1, (x2, y2, e2, h2, (x3, y3, e3, h3, (x4, y4, e4, h4, (x5, y5, e5, h5, h6)))))) = record {
+words h b (
+  x0,
+  y0,
+  e0,
+  h0,
+  (
+    x1,
+    y1,
+    e1,
+    h1,
+    (x2, y2, e2, h2, (x3, y3, e3, h3, (x4, y4, e4, h4, (x5, y5, e5, h5, h6)))),
+  ),
+) = record {
   hostname = valid_word 255 h.hostname x3 h3;
   app_name = valid_word 48 h.app_name x4 h4;
   proc_id = valid_word 128 h.proc_id x5 h5;
@@ -93,7 +108,17 @@ valid_time (Some c) h = h
 
 -- the parts with the instant of their time
 abbrev pub at_instant : Parts CivilTime → Parts ℤ
-at_instant p = record { priority = p.priority; time = option_map instant p.time; hostname = p.hostname; app_name = p.app_name; proc_id = p.proc_id; msg_id = p.msg_id; elements = p.elements; message = p.message }
+at_instant p = record {
+  priority = p.priority;
+  time = option_map instant p.time;
+  hostname = p.hostname;
+  app_name =
+      p.app_name;
+  proc_id = p.proc_id;
+  msg_id = p.msg_id;
+  elements = p.elements;
+  message = p.message;
+}
 
 -- what octets spell has the parts of a record
 pub parsed_valid : (p : Parts CivilTime) (b : List ℕ) → SyslogMsg p b → IsInRange p → HasRecordParts (at_instant p)

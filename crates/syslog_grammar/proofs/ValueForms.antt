@@ -1,16 +1,16 @@
--- Whether the spelling of a value is the canonical one, run by run.
-use Rattle.std.proofs.Common.{◌≡◌, ◌≢◌, ℕ, zero, suc, ◌<◌, List, [], ◌∷◌, ◌++◌, length, take, drop, get_or, refl, sym, ap, subst, ◌∙◌, append_assoc, arith, inl, inr}
-use Rattle.std.specs.Prelude.{if◌then◌else◌, ◌==◌, ◌↔◌, IsTrue, true, false, Some, None}
+-- The spelling of a value beside the canonical one, run by run.
+use Rattle.std.proofs.Common.{◌≡◌, ◌≢◌, ℕ, zero, suc, ◌<◌, List, [], ◌∷◌, ◌++◌, length, take, drop, get_or, refl, sym}
+use Rattle.std.proofs.Common.{ap, subst, ◌∙◌, append_assoc, arith, inl, inr}
+use Rattle.std.specs.Prelude.{if◌then◌else◌, ◌==◌, true, Some, None}
 use Rattle.std.specs.List.{AllByRecursion, flat_map}
 use Rattle.std.proofs.lemmas.Bool.{eqb-true}
 use Rattle.std.proofs.lemmas.Grind.{flat_map-append}
-use Rattle.std.proofs.lemmas.List.{append_cancel_left, take_all, take-append-drop}
+use Rattle.std.proofs.lemmas.List.{take_all, take-append-drop}
 use Rattle.memchr.specs.Find.{IsFirstByte, is_byte}
 use Rattle.octet_language.specs.Language.{Each, IfFirst}
 use Rattle.octet_language.proofs.Lists.{heads, tails, parted, not_free, AllByRecursion-right}
 use Rattle.syslog_grammar.specs.Canonical.{needs_escape, escaped}
-use Rattle.syslog_grammar.specs.Escapes.{BeginsSpecial}
-use Rattle.syslog_grammar.specs.Values.{IsSpecial, IsPlain, Piece, Spells}
+use Rattle.syslog_grammar.specs.Values.{IsSpecial, IsPlain, Piece}
 use Rattle.syslog_grammar.proofs.CanonicalParses.{bare}
 use Rattle.syslog_grammar.proofs.Characters.{character_some}
 use Rattle.syslog_grammar.proofs.Unescaped.{special_test, plain_bare, plain_free, free_prefix}
@@ -37,14 +37,19 @@ pub record Run (ms : List (List ℕ)) (run t : List ℕ) : Type 0 where
   pub means : joined ms ≡ run ++ joined behind
   pub same : escaped run ≡ run
 
-not_run : (m x y run t rest : List ℕ) (r : ℕ) (s : List ℕ) → rest ≡ x ++ y → x ≡ 92 ∷ s → rest ≡ (r ∷ run) ++ 92 ∷ t → Free (r ∷ run) → ⊥
-not_run m x y run t rest r s e f g free = free.0 (sym (heads 92 r (s ++ y) (run ++ 92 ∷ t) (ap (λ (u : List ℕ). u ++ y) (sym f) ∙ sym e ∙ g)))
+not_run : (m x y run t rest : List ℕ) (r : ℕ) (s : List ℕ) → rest ≡ x ++ y → x ≡ 92 ∷ s → rest ≡ (r ∷ run) ++ 92 ∷ t
+    → Free (r ∷ run) → ⊥
+not_run m x y run t rest r s e f g free = free.0
+    (sym (heads 92 r (s ++ y) (run ++ 92 ∷ t) (ap (λ (u : List ℕ). u ++ y) (sym f) ∙ sym e ∙ g)))
 
-pub runs : (ms : List (List ℕ)) (rest run t : List ℕ) → Each Piece ms rest → rest ≡ run ++ 92 ∷ t → Free run → Run ms run t
+pub runs : (ms : List (List ℕ)) (rest run t : List ℕ) → Each Piece ms rest → rest ≡ run ++ 92 ∷ t → Free run
+    → Run ms run t
 runs ms rest [] t h g free = record { behind = ms; each = subst (Each Piece ms) g h; means = refl; same = refl }
 runs [] rest (r ∷ run) t h g free = let i : ◌≡◌ {A = List ℕ} [] (r ∷ (run ++ 92 ∷ t)) = sym h ∙ g in absurd cc
-runs (m ∷ ms) rest (r ∷ run) t (x, y, e, inl (s, k, f, i), j) g free = absurd (not_run m x y run t rest r (s ∷ []) e i g free)
-runs (m ∷ ms) rest (r ∷ run) t (x, y, e, inr (inl (c, k, f, i)), j) g free = absurd (not_run m x y run t rest r c e i g free)
+runs (m ∷ ms) rest (r ∷ run) t (x, y, e, inl (s, k, f, i), j) g free =
+    absurd (not_run m x y run t rest r (s ∷ []) e i g free)
+runs (m ∷ ms) rest (r ∷ run) t (x, y, e, inr (inl (c, k, f, i)), j) g free =
+    absurd (not_run m x y run t rest r c e i g free)
 runs (m ∷ ms) rest (r ∷ run) t (x, y, e, inr (inr (k, f)), j) g free = elim (parted x y (r ∷ run) 92 t (sym e ∙ g)) [
   | inl (z, i) ↦ absurd (not_free 92 m (r ∷ run) z (plain_free m k) (sym f ∙ i))
   | inr (w, i, l) ↦
@@ -53,8 +58,10 @@ runs (m ∷ ms) rest (r ∷ run) t (x, y, e, inr (inr (k, f)), j) g free = elim 
       record {
         behind = deeper.behind;
         each = deeper.each;
-        means = ap (λ (u : List ℕ). m ++ u) deeper.means ∙ sym (append_assoc m w (joined deeper.behind)) ∙ ap (λ (u : List ℕ). u ++ joined deeper.behind) (sym prefix);
-        same = ap escaped prefix ∙ escaped_join m w ∙ ap (λ (u : List ℕ). u ++ escaped w) (bare m (plain_bare m k)) ∙ ap (λ (u : List ℕ). m ++ u) deeper.same ∙ sym prefix;
+        means = ap (λ (u : List ℕ). m ++ u) deeper.means ∙ sym (append_assoc m w (joined deeper.behind))
+            ∙ ap (λ (u : List ℕ). u ++ joined deeper.behind) (sym prefix);
+        same = ap escaped prefix ∙ escaped_join m w ∙ ap (λ (u : List ℕ). u ++ escaped w) (bare m (plain_bare m k))
+            ∙ ap (λ (u : List ℕ). m ++ u) deeper.same ∙ sym prefix;
       }
 ]
 
@@ -70,7 +77,8 @@ pub record Escape (ms : List (List ℕ)) (y : ℕ) (after : List ℕ) : Type 0 w
   pub each : Each Piece behind after
   pub means : joined ms ≡ y ∷ joined behind
 
-pub escape : (ms : List (List ℕ)) (y : ℕ) (after : List ℕ) → Each Piece ms (92 ∷ y ∷ after) → IsSpecial y → Escape ms y after
+pub escape : (ms : List (List ℕ)) (y : ℕ) (after : List ℕ) → Each Piece ms (92 ∷ y ∷ after) → IsSpecial y
+    → Escape ms y after
 escape [] y after h s = absurd cc
 escape (m ∷ ms) y after (x, z, e, inl (q, k, f, i), j) s =
     let both : 92 ∷ y ∷ after ≡ 92 ∷ q ∷ z = e ∙ ap (λ (u : List ℕ). u ++ z) i in
@@ -85,18 +93,9 @@ escape (m ∷ ms) y after (x, z, e, inr (inl (c, k, f, i)), j) s =
 escape (m ∷ ms) y after (x, z, e, inr (inr (k, f)), j) s =
     absurd (no_plain m z (y ∷ after) 92 k (inr (inl refl)) (e ∙ ap (λ (u : List ℕ). u ++ z) f))
 
--- a backslash that is no escape is written with another in the canonical spelling
-lone : (ms : List (List ℕ)) (t : List ℕ) → Each Piece ms (92 ∷ t) → IfFirst (λ x. ¬ (IsSpecial x)) t → (s : List ℕ) × (escaped (joined ms) ≡ 92 ∷ 92 ∷ s)
-lone [] t h none = absurd cc
-lone (m ∷ ms) t (x, z, e, inl (q, k, f, i), j) none =
-    let rest : t ≡ q ∷ z = tails 92 92 t (q ∷ z) (e ∙ ap (λ (u : List ℕ). u ++ z) i) in
-    absurd (subst (IfFirst (λ n. ¬ (IsSpecial n))) rest none k)
-lone (m ∷ ms) t (x, z, e, inr (inl (c, k, f, i)), j) none =
-    (escaped (c ++ joined ms), ap (λ (u : List ℕ). escaped (u ++ joined ms)) f ∙ escaped_special 92 (c ++ joined ms) (inr (inl refl)))
-lone (m ∷ ms) t (x, z, e, inr (inr (k, f)), j) none = absurd (no_plain m z t 92 k (inr (inl refl)) (e ∙ ap (λ (u : List ℕ). u ++ z) f))
-
--- the pieces after such a backslash
-pub lone_more : (ms : List (List ℕ)) (t : List ℕ) → Each Piece ms (92 ∷ t) → IfFirst (λ x. ¬ (IsSpecial x)) t → (ks : List (List ℕ)) × Each Piece ks t × (joined ms ≡ 92 ∷ joined ks)
+-- the pieces after a backslash that is no escape
+pub lone_more : (ms : List (List ℕ)) (t : List ℕ) → Each Piece ms (92 ∷ t) → IfFirst (λ x. ¬ (IsSpecial x)) t
+    → (ks : List (List ℕ)) × Each Piece ks t × (joined ms ≡ 92 ∷ joined ks)
 lone_more [] t h none = absurd cc
 lone_more (m ∷ ms) t (x, z, e, inl (q, k, f, i), j) none =
     let rest : t ≡ q ∷ z = tails 92 92 t (q ∷ z) (e ∙ ap (λ (u : List ℕ). u ++ z) i) in
@@ -104,36 +103,30 @@ lone_more (m ∷ ms) t (x, z, e, inl (q, k, f, i), j) none =
 lone_more (m ∷ ms) t (x, z, e, inr (inl (c, k, f, i)), j) none =
     let rest : t ≡ c ++ z = tails 92 92 t (c ++ z) (e ∙ ap (λ (u : List ℕ). u ++ z) i) in
     (c ∷ ms, (c, z, rest, inr (inr (k, refl)), j), ap (λ (u : List ℕ). u ++ joined ms) f)
-lone_more (m ∷ ms) t (x, z, e, inr (inr (k, f)), j) none = absurd (no_plain m z t 92 k (inr (inl refl)) (e ∙ ap (λ (u : List ℕ). u ++ z) f))
+lone_more (m ∷ ms) t (x, z, e, inr (inr (k, f)), j) none =
+    absurd (no_plain m z t 92 k (inr (inl refl)) (e ∙ ap (λ (u : List ℕ). u ++ z) f))
 
 -- ---- no backslash
 
 pub free_rest : (rest : List ℕ) → IsFirstByte (is_byte 92) rest None → Free rest
-free_rest rest f = subst Free (take_all (length rest) rest (omega arith)) (free_prefix (length rest) rest (λ i less. f i (omega arith) less))
+free_rest rest f = subst Free (take_all (length rest) rest (omega arith))
+    (free_prefix (length rest) rest (λ i less. f i (omega arith) less))
 
 pub all_plain : (ms : List (List ℕ)) (rest : List ℕ) → Each Piece ms rest → Free rest → rest ≡ escaped (joined ms)
 all_plain [] rest h free = h
-all_plain (m ∷ ms) rest (x, y, e, inl (s, k, f, i), j) free = absurd ((subst Free (e ∙ ap (λ (u : List ℕ). u ++ y) i) free).0 refl)
-all_plain (m ∷ ms) rest (x, y, e, inr (inl (c, k, f, i)), j) free = absurd ((subst Free (e ∙ ap (λ (u : List ℕ). u ++ y) i) free).0 refl)
+all_plain (m ∷ ms) rest (x, y, e, inl (s, k, f, i), j) free =
+    absurd ((subst Free (e ∙ ap (λ (u : List ℕ). u ++ y) i) free).0 refl)
+all_plain (m ∷ ms) rest (x, y, e, inr (inl (c, k, f, i)), j) free =
+    absurd ((subst Free (e ∙ ap (λ (u : List ℕ). u ++ y) i) free).0 refl)
 all_plain (m ∷ ms) rest (x, y, e, inr (inr (k, f)), j) free =
-    e ∙ ap (λ (u : List ℕ). u ++ y) (f ∙ sym (bare m (plain_bare m k))) ∙ ap (λ (u : List ℕ). escaped m ++ u) (all_plain ms y j (AllByRecursion-right (λ n. n ≢ 92) x y (subst Free e free))) ∙ sym (escaped_join m (joined ms))
+    e ∙ ap (λ (u : List ℕ). u ++ y) (f ∙ sym (bare m (plain_bare m k)))
+    ∙ ap (λ (u : List ℕ). escaped m ++ u) (all_plain ms y j
+    (AllByRecursion-right (λ n. n ≢ 92) x y (subst Free e free))) ∙ sym (escaped_join m (joined ms))
 
--- ---- the loop
+-- ---- at a backslash
 
--- the spelling is the canonical one where the rest of it is
-pub record Left (raw text rest : List ℕ) : Type 0 where
-  pub meaning : List ℕ
-  pub spells : Spells meaning rest
-  pub to : raw ≡ escaped text → rest ≡ escaped meaning
-  pub from : rest ≡ escaped meaning → raw ≡ escaped text
-
-abbrev pub ValueLeft : List ℕ → List ℕ → Type 0
-ValueLeft raw rest = (text : List ℕ) → Spells text raw → Left raw text rest
-
-pub value_all : (raw : List ℕ) → ValueLeft raw raw
-value_all raw text h = record { meaning = text; spells = h; to = λ e. e; from = λ e. e }
-
-pub at_mark : (k : ℕ) (rest : List ℕ) → k < length rest → (get_or rest k 0 == 92) ≡ true → drop k rest ≡ 92 ∷ drop 1 (drop k rest)
+pub at_mark : (k : ℕ) (rest : List ℕ) → k < length rest → (get_or rest k 0 == 92) ≡ true
+    → drop k rest ≡ 92 ∷ drop 1 (drop k rest)
 at_mark k [] h e = absurd (omega arith)
 at_mark zero (x ∷ rest) h e = ap (λ (n : ℕ). n ∷ rest) (eqb-true x 92 e)
 at_mark (suc k) (x ∷ rest) h e = at_mark k rest (omega arith) e
@@ -143,46 +136,10 @@ pub record Delimited (rest run behind : List ℕ) : Type 0 where
   pub parts : rest ≡ run ++ 92 ∷ behind
   pub free : Free run
 
-pub marked_at : (rest escaped_rest behind : List ℕ) (k : ℕ) → IsFirstByte (is_byte 92) rest (Some k) → escaped_rest ≡ drop k rest → behind ≡ drop 1 escaped_rest → Delimited rest (take k rest) behind
+pub marked_at : (rest escaped_rest behind : List ℕ) (k : ℕ) → IsFirstByte (is_byte 92) rest (Some k)
+    → escaped_rest ≡ drop k rest → behind ≡ drop 1 escaped_rest → Delimited rest (take k rest) behind
 marked_at rest escaped_rest behind k f m b = record {
-  parts = sym (take-append-drop k rest) ∙ ap (λ (u : List ℕ). take k rest ++ u) (at_mark k rest f.0.high f.1 ∙ ap (λ (u : List ℕ). 92 ∷ u) (ap (drop 1) (sym m) ∙ sym b));
+  parts = sym (take-append-drop k rest) ∙ ap (λ (u : List ℕ). take k rest ++ u)
+      (at_mark k rest f.0.high f.1 ∙ ap (λ (u : List ℕ). 92 ∷ u) (ap (drop 1) (sym m) ∙ sym b));
   free = free_prefix k rest (λ i less. f.0.before i (omega arith) less);
 }
-
-step : (raw rest run behind after text : List ℕ) (y : ℕ) → Delimited rest run behind → behind ≡ y ∷ after → IsSpecial y → Left raw text rest → Left raw text after
-step raw rest run behind after text y m e s h =
-    let r = runs h.spells.0 rest run behind h.spells.2 m.parts m.free in
-    let q = escape r.behind y after (subst (λ (u : List ℕ). Each Piece r.behind (92 ∷ u)) e r.each) s in
-    let form : escaped h.meaning ≡ run ++ 92 ∷ y ∷ escaped (joined q.behind) =
-    ap escaped (h.spells.1 ∙ r.means) ∙ escaped_join run (joined r.behind) ∙ ap (λ (u : List ℕ). u ++ escaped (joined r.behind)) r.same
-    ∙ ap (λ (u : List ℕ). run ++ u) (ap escaped q.means ∙ escaped_special y (joined q.behind) s) in
-    let whole : rest ≡ run ++ 92 ∷ y ∷ after = m.parts ∙ ap (λ (u : List ℕ). run ++ 92 ∷ u) e in
-    record {
-      meaning = joined q.behind;
-      spells = (q.behind, refl, q.each);
-      to = λ g. tails y y after (escaped (joined q.behind)) (tails 92 92 (y ∷ after) (y ∷ escaped (joined q.behind)) (append_cancel_left run (92 ∷ y ∷ after) (92 ∷ y ∷ escaped (joined q.behind)) (sym whole ∙ h.to g ∙ form)));
-      from = λ g. h.from (whole ∙ ap (λ (u : List ℕ). run ++ 92 ∷ y ∷ u) g ∙ sym form);
-    }
-
-pub value_more : (raw rest escaped_rest behind after : List ℕ) (k : ℕ) → IsFirstByte (is_byte 92) rest (Some k) → escaped_rest ≡ drop k rest → behind ≡ drop 1 escaped_rest → BeginsSpecial behind → after ≡ drop 1 behind → ValueLeft raw rest → ValueLeft raw after
-value_more raw rest escaped_rest behind after k f m b (y, z, e, s) a remaining text h =
-    step raw rest (take k rest) behind after text y (marked_at rest escaped_rest behind k f m b) (e ∙ ap (λ (u : List ℕ). y ∷ u) (ap (drop 1) (sym e) ∙ sym a)) s (remaining text h)
-
-pub value_lone : (raw rest escaped_rest behind : List ℕ) (k : ℕ) → IsFirstByte (is_byte 92) rest (Some k) → escaped_rest ≡ drop k rest → behind ≡ drop 1 escaped_rest → IfFirst (λ x. ¬ (IsSpecial x)) behind → ValueLeft raw rest
-    → (text : List ℕ) → Spells text raw → IsTrue false ↔ (raw ≡ escaped text)
-value_lone raw rest escaped_rest behind k f m b none remaining text h = (λ e. absurd cc, λ g. apart (remaining text h) g)
-  where
-    apart : Left raw text rest → raw ≡ escaped text → IsTrue false
-    apart l g =
-        let p = marked_at rest escaped_rest behind k f m b in
-        let r = runs l.spells.0 rest (take k rest) behind l.spells.2 p.parts p.free in
-        let q = lone r.behind behind r.each none in
-        let form : escaped l.meaning ≡ take k rest ++ 92 ∷ 92 ∷ q.0 =
-        ap escaped (l.spells.1 ∙ r.means) ∙ escaped_join (take k rest) (joined r.behind) ∙ ap (λ (u : List ℕ). u ++ escaped (joined r.behind)) r.same ∙ ap (λ (u : List ℕ). take k rest ++ u) q.1 in
-        let second : behind ≡ 92 ∷ q.0 = tails 92 92 behind (92 ∷ q.0) (append_cancel_left (take k rest) (92 ∷ behind) (92 ∷ 92 ∷ q.0) (sym p.parts ∙ l.to g ∙ form)) in
-        absurd (subst (IfFirst (λ n. ¬ (IsSpecial n))) second none (inr (inl refl)))
-
-pub value_end : (raw rest : List ℕ) → IsFirstByte (is_byte 92) rest None → ValueLeft raw rest → (text : List ℕ) → Spells text raw → IsTrue true ↔ (raw ≡ escaped text)
-value_end raw rest f remaining text h =
-    let l = remaining text h in
-    (λ u. l.from (all_plain l.spells.0 rest l.spells.2 (free_rest rest f) ∙ ap escaped (sym l.spells.1)), λ u. refl)

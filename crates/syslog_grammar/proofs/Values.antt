@@ -1,5 +1,6 @@
 -- Values of parameters: pieces up to the quotation mark.
-use Rattle.std.proofs.Common.{◌≡◌, ◌≢◌, ℕ, ◌≤◌, List, [], ◌∷◌, ◌++◌, length, refl, sym, ap, subst, ◌∙◌, arith, inl, inr, ◌⊎◌}
+use Rattle.std.proofs.Common.{◌≡◌, ◌≢◌, ℕ, ◌≤◌, List, [], ◌∷◌, ◌++◌, length, refl, sym, ap, subst, ◌∙◌, arith, inl, inr}
+use Rattle.std.proofs.Common.{◌⊎◌}
 use Rattle.std.specs.Prelude.{Result}
 use Rattle.std.specs.List.{AllByRecursion}
 use Rattle.std.proofs.lemmas.List.{length-append}
@@ -70,7 +71,8 @@ piece_some (m, inr (inr (k, e))) = character_some (subst IsCharacter (sym e) k.0
 
 -- after a backslash any character
 behind_backslash : (s : List ℕ) → AnyPiece (92 ∷ s) → IsCharacter s
-behind_backslash s (m, inl (x, k, e, f)) = subst IsCharacter (sym (tails 92 92 s (x ∷ []) f)) (ascii x (special_low x k))
+behind_backslash s (m, inl (x, k, e, f)) =
+    subst IsCharacter (sym (tails 92 92 s (x ∷ []) f)) (ascii x (special_low x k))
 behind_backslash s (m, inr (inl (c, k, e, f))) = subst IsCharacter (sym (tails 92 92 s c f)) k.0
 behind_backslash s (m, inr (inr (k, e))) = absurd (no_special 92 s (inr (inl refl)) (subst IsPlain (sym e) k))
 
@@ -103,7 +105,8 @@ IsPrefixFree-piece (x ∷ p) s (y ∷ q) t a b e =
           let c = behind_backslash p (subst (λ (n : ℕ). AnyPiece (n ∷ p)) k a) in
           let d = behind_backslash q (subst (λ (n : ℕ). AnyPiece (n ∷ q)) (sym head ∙ k) b) in
           ap (λ (n : ℕ). n ∷ p) head ∙ ap (λ (u : List ℕ). y ∷ u) (IsPrefixFree-character p s q t c d rests)
-      | inr k ↦ IsPrefixFree-character (x ∷ p) s (y ∷ q) t (other_from x p k a).0 (other_from y q (λ f. k (head ∙ f)) b).0 e
+      | inr k ↦ IsPrefixFree-character (x ∷ p) s (y ∷ q) t (other_from x p k a).0
+          (other_from y q (λ f. k (head ∙ f)) b).0 e
     ]
 
 -- ---- the value
@@ -114,7 +117,19 @@ no_piece_from x s (inl k) a = no_special x s (inl k) (other_from x s (λ e. omeg
 no_piece_from x s (inr k) a = no_special x s (inr (inr k)) (other_from x s (λ e. omega (arith, e, k)) a)
 
 some_piece : AnyPiece (97 ∷ [])
-some_piece = (97 ∷ [], inr (inr ((ascii 97 (omega arith), λ e. omega (arith, heads 97 34 [] [] e), λ e. omega (arith, heads 97 92 [] [] e), λ e. omega (arith, heads 97 93 [] [] e)), refl)))
+some_piece = (
+  97 ∷ [],
+  inr (inr (
+    (
+      ascii 97 (omega arith),
+      λ e. omega (arith, heads 97 34 [] [] e),
+      λ e.
+          omega (arith, heads 97 92 [] [] e),
+      λ e. omega (arith, heads 97 93 [] [] e),
+    ),
+    refl,
+  )),
+)
 
 no_piece_refuses : (b : List ℕ) → IfFirst (λ x. (x ≡ 34) ⊎ (x ≡ 93)) b → Refuses (AnyOf Piece) [] b
 no_piece_refuses [] h = tt
@@ -123,19 +138,31 @@ no_piece_refuses (x ∷ b) h = λ (more, m). no_piece_from x more h m
 no_piece_none : (b : List ℕ) → IfFirst (λ x. (x ≡ 34) ⊎ (x ≡ 93)) b → NoPrefix (AnyOf Piece) b
 no_piece_none b h [] v e m = piece_some m
 no_piece_none [] h (z ∷ u) v e m = absurd cc
-no_piece_none (x ∷ b) h (z ∷ u) v e m = no_piece_from x u h (subst (λ (n : ℕ). AnyPiece (n ∷ u)) (sym (heads x z b (u ++ v) e)) m)
+no_piece_none (x ∷ b) h (z ∷ u) v e m = no_piece_from x u h
+    (subst (λ (n : ℕ). AnyPiece (n ∷ u)) (sym (heads x z b (u ++ v) e)) m)
 
 -- at the end, or before a quote or a bracket
 pub no_piece : (b : List ℕ) → IfFirst (λ x. (x ≡ 34) ⊎ (x ≡ 93)) b → Fails (AnyOf Piece) b (length b)
 no_piece b h = record {
   none = no_piece_none b h;
-  stops = record { read = []; rest = b; parts = refl; count = refl; begins = (97 ∷ [], some_piece); refuses = no_piece_refuses b h };
+  stops = record {
+    read = [];
+    rest = b;
+    parts = refl;
+    count = refl;
+    begins = (97 ∷ [], some_piece);
+    refuses =
+        no_piece_refuses b h;
+  };
 }
 
-pub piece_behind : {X E : Type 0} (at : E → ℕ) (b rest : List ℕ) (view : X → List ℕ) (r : Result X E) (x : ℕ) → b ≡ x ∷ rest → x ≡ 92 → Passes at IsCharacter view rest r → Passes at (AnyOf Piece) view b r
-piece_behind at b rest view r x e k h = Passes-behind at IsCharacter (AnyOf Piece) 92 b rest view r behind_backslash backslash piece_some (e ∙ ap (λ (n : ℕ). n ∷ rest) k) h
+pub piece_behind : {X E : Type 0} (at : E → ℕ) (b rest : List ℕ) (view : X → List ℕ) (r : Result X E) (x : ℕ)
+    → b ≡ x ∷ rest → x ≡ 92 → Passes at IsCharacter view rest r → Passes at (AnyOf Piece) view b r
+piece_behind at b rest view r x e k h = Passes-behind at IsCharacter (AnyOf Piece) 92 b rest view r behind_backslash
+    backslash piece_some (e ∙ ap (λ (n : ℕ). n ∷ rest) k) h
 
-pub piece_other : {X E : Type 0} (at : E → ℕ) (b rest : List ℕ) (view : X → List ℕ) (r : Result X E) (x : ℕ) → b ≡ x ∷ rest → x ≢ 34 → x ≢ 92 → x ≢ 93 → Passes at IsCharacter view b r → Passes at (AnyOf Piece) view b r
+pub piece_other : {X E : Type 0} (at : E → ℕ) (b rest : List ℕ) (view : X → List ℕ) (r : Result X E) (x : ℕ)
+    → b ≡ x ∷ rest → x ≢ 34 → x ≢ 92 → x ≢ 93 → Passes at IsCharacter view b r → Passes at (AnyOf Piece) view b r
 piece_other at b rest view r x e a c d h =
     Passes-alike at IsCharacter (AnyOf Piece) x b rest (97 ∷ []) view r
     (λ s m. (other_from x s c m).0) (λ s m. other_to x s (not_special a c d) m)
@@ -152,19 +179,32 @@ apart_piece [] s q t h k e = piece_some h
 apart_piece (x ∷ p) s q t h k e = no_piece_from x p (inl (heads x 34 (p ++ s) t (e ∙ ap (λ (u : List ℕ). u ++ t) k))) h
 
 pub IsPrefixFree-value : IsPrefixFree (Many Piece (Only (34 ∷ [])))
-IsPrefixFree-value = IsPrefixFree-many Piece (Only (34 ∷ [])) IsPrefixFree-piece (IsPrefixFree-only (34 ∷ [])) apart_piece
+IsPrefixFree-value = IsPrefixFree-many Piece (Only (34 ∷ [])) IsPrefixFree-piece (IsPrefixFree-only (34 ∷ []))
+    apart_piece
 
 -- ---- octets that mean themselves
 
+pub plain_octet : (x : ℕ) → IsPlainOctet x → IsPlain (x ∷ [])
+plain_octet x p = (
+  ascii x (omega (arith, p.0)),
+  (λ e. p.1 (heads x 34 [] [] e)),
+  (λ e. p.2 (heads x 92 [] [] e)),
+  (λ e. p.3 (heads x 93 [] [] e)),
+)
+
 plain_piece : (x : ℕ) → IsPlainOctet x → AnyPiece (x ∷ [])
-plain_piece x p = (x ∷ [], inr (inr ((ascii x (omega (arith, p.0)), (λ e. p.1 (heads x 34 [] [] e)), (λ e. p.2 (heads x 92 [] [] e)), (λ e. p.3 (heads x 93 [] [] e))), refl)))
+plain_piece x p = (x ∷ [], inr (inr (plain_octet x p, refl)))
 
 -- after such octets, what of the rest holds of the whole
-carries_run : (b run rest : List ℕ) → AllByRecursion IsPlainOctet run → Carries Piece (Only (34 ∷ [])) b (run ++ rest) → Carries Piece (Only (34 ∷ [])) b rest
+carries_run : (b run rest : List ℕ) → AllByRecursion IsPlainOctet run → Carries Piece (Only (34 ∷ [])) b (run ++ rest)
+    → Carries Piece (Only (34 ∷ [])) b rest
 carries_run b [] rest h k = k
-carries_run b (x ∷ run) rest h k = carries_run b run rest h.1 (carries_more Piece 34 b (x ∷ run ++ rest) (run ++ rest) IsPrefixFree-piece h.0.1 (x ∷ [], refl, plain_piece x h.0) k)
+carries_run b (x ∷ run) rest h k = carries_run b run rest h.1
+    (carries_more Piece 34 b (x ∷ run ++ rest) (run ++ rest) IsPrefixFree-piece h.0.1 (x ∷ [], refl, plain_piece x h.0)
+    k)
 
-pub carries_plain : (b from rest : List ℕ) → PassesPlain from rest → Carries Piece (Only (34 ∷ [])) b from → Carries Piece (Only (34 ∷ [])) b rest
+pub carries_plain : (b from rest : List ℕ) → PassesPlain from rest → Carries Piece (Only (34 ∷ [])) b from
+    → Carries Piece (Only (34 ∷ [])) b rest
 carries_plain b from rest p k = carries_run b p.run rest p.plain (subst (Carries Piece (Only (34 ∷ [])) b) p.parts k)
 
 pub plain_takes : (from rest : List ℕ) → PassesPlain from rest → length rest ≤ length from

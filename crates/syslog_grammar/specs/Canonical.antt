@@ -1,5 +1,6 @@
 -- The canonical form of a record: of the texts that spell it (RFC 5424, section 6) the one that is written.
-use Rattle.std.specs.Prelude.{◌≡◌, ℕ, ℤ, pos, List, [], ◌∷◌, ◌++◌, Option, Some, None, Bool, ◌||◌, ◌==◌, if◌then◌else◌, decimal}
+use Rattle.std.specs.Prelude.{◌≡◌, ℕ, ℤ, pos, List, [], ◌∷◌, ◌++◌, Option, Some, None, Bool, ◌||◌, ◌==◌, if◌then◌else◌}
+use Rattle.std.specs.Prelude.{decimal}
 use Rattle.std.specs.List.{flat_map}
 use Rattle.octet_language.specs.Language.{Language, Only, ◌⋅◌}
 use Rattle.syslog_value.specs.Instants.{IsCivil, instant_of}
@@ -65,11 +66,14 @@ abbrev pub SpacedWord : Option (List ℕ) → Language
 SpacedWord w = Only (word_form w) ⋅ Only (32 ∷ [])
 
 -- the header of these fields, and the space that follows it
-unfoldable pub HeaderForm : ℕ → Option ℤ → Option (List ℕ) → Option (List ℕ) → Option (List ℕ) → Option (List ℕ) → Language
+unfoldable pub HeaderForm : ℕ → Option ℤ → Option (List ℕ) → Option (List ℕ) → Option (List ℕ) → Option (List ℕ)
+    → Language
 HeaderForm priority time hostname app_name proc_id msg_id =
-    Only (priority_version_form priority) ⋅ (TimeForm time ⋅ Only (32 ∷ [])) ⋅ SpacedWord hostname ⋅ SpacedWord app_name ⋅ SpacedWord proc_id ⋅ SpacedWord msg_id
+    Only (priority_version_form priority) ⋅ (TimeForm time ⋅ Only (32 ∷ [])) ⋅ SpacedWord hostname ⋅ SpacedWord app_name
+    ⋅ SpacedWord proc_id ⋅ SpacedWord msg_id
 
 -- the canonical text of a record, whose elements are kept by id
 abbrev pub Canonical : Parts ℤ → Language
 Canonical r =
-    HeaderForm r.priority r.time r.hostname r.app_name r.proc_id r.msg_id ⋅ Only (structured_data_form r.elements) ⋅ Only (message_form r.message)
+    HeaderForm r.priority r.time r.hostname r.app_name r.proc_id r.msg_id ⋅ Only (structured_data_form r.elements) ⋅
+    Only (message_form r.message)

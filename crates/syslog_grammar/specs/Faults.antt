@@ -25,7 +25,8 @@ times x b = count_by (λ y. y == x) b
 
 -- a prefix is a whole header, structured data and a space
 abbrev pub HoldsStructuredData : List ℕ → Type 0
-HoldsStructuredData b = (x : List ℕ) × (y : List ℕ) × (b ≡ x ++ y) × (AnyOf Header ⋅ AnyOf StructuredDataText ⋅ Only (32 ∷ [])) x
+HoldsStructuredData b = (x : List ℕ) × (y : List ℕ) × (b ≡ x ++ y)
+    × (AnyOf Header ⋅ AnyOf StructuredDataText ⋅ Only (32 ∷ [])) x
 
 -- the field in which a prefix of a record ends
 abbrev pub EndsIn : List ℕ → Field → Type 0
@@ -57,4 +58,5 @@ FaultOf b (Syntax f at) = ¬ (AnyOf SyslogMsg b) × IsFaultOffset (AnyOf SyslogM
 FaultOf b (InstantRange at) = (p : Parts CivilTime) × SyslogMsg p b × ¬ (IsInRange p)
     × PrefixEnds (AnyOf Priority ⋅ Spaced Version) b at
 FaultOf b (RepeatedId at) = (p : Parts CivilTime) × SyslogMsg p b × IsInRange p
-    × (before : List ElementParts) × Repeats p.elements before × PrefixEnds (AnyOf Header ⋅ Each Element before ⋅ Only (91 ∷ [])) b at
+    × (before : List ElementParts) × Repeats p.elements before
+    × PrefixEnds (AnyOf Header ⋅ Each Element before ⋅ Only (91 ∷ [])) b at

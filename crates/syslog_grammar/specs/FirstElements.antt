@@ -9,11 +9,13 @@ use Rattle.syslog_grammar.specs.Spans.{ElementSpan, SpannedElement, ParamSpan, S
 
 -- where an id comes first, and then a space or a bracket, it is so long
 abbrev pub IsIdLength : List ℕ → ℕ → Type 0
-IsIdLength octets n = (id after : List ℕ) (x : ℕ) → AllByRecursion IsNameOctet id → (x ≡ 32) ⊎ (x ≡ 93) → octets ≡ id ++ x ∷ after → n ≡ length id
+IsIdLength octets n = (id after : List ℕ) (x : ℕ) → AllByRecursion IsNameOctet id → (x ≡ 32) ⊎ (x ≡ 93)
+    → octets ≡ id ++ x ∷ after → n ≡ length id
 
 -- where a name comes first, and then "=", it is so long
 abbrev pub IsNameLength : List ℕ → ℕ → Type 0
-IsNameLength octets n = (name after : List ℕ) → AllByRecursion IsNameOctet name → octets ≡ name ++ 61 ∷ after → n ≡ length name
+IsNameLength octets n = (name after : List ℕ) → AllByRecursion IsNameOctet name → octets ≡ name ++ 61 ∷ after
+    → n ≡ length name
 
 -- no such mark but behind a backslash, which takes the octet after it
 unfoldable pub IsPaired : ℕ → List ℕ → Type 0
@@ -23,11 +25,13 @@ IsPaired mark (x ∷ y ∷ s) = ((x ≡ 92) × IsPaired mark s) ⊎ ((x ≢ 92) 
 
 -- where such octets come first, and then the mark, they are so many
 abbrev pub IsMarkedLength : ℕ → List ℕ → ℕ → Type 0
-IsMarkedLength mark octets n = (text after : List ℕ) → IsPaired mark text → octets ≡ text ++ mark ∷ after → n ≡ length text
+IsMarkedLength mark octets n = (text after : List ℕ) → IsPaired mark text → octets ≡ text ++ mark ∷ after
+    → n ≡ length text
 
 -- where an element comes first, this is it, and the rest follows it
 abbrev pub SplitsElement : List ℕ → ElementSpan → List ℕ → Type 0
-SplitsElement octets v rest = (after : List ℕ) → Follows (AnyOf Element) octets after → Follows (SpannedElement v) octets rest
+SplitsElement octets v rest = (after : List ℕ) → Follows (AnyOf Element) octets after
+    → Follows (SpannedElement v) octets rest
 
 -- where a parameter comes first, this is it, and the rest follows it
 abbrev pub SplitsParam : List ℕ → ParamSpan → List ℕ → Type 0

@@ -1,7 +1,8 @@
 -- The grammar of a syslog record (RFC 5424, section 6): the texts that spell each part.
 use Rattle.std.specs.Prelude.{◌≡◌, ◌≢◌, ℕ, ◌≤◌, List, [], ◌∷◌, Option, Some, None, ◌⊎◌, take, decimal}
 use Rattle.octet_language.specs.Language.{Language, Only, ◌⋅◌, Each}
-use Rattle.syslog_value.specs.Parts.{ParamParts, ElementParts, MessageParts, AnyOctets, Utf8Text, Parts, IsWord, IsName, IsOctets, bom}
+use Rattle.syslog_value.specs.Parts.{ParamParts, ElementParts, MessageParts, AnyOctets, Utf8Text, Parts, IsWord, IsName}
+use Rattle.syslog_value.specs.Parts.{IsOctets, bom}
 use Rattle.syslog_grammar.specs.Utf8.{IsText}
 use Rattle.syslog_grammar.specs.Values.{Spells}
 use Rattle.syslog_grammar.specs.Time.{CivilTime, TimeText}
@@ -80,7 +81,15 @@ Header h =
     ⋅ Spaced (Nilable (Word 128) h.proc_id) ⋅ Spaced (Nilable (Word 32) h.msg_id)
 
 abbrev pub header_of : Parts CivilTime → HeaderParts
-header_of p = record { priority = p.priority; time = p.time; hostname = p.hostname; app_name = p.app_name; proc_id = p.proc_id; msg_id = p.msg_id }
+header_of p = record {
+  priority = p.priority;
+  time = p.time;
+  hostname = p.hostname;
+  app_name = p.app_name;
+  proc_id =
+      p.proc_id;
+  msg_id = p.msg_id;
+}
 
 -- SYSLOG-MSG: the texts of a record's parts
 abbrev pub SyslogMsg : Parts CivilTime → Language

@@ -12,7 +12,8 @@ HoldsDistinct text = (es : List ElementParts) × StructuredDataText es text × A
 
 -- the text is that of elements of which one, at this offset, is the first to repeat an id
 abbrev pub HoldsRepeated : List ℕ → ℕ → Type 0
-HoldsRepeated text at = (es : List ElementParts) × StructuredDataText es text × (before : List ElementParts) × Repeats es before
+HoldsRepeated text at = (es : List ElementParts) × StructuredDataText es text × (before : List ElementParts)
+    × Repeats es before
     × PrefixEnds (Each Element before ⋅ Only (91 ∷ [])) text at
 
 -- the id is above the greatest that was met, if one was met
@@ -47,4 +48,5 @@ pub record Known (text rest : List ℕ) : Type 0 where
 pub record Skips (elements rest : List ℕ) : Type 0 where
   pub prefix : List ℕ
   pub parts : elements ≡ prefix ++ rest
-  pub both : (es : List ElementParts) → Each Element es elements → (cs : List ElementParts) × (ds : List ElementParts) × Each Element cs prefix × Each Element ds rest
+  pub both : (es : List ElementParts) → Each Element es elements
+      → (cs : List ElementParts) × (ds : List ElementParts) × Each Element cs prefix × Each Element ds rest

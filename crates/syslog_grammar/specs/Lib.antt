@@ -6,6 +6,7 @@ pub mod Dates
 pub mod Grammar
 pub mod Spans
 pub mod FirstElements
+pub mod Forms
 pub mod Views
 pub mod Fields
 pub mod Faults

@@ -4,6 +4,7 @@ use Rattle.octet_language.specs.Language.{AnyOf, IfFirst}
 use Rattle.octet_language.specs.Reading.{Follows}
 use Rattle.syslog_grammar.specs.Faults.{FaultOf, times}
 use Rattle.syslog_grammar.specs.Fields.{header_parts, before_words, words_of, TimeStands}
+use Rattle.syslog_grammar.specs.Forms.{HasDataForms}
 use Rattle.syslog_grammar.specs.Grammar.{Header, StructuredDataText, MessagePart}
 use Rattle.syslog_grammar.specs.Views.{message_parts}
 use Rattle.syslog_grammar.specs.declared.syntax.Parsed.{Parsed}
@@ -33,7 +34,8 @@ IsSyntaxAt b remaining (RepeatedId at) = ⊥
 -- a fault of the syntax after the structured data: in the message where a space is next
 abbrev pub IsFaultBehind : List ℕ → List ℕ → ℕ → Fault → Type 0
 IsFaultBehind b rest remaining (Syntax f at) = (at ≡ length b - remaining)
-    × (((f ≡ field.Message) × (m : List ℕ) × (rest ≡ 32 ∷ m)) ⊎ (IfFirst (λ x. x ≢ 32) rest × IsCounted (take (length b - remaining) b) f))
+    × (((f ≡ field.Message) × (m : List ℕ) × (rest ≡ 32 ∷ m))
+    ⊎ (IfFirst (λ x. x ≢ 32) rest × IsCounted (take (length b - remaining) b) f))
 IsFaultBehind b rest remaining (InstantRange at) = ⊥
 IsFaultBehind b rest remaining (RepeatedId at) = ⊥
 
@@ -54,4 +56,5 @@ pub record IsParsed (b : List ℕ) (s : Parsed) : Type 0 where
   pub parts : rest ≡ s.structured_data.now ++ end
   pub remaining : length rest ≡ s.structured_data_remaining
   pub elements : AnyOf StructuredDataText s.structured_data.now
+  pub forms : HasDataForms s.is_form s.ascends s.structured_data.now
   pub message_part : MessagePart (message_parts s.message) end

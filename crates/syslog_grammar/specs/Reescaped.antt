@@ -25,23 +25,20 @@ ParamsOf params b = (ps : List ParamParts) → Each Param ps params → b ≡ fl
 abbrev pub ElementOf : ElementSpan → Language
 ElementOf v = Only (91 ∷ []) ⋅ Only v.id ⋅ ParamsOf v.params ⋅ Only (93 ∷ [])
 
--- of the elements of a text, which stand by id
+-- of the elements of a text
 abbrev pub ElementsOf : List ℕ → Language
-ElementsOf elements b = (es : List ElementParts) → Each Element es elements → (b ≡ flat_map element_form es) × IsById es
+ElementsOf elements b = (es : List ElementParts) → Each Element es elements → b ≡ flat_map element_form es
 
--- of the structured data of a text, whose elements stand by id
+-- of the structured data of a text, with its elements as they stand
 abbrev pub StructuredDataOf : List ℕ → Language
-StructuredDataOf text b = (es : List ElementParts) → StructuredDataText es text → (b ≡ structured_data_form es) × IsById es
-
--- the elements of a text do not stand by id
-abbrev pub AreUnordered : List ℕ → Type 0
-AreUnordered elements = (es : List ElementParts) → Each Element es elements → ¬ (IsById es)
+StructuredDataOf text b = (es : List ElementParts) → StructuredDataText es text → b ≡ structured_data_form es
 
 -- the elements of structured data do not stand by id
 abbrev pub IsUnordered : List ℕ → Type 0
 IsUnordered text = (es : List ElementParts) → StructuredDataText es text → ¬ (IsById es)
 
--- a text of the language was appended where the answer is true; it is false only for the cause, and some text was appended
+-- a text of the language was appended where the answer is true; it is false only for the cause, and some text was
+-- appended
 abbrev pub PutsUnless : {E : Type 0} → Language → Type 0 → List ℕ → List ℕ → Result Bool E → Type 0
 PutsUnless L Cause old new (Ok true) = Adds L old new
 PutsUnless L Cause old new (Ok false) = Adds Anything old new × Cause

@@ -4,7 +4,8 @@ use Rattle.octet_language.specs.Language.{Language, Only, ◌⋅◌}
 use Rattle.octet_language.specs.Reading.{Follows}
 use Rattle.syslog_value.specs.Parts.{Parts, MessageParts}
 use Rattle.syslog_grammar.specs.Faults.{IsInRange, AreDistinct}
-use Rattle.syslog_grammar.specs.Grammar.{MessagePart, Nilable, Priority, Spaced, StructuredDataText, SyslogMsg, Version, WordFields}
+use Rattle.syslog_grammar.specs.Grammar.{MessagePart, Nilable, Priority, Spaced, StructuredDataText, SyslogMsg, Version}
+use Rattle.syslog_grammar.specs.Grammar.{WordFields}
 use Rattle.syslog_grammar.specs.Time.{CivilTime, TimeText, instant}
 
 -- the parts of a record with the text of its structured data

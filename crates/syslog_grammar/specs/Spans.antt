@@ -49,14 +49,16 @@ SpannedElement v = Only (91 ∷ []) ⋅ Name v.id ⋅ Text (AnyOf (Each Param)) 
 abbrev pub EndsElements : List ℕ → List ℕ → Type 0
 EndsElements b rest = Follows (AnyOf Element ⋅ AnyOf (Each Element)) b rest × IfFirst (λ x. x ≢ 91) rest
 
--- an element is not whole: with a tail after the elements the octets are no text, and no elements and a space come first
+-- an element is not whole: with a tail after the elements the octets are no text, and no elements and a space come
+-- first
 pub record StopsInElements (b : List ℕ) (remaining : ℕ) : Type 0 where
   pub message_part : Misses (AnyOf Element ⋅ AnyOf (Each Element) ⋅ AnyOf MessagePart) b remaining
   pub space : NoPrefix (AnyOf Element ⋅ AnyOf (Each Element) ⋅ Only (32 ∷ [])) b
 
 -- structured data comes first: NILVALUE, or elements that none follows
 abbrev pub EndsStructuredData : List ℕ → List ℕ → List ℕ → Type 0
-EndsStructuredData b text rest = (b ≡ text ++ rest) × ((text ≡ 45 ∷ []) ⊎ ((AnyOf Element ⋅ AnyOf (Each Element)) text × IfFirst (λ x. x ≢ 91) rest))
+EndsStructuredData b text rest = (b ≡ text ++ rest)
+    × ((text ≡ 45 ∷ []) ⊎ ((AnyOf Element ⋅ AnyOf (Each Element)) text × IfFirst (λ x. x ≢ 91) rest))
 
 -- the structured data is not whole
 pub record StopsInStructuredData (b : List ℕ) (remaining : ℕ) : Type 0 where

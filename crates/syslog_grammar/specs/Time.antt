@@ -1,5 +1,6 @@
 -- Civil times and their spelling (RFC 5424, 6.2.3).
-use Rattle.std.specs.Prelude.{◌≡◌, ℕ, zero, suc, ℤ, pos, neg_ℤ, ◌+◌, ◌-◌, ◌*◌, ◌/◌, ◌%◌, ◌≤◌, List, [], ◌∷◌, ◌++◌, ◌⊎◌, length, replicate}
+use Rattle.std.specs.Prelude.{◌≡◌, ℕ, zero, suc, ℤ, pos, neg_ℤ, ◌+◌, ◌-◌, ◌*◌, ◌/◌, ◌%◌, ◌≤◌, List, [], ◌∷◌, ◌++◌, ◌⊎◌}
+use Rattle.std.specs.Prelude.{length, replicate}
 use Rattle.std.specs.List.{AllByRecursion}
 use Rattle.octet_language.specs.Digits.{IsDigit, read_on}
 use Rattle.octet_language.specs.Language.{Language, Only, ◌⋅◌}
@@ -31,7 +32,8 @@ YearText y b = (y ≤ 9999) × (b ≡ padded 4 y)
 
 -- FULL-DATE: YYYY-MM-DD, of a day that the calendar has
 abbrev pub DateText : ℕ → ℕ → ℕ → Language
-DateText year month day = YearText year ⋅ Only (45 ∷ []) ⋅ Two 1 12 month ⋅ Only (45 ∷ []) ⋅ Two 1 (month_length year month) day
+DateText year month day = YearText year ⋅ Only (45 ∷ []) ⋅ Two 1 12 month ⋅ Only (45 ∷ []) ⋅ Two 1
+    (month_length year month) day
 
 -- hh:mm:ss, with no leap second
 abbrev pub ClockText : ℕ → ℕ → ℕ → Language
@@ -39,7 +41,8 @@ ClockText hour minute second = Two 0 23 hour ⋅ Only (58 ∷ []) ⋅ Two 0 59 m
 
 -- one to six digits, which zeros on the right make microseconds
 abbrev pub Decimals : ℕ → Language
-Decimals micros b = (1 ≤ length b) × (length b ≤ 6) × AllByRecursion IsDigit b × (micros ≡ read_on 0 (b ++ replicate (6 - length b) 48))
+Decimals micros b = (1 ≤ length b) × (length b ≤ 6) × AllByRecursion IsDigit b
+    × (micros ≡ read_on 0 (b ++ replicate (6 - length b) 48))
 
 -- TIME-SECFRAC: nothing, or a point and digits
 abbrev pub FractionText : ℕ → Language
@@ -47,7 +50,8 @@ FractionText micros b = ((micros ≡ 0) × (b ≡ [])) ⊎ (Only (46 ∷ []) ⋅
 
 -- hh:mm of an offset, in minutes
 abbrev pub OffsetText : ℕ → Language
-OffsetText minutes b = (hour : ℕ) × (minute : ℕ) × (minutes ≡ 60 * hour + minute) × (Two 0 23 hour ⋅ Only (58 ∷ []) ⋅ Two 0 59 minute) b
+OffsetText minutes b = (hour : ℕ) × (minute : ℕ) × (minutes ≡ 60 * hour + minute)
+    × (Two 0 23 hour ⋅ Only (58 ∷ []) ⋅ Two 0 59 minute) b
 
 -- TIME-OFFSET: "Z", or a sign, hours and minutes
 abbrev pub ZoneText : ℤ → Language
@@ -58,5 +62,6 @@ ZoneText offset b = ((offset ≡ pos 0) × (b ≡ 90 ∷ []))
 -- TIMESTAMP, but for NILVALUE
 abbrev pub TimeText : CivilTime → Language
 TimeText t =
-    DateText t.civil.year t.civil.month t.civil.day ⋅ Only (84 ∷ []) ⋅ ClockText t.civil.hour t.civil.minute t.civil.second
+    DateText t.civil.year t.civil.month t.civil.day ⋅ Only (84 ∷ []) ⋅ ClockText t.civil.hour t.civil.minute
+    t.civil.second
     ⋅ FractionText t.civil.micros ⋅ ZoneText t.offset

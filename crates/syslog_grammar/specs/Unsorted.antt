@@ -6,7 +6,7 @@ use Rattle.syslog_grammar.specs.Canonical.{Canonical}
 use Rattle.syslog_grammar.specs.ElementOrders.{IsInOrder}
 use Rattle.syslog_grammar.specs.Faults.{AreDistinct}
 use Rattle.syslog_grammar.specs.Grammar.{StructuredDataText}
-use Rattle.syslog_grammar.specs.declared.structured_data_form.ElementOrder.{ElementOrder}
+use Rattle.syslog_grammar.specs.declared.canonical_form.ElementOrder.{ElementOrder}
 
 -- each part is one that a record may have, whatever the order of the elements
 pub record HasRecordParts (r : Parts ℤ) : Type 0 where

@@ -4,22 +4,33 @@ ghost use Rattle.std.specs.Prelude.{◌≡◌, ◌↔◌, ◌∷◌, [], ℕ, �
 ghost use Rattle.std.specs.Prelude.{option_map};
 ghost use Rattle.octet_language.specs.Language.{◌⋅◌, AnyOf, Only};
 ghost use Rattle.octet_language.specs.Reading.{Follows};
-ghost use Rattle.syslog_value.specs.Parts.{IsRecord, Parts};
+ghost use Rattle.syslog_value.specs.Parts.{ElementParts, IsRecord, Parts};
 ghost use Rattle.syslog_grammar.specs.Canonical.{Canonical, TimeForm, message_form};
+ghost use Rattle.syslog_grammar.specs.Canonical.{structured_data_form};
 ghost use Rattle.syslog_grammar.specs.Dates.{time_of};
+ghost use Rattle.syslog_grammar.specs.ElementOrders.{IsInOrder};
+ghost use Rattle.syslog_grammar.specs.Forms.{HasDataForms};
 ghost use Rattle.syslog_grammar.specs.Grammar.{Nilable, Spaced, MessagePart};
+ghost use Rattle.syslog_grammar.specs.Grammar.{StructuredDataText};
 ghost use Rattle.syslog_grammar.specs.Time.{TimeText, instant};
 ghost use Rattle.syslog_grammar.specs.Unsorted.{HoldsForm, IsFormOf, IsUnsortedRecord};
 ghost use Rattle.syslog_grammar.specs.Views.{message_parts};
 
 use crate::civil_text::civil_text;
 use crate::message::MessageView;
-use crate::reading::next;
+use crate::reading::{both, next};
 use crate::repeated::first_repeated;
-use crate::structured_data_form::{ElementOrder, has_structured_data_form};
 use crate::syntax::parse;
 use crate::timestamp::Timestamp;
 use crate::whole::{OutOfRange, micros_of};
+
+/// The order that is asked of elements.
+#[derive(Clone, Copy)]
+pub enum ElementOrder {
+    ById,
+    /// Any order.
+    AsGiven,
+}
 
 /// Whether the timestamp that the octets begin with is in its canonical form.
 fn has_time_form(time: Option<Timestamp>, octets: &[u8]) -> bool
@@ -44,6 +55,19 @@ fn has_time_form(time: Option<Timestamp>, octets: &[u8]) -> bool
     }
     let text = civil_text(time.civil);
     prefix == text.as_slice()
+}
+
+/// Whether structured data is in its canonical form, with its elements in this order, by what its
+/// reading told of it.
+fn has_data_form(is_form: bool, ascends: bool, order: ElementOrder) -> bool
+    ensures { (text : List ℕ) → HasDataForms is_form ascends text
+        → (es : List ElementParts) → StructuredDataText es text
+        → (IsTrue result ↔ ((text ≡ structured_data_form es) × IsInOrder order es)) }
+{
+    match order {
+        ElementOrder::ById => both(is_form, ascends),
+        ElementOrder::AsGiven => is_form,
+    }
 }
 
 /// Whether what follows the structured data, which is so many octets, is in its canonical
@@ -73,7 +97,7 @@ fn canonical_structured_data(octets: &[u8], order: ElementOrder) -> Option<&[u8]
     if !has_time_form(fields.time, time) {
         return None;
     }
-    if !has_structured_data_form(parsed.structured_data, order) {
+    if !has_data_form(parsed.is_form, parsed.ascends, order) {
         return None;
     }
     let count = parsed.structured_data_remaining - parsed.structured_data.len();

@@ -3,7 +3,7 @@
 ghost use Rattle.std.specs.Prelude.{◌≡◌, ℕ, List, IfOk, IsTrue, OnOk, OnErr};
 ghost use Rattle.syslog_grammar.specs.Appending.{Adds, Anything, Puts};
 ghost use Rattle.syslog_grammar.specs.Verbatim.{HasOneMessageForm, VerbatimForm};
-ghost use Rattle.syslog_grammar.specs.Reescaped.{IsUnordered};
+ghost use Rattle.syslog_grammar.specs.Reescaped.{IsUnordered, StructuredDataOf};
 ghost use Rattle.syslog_grammar.specs.ViewParts.{IsViewOf, view_parts};
 ghost use Rattle.syslog_grammar.specs.ShownRecords.{AddsShown};
 ghost use Rattle.syslog_grammar.specs.Views.{message_parts};
@@ -15,9 +15,8 @@ use crate::canonical::{
 };
 use crate::message::MessageView;
 use crate::record_view::RecordView;
-use crate::reescaped::put_structured_data;
+use crate::reescaped::put_elements;
 use crate::sorted::put_sorted;
-use crate::structured_data_form::{ElementOrder, has_structured_data_form};
 use std::alloc::{AllocError, Global};
 
 /// Whether a message, where there is one, has one tail alone: an empty one may have a space or
@@ -39,14 +38,25 @@ fn copy_verbatim(view: &RecordView<'_>, out: &mut Vec<u8>) -> Result<(), AllocEr
     put(view.behind_time, out)
 }
 
-/// Appends the canonical octets of the record that a view shows, where its elements are sorted by
-/// id. Where they are not, the answer is false, and a part may have been appended.
-fn put_parts(view: &RecordView<'_>, out: &mut Vec<u8>) -> Result<bool, AllocError>
+/// Appends the canonical form of the structured data that a view shows, with its elements as they
+/// stand.
+fn put_structured_data(view: &RecordView<'_>, out: &mut Vec<u8>) -> Result<(), AllocError>
+    ensures { Puts (StructuredDataOf view.now.structured_data.now)
+        out.old.items out.new.items result }
+{
+    let is_form = view.is_form;
+    if is_form {
+        return put(view.structured_data, out);
+    }
+    put_elements(view.structured_data, out)
+}
+
+/// Appends the canonical octets of the record that a view shows, whose ids ascend, part by part.
+fn put_parts(view: &RecordView<'_>, out: &mut Vec<u8>) -> Result<(), AllocError>
+    requires { IsTrue view.now.ascends }
     ensures begun { Adds Anything out.old.items out.new.items }
     ensures ok { (b : List ℕ) → IsViewOf b (view_parts view.now)
-        → IfOk result (λ all. IsTrue all → AddsCanonical b out.old.items out.new.items) }
-    ensures order { IfOk result (λ all. (IsTrue all → ⊥)
-        → IsUnordered (view_parts view.now).elements) }
+        → OnOk result (AddsCanonical b out.old.items out.new.items) }
 {
     let fields = HeaderValues {
         priority: view.priority(),
@@ -57,15 +67,32 @@ fn put_parts(view: &RecordView<'_>, out: &mut Vec<u8>) -> Result<bool, AllocErro
         msg_id: view.msg_id,
     };
     put_header(&fields, out)?;
-    if !put_structured_data(view.structured_data, out)? {
-        return Ok(false);
-    }
+    put_structured_data(view, out)?;
     put_message_part(view.message.octets, view.message.has_mark, out)?;
-    Ok(true)
+    Ok(())
+}
+
+/// Appends the canonical octets of the record that a view shows, whose ids ascend: as they lie
+/// where that can be, else part by part.
+fn put_ascending(view: &RecordView<'_>, out: &mut Vec<u8>) -> Result<(), AllocError>
+    requires { IsTrue view.now.ascends }
+    ensures begun { Adds Anything out.old.items out.new.items }
+    ensures ok { (b : List ℕ) → IsViewOf b (view_parts view.now)
+        → OnOk result (AddsCanonical b out.old.items out.new.items) }
+{
+    let is_form = view.is_form;
+    if !is_form {
+        return put_parts(view, out);
+    }
+    if !has_one_message_form(&view.message) {
+        return put_parts(view, out);
+    }
+    copy_verbatim(view, out)?;
+    Ok(())
 }
 
 /// Appends the canonical octets of the record that a view shows, where its elements are sorted by
-/// id: as they lie where that can be, else part by part.
+/// id. It has no allocator, so where ids ascend no memory is taken but that of the vector.
 fn put_ordered(view: &RecordView<'_>, out: &mut Vec<u8>) -> Result<bool, AllocError>
     ensures begun { Adds Anything out.old.items out.new.items }
     ensures ok { (b : List ℕ) → IsViewOf b (view_parts view.now)
@@ -73,12 +100,11 @@ fn put_ordered(view: &RecordView<'_>, out: &mut Vec<u8>) -> Result<bool, AllocEr
     ensures order { IfOk result (λ all. (IsTrue all → ⊥)
         → IsUnordered (view_parts view.now).elements) }
 {
-    if !has_one_message_form(&view.message)
-        || !has_structured_data_form(view.structured_data, ElementOrder::ById)
-    {
-        return put_parts(view, out);
+    let ascends = view.ascends;
+    if !ascends {
+        return Ok(false);
     }
-    copy_verbatim(view, out)?;
+    put_ascending(view, out)?;
     Ok(true)
 }
 
@@ -98,7 +124,7 @@ fn put_resorted(view: &RecordView<'_>, out: &mut Vec<u8>) -> Result<bool, AllocE
         msg_id: view.msg_id,
     };
     put_header(&fields, out)?;
-    if !put_sorted(view.structured_data, out)? {
+    if !put_sorted(view.structured_data, view.is_form, out)? {
         return Ok(false);
     }
     put_message_part(view.message.octets, view.message.has_mark, out)?;
@@ -147,8 +173,8 @@ fn put_view(alloc: Global, view: &RecordView<'_>, out: &mut Vec<u8>) -> Result<(
 
 /// Appends the canonical octets of the record that the octets of a view spell.
 ///
-/// Where a growth is refused, the vector is unchanged. Where the ids of the elements ascend, no
-/// memory is taken but that of the vector. Others are sorted on the stack, if that can be.
+/// Where a growth is refused, the vector is unchanged. The allocator is used where elements have to
+/// be sorted and cannot be sorted on the stack.
 pub fn put_canonical(
     alloc: Global,
     view: &RecordView<'_>,

@@ -1,9 +1,10 @@
 //! Laws of records and their octets, each the contract of a function that does nothing.
 
-ghost use Rattle.std.specs.Prelude.{◌≡◌, ◌↔◌, ◌+◌, ◌*◌, ◌≤◌, ℤ, List, ℕ, length};
+ghost use Rattle.std.specs.Prelude.{◌≡◌, ◌↔◌, ◌+◌, ◌*◌, ◌≤◌, ℤ, IsUtf8, List, ℕ, length};
 ghost use Rattle.syslog_value.specs.Parts.{IsRecord, Parts};
 ghost use Rattle.syslog_grammar.specs.Canonical.{Canonical};
 ghost use Rattle.syslog_grammar.specs.Faults.{FaultOf};
+ghost use Rattle.syslog_grammar.specs.Utf8.{IsText};
 ghost use Rattle.syslog_grammar.specs.WellFormed.{WellFormed};
 ghost use Rattle.syslog_grammar.specs.declared.fault.Fault.{Fault};
 
@@ -38,4 +39,9 @@ pub fn canonical_is_bounded()
 /// Octets have at most one fault.
 pub fn octets_have_one_fault()
     ensures { (b : List ℕ) (f : Fault) (g : Fault) → FaultOf b f → FaultOf b g → f ≡ g }
+{}
+
+/// The octets that std takes for UTF-8 are those of the table of RFC 3629, section 4.
+pub fn std_utf8_is_that_of_the_table()
+    ensures { (b : List ℕ) → IsUtf8 b ↔ IsText b }
 {}

@@ -31,7 +31,6 @@ mod repeated;
 mod same;
 mod sorted;
 mod structured_data;
-mod structured_data_form;
 mod syntax;
 mod text;
 mod timestamp;
@@ -49,7 +48,7 @@ pub use element::{ElementView, ParamView};
 pub use fault::{Fault, Field};
 pub use law::{
     canonical_is_bounded, canonical_is_injective, canonical_is_well_formed, octets_are_one_record,
-    octets_have_one_fault, well_formed_is_a_record,
+    octets_have_one_fault, std_utf8_is_that_of_the_table, well_formed_is_a_record,
 };
 pub use lent::{LentRecord, put_lent};
 pub use parts::{Elements, Params};

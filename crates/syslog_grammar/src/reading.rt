@@ -1,6 +1,6 @@
 //! What every reader builds on: where it stops, the next octet, an expected octet.
 
-ghost use Rattle.std.specs.Prelude.{◌≡◌, ◌∷◌, [], MatchOption};
+ghost use Rattle.std.specs.Prelude.{◌≡◌, ◌∷◌, ◌&&◌, [], MatchOption};
 ghost use Rattle.octet_language.specs.Language.{Only};
 ghost use Rattle.octet_language.specs.Reading.{Passes};
 ghost use Rattle.syslog_grammar.specs.Stops.{remaining_of};
@@ -21,6 +21,14 @@ pub fn next(octets: &[u8]) -> Option<(u8, &[u8])>
         [] => None,
         [first, rest @ ..] => Some((*first, rest)),
     }
+}
+
+/// Whether both hold.
+#[inline(always)]
+pub fn both(left: bool, right: bool) -> bool
+    ensures { result ≡ (left && right) }
+{
+    left && right
 }
 
 /// Reads one octet, which has to be the expected one.

@@ -3,6 +3,7 @@
 ghost use Rattle.std.specs.Prelude.{◌≤◌, option_map};
 ghost use Rattle.std.specs.Option.{ForSome};
 ghost use Rattle.syslog_value.specs.Parts.{IsInstant};
+ghost use Rattle.syslog_grammar.specs.Forms.{HasDataForms};
 ghost use Rattle.syslog_grammar.specs.ShownParts.{IsSpelled};
 ghost use Rattle.syslog_grammar.specs.Views.{message_parts};
 
@@ -23,8 +24,13 @@ pub struct RecordView<'a> {
     pub(crate) message: MessageView<'a>,
     /// What follows the timestamp and its space.
     pub(crate) behind_time: &'a [u8],
+    /// Whether the structured data is canonical but for the order of its elements.
+    pub(crate) is_form: bool,
+    /// Whether the ids of the elements ascend.
+    pub(crate) ascends: bool,
     ghost priority_valid: { priority ≤ 191 },
     ghost micros_valid: { ForSome micros IsInstant },
+    pub ghost forms: { ∥ HasDataForms is_form ascends structured_data.now ∥₁ },
     pub ghost shown: { ∥ IsSpelled (record {
       priority = priority;
       instant = micros;

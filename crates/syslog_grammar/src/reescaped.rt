@@ -1,17 +1,14 @@
 //! The canonical octets of structured data, from any octets that spell it.
 
 ghost use Rattle.syslog_grammar.specs.Appending.{Puts};
-ghost use Rattle.syslog_grammar.specs.Reescaped.{AreUnordered, StructuredDataOf, ElementOf};
-ghost use Rattle.syslog_grammar.specs.Reescaped.{ElementsOf, IsUnordered};
-ghost use Rattle.syslog_grammar.specs.Reescaped.{ParamOf, ParamsOf, PutsUnless, ValueOf};
+ghost use Rattle.syslog_grammar.specs.Reescaped.{ElementOf, ElementsOf, ParamOf, ParamsOf};
+ghost use Rattle.syslog_grammar.specs.Reescaped.{ValueOf};
 ghost use Rattle.syslog_grammar.specs.Views.{element_span, param_span};
 
 use crate::appending::put;
 use crate::element::{ElementView, ParamView};
 use crate::first_element::{first_element, first_param};
 use crate::reading::next;
-use crate::repeated::is_above;
-use crate::structured_data_form::{ElementOrder, has_structured_data_form};
 use crate::unescape::split_meaning;
 use memchr::memchr;
 use std::alloc::AllocError;
@@ -66,35 +63,15 @@ pub fn put_element(element: &ElementView<'_>, out: &mut Vec<u8>) -> Result<(), A
     put(b"]", out)
 }
 
-/// Appends elements, up to one whose id is not above those before it.
-fn put_ascending(elements: &[u8], out: &mut Vec<u8>) -> Result<bool, AllocError>
-    ensures { PutsUnless (ElementsOf elements.now) (AreUnordered elements.now)
-        out.old.items out.new.items result }
+/// Appends elements.
+pub fn put_elements(elements: &[u8], out: &mut Vec<u8>) -> Result<(), AllocError>
+    ensures { Puts (ElementsOf elements.now) out.old.items out.new.items result }
 {
     let mut rest = elements;
-    let mut greatest: Option<&[u8]> = None;
     while let Some((_first, _after)) = next(rest) {
         let (found, behind) = first_element(rest);
-        let id = found.id();
-        if !is_above(id, greatest) {
-            return Ok(false);
-        }
         put_element(&found, out)?;
-        greatest = Some(id);
         rest = behind;
     }
-    Ok(true)
-}
-
-/// Appends structured data whose elements are sorted by id. Where they are not, the answer is
-/// false, and a part of them may have been appended.
-pub fn put_structured_data(structured_data: &[u8], out: &mut Vec<u8>) -> Result<bool, AllocError>
-    ensures { PutsUnless (StructuredDataOf structured_data.now) (IsUnordered structured_data.now)
-        out.old.items out.new.items result }
-{
-    if has_structured_data_form(structured_data, ElementOrder::ById) {
-        put(structured_data, out)?;
-        return Ok(true);
-    }
-    put_ascending(structured_data, out)
+    Ok(())
 }

@@ -1,14 +1,16 @@
 //! The canonical octets of structured data whose ids do not ascend: the texts of its elements are
 //! sorted on the stack.
 
-ghost use Rattle.std.specs.Prelude.{◌≤◌, List, IfSome, length, map, take, ⊤};
-ghost use Rattle.octet_language.specs.Language.{Each};
+ghost use Rattle.std.specs.Prelude.{◌≤◌, Bool, List, IfSome, length, map, take, ⊤};
 ghost use Rattle.syslog_value.specs.Parts.{ElementParts};
-ghost use Rattle.syslog_grammar.specs.Grammar.{Element};
+ghost use Rattle.syslog_grammar.specs.Appending.{Puts};
 ghost use Rattle.syslog_grammar.specs.Reescaped.{PutsUnless};
-ghost use Rattle.syslog_grammar.specs.Sorting.{AreTextsOf, SortedDataOf, SortedElementsOf};
-ghost use Rattle.syslog_grammar.specs.Sorting.{TextsForm};
+ghost use Rattle.syslog_grammar.specs.Sorting.{AreElementsOf, AreTextsOf, SortedDataOf};
+ghost use Rattle.syslog_grammar.specs.Sorting.{SortedElementsOf, TextForm, TextsForm};
+ghost use Rattle.syslog_grammar.specs.Views.{element_span};
 
+use crate::appending::put;
+use crate::element::ElementView;
 use crate::first_element::first_element;
 use crate::reading::next;
 use crate::reescaped::put_element;
@@ -18,8 +20,8 @@ use std::alloc::AllocError;
 /// Puts the texts of elements into the slice, where it has room for them.
 fn fill_texts<'a>(elements: &'a [u8], texts: &mut [&'a [u8]]) -> Option<usize>
     ensures { IfSome result (λ n. (n ≤ length texts.new)
-        × ((es : List ElementParts) → Each Element es elements.now
-        → AreTextsOf es (map (λ s. s.now) (take n texts.new)))) }
+        × ((a : Bool) (es : List ElementParts) → AreElementsOf a es elements.now
+        → AreTextsOf a es (map (λ s. s.now) (take n texts.new)))) }
 {
     let mut rest = elements;
     let mut count = 0;
@@ -36,9 +38,25 @@ fn fill_texts<'a>(elements: &'a [u8], texts: &mut [&'a [u8]]) -> Option<usize>
     Some(count)
 }
 
+/// Appends an element, whose text is given: as it lies where that is canonical.
+fn put_text(
+    text: &[u8],
+    element: &ElementView<'_>,
+    is_form: bool,
+    out: &mut Vec<u8>,
+) -> Result<(), AllocError>
+    ensures { Puts (TextForm is_form text.now (element_span element.now))
+        out.old.items out.new.items result }
+{
+    if is_form {
+        return put(text, out);
+    }
+    put_element(element, out)
+}
+
 /// Appends elements, up to one whose id is not above those before it.
-fn put_rising<'a>(texts: &[&'a [u8]], out: &mut Vec<u8>) -> Result<bool, AllocError>
-    ensures { PutsUnless (TextsForm (map (λ s. s.now) texts.now)) ⊤
+fn put_rising<'a>(texts: &[&'a [u8]], is_form: bool, out: &mut Vec<u8>) -> Result<bool, AllocError>
+    ensures { PutsUnless (TextsForm is_form (map (λ s. s.now) texts.now)) ⊤
         out.old.items out.new.items result }
 {
     let mut greatest: Option<&'a [u8]> = None;
@@ -48,7 +66,7 @@ fn put_rising<'a>(texts: &[&'a [u8]], out: &mut Vec<u8>) -> Result<bool, AllocEr
         if !is_above(id, greatest) {
             return Ok(false);
         }
-        put_element(&found, out)?;
+        put_text(texts[i], &found, is_form, out)?;
         greatest = Some(id);
     }
     Ok(true)
@@ -58,56 +76,62 @@ fn put_rising<'a>(texts: &[&'a [u8]], out: &mut Vec<u8>) -> Result<bool, AllocEr
 fn put_sorted_in<'a>(
     elements: &'a [u8],
     texts: &mut [&'a [u8]],
+    is_form: bool,
     out: &mut Vec<u8>,
 ) -> Result<bool, AllocError>
-    ensures { PutsUnless (SortedElementsOf elements.now) ⊤ out.old.items out.new.items result }
+    ensures { PutsUnless (SortedElementsOf is_form elements.now) ⊤ out.old.items out.new.items result }
 {
     let Some(count) = fill_texts(elements, texts) else {
         return Ok(false);
     };
     let (found, _) = texts.split_at_mut(count);
     found.sort_unstable();
-    put_rising(found, out)
+    put_rising(found, is_form, out)
 }
 
 /// Appends at most 64 elements in the order of their ids.
 #[inline(never)]
-fn put_few(elements: &[u8], out: &mut Vec<u8>) -> Result<bool, AllocError>
-    ensures { PutsUnless (SortedElementsOf elements.now) ⊤ out.old.items out.new.items result }
+fn put_few(elements: &[u8], is_form: bool, out: &mut Vec<u8>) -> Result<bool, AllocError>
+    ensures { PutsUnless (SortedElementsOf is_form elements.now) ⊤ out.old.items out.new.items result }
 {
     let (none, _) = elements.split_at(0);
     let mut texts = [none; 64];
-    put_sorted_in(elements, &mut texts, out)
+    put_sorted_in(elements, &mut texts, is_form, out)
 }
 
 /// Appends at most 16,384 elements in the order of their ids.
 #[inline(never)]
-fn put_many(elements: &[u8], out: &mut Vec<u8>) -> Result<bool, AllocError>
-    ensures { PutsUnless (SortedElementsOf elements.now) ⊤ out.old.items out.new.items result }
+fn put_many(elements: &[u8], is_form: bool, out: &mut Vec<u8>) -> Result<bool, AllocError>
+    ensures { PutsUnless (SortedElementsOf is_form elements.now) ⊤ out.old.items out.new.items result }
 {
     let (none, _) = elements.split_at(0);
     let mut texts = [none; 16_384];
-    put_sorted_in(elements, &mut texts, out)
+    put_sorted_in(elements, &mut texts, is_form, out)
 }
 
 /// Appends elements in the order of their ids.
-fn put_elements(elements: &[u8], out: &mut Vec<u8>) -> Result<bool, AllocError>
-    ensures { PutsUnless (SortedElementsOf elements.now) ⊤ out.old.items out.new.items result }
+fn put_elements(elements: &[u8], is_form: bool, out: &mut Vec<u8>) -> Result<bool, AllocError>
+    ensures { PutsUnless (SortedElementsOf is_form elements.now) ⊤ out.old.items out.new.items result }
 {
     if elements.len() <= 1024 {
-        put_few(elements, out)
+        put_few(elements, is_form, out)
     } else {
-        put_many(elements, out)
+        put_many(elements, is_form, out)
     }
 }
 
-/// Appends structured data with its elements in the order of their ids.
+/// Appends structured data with its elements in the order of their ids. Each is copied as it lies
+/// where the data is canonical but for their order.
 ///
 /// The answer is false, and a part may have been appended, where there are too many elements for
 /// the stack, or one without parameters whose id another one begins with: their texts may sort
 /// otherwise than their ids.
-pub fn put_sorted(structured_data: &[u8], out: &mut Vec<u8>) -> Result<bool, AllocError>
-    ensures { PutsUnless (SortedDataOf structured_data.now) ⊤ out.old.items out.new.items result }
+pub fn put_sorted(
+    structured_data: &[u8],
+    is_form: bool,
+    out: &mut Vec<u8>,
+) -> Result<bool, AllocError>
+    ensures { PutsUnless (SortedDataOf is_form structured_data.now) ⊤ out.old.items out.new.items result }
 {
     let Some((first, _after)) = next(structured_data) else {
         return Ok(false);
@@ -115,5 +139,5 @@ pub fn put_sorted(structured_data: &[u8], out: &mut Vec<u8>) -> Result<bool, All
     if first != b'[' {
         return Ok(false);
     }
-    put_elements(structured_data, out)
+    put_elements(structured_data, is_form, out)
 }

@@ -18,6 +18,10 @@ pub struct Parsed<'a> {
     pub message: MessageView<'a>,
     /// How many octets are left where the structured data begins.
     pub structured_data_remaining: usize,
+    /// Whether the structured data is canonical but for the order of its elements.
+    pub is_form: bool,
+    /// Whether the ids of the elements ascend.
+    pub ascends: bool,
 }
 
 fn count(octet: u8, octets: &[u8]) -> usize
@@ -82,7 +86,7 @@ pub fn parse(octets: &[u8]) -> Result<Parsed<'_>, Fault>
         Err(stop) => return Err(fault_before(octets, stop.remaining)),
     };
     let structured_data_remaining = rest.len();
-    let (structured_data, rest) = match structured_data(rest) {
+    let (structured_data, rest, is_form, ascends) = match structured_data(rest) {
         Ok(read) => read,
         Err(stop) => return Err(fault_before(octets, stop.remaining)),
     };
@@ -92,6 +96,8 @@ pub fn parse(octets: &[u8]) -> Result<Parsed<'_>, Fault>
             structured_data,
             message,
             structured_data_remaining,
+            is_form,
+            ascends,
         }),
         Err(stop) => Err(fault_behind(octets, rest, stop.remaining)),
     }

@@ -10,6 +10,7 @@ use memchr::memchr;
 use std::alloc::{AllocError, Global};
 
 /// Whether a quotation mark, a backslash or a closing bracket comes first.
+#[inline(always)]
 pub fn begins_special(octets: &[u8]) -> bool
     ensures special { IsTrue result → BeginsSpecial octets.now }
     ensures other { (IsTrue result → ⊥) → IfFirst (λ x. ¬ (IsSpecial x)) octets.now }

@@ -1,15 +1,17 @@
 //! Values of parameters (RFC 5424, 6.3.3).
 
-ghost use Rattle.std.specs.Prelude.{◌≡◌, ◌≤◌, ◌∷◌, ◌↔◌, [], IsTrue, length, take};
+ghost use Rattle.std.specs.Prelude.{◌≡◌, ◌≤◌, ◌∷◌, ◌↔◌, [], IfOk, IsTrue, length, take};
 ghost use Rattle.std.specs.List.{AllByRecursion};
 ghost use Rattle.octet_language.specs.Language.{◌⋅◌, AnyOf, Each, Only};
 ghost use Rattle.octet_language.specs.Reading.{Passes, Reads};
+ghost use Rattle.syslog_grammar.specs.Forms.{BeginsLone, IsValueForm, ReadsForm, pieces_form};
 ghost use Rattle.syslog_grammar.specs.Spans.{Text};
 ghost use Rattle.syslog_grammar.specs.Stops.{remaining_of};
 ghost use Rattle.syslog_grammar.specs.Values.{IsEscape, IsPlainOctet, PassesPlain, Piece};
 
 use crate::character::behind_character;
-use crate::reading::{Stop, next};
+use crate::reading::{Stop, both, next};
+use crate::unescape::begins_special;
 
 /// Reads one piece of a value.
 #[inline(always)]
@@ -68,17 +70,38 @@ fn behind_plain(octets: &[u8]) -> &[u8]
     rest
 }
 
-/// Reads a value and the quotation mark that ends it.
-fn behind_value(octets: &[u8]) -> Result<&[u8], Stop>
-    ensures { Passes remaining_of (AnyOf (Each Piece) ⋅ Only (34 ∷ [])) (λ x. x.now)
-        octets.now result }
+/// Whether the piece that comes first is spelled as in a canonical record: no other backslash than
+/// that of an escape comes first.
+#[inline(always)]
+fn begins_form(octets: &[u8]) -> bool
+    ensures form { IsTrue result → ¬ (BeginsLone octets.now) }
+    ensures lone { (IsTrue result → ⊥) → BeginsLone octets.now }
 {
+    let Some((first, behind)) = next(octets) else {
+        return true;
+    };
+    if first != b'\\' {
+        return true;
+    }
+    begins_special(behind)
+}
+
+/// Reads a value and the quotation mark that ends it, and tells whether the value is spelled as in a
+/// canonical record.
+fn behind_value(octets: &[u8]) -> Result<(&[u8], bool), Stop>
+    ensures reads { Passes remaining_of (AnyOf (Each Piece) ⋅ Only (34 ∷ [])) (λ x. x.0.now)
+        octets.now result }
+    ensures form { IfOk result (λ x.
+        ReadsForm (Each Piece) pieces_form x.1 octets.now (34 ∷ x.0.now)) }
+{
+    let mut is_form = true;
     let mut rest = behind_plain(octets);
     while let Some((first, after)) = next(rest) {
         if first == b'"' {
-            return Ok(after);
+            return Ok((after, is_form));
         }
         let behind = behind_piece(rest)?;
+        is_form = both(is_form, begins_form(rest));
         rest = behind_plain(behind);
     }
     Err(Stop {
@@ -86,14 +109,16 @@ fn behind_value(octets: &[u8]) -> Result<&[u8], Stop>
     })
 }
 
-/// Reads a value, which is given as it is spelled, and the quotation mark that ends it.
-pub fn value(octets: &[u8]) -> Result<(&[u8], &[u8]), Stop>
-    ensures { Reads remaining_of (λ raw. Text (AnyOf (Each Piece)) raw ⋅ Only (34 ∷ []))
+/// Reads a value, which is given as it is spelled, and the quotation mark that ends it, and tells
+/// whether it is spelled as in a canonical record.
+pub fn value(octets: &[u8]) -> Result<(&[u8], &[u8], bool), Stop>
+    ensures reads { Reads remaining_of (λ raw. Text (AnyOf (Each Piece)) raw ⋅ Only (34 ∷ []))
         (λ x. (x.0.now, x.1.now)) octets.now result }
+    ensures form { IfOk result (λ x. IsValueForm x.2 x.0.now) }
 {
-    let rest = behind_value(octets)?;
+    let (rest, is_form) = behind_value(octets)?;
     let (raw, _) = octets.split_at(octets.len() - rest.len() - 1);
-    Ok((raw, rest))
+    Ok((raw, rest, is_form))
 }
 
 /// Whether a piece is a special character after a backslash.

@@ -1,8 +1,11 @@
 //! The reading of a record from all of its octets.
 
-ghost use Rattle.std.specs.Prelude.{MatchResult, OnErr, OnOk};
+ghost use Rattle.std.specs.Prelude.{IsTrue, List, MatchOption, MatchResult, OnErr, OnOk};
 ghost use Rattle.octet_language.specs.Language.{AnyOf};
+ghost use Rattle.syslog_value.specs.Parts.{ElementParts, IsById};
 ghost use Rattle.syslog_grammar.specs.Faults.{FaultOf};
+ghost use Rattle.syslog_grammar.specs.Grammar.{StructuredDataText};
+ghost use Rattle.syslog_grammar.specs.Ids.{HoldsDistinct, HoldsRepeated};
 ghost use Rattle.syslog_grammar.specs.Instants.{IsTimeOf};
 ghost use Rattle.syslog_grammar.specs.ViewParts.{IsViewOf, view_parts};
 ghost use Rattle.syslog_grammar.specs.WellFormed.{WellFormed};
@@ -30,6 +33,20 @@ pub fn micros_of(time: Option<Timestamp>) -> Result<Option<i64>, OutOfRange>
     }
 }
 
+/// The offset of the first id that repeats an earlier one. Ids that ascend are distinct.
+fn repeated_id(structured_data: &[u8], ascends: bool) -> Option<usize>
+    requires some { AnyOf StructuredDataText structured_data.now }
+    requires ascending { IsTrue ascends
+        → (es : List ElementParts) → StructuredDataText es structured_data.now → IsById es }
+    ensures { MatchOption result (HoldsDistinct structured_data.now)
+        (HoldsRepeated structured_data.now) }
+{
+    if ascends {
+        return None;
+    }
+    first_repeated(structured_data)
+}
+
 /// Reads a record from all of the octets: a view exactly where they are a well-formed record.
 ///
 /// A fault of the syntax is reported before an instant that is out of range, and that before an id
@@ -50,7 +67,7 @@ pub fn view(octets: &[u8]) -> Result<RecordView<'_>, Fault>
             });
         }
     };
-    if let Some(offset) = first_repeated(spelling.structured_data) {
+    if let Some(offset) = repeated_id(spelling.structured_data, spelling.ascends) {
         return Err(Fault::RepeatedId {
             offset: octets.len() - spelling.structured_data_remaining + offset,
         });
@@ -65,5 +82,7 @@ pub fn view(octets: &[u8]) -> Result<RecordView<'_>, Fault>
         structured_data: spelling.structured_data,
         message: spelling.message,
         behind_time: fields.behind_time,
+        is_form: spelling.is_form,
+        ascends: spelling.ascends,
     })
 }

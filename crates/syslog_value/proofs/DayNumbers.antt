@@ -6,7 +6,8 @@ use Rattle.jiff_core.specs.declared.civil.date.Date.{Date}
 use Rattle.jiff_core.specs.Date.{epoch_day}
 use Rattle.jiff_core.proofs.DateLemmas.{epoch_day-lt}
 use Rattle.syslog_value.specs.Calendar.{is_leap, month_length, days_of_years, days_of_months, day_number}
-use Rattle.jiff_core.specs.Calendar.{is_leap_year, days_in_month, days_of_years as jiff_years, days_of_months as jiff_months, day_count, days_from_civil}
+use Rattle.jiff_core.specs.Calendar.{is_leap_year, days_in_month, days_of_years as jiff_years}
+use Rattle.jiff_core.specs.Calendar.{days_of_months as jiff_months, day_count, days_from_civil}
 use Rattle.jiff_core.proofs.SignedLemmas.{signed_arith}
 use Rattle.jiff_core.proofs.CalendarLemmas.{days_from_civil-day_count}
 use Rattle.jiff_core.proofs.MarchLemmas.{leap_day-shift, days_of_years-suc, days_of_years-march_days}
@@ -36,7 +37,15 @@ day_number-same y m d h =
     omega (arith, signed_arith, days_from_civil-day_count (pos y) m d, years-same y, months-same y (m - 1))
 
 first_day : Date
-first_day = record { year = pos 0; month = 1; day = 1; year_in = search rules; month_in = search rules; day_in = search rules }
+first_day = record {
+  year = pos 0;
+  month = 1;
+  day = 1;
+  year_in = search rules;
+  month_in = search rules;
+  day_in =
+      search rules;
+}
 
 pub first_day-number : day_number 0 1 1 ≡ neg_ℤ (pos 719_528)
 unfolding day_number days_of_years days_of_months
@@ -47,5 +56,11 @@ pub year-from_zero : (d : Date) → neg_ℤ (pos 719_528) ≤ℤ epoch_day d →
 unfolding first_day
 year-from_zero d h =
     by_lt_z d.year (pos 0)
-    (λ lt. absurd (omega (arith, signed_arith, epoch_day-lt d first_day (inl lt), day_number-same 0 1 1 (omega arith), first_day-number)))
+    (λ lt. absurd (omega (
+      arith,
+      signed_arith,
+      epoch_day-lt d first_day (inl lt),
+      day_number-same 0 1 1 (omega arith),
+      first_day-number,
+    )))
     (λ le. le)

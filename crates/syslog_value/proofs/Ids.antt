@@ -1,5 +1,6 @@
 -- Elements in the order of their ids.
-use Rattle.std.proofs.Common.{◌-◌, ◌+◌, ◌≡◌, ◌≢◌, true, false, ℕ, zero, suc, ◌<◌, ◌≤◌, inl, inr, refl, sym, subst, arith, List, [], ◌∷◌, ◌++◌, length, take, drop, get_or, add-one, insert, Ok, Err}
+use Rattle.std.proofs.Common.{◌-◌, ◌+◌, ◌≡◌, ◌≢◌, true, false, ℕ, zero, suc, ◌<◌, ◌≤◌, inl, inr, refl, sym, subst}
+use Rattle.std.proofs.Common.{arith, List, [], ◌∷◌, ◌++◌, length, take, drop, get_or, add-one, insert, Ok, Err}
 use Rattle.std.specs.declared.cmp.Ordering.{Ordering}
 use Rattle.std.specs.declared.cmp.Ordering.TheVariants.{Less, Equal, Greater}
 use Rattle.std.specs.Cmp.Lexicographic.{slice_cmp}
@@ -21,52 +22,68 @@ use Rattle.syslog_value.proofs.Octets.{octets_ranked, below_itself, below_trans,
 
 -- ---- lists by position and by recursion
 
-within_take : {X : Type 0} (P : X → Type 0) (i : ℕ) (xs : List X) → i ≤ length xs → AllWithin P xs 0 i → AllByRecursion P (take i xs)
+within_take : {X : Type 0} (P : X → Type 0) (i : ℕ) (xs : List X) → i ≤ length xs → AllWithin P xs 0 i
+    → AllByRecursion P (take i xs)
 within_take P zero xs h all = tt
 within_take P (suc i) [] h all = tt
-within_take P (suc i) (x ∷ xs) h all =
-    (all 0 x (omega arith) (omega arith), within_take P i xs (omega arith) (λ k d low high. all (suc k) d (omega arith) (omega arith)))
+within_take P (suc i) (x ∷ xs) h all = (
+  all 0 x (omega arith) (omega arith),
+  within_take P i xs (omega arith)
+      (λ k d low high. all (suc k) d (omega arith) (omega arith)),
+)
 
-within_drop : {X : Type 0} (P : X → Type 0) (i : ℕ) (xs : List X) → AllWithin P xs i (length xs) → AllByRecursion P (drop i xs)
+within_drop : {X : Type 0} (P : X → Type 0) (i : ℕ) (xs : List X) → AllWithin P xs i (length xs)
+    → AllByRecursion P (drop i xs)
 within_drop P zero [] all = tt
-within_drop P zero (x ∷ xs) all = (all 0 x (omega arith) (omega arith), within_drop P zero xs (λ k d low high. all (suc k) d (omega arith) (omega arith)))
+within_drop P zero (x ∷ xs) all = (
+  all 0 x (omega arith) (omega arith),
+  within_drop P zero xs (λ k d low high. all (suc k) d (omega arith) (omega arith)),
+)
 within_drop P (suc i) [] all = tt
 within_drop P (suc i) (x ∷ xs) all = within_drop P i xs (λ k d low high. all (suc k) d (omega arith) (omega arith))
 
-weaker : {X : Type 0} (P Q : X → Type 0) (each : (x : X) → P x → Q x) (xs : List X) → AllByRecursion P xs → AllByRecursion Q xs
+weaker : {X : Type 0} (P Q : X → Type 0) (each : (x : X) → P x → Q x) (xs : List X) → AllByRecursion P xs
+    → AllByRecursion Q xs
 weaker P Q each [] all = tt
 weaker P Q each (x ∷ xs) all = (each x all.0, weaker P Q each xs all.1)
 
-pub all_insert : {X : Type 0} (P : X → Type 0) (i : ℕ) (x : X) (xs : List X) → P x → AllByRecursion P xs → AllByRecursion P (take i xs ++ x ∷ drop i xs)
+pub all_insert : {X : Type 0} (P : X → Type 0) (i : ℕ) (x : X) (xs : List X) → P x → AllByRecursion P xs
+    → AllByRecursion P (take i xs ++ x ∷ drop i xs)
 all_insert P zero x xs one all = (one, all)
 all_insert P (suc i) x [] one all = (one, tt)
 all_insert P (suc i) x (y ∷ ys) one all = (all.0, all_insert P i x ys one all.1)
 
 -- ---- elements by id
 
-by_id_insert : (i : ℕ) (e : ElementParts) (es : List ElementParts) → IsById es → AllByRecursion (λ f. OctetsBelow f.id e.id) (take i es)
+by_id_insert : (i : ℕ) (e : ElementParts) (es : List ElementParts) → IsById es
+    → AllByRecursion (λ f. OctetsBelow f.id e.id) (take i es)
     → AllByRecursion (λ f. OctetsBelow e.id f.id) (drop i es) → IsById (take i es ++ e ∷ drop i es)
 by_id_insert zero e es sorted below above = (above, sorted)
 by_id_insert (suc i) e [] sorted below above = (tt, tt)
 by_id_insert (suc i) e (f ∷ fs) sorted below above =
     (all_insert (λ g. OctetsBelow f.id g.id) i e fs below.0 sorted.0, by_id_insert i e fs sorted.1 below.1 above)
 
-by_id_at : (es : List ElementParts) (i j : ℕ) (d : ElementParts) → IsById es → i < j → j < length es → OctetsBelow (get_or es i d).id (get_or es j d).id
+by_id_at : (es : List ElementParts) (i j : ℕ) (d : ElementParts) → IsById es → i < j → j < length es
+    → OctetsBelow (get_or es i d).id (get_or es j d).id
 by_id_at [] i j d sorted h within = absurd (omega arith)
 by_id_at (e ∷ es) i zero d sorted h within = absurd (omega arith)
-by_id_at (e ∷ es) zero (suc j) d sorted h within = All-from_recursion (λ f. OctetsBelow e.id f.id) es sorted.0 j d (omega arith)
+by_id_at (e ∷ es) zero (suc j) d sorted h within =
+    All-from_recursion (λ f. OctetsBelow e.id f.id) es sorted.0 j d (omega arith)
 by_id_at (e ∷ es) (suc i) (suc j) d sorted h within = by_id_at es i j d sorted.1 (omega arith) (omega arith)
 
 abbrev rank : List ℕ → ElementParts → ℕ
 rank id e = ordering_index (slice_cmp nat_cmp e.id id)
 
-rank_below : (id : List ℕ) (e f : ElementParts) (o p : Ordering) → o ≡ slice_cmp nat_cmp e.id id → p ≡ slice_cmp nat_cmp f.id id → OctetsBelow e.id f.id
+rank_below : (id : List ℕ) (e f : ElementParts) (o p : Ordering) → o ≡ slice_cmp nat_cmp e.id id
+    → p ≡ slice_cmp nat_cmp f.id id → OctetsBelow e.id f.id
     → ordering_index o ≤ ordering_index p
 rank_below id e f o Less is_o is_p h =
-    let less : o ≡ Less = less_from_below e.id id o is_o (below_trans e.id f.id id h (octets_ranked f.id id Less is_p)) in rw less (omega arith)
+    let less : o ≡ Less = less_from_below e.id id o is_o (below_trans e.id f.id id h (octets_ranked f.id id Less is_p))
+    in rw less (omega arith)
 rank_below id e f o Equal is_o is_p h =
     let same : f.id ≡ id = octets_ranked f.id id Equal is_p in
-    let less : o ≡ Less = less_from_below e.id id o is_o (subst (λ l. OctetsBelow e.id l) same h) in rw less (omega arith)
+    let less : o ≡ Less = less_from_below e.id id o is_o (subst (λ l. OctetsBelow e.id l) same h) in
+    rw less (omega arith)
 rank_below id e f Less Greater is_o is_p h = omega arith
 rank_below id e f Equal Greater is_o is_p h = omega arith
 rank_below id e f Greater Greater is_o is_p h = omega arith
@@ -78,7 +95,8 @@ nondecreasing id es sorted i j d h within =
       | inr not_less ↦ let same : i ≡ j = omega arith in rw same (omega arith)
     ]
 
-has_at : (id : List ℕ) (es : List ElementParts) (i : ℕ) (d : ElementParts) → i < length es → (get_or es i d).id ≡ id → HasId id es
+has_at : (id : List ℕ) (es : List ElementParts) (i : ℕ) (d : ElementParts) → i < length es → (get_or es i d).id ≡ id
+    → HasId id es
 has_at id [] i d within same = absurd (omega arith)
 has_at id (e ∷ es) zero d within same = inl same
 has_at id (e ∷ es) (suc i) d within same = inr (has_at id es i d (omega arith) same)
@@ -99,8 +117,10 @@ pub offset_found : (e : ElementParts) (es : List ElementParts) (i : ℕ) → i �
 offset_found e es i within sorted found =
     let point = found (nondecreasing e.id es sorted) in
     record {
-      below = weaker _ _ (λ f less. octets_ranked f.id e.id Less (sym less)) (take i es) (within_take _ i es within point.0);
-      above = weaker _ _ (λ f greater. octets_ranked f.id e.id Greater (sym greater)) (drop i es) (within_drop _ i es point.1);
+      below = weaker _ _ (λ f less. octets_ranked f.id e.id Less (sym less)) (take i es)
+          (within_take _ i es within point.0);
+      above = weaker _ _ (λ f greater. octets_ranked f.id e.id Greater (sym greater)) (drop i es)
+          (within_drop _ i es point.1);
     }
 
 absent : (e : ElementParts) (es : List ElementParts) (i : ℕ) → AllByRecursion (λ f. OctetsBelow f.id e.id) (take i es)
@@ -120,10 +140,12 @@ absent e (f ∷ fs) (suc i) below above has =
 pub fits_absent : (e : ElementParts) (es : List ElementParts) (i : ℕ) → FitsAt e es i → ¬ HasId e.id es
 fits_absent e es i fits = absent e es i fits.below fits.above
 
-pub fits_by_id : (e : ElementParts) (es : List ElementParts) (i : ℕ) → FitsAt e es i → IsById es → IsById (insert es i e)
+pub fits_by_id : (e : ElementParts) (es : List ElementParts) (i : ℕ) → FitsAt e es i → IsById es
+    → IsById (insert es i e)
 fits_by_id e es i fits sorted = by_id_insert i e es sorted fits.below fits.above
 
-pub fits_adds : (e : ElementParts) (es new : List ElementParts) (i : ℕ) → FitsAt e es i → IsById es → new ≡ insert es i e → AddsElement e es new
+pub fits_adds : (e : ElementParts) (es new : List ElementParts) (i : ℕ) → FitsAt e es i → IsById es
+    → new ≡ insert es i e → AddsElement e es new
 fits_adds e es new i fits sorted is = record {
   before = take i es;
   after = drop i es;
@@ -135,7 +157,8 @@ fits_adds e es new i fits sorted is = record {
 -- ---- elements in any order
 
 -- neighbours that ascend ascend all together
-by_id_from_adjacent : (es : List ElementParts) → ((k : ℕ) (d : ElementParts) → suc k < length es → OctetsBelow (get_or es k d).id (get_or es (suc k) d).id)
+by_id_from_adjacent : (es : List ElementParts)
+    → ((k : ℕ) (d : ElementParts) → suc k < length es → OctetsBelow (get_or es k d).id (get_or es (suc k) d).id)
     → IsById es
 by_id_from_adjacent [] adjacent = tt
 by_id_from_adjacent (e ∷ []) adjacent = (tt, tt)
@@ -144,29 +167,34 @@ by_id_from_adjacent (e ∷ f ∷ fs) adjacent =
     let rest = by_id_from_adjacent (f ∷ fs) (λ k d h. adjacent (suc k) d (omega arith)) in
     ((first, weaker _ _ (λ g above. below_trans e.id f.id g.id first above) fs rest.0), rest)
 
-not_less : (e f : ElementParts) (o : Ordering) → o ≡ slice_cmp nat_cmp f.id e.id → is_lt o ≡ false → e.id ≢ f.id → OctetsBelow e.id f.id
+not_less : (e f : ElementParts) (o : Ordering) → o ≡ slice_cmp nat_cmp f.id e.id → is_lt o ≡ false → e.id ≢ f.id
+    → OctetsBelow e.id f.id
 not_less e f Less is never differ = cc
 not_less e f Equal is never differ = absurd (differ (sym (octets_ranked f.id e.id Equal is)))
 not_less e f Greater is never differ = octets_ranked f.id e.id Greater is
 
-pub sorted_by_id : (es : List ElementParts) → IsSortedByKey (λ e. e.id) (slice_cmp nat_cmp) es → AllAdjacentBelow (λ e f. e.id ≢ f.id) es (length es) → IsById es
+pub sorted_by_id : (es : List ElementParts) → IsSortedByKey (λ e. e.id) (slice_cmp nat_cmp) es
+    → AllAdjacentBelow (λ e f. e.id ≢ f.id) es (length es) → IsById es
 sorted_by_id es sorted differ =
     by_id_from_adjacent es (λ k d h.
     let within : k + 1 < length es = omega arith in
-    let below = not_less (get_or es k d) (get_or es (k + 1) d) _ refl (sorted k d (omega arith) within) (differ k d within) in
+    let below = not_less (get_or es k d) (get_or es (k + 1) d) _ refl (sorted k d (omega arith) within)
+    (differ k d within) in
     subst (λ n. OctetsBelow (get_or es k d).id (get_or es n d).id) (add-one k) below)
 
 ids_unequal : (e f : ElementParts) → OctetsBelow e.id f.id → bytes_eq e.id f.id ≡ false
 ids_unequal e f below =
     elim (bytes_eq e.id f.id) as (λ b. bytes_eq e.id f.id ≡ b → bytes_eq e.id f.id ≡ false) [
-      | true ↦ λ is. absurd (below_itself f.id (subst (λ l. OctetsBelow l f.id) ((bytes_eq-Decides e.id f.id).0 is) below))
+      | true ↦ λ is. absurd (below_itself f.id
+          (subst (λ l. OctetsBelow l f.id) ((bytes_eq-Decides e.id f.id).0 is) below))
       | false ↦ λ is. is
     ] refl
 
 pub by_id_distinct : (es : List ElementParts) → IsById es → HaveDistinctIds es
 by_id_distinct [] sorted = IsDistinct-from_count (on_equiv (λ e. e.id) nat_list_eq_equiv) [] refl
 by_id_distinct (e ∷ es) sorted =
-    IsDistinct-cons (on (λ f. f.id) bytes_eq) e es (weaker _ _ (λ f above. ids_unequal e f above) es sorted.0) (by_id_distinct es sorted.1)
+    IsDistinct-cons (on (λ f. f.id) bytes_eq) e es (weaker _ _ (λ f above. ids_unequal e f above) es sorted.0)
+    (by_id_distinct es sorted.1)
 
 neighbours_differ : (es : List ElementParts) (k : ℕ) (d : ElementParts) → HaveDistinctIds es → suc k < length es
     → (get_or es k d).id ≢ (get_or es (suc k) d).id
@@ -186,10 +214,12 @@ no_element = record { id = []; params = [] }
 pub equal_neighbours : (es : List ElementParts) → HasEqualNeighbours es → ¬ HaveDistinctIds es
 equal_neighbours es equal distinct =
     neighbours_differ es equal.offset no_element distinct (omega (arith, equal.within))
-    (subst (λ n. (get_or es equal.offset no_element).id ≡ (get_or es n no_element).id) (add-one equal.offset) (equal.same no_element))
+    (subst (λ n. (get_or es equal.offset no_element).id ≡ (get_or es n no_element).id) (add-one equal.offset)
+    (equal.same no_element))
 
 -- two neighbours that were read have one id
-pub equal_from_reads : (es : List ElementParts) (i : ℕ) (x y : ElementParts) → 1 ≤ i → i < length es → x ≡ get_or es (i - 1) x → y ≡ get_or es i y
+pub equal_from_reads : (es : List ElementParts) (i : ℕ) (x y : ElementParts) → 1 ≤ i → i < length es
+    → x ≡ get_or es (i - 1) x → y ≡ get_or es i y
     → x.id ≡ y.id → HasEqualNeighbours es
 equal_from_reads es i x y some within is_x is_y same = record {
   offset = i - 1;

@@ -1,12 +1,14 @@
 -- The sets of severities that numbers of eight bits encode.
-use Rattle.std.proofs.Common.{◌≡◌, ◌↔◌, ◌⊎◌, ◌<◌, ◌^◌, ◌*◌, ℕ, zero, suc, sym, subst, ap, ◌∙◌, refl, inl, inr, arith, IsBitSet, IsTrue, ◌==◌, bit_and, bit_or}
+use Rattle.std.proofs.Common.{◌≡◌, ◌↔◌, ◌⊎◌, ◌<◌, ◌^◌, ◌*◌, ℕ, zero, suc, sym, subst, ap, ◌∙◌, refl, inl, inr, arith}
+use Rattle.std.proofs.Common.{IsBitSet, IsTrue, ◌==◌, bit_and, bit_or}
 use Rattle.std.specs.Int.{bit_at}
 use Rattle.std.specs.Int.Bits.{and_zero_l}
 use Rattle.std.proofs.Math.Pow.{pow_pos}
 use Rattle.std.proofs.lemmas.Bool.{cases_lt, eqb-true, eq-eqb}
 use Rattle.std.proofs.lemmas.Nat.Bits.{and_pow, bit_at-lt, bit_at_or, bit_at-zero, same_from_bits_below}
 use Rattle.syslog_value.specs.declared.severity.Severity.{Severity}
-use Rattle.syslog_value.specs.declared.severity.Severity.TheVariants.{Emergency, Alert, Critical, Error, Warning, Notice, Informational, Debug}
+use Rattle.syslog_value.specs.declared.severity.Severity.TheVariants.{Emergency, Alert, Critical, Error, Warning}
+use Rattle.syslog_value.specs.declared.severity.Severity.TheVariants.{Notice, Informational, Debug}
 use Rattle.syslog_value.specs.Severities.{severity_code}
 use Rattle.syslog_value.specs.Masks.{Holds}
 
@@ -35,7 +37,8 @@ set_in_union a b k = (
   (λ is_set.
       elim (cases_lt 0 (bit_at a k)) [
         | inl some ↦ inl (set_of_bit a k (omega (arith, bit_at-lt a k)))
-        | inr nothing ↦ inr (set_of_bit b k (omega (arith, bit_at-lt b k, bit_at_or a b k, bit_of_set (bit_or a b) k is_set)))
+        | inr nothing ↦ inr (set_of_bit b k (omega
+            (arith, bit_at-lt b k, bit_at_or a b k, bit_of_set (bit_or a b) k is_set)))
       ]),
   (λ either. elim either [
     | inl left ↦ set_of_bit (bit_or a b) k (omega (arith, bit_at_or a b k, bit_of_set a k left, bit_at-lt b k))
@@ -58,11 +61,13 @@ severity_with_code (suc (suc (suc (suc (suc (suc (suc (suc k)))))))) below = abs
 empty_is_zero : (m : ℕ) → m < 256 → ((s : Severity) → ¬ Holds m s) → m ≡ 0
 empty_is_zero m small none =
     same_from_bits_below 8 m 0 small (omega arith)
-    (λ k below. let (s, is) = severity_with_code k below in bit_of_clear m k (subst (λ k. ¬ IsBitSet m k) is (none s)) ∙ sym (bit_at-zero k))
+    (λ k below. let (s, is) = severity_with_code k below in
+    bit_of_clear m k (subst (λ k. ¬ IsBitSet m k) is (none s)) ∙ sym (bit_at-zero k))
 
 pub is_empty_mask : (m : ℕ) → m < 256 → IsTrue (m == 0) ↔ ((s : Severity) → ¬ Holds m s)
 is_empty_mask m small = (
-  (λ zero s held. held (ap (λ n. bit_and n (2 ^ severity_code s)) (eqb-true m 0 zero) ∙ and_zero_l (2 ^ severity_code s))),
+  (λ zero s held. held (ap (λ n. bit_and n (2 ^ severity_code s)) (eqb-true m 0 zero)
+      ∙ and_zero_l (2 ^ severity_code s))),
   (λ none. eq-eqb m 0 (empty_is_zero m small none)),
 )
 
@@ -85,4 +90,5 @@ same_bit m n k same =
 pub same_mask : (m n : ℕ) → m < 256 → n < 256 → ((s : Severity) → Holds m s ↔ Holds n s) → m ≡ n
 same_mask m n small small' same =
     same_from_bits_below 8 m n small small'
-    (λ k below. let (s, is) = severity_with_code k below in same_bit m n k (subst (λ k. IsBitSet m k ↔ IsBitSet n k) is (same s)))
+    (λ k below. let (s, is) = severity_with_code k below in
+    same_bit m n k (subst (λ k. IsBitSet m k ↔ IsBitSet n k) is (same s)))

@@ -1,7 +1,10 @@
 -- The facilities, their codes and their short names (RFC 5424, 6.2.1, table 1).
 use Rattle.std.specs.Prelude.{◌≢◌, ℕ, List, codes}
 use Rattle.syslog_value.specs.declared.facility.Facility.{Facility}
-use Rattle.syslog_value.specs.declared.facility.Facility.TheVariants.{Kern, User, Mail, Daemon, Auth, Syslog, Lpr, News, Uucp, Cron, AuthPriv, Ftp, Ntp, Audit, Alert, Clock, Local0, Local1, Local2, Local3, Local4, Local5, Local6, Local7}
+use Rattle.syslog_value.specs.declared.facility.Facility.TheVariants.{Kern, User, Mail, Daemon, Auth, Syslog, Lpr, News}
+use Rattle.syslog_value.specs.declared.facility.Facility.TheVariants.{Uucp, Cron, AuthPriv, Ftp, Ntp, Audit, Alert}
+use Rattle.syslog_value.specs.declared.facility.Facility.TheVariants.{Clock, Local0, Local1, Local2, Local3, Local4}
+use Rattle.syslog_value.specs.declared.facility.Facility.TheVariants.{Local5, Local6, Local7}
 
 abbrev pub facility_code : Facility → ℕ
 facility_code Kern = 0

@@ -1,5 +1,6 @@
 -- A syslog record as its reader understands it (RFC 5424, sections 6.2 to 6.4).
-use Rattle.std.specs.Prelude.{◌≢◌, ℕ, ℤ, pos, neg_ℤ, ◌≤ℤ◌, ◌≤◌, ◌<◌, List, [], ◌∷◌, length, take, Option, IfSome, IsUtf8, ⊤}
+use Rattle.std.specs.Prelude.{◌≢◌, ℕ, ℤ, pos, neg_ℤ, ◌≤ℤ◌, ◌≤◌, ◌<◌, List, [], ◌∷◌, length, take, Option, IfSome}
+use Rattle.std.specs.Prelude.{IsUtf8, ⊤}
 use Rattle.std.specs.List.{AllByRecursion}
 use Rattle.syslog_value.specs.Order.{OctetsBelow}
 

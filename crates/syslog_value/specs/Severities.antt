@@ -1,7 +1,8 @@
 -- The severities, their codes and their short names (RFC 5424, 6.2.1, table 2).
 use Rattle.std.specs.Prelude.{◌≢◌, ℕ, List, codes}
 use Rattle.syslog_value.specs.declared.severity.Severity.{Severity}
-use Rattle.syslog_value.specs.declared.severity.Severity.TheVariants.{Emergency, Alert, Critical, Error, Warning, Notice, Informational, Debug}
+use Rattle.syslog_value.specs.declared.severity.Severity.TheVariants.{Emergency, Alert, Critical, Error, Warning}
+use Rattle.syslog_value.specs.declared.severity.Severity.TheVariants.{Notice, Informational, Debug}
 
 abbrev pub severity_code : Severity → ℕ
 severity_code Emergency = 0

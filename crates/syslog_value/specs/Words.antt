@@ -14,7 +14,8 @@ abbrev pub IsWordFault : ℕ → List ℕ → WordFault → Type 0
 IsWordFault most octets Empty = octets ≡ []
 IsWordFault most octets Nil = octets ≡ 45 ∷ []
 IsWordFault most octets TooLong = (octets ≢ []) × (octets ≢ 45 ∷ []) × (most < length octets)
-IsWordFault most octets (BadOctet offset) = (octets ≢ []) × (octets ≢ 45 ∷ []) × (length octets ≤ most) × IsFirstBad IsPrintable octets offset
+IsWordFault most octets (BadOctet offset) =
+    (octets ≢ []) × (octets ≢ 45 ∷ []) × (length octets ≤ most) × IsFirstBad IsPrintable octets offset
 IsWordFault most octets Memory = IsWord most octets
 
 abbrev pub IsNameFault : List ℕ → WordFault → Type 0

@@ -6,7 +6,8 @@ use Rattle.syslog_frame.proofs.count.count_on.Goals as goal
 
 pub returns-in-None-clause-counts : goal.returns-in-None-clause-counts
 returns-in-None-clause-counts c = λ p h.
-    one_taken p c.args.octets.now c.loop-i.i c.loop-i-test.true ∙ count_space c.loop-i.count _ _ (c.loop-i.invariant.digits p h) (omega arith) (omega arith)
+    one_taken p c.args.octets.now c.loop-i.i c.loop-i-test.true
+    ∙ count_space c.loop-i.count _ _ (c.loop-i.invariant.digits p h) (omega arith) (omega arith)
 
 pub loop-i-preserved : goal.loop-i-preserved
 loop-i-preserved c =
@@ -15,5 +16,7 @@ loop-i-preserved c =
     record {
       small = omega (arith, d.1, next.2);
       digits = λ p h.
-          rw (d.1, one_taken p c.args.octets.now c.loop-i.i c.loop-i-test.true) (count_digit c.loop-i.count (get_or c.args.octets.now c.loop-i.i 0) (p ++ take c.loop-i.i c.args.octets.now) (c.loop-i.invariant.digits p h) next);
+          rw (d.1, one_taken p c.args.octets.now c.loop-i.i c.loop-i-test.true)
+          (count_digit c.loop-i.count (get_or c.args.octets.now c.loop-i.i 0)
+          (p ++ take c.loop-i.i c.args.octets.now) (c.loop-i.invariant.digits p h) next);
     }

@@ -10,5 +10,6 @@ abbrev pub invariant-loop-piece : goal.invariant-loop-piece
 invariant-loop-piece l = record {
   reading : IsReading l.scanner;
   bound : l.scanner.position ≤ POSITION_MAX;
-  delivered : HasDelivered FRAME_MAX l.scanner l.fn.framing (flat_map (λ v. v.items) (take l.piece-index l.pieces)) (map (option_map (λ v. v.items)) l.frames.items);
+  delivered : HasDelivered FRAME_MAX l.scanner l.fn.framing (flat_map (λ v. v.items) (take l.piece-index l.pieces))
+      (map (option_map (λ v. v.items)) l.frames.items);
 }

@@ -9,13 +9,22 @@ loop-rest-preserved-in-Nothing c =
     let n = c.in-Ok.used in
     rw (take_rest rest n)
     (record {
-      reading = elim (rw c.in-Nothing.is at c.in-Ok-deliver.ensures.reports) [ inl r ↦ r | inr f ↦ absurd (c.in-Ok.ensures.live f) ];
+      reading = elim (rw c.in-Nothing.is at c.in-Ok-deliver.ensures.reports)
+          [ inl r ↦ r | inr f ↦ absurd (c.in-Ok.ensures.live f) ];
       bound = λ _. c.in-Ok.ensures.bound;
-      position = omega (arith, c.in-Ok.ensures.position, c.in-Ok.ensures.within, c.loop-rest.invariant.position, length-drop n rest);
+      position = omega (
+        arith,
+        c.in-Ok.ensures.position,
+        c.in-Ok.ensures.within,
+        c.loop-rest.invariant.position,
+        length-drop n rest,
+      );
       delivered = λ kind octets h.
           let d = c.loop-rest.invariant.delivered kind octets h in
-          let on = c.in-Ok.ensures.reads kind 0 (octets ++ d.0) d.2.frames d.2.rest d.2.reads (λ b. c.loop-rest.invariant.reading.0 (inr b)) in
-          let same = rw c.in-Nothing.is at (c.in-Ok-deliver.ensures.delivers kind ((octets ++ d.0) ++ take n rest) d.2.frames (d.2.rest ++ take n rest) on.reads) in
+          let on = c.in-Ok.ensures.reads kind 0 (octets ++ d.0) d.2.frames d.2.rest d.2.reads
+          (λ b. c.loop-rest.invariant.reading.0 (inr b)) in
+          let same = rw c.in-Nothing.is at (c.in-Ok-deliver.ensures.delivers kind ((octets ++ d.0) ++ take n rest)
+          d.2.frames (d.2.rest ++ take n rest) on.reads) in
           handled_nothing _ c.loop-rest.scanner c.push.new.self kind octets c.args.piece.now rest _ _ n d on same;
     })
 
@@ -24,9 +33,12 @@ returns-in-Bad-clause-delivers c = λ kind octets h more.
     let rest = c.loop-rest.rest.now in
     let n = c.in-Ok.used in
     let d = c.loop-rest.invariant.delivered kind octets h in
-    let on = c.in-Ok.ensures.reads kind 0 (octets ++ d.0) d.2.frames d.2.rest d.2.reads (λ b. c.loop-rest.invariant.reading.0 (inr b)) in
-    let reported = rw c.in-Bad.is at (c.in-Ok-deliver.ensures.delivers kind ((octets ++ d.0) ++ take n rest) d.2.frames (d.2.rest ++ take n rest) on.reads) in
-    handled_bad _ c.loop-rest.scanner c.push.new.self kind octets c.args.piece.now rest _ _ n c.in-Bad.at d on (rw c.in-Bad.is at c.in-Ok-deliver.ensures.reports) reported.1 reported.0 more
+    let on = c.in-Ok.ensures.reads kind 0 (octets ++ d.0) d.2.frames d.2.rest d.2.reads
+    (λ b. c.loop-rest.invariant.reading.0 (inr b)) in
+    let reported = rw c.in-Bad.is at (c.in-Ok-deliver.ensures.delivers kind ((octets ++ d.0) ++ take n rest) d.2.frames
+    (d.2.rest ++ take n rest) on.reads) in
+    handled_bad _ c.loop-rest.scanner c.push.new.self kind octets c.args.piece.now rest _ _ n c.in-Bad.at d on
+    (rw c.in-Bad.is at c.in-Ok-deliver.ensures.reports) reported.1 reported.0 more
 
 pub loop-rest-preserved : goal.loop-rest-preserved
 loop-rest-preserved c =
@@ -36,15 +48,27 @@ loop-rest-preserved c =
     (record {
       reading = c.release.ensures.frame (rw c.in-Delivered.is at c.in-Ok-deliver.ensures.reports);
       bound = λ _. omega (arith, c.release.ensures.position, c.in-Ok.ensures.bound);
-      position = omega (arith, c.release.ensures.position, c.in-Ok.ensures.position, c.in-Ok.ensures.within, c.loop-rest.invariant.position, length-drop n rest);
+      position = omega (
+        arith,
+        c.release.ensures.position,
+        c.in-Ok.ensures.position,
+        c.in-Ok.ensures.within,
+        c.loop-rest.invariant.position,
+        length-drop n rest,
+      );
       delivered = λ kind octets h.
           let d = c.loop-rest.invariant.delivered kind octets h in
-          let on = c.in-Ok.ensures.reads kind 0 (octets ++ d.0) d.2.frames d.2.rest d.2.reads (λ b. c.loop-rest.invariant.reading.0 (inr b)) in
-          let f = rw c.in-Delivered.is at (c.in-Ok-deliver.ensures.delivers kind ((octets ++ d.0) ++ take n rest) d.2.frames (d.2.rest ++ take n rest) on.reads) in
-          let begun = c.release.ensures.reads kind 0 ((octets ++ d.0) ++ take n rest) d.2.frames (d.2.rest ++ take n rest) f.0 on.reads f.1 in
-          handled_frame _ c.loop-rest.scanner c.release.new.self kind octets c.args.piece.now rest _ _ n f.0 d begun f.2;
+          let on = c.in-Ok.ensures.reads kind 0 (octets ++ d.0) d.2.frames d.2.rest d.2.reads
+          (λ b. c.loop-rest.invariant.reading.0 (inr b)) in
+          let f = rw c.in-Delivered.is at (c.in-Ok-deliver.ensures.delivers kind ((octets ++ d.0) ++ take n rest)
+          d.2.frames (d.2.rest ++ take n rest) on.reads) in
+          let begun = c.release.ensures.reads kind 0 ((octets ++ d.0) ++ take n rest) d.2.frames
+          (d.2.rest ++ take n rest) f.0 on.reads f.1 in
+          handled_frame _ c.loop-rest.scanner c.release.new.self kind octets c.args.piece.now rest _ _ n f.0 d begun
+          f.2;
     })
 
 pub returns-clause-delivers : goal.returns-clause-delivers
 returns-clause-delivers c = λ kind octets h.
-    handled_all _ c.loop-rest.scanner kind octets c.args.piece.now c.loop-rest.rest.now _ (c.loop-rest.invariant.delivered kind octets h) (search rules)
+    handled_all _ c.loop-rest.scanner kind octets c.args.piece.now c.loop-rest.rest.now _
+    (c.loop-rest.invariant.delivered kind octets h) (search rules)

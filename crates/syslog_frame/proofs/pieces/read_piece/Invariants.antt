@@ -12,7 +12,8 @@ invariant-loop-rest l = record {
   reading : IsReading l.scanner;
   position : l.scanner.position + length l.rest ≡ l.fn.scanner.position + length l.piece;
   bound : l.fn.scanner.position ≤ POSITION_MAX → l.scanner.position ≤ POSITION_MAX;
-  delivered : (kind : Framing) (octets : List ℕ) → HasDelivered FRAME_MAX l.fn.scanner kind octets (map (option_map (λ v. v.items)) l.fn.out.items)
+  delivered : (kind : Framing) (octets : List ℕ)
+      → HasDelivered FRAME_MAX l.fn.scanner kind octets (map (option_map (λ v. v.items)) l.fn.out.items)
       → HandledWith FRAME_MAX l.scanner kind octets l.piece l.rest (map (option_map (λ v. v.items)) l.out.items);
 }
 

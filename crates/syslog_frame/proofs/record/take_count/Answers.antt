@@ -12,4 +12,5 @@ returns-in-Read-clause-holds c = λ p h.
     let q = p ++ take c.in-Read.used c.args.piece.now in
     let begun = inside_empty _ c.in-Read.count c.args.kept.now.items q s.0 s.1 empty e in
     let k = c.take_record-record.ensures.holds q begun in
-    rw (taken_twice p c.args.piece.now c.in-Read.used c.take_record-record.result.used) (rw (take_rest c.args.piece.now c.in-Read.used) at k)
+    rw (taken_twice p c.args.piece.now c.in-Read.used c.take_record-record.result.used)
+    (rw (take_rest c.args.piece.now c.in-Read.used) at k)

@@ -24,7 +24,8 @@ returns c =
     let w6 : Language = SpacedWord (option_map (λ s. s.now) c.args.fields.now.msg_id) in
     let spaced : Language = time ⋅ Only (32 ∷ []) in
     puts_then prefix (spaced ⋅ w3 ⋅ w4 ⋅ w5 ⋅ w6) old s0 new c.put_word-4.result c.in_ok-put_priority_version.ensures
-    (puts_then spaced (w3 ⋅ w4 ⋅ w5 ⋅ w6) s0 s2 new c.put_word-4.result (adds_then time (Only (32 ∷ [])) s0 s1 s2 c.in_ok-put_time.ensures c.in_ok-put.ensures)
+    (puts_then spaced (w3 ⋅ w4 ⋅ w5 ⋅ w6) s0 s2 new c.put_word-4.result
+    (adds_then time (Only (32 ∷ [])) s0 s1 s2 c.in_ok-put_time.ensures c.in_ok-put.ensures)
     (puts_then w3 (w4 ⋅ w5 ⋅ w6) s2 s3 new c.put_word-4.result c.in_ok-put_word.ensures
     (puts_then w4 (w5 ⋅ w6) s3 s4 new c.put_word-4.result c.in_ok-put_word-2.ensures
     (puts_then w5 w6 s4 s5 new c.put_word-4.result c.in_ok-put_word-3.ensures c.put_word-4.ensures))))

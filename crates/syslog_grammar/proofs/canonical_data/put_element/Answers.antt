@@ -9,7 +9,9 @@ use Rattle.syslog_grammar.proofs.canonical_data.put_element.Goals as goal
 
 pub returns : goal.returns
 returns c =
-    subst (λ (ps : List ParamParts). Puts (Only (91 ∷ c.args.element.now.id ++ flat_map param_form ps ++ 93 ∷ [])) c.args.out.now.items c.put-3.new.out.items c.put-3.result)
+    subst (λ (ps : List ParamParts). Puts (Only (91 ∷ c.args.element.now.id ++ flat_map param_form ps ++ 93 ∷ []))
+    c.args.out.now.items c.put-3.new.out.items c.put-3.result)
     c.params-param-items.ensures
-    (items_end param_form c.params-param-items.result.now c.loop-param.param-index (91 ∷ c.args.element.now.id) (93 ∷ []) c.args.out.now.items c.loop-param.out.items c.put-3.new.out.items c.put-3.result
+    (items_end param_form c.params-param-items.result.now c.loop-param.param-index (91 ∷ c.args.element.now.id)
+    (93 ∷ []) c.args.out.now.items c.loop-param.out.items c.put-3.new.out.items c.put-3.result
     c.loop-param-test.false c.loop-param.invariant c.put-3.ensures)

@@ -6,4 +6,5 @@ use Rattle.syslog_grammar.specs.Canonical.{param_form}
 use Rattle.syslog_grammar.proofs.canonical_data.put_element.Given as goal
 
 abbrev pub invariant-loop-param : goal.invariant-loop-param
-invariant-loop-param l = Adds (Only (91 ∷ l.element.id ++ flat_map param_form (take l.param-index l.param-items))) l.fn.out.items l.out.items
+invariant-loop-param l = Adds (Only (91 ∷ l.element.id ++ flat_map param_form (take l.param-index l.param-items)))
+    l.fn.out.items l.out.items

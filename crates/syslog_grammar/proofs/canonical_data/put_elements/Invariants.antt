@@ -6,4 +6,5 @@ use Rattle.syslog_grammar.specs.Canonical.{element_form}
 use Rattle.syslog_grammar.proofs.canonical_data.put_elements.Given as goal
 
 abbrev pub invariant-loop-element : goal.invariant-loop-element
-invariant-loop-element l = Adds (Only (flat_map element_form (take l.element-index l.elements))) l.fn.out.items l.out.items
+invariant-loop-element l = Adds (Only (flat_map element_form (take l.element-index l.elements))) l.fn.out.items
+    l.out.items

@@ -19,6 +19,7 @@ returns c =
     let time : Language = TimeForm s.instant in
     let space : Language = Only (32 ∷ []) in
     let behind : Language = Only s.behind_time in
-    puts_then prefix (time ⋅ space ⋅ behind) old s0 new c.put-2.result (rw c.priority.ensures at c.in_ok-put_priority_version.ensures)
+    puts_then prefix (time ⋅ space ⋅ behind) old s0 new c.put-2.result
+    (rw c.priority.ensures at c.in_ok-put_priority_version.ensures)
     (puts_then time (space ⋅ behind) s0 s1 new c.put-2.result (rw c.instant.ensures at c.in_ok-put_time.ensures)
     (puts_then space behind s1 s2 new c.put-2.result c.in_ok-put.ensures c.put-2.ensures))

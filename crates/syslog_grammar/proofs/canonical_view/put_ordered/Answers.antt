@@ -1,7 +1,10 @@
-use Rattle.syslog_grammar.specs.ViewParts.{view_parts}
-use Rattle.syslog_grammar.proofs.Rewritten.{record_verbatim}
+use Rattle.syslog_grammar.proofs.ReadData.{kept_unordered}
 use Rattle.syslog_grammar.proofs.canonical_view.put_ordered.Goals as goal
 
+pub returns-then-not-ascends-clause-order : goal.returns-then-not-ascends-clause-order
+returns-then-not-ascends-clause-order c = λ none es d.
+    kept_unordered c.args.view.now.is_form c.args.view.now.ascends c.args.view.now.«structured_data».now
+    c.args.view.now.forms c.if-not-ascends.true es d
+
 pub returns-clause-ok : goal.returns-clause-ok
-returns-clause-ok c = λ b h u.
-    record_verbatim (view_parts c.args.view.now) c.args.out.now.items c.copy_verbatim.new.out.items (c.has_one_message_form.ensures c.if-not-has_one_message_form.false) (λ es d. (c.has_structured_data_form.ensures es d).0 c.if-not-has_structured_data_form.false) c.in_ok-copy_verbatim.ensures b h
+returns-clause-ok c = λ b h u. c.in_ok-put_ascending.ensures.ok b h

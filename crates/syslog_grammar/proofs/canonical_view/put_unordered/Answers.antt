@@ -10,5 +10,7 @@ returns-clause-ok c =
     let seen = c.put_resorted.new.out.items in
     let count : vec_len c.args.out.now ≡ length c.args.out.now.items = search rules in
     let back : c.truncate.new.self.items ≡ c.args.out.now.items =
-    c.truncate.ensures.items ∙ ap (λ (n : ℕ). take n seen) (c.len-start.ensures ∙ count) ∙ adds_prefix Anything c.args.out.now.items seen c.put_resorted.ensures.begun in
-    λ b h. subst (λ (old : List ℕ). OnOk c.put_owned.result (AddsCanonical b old c.put_owned.new.out.items)) back (c.put_owned.ensures.ok b h)
+    c.truncate.ensures.items ∙ ap (λ (n : ℕ). take n seen) (c.len-start.ensures ∙ count)
+    ∙ adds_prefix Anything c.args.out.now.items seen c.put_resorted.ensures.begun in
+    λ b h. subst (λ (old : List ℕ). OnOk c.put_owned.result (AddsCanonical b old c.put_owned.new.out.items)) back
+    (c.put_owned.ensures.ok b h)

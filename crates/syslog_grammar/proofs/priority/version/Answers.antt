@@ -11,4 +11,5 @@ returns-in_err-rest c =
     rw (p.1, p.2) (Fails-first (Only (49 ∷ [])) (Only (32 ∷ [])) _ (32 ∷ []) _ refl c.in_err-rest.ensures)
 
 pub returns : goal.returns
-returns c = Passes-later remaining_of (Only (49 ∷ [])) (Only (32 ∷ [])) _ c.args.octets.now c.in_ok-rest.rest.now c.expect-2.result (IsPrefixFree-only (49 ∷ [])) c.in_ok-rest.ensures c.expect-2.ensures
+returns c = Passes-later remaining_of (Only (49 ∷ [])) (Only (32 ∷ [])) _ c.args.octets.now c.in_ok-rest.rest.now
+    c.expect-2.result (IsPrefixFree-only (49 ∷ [])) c.in_ok-rest.ensures c.expect-2.ensures

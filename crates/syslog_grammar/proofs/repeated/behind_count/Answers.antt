@@ -6,4 +6,6 @@ pub loop-init : goal.loop-init
 loop-init c = skips_none c.args.elements.now
 
 pub loop-preserved : goal.loop-preserved
-loop-preserved c = skips_more c.args.elements.now c.loop.rest.now c.first_element.result.1.now c.in-Some._after.now c.in-Some._first (element_span c.first_element.result.0) c.in-Some.ensures c.first_element.ensures.element c.first_element.ensures.suffix c.loop.invariant
+loop-preserved c = skips_more c.args.elements.now c.loop.rest.now c.first_element.result.1.now c.in-Some._after.now
+    c.in-Some._first (element_span c.first_element.result.0) c.in-Some.ensures c.first_element.ensures.element
+    c.first_element.ensures.suffix c.loop.invariant

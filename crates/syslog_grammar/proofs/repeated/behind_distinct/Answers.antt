@@ -10,7 +10,10 @@ pub loop-step-preserved : goal.loop-step-preserved
 loop-step-preserved c =
     elim c.if-differ.branch [
       | then-differ w ↦ subst (λ (k : Bor (List ℕ)). Known c.args.structured_data.now k.now) (sym w.known-is)
-          (known_further c.args.structured_data.now c.loop-step.known.now c.behind_count-rest.result.now c.in-Some._after.now c.in-Some.first c.in-Some.ensures c.if-first-ne91.false c.behind_count-rest.ensures
-          (λ es h. c.differ.ensures w.if-differ.true es (subst (Each Element es) (sym c.split_at.ensures.front) h)) c.loop-step.invariant)
-      | else-differ w ↦ subst (λ (k : Bor (List ℕ)). Known c.args.structured_data.now k.now) (sym w.known-is) c.loop-step.invariant
+          (known_further c.args.structured_data.now c.loop-step.known.now c.behind_count-rest.result.now
+          c.in-Some._after.now c.in-Some.first c.in-Some.ensures c.if-first-ne91.false c.behind_count-rest.ensures
+          (λ es h. c.differ.ensures w.if-differ.true es (subst (Each Element es) (sym c.split_at.ensures.front) h))
+          c.loop-step.invariant)
+      | else-differ w ↦ subst (λ (k : Bor (List ℕ)). Known c.args.structured_data.now k.now) (sym w.known-is)
+          c.loop-step.invariant
     ]

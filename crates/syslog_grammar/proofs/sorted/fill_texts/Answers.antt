@@ -9,8 +9,15 @@ loop-first-init c = record { room = search rules; fills = texts_none c.args.elem
 pub loop-first-preserved : goal.loop-first-preserved
 loop-first-preserved c = record {
   room = search rules;
-  fills = texts_more c.args.elements.now c.loop-first.rest.now c.first_element.result.1.now c.in-Some._after.now c.in-Some._first c.loop-first.count c.loop-first.texts (element_span c.first_element.result.0) c.split_at.result.0 c.in-Some.ensures c.first_element.ensures.element c.split_at.ensures.front (omega arith) c.loop-first.invariant.fills;
+  fills = texts_more c.args.elements.now c.loop-first.rest.now c.first_element.result.1.now c.in-Some._after.now
+      c.in-Some._first c.loop-first.count c.loop-first.texts (element_span c.first_element.result.0) c.split_at.result.0
+      c.in-Some.ensures c.first_element.ensures.element c.split_at.ensures.front (omega arith)
+      c.loop-first.invariant.fills;
 }
 
 pub returns : goal.returns
-returns c = (c.loop-first.invariant.room, texts_whole c.args.elements.now c.loop-first.rest.now c.loop-first.count c.loop-first.texts c.in_default.ensures c.loop-first.invariant.fills)
+returns c = (
+  c.loop-first.invariant.room,
+  texts_whole c.args.elements.now c.loop-first.rest.now c.loop-first.count
+      c.loop-first.texts c.in_default.ensures c.loop-first.invariant.fills,
+)

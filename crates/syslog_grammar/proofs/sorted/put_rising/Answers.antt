@@ -10,26 +10,38 @@ use Rattle.syslog_grammar.proofs.Sorting.{written_none, written_begun, written_m
 use Rattle.syslog_grammar.proofs.sorted.put_rising.Goals as goal
 
 pub loop-i-init : goal.loop-i-init
-loop-i-init c = written_none c.args.texts.now c.args.out.now.items
+loop-i-init c = written_none c.args.is_form c.args.texts.now c.args.out.now.items
 
 pub returns-then-not-is_above : goal.returns-then-not-is_above
-returns-then-not-is_above c = (written_begun c.args.texts.now (drop c.loop-i.i c.args.texts.now) (option_map (λ s. s.now) c.loop-i.greatest) c.args.out.now.items c.loop-i.out.items c.loop-i.invariant, tt)
+returns-then-not-is_above c = (
+  written_begun c.args.is_form c.args.texts.now (drop c.loop-i.i c.args.texts.now)
+      (option_map (λ s. s.now) c.loop-i.greatest) c.args.out.now.items c.loop-i.out.items c.loop-i.invariant,
+  tt,
+)
 
-pub returns-in_err-put_element : goal.returns-in_err-put_element
-returns-in_err-put_element c =
+pub returns-in_err-put_text : goal.returns-in_err-put_text
+returns-in_err-put_text c =
     let p = err_from_is_err_and c.from_residual.result c.from_residual.ensures.1 in
-    rw p.1 (adds_some Anything Anything c.args.out.now.items c.loop-i.out.items c.put_element.new.out.items
-    (written_begun c.args.texts.now (drop c.loop-i.i c.args.texts.now) (option_map (λ s. s.now) c.loop-i.greatest) c.args.out.now.items c.loop-i.out.items c.loop-i.invariant) c.in_err-put_element.ensures)
+    rw p.1 (adds_some Anything Anything c.args.out.now.items c.loop-i.out.items c.put_text.new.out.items
+    (written_begun c.args.is_form c.args.texts.now (drop c.loop-i.i c.args.texts.now)
+    (option_map (λ s. s.now) c.loop-i.greatest) c.args.out.now.items c.loop-i.out.items c.loop-i.invariant)
+    c.in_err-put_text.ensures)
 
 pub loop-i-preserved : goal.loop-i-preserved
 loop-i-preserved c =
     let v : ElementSpan = element_span c.first_element.result.0 in
-    let above : IsAbove c.id-id.result.now (option_map (λ s. s.now) c.loop-i.greatest) = c.is_above.ensures.above (search rules) in
-    rw c.id-id.ensures (written_more c.args.texts.now (drop c.loop-i.i c.args.texts.now) (drop (c.loop-i.i + 1) c.args.texts.now) _ c.first_element.result.1.now c.args.out.now.items c.loop-i.out.items c.put_element.new.out.items v (option_map (λ s. s.now) c.loop-i.greatest)
-    (text_left c.args.texts.now c.loop-i.i _ c.loop-i-test.true) c.first_element.ensures.element (rw c.id-id.ensures at above) c.in_ok-put_element.ensures c.loop-i.invariant)
+    let above : IsAbove c.id-id.result.now (option_map (λ s. s.now) c.loop-i.greatest) =
+    c.is_above.ensures.above (search rules) in
+    rw c.id-id.ensures (written_more c.args.is_form c.args.texts.now (drop c.loop-i.i c.args.texts.now)
+    (drop (c.loop-i.i + 1) c.args.texts.now) _ c.first_element.result.1.now c.args.out.now.items c.loop-i.out.items
+    c.put_text.new.out.items v (option_map (λ s. s.now) c.loop-i.greatest)
+    (text_left c.args.texts.now c.loop-i.i _ c.loop-i-test.true) c.first_element.ensures.element
+    (rw c.id-id.ensures at above) c.in_ok-put_text.ensures c.loop-i.invariant)
 
 pub returns : goal.returns
 returns c =
     let whole : c.loop-i.i ≡ length c.args.texts.now = omega (arith, c.loop-i-test.false, c.loop-i.auto.i-end) in
-    let none : drop c.loop-i.i c.args.texts.now ≡ [] = ap (λ (n : ℕ). drop n c.args.texts.now) whole ∙ none_left c.args.texts.now in
-    written_end c.args.texts.now (drop c.loop-i.i c.args.texts.now) (option_map (λ s. s.now) c.loop-i.greatest) c.args.out.now.items c.loop-i.out.items none c.loop-i.invariant
+    let none : drop c.loop-i.i c.args.texts.now ≡ [] =
+    ap (λ (n : ℕ). drop n c.args.texts.now) whole ∙ none_left c.args.texts.now in
+    written_end c.args.is_form c.args.texts.now (drop c.loop-i.i c.args.texts.now)
+    (option_map (λ s. s.now) c.loop-i.greatest) c.args.out.now.items c.loop-i.out.items none c.loop-i.invariant

@@ -10,4 +10,5 @@ returns-in_err-century c =
 pub returns-in_err-year : goal.returns-in_err-year
 returns-in_err-year c =
     let p = err_from_is_err_and c.from_residual-in_err-year.result c.from_residual-in_err-year.ensures.1 in
-    rw (p.1, p.2) (bad_year _ c.in_ok-century.rest.now c.in_ok-century.century _ c.in_ok-century.ensures c.in_err-year.ensures)
+    rw (p.1, p.2) (bad_year _ c.in_ok-century.rest.now c.in_ok-century.century _ c.in_ok-century.ensures
+    c.in_err-year.ensures)

@@ -23,18 +23,34 @@ pub returns-in-Some : goal.returns-in-Some
 returns-in-Some c =
     let b = c.args.octets.now in
     let s = c.in_ok-spelling.spelling in
-    let h = repeated_id b s c.in-Ok.micros c.in-Some.offset c.in_ok-spelling.ensures c.in-Ok.ensures.0 c.in-Ok.ensures.1 c.in-Some.ensures in
-    record { some = tt; whole = h; none = no_record b (RepeatedId (length b - s.structured_data_remaining + c.in-Some.offset)) h }
+    let h = repeated_id b s c.in-Ok.micros c.in-Some.offset c.in_ok-spelling.ensures c.in-Ok.ensures.0 c.in-Ok.ensures.1
+    c.in-Some.ensures in
+    record {
+      some = tt;
+      whole = h;
+      none = no_record b
+          (RepeatedId (length b - s.structured_data_remaining + c.in-Some.offset)) h;
+    }
 
 pub invariant_of-result : goal.invariant_of-result
 invariant_of-result c = record {
-  priority_valid = header_priority (header_parts c.in_ok-spelling.spelling.fields) c.in_ok-spelling.ensures.fields.0 c.in_ok-spelling.ensures.fields.2;
+  priority_valid = header_priority (header_parts c.in_ok-spelling.spelling.fields) c.in_ok-spelling.ensures.fields.0
+      c.in_ok-spelling.ensures.fields.2;
   micros_valid = valid_micros c.in-Ok.micros c.in-Ok.ensures.1;
-  shown = ∣ (c.args.octets.now, view_of c.args.octets.now c.in_ok-spelling.spelling c.in-Ok.micros c.in_ok-spelling.ensures c.in-Ok.ensures.0 c.in-Ok.ensures.1 c.in_default.ensures) ∣₁;
+  forms = ∣ c.in_ok-spelling.ensures.forms ∣₁;
+  shown = ∣ (
+    c.args.octets.now,
+    view_of c.args.octets.now c.in_ok-spelling.spelling c.in-Ok.micros
+        c.in_ok-spelling.ensures c.in-Ok.ensures.0 c.in-Ok.ensures.1 c.in_default.ensures,
+  ) ∣₁;
 }
 
+pub repeated_id-requires-clause-ascending : goal.repeated_id-requires-clause-ascending
+repeated_id-requires-clause-ascending c = λ u es d. (c.in_ok-spelling.ensures.forms es d).1.0 u
+
 pub returns-clause-whole : goal.returns-clause-whole
-returns-clause-whole c = view_of c.args.octets.now c.in_ok-spelling.spelling c.in-Ok.micros c.in_ok-spelling.ensures c.in-Ok.ensures.0 c.in-Ok.ensures.1 c.in_default.ensures
+returns-clause-whole c = view_of c.args.octets.now c.in_ok-spelling.spelling c.in-Ok.micros c.in_ok-spelling.ensures
+    c.in-Ok.ensures.0 c.in-Ok.ensures.1 c.in_default.ensures
 
 pub returns-clause-some : goal.returns-clause-some
 returns-clause-some c = some_record _ _ (returns-clause-whole c)

@@ -7,12 +7,14 @@ use Rattle.syslog_value.proofs.civil.date_at.Goals as goal
 
 pub unwrap-date-requires : goal.unwrap-date-requires
 unwrap-date-requires c =
-    let zero : epoch_day c.to_plain.result ≡ neg_ℤ (pos 719_528) = rw c.to_plain.ensures (day_number-same 0 1 1 (omega arith) ∙ first_day-number) in
+    let zero : epoch_day c.to_plain.result ≡ neg_ℤ (pos 719_528) =
+    rw c.to_plain.ensures (day_number-same 0 1 1 (omega arith) ∙ first_day-number) in
     c.checked_add.ensures.succeeds.1 (omega (arith, signed_casts), omega (arith, signed_casts))
 
 pub overflow_cast-result : goal.overflow_cast-result
 overflow_cast-result c =
-    let zero : epoch_day c.to_plain.result ≡ neg_ℤ (pos 719_528) = rw c.to_plain.ensures (day_number-same 0 1 1 (omega arith) ∙ first_day-number) in
+    let zero : epoch_day c.to_plain.result ≡ neg_ℤ (pos 719_528) =
+    rw c.to_plain.ensures (day_number-same 0 1 1 (omega arith) ∙ first_day-number) in
     let value = rw c.unwrap-date.ensures at c.checked_add.ensures.value in
     let number : epoch_day c.unwrap-date.result ≡ c.args.day = omega (arith, signed_casts, value) in
     let year = year-from_zero c.unwrap-date.result (omega (arith, signed_casts)) in
@@ -20,7 +22,8 @@ overflow_cast-result c =
 
 pub returns-clause-value : goal.returns-clause-value
 returns-clause-value c =
-    let zero : epoch_day c.to_plain.result ≡ neg_ℤ (pos 719_528) = rw c.to_plain.ensures (day_number-same 0 1 1 (omega arith) ∙ first_day-number) in
+    let zero : epoch_day c.to_plain.result ≡ neg_ℤ (pos 719_528) =
+    rw c.to_plain.ensures (day_number-same 0 1 1 (omega arith) ∙ first_day-number) in
     let value = rw c.unwrap-date.ensures at c.checked_add.ensures.value in
     let number : epoch_day c.unwrap-date.result ≡ c.args.day = omega (arith, signed_casts, value) in
     let year = year-from_zero c.unwrap-date.result (omega (arith, signed_casts)) in

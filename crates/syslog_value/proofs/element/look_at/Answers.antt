@@ -8,7 +8,8 @@ use Rattle.syslog_value.proofs.element.look_at.Goals as goal
 pub loop-param-preserved : goal.loop-param-preserved
 loop-param-preserved c =
     let within : c.loop-param.param-index < length c.args.params.now = omega arith in
-    All-more IsParam _ _ c.param-item.result within c.loop-param.invariant (subst IsParam c.param-item.is c.name.ensures.valid)
+    All-more IsParam _ _ c.param-item.result within c.loop-param.invariant
+    (subst IsParam c.param-item.is c.name.ensures.valid)
 
 pub returns : goal.returns
 returns c =

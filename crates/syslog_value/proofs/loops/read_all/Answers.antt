@@ -5,12 +5,14 @@ use Rattle.syslog_value.proofs.loops.read_all.Goals as goal
 
 pub returns-then-n-eq0-clause-kept : goal.returns-then-n-eq0-clause-kept
 returns-then-n-eq0-clause-kept g c =
-    KeepsFirst-end _ _ _ _ _ _ _ c.loop-turn.invariant.kept c.in-Ok.ensures.octets.0 c.if-n-eq0.true (c.in-Ok.ensures.octets.1 c.if-n-eq0.true (search rules))
+    KeepsFirst-end _ _ _ _ _ _ _ c.loop-turn.invariant.kept c.in-Ok.ensures.octets.0 c.if-n-eq0.true
+    (c.in-Ok.ensures.octets.1 c.if-n-eq0.true (search rules))
 
 pub loop-turn-preserved : goal.loop-turn-preserved
 loop-turn-preserved g c =
     record {
-      kept = KeepsFirst-more _ _ c.min-room.result _ _ _ _ _ _ c.loop-turn.invariant.kept c.in-Ok.ensures.octets.0 (grind arith) (grind (arith, common_steps));
+      kept = KeepsFirst-more _ _ c.min-room.result _ _ _ _ _ _ c.loop-turn.invariant.kept c.in-Ok.ensures.octets.0
+          (grind arith) (grind (arith, common_steps));
       few = grind (arith, common_steps);
       calls = grind arith;
       no_failure = c.in-Ok.ensures.failures ∙ c.loop-turn.invariant.no_failure;

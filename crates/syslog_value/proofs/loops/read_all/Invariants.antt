@@ -7,7 +7,8 @@ abbrev pub invariant-loop-turn : goal.invariant-loop-turn
 invariant-loop-turn g l = record {
   kept : KeepsFirst l.limit (g.R.Input.left l.fn.reader) (g.R.Input.left l.reader) l.kept.items;
   few : vec_len l.kept ≤ l.limit;
-  calls : AreSmall (g.R.Input.calls l.fn.reader) (g.R.Input.failures l.fn.reader) → g.R.Input.calls l.reader ≡ g.R.Input.calls l.fn.reader + l._turn;
+  calls : AreSmall (g.R.Input.calls l.fn.reader) (g.R.Input.failures l.fn.reader)
+      → g.R.Input.calls l.reader ≡ g.R.Input.calls l.fn.reader + l._turn;
   no_failure : g.R.Input.failures l.reader ≡ g.R.Input.failures l.fn.reader;
   no_end : g.R.Input.ends l.reader ≡ g.R.Input.ends l.fn.reader;
 }

@@ -8,7 +8,8 @@ use Rattle.syslog_value.proofs.structured.look_at.Goals as goal
 pub loop-element-preserved : goal.loop-element-preserved
 loop-element-preserved c =
     let within : c.loop-element.element-index < length c.args.elements.now = omega arith in
-    All-more IsElement _ _ c.element-item.result within c.loop-element.invariant (subst IsElement c.element-item.is c.id.ensures.valid)
+    All-more IsElement _ _ c.element-item.result within c.loop-element.invariant
+    (subst IsElement c.element-item.is c.id.ensures.valid)
 
 pub returns : goal.returns
 returns c =

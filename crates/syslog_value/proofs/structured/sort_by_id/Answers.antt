@@ -7,5 +7,6 @@ use Rattle.syslog_value.proofs.structured.sort_by_id.Goals as goal
 
 pub returns-clause-sorted : goal.returns-clause-sorted
 returns-clause-sorted c =
-    c.sort_unstable_by.ensures.sorted (λ e f. is_lt (slice_cmp nat_cmp e.id f.id)) (ranks_by nat_list_cmp_total (λ e. e.id))
+    c.sort_unstable_by.ensures.sorted (λ e f. is_lt (slice_cmp nat_cmp e.id f.id))
+    (ranks_by nat_list_cmp_total (λ e. e.id))
     (answers_always _ _ _ (λ f a r f' call. search rules))

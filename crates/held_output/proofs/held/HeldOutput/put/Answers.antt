@@ -14,14 +14,16 @@ returns-clause-ok g c =
     let finished = c.in_ok-finish.ensures in
     let sent = ap (λ (h : Held). h.sent) c.self-2.view_is in
     let none = ap (λ (h : Held). h.octets) (c.self-2.view_is ∙ finished.ok_held) in
-    sends_direct_on _ _ _ _ _ c.finish.new.self _ _ finished.ok (ap (λ (h : Held). h.sent) finished.ok_held) none c.write_counted.ensures.ok
+    sends_direct_on _ _ _ _ _ c.finish.new.self _ _ finished.ok (ap (λ (h : Held). h.sent) finished.ok_held) none
+    c.write_counted.ensures.ok
     (rw (← sent) c.write_counted.ensures.ok_sent)
 
 pub returns-clause-err : goal.returns-clause-err
 returns-clause-err g c =
     let finished = c.in_ok-finish.ensures in
     let sent = ap (λ (h : Held). h.sent) c.self-2.view_is in
-    stops_direct_on _ _ _ _ _ c.finish.new.self _ finished.ok (ap (λ (h : Held). h.sent) finished.ok_held) (rw (← sent) c.write_counted.ensures.err)
+    stops_direct_on _ _ _ _ _ c.finish.new.self _ finished.ok (ap (λ (h : Held). h.sent) finished.ok_held)
+    (rw (← sent) c.write_counted.ensures.err)
 
 pub returns-clause-carried : goal.returns-clause-carried
 returns-clause-carried g c = carried_on _ _ _ _ _ _ (returns-clause-ok g c)

@@ -20,7 +20,8 @@ returns-in-BadCount-clause-reads c = λ kind first octets frames rest r.
     read_bad _ _ kind first octets frames rest c.in-BadCount.is s
 
 pub returns-in_default-clause-reports : goal.returns-in_default-clause-reports
-returns-in_default-clause-reports c = rw (← c.self.view_is) (reading_or_failed (scan_of c.self.inside) c.in_default.not-Ended c.in_default.not-BadCount)
+returns-in_default-clause-reports c = rw (← c.self.view_is)
+    (reading_or_failed (scan_of c.self.inside) c.in_default.not-Ended c.in_default.not-BadCount)
 
 pub returns-in_default-clause-stands : goal.returns-in_default-clause-stands
 returns-in_default-clause-stands c = λ kind position p h.
@@ -32,4 +33,6 @@ returns-in_default-clause-stands c = λ kind position p h.
 pub returns-in_default-clause-reads : goal.returns-in_default-clause-reads
 returns-in_default-clause-reads c = λ kind first octets frames rest r.
     let s = rw (← c.self.view_is) at r in
-    read_nothing _ _ kind first octets frames rest (reading_standing _ _ kind (first + length octets) rest c.in_default.not-Ended c.in_default.not-BadCount s.stands) s
+    read_nothing _ _ kind first octets frames rest
+    (reading_standing _ _ kind (first + length octets) rest c.in_default.not-Ended c.in_default.not-BadCount
+    s.stands) s

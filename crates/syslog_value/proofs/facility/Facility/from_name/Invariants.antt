@@ -5,4 +5,5 @@ use Rattle.syslog_value.proofs.facility.Facility.from_name.Given as goal
 
 -- none so far has the name
 abbrev pub invariant-loop-facility : goal.invariant-loop-facility
-invariant-loop-facility l = (facility : Facility) → facility_code facility < l.facility-index → facility_name facility ≢ l.name
+invariant-loop-facility l = (facility : Facility) → facility_code facility < l.facility-index
+    → facility_name facility ≢ l.name

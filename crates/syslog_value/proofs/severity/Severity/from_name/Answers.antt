@@ -12,6 +12,7 @@ loop-severity-preserved c = λ severity below named.
       | inl earlier ↦ c.loop-severity.invariant severity earlier named
       | inr later ↦
           let here : severity_code severity ≡ c.loop-severity.severity-index = omega arith in
-          let this = ap (λ i. severity_name (get_or ALL i Emergency)) (sym here) ∙ ap severity_name (severity_at severity) in
+          let this = ap (λ i. severity_name (get_or ALL i Emergency)) (sym here)
+          ∙ ap severity_name (severity_at severity) in
           texts_differ _ _ (sym c.eq.ensures ∙ c.if-eq.false) (c.name.ensures ∙ this ∙ named)
     ]

@@ -5,4 +5,5 @@ use Rattle.syslog_value.proofs.severity.Severity.from_name.Given as goal
 
 -- none so far has the name
 abbrev pub invariant-loop-severity : goal.invariant-loop-severity
-invariant-loop-severity l = (severity : Severity) → severity_code severity < l.severity-index → severity_name severity ≢ l.name
+invariant-loop-severity l = (severity : Severity) → severity_code severity < l.severity-index
+    → severity_name severity ≢ l.name

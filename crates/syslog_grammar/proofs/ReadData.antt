@@ -1,0 +1,192 @@
+-- Structured data that is read element by element, beside its canonical text.
+use Rattle.std.proofs.Common.{◌≡◌, ℕ, ◌-◌, List, [], ◌∷◌, ◌++◌, length, take, refl, sym, ap, subst, ◌∙◌, arith}
+use Rattle.std.proofs.Common.{inl, Bool}
+use Rattle.std.specs.Prelude.{◌↔◌, ◌&&◌, IsTrue, true, false, Option, Some, None}
+use Rattle.std.proofs.Math.Logic.{∥∥₁_elim}
+use Rattle.std.proofs.lemmas.List.{append-nil, length-append, map-append}
+use Rattle.octet_language.specs.Language.{Each}
+use Rattle.syslog_value.specs.Parts.{ElementParts, IsById}
+use Rattle.syslog_grammar.specs.Canonical.{element_form, structured_data_form}
+use Rattle.syslog_grammar.specs.Forms.{IsForm, ReadsForm, elements_form, ReadsElement, ReadsElements, HasDataForms}
+use Rattle.syslog_grammar.specs.Grammar.{Element, StructuredDataText}
+use Rattle.syslog_grammar.specs.Spans.{EndsStructuredData}
+use Rattle.syslog_grammar.specs.Ids.{IsAbove, IsAtMost, IsRisingFrom, ids_of}
+use Rattle.syslog_grammar.specs.Reescaped.{ElementsOf, StructuredDataOf}
+use Rattle.syslog_grammar.specs.declared.canonical_form.ElementOrder.TheVariants.{ById, AsGiven}
+use Rattle.syslog_grammar.proofs.DataForms.{DataAnswer, none_met, not_above, of_rising, rising_of}
+use Rattle.syslog_grammar.proofs.OneMeaning.{data_same}
+use Rattle.syslog_grammar.proofs.ParamTexts.{element_prefix}
+use Rattle.syslog_grammar.proofs.Props.{by_id_prop, texts_set}
+use Rattle.syslog_grammar.proofs.ReadForms.{more_read, take_append}
+
+-- ---- ids that ascend
+
+-- the last id
+pub last_id : Option (List ℕ) → List (List ℕ) → Option (List ℕ)
+last_id met [] = met
+last_id met (id ∷ ids) = last_id (Some id) ids
+
+last_end : (met : Option (List ℕ)) (ids : List (List ℕ)) (id : List ℕ) → last_id met (ids ++ id ∷ []) ≡ Some id
+unfolding last_id
+last_end met [] id = refl
+last_end met (i ∷ ids) id = last_end (Some i) ids id
+
+rises_end : (met : Option (List ℕ)) (ids : List (List ℕ)) (id : List ℕ) → IsRisingFrom met ids
+    → IsAbove id (last_id met ids) → IsRisingFrom met (ids ++ id ∷ [])
+unfolding last_id
+rises_end met [] id h a = (a, tt)
+rises_end met (i ∷ ids) id h a = (h.0, rises_end (Some i) ids id h.1 a)
+
+rose : (met : Option (List ℕ)) (ids : List (List ℕ)) (id : List ℕ) → IsRisingFrom met (ids ++ id ∷ [])
+    → IsRisingFrom met ids × IsAbove id (last_id met ids)
+unfolding last_id
+rose met [] id h = (tt, h.0)
+rose met (i ∷ ids) id h = let k = rose (Some i) ids id h.1 in ((h.0, k.0), k.1)
+
+-- ---- the loop
+
+pub record ElementsRead (is_form ascends : Bool) (met : Option (List ℕ)) (b rest : List ℕ) : Type 0 where
+  pub read : ReadsForm (Each Element) elements_form is_form b rest
+  pub rising : IsTrue ascends ↔ IsRisingFrom None (ids_of read.value)
+  pub last : last_id None (ids_of read.value) ≡ met
+
+pub first_read : (a : Bool) (id b rest : List ℕ) → ReadsElement a id b rest → ElementsRead a true (Some id) b rest
+unfolding last_id
+first_read a id b rest (r, same) = record {
+  read = record {
+    value = r.value ∷ [];
+    text = r.text;
+    parts = r.parts;
+    is = (r.text, [], sym (append-nil r.text), r.is, refl);
+    answer = subst (IsForm a r.text) (sym (append-nil (element_form r.value))) r.answer;
+  };
+  rising = (λ u. (tt, tt), λ u. refl);
+  last = ap (λ (i : List ℕ). Some i) same;
+}
+
+rises_both : (a r : Bool) (ids : List (List ℕ)) (id : List ℕ) (met : Option (List ℕ))
+    → (IsTrue a ↔ IsRisingFrom None ids) → last_id None ids ≡ met → (IsTrue r → IsAbove id met)
+    → ((IsTrue r → ⊥) → IsAtMost id met) → IsTrue (a && r) ↔ IsRisingFrom None (ids ++ id ∷ [])
+rises_both true true ids id met rising last above most =
+    (λ u. rises_end None ids id (rising.0 refl) (subst (IsAbove id) (sym last) (above refl)), λ u. refl)
+rises_both true false ids id met rising last above most = (
+  λ u. absurd cc,
+  λ h. absurd (not_above id met (most (λ u. absurd cc))
+      (subst (IsAbove id) last (rose None ids id h).1)),
+)
+rises_both false true ids id met rising last above most = (λ u. absurd cc, λ h. rising.1 (rose None ids id h).0)
+rises_both false false ids id met rising last above most = (λ u. absurd cc, λ h. rising.1 (rose None ids id h).0)
+
+pub next_read : (a c ascends r : Bool) (id b rest after : List ℕ) (met : Option (List ℕ)) → (IsTrue r → IsAbove id met)
+    → ((IsTrue r → ⊥) → IsAtMost id met) → ReadsElement c id rest after → ElementsRead a ascends met b rest
+    → ElementsRead (a && c) (ascends && r) (Some id) b after
+unfolding more_read
+next_read a c ascends r id b rest after met above most (s, same) h =
+    let ids : ids_of (h.read.value ++ s.value ∷ []) ≡ ids_of h.read.value ++ id ∷ [] =
+    map-append (λ (e : ElementParts). e.id) h.read.value (s.value ∷ [])
+    ∙ ap (λ (i : List ℕ). ids_of h.read.value ++ i ∷ []) same in
+    record {
+      read = more_read Element element_form a c b rest after h.read s;
+      rising = subst (λ (k : List (List ℕ)). IsTrue (ascends && r) ↔ IsRisingFrom None k) (sym ids)
+          (rises_both ascends r (ids_of h.read.value) id met h.rising h.last above most);
+      last = ap (last_id None) ids ∙ last_end None (ids_of h.read.value) id;
+    }
+
+pub all_read : (a ascends : Bool) (met : Option (List ℕ)) (b rest : List ℕ) → ElementsRead a ascends met b rest
+    → ReadsElements a ascends b rest
+all_read a ascends met b rest h = (h.read, h.rising)
+
+-- ---- the whole
+
+form_iff : (a : Bool) (text form : List ℕ) → IsForm a text form → IsTrue a ↔ (text ≡ form)
+form_iff true text form h = (λ u. h, λ u. refl)
+form_iff false text form h = (λ u. absurd cc, λ e. absurd (omega (arith, ap length e, h)))
+
+by_id_iff : (a : Bool) (es : List ElementParts) → (IsTrue a ↔ IsRisingFrom None (ids_of es)) → IsTrue a ↔ IsById es
+by_id_iff a es h = (λ u. (of_rising None es (h.0 u)).1, λ k. h.1 (rising_of None es (none_met es) k))
+
+one_data : (es fs : List ElementParts) (text : List ℕ) → StructuredDataText es text → StructuredDataText fs text
+    → es ≡ fs
+one_data es fs text h k = (data_same es fs text [] text [] h k tt tt refl).0
+
+-- NILVALUE
+pub nil_forms : (text : List ℕ) → text ≡ 45 ∷ [] → HasDataForms true true text
+nil_forms text e es h =
+    let same : [] ≡ es = one_data [] es text e h in
+    subst (λ (k : List ElementParts). (IsTrue true ↔ (text ≡ structured_data_form k)) × (IsTrue true ↔ IsById k)) same
+    ((λ u. e, λ u. refl), (λ u. tt, λ u. refl))
+
+no_data : (es : List ElementParts) → ¬ (StructuredDataText es [])
+no_data [] h = let i : ◌≡◌ {A = List ℕ} [] (45 ∷ []) = h in absurd cc
+no_data (d ∷ es) (x, y, g, h, k) =
+    let f = element_prefix x (d, h) in
+    let i : ◌≡◌ {A = List ℕ} [] (91 ∷ (f.0 ++ y)) = g ∙ ap (λ (u : List ℕ). u ++ y) f.1 in absurd cc
+
+some_forms : (a ascends : Bool) (es : List ElementParts) (text : List ℕ) → Each Element es text
+    → IsForm a text (elements_form es) → (IsTrue ascends ↔ IsRisingFrom None (ids_of es)) → HasDataForms a ascends text
+some_forms a ascends [] text h f r es k = absurd (no_data es (subst (StructuredDataText es) h k))
+some_forms a ascends (d ∷ ds) text h f r es k =
+    let same : d ∷ ds ≡ es = one_data (d ∷ ds) es text h k in
+    subst (λ (u : List ElementParts). (IsTrue a ↔ (text ≡ structured_data_form u)) × (IsTrue ascends ↔ IsById u)) same
+    (form_iff a text (elements_form (d ∷ ds)) f, by_id_iff ascends (d ∷ ds) r)
+
+pub data_forms : (a ascends : Bool) (b rest text : List ℕ) → ReadsElements a ascends b rest
+    → text ≡ take (length b - length rest) b → HasDataForms a ascends text
+data_forms a ascends b rest text (r, rising) e =
+    let n : length b - length rest ≡ length r.text = omega (arith, ap length r.parts, length-append r.text rest) in
+    let same : text ≡ r.text = e ∙ ap (λ (k : ℕ). take k b) n ∙ ap (take (length r.text)) r.parts
+    ∙ take_append r.text rest in
+    some_forms a ascends r.value text (subst (Each Element r.value) (sym same) r.is)
+    (subst (λ (t : List ℕ). IsForm a t (elements_form r.value)) (sym same) r.answer) rising
+
+pub data_nil : (b behind text : List ℕ) (x : ℕ) → b ≡ x ∷ behind → x ≡ 45 → text ≡ take 1 b → text ≡ 45 ∷ []
+data_nil b behind text x e f t = t ∙ ap (take 1) e ∙ ap (λ (n : ℕ). n ∷ []) f
+
+pub nil_ends : (b behind text : List ℕ) (x : ℕ) → b ≡ x ∷ behind → x ≡ 45 → text ≡ 45 ∷ []
+    → EndsStructuredData b text behind
+nil_ends b behind text x e f t = (e ∙ ap (λ (n : ℕ). n ∷ behind) f ∙ ap (λ (u : List ℕ). u ++ behind) (sym t), inl t)
+
+-- ---- the order that is asked
+
+both_iff : (a b : Bool) (P Q : Type 0) → (IsTrue a ↔ P) → (IsTrue b ↔ Q) → IsTrue (a && b) ↔ (P × Q)
+both_iff true true P Q h k = (λ u. (h.0 refl, k.0 refl), λ p. refl)
+both_iff true false P Q h k = (λ u. absurd cc, λ p. k.1 p.1)
+both_iff false true P Q h k = (λ u. absurd cc, λ p. h.1 p.0)
+both_iff false false P Q h k = (λ u. absurd cc, λ p. h.1 p.0)
+
+pub forms_by_id : (a ascends r : Bool) → r ≡ (a && ascends) → (text : List ℕ) → HasDataForms a ascends text
+    → DataAnswer ById r text
+forms_by_id a ascends r e text h es d =
+    subst (λ (x : Bool). IsTrue x ↔ ((text ≡ structured_data_form es) × IsById es)) (sym e)
+    (both_iff a ascends (text ≡ structured_data_form es) (IsById es) (h es d).0 (h es d).1)
+
+pub forms_any : (a ascends : Bool) (text : List ℕ) → HasDataForms a ascends text → DataAnswer AsGiven a text
+forms_any a ascends text h es d = (λ u. ((h es d).0.0 u, tt), λ p. (h es d).0.1 p.0)
+
+-- ---- what is kept of it
+
+-- canonical as it lies, but for the order
+pub kept_form : (a ascends : Bool) (text : List ℕ) → ∥ HasDataForms a ascends text ∥₁ → a ≡ true
+    → StructuredDataOf text text
+kept_form a ascends text h f es d =
+    ∥∥₁_elim h (texts_set text (structured_data_form es)) (λ k. (k es d).0.0 f)
+
+-- not canonical as it lies, so there are elements
+pub kept_elements : (a ascends : Bool) (text : List ℕ) → ∥ HasDataForms a ascends text ∥₁ → a ≡ false
+    → (b : List ℕ) → ElementsOf text b → StructuredDataOf text b
+kept_elements a ascends text h f b k [] d =
+    absurd (∥∥₁_elim h (λ x y. absurd x) (λ g. let i : a ≡ true = (g [] d).0.1 d in
+    let j : false ≡ true = sym f ∙ i in absurd cc))
+kept_elements a ascends text h f b k (e ∷ es) d = k (e ∷ es) d
+
+-- by id
+pub kept_by_id : (a ascends : Bool) (text : List ℕ) → ∥ HasDataForms a ascends text ∥₁ → ascends ≡ true
+    → (es : List ElementParts) → StructuredDataText es text → IsById es
+kept_by_id a ascends text h f es d = ∥∥₁_elim h (by_id_prop es) (λ k. (k es d).1.0 f)
+
+-- not by id
+pub kept_unordered : (a ascends : Bool) (text : List ℕ) → ∥ HasDataForms a ascends text ∥₁ → ascends ≡ false
+    → (es : List ElementParts) → StructuredDataText es text → ¬ (IsById es)
+kept_unordered a ascends text h f es d by_id =
+    ∥∥₁_elim h (λ x y. absurd x) (λ k. let g : ascends ≡ true = (k es d).1.1 by_id in let i : false ≡ true = sym f ∙ g
+    in absurd cc)
