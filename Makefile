@@ -4,7 +4,7 @@ PREFIX = /usr/local
 DESTDIR =
 PROGRAM = crates/syslogbox
 
-.PHONY: all trials check edits bench install clean
+.PHONY: all trials check edits bench soak install clean
 
 # Proves the program and the crates below it, and builds build/syslogbox.
 all:
@@ -30,6 +30,10 @@ edits:
 # Measures check and convert beside cat and wc.
 bench: all
 	bench/run
+
+# Runs the program on ten million hostile cases beside a second reader; SOAK=--seconds N is shorter.
+soak: all
+	python3 tests/soak.py build/syslogbox $(SOAK)
 
 install: all
 	install -D -m 755 build/syslogbox $(DESTDIR)$(PREFIX)/bin/syslogbox

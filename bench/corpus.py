@@ -4,6 +4,11 @@
 three elements in any order, some of whose values need escapes. Priorities, offsets, fractions, words and
 messages vary as they do in logs; the same number of records gives the same octets each time. No record holds
 LF, so that both streams have the same records.
+
+`hard` has a tenth as many records, of about 750 octets: values full of escapes and of octets beyond ASCII, ids, names
+and words up to their greatest lengths, messages of up to 4,000 octets. `evil` has one record of nearly 65,535 octets for
+5,000 of the others, in turns: thousands of ids in any order, thousands of parameters, values of escapes alone, values of
+characters and escapes in turn, one long text. All are records, and so are their canonical forms.
 """
 from random import Random
 
@@ -86,6 +91,51 @@ class Source:
         return (front + self.message(20, 160)).encode()
 
 
+    def short_of(self, most):
+        """Lengths up to the greatest, short ones more often."""
+        return 1 + int(self.random.random() ** 2 * most)
+
+    def hard_name(self, most):
+        return "".join(self.random.choices(NAMED, k=self.short_of(most)))
+
+    def hard_value(self):
+        return "".join(self.random.choices(PIECES, k=int(self.random.random() * 60)))
+
+    def hard_element(self, n):
+        params = "".join(f' {self.hard_name(32)}="{self.hard_value()}"' for _ in range(int(self.random.random() * 5)))
+        return f"[{self.hard_name(30)}{n}{params}]"
+
+    def hard(self, n):
+        words = " ".join(self.hard_name(most) + "." for most in (254, 47, 127, 31))
+        elements = "".join(self.hard_element(place) for place in range(1 + n % 4))
+        mark = "\ufeff" if n % 2 else ""
+        message = "".join(self.random.choices(TEXT_PIECES, k=1_000 if n % 50 == 0 else n % 61))
+        return f"<{n % 192}>1 {self.time(n)} {words} {elements} {mark}{message}".encode()
+
+    def evil(self, n):
+        front = f"{self.header(n)} "
+        room = 65_500 - len(front)
+        kind = n % 5
+        if kind == 0:
+            ids = [first + second + third for first in LETTERS for second in LETTERS for third in LETTERS[:5]]
+            self.random.shuffle(ids)
+            return (front + "".join(f"[{name}]" for name in ids[:room // 5])).encode()
+        if kind == 1:
+            return (front + "[x" + ' k=""' * (room // 5) + "]").encode()
+        if kind == 2:
+            # a backslash before n is doubled by the canonical form, which has to fit a frame too
+            return (front + '[x k="' + "\\n" * (room // 3) + '"]').encode()
+        if kind == 3:
+            return (front + '[x k="' + "é\\]a\\\"" * (room // 7 - 2) + '"]').encode()
+        return (front + "- \ufeff" + "接aé" * (room // 6 - 1)).encode()
+
+
+LETTERS = "abcdefghijklmnopqrstuvwxyzABCDEFGHIJKLMNOPQRSTUVWXYZ0123456789"
+NAMED = LETTERS + "!#$%&'()*+,-./:;<>?@[\\^_`{|}~"
+PIECES = ['\\"', "\\\\", "\\]", "\\n", "é", "接", "\U0001F600", "a", " ", "="]
+TEXT_PIECES = ["接", "é", "\U0001F600", "word ", "x"]
+
+
 def make(folder, name, count, record):
     """Writes both streams of one corpus; a run that is broken off leaves no half stream behind."""
     counted, lines = folder / f"{name}.counted", folder / f"{name}.lf"
@@ -101,8 +151,11 @@ def make(folder, name, count, record):
 
 
 def corpora(folder, count):
-    """Makes what is not there yet, and gives the names."""
+    """Makes what is not there yet, and gives the names and how many records each has."""
     folder.mkdir(parents=True, exist_ok=True)
-    make(folder, "plain", count, Source(5424).plain)
-    make(folder, "elements", count, Source(6587).structured)
-    return ["plain", "elements"]
+    counts = {"plain": count, "elements": count, "hard": max(1, count // 10), "evil": max(5, count // 5_000)}
+    for (name, many), seed, record in zip(counts.items(), (5424, 6587, 5426, 3164),
+                                          (Source.plain, Source.structured, Source.hard, Source.evil)):
+        source = Source(seed)
+        make(folder, name, many, lambda n: record(source, n))
+    return counts

@@ -26,15 +26,6 @@ class Folder:
         return str(path)
 
 
-def archive_of(records):
-    """The archive of canonical records: each once, none before each instant, then by instant, then by octets."""
-    def place(record):
-        time = record.split(b" ")[1]
-        return b"" if time == b"-" else time, record
-
-    return entries(*sorted(set(records), key=place))
-
-
 def tables(run, results, program, folder):
     def check(name, words, octets, status, output, notes):
         seen = run(program, words, octets)
@@ -162,7 +153,7 @@ def routes(run, results, program, folder, frames):
     random = Random(3164)
     known = [(one, read) for one in frames if not isinstance(read := reference.read(one), bytes)]
     lines = [(one, read) for one, read in known if b"\n" not in one]
-    whole = archive_of([reference.canonical(read) for _, read in lines])
+    whole = reference.archive_text([reference.canonical(read) for _, read in lines])
     stream = b"".join(one + b"\n" for one, _ in lines)
     seen = run(program, ["archive", "--framing", "lf"], stream)
     results.check("an archive of random lines", seen == (0, whole, b""), f"{seen[0]} {len(seen[1])} {len(whole)}")
@@ -173,10 +164,10 @@ def routes(run, results, program, folder, frames):
     archives = []
     for n, part in enumerate(parts):
         seen = run(program, ["archive", "--framing", "counted"], entries(*(one for one, _ in part)))
-        expected = archive_of([reference.canonical(read) for _, read in part])
+        expected = reference.archive_text([reference.canonical(read) for _, read in part])
         results.check(f"a part of random records, {n}", seen == (0, expected, b""), f"{seen[0]} {len(seen[1])}")
         archives.append(seen[1])
-    all_of_them = archive_of([reference.canonical(read) for _, read in known])
+    all_of_them = reference.archive_text([reference.canonical(read) for _, read in known])
     for turn in range(3):
         random.shuffle(archives)
         left = archives[0]

@@ -1,11 +1,13 @@
-"""A second reader of syslog records (RFC 5424, section 6) and of streams (RFC 6587, section 3.4), for tests only and
-independent of the program: what `check` says of octets, their canonical form, and what `show` prints.
+"""A second reader of syslog records (RFC 5424, section 6), of legacy packets (RFC 3164), of streams (RFC 6587, section 3.4)
+and of archives, for tests only and independent of the program: what `check` says of octets, their canonical form, what
+`show` prints, and what `convert`, `archive`, `merge` and `migrate` write and report.
 
 One regular expression decides whether octets are a record, with the calendar and UTF-8 of Python. The offset of a
 fault is the length of the longest prefix that some record begins with.
 """
 import re
 from datetime import date
+from functools import cached_property
 
 NAME = rb'[!#-<>-\\^-~]{1,32}'
 VALUE = rb'(?:[^"\\\]]|\\.)*'
@@ -76,14 +78,19 @@ def timestamp(micros):
 
 
 class Record:
-    """The fields of well-formed octets."""
+    """The fields of well-formed octets, with the elements in the order in which they came."""
 
     def __init__(self, priority, micros, words, elements, message):
         self.priority = priority
         self.micros = micros
         self.words = words
-        self.elements = elements
+        self.came = elements
         self.message = message
+
+    @property
+    def elements(self):
+        """The elements by id."""
+        return sorted(self.came)
 
 
 def raw_elements(data):
@@ -132,8 +139,7 @@ def read(octets):
     again = repeated(seen) if seen.group(7) != b"-" else None
     if again is not None:
         return f"repeated-id {again}".encode()
-    elements = sorted((name, params) for name, _, params in raw_elements(seen.group(7)))
-    elements = [(name, [(param, unescaped(raw)) for param, raw in params]) for name, params in elements]
+    elements = [(name, [(param, unescaped(raw)) for param, raw in params]) for name, _, params in raw_elements(seen.group(7))]
     return Record(int(seen.group(1)), micros, seen.groups()[2:6], elements, (seen.group(8) or b"")[1:])
 
 
@@ -141,10 +147,19 @@ def read(octets):
 
 def canonical(record):
     """The canonical octets."""
+    return written(record, record.elements)
+
+
+def canonical_unsorted(record):
+    """The canonical octets of before elements were kept by id: they stand in the order in which they came."""
+    return written(record, record.came)
+
+
+def written(record, elements):
     time = b"-" if record.micros is None else timestamp(record.micros)
     data = b"".join(
         b"[%b%b]" % (name, b"".join(b' %b="%b"' % (param, re.sub(rb'(["\\\]])', rb"\\\1", value)) for param, value in params))
-        for name, params in record.elements)
+        for name, params in elements)
     prefix = b"<%d>1 %b %b %b" % (record.priority, time, b" ".join(record.words), data or b"-")
     return prefix + b" " + record.message if record.message else prefix
 
@@ -309,6 +324,51 @@ def utf8_offset(octets, begin):
     return at
 
 
+# ---------------------------------------------------------------- legacy packets (RFC 3164, section 4)
+
+MONTHS = [b"Jan", b"Feb", b"Mar", b"Apr", b"May", b"Jun", b"Jul", b"Aug", b"Sep", b"Oct", b"Nov", b"Dec"]
+PRIVAL = rb"<(0|[1-9]\d?|1[0-8]\d|19[01])>"
+NEW_FORM = re.compile(PRIVAL + rb"1 ")
+PACKET = re.compile(PRIVAL + rb"(.*)", re.DOTALL)
+STAMPED = re.compile(rb"(%b) ( [1-9]|\d\d) ([01]\d|2[0-3]):([0-5]\d):([0-5]\d) (.*)" % b"|".join(MONTHS), re.DOTALL)
+HOSTED = re.compile(rb"([!-~]+)(?: (.*))?", re.DOTALL)
+TAGGED = re.compile(rb"([A-Za-z0-9_./-]{1,48})(?:\[([!-\\^-~]{1,128})\])?: ?(.*)", re.DOTALL)
+
+
+def stamped(text, year, ahead):
+    """The instant of a packet's time and what follows it; None and all of the text where it has no time."""
+    seen = STAMPED.fullmatch(text)
+    if seen:
+        month, day = MONTHS.index(seen.group(1)) + 1, int(seen.group(2))
+        if 1 <= day <= days_of(year, month):
+            hour, minute, second = (int(part) for part in seen.groups()[2:5])
+            days = date(year, month, day).toordinal() - EPOCH
+            return (((days * 24 + hour) * 60 + minute - ahead) * 60 + second) * 1_000_000, seen.group(6)
+    return None, text
+
+
+def addressed(text):
+    """The host, the name and the process id of what follows the time, nil where there is none, and the message."""
+    seen = HOSTED.fullmatch(text)
+    if not seen or len(seen.group(1)) > 255:
+        return b"-", b"-", b"-", text
+    host, rest = seen.group(1), seen.group(2) or b""
+    tag = TAGGED.fullmatch(rest)
+    return (host, tag.group(1), tag.group(2) or b"-", tag.group(3)) if tag else (host, b"-", b"-", rest)
+
+
+def legacy(octets, year, ahead):
+    """The record of a frame under a clock, ahead of UTC by so many minutes, or the refusal as `check` prints it."""
+    if NEW_FORM.match(octets):
+        return read(octets)
+    seen = PACKET.fullmatch(octets)
+    micros, rest = stamped(seen.group(2), year, ahead) if seen else (None, octets)
+    host, app, proc, message = addressed(rest) if micros is not None else (b"-", b"-", b"-", rest)
+    if message.startswith(MARK) and not is_utf8(message[3:]):
+        return b"legacy-not-utf8 %d" % utf8_offset(octets, len(octets) - len(message) + 3)
+    return Record(int(seen.group(1)) if seen else 13, micros, (host, app, proc, b"-"), [], message)
+
+
 # ---------------------------------------------------------------- streams
 
 FRAME_MAX = 65_535
@@ -342,24 +402,136 @@ def framed(framing, octets):
     return b"%d %b" % (len(octets), octets) if framing == "counted" else octets + b"\n"
 
 
+def frames_of(octets, framing):
+    """The frames of an input, None for one that is too long, and the line on how it ends, if there is one."""
+    if framing == "datagram":
+        return [octets if len(octets) <= FRAME_MAX else None], None
+    return counted_frames(octets) if framing == "counted" else line_frames(octets)
+
+
+class Answers:
+    """What each command writes and reports on an input: the outcome of each frame is its record, or the line on it."""
+
+    def __init__(self, octets, framing, outcome=read):
+        self.framing = framing
+        frames, stop = frames_of(octets, framing)
+        self.outcomes = [b"too-long" if frame is None else outcome(frame) for frame in frames]
+        self.stop = [stop.encode()] if stop else []
+
+    def refused(self):
+        return [b"%d %b" % (n, one) for n, one in enumerate(self.outcomes, 1) if isinstance(one, bytes)] + self.stop
+
+    def records(self):
+        return [(n, one) for n, one in enumerate(self.outcomes, 1) if not isinstance(one, bytes)]
+
+    @cached_property
+    def forms(self):
+        """The canonical octets of each record, by its number."""
+        return {n: canonical(one) for n, one in self.records()}
+
+    def check(self):
+        lines = [b"%d %b" % (n, one if isinstance(one, bytes) else b"ok") for n, one in enumerate(self.outcomes, 1)]
+        return answer(lines_of(lines + self.stop), b"", self.refused())
+
+    def convert(self, to=None):
+        to = to or self.framing
+        output, lines = [], []
+        for n, one in enumerate(self.outcomes, 1):
+            if isinstance(one, bytes):
+                lines.append(b"%d %b" % (n, one))
+                continue
+            octets = self.forms[n]
+            if to == "datagram":
+                output.append(octets)
+            elif to == "lf" and b"\n" in octets:
+                lines.append(b"%d has-lf" % n)
+            elif len(octets) > FRAME_MAX:
+                lines.append(b"%d canonical-too-long" % n)
+            else:
+                output.append(framed(to, octets))
+        lines += self.stop
+        return answer(b"".join(output), lines_of(lines), lines)
+
+    def show(self):
+        return answer(b"".join(show(n, one) for n, one in self.records()), lines_of(self.refused()), self.refused())
+
+    def archive(self):
+        return answer(archive_text(self.forms.values()), lines_of(self.refused()), self.refused())
+
+
+def lines_of(lines):
+    return b"".join(line + b"\n" for line in lines)
+
+
+def answer(output, notes, refused):
+    """Status, output and notes."""
+    return int(bool(refused)), output, notes
+
+
 def run_of(octets, framing, to):
     """The output of `check`, and the output and the notes of `convert`."""
-    frames, stop = counted_frames(octets) if framing == "counted" else line_frames(octets)
-    checked, output, notes = [], [], []
-    for n, frame in enumerate(frames, 1):
-        one = b"too-long" if frame is None else read(frame)
-        checked.append(b"%d %b" % (n, one if isinstance(one, bytes) else b"ok"))
-        if isinstance(one, bytes):
-            notes.append(checked[-1])
-            continue
-        octets = canonical(one)
-        if to == "lf" and b"\n" in octets:
-            notes.append(b"%d has-lf" % n)
-        elif len(octets) > FRAME_MAX:
-            notes.append(b"%d canonical-too-long" % n)
-        else:
-            output.append(framed(to, octets))
-    if stop:
-        checked.append(stop.encode())
-        notes.append(stop.encode())
-    return b"".join(line + b"\n" for line in checked), b"".join(output), b"".join(line + b"\n" for line in notes)
+    answers = Answers(octets, framing)
+    return (answers.check()[1], *answers.convert(to)[1:])
+
+
+# ---------------------------------------------------------------- archives
+
+ENTRY_MAX = 2 * FRAME_MAX + 7
+
+
+def place(octets):
+    """Where canonical octets stand in an archive: none before each instant, then by instant, then by octets."""
+    time = octets.split(b" ", 2)[1]
+    return b"" if time == b"-" else time, octets
+
+
+def archive_text(records):
+    """The archive of canonical records."""
+    return b"".join(b"%d %b" % (len(one), one) for one in sorted(set(records), key=place))
+
+
+def archive_read(text, form=canonical):
+    """The records of a text up to its first fault, in the text's order, and the fault, or None."""
+    records, at = [], 0
+    while at < len(text):
+        seen = COUNT.match(text, at)
+        if not seen:
+            return records, f"bad-frame {COUNT_PREFIX.match(text, at).end()}"
+        end = seen.end() + int(seen.group(1))
+        if end - seen.end() > ENTRY_MAX:
+            return records, f"entry-too-long {at}"
+        if end > len(text):
+            return records, f"bad-frame {len(text)}"
+        octets = text[seen.end():end]
+        record = read(octets)
+        if isinstance(record, bytes):
+            return records, f"bad-entry {at} {record.decode()}"
+        if form(record) != octets:
+            return records, f"not-canonical {at}"
+        if records and place(octets) <= place(records[-1]):
+            return records, f"not-ascending {at}"
+        records.append(octets)
+        at = end
+    return records, None
+
+
+def merge(left, right):
+    """What `merge` answers: the union, or the fault that is met first and what stands before it."""
+    fronts, faults = zip(archive_read(left), archive_read(right))
+    last = [place(front[-1]) if front else None for front in fronts]
+    faulty = [side for side in (0, 1) if faults[side]]
+    if not faulty:
+        return 0, archive_text(fronts[0] + fronts[1]), b""
+    # an empty front is below all; of two equal ones the left is met first
+    side = min(faulty, key=lambda side: (last[side] is not None, last[side] or (), side))
+    line = f"{['left', 'right'][side]} {faults[side]}\n".encode()
+    before = [one for front in fronts for one in front if last[side] is not None and place(one) <= last[side]]
+    return 1, archive_text(before), line
+
+
+def migrate(old):
+    """What `migrate` answers."""
+    records, fault = archive_read(old, canonical_unsorted)
+    if fault:
+        return 1, b"", f"old {fault}\n".encode()
+    return 0, archive_text(canonical(read(one)) for one in records), b""

@@ -230,3 +230,100 @@ MIGRATED = [
     ("no octets", b"", 0, b"", b""),
     ("a cut archive", entries(A)[:-1], 1, b"", b"old bad-frame 21\n"),
 ]
+
+LEGACY_2001 = ["--legacy", "2001"]
+STAMP = b"<13>Feb  5 17:32:18 "
+IN_2001 = b"<13>1 2001-02-05T17:32:18.000000Z "
+NIL_13 = b"<13>1 - - - - - -"
+
+# a clock, a packet, and what `convert` writes
+LEGACY_FORMS = [
+    (LEGACY_2001, STAMP + b"h", IN_2001 + b"h - - - -"),
+    (LEGACY_2001, b"<13>Feb 05 17:32:18 - x y", IN_2001 + b"- - - - - x y"),
+    (LEGACY_2001, STAMP[:-1], NIL_13 + b" Feb  5 17:32:18"),
+    (LEGACY_2001, b"<192>hello", NIL_13 + b" <192>hello"),
+    (["--legacy", "2003"], b"<34>Oct 11 22:14:15 mymachine su: 'su root' failed for lonvick on /dev/pts/8",
+     b"<34>1 2003-10-11T22:14:15.000000Z mymachine su - - - 'su root' failed for lonvick on /dev/pts/8"),
+    (["--legacy", "2003"], b"Use the BFG!", NIL_13 + b" Use the BFG!"),
+    (["--legacy", "2003"], b"<13>Feb 29 01:02:03 h t: m", NIL_13 + b" Feb 29 01:02:03 h t: m"),
+    (["--legacy", "2004"], b"<13>Feb 29 01:02:03 h t: m", b"<13>1 2004-02-29T01:02:03.000000Z h t - - - m"),
+    (["--legacy", "2003"], b"", NIL_13),
+    (["--legacy", "2001", "--zone", "W0500"], STAMP + b"10.0.0.99 cron[42]: x",
+     b"<13>1 2001-02-05T22:32:18.000000Z 10.0.0.99 cron 42 - - x"),
+    (["--zone", "E0100", "--legacy", "2001"], b"<13>Jan  1 00:30:00 h t: m", b"<13>1 2000-12-31T23:30:00.000000Z h t - - - m"),
+    (["--legacy=1", "--zone=E2359"], b"<13>Jan  1 00:00:00 h t: m", b"<13>1 0000-12-31T00:01:00.000000Z h t - - - m"),
+    (["--legacy=9998", "--zone=W2359"], b"<13>Dec 31 23:59:59 h t: m", b"<13>1 9999-01-01T23:58:59.000000Z h t - - - m"),
+    (["--legacy", "0" * 40 + "2001"], STAMP + b"h", IN_2001 + b"h - - - -"),
+    # the version without a space behind it, and another number
+    (LEGACY_2001, b"<13>1", NIL_13 + b" 1"),
+    (LEGACY_2001, b"<13>10 x", NIL_13 + b" 10 x"),
+    # a good time with a bad host: a tab, FF, a second space, 256 octets
+    (LEGACY_2001, STAMP + b"a\tb", IN_2001 + b"- - - - - a\tb"),
+    (LEGACY_2001, STAMP + b"\xff t: m", IN_2001 + b"- - - - - \xff t: m"),
+    (LEGACY_2001, STAMP + b" h t: m", IN_2001 + b"- - - - -  h t: m"),
+    (LEGACY_2001, STAMP + b"h" * 256 + b" t: m", IN_2001 + b"- - - - - " + b"h" * 256 + b" t: m"),
+    # there is no day 00
+    (LEGACY_2001, b"<13>Feb 00 17:32:18 h", NIL_13 + b" Feb 00 17:32:18 h"),
+    # the mark makes a text, also without PRI
+    (LEGACY_2001, MARK + b"A", NIL_13 + b" " + MARK + b"A"),
+    # with the front of RFC 5424 a record is read as one
+    (LEGACY_2001, EXAMPLE, b"<165>1 2003-08-24T12:14:15.000003Z 192.0.2.1 myproc 8710 - - %% It's time to make the do-nuts."),
+    # the longest packet, as bare octets
+    (LEGACY_2001, b"a" * 65_535, NIL_13 + b" " + b"a" * 65_535),
+]
+
+PACKETS = STAMP + b"h t: m\n" + A + b"\n<13>1 x\n" + MARK + b"\xff\n" + b"a" * 65_536 + b"\n<13>z\n"
+PACKET_LINES = b"3 syntax timestamp 6\n4 legacy-not-utf8 3\n5 too-long\n"
+T = IN_2001 + b"h t - - - m"
+
+# words, standard input, status, standard output, standard error (None: any text, but some)
+LEGACY = [
+    *[("a legacy packet", ["convert", *clock], packet, 0, form, b"") for clock, packet, form in LEGACY_FORMS],
+    *[("a legacy packet", ["check", *clock], packet, 0, b"1 ok\n", b"") for clock, packet, _ in LEGACY_FORMS],
+    *[("a legacy packet", ["archive", *clock], packet, 0, entries(form), b"") for clock, packet, form in LEGACY_FORMS],
+    ("a text that is no UTF-8", ["check", *LEGACY_2001], MARK + b"A\xff", 1, b"1 legacy-not-utf8 4\n", b""),
+    ("a text that is no UTF-8", ["convert", *LEGACY_2001], MARK + b"A\xff", 1, b"", b"1 legacy-not-utf8 4\n"),
+    ("a text that is no UTF-8", ["show", *LEGACY_2001], MARK + b"A\xff", 1, b"", b"1 legacy-not-utf8 4\n"),
+    ("a text that is no UTF-8", ["archive", *LEGACY_2001], MARK + b"A\xff", 1, b"", b"1 legacy-not-utf8 4\n"),
+    ("a text that ends inside a character", ["check", *LEGACY_2001], b"<13>" + MARK + b"\xe2\x82", 1, b"1 legacy-not-utf8 9\n", b""),
+    ("a faulty record of RFC 5424", ["check", *LEGACY_2001], b"<13>1 x", 1, b"1 syntax timestamp 6\n", b""),
+    ("a packet above the limit", ["check", *LEGACY_2001], b"a" * 65_536, 1, b"1 too-long\n", b""),
+    ("a canonical form too long for a line", ["convert", *LEGACY_2001, "--to", "lf"], b"a" * 65_535, 1, b"", b"1 canonical-too-long\n"),
+    ("lines of both kinds are checked", ["check", *LF, *LEGACY_2001], PACKETS, 1, b"1 ok\n2 ok\n" + PACKET_LINES + b"6 ok\n", b""),
+    ("lines of both kinds are converted", ["convert", *LEGACY_2001, *LF], PACKETS, 1,
+     T + b"\n" + A + b"\n<13>1 - - - - - - z\n", PACKET_LINES),
+    ("lines of both kinds are archived", ["archive", *LF, *LEGACY_2001], PACKETS + T + b"\n", 1,
+     entries(b"<13>1 - - - - - - z", A, T), PACKET_LINES),
+    ("counted packets", ["convert", *COUNTED, *LEGACY_2001, "--to", "lf"], entries(STAMP + b"h t: m", b"x\n", A), 1,
+     T + b"\n" + A + b"\n", b"2 has-lf\n"),
+    ("a bad count", ["check", *COUNTED, *LEGACY_2001], entries(b"x") + b"x", 1, b"1 ok\n2 bad-count 3\n", b""),
+    ("the fields of a packet", ["show", *LEGACY_2001], STAMP + b"h t[1]: m", 0,
+     b"record 1\npriority 13 user notice\ntime 2001-02-05T17:32:18.000000Z\nhost h\napp t\nproc 1\nmsgid -\nmessage any \"m\"\n", b""),
+    ("a zone without a year has no effect", ["convert", "--zone", "W0500"], HELLO, 0, HELLO, b""),
+    ("a zone without a year is no clock", ["check", "--zone", "W0500"], STAMP + b"h", 1, b"1 syntax version 4\n", b""),
+    *[("a zone that is none", ["convert", "--zone", zone], HELLO, 2, b"", None)
+      for zone in ["E2400", "E0060", "e0000", "0000", "E000", "E00000", "+0100", "Z", "W24:00", "E-100", "E+100", "E 100"]],
+    *[("a zone that is none, with a year", [command, *LEGACY_2001, "--zone", zone], HELLO, 2, b"", None)
+      for command in ["check", "convert", "show", "archive"] for zone in ["E2400", "W0060", ""]],
+    *[("a year that is none", [command, f"--legacy={year}"], HELLO, 2, b"", None)
+      for command in ["check", "convert", "show", "archive"]
+      for year in ["9999", "0", "", "+5", "-5", "2001x", " 2001", "67537", "18446744073709553617", "\u0662\u0660\u0660\u0661"]],
+    ("a year without its value", ["check", "--legacy"], HELLO, 2, b"", None),
+    ("a year given twice", ["check", *LEGACY_2001, *LEGACY_2001], HELLO, 2, b"", None),
+    ("a zone given twice", ["check", "--zone", "E0000", "--zone", "E0000"], HELLO, 2, b"", None),
+    ("send has no clock", ["send", *LEGACY_2001, "x"], b"", 2, b"", None),
+    ("merge has no clock", ["merge", *LEGACY_2001, "a", "b"], b"", 2, b"", None),
+    ("migrate has no clock", ["migrate", *LEGACY_2001, "a"], b"", 2, b"", None),
+    ("the version in short", ["-V"], HELLO, 2, b"", None),
+    ("help of collect", ["help", "collect"], HELLO, 2, b"", None),
+]
+
+# words of `collect` that are refused before anything is bound
+NOT_COLLECTED = [
+    [], ["udp"], ["udp", "5140"], ["udp", "5140", "1", "1"], ["tcp", "5140", "1"], ["UDP", "5140", "1"], ["datagram", "5140", "1"],
+    ["udp", "0", "1"], ["udp", "65536", "1"], ["udp", "70676", "1"], ["udp", "+514", "1"], ["udp", "-1", "1"], ["udp", "", "1"],
+    ["udp", "5140", "0"], ["udp", "5140", "1000001"], ["udp", "5140", "4294967297"], ["udp", "5140", "+1"], ["udp", "5140", ""],
+    ["counted", "5140", "0"], ["counted", "5140", "100001"], ["lf", "5140", "100001"], ["lf", "5140", "1x"],
+    ["udp", "5140", "1", "--legacy", "0"], ["udp", "5140", "1", "--legacy", "9999"], ["udp", "5140", "1", "--zone", "E2400"],
+    ["udp", "5140", "1", "--framing", "lf"], ["udp", "5140", "1", "--to", "lf"], ["udp", b"\xff", "1"],
+]

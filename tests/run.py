@@ -19,8 +19,11 @@ sys.dont_write_bytecode = True
 import library
 import reference
 from archives import archives
-from rows import ELEMENTS, EXAMPLE, HELLO, MARK, RECORDS, REFUSED, STREAMS, WORDS
+from collect import collect
+from legacy import legacy
+from rows import ELEMENTS, EXAMPLE, HELLO, LEGACY, MARK, RECORDS, REFUSED, STREAMS, WORDS
 from sending import sending
+from soak import soak
 
 HERE = Path(__file__).resolve().parent
 MANUAL = HERE.parent / "man/syslogbox.1"
@@ -67,8 +70,12 @@ def rows(program, results):
         row(program, results, name, ["check"], octets, 1, b"1 " + line + b"\n", b"")
         for command in ["convert", "show"]:
             row(program, results, name, [command], octets, 1, b"", b"1 " + line + b"\n")
-    for case in WORDS + STREAMS:
+    for case in WORDS + STREAMS + LEGACY:
         row(program, results, *case)
+    for words in ["--version"], ["-V"]:
+        seen = run(program, words)
+        named = seen[:2] == (2, b"") and seen[2].startswith(b"syslogbox ") and b"Usage" not in seen[2]
+        results.check(f"{words[0]} prints name and version on standard error", named, str(seen))
     for length in range(65):
         line = b"1 " + reference.read(EXAMPLE[:length]) + b"\n"
         right = line.endswith(b" %d\n" % length)
@@ -398,9 +405,12 @@ def main():
         many_ids(program, results)
         live(program, results)
         sending(run, results, program, shim, f"{folder}/counts")
+        legacy(run, results, program)
+        collect(run, results, program, shim, f"{folder}/counts", mutations(400))
         trials(trial, results, shim, f"{folder}/counts")
         archives(run, counts, is_refused, results, program, shim, folder, mutations(5_000))
         library.library(run, counts, trial, results, shim, f"{folder}/counts")
+    soak(results, program, cases=20_000)
     print(f"{results.passed} passed, {results.failed} failed")
     sys.exit(1 if results.failed else 0)
 

@@ -1,5 +1,6 @@
 -- What is noted of outcomes is what the frames that they report call for.
-use Rattle.std.proofs.Common.{◌≡◌, ℕ, ◌+◌, ◌≤◌, inl, inr, List, [], ◌∷◌, ◌++◌, Bool, true, false, None, length, refl, sym, ap, subst, ◌∙◌, arith}
+use Rattle.std.proofs.Common.{◌≡◌, ℕ, ◌+◌, ◌≤◌, inl, inr, List, [], ◌∷◌, ◌++◌, Bool, true, false, length, refl, sym, ap}
+use Rattle.std.proofs.Common.{subst, ◌∙◌, arith}
 use Rattle.std.specs.Prelude.{if◌then◌else◌}
 use Rattle.std.specs.List.{flat_map}
 use Rattle.std.proofs.lemmas.List.{length-append}
@@ -7,11 +8,13 @@ use Rattle.syslog_frame.specs.Frames.{Frames, framed}
 use Rattle.syslog_frame.specs.declared.framing.Framing.{Framing}
 use Rattle.syslog_frame.proofs.FrameLaws.{some}
 use Rattle.archive_text.specs.Entries.{Entry}
+use Rattle.syslog_legacy.specs.FrameReadings.{Clock}
 use Rattle.syslog_collect.specs.Answers.{HoldsBadCountAt, ReportsBadCount}
 use Rattle.syslog_collect.specs.History.{HoldsBadCount, Stream}
 use Rattle.syslog_collect.specs.Outcomes.{AreReported, IsOutcome}
 use Rattle.syslog_collect.specs.declared.outcome.Outcome.{Outcome}
-use Rattle.syslog_collect.specs.declared.outcome.Outcome.TheVariants.{New, Held, Refused, RefusedLegacy, TooLong, BadCount}
+use Rattle.syslog_collect.specs.declared.outcome.Outcome.TheVariants.{New, Held, Refused, RefusedLegacy, TooLong}
+use Rattle.syslog_collect.specs.declared.outcome.Outcome.TheVariants.{BadCount}
 use Rattle.frame_engine.specs.Converted.{noted_line}
 use Rattle.frame_engine.specs.Handling.{Done, Handling, HandledFrom, nothing, then_done}
 use Rattle.frame_engine.specs.declared.line.Line.TheVariants as line
@@ -19,97 +22,145 @@ use Rattle.frame_engine.proofs.HandlingLemmas.{then_assoc}
 use Rattle.archive_engine.specs.Archived.{archive_handling}
 use Rattle.archive_engine.specs.Outcomes.{has_bad_count, is_bad_count, noted_outcome, noted_outcomes}
 
-noted_good : (n : ℕ) (o : Outcome) (os : List Outcome) → is_bad_count o ≡ false → noted_outcomes n (o ∷ os) ≡ then_done (noted_outcome n o) (noted_outcomes (n + 1) os)
-noted_good n o os e = ap (λ (b : Bool). if b then noted_outcome n o else then_done (noted_outcome n o) (noted_outcomes (n + 1) os)) e
+noted_good : (n : ℕ) (o : Outcome) (os : List Outcome) → is_bad_count o ≡ false
+    → noted_outcomes n (o ∷ os) ≡ then_done (noted_outcome n o) (noted_outcomes (n + 1) os)
+noted_good n o os e =
+    ap (λ (b : Bool). if b then noted_outcome n o else then_done (noted_outcome n o) (noted_outcomes (n + 1) os)) e
 
-pub outcome_handled : (n : ℕ) (old new : List Entry) (f : List ℕ) (o : Outcome) → IsOutcome None old new f o → archive_handling n f (noted_outcome n o)
-outcome_handled n old new f New (few, (r, spelled, added)) = inr (inl (few, (r, spelled), refl))
-outcome_handled n old new f Held (few, (r, spelled, added)) = inr (inl (few, (r, spelled), refl))
-outcome_handled n old new f (Refused fault) (few, quiet, bad, none, same) = inr (inr (few, fault, bad, refl))
-outcome_handled n old new f (RefusedLegacy offset) (few, bad, same) = absurd bad
-outcome_handled n old new f TooLong (long, same) = inl (long, refl)
-outcome_handled n old new f (BadCount at) h = absurd h
+pub outcome_handled : (clock : Clock) (n : ℕ) (old new : List Entry) (f : List ℕ) (o : Outcome)
+    → IsOutcome clock old new f o → archive_handling clock n f (noted_outcome n o)
+outcome_handled clock n old new f New (few, (r, spelled, added)) = inr (inl (few, (r, spelled), refl))
+outcome_handled clock n old new f Held (few, (r, spelled, added)) = inr (inl (few, (r, spelled), refl))
+outcome_handled clock n old new f (Refused fault) (few, quiet, bad, none, same) =
+    inr (inr (inl (few, quiet, (fault, bad, refl))))
+outcome_handled clock n old new f (RefusedLegacy offset) (few, bad, same) = inr (inr (inr (few, (offset, bad, refl))))
+outcome_handled clock n old new f TooLong (long, same) = inl (long, refl)
+outcome_handled clock n old new f (BadCount at) h = absurd h
 
 -- frames with an outcome each, in order
-pub record GoodOutcomes (n : ℕ) (fs : List (List ℕ)) (os : List Outcome) : Type 0 where
-  pub handled : HandledFrom archive_handling n fs (noted_outcomes n os)
+pub record GoodOutcomes (clock : Clock) (n : ℕ) (fs : List (List ℕ)) (os : List Outcome) : Type 0 where
+  pub handled : HandledFrom (archive_handling clock) n fs (noted_outcomes n os)
   pub as_many : length os ≡ length fs
 
 -- and a bad count behind them
-pub record BadOutcomes (n : ℕ) (fs : List (List ℕ)) (os : List Outcome) (s : Stream) : Type 0 where
+pub record BadOutcomes (clock : Clock) (n : ℕ) (fs : List (List ℕ)) (os : List Outcome) (s : Stream) : Type 0 where
   pub of_frames : Done
   pub at : ℕ
-  pub handled : HandledFrom archive_handling n fs of_frames
+  pub handled : HandledFrom (archive_handling clock) n fs of_frames
   pub bad : HoldsBadCountAt s at
   pub noted : noted_outcomes n os ≡ then_done of_frames (noted_line (line.BadCount (n + length fs) at))
   pub as_many : length os ≡ length fs + 1
 
 -- one frame more in front
-frame_first : (n : ℕ) (fs here later : List (List ℕ)) (f : List ℕ) (a b : Done) → fs ≡ here ++ later → here ≡ f ∷ [] → archive_handling n f a → HandledFrom archive_handling (n + 1) later b → HandledFrom archive_handling n fs (then_done a b)
-frame_first n fs here later f a b parts one h more =
+frame_first : (clock : Clock) (n : ℕ) (fs here later : List (List ℕ)) (f : List ℕ) (a b : Done) → fs ≡ here ++ later
+    → here ≡ f ∷ [] → archive_handling clock n f a → HandledFrom (archive_handling clock) (n + 1) later b
+    → HandledFrom (archive_handling clock) n fs (then_done a b)
+frame_first clock n fs here later f a b parts one h more =
     let whole : fs ≡ f ∷ later = parts ∙ ap (λ (x : List (List ℕ)). x ++ later) one in
-    subst (λ (x : List (List ℕ)). HandledFrom archive_handling n x (then_done a b)) (sym whole) (a, b, h, more, refl)
+    subst (λ (x : List (List ℕ)). HandledFrom (archive_handling clock) n x (then_done a b)) (sym whole)
+    (a, b, h, more, refl)
 
-one_longer : (fs here later : List (List ℕ)) (f : List ℕ) → fs ≡ here ++ later → here ≡ f ∷ [] → length fs ≡ length later + 1
+one_longer : (fs here later : List (List ℕ)) (f : List ℕ) → fs ≡ here ++ later → here ≡ f ∷ []
+    → length fs ≡ length later + 1
 one_longer fs here later f parts one = omega (arith, ap length parts, ap length one, length-append here later)
 
-good_first : (n : ℕ) (old between : List Entry) (fs here later : List (List ℕ)) (f : List ℕ) (o : Outcome) (os : List Outcome) → fs ≡ here ++ later → here ≡ f ∷ [] → IsOutcome None old between f o → is_bad_count o ≡ false
-    → GoodOutcomes (n + 1) later os → GoodOutcomes n fs (o ∷ os)
-good_first n old between fs here later f o os parts one out good more = record {
-  handled = subst (HandledFrom archive_handling n fs) (sym (noted_good n o os good)) (frame_first n fs here later f (noted_outcome n o) (noted_outcomes (n + 1) os) parts one (outcome_handled n old between f o out) more.handled);
+good_first : (clock : Clock) (n : ℕ) (old between : List Entry) (fs here later : List (List ℕ)) (f : List ℕ)
+    (o : Outcome)
+    (os : List Outcome) → fs ≡ here ++ later → here ≡ f ∷ [] → IsOutcome clock old between f o → is_bad_count o ≡ false
+    → GoodOutcomes clock (n + 1) later os → GoodOutcomes clock n fs (o ∷ os)
+good_first clock n old between fs here later f o os parts one out good more = record {
+  handled = subst (HandledFrom (archive_handling clock) n fs) (sym (noted_good n o os good))
+      (frame_first clock n fs here later f (noted_outcome n o) (noted_outcomes (n + 1) os) parts one
+      (outcome_handled clock n old between f o out) more.handled);
   as_many = omega (arith, more.as_many, one_longer fs here later f parts one);
 }
 
-pub good_outcomes : (n : ℕ) (old new : List Entry) (fs : List (List ℕ)) (os : List Outcome) → AreReported None old new fs os → has_bad_count os ≡ false → GoodOutcomes n fs os
-good_outcomes n old new fs [] (e, same) good = record { handled = subst (λ (x : List (List ℕ)). HandledFrom archive_handling n x nothing) (sym e) refl; as_many = sym (ap length e) }
-good_outcomes n old new fs (New ∷ os) (here, later, between, parts, (f, one, out), more) good = good_first n old between fs here later f New os parts one out refl (good_outcomes (n + 1) between new later os more good)
-good_outcomes n old new fs (Held ∷ os) (here, later, between, parts, (f, one, out), more) good = good_first n old between fs here later f Held os parts one out refl (good_outcomes (n + 1) between new later os more good)
-good_outcomes n old new fs (Refused fault ∷ os) (here, later, between, parts, (f, one, out), more) good = good_first n old between fs here later f (Refused fault) os parts one out refl (good_outcomes (n + 1) between new later os more good)
-good_outcomes n old new fs (RefusedLegacy offset ∷ os) (here, later, between, parts, (f, one, out), more) good = good_first n old between fs here later f (RefusedLegacy offset) os parts one out refl (good_outcomes (n + 1) between new later os more good)
-good_outcomes n old new fs (TooLong ∷ os) (here, later, between, parts, (f, one, out), more) good = good_first n old between fs here later f TooLong os parts one out refl (good_outcomes (n + 1) between new later os more good)
-good_outcomes n old new fs (BadCount at ∷ os) h good = absurd cc
+pub good_outcomes : (clock : Clock) (n : ℕ) (old new : List Entry) (fs : List (List ℕ)) (os : List Outcome)
+    → AreReported clock old new fs os → has_bad_count os ≡ false → GoodOutcomes clock n fs os
+good_outcomes clock n old new fs [] (e, same) good =
+    record {
+      handled = subst (λ (x : List (List ℕ)). HandledFrom (archive_handling clock) n x nothing) (sym e) refl;
+      as_many = sym (ap length e);
+    }
+good_outcomes clock n old new fs (New ∷ os) (here, later, between, parts, (f, one, out), more) good =
+    good_first clock n old between fs here later f New os parts one out refl
+    (good_outcomes clock (n + 1) between new later os more good)
+good_outcomes clock n old new fs (Held ∷ os) (here, later, between, parts, (f, one, out), more) good =
+    good_first clock n old between fs here later f Held os parts one out refl
+    (good_outcomes clock (n + 1) between new later os more good)
+good_outcomes clock n old new fs (Refused fault ∷ os) (here, later, between, parts, (f, one, out), more) good =
+    good_first clock n old between fs here later f (Refused fault) os parts one out refl
+    (good_outcomes clock (n + 1) between new later os more good)
+good_outcomes clock n old new fs (RefusedLegacy offset ∷ os) (here, later, between, parts, (f, one, out), more) good =
+    good_first clock n old between fs here later f (RefusedLegacy offset) os parts one out refl
+    (good_outcomes clock (n + 1) between new later os more good)
+good_outcomes clock n old new fs (TooLong ∷ os) (here, later, between, parts, (f, one, out), more) good =
+    good_first clock n old between fs here later f TooLong os parts one out refl
+    (good_outcomes clock (n + 1) between new later os more good)
+good_outcomes clock n old new fs (BadCount at ∷ os) h good = absurd cc
 
-bad_first : (n : ℕ) (old between : List Entry) (fs here later : List (List ℕ)) (f : List ℕ) (o : Outcome) (os : List Outcome) (s : Stream) → fs ≡ here ++ later → here ≡ f ∷ [] → IsOutcome None old between f o → is_bad_count o ≡ false
-    → BadOutcomes (n + 1) later os s → BadOutcomes n fs (o ∷ os) s
-bad_first n old between fs here later f o os s parts one out good more =
+bad_first : (clock : Clock) (n : ℕ) (old between : List Entry) (fs here later : List (List ℕ)) (f : List ℕ)
+    (o : Outcome) (os : List Outcome)
+    (s : Stream) → fs ≡ here ++ later → here ≡ f ∷ [] → IsOutcome clock old between f o → is_bad_count o ≡ false
+    → BadOutcomes clock (n + 1) later os s → BadOutcomes clock n fs (o ∷ os) s
+bad_first clock n old between fs here later f o os s parts one out good more =
     let longer : length fs ≡ length later + 1 = one_longer fs here later f parts one in
     let number : (n + 1) + length later ≡ n + length fs = omega (arith, longer) in
     record {
       of_frames = then_done (noted_outcome n o) more.of_frames;
       at = more.at;
-      handled = frame_first n fs here later f (noted_outcome n o) more.of_frames parts one (outcome_handled n old between f o out) more.handled;
+      handled = frame_first clock n fs here later f (noted_outcome n o) more.of_frames parts one
+          (outcome_handled clock n old between f o out) more.handled;
       bad = more.bad;
       noted =
-          noted_good n o os good ∙ ap (then_done (noted_outcome n o)) more.noted ∙ sym (then_assoc (noted_outcome n o) more.of_frames (noted_line (line.BadCount ((n + 1) + length later) more.at)))
-          ∙ ap (λ (k : ℕ). then_done (then_done (noted_outcome n o) more.of_frames) (noted_line (line.BadCount k more.at))) number;
+          noted_good n o os good ∙ ap (then_done (noted_outcome n o)) more.noted ∙ sym
+          (then_assoc (noted_outcome n o) more.of_frames (noted_line (line.BadCount ((n + 1) + length later) more.at)))
+          ∙ ap
+          (λ (k : ℕ). then_done (then_done (noted_outcome n o) more.of_frames) (noted_line (line.BadCount k more.at)))
+          number;
       as_many = omega (arith, more.as_many, longer);
     }
 
-bad_last : (n at : ℕ) (between new : List Entry) (fs here later : List (List ℕ)) (os : List Outcome) (s : Stream) → fs ≡ here ++ later → here ≡ [] → AreReported None between new later os → HoldsBadCountAt s at → os ≡ [] → BadOutcomes n fs (BadCount at ∷ os) s
-bad_last n at between new fs here later [] s parts none (empty, same) bad e =
+bad_last : (clock : Clock) (n at : ℕ) (between new : List Entry) (fs here later : List (List ℕ)) (os : List Outcome)
+    (s : Stream) → fs ≡ here ++ later → here ≡ [] → AreReported clock between new later os → HoldsBadCountAt s at → os ≡
+    [] → BadOutcomes clock n fs (BadCount at ∷ os) s
+bad_last clock n at between new fs here later [] s parts none (empty, same) bad e =
     let all : fs ≡ [] = parts ∙ ap (λ (x : List (List ℕ)). x ++ later) none ∙ empty in
     let number : n ≡ n + length fs = omega (arith, ap length all) in
     record {
       of_frames = nothing;
       at = at;
-      handled = subst (λ (x : List (List ℕ)). HandledFrom archive_handling n x nothing) (sym all) refl;
+      handled = subst (λ (x : List (List ℕ)). HandledFrom (archive_handling clock) n x nothing) (sym all) refl;
       bad = bad;
       noted = ap (λ (k : ℕ). noted_line (line.BadCount k at)) number;
       as_many = omega (arith, ap length all);
     }
-bad_last n at between new fs here later (o ∷ os) s parts none h bad e = absurd cc
+bad_last clock n at between new fs here later (o ∷ os) s parts none h bad e = absurd cc
 
-pub bad_outcomes : (n : ℕ) (old new : List Entry) (fs : List (List ℕ)) (os : List Outcome) (s : Stream) → AreReported None old new fs os → ReportsBadCount os s → has_bad_count os ≡ true → BadOutcomes n fs os s
-bad_outcomes n old new fs [] s h marks bad = absurd cc
-bad_outcomes n old new fs (New ∷ os) s (here, later, between, parts, (f, one, out), more) marks bad = bad_first n old between fs here later f New os s parts one out refl (bad_outcomes (n + 1) between new later os s more marks bad)
-bad_outcomes n old new fs (Held ∷ os) s (here, later, between, parts, (f, one, out), more) marks bad = bad_first n old between fs here later f Held os s parts one out refl (bad_outcomes (n + 1) between new later os s more marks bad)
-bad_outcomes n old new fs (Refused fault ∷ os) s (here, later, between, parts, (f, one, out), more) marks bad = bad_first n old between fs here later f (Refused fault) os s parts one out refl (bad_outcomes (n + 1) between new later os s more marks bad)
-bad_outcomes n old new fs (RefusedLegacy offset ∷ os) s (here, later, between, parts, (f, one, out), more) marks bad = bad_first n old between fs here later f (RefusedLegacy offset) os s parts one out refl (bad_outcomes (n + 1) between new later os s more marks bad)
-bad_outcomes n old new fs (TooLong ∷ os) s (here, later, between, parts, (f, one, out), more) marks bad = bad_first n old between fs here later f TooLong os s parts one out refl (bad_outcomes (n + 1) between new later os s more marks bad)
-bad_outcomes n old new fs (BadCount at ∷ os) s (here, later, between, parts, (none, same), more) marks bad = bad_last n at between new fs here later os s parts none more marks.0 marks.1
+pub bad_outcomes : (clock : Clock) (n : ℕ) (old new : List Entry) (fs : List (List ℕ)) (os : List Outcome) (s : Stream)
+    → AreReported clock old new fs os → ReportsBadCount os s → has_bad_count os ≡ true → BadOutcomes clock n fs os s
+bad_outcomes clock n old new fs [] s h marks bad = absurd cc
+bad_outcomes clock n old new fs (New ∷ os) s (here, later, between, parts, (f, one, out), more) marks bad =
+    bad_first clock n old between fs here later f New os s parts one out refl
+    (bad_outcomes clock (n + 1) between new later os s more marks bad)
+bad_outcomes clock n old new fs (Held ∷ os) s (here, later, between, parts, (f, one, out), more) marks bad =
+    bad_first clock n old between fs here later f Held os s parts one out refl
+    (bad_outcomes clock (n + 1) between new later os s more marks bad)
+bad_outcomes clock n old new fs (Refused fault ∷ os) s (here, later, between, parts, (f, one, out), more) marks bad =
+    bad_first clock n old between fs here later f (Refused fault) os s parts one out refl
+    (bad_outcomes clock (n + 1) between new later os s more marks bad)
+bad_outcomes clock n old new fs (RefusedLegacy offset ∷ os) s (here, later, between, parts, (f, one, out), more) marks
+    bad = bad_first clock n old between fs here later f (RefusedLegacy offset) os s parts one out refl
+    (bad_outcomes clock (n + 1) between new later os s more marks bad)
+bad_outcomes clock n old new fs (TooLong ∷ os) s (here, later, between, parts, (f, one, out), more) marks bad =
+    bad_first clock n old between fs here later f TooLong os s parts one out refl
+    (bad_outcomes clock (n + 1) between new later os s more marks bad)
+bad_outcomes clock n old new fs (BadCount at ∷ os) s (here, later, between, parts, (none, same), more) marks bad =
+    bad_last clock n at between new fs here later os s parts none more marks.0 marks.1
 
 -- without a bad count among the outcomes the stream is good so far
-pub marks_good : (os : List Outcome) (s : Stream) → ReportsBadCount os s → has_bad_count os ≡ false → ¬ (HoldsBadCount s)
+pub marks_good : (os : List Outcome) (s : Stream) → ReportsBadCount os s → has_bad_count os ≡ false
+    → ¬ (HoldsBadCount s)
 marks_good [] s marks good = marks
 marks_good (New ∷ os) s marks good = marks_good os s marks good
 marks_good (Held ∷ os) s marks good = marks_good os s marks good
@@ -118,28 +169,39 @@ marks_good (RefusedLegacy offset ∷ os) s marks good = marks_good os s marks go
 marks_good (TooLong ∷ os) s marks good = marks_good os s marks good
 marks_good (BadCount at ∷ os) s marks good = absurd cc
 
-pub few_outcomes : (old new : List Entry) (fs : List (List ℕ)) (os : List Outcome) (s : Stream) → AreReported None old new fs os → ReportsBadCount os s → length os ≤ length fs + 1
-few_outcomes old new fs os s h marks = decided (has_bad_count os) refl
+pub few_outcomes : (clock : Clock) (old new : List Entry) (fs : List (List ℕ)) (os : List Outcome) (s : Stream)
+    → AreReported clock old new fs os → ReportsBadCount os s → length os ≤ length fs + 1
+few_outcomes clock old new fs os s h marks = decided (has_bad_count os) refl
   where
     decided : (b : Bool) → has_bad_count os ≡ b → length os ≤ length fs + 1
-    decided true e = omega (arith, (bad_outcomes 0 old new fs os s h marks e).as_many)
-    decided false e = omega (arith, (good_outcomes 0 old new fs os h e).as_many)
+    decided true e = omega (arith, (bad_outcomes clock 0 old new fs os s h marks e).as_many)
+    decided false e = omega (arith, (good_outcomes clock 0 old new fs os h e).as_many)
 
 -- ---- frames
 
 few_framed : (kind : Framing) (fs : List (List ℕ)) → length fs ≤ length (flat_map (framed kind) fs)
 few_framed kind [] = omega arith
-few_framed kind (f ∷ fs) = omega (arith, few_framed kind fs, some kind f, length-append (framed kind f) (flat_map (framed kind) fs))
+few_framed kind (f ∷ fs) =
+    omega (arith, few_framed kind fs, some kind f, length-append (framed kind f) (flat_map (framed kind) fs))
 
 -- no more frames than octets
-pub few_frames : (kind : Framing) (stream : List ℕ) (fs : List (List ℕ)) (rest : List ℕ) → Frames kind stream fs rest → length fs ≤ length stream
-few_frames kind stream fs rest are = omega (arith, ap length are.whole, few_framed kind fs, length-append (flat_map (framed kind) fs) rest)
+pub few_frames : (kind : Framing) (stream : List ℕ) (fs : List (List ℕ)) (rest : List ℕ) → Frames kind stream fs rest
+    → length fs ≤ length stream
+few_frames kind stream fs rest are =
+    omega (arith, ap length are.whole, few_framed kind fs, length-append (flat_map (framed kind) fs) rest)
 
 -- frames behind frames
-pub handled_append : (D : Handling) (n m : ℕ) (fs gs : List (List ℕ)) (a b : Done) → m ≡ n + length fs → HandledFrom D n fs a → HandledFrom D m gs b → HandledFrom D n (fs ++ gs) (then_done a b)
+pub handled_append : (D : Handling) (n m : ℕ) (fs gs : List (List ℕ)) (a b : Done) → m ≡ n + length fs
+    → HandledFrom D n fs a → HandledFrom D m gs b → HandledFrom D n (fs ++ gs) (then_done a b)
 handled_append D n m [] gs a b e h k =
     let same : m ≡ n = omega (arith, e) in
     let front : then_done a b ≡ b = ap (λ (d : Done). then_done d b) h in
     subst (HandledFrom D n gs) (sym front) (subst (λ (i : ℕ). HandledFrom D i gs b) same k)
-handled_append D n m (f ∷ fs) gs a b e (c, d, hc, hd, whole) k =
-    (c, then_done d b, hc, handled_append D (n + 1) m fs gs d b (omega (arith, e)) hd k, ap (λ (x : Done). then_done x b) whole ∙ then_assoc c d b)
+handled_append D n m (f ∷ fs) gs a b e (c, d, hc, hd, whole) k = (
+  c,
+  then_done d b,
+  hc,
+  handled_append D (n + 1) m fs gs d b (omega (arith, e)) hd k,
+  ap
+      (λ (x : Done). then_done x b) whole ∙ then_assoc c d b,
+)

@@ -1,5 +1,6 @@
 -- What the collector of one input heard and holds.
-use Rattle.std.proofs.Common.{◌≡◌, ℕ, ◌+◌, ◌<◌, inl, inr, List, [], ◌∷◌, ◌++◌, Option, None, Some, length, true, false, cond, eqb, refl, sym, ap, subst, ◌∙◌, arith}
+use Rattle.std.proofs.Common.{◌≡◌, ℕ, ◌+◌, ◌<◌, inl, inr, List, [], ◌∷◌, ◌++◌, Option, None, Some, length, true, false}
+use Rattle.std.proofs.Common.{cond, eqb, refl, sym, ap, subst, ◌∙◌, arith}
 use Rattle.std.specs.Prelude.{◌↔◌, Ok, Err}
 use Rattle.std.proofs.lemmas.List.{append-nil}
 use Rattle.octet_language.specs.Language.{Begins}
@@ -14,14 +15,17 @@ use Rattle.archive_text.specs.Entries.{Entry, Has}
 use Rattle.syslog_collect.specs.Answers.{IfUnreleased, IsEnding, ReportsBadCount}
 use Rattle.syslog_collect.specs.Frames.{AreFramesOf, HasFrames, all_of}
 use Rattle.syslog_collect.specs.Headline.{IsSettled}
-use Rattle.syslog_collect.specs.History.{AcceptedEvent, Datagram, History, HoldsBadCount, Opened, Piece, accept, history_of, initial}
+use Rattle.syslog_collect.specs.History.{AcceptedEvent, Datagram, History, HoldsBadCount, Opened, Piece, accept}
+use Rattle.syslog_collect.specs.History.{history_of, initial}
 use Rattle.syslog_collect.specs.Logs.{Grows, IsLogOf, LogsOctets, ready_count, waiting}
 use Rattle.syslog_collect.specs.Outcomes.{AreReported, IsOutcome}
 use Rattle.syslog_legacy.specs.FrameReadings.{Clock}
 use Rattle.syslog_collect.specs.Standing.{AreAt, Stands}
 use Rattle.syslog_collect.specs.declared.connection.Connection.{Connection}
 use Rattle.syslog_collect.specs.declared.fault.CollectFault.{CollectFault}
-use Rattle.syslog_collect.specs.declared.fault.CollectFault.TheVariants.{AlreadyOpen, TooManyOpen, NotOpen, ConnFailed, StreamTooLong, Unreleased, Unterminated, Memory}
+use Rattle.syslog_collect.specs.declared.fault.CollectFault.TheVariants.{AlreadyOpen, TooManyOpen, NotOpen, ConnFailed}
+use Rattle.syslog_collect.specs.declared.fault.CollectFault.TheVariants.{StreamTooLong, Unreleased, Unterminated}
+use Rattle.syslog_collect.specs.declared.fault.CollectFault.TheVariants.{Memory}
 use Rattle.syslog_collect.specs.declared.outcome.Outcome.{Outcome}
 use Rattle.syslog_collect.proofs.Headline.{holds_just}
 use Rattle.syslog_collect.proofs.Steps.{history_after-push}
@@ -35,25 +39,28 @@ use Rattle.frame_engine.specs.declared.line.Line.TheVariants.{Unterminated as Un
 use Rattle.archive_engine.specs.Archived.{AreFramesIn, IsReceivedIn}
 use Rattle.archive_engine.specs.Receiving.{LogsPiece, Receives, StopsAt, heard, opening}
 
--- what holds without a clock holds under a clock that is none
-pub under : (k : Clock) (cs : List Connection) (kept first : List Entry) (es : List AcceptedEvent) → k ≡ None → Stands None cs kept first es → Stands k cs kept first es
-under k cs kept first es none h = subst (λ (x : Clock). Stands x cs kept first es) (sym none) h
-
 -- ---- what was heard
 
-pub receives_datagram : (cs : List Connection) (kept : List Entry) (octets : List ℕ) → Stands None cs kept [] (Datagram octets ∷ []) → IsSettled cs → Receives cs kept input.Datagram octets
-receives_datagram cs kept octets stands settled = record { events = Datagram octets ∷ []; stands = stands; settled = settled; history = refl }
+pub receives_datagram : (clock : Clock) (cs : List Connection) (kept : List Entry) (octets : List ℕ)
+    → Stands clock cs kept [] (Datagram octets ∷ []) → IsSettled cs → Receives clock cs kept input.Datagram octets
+receives_datagram clock cs kept octets stands settled =
+    record { events = Datagram octets ∷ []; stands = stands; settled = settled; history = refl }
 
-pub receives_opening : (cs : List Connection) (kept : List Entry) (kind : Framing) → Stands None cs kept [] (Opened 0 kind ∷ []) → IsSettled cs → Receives cs kept (input.Stream kind) []
-receives_opening cs kept kind stands settled = record { events = Opened 0 kind ∷ []; stands = stands; settled = settled; history = refl }
+pub receives_opening : (clock : Clock) (cs : List Connection) (kept : List Entry) (kind : Framing)
+    → Stands clock cs kept [] (Opened 0 kind ∷ []) → IsSettled cs → Receives clock cs kept (input.Stream kind) []
+receives_opening clock cs kept kind stands settled =
+    record { events = Opened 0 kind ∷ []; stands = stands; settled = settled; history = refl }
 
-pub receives_piece : (cs ds : List Connection) (kept now : List Entry) (kind : Framing) (given octets : List ℕ) → (r : Receives cs kept (input.Stream kind) given)
-    → Stands None ds now [] (r.events ++ Piece 0 octets ∷ []) → IsSettled ds → Receives ds now (input.Stream kind) (given ++ octets)
-receives_piece cs ds kept now kind given octets r stands settled = record {
+pub receives_piece : (clock : Clock) (cs ds : List Connection) (kept now : List Entry) (kind : Framing)
+    (given octets : List ℕ) → (r : Receives clock cs kept (input.Stream kind) given)
+    → Stands clock ds now [] (r.events ++ Piece 0 octets ∷ []) → IsSettled ds
+    → Receives clock ds now (input.Stream kind) (given ++ octets)
+receives_piece clock cs ds kept now kind given octets r stands settled = record {
   events = r.events ++ Piece 0 octets ∷ [];
   stands = stands;
   settled = settled;
-  history = history_after-push initial r.events (Piece 0 octets) ∙ ap (λ (h : History). accept h (Piece 0 octets)) r.history;
+  history = history_after-push initial r.events (Piece 0 octets) ∙ ap
+      (λ (h : History). accept h (Piece 0 octets)) r.history;
 }
 
 -- ---- its outcomes
@@ -70,11 +77,17 @@ none_waits (c ∷ cs) settled d = elim (eqb c.number d) as (λ b. cond b (ready_
   | false ↦ none_waits cs settled.1 d
 ]
 
-logs_octets : (kind : Framing) (given octets : List ℕ) (old new : List Entry) (os : List Outcome) (waited : ℕ) → waited ≡ 0 → LogsOctets None (opening kind given) octets waited 0 old new os → LogsPiece kind given octets old new os
-logs_octets kind given octets old new os waited zero l =
+logs_octets : (clock : Clock) (kind : Framing) (given octets : List ℕ) (old new : List Entry) (os : List Outcome)
+    (waited : ℕ) → waited ≡ 0 → LogsOctets clock
+    (opening kind given) octets waited 0 old new os → LogsPiece clock kind given octets old new os
+logs_octets clock kind given octets old new os waited zero l =
     let none : l.waiting_before ≡ [] = none_of l.waiting_before (l.count_before ∙ zero) in
-    let all : l.handled ++ l.waiting_before ≡ l.handled = ap (λ (x : List (List ℕ)). l.handled ++ x) none ∙ append-nil l.handled in
-    let behind : l.logged ++ l.waiting_now ≡ l.logged = ap (λ (x : List (List ℕ)). l.logged ++ x) (none_of l.waiting_now l.count_now) ∙ append-nil l.logged in
+    let all : l.handled ++ l.waiting_before ≡ l.handled =
+    ap (λ (x : List (List ℕ)). l.handled ++ x) none ∙ append-nil l.handled
+    in
+    let behind : l.logged ++ l.waiting_now ≡ l.logged =
+    ap (λ (x : List (List ℕ)). l.logged ++ x) (none_of l.waiting_now l.count_now) ∙ append-nil l.logged
+    in
     let (rest_before, frames_before) = l.before in
     let (rest, frames_now) = l.now in
     record {
@@ -83,45 +96,63 @@ logs_octets kind given octets old new os waited zero l =
       rest_before = rest_before;
       rest = rest;
       frames_before = subst (λ (fs : List (List ℕ)). Frames kind given fs rest_before) all frames_before;
-      frames_are = subst (λ (fs : List (List ℕ)). Frames kind (given ++ octets) fs rest) (ap (λ (fs : List (List ℕ)). l.handled ++ fs) behind) frames_now;
+      frames_are = subst (λ (fs : List (List ℕ)). Frames kind (given ++ octets) fs rest)
+          (ap (λ (fs : List (List ℕ)). l.handled ++ fs) behind) frames_now;
       reported = l.outcomes;
       marks = l.bad_count;
     }
 
-logs_here : (kind : Framing) (given octets : List ℕ) (w v : ℕ → ℕ) (old new : List Entry) (os : List Outcome) → w 0 ≡ 0 → IsLogOf None (heard (input.Stream kind) given) w (Piece 0 octets ∷ []) v old new os → LogsPiece kind given octets old new os
-logs_here kind given octets w v old new os zero (here, later, between, parts, logged, (none, same, waits)) =
+logs_here : (clock : Clock) (kind : Framing) (given octets : List ℕ) (w v : ℕ → ℕ) (old new : List Entry)
+    (os : List Outcome) → w 0 ≡ 0 → IsLogOf clock (heard (input.Stream kind) given) w
+    (Piece 0 octets ∷ []) v old new os → LogsPiece clock kind given octets old new os
+logs_here clock kind given octets w v old new os zero (here, later, between, parts, logged, (none, same, waits)) =
     let all : here ≡ os = sym (parts ∙ ap (λ (xs : List Outcome). here ++ xs) none ∙ append-nil here) in
-    subst (λ (es : List Entry). LogsPiece kind given octets old es os) (sym same) (subst (LogsPiece kind given octets old between) all (logs_octets kind given octets old between here (w 0) zero logged))
+    subst (λ (es : List Entry). LogsPiece clock kind given octets old es os) (sym same) (subst
+    (LogsPiece clock kind given octets old between) all (logs_octets clock kind given octets old between here
+    (w 0) zero logged))
 
-pub logs_piece : (h : History) (kind : Framing) (given octets : List ℕ) (w v : ℕ → ℕ) (old new : List Entry) (os : List Outcome) → h ≡ heard (input.Stream kind) given
-    → w 0 ≡ 0 → IsLogOf None h w (Piece 0 octets ∷ []) v old new os → LogsPiece kind given octets old new os
-logs_piece h kind given octets w v old new os is zero logged =
-    logs_here kind given octets w v old new os zero (subst (λ (x : History). IsLogOf None x w (Piece 0 octets ∷ []) v old new os) is logged)
+pub logs_piece : (clock : Clock) (h : History) (kind : Framing) (given octets : List ℕ) (w v : ℕ → ℕ)
+    (old new : List Entry) (os : List Outcome) → h ≡ heard (input.Stream kind) given
+    → w 0 ≡ 0 → IsLogOf clock h w (Piece 0 octets ∷ []) v old new os → LogsPiece clock kind given octets old new os
+logs_piece clock h kind given octets w v old new os is zero logged =
+    logs_here clock kind given octets w v old new os zero
+    (subst (λ (x : History). IsLogOf clock x w (Piece 0 octets ∷ []) v old new os) is logged)
 
 -- the log of a run that began with none
-pub log_only : (h : History) (w v : ℕ → ℕ) (es : List AcceptedEvent) (a b : List Entry) (l m : List Outcome) → l ≡ [] → Grows (IsLogOf None h w es v a b) l m → IsLogOf None h w es v a b m
-log_only h w v es a b l m none (os, grown, logged) =
+pub log_only : (clock : Clock) (h : History) (w v : ℕ → ℕ) (es : List AcceptedEvent) (a b : List Entry)
+    (l m : List Outcome) → l ≡ [] → Grows (IsLogOf clock h w es v a b) l m → IsLogOf clock h w es v a b m
+log_only clock h w v es a b l m none (os, grown, logged) =
     let all : os ≡ m = sym (grown ∙ ap (λ (xs : List Outcome). xs ++ os) none) in
-    subst (IsLogOf None h w es v a b) all logged
+    subst (IsLogOf clock h w es v a b) all logged
 
-pub logs_datagram : (octets : List ℕ) (w v : ℕ → ℕ) (old new : List Entry) (os : List Outcome) → IsLogOf None initial w (Datagram octets ∷ []) v old new os → (x : Outcome) × (os ≡ x ∷ []) × IsOutcome None old new octets x
-logs_datagram octets w v old new os (here, later, between, parts, (x, one, out), (none, same, waits)) =
-    (x, parts ∙ ap (λ (xs : List Outcome). here ++ xs) none ∙ append-nil here ∙ one, subst (λ (es : List Entry). IsOutcome None old es octets x) (sym same) out)
+pub logs_datagram : (clock : Clock) (octets : List ℕ) (w v : ℕ → ℕ) (old new : List Entry) (os : List Outcome)
+    → IsLogOf clock initial w (Datagram octets ∷ []) v old new os
+    → (x : Outcome) × (os ≡ x ∷ []) × IsOutcome clock old new octets x
+logs_datagram clock octets w v old new os (here, later, between, parts, (x, one, out), (none, same, waits)) = (
+  x,
+  parts ∙ ap (λ (xs : List Outcome). here ++ xs) none ∙ append-nil here ∙ one,
+  subst
+      (λ (es : List Entry). IsOutcome clock old es octets x) (sym same) out,
+)
 
 -- ---- the received set
 
-frames_of_datagram : (octets : List ℕ) (frames : List (List ℕ)) → HasFrames (heard input.Datagram octets) frames → AreFramesIn input.Datagram octets frames
+frames_of_datagram : (octets : List ℕ) (frames : List (List ℕ)) → HasFrames (heard input.Datagram octets) frames
+    → AreFramesIn input.Datagram octets frames
 frames_of_datagram octets frames h = of_none h.open_frames h.ended_frames h.open_are h.ended_are h.all
   where
-    of_none : (fs gs : List (List (List ℕ))) → AreFramesOf [] fs → AreFramesOf [] gs → frames ≡ all_of fs ++ (all_of gs ++ octets ∷ []) → frames ≡ octets ∷ []
+    of_none : (fs gs : List (List (List ℕ))) → AreFramesOf [] fs → AreFramesOf [] gs
+        → frames ≡ all_of fs ++ (all_of gs ++ octets ∷ []) → frames ≡ octets ∷ []
     of_none [] [] a b e = e
     of_none [] (g ∷ gs) a b e = absurd b
     of_none (f ∷ fs) gs a b e = absurd a
 
-frames_of_stream : (kind : Framing) (octets : List ℕ) (frames : List (List ℕ)) → HasFrames (heard (input.Stream kind) octets) frames → AreFramesIn (input.Stream kind) octets frames
+frames_of_stream : (kind : Framing) (octets : List ℕ) (frames : List (List ℕ))
+    → HasFrames (heard (input.Stream kind) octets) frames → AreFramesIn (input.Stream kind) octets frames
 frames_of_stream kind octets frames h = of_one h.open_frames h.ended_frames h.open_are h.ended_are h.all
   where
-    of_one : (fs gs : List (List (List ℕ))) → AreFramesOf (opening kind octets ∷ []) fs → AreFramesOf [] gs → frames ≡ all_of fs ++ (all_of gs ++ []) → (rest : List ℕ) × Frames kind octets frames rest
+    of_one : (fs gs : List (List (List ℕ))) → AreFramesOf (opening kind octets ∷ []) fs → AreFramesOf [] gs
+        → frames ≡ all_of fs ++ (all_of gs ++ []) → (rest : List ℕ) × Frames kind octets frames rest
     of_one [] gs a b e = absurd a
     of_one (f ∷ []) [] a b e =
         let same : frames ≡ f = e ∙ append-nil (f ++ []) ∙ append-nil f in
@@ -129,12 +160,15 @@ frames_of_stream kind octets frames h = of_one h.open_frames h.ended_frames h.op
     of_one (f ∷ []) (g ∷ gs) a b e = absurd b
     of_one (f ∷ (k ∷ fs)) gs a b e = absurd a.1
 
-frames_heard : (framing : InputFraming) (octets : List ℕ) (frames : List (List ℕ)) → HasFrames (heard framing octets) frames → AreFramesIn framing octets frames
+frames_heard : (framing : InputFraming) (octets : List ℕ) (frames : List (List ℕ))
+    → HasFrames (heard framing octets) frames → AreFramesIn framing octets frames
 frames_heard input.Datagram octets frames h = frames_of_datagram octets frames h
 frames_heard (input.Stream kind) octets frames h = frames_of_stream kind octets frames h
 
-heard_frames : (framing : InputFraming) (octets : List ℕ) (frames : List (List ℕ)) → AreFramesIn framing octets frames → HasFrames (heard framing octets) frames
-heard_frames input.Datagram octets frames e = record { open_frames = []; ended_frames = []; open_are = tt; ended_are = tt; all = e }
+heard_frames : (framing : InputFraming) (octets : List ℕ) (frames : List (List ℕ)) → AreFramesIn framing octets frames
+    → HasFrames (heard framing octets) frames
+heard_frames input.Datagram octets frames e =
+    record { open_frames = []; ended_frames = []; open_are = tt; ended_are = tt; all = e }
 heard_frames (input.Stream kind) octets frames (rest, are) = record {
   open_frames = frames ∷ [];
   ended_frames = [];
@@ -144,11 +178,20 @@ heard_frames (input.Stream kind) octets frames (rest, are) = record {
 }
 
 -- the entries that are held are those of the received set
-pub holds_heard : (cs : List Connection) (kept : List Entry) (framing : InputFraming) (octets : List ℕ) → Receives cs kept framing octets → (x : Entry) → Has kept x ↔ IsReceivedIn framing octets x
-holds_heard cs kept framing octets r x =
-    let held = holds_just None cs kept r.events r.stands r.settled x in (
-      λ has. let (frames, are, spelled) = held.0 has in (frames, frames_heard framing octets frames (subst (λ (h : History). HasFrames h frames) r.history are), spelled),
-      λ h. held.1 (h.0, subst (λ (k : History). HasFrames k h.0) (sym r.history) (heard_frames framing octets h.0 h.1), h.2),
+pub holds_heard : (clock : Clock) (cs : List Connection) (kept : List Entry) (framing : InputFraming) (octets : List ℕ)
+    → Receives clock cs kept framing octets → (x : Entry) → Has kept x ↔ IsReceivedIn clock framing octets x
+holds_heard clock cs kept framing octets r x =
+    let held = holds_just clock cs kept r.events r.stands r.settled x in (
+      λ has. let (frames, are, spelled) = held.0 has in (
+        frames,
+        frames_heard framing octets frames (subst (λ (h : History). HasFrames h frames) r.history are),
+        spelled,
+      ),
+      λ h. held.1 (
+        h.0,
+        subst (λ (k : History). HasFrames k h.0) (sym r.history) (heard_frames framing octets h.0 h.1),
+        h.2,
+      ),
     )
 
 -- ---- the end of a stream
@@ -168,7 +211,8 @@ good_start kind (frames, rest, at, bad) =
     let same = unique_frames kind [] [] frames [] rest (concatenation kind [] tt) bad.frames_are in
     bad.none (subst (Begins (Whole kind)) same.1 (begins_nothing kind))
 
-begins_at : (cs : List Connection) (kind : Framing) (given : List ℕ) (handled : List (List (List ℕ))) → AreAt cs (opening kind given ∷ []) handled → IsSettled cs → ¬ (HoldsBadCount (opening kind given))
+begins_at : (cs : List Connection) (kind : Framing) (given : List ℕ) (handled : List (List (List ℕ)))
+    → AreAt cs (opening kind given ∷ []) handled → IsSettled cs → ¬ (HoldsBadCount (opening kind given))
     → (frames : List (List ℕ)) (rest : List ℕ) → Frames kind given frames rest → Begins (Whole kind) rest
 begins_at [] kind given [] at settled good frames rest are = absurd at
 begins_at [] kind given (f ∷ fs) at settled good frames rest are = absurd at
@@ -178,42 +222,65 @@ begins_at (c ∷ cs) kind given (f ∷ fs) at settled good frames rest are = eli
       let none = none_unless_frame FRAME_MAX c.scanner kind (0 + length given) here.rest settled.0 here.reads.stands in
       let whole = frames_read FRAME_MAX c.scanner kind 0 given f here.rest here.reads none in
       let same = unique_frames kind given f frames here.rest rest whole are in
-      let reading = reading_standing FRAME_MAX c.scanner kind (0 + length given) here.rest settled.0 here.good here.reads.stands in
-      subst (Begins (Whole kind)) same.1 (begins_reading FRAME_MAX c.scanner kind (0 + length given) here.rest (open_reading c.scanner reading) here.reads.stands)
+      let reading =
+      reading_standing FRAME_MAX c.scanner kind (0 + length given) here.rest settled.0 here.good here.reads.stands
+      in
+      subst (Begins (Whole kind)) same.1 (begins_reading FRAME_MAX c.scanner kind (0 + length given) here.rest
+      (open_reading c.scanner reading) here.reads.stands)
   | inr broken ↦ absurd (good (f, broken.rest, broken.offset, broken.bad))
 ]
 
-pub begins_rest : (cs : List Connection) (kept : List Entry) (kind : Framing) (given : List ℕ) → Receives cs kept (input.Stream kind) given → ¬ (HoldsBadCount (opening kind given))
+pub begins_rest : (clock : Clock) (cs : List Connection) (kept : List Entry) (kind : Framing) (given : List ℕ)
+    → Receives clock cs kept (input.Stream kind) given → ¬ (HoldsBadCount (opening kind given))
     → (frames : List (List ℕ)) (rest : List ℕ) → Frames kind given frames rest → Begins (Whole kind) rest
-begins_rest cs kept kind given r good =
+begins_rest clock cs kept kind given r good =
     let at = r.stands.stands_at in
-    begins_at cs kind given at.handled (subst (λ (h : History). AreAt cs h.streams at.handled) r.history at.follow) r.settled good
+    begins_at cs kind given at.handled
+    (subst (λ (h : History). AreAt cs h.streams at.handled) r.history at.follow) r.settled good
 
-pub stops_whole : (U : Type 0) (kind : Framing) (given : List ℕ) (u : U) (h : History) → h ≡ heard (input.Stream kind) given → IsEnding 0 (Ok u) h → ¬ (HoldsBadCount (opening kind given)) → StopsAt kind given None
+pub stops_whole : (U : Type 0) (kind : Framing) (given : List ℕ) (u : U) (h : History)
+    → h ≡ heard (input.Stream kind) given → IsEnding 0 (Ok u) h → ¬ (HoldsBadCount (opening kind given))
+    → StopsAt kind given None
 stops_whole U kind given u h is ending good =
     let here = subst (λ (k : History). IsEnding {U = U} 0 (Ok u) k) is ending in
     elim here [ inl bad ↦ absurd (good bad) | inr whole ↦ whole ]
 
-pub stops_inside : (U : Type 0) (cs : List Connection) (kept : List Entry) (kind : Framing) (given : List ℕ) (start : ℕ) → (r : Receives cs kept (input.Stream kind) given) → IsEnding {U = U} 0 (Err (Unterminated start)) (history_of r.events)
+pub stops_inside : (clock : Clock) (U : Type 0) (cs : List Connection) (kept : List Entry) (kind : Framing)
+    (given : List ℕ) (start : ℕ) → (r : Receives clock cs kept (input.Stream kind) given)
+    → IsEnding {U = U} 0 (Err (Unterminated start)) (history_of r.events)
     → ¬ (HoldsBadCount (opening kind given)) → StopsAt kind given (Some start)
-stops_inside U cs kept kind given start r ending good =
+stops_inside clock U cs kept kind given start r ending good =
     let here = subst (λ (k : History). IsEnding {U = U} 0 (Err (Unterminated start)) k) r.history ending in
     let (frames, rest, are, some, place) = here.1 in
-    (frames, rest, are, some, begins_rest cs kept kind given r good frames rest are, place)
+    (frames, rest, are, some, begins_rest clock cs kept kind given r good frames rest are, place)
 
 -- which is what is reported of it
-pub stop_reported : (kind : Framing) (given : List ℕ) (frames : List (List ℕ)) (rest : List ℕ) (stop : Option ℕ) → StopsAt kind given stop → Frames kind given frames rest → ReportsEnd noted_line kind given frames rest (stop_done stop)
-stop_reported kind given frames rest None (fs, whole) are = inl ((unique_frames kind given frames fs rest [] are whole).1, refl)
+pub stop_reported : (kind : Framing) (given : List ℕ) (frames : List (List ℕ)) (rest : List ℕ) (stop : Option ℕ)
+    → StopsAt kind given stop → Frames kind given frames rest
+    → ReportsEnd noted_line kind given frames rest (stop_done stop)
+stop_reported kind given frames rest None (fs, whole) are =
+    inl ((unique_frames kind given frames fs rest [] are whole).1, refl)
 stop_reported kind given frames rest (Some start) (fs, q, inside, some, begins, place) are =
     let same : q ≡ rest = (unique_frames kind given fs frames q rest inside are).1 in
-    inr (inl (start, subst (λ (x : List ℕ). 0 < length x) same some, subst (Begins (Whole kind)) same begins, omega (arith, place, ap length same), refl))
+    inr (inl (
+      start,
+      subst (λ (x : List ℕ). 0 < length x) same some,
+      subst (Begins (Whole kind)) same begins,
+      omega
+          (arith, place, ap length same),
+      refl,
+    ))
 
 -- a stream that is open and of which no frame is ready ends so or so
-pub ends_so : (U : Type 0) (h : History) (kind : Framing) (given : List ℕ) (fault : CollectFault) (settled : Type 0) → h ≡ heard (input.Stream kind) given → IsEnding {U = U} 0 (Err fault) h → IfUnreleased {U = U} (Err fault) (¬ settled) → settled
+pub ends_so : (U : Type 0) (h : History) (kind : Framing) (given : List ℕ) (fault : CollectFault) (settled : Type 0)
+    → h ≡ heard (input.Stream kind) given → IsEnding {U = U} 0 (Err fault) h
+    → IfUnreleased {U = U} (Err fault) (¬ settled) → settled
     → ((start : ℕ) → fault ≡ Unterminated start → ⊥) → ⊥
-ends_so U h kind given fault settled is ending unreleased quiet other = of_fault fault (subst (λ (k : History). IsEnding {U = U} 0 (Err fault) k) is ending) unreleased other
+ends_so U h kind given fault settled is ending unreleased quiet other =
+    of_fault fault (subst (λ (k : History). IsEnding {U = U} 0 (Err fault) k) is ending) unreleased other
   where
-    of_fault : (f : CollectFault) → IsEnding {U = U} 0 (Err f) (heard (input.Stream kind) given) → IfUnreleased {U = U} (Err f) (¬ settled) → ((start : ℕ) → f ≡ Unterminated start → ⊥) → ⊥
+    of_fault : (f : CollectFault) → IsEnding {U = U} 0 (Err f) (heard (input.Stream kind) given)
+        → IfUnreleased {U = U} (Err f) (¬ settled) → ((start : ℕ) → f ≡ Unterminated start → ⊥) → ⊥
     of_fault AlreadyOpen e u o = e
     of_fault TooManyOpen e u o = e
     of_fault NotOpen e u o = absurd cc

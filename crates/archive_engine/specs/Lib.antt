@@ -4,3 +4,4 @@ pub mod Merged
 pub mod Migrated
 pub mod Outcomes
 pub mod Receiving
+pub mod Told

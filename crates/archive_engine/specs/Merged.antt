@@ -1,11 +1,18 @@
 -- What comes of joining two archives.
-use Rattle.std.specs.Prelude.{◌≡◌, ℕ, List}
+use Rattle.std.specs.Prelude.{◌≡◌, ℕ, ◌⊎◌, List, ◌++◌, Option, codes, true}
+use Rattle.std.specs.Io.KnownBytes.{Appends}
 use Rattle.archive_text.specs.Entries.{Entry}
+use Rattle.archive_text.specs.Faults.{IsArchiveFault}
 use Rattle.archive_text.specs.Text.{IsArchive, text_of}
+use Rattle.archive_text.specs.declared.fault.ArchiveFault.{ArchiveFault}
 use Rattle.archive_text.specs.declared.limits.TheConstants.{ENTRY_MAX}
-use Rattle.archive_streams.specs.Joining.{IsUnion}
+use Rattle.archive_streams.specs.Joining.{IsFirstAbove, IsFirstWithin, IsPrefixOfUnion, IsUnion, IsUpToFirst}
+use Rattle.archive_streams.specs.declared.fault.MergeFault.{MergeFault}
+use Rattle.archive_streams.specs.declared.fault.MergeFault.TheVariants.{Left, Right, Read, Endless, Write, Memory}
+use Rattle.archive_streams.specs.declared.fault.Side.TheVariants.{Left as side_Left, Right as side_Right}
 use Rattle.frame_engine.specs.Converted.{goes_out}
 use Rattle.frame_engine.specs.Handling.{Done}
+use Rattle.archive_engine.specs.FaultLines.{fault_line}
 
 -- both texts are archives, and the text of their union goes out
 pub record IsMerged (x y : List ℕ) (d : Done) : Type 0 where
@@ -18,3 +25,72 @@ pub record IsMerged (x y : List ℕ) (d : Done) : Type 0 where
   pub right_text : y ≡ text_of ys
   pub union : IsUnion xs ys zs
   pub output : d ≡ goes_out (text_of zs)
+
+-- a refusal whose line is noted, behind what was written
+abbrev pub refused_behind : List ℕ → List ℕ → ArchiveFault → Done
+refused_behind written name fault = record { refused = true; output = written; notes = fault_line name fault }
+
+-- `x` is no archive, and its fault is noted under this name. Of the members of its front and of the front of what
+-- was read of `y`, those that are not above the greatest of its front go out. Where what was read of `y` is no
+-- archive too, the fault of `x` comes first
+pub record IsRefused (comes_first : List ℕ → List ℕ → Type 0) (name x y : List ℕ) (d : Done) : Type 0 where
+  pub fault : ArchiveFault
+  pub read : List ℕ
+  pub unread : List ℕ
+  pub written : List ℕ
+  pub fault_is : IsArchiveFault ENTRY_MAX x fault
+  pub parts : y ≡ read ++ unread
+  pub up_to_front : IsUpToFirst x read written
+  pub order : (too : ArchiveFault) → IsArchiveFault ENTRY_MAX read too → comes_first x read
+  pub whole : d ≡ refused_behind written name fault
+
+-- the fault of the right comes first where the left has an entry above all of the right's front
+abbrev pub IsSecondAbove : List ℕ → List ℕ → Type 0
+IsSecondAbove y x = IsFirstAbove x y
+
+-- the union goes out; or the left is refused, or the right
+abbrev pub MergeDone : List ℕ → List ℕ → Done → Type 0
+MergeDone x y d =
+    IsMerged x y d
+    ⊎ (IsRefused IsFirstWithin (codes "left") x y d ⊎ IsRefused IsSecondAbove (codes "right") y x d)
+
+-- a prefix of the text of the union of the fronts of what was read of two inputs was written
+pub record WritesFronts (x y : List ℕ) (taken_old taken_new : Option (List ℕ)) : Type 0 where
+  pub left_read : List ℕ
+  pub left_unread : List ℕ
+  pub right_read : List ℕ
+  pub right_unread : List ℕ
+  pub written : List ℕ
+  pub left_parts : x ≡ left_read ++ left_unread
+  pub right_parts : y ≡ right_read ++ right_unread
+  pub taken : Appends taken_old taken_new written
+  pub prefix : IsPrefixOfUnion left_read right_read written
+
+-- the line on what stopped the joining
+abbrev pub merge_line : MergeFault → List ℕ
+merge_line (Left fault) = fault_line (codes "left") fault
+merge_line (Right fault) = fault_line (codes "right") fault
+merge_line (Read side_Left) = codes "left read fault\n"
+merge_line (Read side_Right) = codes "right read fault\n"
+merge_line (Endless side_Left) = codes "left endless input\n"
+merge_line (Endless side_Right) = codes "right endless input\n"
+merge_line (Write sent) = codes "write fault\n"
+merge_line Memory = codes "want of memory\n"
+
+-- an input is no archive
+abbrev pub IsRefusal : MergeFault → Type 0
+IsRefusal (Left fault) = Unit {0}
+IsRefusal (Right fault) = Unit {0}
+IsRefusal (Read side) = ⊥
+IsRefusal (Endless side) = ⊥
+IsRefusal (Write sent) = ⊥
+IsRefusal Memory = ⊥
+
+-- a device failed, or an input has no end
+abbrev pub IsDeviceFault : MergeFault → Type 0
+IsDeviceFault (Left fault) = ⊥
+IsDeviceFault (Right fault) = ⊥
+IsDeviceFault (Read side) = Unit {0}
+IsDeviceFault (Endless side) = Unit {0}
+IsDeviceFault (Write sent) = Unit {0}
+IsDeviceFault Memory = ⊥

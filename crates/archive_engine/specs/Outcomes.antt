@@ -1,7 +1,8 @@
 -- What is noted of outcomes.
 use Rattle.std.specs.Prelude.{ℕ, ◌+◌, List, [], ◌∷◌, Bool, true, false, ◌||◌, if◌then◌else◌}
 use Rattle.syslog_collect.specs.declared.outcome.Outcome.{Outcome}
-use Rattle.syslog_collect.specs.declared.outcome.Outcome.TheVariants.{New, Held, Refused, RefusedLegacy, TooLong, BadCount}
+use Rattle.syslog_collect.specs.declared.outcome.Outcome.TheVariants.{New, Held, Refused, RefusedLegacy, TooLong}
+use Rattle.syslog_collect.specs.declared.outcome.Outcome.TheVariants.{BadCount}
 use Rattle.frame_engine.specs.Converted.{noted_line}
 use Rattle.frame_engine.specs.Handling.{Done, nothing, then_done}
 use Rattle.frame_engine.specs.declared.line.Line.TheVariants as line
@@ -26,7 +27,8 @@ is_bad_count (BadCount at) = true
 -- of outcomes up to a bad count, the first of them with this number
 abbrev pub noted_outcomes : ℕ → List Outcome → Done
 noted_outcomes n [] = nothing
-noted_outcomes n (o ∷ os) = if is_bad_count o then noted_outcome n o else then_done (noted_outcome n o) (noted_outcomes (n + 1) os)
+noted_outcomes n (o ∷ os) =
+    if is_bad_count o then noted_outcome n o else then_done (noted_outcome n o) (noted_outcomes (n + 1) os)
 
 -- one of them is a bad count
 abbrev pub has_bad_count : List Outcome → Bool

@@ -1,13 +1,15 @@
 //! `archive`: the records of an input, as an archive.
 
-ghost use Rattle.std.specs.Prelude.{◌≡◌, ◌≤◌, ◌<◌, ◌+◌, ◌^◌, ◌⊎◌, List, ℕ, [], take};
+ghost use Rattle.std.specs.Prelude.{◌≡◌, ◌≤◌, ◌<◌, ◌+◌, ◌^◌, ◌⊎◌, ◌++◌, List, ℕ, [], IfSome, codes, take};
 ghost use Rattle.std.specs.Io.KnownBytes.{Appends};
 ghost use Rattle.syslog_value.specs.Device.{AreSmall};
 ghost use Rattle.archive_text.specs.Text.{text_of};
 ghost use Rattle.frame_engine.specs.Pending.{done_of};
 ghost use Rattle.frame_engine.specs.Streams.{AnswersWith, WritesPrefixOf, status_of};
 ghost use Rattle.archive_engine.specs.Archived.{ArchiveDone};
+ghost use Rattle.archive_engine.specs.Told.{AreAllLines, AreFirstLines, IsReaderFault, TellsBehind, stop_line};
 
+use crate::faults::tell;
 use crate::receiving::receive;
 use crate::reception::Reception;
 use crate::stopped::Stopped;
@@ -15,6 +17,7 @@ use archive_pages::PagedArchive;
 use archive_text::Store;
 use frame_engine::{DONE, FAULT, InputFraming, NO_MEMORY, PendingOutput, REFUSED, note};
 use std::alloc::Global;
+use syslog_legacy::LegacyClock;
 use syslog_value::{Input, Output, READER_CALLS, write_all};
 
 // Writes the lines and then the archive, and returns the exit status.
@@ -37,14 +40,19 @@ fn finish<S: Store, W: Output, N: Output>(
         ⊎ (N.failures notes.old < N.failures notes.new) }
     ensures failed { N.failures notes.old < N.failures notes.new → result ≡ FAULT }
     ensures write_failed { W.failures writer.old < W.failures writer.new → result ≡ FAULT }
+    ensures write_told { N.failures notes.old < 2 ^ 63 →
+        N.failures notes.new ≡ N.failures notes.old →
+        W.failures writer.old < W.failures writer.new →
+        Appends (N.taken notes.old) (N.taken notes.new)
+        (lines.now.notes.items ++ codes "write fault\n") }
 {
-    if write_all(notes, lines.notes.as_slice()).is_err() {
+    let Ok(()) = write_all(notes, lines.notes.as_slice()) else {
         return FAULT;
-    }
+    };
     match store.write(writer) {
         Ok(()) if lines.refused => REFUSED,
         Ok(()) => DONE,
-        Err(_) => note(notes, b"write fault\n", FAULT),
+        Err(_) => tell(notes, b"write fault\n"),
     }
 }
 
@@ -59,13 +67,20 @@ fn stop<N: Output>(stopped: Stopped, lines: &PendingOutput, notes: &mut N) -> u8
     ensures read { stopped ≡ Stopped.Read → result ≡ FAULT }
     ensures notes { stopped ≡ Stopped.Notes → result ≡ FAULT }
     ensures kept { stopped ≡ Stopped.Notes → N.failures notes.new ≡ N.failures notes.old }
+    ensures told { IsReaderFault stopped → N.failures notes.old < 2 ^ 63 →
+        N.failures notes.new ≡ N.failures notes.old →
+        Appends (N.taken notes.old) (N.taken notes.new)
+        (lines.now.notes.items ++ stop_line stopped) }
 {
-    if stopped == Stopped::Notes || write_all(notes, lines.notes.as_slice()).is_err() {
+    if stopped == Stopped::Notes {
         return FAULT;
     }
+    let Ok(()) = write_all(notes, lines.notes.as_slice()) else {
+        return FAULT;
+    };
     match stopped {
-        Stopped::Read => note(notes, b"read fault\n", FAULT),
-        Stopped::Endless => note(notes, b"endless input\n", FAULT),
+        Stopped::Read => tell(notes, b"read fault\n"),
+        Stopped::Endless => tell(notes, b"endless input\n"),
         Stopped::Notes => FAULT,
         Stopped::Memory => note(notes, b"want of memory\n", NO_MEMORY),
     }
@@ -76,15 +91,16 @@ fn archive_into<S: Store + Drop, R: Input, W: Output, N: Output>(
     alloc: Global,
     store: S,
     input_framing: InputFraming,
+    clock: Option<LegacyClock>,
     reader: &mut R,
     writer: &mut W,
     notes: &mut N,
 ) -> u8
     requires { S.entries store ≡ [] }
     ensures known { result ≤ 3 }
-    ensures answer { result < 2 → AnswersWith (ArchiveDone input_framing) (R.left reader.old) result
+    ensures answer { result < 2 → AnswersWith (ArchiveDone clock input_framing) (R.left reader.old) result
         (W.taken writer.old) (W.taken writer.new) (N.taken notes.old) (N.taken notes.new) }
-    ensures prefix { WritesPrefixOf (ArchiveDone input_framing) (R.left reader.old)
+    ensures prefix { WritesPrefixOf (ArchiveDone clock input_framing) (R.left reader.old)
         (W.taken writer.old) (W.taken writer.new) }
     ensures cause { AreSmall (R.calls reader.old) (R.failures reader.old) →
         W.failures writer.old < 2 ^ 63 → N.failures notes.old < 2 ^ 63 → result ≡ FAULT →
@@ -96,9 +112,27 @@ fn archive_into<S: Store + Drop, R: Input, W: Output, N: Output>(
     ensures failed { N.failures notes.old < N.failures notes.new → result ≡ FAULT }
     ensures read_failed { R.failures reader.old < R.failures reader.new → result ≡ FAULT }
     ensures write_failed { W.failures writer.old < W.failures writer.new → result ≡ FAULT }
+    // the lines that were met before a device's fault are written before the line on it
+    ensures read_told { N.failures notes.old < 2 ^ 63 →
+        N.failures notes.new ≡ N.failures notes.old →
+        R.failures reader.old < R.failures reader.new →
+        TellsBehind (AreFirstLines clock input_framing (R.left reader.old) (R.left reader.new))
+        (codes "read fault\n") (N.taken notes.old) (N.taken notes.new) }
+    ensures write_told { N.failures notes.old < 2 ^ 63 →
+        N.failures notes.new ≡ N.failures notes.old →
+        W.failures writer.old < W.failures writer.new →
+        IfSome (R.left reader.old) (λ input. TellsBehind (AreAllLines clock input_framing input)
+        (codes "write fault\n") (N.taken notes.old) (N.taken notes.new)) }
+    ensures endless_told { AreSmall (R.calls reader.old) (R.failures reader.old) →
+        W.failures writer.old < 2 ^ 63 → N.failures notes.old < 2 ^ 63 → result ≡ FAULT →
+        R.failures reader.new ≡ R.failures reader.old →
+        W.failures writer.new ≡ W.failures writer.old →
+        N.failures notes.new ≡ N.failures notes.old →
+        TellsBehind (AreFirstLines clock input_framing (R.left reader.old) (R.left reader.new))
+        (codes "endless input\n") (N.taken notes.old) (N.taken notes.new) }
 {
     let mut lines = PendingOutput::new(alloc);
-    let Ok(mut reception) = Reception::new(alloc, store) else {
+    let Ok(mut reception) = Reception::new(alloc, store, clock) else {
         return note(notes, b"want of memory\n", NO_MEMORY);
     };
     match receive(
@@ -118,18 +152,20 @@ fn archive_into<S: Store + Drop, R: Input, W: Output, N: Output>(
 /// the one order of archives. A line on each frame that is refused, and on an end or a count that
 /// is, goes to `notes`. Returns the exit status: `DONE` where nothing was refused, else `REFUSED`;
 /// `FAULT` where a device failed or the input has no end; `NO_MEMORY` where memory ran out, and
-/// then no archive is written. Behind a bad count no more is read.
+/// then no archive is written. Behind a bad count no more is read. With a clock, frames without the
+/// front of RFC 5424 are read as legacy packets (RFC 3164).
 pub fn archive_input<R: Input, W: Output, N: Output>(
     alloc: Global,
     input_framing: InputFraming,
+    clock: Option<LegacyClock>,
     reader: &mut R,
     writer: &mut W,
     notes: &mut N,
 ) -> u8
     ensures known { result ≤ 3 }
-    ensures answer { result < 2 → AnswersWith (ArchiveDone input_framing) (R.left reader.old) result
+    ensures answer { result < 2 → AnswersWith (ArchiveDone clock input_framing) (R.left reader.old) result
         (W.taken writer.old) (W.taken writer.new) (N.taken notes.old) (N.taken notes.new) }
-    ensures prefix { WritesPrefixOf (ArchiveDone input_framing) (R.left reader.old)
+    ensures prefix { WritesPrefixOf (ArchiveDone clock input_framing) (R.left reader.old)
         (W.taken writer.old) (W.taken writer.new) }
     ensures cause { AreSmall (R.calls reader.old) (R.failures reader.old) →
         W.failures writer.old < 2 ^ 63 → N.failures notes.old < 2 ^ 63 → result ≡ FAULT →
@@ -141,7 +177,25 @@ pub fn archive_input<R: Input, W: Output, N: Output>(
     ensures failed { N.failures notes.old < N.failures notes.new → result ≡ FAULT }
     ensures read_failed { R.failures reader.old < R.failures reader.new → result ≡ FAULT }
     ensures write_failed { W.failures writer.old < W.failures writer.new → result ≡ FAULT }
+    // the lines that were met before a device's fault are written before the line on it
+    ensures read_told { N.failures notes.old < 2 ^ 63 →
+        N.failures notes.new ≡ N.failures notes.old →
+        R.failures reader.old < R.failures reader.new →
+        TellsBehind (AreFirstLines clock input_framing (R.left reader.old) (R.left reader.new))
+        (codes "read fault\n") (N.taken notes.old) (N.taken notes.new) }
+    ensures write_told { N.failures notes.old < 2 ^ 63 →
+        N.failures notes.new ≡ N.failures notes.old →
+        W.failures writer.old < W.failures writer.new →
+        IfSome (R.left reader.old) (λ input. TellsBehind (AreAllLines clock input_framing input)
+        (codes "write fault\n") (N.taken notes.old) (N.taken notes.new)) }
+    ensures endless_told { AreSmall (R.calls reader.old) (R.failures reader.old) →
+        W.failures writer.old < 2 ^ 63 → N.failures notes.old < 2 ^ 63 → result ≡ FAULT →
+        R.failures reader.new ≡ R.failures reader.old →
+        W.failures writer.new ≡ W.failures writer.old →
+        N.failures notes.new ≡ N.failures notes.old →
+        TellsBehind (AreFirstLines clock input_framing (R.left reader.old) (R.left reader.new))
+        (codes "endless input\n") (N.taken notes.old) (N.taken notes.new) }
 {
     let store = PagedArchive::new(alloc);
-    archive_into(alloc, store, input_framing, reader, writer, notes)
+    archive_into(alloc, store, input_framing, clock, reader, writer, notes)
 }

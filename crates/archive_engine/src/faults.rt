@@ -1,6 +1,6 @@
 //! The line on a text that is no archive.
 
-ghost use Rattle.std.specs.Prelude.{◌≡◌, ◌≤◌, ◌<◌, ◌^◌, ◌++◌, List, ℕ, OnOk, codes, decimal};
+ghost use Rattle.std.specs.Prelude.{◌≡◌, ◌≤◌, ◌<◌, ◌^◌, ◌⊎◌, ◌++◌, List, ℕ, OnOk, codes, decimal};
 ghost use Rattle.std.specs.Io.KnownBytes.{Appends};
 ghost use Rattle.archive_engine.specs.FaultLines.{fault_line};
 
@@ -8,7 +8,7 @@ use archive_text::ArchiveFault;
 use frame_engine::{FAULT, FrameHandler, Line, NO_MEMORY, PendingOutput, REFUSED, Show, note};
 use itoa::Buffer;
 use std::alloc::{AllocError, Global};
-use syslog_value::Output;
+use syslog_value::{Output, write_all};
 
 // Appends words, a position and a line feed.
 fn put_at(line: &mut Vec<u8>, words: &[u8], at: u64) -> Result<(), AllocError>
@@ -36,11 +36,25 @@ fn put_fault(
         ArchiveFault::EntryTooLong { at } => put_at(&mut done.notes, b" entry-too-long ", at),
         ArchiveFault::BadEntry { at, fault } => {
             done.notes.extend_from_slice(b" bad-entry ")?;
-            Show { alloc }.report(Line::Refused { number: at, fault }, done)
+            Show { alloc, clock: None }.report(Line::Refused { number: at, fault }, done)
         }
         ArchiveFault::NotCanonical { at } => put_at(&mut done.notes, b" not-canonical ", at),
         ArchiveFault::NotAscending { at } => put_at(&mut done.notes, b" not-ascending ", at),
     }
+}
+
+/// Notes what device failed. The exit status is `FAULT`, whether the line can be written or not.
+pub fn tell<N: Output>(notes: &mut N, line: &[u8]) -> u8
+    ensures status { result ≡ FAULT }
+    ensures told { N.failures notes.old < 2 ^ 63 →
+        N.failures notes.new ≡ N.failures notes.old →
+        Appends (N.taken notes.old) (N.taken notes.new) line.now }
+    ensures either { N.failures notes.old < 2 ^ 63 →
+        (N.failures notes.old < N.failures notes.new)
+        ⊎ Appends (N.taken notes.old) (N.taken notes.new) line.now }
+{
+    let _ = write_all(notes, line);
+    FAULT
 }
 
 /// Notes why the text of this name is no archive, and returns the exit status.

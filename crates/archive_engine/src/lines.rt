@@ -15,7 +15,7 @@ pub fn note_line(alloc: Global, line: Line, done: &mut PendingOutput) -> Result<
     ensures ok { OnOk result (done_of done.new ≡ then_done (done_of done.old) (noted_line line)) }
     ensures err { OnErr result (done_of done.new ≡ done_of done.old) }
 {
-    Show { alloc }.report(line, done)
+    Show { alloc, clock: None }.report(line, done)
 }
 
 // Notes an outcome that is a refusal. Returns whether it is a bad count.

@@ -1,11 +1,12 @@
 //! `migrate`: an old archive is brought into the present form.
 
-ghost use Rattle.std.specs.Prelude.{◌≡◌, ◌≤◌, ◌<◌, ◌+◌, ◌^◌, ◌⊎◌, List, ℕ};
+ghost use Rattle.std.specs.Prelude.{◌≡◌, ◌≤◌, ◌<◌, ◌+◌, ◌^◌, ◌⊎◌, List, ℕ, codes};
+ghost use Rattle.std.specs.Io.KnownBytes.{Appends};
 ghost use Rattle.syslog_value.specs.Device.{AreSmall};
 ghost use Rattle.frame_engine.specs.Streams.{AnswersWith, WritesPrefixOf};
 ghost use Rattle.archive_engine.specs.Migrated.{MigrateDone};
 
-use crate::faults::note_fault;
+use crate::faults::{note_fault, tell};
 use archive_migration::{MigrateFault, migrate};
 use frame_engine::{DONE, FAULT, NO_MEMORY, note};
 use std::alloc::Global;
@@ -23,7 +24,8 @@ pub fn migrate_archive<R: Input, W: Output, N: Output>(
     ensures known { result ≤ 3 }
     ensures answer { result < 2 → AnswersWith MigrateDone (R.left old.old) result
         (W.taken writer.old) (W.taken writer.new) (N.taken notes.old) (N.taken notes.new) }
-    ensures prefix { WritesPrefixOf MigrateDone (R.left old.old) (W.taken writer.old) (W.taken writer.new) }
+    ensures prefix { WritesPrefixOf MigrateDone (R.left old.old)
+        (W.taken writer.old) (W.taken writer.new) }
     ensures cause { AreSmall (R.calls old.old) (R.failures old.old) →
         W.failures writer.old < 2 ^ 63 → N.failures notes.old < 2 ^ 63 → result ≡ FAULT →
         (R.failures old.old < R.failures old.new)
@@ -34,11 +36,20 @@ pub fn migrate_archive<R: Input, W: Output, N: Output>(
     ensures failed { N.failures notes.old < N.failures notes.new → result ≡ FAULT }
     ensures read_failed { R.failures old.old < R.failures old.new → result ≡ FAULT }
     ensures write_failed { W.failures writer.old < W.failures writer.new → result ≡ FAULT }
+    // the line on a device's fault
+    ensures read_told { AreSmall (R.calls old.old) (R.failures old.old) →
+        N.failures notes.old < 2 ^ 63 → N.failures notes.new ≡ N.failures notes.old →
+        R.failures old.old < R.failures old.new →
+        Appends (N.taken notes.old) (N.taken notes.new) (codes "old read fault\n") }
+    ensures write_told { N.failures notes.old < 2 ^ 63 →
+        N.failures notes.new ≡ N.failures notes.old →
+        W.failures writer.old < W.failures writer.new →
+        Appends (N.taken notes.old) (N.taken notes.new) (codes "write fault\n") }
 {
     let text = match read_all(alloc, old, usize::MAX) {
         Ok(text) => text,
-        Err(ReadAllFault::Device) => return note(notes, b"old read fault\n", FAULT),
-        Err(ReadAllFault::Endless) => return note(notes, b"old endless input\n", FAULT),
+        Err(ReadAllFault::Device) => return tell(notes, b"old read fault\n"),
+        Err(ReadAllFault::Endless) => return tell(notes, b"old endless input\n"),
         Err(ReadAllFault::Memory) => return note(notes, b"want of memory\n", NO_MEMORY),
     };
     let archive = match migrate(alloc, text.as_slice()) {
@@ -48,6 +59,6 @@ pub fn migrate_archive<R: Input, W: Output, N: Output>(
     };
     match write_all(writer, archive.as_slice()) {
         Ok(()) => DONE,
-        Err(_) => note(notes, b"write fault\n", FAULT),
+        Err(_) => tell(notes, b"write fault\n"),
     }
 }

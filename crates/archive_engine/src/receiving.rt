@@ -11,7 +11,7 @@ ghost use Rattle.frame_engine.specs.Handling.{Done, nothing, then_done};
 ghost use Rattle.frame_engine.specs.Pending.{done_of};
 ghost use Rattle.frame_engine.specs.Streams.{ReportsEnd, written_out};
 ghost use Rattle.frame_engine.specs.declared.input_framing.InputFraming.TheVariants.{Datagram, Stream};
-ghost use Rattle.archive_engine.specs.Receiving.{HasReceived, HeardNothing, Receives, opening};
+ghost use Rattle.archive_engine.specs.Receiving.{BeginsInput, HasReceived, HeardNothing, Receives, opening};
 
 use crate::lines::{note_line, note_outcomes};
 use crate::reception::Reception;
@@ -20,16 +20,17 @@ use archive_text::Store;
 use frame_engine::{InputFraming, Line, PendingOutput};
 use std::alloc::{AllocError, Global};
 use syslog_frame::{FRAME_MAX, Framing};
-use syslog_value::{Input, Output, READER_CALLS, ReadAllFault, read_all, write_all};
-
-// the octets asked of a reader at a time
-const PIECE: usize = 4096;
+use syslog_value::{Input, Output, READ_MAX, READER_CALLS, ReadAllFault, read_all, write_all};
 
 // the octets of lines that are held back
 const LARGE: usize = 65_536;
 
-// Writes the lines once they are many.
-fn write_many<N: Output>(lines: &mut PendingOutput, notes: &mut N) -> Result<(), Stopped>
+// Writes the lines once they are many, or where nobody has sent more yet.
+fn write_due<N: Output>(
+    waits: bool,
+    lines: &mut PendingOutput,
+    notes: &mut N,
+) -> Result<(), Stopped>
     ensures moved { OnOk result ((noted : List ℕ)
         × Appends (N.taken notes.old) (N.taken notes.new) noted
         × (done_of lines.old ≡ then_done (written_out [] noted) (done_of lines.new))) }
@@ -38,7 +39,7 @@ fn write_many<N: Output>(lines: &mut PendingOutput, notes: &mut N) -> Result<(),
     ensures cause { N.failures notes.old < 2 ^ 63 →
         OnErr result (N.failures notes.old < N.failures notes.new) }
 {
-    if lines.notes.len() < LARGE {
+    if !waits && lines.notes.len() < LARGE {
         return Ok(());
     }
     let written = write_all(notes, lines.notes.as_slice());
@@ -56,10 +57,10 @@ fn end_stream<S: Store + Drop>(
     lines: &mut PendingOutput,
 ) -> Result<(), AllocError>
     requires { (kind : Framing) × (given : List ℕ)
-        × Receives reception.old.collector.connections.items
+        × Receives reception.old.collector.clock reception.old.collector.connections.items
         (S.entries reception.old.collector.store) (Stream kind) given }
     ensures ended { OnOk result ((kind : Framing) (given : List ℕ) (frames : List (List ℕ))
-        (rest : List ℕ) → Receives reception.old.collector.connections.items
+        (rest : List ℕ) → Receives reception.old.collector.clock reception.old.collector.connections.items
         (S.entries reception.old.collector.store) (Stream kind) given
         → ¬ (HoldsBadCount (opening kind given)) → Frames kind given frames rest
         → (d : Done) × ReportsEnd noted_line kind given frames rest d
@@ -73,7 +74,7 @@ fn end_stream<S: Store + Drop>(
 }
 
 // Receives the rest of a reader as a stream, to its end or up to a bad count. Lines are written
-// once they are many; the others are left in `lines`.
+// once they are many and before a read that may wait; the others are left in `lines`.
 fn receive_stream<S: Store + Drop, R: Input, N: Output>(
     alloc: Global,
     framing: Framing,
@@ -82,11 +83,12 @@ fn receive_stream<S: Store + Drop, R: Input, N: Output>(
     reception: &mut Reception<S>,
     lines: &mut PendingOutput,
 ) -> Result<(), Stopped>
-    requires fresh { HeardNothing reception.old.collector.connections.items
+    requires fresh { HeardNothing reception.old.collector.clock
+        reception.old.collector.connections.items
         (S.entries reception.old.collector.store) }
     requires none { done_of lines.old ≡ nothing }
     ensures received { OnOk result (IfSome (R.left reader.old) (λ input.
-        HasReceived (Stream framing) input (S.entries reception.new.collector.store)
+        HasReceived reception.old.collector.clock (Stream framing) input (S.entries reception.new.collector.store)
         (N.taken notes.old) (N.taken notes.new) (done_of lines.new))) }
     ensures read { AreSmall (R.calls reader.old) (R.failures reader.old) →
         IsErrOf result Stopped.Read → R.failures reader.old < R.failures reader.new }
@@ -96,6 +98,9 @@ fn receive_stream<S: Store + Drop, R: Input, N: Output>(
         IsErrOf result Stopped.Endless →
         (R.calls reader.new ≡ R.calls reader.old + READER_CALLS)
         × (R.ends reader.new ≡ R.ends reader.old) }
+    ensures begun { IsErrOf result Stopped.Read ⊎ IsErrOf result Stopped.Endless →
+        BeginsInput reception.old.collector.clock (Stream framing) (R.left reader.old) (R.left reader.new)
+        (N.taken notes.old) (N.taken notes.new) (done_of lines.new) }
     ensures notes { N.failures notes.old < 2 ^ 63 → IsErrOf result Stopped.Notes →
         N.failures notes.old < N.failures notes.new }
     ensures quiet { N.failures notes.old < N.failures notes.new → IsErrOf result Stopped.Notes }
@@ -103,7 +108,7 @@ fn receive_stream<S: Store + Drop, R: Input, N: Output>(
 {
     reception.open(alloc, framing)?;
     let mut number = 1;
-    let mut piece = [0u8; PIECE];
+    let mut piece = [0u8; READ_MAX];
     for _turn in 0..READER_CALLS {
         let Ok(n) = reader.read(&mut piece) else {
             return Err(Stopped::Read);
@@ -116,7 +121,8 @@ fn receive_stream<S: Store + Drop, R: Input, N: Output>(
         if note_outcomes(alloc, &reception.outcomes, &mut number, lines)? {
             return Ok(());
         }
-        write_many(lines, notes)?;
+        // a read that came short has emptied its pipe: the next may wait for a sender
+        write_due(n < READ_MAX, lines, notes)?;
     }
     Err(Stopped::Endless)
 }
@@ -128,12 +134,13 @@ fn receive_datagram<S: Store + Drop, R: Input>(
     reception: &mut Reception<S>,
     lines: &mut PendingOutput,
 ) -> Result<(), Stopped>
-    requires fresh { HeardNothing reception.old.collector.connections.items
+    requires fresh { HeardNothing reception.old.collector.clock
+        reception.old.collector.connections.items
         (S.entries reception.old.collector.store) }
     requires none { done_of lines.old ≡ nothing }
     ensures received { OnOk result (IfSome (R.left reader.old) (λ input.
-        (n : Option (List ℕ)) → HasReceived Datagram input (S.entries reception.new.collector.store)
-        n n (done_of lines.new))) }
+        (n : Option (List ℕ)) → HasReceived reception.old.collector.clock Datagram input
+        (S.entries reception.new.collector.store) n n (done_of lines.new))) }
     ensures read { AreSmall (R.calls reader.old) (R.failures reader.old) →
         IsErrOf result Stopped.Read → R.failures reader.old < R.failures reader.new }
     ensures quiet_read { R.failures reader.old < R.failures reader.new →
@@ -142,6 +149,8 @@ fn receive_datagram<S: Store + Drop, R: Input>(
         IsErrOf result Stopped.Endless →
         (R.calls reader.new ≡ R.calls reader.old + READER_CALLS)
         × (R.ends reader.new ≡ R.ends reader.old) }
+    ensures begun { IsErrOf result Stopped.Read ⊎ IsErrOf result Stopped.Endless →
+        done_of lines.new ≡ nothing }
     ensures notes { ¬ (IsErrOf result Stopped.Notes) }
 {
     let datagram = match read_all(alloc, reader, FRAME_MAX + 1) {
@@ -157,7 +166,8 @@ fn receive_datagram<S: Store + Drop, R: Input>(
 }
 
 /// Receives the rest of a reader, to its end or up to a bad count, and notes what is refused of it.
-/// Lines are written once they are many; the others are left in `lines`.
+/// Lines are written once they are many and before a read that may wait; the others are left in
+/// `lines`.
 pub fn receive<S: Store + Drop, R: Input, N: Output>(
     alloc: Global,
     input_framing: InputFraming,
@@ -166,11 +176,12 @@ pub fn receive<S: Store + Drop, R: Input, N: Output>(
     reception: &mut Reception<S>,
     lines: &mut PendingOutput,
 ) -> Result<(), Stopped>
-    requires fresh { HeardNothing reception.old.collector.connections.items
+    requires fresh { HeardNothing reception.old.collector.clock
+        reception.old.collector.connections.items
         (S.entries reception.old.collector.store) }
     requires none { done_of lines.old ≡ nothing }
     ensures received { OnOk result (IfSome (R.left reader.old) (λ input.
-        HasReceived input_framing input (S.entries reception.new.collector.store)
+        HasReceived reception.old.collector.clock input_framing input (S.entries reception.new.collector.store)
         (N.taken notes.old) (N.taken notes.new) (done_of lines.new))) }
     ensures read { AreSmall (R.calls reader.old) (R.failures reader.old) →
         IsErrOf result Stopped.Read → R.failures reader.old < R.failures reader.new }
@@ -180,6 +191,9 @@ pub fn receive<S: Store + Drop, R: Input, N: Output>(
         IsErrOf result Stopped.Endless →
         (R.calls reader.new ≡ R.calls reader.old + READER_CALLS)
         × (R.ends reader.new ≡ R.ends reader.old) }
+    ensures begun { IsErrOf result Stopped.Read ⊎ IsErrOf result Stopped.Endless →
+        BeginsInput reception.old.collector.clock input_framing (R.left reader.old) (R.left reader.new)
+        (N.taken notes.old) (N.taken notes.new) (done_of lines.new) }
     ensures notes { N.failures notes.old < 2 ^ 63 → IsErrOf result Stopped.Notes →
         N.failures notes.old < N.failures notes.new }
     ensures quiet { N.failures notes.old < N.failures notes.new → IsErrOf result Stopped.Notes }

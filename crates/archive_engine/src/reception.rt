@@ -1,6 +1,6 @@
 //! A collector that receives one input.
 
-ghost use Rattle.std.specs.Prelude.{◌≡◌, ◌<◌, ◌++◌, ◌∷◌, List, ℕ, [], IfOk, None, OnOk, length};
+ghost use Rattle.std.specs.Prelude.{◌≡◌, ◌<◌, ◌++◌, ◌∷◌, List, ℕ, [], IfOk, OnOk, length};
 ghost use Rattle.archive_text.specs.Entries.{Entry};
 ghost use Rattle.syslog_collect.specs.History.{AcceptedEvent, HoldsBadCount, history_of};
 ghost use Rattle.syslog_collect.specs.Headline.{IsSettled};
@@ -17,6 +17,7 @@ use archive_text::Store;
 use std::alloc::{AllocError, Global};
 use syslog_collect::{CollectFault, Collector, Event, Outcome, RunEnd};
 use syslog_frame::Framing;
+use syslog_legacy::LegacyClock;
 
 // the number of the one connection
 const CONN: u32 = 0;
@@ -26,17 +27,21 @@ const CONN: u32 = 0;
 pub struct Reception<S> {
     pub collector: Collector<S>,
     pub outcomes: Vec<Outcome>,
-    ghost plain: { collector.clock ≡ None },
 }
 
 impl<S: Store + Drop> Reception<S> {
-    /// Nothing was received.
-    pub fn new(alloc: Global, store: S) -> Result<Reception<S>, AllocError>
+    /// Nothing was received. With a clock, legacy packets are read as such.
+    pub fn new(
+        alloc: Global,
+        store: S,
+        clock: Option<LegacyClock>,
+    ) -> Result<Reception<S>, AllocError>
         requires { S.entries store ≡ [] }
-        ensures { IfOk result (λ r.
-            HeardNothing r.collector.connections.items (S.entries r.collector.store)) }
+        ensures fresh { IfOk result (λ r. HeardNothing r.collector.clock
+            r.collector.connections.items (S.entries r.collector.store)) }
+        ensures clock { IfOk result (λ r. r.collector.clock ≡ clock) }
     {
-        match Collector::new(alloc, store, None) {
+        match Collector::new(alloc, store, clock) {
             Ok(collector) => Ok(Reception {
                 collector,
                 outcomes: Vec::new(alloc),
@@ -48,18 +53,21 @@ impl<S: Store + Drop> Reception<S> {
     // Hands one event to the collector, and keeps its outcomes alone.
     fn run_event(&mut self, alloc: Global, event: Event<'_>) -> Result<(), AllocError>
         ensures stands { OnOk result ((first : List Entry) (before : List AcceptedEvent)
-            → Stands None self.old.collector.connections.items (S.entries self.old.collector.store) first before
-            → Stands None self.new.collector.connections.items (S.entries self.new.collector.store) first
-            (before ++ accepted_event event.entry ∷ [])) }
+            → Stands self.old.collector.clock self.old.collector.connections.items
+            (S.entries self.old.collector.store) first before
+            → Stands self.old.collector.clock self.new.collector.connections.items
+            (S.entries self.new.collector.store) first (before ++ accepted_event event.entry ∷ [])) }
         ensures settled { OnOk result (IsSettled self.old.collector.connections.items
             → IsSettled self.new.collector.connections.items) }
         ensures logged { OnOk result ((first : List Entry) (before : List AcceptedEvent)
-            → Stands None self.old.collector.connections.items (S.entries self.old.collector.store) first before
+            → Stands self.old.collector.clock self.old.collector.connections.items
+            (S.entries self.old.collector.store) first before
             → IsSettled self.old.collector.connections.items
-            → IsLogOf None (history_of before) (waiting self.old.collector.connections.items)
-            (accepted_event event.entry ∷ []) (waiting self.new.collector.connections.items)
-            (S.entries self.old.collector.store) (S.entries self.new.collector.store)
-            self.new.outcomes.items) }
+            → IsLogOf self.old.collector.clock (history_of before)
+            (waiting self.old.collector.connections.items) (accepted_event event.entry ∷ [])
+            (waiting self.new.collector.connections.items) (S.entries self.old.collector.store)
+            (S.entries self.new.collector.store) self.new.outcomes.items) }
+        ensures clock { self.new.collector.clock ≡ self.old.collector.clock }
     {
         self.outcomes.clear();
         match self.collector.run(alloc, &[event], &mut self.outcomes) {
@@ -70,23 +78,26 @@ impl<S: Store + Drop> Reception<S> {
 
     /// Receives a datagram.
     pub fn datagram(&mut self, alloc: Global, octets: &[u8]) -> Result<(), AllocError>
-        requires { HeardNothing self.old.collector.connections.items
+        requires { HeardNothing self.old.collector.clock self.old.collector.connections.items
             (S.entries self.old.collector.store) }
-        ensures receives { OnOk result (Receives self.new.collector.connections.items
-            (S.entries self.new.collector.store) Datagram octets.now) }
+        ensures receives { OnOk result (Receives self.old.collector.clock
+            self.new.collector.connections.items (S.entries self.new.collector.store)
+            Datagram octets.now) }
         ensures logs { OnOk result ((x : Outcome) × (self.new.outcomes.items ≡ x ∷ [])
-            × IsOutcome None (S.entries self.old.collector.store) (S.entries self.new.collector.store)
-            octets.now x) }
+            × IsOutcome self.old.collector.clock (S.entries self.old.collector.store)
+            (S.entries self.new.collector.store) octets.now x) }
     {
         self.run_event(alloc, Event::Datagram { octets })
     }
 
     /// Begins to receive a stream.
     pub fn open(&mut self, alloc: Global, framing: Framing) -> Result<(), AllocError>
-        requires { HeardNothing self.old.collector.connections.items
+        requires { HeardNothing self.old.collector.clock self.old.collector.connections.items
             (S.entries self.old.collector.store) }
-        ensures { OnOk result (Receives self.new.collector.connections.items
-            (S.entries self.new.collector.store) (Stream framing) []) }
+        ensures receives { OnOk result (Receives self.old.collector.clock
+            self.new.collector.connections.items (S.entries self.new.collector.store)
+            (Stream framing) []) }
+        ensures clock { self.new.collector.clock ≡ self.old.collector.clock }
     {
         self.run_event(
             alloc,
@@ -101,15 +112,17 @@ impl<S: Store + Drop> Reception<S> {
     pub fn piece(&mut self, alloc: Global, octets: &[u8]) -> Result<(), AllocError>
         requires { 0 < length octets.now }
         ensures receives { OnOk result ((kind : Framing) (given : List ℕ)
-            → Receives self.old.collector.connections.items
+            → Receives self.old.collector.clock self.old.collector.connections.items
             (S.entries self.old.collector.store) (Stream kind) given
-            → Receives self.new.collector.connections.items
+            → Receives self.old.collector.clock self.new.collector.connections.items
             (S.entries self.new.collector.store) (Stream kind) (given ++ octets.now)) }
         ensures logs { OnOk result ((kind : Framing) (given : List ℕ)
-            → Receives self.old.collector.connections.items
+            → Receives self.old.collector.clock self.old.collector.connections.items
             (S.entries self.old.collector.store) (Stream kind) given
-            → LogsPiece kind given octets.now (S.entries self.old.collector.store)
-            (S.entries self.new.collector.store) self.new.outcomes.items) }
+            → LogsPiece self.old.collector.clock kind given octets.now
+            (S.entries self.old.collector.store) (S.entries self.new.collector.store)
+            self.new.outcomes.items) }
+        ensures clock { self.new.collector.clock ≡ self.old.collector.clock }
     {
         self.run_event(alloc, Event::Piece { conn: CONN, octets })
     }
@@ -118,10 +131,10 @@ impl<S: Store + Drop> Reception<S> {
     /// has one.
     pub fn end(&mut self) -> Option<u64>
         requires { (kind : Framing) × (given : List ℕ)
-            × Receives self.old.collector.connections.items
+            × Receives self.old.collector.clock self.old.collector.connections.items
             (S.entries self.old.collector.store) (Stream kind) given }
         ensures stops { (kind : Framing) (given : List ℕ)
-            → Receives self.old.collector.connections.items
+            → Receives self.old.collector.clock self.old.collector.connections.items
             (S.entries self.old.collector.store) (Stream kind) given
             → ¬ (HoldsBadCount (opening kind given)) → StopsAt kind given result }
         ensures same { self.new.collector.store ≡ self.old.collector.store }

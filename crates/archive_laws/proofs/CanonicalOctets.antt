@@ -2,7 +2,8 @@
 use Rattle.std.proofs.Common.{ℕ, List, [], ◌∷◌, ◌++◌, refl}
 use Rattle.std.specs.Prelude.{ℤ, Option, Some, None, IfSome}
 use Rattle.syslog_value.specs.Parts.{IsInstant, IsRecord, Parts}
-use Rattle.syslog_grammar.specs.Canonical.{Canonical, HeaderForm, SpacedWord, TimeForm, civil_text, message_form, priority_version_form, structured_data_form, word_form}
+use Rattle.syslog_grammar.specs.Canonical.{Canonical, HeaderForm, SpacedWord, TimeForm, civil_text, message_form}
+use Rattle.syslog_grammar.specs.Canonical.{priority_version_form, structured_data_form, word_form}
 use Rattle.archive_laws.proofs.Civils.{civil_of}
 
 time_text : (t : Option ℤ) → IfSome t IsInstant → (b : List ℕ) × TimeForm t b
@@ -18,9 +19,11 @@ spaced w = (word_form w, 32 ∷ [], refl, refl, refl)
 
 header_text : (r : Parts ℤ) (time : List ℕ) → List ℕ
 header_text r time =
-    priority_version_form r.priority ++ ((time ++ 32 ∷ []) ++ (word_text r.hostname ++ (word_text r.app_name ++ (word_text r.proc_id ++ word_text r.msg_id))))
+    priority_version_form r.priority ++ ((time ++ 32 ∷ [])
+    ++ (word_text r.hostname ++ (word_text r.app_name ++ (word_text r.proc_id ++ word_text r.msg_id))))
 
-header : (r : Parts ℤ) (time : List ℕ) → TimeForm r.time time → HeaderForm r.priority r.time r.hostname r.app_name r.proc_id r.msg_id (header_text r time)
+header : (r : Parts ℤ) (time : List ℕ) → TimeForm r.time time
+    → HeaderForm r.priority r.time r.hostname r.app_name r.proc_id r.msg_id (header_text r time)
 unfolding HeaderForm header_text
 header r time h =
     let behind_app_name = word_text r.proc_id ++ word_text r.msg_id in
@@ -40,7 +43,13 @@ header r time h =
           behind_hostname,
           refl,
           spaced r.hostname,
-          (word_text r.app_name, behind_app_name, refl, spaced r.app_name, (word_text r.proc_id, word_text r.msg_id, refl, spaced r.proc_id, spaced r.msg_id)),
+          (
+            word_text r.app_name,
+            behind_app_name,
+            refl,
+            spaced r.app_name,
+            (word_text r.proc_id, word_text r.msg_id, refl, spaced r.proc_id, spaced r.msg_id),
+          ),
         ),
       ),
     )
@@ -50,5 +59,11 @@ canonical_octets r h =
     let time = time_text r.time h.time in
     let behind = structured_data_form r.elements ++ message_form r.message in (
       header_text r time.0 ++ behind,
-      (header_text r time.0, behind, refl, header r time.0 time.1, (structured_data_form r.elements, message_form r.message, refl, refl, refl)),
+      (
+        header_text r time.0,
+        behind,
+        refl,
+        header r time.0 time.1,
+        (structured_data_form r.elements, message_form r.message, refl, refl, refl),
+      ),
     )

@@ -1,10 +1,12 @@
 -- Every instant in range has a civil time in UTC.
-use Rattle.std.proofs.Common.{◌≡◌, ℕ, zero, suc, ◌+◌, ◌-◌, ◌*◌, ◌/◌, ◌%◌, ◌<◌, ◌≤◌, Bool, true, false, refl, ◌∙◌, arith, inl, inr, pos, negsuc}
+use Rattle.std.proofs.Common.{◌≡◌, ℕ, zero, suc, ◌+◌, ◌-◌, ◌*◌, ◌/◌, ◌%◌, ◌<◌, ◌≤◌, Bool, true, false, refl, ◌∙◌, arith}
+use Rattle.std.proofs.Common.{inl, inr, pos, negsuc}
 use Rattle.std.specs.Prelude.{ℤ, if◌then◌else◌, ◌-ℤ◌}
 use Rattle.std.proofs.lemmas.Bool.{cases_lt}
 use Rattle.jiff_core.proofs.DateLemmas.{days_from_civil-max}
 use Rattle.jiff_core.proofs.SignedLemmas.{signed_arith}
-use Rattle.syslog_value.specs.Calendar.{IsDay, day_number, days_of_months, days_of_years, is_leap, month_length, year_length}
+use Rattle.syslog_value.specs.Calendar.{IsDay, day_number, days_of_months, days_of_years, is_leap, month_length}
+use Rattle.syslog_value.specs.Calendar.{year_length}
 use Rattle.syslog_value.specs.Instants.{IsCivil, instant_of}
 use Rattle.syslog_value.specs.Parts.{IsInstant}
 use Rattle.syslog_value.specs.declared.civil.Civil.{Civil}
@@ -50,7 +52,8 @@ month_of y (suc k) n h =
       | inr from ↦ record { month = k; before = omega arith; from = from; within = h }
     ]
 
-by_leap : (leap : Bool) → 0 + 31 + (if leap then 29 else 28) + 31 + 30 + 31 + 30 + 31 + 31 + 30 + 31 + 30 + 31 ≡ (if leap then 366 else 365)
+by_leap : (leap : Bool) → 0 + 31 + (if leap then 29 else 28) + 31 + 30 + 31 + 30 + 31 + 31 + 30 + 31 + 30 + 31
+    ≡ (if leap then 366 else 365)
 by_leap true = refl
 by_leap false = refl
 
@@ -82,7 +85,8 @@ pub record DateOf (n : ℕ) : Type 0 where
   pub exists : IsDay year month day
   pub number : day_number year month day ≡ pos n -ℤ pos 719_528
 
-number_of : (n y m d : ℕ) → days_of_years y + days_of_months y m + d ≡ n → day_number y (suc m) (suc d) ≡ pos n -ℤ pos 719_528
+number_of : (n y m d : ℕ) → days_of_years y + days_of_months y m + d ≡ n
+    → day_number y (suc m) (suc d) ≡ pos n -ℤ pos 719_528
 unfolding day_number
 number_of n y m d sum =
     let month : suc m - 1 ≡ m = omega arith in
@@ -100,7 +104,13 @@ date_of n h =
       year = y.year;
       month = suc m.month;
       day = suc d;
-      exists = (omega (arith, y.before), omega arith, omega (arith, m.before), omega arith, omega (arith, m.from, m.within));
+      exists = (
+        omega (arith, y.before),
+        omega arith,
+        omega (arith, m.before),
+        omega arith,
+        omega (arith, m.from, m.within),
+      );
       number = number_of n y.year m.month d sum;
     }
 
@@ -143,7 +153,8 @@ has_time : (u : ℕ) (d : DateOf (u / 86_400_000_000)) → IsCivil (at_time u d)
 unfolding at_time
 has_time u d = (d.exists, (omega arith, omega arith, omega arith, omega arith))
 
-names_instant : (u : ℕ) (d : DateOf (u / 86_400_000_000)) → instant_of (at_time u d) (pos 0) ≡ pos u -ℤ pos 62_167_219_200_000_000
+names_instant : (u : ℕ) (d : DateOf (u / 86_400_000_000))
+    → instant_of (at_time u d) (pos 0) ≡ pos u -ℤ pos 62_167_219_200_000_000
 unfolding at_time
 names_instant u d = rw d.number (omega (arith, signed_arith))
 

@@ -8,10 +8,12 @@ use Rattle.std.proofs.lemmas.List.{append_cancel_left}
 use Rattle.octet_language.specs.Language.{Language, Only, ◌⋅◌}
 use Rattle.syslog_value.specs.Instants.{IsCivil, instant_of}
 use Rattle.syslog_value.specs.Order.{OctetsBelow}
-use Rattle.syslog_value.specs.Parts.{ElementParts, IsById, IsInstant, IsMessage, IsRecord, MessageParts, AnyOctets, Utf8Text, Parts}
+use Rattle.syslog_value.specs.Parts.{ElementParts, IsById, IsInstant, IsMessage, IsRecord, MessageParts, AnyOctets}
+use Rattle.syslog_value.specs.Parts.{Utf8Text, Parts}
 use Rattle.syslog_value.specs.declared.civil.Civil.{Civil}
 use Rattle.syslog_value.proofs.CivilTimes.{civil-injective}
-use Rattle.syslog_grammar.specs.Canonical.{Canonical, HeaderForm, SpacedWord, TimeForm, civil_text, message_form, priority_version_form, structured_data_form, word_form}
+use Rattle.syslog_grammar.specs.Canonical.{Canonical, HeaderForm, SpacedWord, TimeForm, civil_text, message_form}
+use Rattle.syslog_grammar.specs.Canonical.{priority_version_form, structured_data_form, word_form}
 use Rattle.syslog_grammar.proofs.CanonicalParses.{canonical_injective, canonical_once, once}
 use Rattle.archive_text.specs.Entries.{Entry, InstantBelow, IsAscending, IsBelow, IsEntry, IsEntryOf}
 use Rattle.archive_text.specs.Text.{IsArchive}
@@ -19,7 +21,8 @@ use Rattle.archive_text.proofs.Orders.{instant_irreflexive}
 use mathlib.Core.HLevel.{×_prop, Unit-prop, Σ_prop_path}
 
 -- pairs whose first part is settled by what holds of it
-unique_prop : {A : Type 0} {B : A → Type 0} → ((x : A) → IsProp (B x)) → ((x y : A) → B x → B y → x ≡ y) → IsProp ((x : A) × B x)
+unique_prop : {A : Type 0} {B : A → Type 0} → ((x : A) → IsProp (B x)) → ((x y : A) → B x → B y → x ≡ y)
+    → IsProp ((x : A) × B x)
 unique_prop each same = λ p q. Σ_prop_path each (same p.0 q.0 p.1 q.1)
 
 -- a sum of facts that exclude one another
@@ -34,12 +37,15 @@ texts_set = hlevel props
 
 -- ---- the canonical text of a record
 
-then_prop : (A B : Language) (b : List ℕ) → ((s : List ℕ) → IsProp (A s)) → ((s : List ℕ) → IsProp (B s)) → ((s t : List ℕ) → A s → A t → s ≡ t) → IsProp ((A ⋅ B) b)
+then_prop : (A B : Language) (b : List ℕ) → ((s : List ℕ) → IsProp (A s)) → ((s : List ℕ) → IsProp (B s))
+    → ((s t : List ℕ) → A s → A t → s ≡ t) → IsProp ((A ⋅ B) b)
 then_prop A B b one two same =
     let Behind : List ℕ → Type 0 = λ x. (y : List ℕ) × ((b ≡ x ++ y) × (A x × B y)) in
     let behind : (x : List ℕ) → IsProp (Behind x) =
-    λ x. unique_prop {B = λ y. (b ≡ x ++ y) × (A x × B y)} (λ y. ×_prop (texts_set b (x ++ y)) (×_prop (one x) (two y))) (λ y z h k. append_cancel_left x y z (sym h.0 ∙ k.0)) in
-    let nested : IsProp ((x : List ℕ) × Behind x) = unique_prop {B = Behind} behind (λ x u h k. same x u h.1.1.0 k.1.1.0) in
+    λ x. unique_prop {B = λ y. (b ≡ x ++ y) × (A x × B y)} (λ y. ×_prop (texts_set b (x ++ y)) (×_prop (one x) (two y)))
+    (λ y z h k. append_cancel_left x y z (sym h.0 ∙ k.0)) in
+    let nested : IsProp ((x : List ℕ) × Behind x) =
+    unique_prop {B = Behind} behind (λ x u h k. same x u h.1.1.0 k.1.1.0) in
     let flat : (x : List ℕ) × Behind x → (A ⋅ B) b = λ n. (n.0, n.1.0, n.1.1.0, n.1.1.1.0, n.1.1.1.1) in
     λ p q. ap flat (nested (p.0, (p.1, (p.2, (p.3, p.4)))) (q.0, (q.1, (q.2, (q.3, q.4)))))
 
@@ -60,13 +66,15 @@ time_prop None b = texts_set b (45 ∷ [])
 time_prop (Some i) b =
     let Named : Civil → Type 0 = λ c. IsCivil c × ((instant_of c (pos 0) ≡ i) × (b ≡ civil_text c)) in
     let nested : IsProp ((c : Civil) × Named c) =
-    unique_prop {B = Named} (λ c. ×_prop (civil_prop c) (×_prop (instant_prop c i) (texts_set b (civil_text c)))) (λ c d h k. civil-injective c d h.0 k.0 (h.1.0 ∙ sym k.1.0)) in
+    unique_prop {B = Named} (λ c. ×_prop (civil_prop c) (×_prop (instant_prop c i) (texts_set b (civil_text c))))
+    (λ c d h k. civil-injective c d h.0 k.0 (h.1.0 ∙ sym k.1.0)) in
     let flat : (c : Civil) × Named c → TimeForm (Some i) b = λ n. (n.0, n.1.0, n.1.1.0, n.1.1.1) in
     λ p q. ap flat (nested (p.0, (p.1, (p.2, p.3))) (q.0, (q.1, (q.2, q.3))))
 
 time_once : (i : Option ℤ) (b c : List ℕ) → TimeForm i b → TimeForm i c → b ≡ c
 time_once None b c h k = h ∙ sym k
-time_once (Some i) b c (u, uc, ui, ub) (v, vc, vi, vb) = ub ∙ ap civil_text (civil-injective u v uc vc (ui ∙ sym vi)) ∙ sym vb
+time_once (Some i) b c (u, uc, ui, ub) (v, vc, vi, vb) =
+    ub ∙ ap civil_text (civil-injective u v uc vc (ui ∙ sym vi)) ∙ sym vb
 
 spaced_prop : (i : Option ℤ) (b : List ℕ) → IsProp ((TimeForm i ⋅ Only (32 ∷ [])) b)
 spaced_prop i b = then_prop (TimeForm i) (Only (32 ∷ [])) b (time_prop i) (only_prop (32 ∷ [])) (time_once i)
@@ -75,7 +83,8 @@ spaced_once : (i : Option ℤ) (b c : List ℕ) → (TimeForm i ⋅ Only (32 ∷
 spaced_once i b c = once (TimeForm i) (Only (32 ∷ [])) b c (time_once i) (only_once (32 ∷ []))
 
 word_prop : (w : Option (List ℕ)) (b : List ℕ) → IsProp (SpacedWord w b)
-word_prop w b = then_prop (Only (word_form w)) (Only (32 ∷ [])) b (only_prop (word_form w)) (only_prop (32 ∷ [])) (only_once (word_form w))
+word_prop w b = then_prop (Only (word_form w)) (Only (32 ∷ [])) b (only_prop (word_form w)) (only_prop (32 ∷ []))
+    (only_once (word_form w))
 
 word_once : (w : Option (List ℕ)) (s t : List ℕ) → SpacedWord w s → SpacedWord w t → s ≡ t
 word_once w s t h k = once (Only (word_form w)) (Only (32 ∷ [])) s t (only_once (word_form w)) (only_once (32 ∷ [])) h k
@@ -91,25 +100,38 @@ canonical_prop r b =
     let prefix : Language = Only (priority_version_form r.priority) in
     let elements : Language = Only (structured_data_form r.elements) in
     let tail : Language = Only (message_form r.message) in
-    let p5 : (s : List ℕ) → IsProp ((w5 ⋅ w6) s) = λ s. then_prop w5 w6 s (word_prop r.proc_id) (word_prop r.msg_id) (word_once r.proc_id) in
-    let p4 : (s : List ℕ) → IsProp ((w4 ⋅ w5 ⋅ w6) s) = λ s. then_prop w4 (w5 ⋅ w6) s (word_prop r.app_name) p5 (word_once r.app_name) in
-    let p3 : (s : List ℕ) → IsProp ((w3 ⋅ w4 ⋅ w5 ⋅ w6) s) = λ s. then_prop w3 (w4 ⋅ w5 ⋅ w6) s (word_prop r.hostname) p4 (word_once r.hostname) in
-    let p2 : (s : List ℕ) → IsProp ((time ⋅ w3 ⋅ w4 ⋅ w5 ⋅ w6) s) = λ s. then_prop time (w3 ⋅ w4 ⋅ w5 ⋅ w6) s (spaced_prop r.time) p3 (spaced_once r.time) in
-    let p1 : (s : List ℕ) → IsProp ((prefix ⋅ time ⋅ w3 ⋅ w4 ⋅ w5 ⋅ w6) s) = λ s. then_prop prefix (time ⋅ w3 ⋅ w4 ⋅ w5 ⋅ w6) s (only_prop (priority_version_form r.priority)) p2 (only_once (priority_version_form r.priority)) in
-    let o5 : (s t : List ℕ) → (w5 ⋅ w6) s → (w5 ⋅ w6) t → s ≡ t = λ s t. once w5 w6 s t (word_once r.proc_id) (word_once r.msg_id) in
-    let o4 : (s t : List ℕ) → (w4 ⋅ w5 ⋅ w6) s → (w4 ⋅ w5 ⋅ w6) t → s ≡ t = λ s t. once w4 (w5 ⋅ w6) s t (word_once r.app_name) o5 in
-    let o3 : (s t : List ℕ) → (w3 ⋅ w4 ⋅ w5 ⋅ w6) s → (w3 ⋅ w4 ⋅ w5 ⋅ w6) t → s ≡ t = λ s t. once w3 (w4 ⋅ w5 ⋅ w6) s t (word_once r.hostname) o4 in
-    let o2 : (s t : List ℕ) → (time ⋅ w3 ⋅ w4 ⋅ w5 ⋅ w6) s → (time ⋅ w3 ⋅ w4 ⋅ w5 ⋅ w6) t → s ≡ t = λ s t. once time (w3 ⋅ w4 ⋅ w5 ⋅ w6) s t (spaced_once r.time) o3 in
+    let p5 : (s : List ℕ) → IsProp ((w5 ⋅ w6) s) =
+    λ s. then_prop w5 w6 s (word_prop r.proc_id) (word_prop r.msg_id) (word_once r.proc_id) in
+    let p4 : (s : List ℕ) → IsProp ((w4 ⋅ w5 ⋅ w6) s) =
+    λ s. then_prop w4 (w5 ⋅ w6) s (word_prop r.app_name) p5 (word_once r.app_name) in
+    let p3 : (s : List ℕ) → IsProp ((w3 ⋅ w4 ⋅ w5 ⋅ w6) s) =
+    λ s. then_prop w3 (w4 ⋅ w5 ⋅ w6) s (word_prop r.hostname) p4 (word_once r.hostname) in
+    let p2 : (s : List ℕ) → IsProp ((time ⋅ w3 ⋅ w4 ⋅ w5 ⋅ w6) s) =
+    λ s. then_prop time (w3 ⋅ w4 ⋅ w5 ⋅ w6) s (spaced_prop r.time) p3 (spaced_once r.time) in
+    let p1 : (s : List ℕ) → IsProp ((prefix ⋅ time ⋅ w3 ⋅ w4 ⋅ w5 ⋅ w6) s) =
+    λ s. then_prop prefix (time ⋅ w3 ⋅ w4 ⋅ w5 ⋅ w6) s (only_prop (priority_version_form r.priority)) p2
+    (only_once (priority_version_form r.priority)) in
+    let o5 : (s t : List ℕ) → (w5 ⋅ w6) s → (w5 ⋅ w6) t → s ≡ t =
+    λ s t. once w5 w6 s t (word_once r.proc_id) (word_once r.msg_id) in
+    let o4 : (s t : List ℕ) → (w4 ⋅ w5 ⋅ w6) s → (w4 ⋅ w5 ⋅ w6) t → s ≡ t =
+    λ s t. once w4 (w5 ⋅ w6) s t (word_once r.app_name) o5 in
+    let o3 : (s t : List ℕ) → (w3 ⋅ w4 ⋅ w5 ⋅ w6) s → (w3 ⋅ w4 ⋅ w5 ⋅ w6) t → s ≡ t =
+    λ s t. once w3 (w4 ⋅ w5 ⋅ w6) s t (word_once r.hostname) o4 in
+    let o2 : (s t : List ℕ) → (time ⋅ w3 ⋅ w4 ⋅ w5 ⋅ w6) s → (time ⋅ w3 ⋅ w4 ⋅ w5 ⋅ w6) t → s ≡ t =
+    λ s t. once time (w3 ⋅ w4 ⋅ w5 ⋅ w6) s t (spaced_once r.time) o3 in
     let o1 : (s t : List ℕ) → (prefix ⋅ time ⋅ w3 ⋅ w4 ⋅ w5 ⋅ w6) s → (prefix ⋅ time ⋅ w3 ⋅ w4 ⋅ w5 ⋅ w6) t → s ≡ t =
     λ s t. once prefix (time ⋅ w3 ⋅ w4 ⋅ w5 ⋅ w6) s t (only_once (priority_version_form r.priority)) o2 in
-    then_prop (prefix ⋅ time ⋅ w3 ⋅ w4 ⋅ w5 ⋅ w6) (elements ⋅ tail) b p1 (λ s. then_prop elements tail s (only_prop (structured_data_form r.elements)) (only_prop (message_form r.message)) (only_once (structured_data_form r.elements))) o1
+    then_prop (prefix ⋅ time ⋅ w3 ⋅ w4 ⋅ w5 ⋅ w6) (elements ⋅ tail) b p1
+    (λ s. then_prop elements tail s (only_prop (structured_data_form r.elements))
+    (only_prop (message_form r.message)) (only_once (structured_data_form r.elements))) o1
 
 -- ---- records and entries
 
 octets_below_prop : (a b : List ℕ) → IsProp (OctetsBelow a b)
 octets_below_prop xs [] = λ h k. absurd h
 octets_below_prop [] (y ∷ ys) = Unit-prop
-octets_below_prop (x ∷ xs) (y ∷ ys) = either_prop (hlevel props) (×_prop (hlevel props) (octets_below_prop xs ys)) (λ h k. omega (arith, h, k.0))
+octets_below_prop (x ∷ xs) (y ∷ ys) = either_prop (hlevel props) (×_prop (hlevel props) (octets_below_prop xs ys))
+    (λ h k. omega (arith, h, k.0))
 
 by_id_prop : (es : List ElementParts) → IsProp (IsById es)
 by_id_prop [] = Unit-prop
@@ -136,7 +158,8 @@ instant_below_prop (Some i) None = λ h k. absurd h
 instant_below_prop (Some i) (Some j) = hlevel props
 
 below_prop : (a b : Entry) → IsProp (IsBelow a b)
-below_prop a b = either_prop (instant_below_prop a.instant b.instant) (×_prop (hlevel props) (octets_below_prop a.octets b.octets))
+below_prop a b = either_prop (instant_below_prop a.instant b.instant)
+    (×_prop (hlevel props) (octets_below_prop a.octets b.octets))
     (λ h k. instant_irreflexive b.instant (subst (λ (i : Option ℤ). InstantBelow i b.instant) k.0 h))
 
 ascending_prop : (es : List Entry) → IsProp (IsAscending es)

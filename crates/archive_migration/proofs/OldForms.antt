@@ -17,10 +17,22 @@ use Rattle.archive_migration.specs.OldEntries.{IsOldEntry, IsOldEntryOf}
 
 -- ---- records
 
-abbrev parts_of : ℕ → Option ℤ → Option (List ℕ) → Option (List ℕ) → Option (List ℕ) → Option (List ℕ) → List ElementParts → MessageParts → Parts ℤ
-parts_of p t h a c m e x = record { priority = p; time = t; hostname = h; app_name = a; proc_id = c; msg_id = m; elements = e; message = x }
+abbrev parts_of : ℕ → Option ℤ → Option (List ℕ) → Option (List ℕ) → Option (List ℕ) → Option (List ℕ)
+    → List ElementParts → MessageParts → Parts ℤ
+parts_of p t h a c m e x = record {
+  priority = p;
+  time = t;
+  hostname = h;
+  app_name = a;
+  proc_id = c;
+  msg_id =
+      m;
+  elements = e;
+  message = x;
+}
 
-pub same_record : (r q : Parts ℤ) → r.priority ≡ q.priority → r.time ≡ q.time → r.hostname ≡ q.hostname → r.app_name ≡ q.app_name → r.proc_id ≡ q.proc_id → r.msg_id ≡ q.msg_id
+pub same_record : (r q : Parts ℤ) → r.priority ≡ q.priority → r.time ≡ q.time → r.hostname ≡ q.hostname
+    → r.app_name ≡ q.app_name → r.proc_id ≡ q.proc_id → r.msg_id ≡ q.msg_id
     → r.elements ≡ q.elements → r.message ≡ q.message → r ≡ q
 same_record r q priority time hostname app_name proc_id msg_id elements message =
     let same : parts_of r.priority r.time r.hostname r.app_name r.proc_id r.msg_id r.elements r.message
@@ -31,7 +43,8 @@ same_record r q priority time hostname app_name proc_id msg_id elements message 
 -- ---- the new form is what the octets are
 
 -- the old octets are the new form
-pub new_form_well_formed : (r q : Parts ℤ) (b : List ℕ) → IsUnsortedRecord r → Canonical r b → IsNewForm r q → WellFormed q b
+pub new_form_well_formed : (r q : Parts ℤ) (b : List ℕ) → IsUnsortedRecord r → Canonical r b → IsNewForm r q
+    → WellFormed q b
 new_form_well_formed r q b valid h new =
     let s = canonical_spelled r b valid.0 h in (
       timed r s.time,
@@ -52,7 +65,8 @@ new_form_well_formed r q b valid h new =
     )
 
 -- and what they are is the new form
-pub well_formed_new_form : (r q : Parts ℤ) (b : List ℕ) → IsUnsortedRecord r → Canonical r b → WellFormed q b → IsNewForm r q
+pub well_formed_new_form : (r q : Parts ℤ) (b : List ℕ) → IsUnsortedRecord r → Canonical r b → WellFormed q b
+    → IsNewForm r q
 well_formed_new_form r q b valid h (p, text, range, distinct, m) =
     let s = canonical_spelled r b valid.0 h in
     let same = same_parts (timed r s.time) p b s.text text in
@@ -102,11 +116,19 @@ old_well_formed r b valid h = let new = new_form_of r valid in (new.0, new_form_
 -- ---- old entries
 
 -- the octets that a view shows, where they are canonical in some order, are an old entry
-pub canonical_old_entry : (e : Entry) (s : ViewParts) → IsViewOf e.octets s → e.instant ≡ s.instant → (r : Parts ℤ) × IsUnsortedRecord r × Canonical r e.octets → IsOldEntry e
+pub canonical_old_entry : (e : Entry) (s : ViewParts) → IsViewOf e.octets s → e.instant ≡ s.instant
+    → (r : Parts ℤ) × IsUnsortedRecord r × Canonical r e.octets → IsOldEntry e
 canonical_old_entry e s (p, text, range, distinct, shown) instant (r, valid, canonical) =
     let t = canonical_spelled r e.octets valid.0 canonical in
-    let same = same_parts p (timed r t.time) e.octets text t.text in
-    (r, record { valid = valid; instant = instant ∙ shown.instant ∙ same.header.time ∙ sym t.same; canonical = canonical })
+    let same = same_parts p (timed r t.time) e.octets text t.text in (
+      r,
+      record {
+        valid = valid;
+        instant = instant ∙ shown.instant ∙ same.header.time ∙ sym t.same;
+        canonical =
+            canonical;
+      },
+    )
 
 -- old entries with the same octets are one
 pub same_old_octets : (e f : Entry) → IsOldEntry e → IsOldEntry f → e.octets ≡ f.octets → e ≡ f
@@ -122,7 +144,8 @@ same_old_record r q e h k =
     let s = canonical_spelled r e.octets h.valid.0 h.canonical in
     let t = canonical_spelled q e.octets k.valid.0 k.canonical in
     let same = same_parts (timed r s.time) (timed q t.time) e.octets s.text t.text in
-    same_record r q same.header.priority (s.same ∙ same.header.time ∙ sym t.same) same.header.hostname same.header.app_name same.header.proc_id same.header.msg_id
+    same_record r q same.header.priority (s.same ∙ same.header.time ∙ sym t.same) same.header.hostname
+    same.header.app_name same.header.proc_id same.header.msg_id
     same.elements same.message
 
 -- an entry is an old entry

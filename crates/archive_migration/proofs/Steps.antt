@@ -1,5 +1,6 @@
 -- An old text is migrated entry by entry.
-use Rattle.std.proofs.Common.{◌≡◌, ℕ, ◌+◌, ◌-◌, ◌<◌, false, ◌≤◌, ◌∙◌, refl, sym, ap, subst, inl, inr, arith, List, [], ◌∷◌, ◌++◌, length}
+use Rattle.std.proofs.Common.{◌≡◌, ℕ, ◌+◌, ◌-◌, ◌<◌, false, ◌≤◌, ◌∙◌, refl, sym, ap, subst, inl, inr, arith, List, []}
+use Rattle.std.proofs.Common.{◌∷◌, ◌++◌, length}
 use Rattle.std.specs.Prelude.{ℤ, OnOk, Option, Some, None, Result, Ok, Err}
 use Rattle.std.specs.Result.{is_err}
 use Rattle.std.proofs.lemmas.List.{append-nil, length-append}
@@ -13,7 +14,8 @@ use Rattle.archive_text.specs.Stores.{AddsRecord}
 use Rattle.archive_text.specs.Text.{text_of}
 use Rattle.archive_text.specs.declared.entry.EntryView.{EntryView}
 use Rattle.archive_text.specs.declared.fault.ArchiveFault.{ArchiveFault}
-use Rattle.archive_text.specs.declared.fault.ArchiveFault.TheVariants.{BadFrame, EntryTooLong, BadEntry, NotCanonical, NotAscending}
+use Rattle.archive_text.specs.declared.fault.ArchiveFault.TheVariants.{BadFrame, EntryTooLong, BadEntry, NotCanonical}
+use Rattle.archive_text.specs.declared.fault.ArchiveFault.TheVariants.{NotAscending}
 use Rattle.archive_text.specs.declared.limits.TheConstants.{ENTRY_MAX}
 use Rattle.archive_text.specs.declared.store.Added.{Added}
 use Rattle.archive_text.proofs.Ascending.{ascending_after, not_after}
@@ -32,7 +34,8 @@ use Rattle.archive_migration.proofs.OldTexts.{old_archive_from}
 -- ---- faults at their positions
 
 -- a fault is within the text
-pub position_within : (most : ℕ) (rest : List ℕ) (fault : ArchiveFault) → IsOldFaultBefore most rest fault → position_of fault ≤ length rest
+pub position_within : (most : ℕ) (rest : List ℕ) (fault : ArchiveFault) → IsOldFaultBefore most rest fault
+    → position_of fault ≤ length rest
 position_within most rest (BadFrame at) (inl (none, offset)) = offset.within
 position_within most rest (BadFrame at) (inr (count, behind, follows, low, cut, is)) = omega (arith, is)
 position_within most rest (EntryTooLong at) (is, h) = omega (arith, is)
@@ -41,29 +44,37 @@ position_within most rest (NotCanonical at) (is, h) = omega (arith, is)
 position_within most rest (NotAscending at) h = absurd h
 
 -- counted from the start of the text of the entries before it
-pub fault_after : (last : Option EntryView) (offset : ℕ) (rest : List ℕ) (fault : ArchiveFault) → IsOldFaultBefore ENTRY_MAX rest fault
+pub fault_after : (last : Option EntryView) (offset : ℕ) (rest : List ℕ) (fault : ArchiveFault)
+    → IsOldFaultBefore ENTRY_MAX rest fault
     → IsFaultAfter last offset rest (shift offset fault)
 fault_after last offset rest (BadFrame at) h es ascending is_last start = (at, h, ap (λ (m : ℕ). m + at) start)
 fault_after last offset rest (EntryTooLong at) (is, h) es ascending is_last start = (omega (arith, is, start), h)
-fault_after last offset rest (BadEntry at fault) (is, h) es ascending is_last start = (omega (arith, is, start), (refl, h))
-fault_after last offset rest (NotCanonical at) (is, h) es ascending is_last start = (omega (arith, is, start), (refl, h))
+fault_after last offset rest (BadEntry at fault) (is, h) es ascending is_last start =
+    (omega (arith, is, start), (refl, h))
+fault_after last offset rest (NotCanonical at) (is, h) es ascending is_last start =
+    (omega (arith, is, start), (refl, h))
 fault_after last offset rest (NotAscending at) h es ascending is_last start = absurd h
 
-not_above : (last : Option EntryView) (es : List Entry) (e : Entry) → IsAscending es → IsLast last es → ¬ (IsAboveLast last e) → ¬ (IsAscending (es ++ e ∷ []))
+not_above : (last : Option EntryView) (es : List Entry) (e : Entry) → IsAscending es → IsLast last es
+    → ¬ (IsAboveLast last e) → ¬ (IsAscending (es ++ e ∷ []))
 not_above None es e ascending is_last none also = none tt
 not_above (Some last) es e ascending (fs, is) none also =
-    not_after fs (entry_of last) e (subst IsAscending is ascending) none (subst (λ xs. IsAscending (xs ++ e ∷ [])) is also)
+    not_after fs (entry_of last) e (subst IsAscending is ascending) none
+    (subst (λ xs. IsAscending (xs ++ e ∷ [])) is also)
 
 -- an entry that is not above the last one
-pub not_ascending_after : (last : Option EntryView) (offset : ℕ) (rest behind : List ℕ) (e : Entry) → BeginsWithOldEntry ENTRY_MAX rest e behind → ¬ (IsAboveLast last e)
+pub not_ascending_after : (last : Option EntryView) (offset : ℕ) (rest behind : List ℕ) (e : Entry)
+    → BeginsWithOldEntry ENTRY_MAX rest e behind → ¬ (IsAboveLast last e)
     → IsFaultAfter last offset rest (NotAscending offset)
 not_ascending_after last offset rest behind e h none es ascending is_last start =
     (start, (e, h.entry, (h.carries, h.fits, (behind, h.parts)), not_above last es e ascending is_last none))
 
 -- ---- a record is added
 
-pub adds_new : (o : Entry) (s : ViewParts) (before after : List Entry) (added : Added) → IsOldEntry o → IsViewOf o.octets s
-    → ((b : List ℕ) → IsViewOf b s → (r : Parts ℤ) × WellFormed r b × AddsRecord r before after added) → AddsNew o before after
+pub adds_new : (o : Entry) (s : ViewParts) (before after : List Entry) (added : Added) → IsOldEntry o
+    → IsViewOf o.octets s
+    → ((b : List ℕ) → IsViewOf b s → (r : Parts ℤ) × WellFormed r b × AddsRecord r before after added)
+    → AddsNew o before after
 adds_new o s before after added (p, old) seen adds x =
     let done = adds o.octets seen in
     let r = done.0 in
@@ -71,13 +82,15 @@ adds_new o s before after added (p, old) seen adds x =
     let has = adds_has e before after added done.2.2 x in (
       λ h.
           elim (has.0 h) [
-            | inl same ↦ inl (subst (IsNewEntryOf o) same (p, r, old, well_formed_new_form p r o.octets old.valid old.canonical done.1, done.2.1))
+            | inl same ↦ inl (subst (IsNewEntryOf o) same
+                (p, r, old, well_formed_new_form p r o.octets old.valid old.canonical done.1, done.2.1))
             | inr more ↦ inr more
           ],
       λ h.
           elim h [
             | inl (p', q, old', new, entry) ↦
-                let same : q ≡ r = one_meaning q r o.octets (new_form_well_formed p' q o.octets old'.valid old'.canonical new) done.1 in
+                let same : q ≡ r = one_meaning q r o.octets
+                (new_form_well_formed p' q o.octets old'.valid old'.canonical new) done.1 in
                 has.1 (inl (one_entry_of r e x done.2.1 (subst (λ z. IsEntryOf z x) same entry)))
             | inr more ↦ has.1 (inr more)
           ],
@@ -102,12 +115,15 @@ nothing_yet text before = record {
   added = λ x. (λ h. inr h, λ h. elim h [ inl (o, has, new) ↦ absurd has | inr more ↦ more ]);
 }
 
-above_ascends : (last : Option EntryView) (es : List Entry) (e : Entry) → IsAscending es → IsLast last es → IsAboveLast last e → IsAscending (es ++ e ∷ [])
+above_ascends : (last : Option EntryView) (es : List Entry) (e : Entry) → IsAscending es → IsLast last es
+    → IsAboveLast last e → IsAscending (es ++ e ∷ [])
 above_ascends None es e ascending is above = subst (λ xs. IsAscending (xs ++ e ∷ [])) (sym is) (tt, tt)
 above_ascends (Some last) es e ascending (fs, is) above =
-    subst (λ xs. IsAscending (xs ++ e ∷ [])) (sym is) (ascending_after fs (entry_of last) e (subst IsAscending is ascending) above)
+    subst (λ xs. IsAscending (xs ++ e ∷ [])) (sym is)
+    (ascending_after fs (entry_of last) e (subst IsAscending is ascending) above)
 
-migrated_more : (olds : List Entry) (o : Entry) (before mid after : List Entry) → AddsMigrated olds before mid → AddsNew o mid after → AddsMigrated (olds ++ o ∷ []) before after
+migrated_more : (olds : List Entry) (o : Entry) (before mid after : List Entry) → AddsMigrated olds before mid
+    → AddsNew o mid after → AddsMigrated (olds ++ o ∷ []) before after
 migrated_more olds o before mid after added adds x = (
   λ h.
       elim ((adds x).0 h) [
@@ -131,24 +147,30 @@ migrated_more olds o before mid after added adds x = (
 )
 
 -- one entry more
-pub one_more_entry : (text rest behind : List ℕ) (last : Option EntryView) (v : EntryView) (before mid after : List Entry) → SoFar text rest last before mid
-    → BeginsWithOldEntry ENTRY_MAX rest (entry_of v) behind → IsAboveLast last (entry_of v) → AddsNew (entry_of v) mid after → SoFar text behind (Some v) before after
+pub one_more_entry : (text rest behind : List ℕ) (last : Option EntryView) (v : EntryView)
+    (before mid after : List Entry) → SoFar text rest last before mid
+    → BeginsWithOldEntry ENTRY_MAX rest (entry_of v) behind → IsAboveLast last (entry_of v)
+    → AddsNew (entry_of v) mid after → SoFar text behind (Some v) before after
 one_more_entry text rest behind last v before mid after h begins above adds = record {
   olds = h.olds ++ entry_of v ∷ [];
-  archive = old_archive_from ENTRY_MAX h.olds (entry_of v) h.archive begins.entry begins.fits (above_ascends last h.olds (entry_of v) h.archive.ascending h.is_last above);
+  archive = old_archive_from ENTRY_MAX h.olds (entry_of v) h.archive begins.entry begins.fits
+      (above_ascends last h.olds (entry_of v) h.archive.ascending h.is_last above);
   parts = text_goes_on h.olds (entry_of v) text rest behind h.parts begins.parts;
   is_last = (h.olds, refl);
   added = migrated_more h.olds (entry_of v) before mid after h.added adds;
 }
 
 -- nothing is left
-pub all_migrated : (text rest : List ℕ) (last : Option EntryView) (before after : List Entry) → SoFar text rest last before after → length rest ≡ 0 → Migrates text before after
+pub all_migrated : (text rest : List ℕ) (last : Option EntryView) (before after : List Entry)
+    → SoFar text rest last before after → length rest ≡ 0 → Migrates text before after
 all_migrated text [] last before after h none = (h.olds, h.archive, h.parts ∙ append-nil (text_of h.olds), h.added)
 all_migrated text (x ∷ rest) last before after h none = absurd (omega (arith, none))
 
 -- the rest begins with no further entry
-pub fault_of_text : (text rest : List ℕ) (last : Option EntryView) (before after : List Entry) (fault : ArchiveFault) → SoFar text rest last before after
-    → 0 < length rest → IsFaultAfter last (length text - length rest) rest fault → IsOldArchiveFault ENTRY_MAX text fault
+pub fault_of_text : (text rest : List ℕ) (last : Option EntryView) (before after : List Entry) (fault : ArchiveFault)
+    → SoFar text rest last before after
+    → 0 < length rest → IsFaultAfter last (length text - length rest) rest fault
+    → IsOldArchiveFault ENTRY_MAX text fault
 fault_of_text text rest last before after fault h some bad =
     old_archive_fault ENTRY_MAX text h.olds rest fault (omega arith) h.archive h.parts some
     (bad h.olds h.archive.ascending h.is_last (omega (arith, ap length h.parts, length-append (text_of h.olds) rest)))

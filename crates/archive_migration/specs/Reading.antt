@@ -6,7 +6,8 @@ use Rattle.archive_text.specs.EntryViews.{entry_of}
 use Rattle.archive_text.specs.Text.{text_of}
 use Rattle.archive_text.specs.declared.entry.EntryView.{EntryView}
 use Rattle.archive_text.specs.declared.fault.ArchiveFault.{ArchiveFault}
-use Rattle.archive_text.specs.declared.fault.ArchiveFault.TheVariants.{BadFrame, EntryTooLong, BadEntry, NotCanonical, NotAscending}
+use Rattle.archive_text.specs.declared.fault.ArchiveFault.TheVariants.{BadFrame, EntryTooLong, BadEntry, NotCanonical}
+use Rattle.archive_text.specs.declared.fault.ArchiveFault.TheVariants.{NotAscending}
 use Rattle.archive_text.specs.declared.limits.TheConstants.{ENTRY_MAX}
 use Rattle.archive_migration.specs.OldFaults.{IsOldArchiveFault, IsOldFaultBehind}
 use Rattle.archive_migration.specs.declared.fault.MigrateFault.{MigrateFault}

@@ -5,7 +5,8 @@ ghost use Rattle.archive_text.specs.EntryViews.{entry_of};
 ghost use Rattle.archive_migration.specs.Migration.{AddsNew, Migrates};
 ghost use Rattle.archive_migration.specs.OldEntries.{IsOldEntry};
 ghost use Rattle.archive_migration.specs.OldTexts.{BeginsWithOldEntry};
-ghost use Rattle.archive_migration.specs.Reading.{IsAboveLast, IsFaultAfter, IsMigrateFault, ShowsIt, old_entry_of, position_of, shift};
+ghost use Rattle.archive_migration.specs.Reading.{IsAboveLast, IsFaultAfter, IsMigrateFault, ShowsIt, old_entry_of};
+ghost use Rattle.archive_migration.specs.Reading.{position_of, shift};
 
 use crate::fault::MigrateFault;
 use crate::old_entry::{OldEntry, read_old_entry};

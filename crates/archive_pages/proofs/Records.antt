@@ -10,11 +10,15 @@ use Rattle.archive_text.proofs.Orders.{same_entry}
 
 -- a record has one entry
 pub one_entry : (r : Parts ℤ) (a b : Entry) → IsEntryOf r a → IsEntryOf r b → a ≡ b
-one_entry r a b h k = same_entry a b (h.instant ∙ sym k.instant) (canonical_once r a.octets b.octets h.canonical k.canonical)
+one_entry r a b h k = same_entry a b (h.instant ∙ sym k.instant)
+    (canonical_once r a.octets b.octets h.canonical k.canonical)
 
 -- whether it is held
-pub held_alike : (r : Parts ℤ) (es : List Entry) (a : Entry) (held : Bool) → IsEntryOf r a → IsTrue held ↔ Has es a → (e : Entry) → IsEntryOf r e → IsTrue held ↔ Has es e
+pub held_alike : (r : Parts ℤ) (es : List Entry) (a : Entry) (held : Bool) → IsEntryOf r a → IsTrue held ↔ Has es a
+    → (e : Entry) → IsEntryOf r e → IsTrue held ↔ Has es e
 held_alike r es a held h same e k = subst (λ (x : Entry). IsTrue held ↔ Has es x) (one_entry r a e h k) same
 
-pub too_long : (r : Parts ℤ) (octets : List ℕ) → Canonical r octets → ENTRY_MAX < length octets → (e : Entry) → IsEntryOf r e → ENTRY_MAX < length e.octets
-too_long r octets canonical long e h = subst (λ (b : List ℕ). ENTRY_MAX < length b) (canonical_once r octets e.octets canonical h.canonical) long
+pub too_long : (r : Parts ℤ) (octets : List ℕ) → Canonical r octets → ENTRY_MAX < length octets → (e : Entry)
+    → IsEntryOf r e → ENTRY_MAX < length e.octets
+too_long r octets canonical long e h = subst (λ (b : List ℕ). ENTRY_MAX < length b)
+    (canonical_once r octets e.octets canonical h.canonical) long

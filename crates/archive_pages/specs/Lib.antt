@@ -1,4 +1,3 @@
-pub mod Fronts
 pub mod Spans
 pub mod Pages
 pub mod Places

@@ -1,5 +1,6 @@
 -- Where an entry is among spans.
-use Rattle.std.specs.Prelude.{◌≡◌, ℕ, ◌+◌, ◌-◌, ◌<◌, ◌≤◌, List, [], ◌∷◌, ◌⊎◌, length, take, drop, slice_index_or, Option, None, Some}
+use Rattle.std.specs.Prelude.{◌≡◌, ℕ, ◌+◌, ◌-◌, ◌<◌, ◌≤◌, List, [], ◌∷◌, ◌⊎◌, length, take, drop, slice_index_or}
+use Rattle.std.specs.Prelude.{Option, None, Some}
 use Rattle.std.specs.List.{AllByRecursion}
 use Rattle.std.specs.declared.cmp.Ordering.{Ordering}
 use Rattle.archive_text.specs.Entries.{Entry, Has, IsBelow, IsOrder}
@@ -18,7 +19,8 @@ AreAbove blocks e spans = AllByRecursion (λ s. IsBelow e (entry_at blocks s)) s
 -- the spans hold the entry; or it goes between those before the index and the others
 abbrev pub IsInsertion : List (List ℕ) → List Span → Entry → Option ℕ → Type 0
 IsInsertion blocks spans e None = Has (entries_at blocks spans) e
-IsInsertion blocks spans e (Some n) = (n ≤ length spans) × AreBelow blocks e (take n spans) × AreAbove blocks e (drop n spans)
+IsInsertion blocks spans e (Some n) = (n ≤ length spans) × AreBelow blocks e (take n spans)
+    × AreAbove blocks e (drop n spans)
 
 -- the page begins with an entry above the entry
 abbrev pub BeginsAbove : List (List ℕ) → List Span → Entry → Type 0
@@ -32,7 +34,8 @@ BeginsUpTo blocks (s ∷ spans) e = IsBelow (entry_at blocks s) e ⊎ (entry_at 
 
 -- how the last entry of a page compares with the entry
 abbrev pub IsLastOrder : List (List ℕ) → List Span → Entry → Ordering → Type 0
-IsLastOrder blocks spans e o = (s : Span) → s ≡ slice_index_or spans (length spans - 1) s → IsOrder o (entry_at blocks s) e
+IsLastOrder blocks spans e o = (s : Span) → s ≡ slice_index_or spans (length spans - 1) s
+    → IsOrder o (entry_at blocks s) e
 
 -- the entries of earlier pages are below the entry, those of later ones above it
 pub record IsPage (blocks : List (List ℕ)) (pages : List (List Span)) (e : Entry) (k : ℕ) : Type 0 where

@@ -4,17 +4,13 @@ use Rattle.std.proofs.Props.{props}
 use Rattle.std.specs.Prelude.{Vec}
 use Rattle.std.specs.declared.alloc.Global.{Global}
 use Rattle.archive_laws.specs.Props.{archive_prop}
-use Rattle.archive_pages.specs.Fronts.{IsFront}
 use Rattle.archive_pages.specs.Pages.{ArePaged, HoldArchive}
 use Rattle.archive_pages.specs.Spans.{IsWithin, blocks_of, lists_of}
 use Rattle.archive_pages.specs.declared.arena.Arena.{Arena}
 use Rattle.archive_pages.specs.declared.arena.Span.{Span}
 
-front_prop : (n : ℕ) (xs : List ℕ) → IsProp (IsFront n xs)
-front_prop = hlevel props
-
 within_prop : (blocks : List (List ℕ)) (s : Span) → IsProp (IsWithin blocks s)
-within_prop = hlevel (props, front_prop)
+within_prop = hlevel props
 
 -- the pages of an archive are so in one way
 pub ArePaged-prop : (blocks : List (List ℕ)) (pages : List (List Span)) → IsProp (ArePaged blocks pages)

@@ -1,10 +1,10 @@
 -- Entries whose octets lie in blocks.
-use Rattle.std.specs.Prelude.{◌≡◌, ℕ, ◌+◌, ◌<◌, ◌≤◌, List, [], length, take, drop, map, slice_index_or, Option, None, Some, Vec, ℤ, pos, ◌-ℤ◌, zero, suc}
+use Rattle.std.specs.Prelude.{◌≡◌, ℕ, ◌+◌, ◌<◌, ◌≤◌, List, [], length, take, drop, map, ◌++◌, slice_index_or, Option}
+use Rattle.std.specs.Prelude.{None, Some, Vec, ℤ, pos, ◌-ℤ◌, zero, suc}
 use Rattle.std.specs.declared.alloc.Global.{Global}
 use Rattle.archive_text.specs.Entries.{Entry}
-use Rattle.archive_pages.specs.Fronts.{IsFront}
+use Rattle.std.specs.Int.{from_le_bytes, to_le_bytes, w32}
 use Rattle.archive_pages.specs.declared.arena.Arena.{Arena}
-use Rattle.archive_pages.specs.declared.arena.Extent.{Extent}
 use Rattle.archive_pages.specs.declared.arena.Span.{Span}
 
 -- the lists that vectors hold
@@ -22,9 +22,25 @@ abbrev pub instant_at : ℕ → Option ℤ
 instant_at zero = None
 instant_at (suc n) = Some (pos n -ℤ pos 62167219200000000)
 
+-- octets behind their length, which has four octets, the lowest first
+abbrev pub stored : List ℕ → List ℕ
+stored octets = to_le_bytes w32 (length octets) ++ octets
+
+-- the length that a text begins with
+unfoldable pub stored_len : List ℕ → ℕ
+stored_len text = from_le_bytes w32 text
+
+-- the octets behind it
+abbrev pub stored_in : List ℕ → List ℕ
+stored_in text = take (stored_len text) (drop 4 text)
+
+-- a block from the start of a span on
+abbrev pub text_at : List (List ℕ) → Span → List ℕ
+text_at blocks s = drop s.start (block_at blocks s.block)
+
 -- the octets of a span lie in one block
 abbrev pub octets_at : List (List ℕ) → Span → List ℕ
-octets_at blocks s = take s.len (drop s.start (block_at blocks s.block))
+octets_at blocks s = stored_in (text_at blocks s)
 
 abbrev pub entry_at : List (List ℕ) → Span → Entry
 entry_at blocks s = record { instant = instant_at s.rank; octets = octets_at blocks s }
@@ -32,15 +48,10 @@ entry_at blocks s = record { instant = instant_at s.rank; octets = octets_at blo
 abbrev pub entries_at : List (List ℕ) → List Span → List Entry
 entries_at blocks spans = map (entry_at blocks) spans
 
--- the span of octets that are there, with this rank and this number of the first octets
-abbrev pub span_with : ℕ → ℕ → Extent → Span
-span_with i n x = record { rank = i; front = n; block = x.block; start = x.start; len = x.len }
-
--- the block is there, the span ends within it, and its number is that of its octets
+-- the block is there, and the span ends within it
 pub record IsWithin (blocks : List (List ℕ)) (s : Span) : Type 0 where
   pub block : s.block < length blocks
-  pub end : s.start + s.len ≤ length (block_at blocks s.block)
-  pub front : IsFront s.front (octets_at blocks s)
+  pub end : s.start + 4 + stored_len (text_at blocks s) ≤ length (block_at blocks s.block)
 
 -- spans keep their entries from one list of blocks to the next
 abbrev pub Keeps : List (List ℕ) → List (List ℕ) → Type 0

@@ -10,4 +10,5 @@ Puts before after old new more =
 -- the writer failed before it had all of what was put before and this text
 abbrev pub StopsPutting : Option (List ℕ) → Option (List ℕ) → Held → List ℕ → ℕ → Type 0
 StopsPutting before after old more sent =
-    (start : Option (List ℕ)) (text : List ℕ) → Carries start before old text → StopsWithin start after (text ++ more) sent
+    (start : Option (List ℕ)) (text : List ℕ) → Carries start before old text
+    → StopsWithin start after (text ++ more) sent

@@ -9,7 +9,7 @@ ghost use Rattle.archive_pages.specs.Pages.{ArePaged, entries_of};
 ghost use Rattle.archive_pages.specs.Places.{GoesTo};
 ghost use Rattle.archive_text.specs.declared.store.Added.TheVariants.{New};
 
-use crate::arena::{Arena, Span, span_of};
+use crate::arena::{Arena, Span};
 use crate::page::{insert_span, page_of};
 use crate::search::place_of;
 use archive_text::{Added, ENTRY_MAX, EntryView};
@@ -44,8 +44,7 @@ fn add_first(
     ensures err { OnErr result (entries_of (blocks_of arena.new) (lists_of pages.new.items)
         ≡ entries_of (blocks_of arena.old) (lists_of pages.old.items)) }
 {
-    let extent = arena.push(alloc, entry)?;
-    let span = span_of(entry, extent);
+    let span = arena.push(alloc, entry)?;
     push_first(alloc, pages, span)
 }
 
@@ -70,8 +69,7 @@ fn add_at(
     ensures err { OnErr result (entries_of (blocks_of arena.new) (lists_of pages.new.items)
         ≡ entries_of (blocks_of arena.old) (lists_of pages.old.items)) }
 {
-    let extent = arena.push(alloc, entry)?;
-    let span = span_of(entry, extent);
+    let span = arena.push(alloc, entry)?;
     insert_span(alloc, pages, page, index, span)
 }
 

@@ -3,7 +3,7 @@
 #![tactic(auto)]
 
 mod arena;
-mod front;
+mod comparing;
 mod index;
 mod page;
 mod paged;

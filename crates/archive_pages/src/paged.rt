@@ -23,9 +23,10 @@ const RECORDS_MAX: usize = 1_099_511_627_776;
 /// A set of records in memory, made for millions of them. Its entries lie in pages of at most 256,
 /// in ascending order, under an index in order; their octets lie in blocks of 1 MiB.
 ///
-/// An entry takes its canonical octets and some 24 to 48 more. One that is above all others is found
-/// so by one comparison, any other by some twenty. More than 2^40 records, or 2^32 blocks, are
-/// answered as out of memory.
+/// An entry takes its canonical octets and some 20 to 36 more. One that is above all others is found
+/// so by one comparison; any other by the comparison of some thirty instants, and of octets in some
+/// twenty entries of its instant at most. More than 2^40 records, or 2^32 blocks, are answered as out
+/// of memory.
 #[derive(Debug, Drop)]
 pub struct PagedArchive {
     arena: Arena,

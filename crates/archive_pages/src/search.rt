@@ -11,9 +11,29 @@ ghost use Rattle.archive_pages.specs.Places.{BeginsAbove, BeginsUpTo, IsInsertio
 ghost use Rattle.archive_pages.specs.Places.{IsLastOrder, IsPage, IsPlace};
 
 use crate::arena::{Arena, Span};
-use crate::front::compare_span;
+use crate::comparing::compare_span;
+use crate::rank::rank_of;
 use archive_text::EntryView;
 use std::cmp::Ordering;
+
+// how many spans of a page are passed over at a time
+const STRIDE: usize = 16;
+
+// The span to compare next, of those from `low` to below `high`: one a stride on, so that the page is
+// read from its front, ahead of the comparisons; the middle one where few spans are left, or where
+// the instant is that of the entry and octets are compared.
+#[inline]
+fn next_index(page: &[Span], low: usize, high: usize, rank: u64) -> usize
+    requires ordered { low < high }
+    requires within { high ≤ length page.now }
+    ensures low { low ≤ result }
+    ensures high { result < high }
+{
+    if high - low > STRIDE && page[low + STRIDE - 1].rank != rank {
+        return low + STRIDE - 1;
+    }
+    low + (high - low) / 2
+}
 
 // Where an entry goes in a page: before the span of this index. None where it is held.
 fn search_page(arena: &Arena, page: &[Span], entry: &EntryView<'_>) -> Option<usize>
@@ -21,14 +41,15 @@ fn search_page(arena: &Arena, page: &[Span], entry: &EntryView<'_>) -> Option<us
     requires ascending { IsAscending (entries_at (blocks_of arena.now) page.now) }
     ensures { IsInsertion (blocks_of arena.now) page.now (entry_of entry.now) result }
 {
+    let rank = rank_of(entry.instant);
     let mut low = 0;
     let mut high = page.len();
     while low < high {
-        let middle = low + (high - low) / 2;
-        match compare_span(arena, page[middle], entry) {
-            Ordering::Less => low = middle + 1,
+        let index = next_index(page, low, high, rank);
+        match compare_span(arena, page[index], entry) {
+            Ordering::Less => low = index + 1,
             Ordering::Equal => return None,
-            Ordering::Greater => high = middle,
+            Ordering::Greater => high = index,
         }
     }
     Some(low)

@@ -1,9 +1,11 @@
 -- The length before an entry, as its octets come.
-use Rattle.std.proofs.Common.{◌≡◌, ℕ, ◌<◌, ◌≤◌, List, [], ◌∷◌, ◌++◌, length, take, drop, refl, sym, ap, subst, ◌∙◌, append_assoc, arith, inl, inr}
+use Rattle.std.proofs.Common.{◌≡◌, ℕ, ◌<◌, ◌≤◌, List, [], ◌∷◌, ◌++◌, length, take, drop, refl, sym, ap, subst, ◌∙◌}
+use Rattle.std.proofs.Common.{append_assoc, arith, inl, inr}
 use Rattle.std.specs.Fmt.{decimal}
 use Rattle.std.proofs.lemmas.Fmt.{length-decimal-le}
 use Rattle.std.proofs.lemmas.Bool.{cases_lt}
-use Rattle.std.proofs.lemmas.List.{append-nil, length-append, take-append-drop, take-append-le, take-take, take_all, take_at}
+use Rattle.std.proofs.lemmas.List.{append-nil, length-append, take-append-drop, take-append-le, take-take, take_all}
+use Rattle.std.proofs.lemmas.List.{take_at}
 use Rattle.octet_language.specs.Language.{AnyOf, Begins, IsFaultOffset, Language, NoPrefix}
 use Rattle.octet_language.proofs.Lists.{parted}
 use Rattle.syslog_frame.specs.Frames.{CanCarry, framed}
@@ -28,16 +30,24 @@ unfinished_short s u = short u.begins.0 u.begins.1
     short : (more : List ℕ) → AnyOf MsgLen (s ++ more) → length s ≤ 10
     short [] h = absurd (u.none s [] (sym (append-nil s)) (subst (AnyOf MsgLen) (append-nil s) h))
     short (x ∷ more) (n, (some, low, e)) =
-        omega (arith, ap length e, length-append s (x ∷ more), length-append (decimal n) (32 ∷ []), length-decimal-le 10 n (omega arith) (omega (arith, low)) (omega (arith, low)))
+        omega (
+          arith,
+          ap length e,
+          length-append s (x ∷ more),
+          length-append (decimal n) (32 ∷ []),
+          length-decimal-le 10 n (omega arith) (omega (arith, low)) (omega (arith, low)),
+        )
 
 -- with one octet more, a length that is whole is all of the text
-pub whole_all : (s m text : List ℕ) (count used : ℕ) → IsUnfinished s → text ≡ s ++ m → length m ≤ 1 → IsMsgLen text (Whole count used) → MsgLen count text
+pub whole_all : (s m text : List ℕ) (count used : ℕ) → IsUnfinished s → text ≡ s ++ m → length m ≤ 1
+    → IsMsgLen text (Whole count used) → MsgLen count text
 whole_all s m text count used u e few h =
     elim (cases_lt used (length text)) [
       | inl less ↦
           let within : used ≤ length s = omega (arith, less, ap length e, length-append s m) in
           let same : take used text ≡ take used s = ap (take used) e ∙ take-append-le used s m within in
-          absurd (u.none (take used s) (drop used s) (sym (take-append-drop used s)) (subst (AnyOf MsgLen) same (count, h.1)))
+          absurd (u.none (take used s) (drop used s) (sym (take-append-drop used s))
+          (subst (AnyOf MsgLen) same (count, h.1)))
       | inr all ↦ subst (MsgLen count) (take_all used text all) h.1
     ]
 
@@ -53,14 +63,18 @@ further L b (m ∷ more) none dead x y e h =
 none_longer : (L : Language) (b more : List ℕ) → ¬ (Begins L b) → ¬ (Begins L (b ++ more))
 none_longer L b more dead (end, h) = dead (more ++ end, subst L (append_assoc b more end) h)
 
-offset_longer : (L : Language) (b more : List ℕ) (n : ℕ) → ¬ (Begins L b) → IsFaultOffset L b n → IsFaultOffset L (b ++ more) n
+offset_longer : (L : Language) (b more : List ℕ) (n : ℕ) → ¬ (Begins L b) → IsFaultOffset L b n
+    → IsFaultOffset L (b ++ more) n
 offset_longer L b more n dead p = record {
   within = omega (arith, p.within, length-append b more);
   begins = subst (Begins L) (sym (take-append-le n b more p.within)) p.begins;
   longest = λ m within h.
       elim (cases_lt (length b) m) [
         | inl past ↦
-            let prefix : take m (b ++ more) ≡ b ++ drop (length b) (take m (b ++ more)) = sym (take-append-drop (length b) (take m (b ++ more))) ∙ ap (λ (u : List ℕ). u ++ drop (length b) (take m (b ++ more))) (take-take (length b) m (b ++ more) (omega (arith, past)) ∙ take_at b more (length b) refl) in
+            let prefix : take m (b ++ more) ≡ b ++ drop (length b) (take m (b ++ more)) =
+            sym (take-append-drop (length b) (take m (b ++ more)))
+            ∙ ap (λ (u : List ℕ). u ++ drop (length b) (take m (b ++ more)))
+            (take-take (length b) m (b ++ more) (omega (arith, past)) ∙ take_at b more (length b) refl) in
             absurd (none_longer L b (drop (length b) (take m (b ++ more))) dead (subst (Begins L) prefix h))
         | inr le ↦ p.longest m le (subst (Begins L) (take-append-le m b more le) h)
       ];
@@ -68,7 +82,10 @@ offset_longer L b more n dead p = record {
 
 -- a bad length, however the octets go on
 pub bad_count : (most : ℕ) (text rest : List ℕ) (at : ℕ) → IsMsgLen text (Bad at) → IsBadFrame most (text ++ rest) at
-bad_count most text rest at h = inl (further (AnyOf MsgLen) text rest h.0 h.1, offset_longer (AnyOf MsgLen) text rest at h.1 h.2)
+bad_count most text rest at h = inl (
+  further (AnyOf MsgLen) text rest h.0 h.1,
+  offset_longer (AnyOf MsgLen) text rest at h.1 h.2,
+)
 
 -- it is inside the text
 pub bad_within : (text : List ℕ) (at : ℕ) → IsMsgLen text (Bad at) → at < length text
@@ -79,32 +96,50 @@ bad_within text at h =
     ]
 
 -- a length that the end cuts
-pub cut_count : (most : ℕ) (text rest : List ℕ) → IsUnfinished text → rest ≡ [] → IsBadFrame most (text ++ rest) (length text)
+pub cut_count : (most : ℕ) (text rest : List ℕ) → IsUnfinished text → rest ≡ []
+    → IsBadFrame most (text ++ rest) (length text)
 cut_count most text rest u e =
     let all : text ++ rest ≡ text = ap (λ (s : List ℕ). text ++ s) e ∙ append-nil text in
     subst (λ (s : List ℕ). IsBadFrame most s (length text)) (sym all)
-    (inl (u.none, record { within = omega arith; begins = subst (Begins (AnyOf MsgLen)) (sym (take_all (length text) text (omega arith))) u.begins; longest = λ m within h. within }))
+    (inl (
+      u.none,
+      record {
+        within = omega arith;
+        begins =
+            subst (Begins (AnyOf MsgLen)) (sym (take_all (length text) text (omega arith))) u.begins;
+        longest =
+            λ m within h. within;
+      },
+    ))
 
 -- an entry that the end cuts
-pub cut_entry : (most count : ℕ) (head octets text rest : List ℕ) → MsgLen count head → text ≡ head ++ octets → count ≤ most → length octets < count → rest ≡ []
+pub cut_entry : (most count : ℕ) (head octets text rest : List ℕ) → MsgLen count head → text ≡ head ++ octets
+    → count ≤ most → length octets < count → rest ≡ []
     → IsBadFrame most (text ++ rest) (length text)
 cut_entry most count head octets text rest h e fits less none =
     let all : text ++ rest ≡ text = ap (λ (s : List ℕ). text ++ s) none ∙ append-nil text in
-    subst (λ (s : List ℕ). IsBadFrame most s (length text)) (sym all) (inr (count, octets, (head, e, h), fits, less, refl))
+    subst (λ (s : List ℕ). IsBadFrame most s (length text)) (sym all)
+    (inr (count, octets, (head, e, h), fits, less, refl))
 
 -- a length above the limit
 pub too_long : (most count : ℕ) (text rest : List ℕ) → MsgLen count text → most < count → IsTooLong most (text ++ rest)
 too_long most count text rest h more = (count, rest, (text, refl, h), more)
 
 -- the octets that a length counts
-pub framed_octets : (count : ℕ) (head octets text : List ℕ) → MsgLen count head → text ≡ head ++ octets → length octets ≡ count → text ≡ framed Counted octets
+pub framed_octets : (count : ℕ) (head octets text : List ℕ) → MsgLen count head → text ≡ head ++ octets
+    → length octets ≡ count → text ≡ framed Counted octets
 framed_octets count head octets text h e size =
-    e ∙ ap (λ (s : List ℕ). s ++ octets) (h.2 ∙ ap (λ (n : ℕ). decimal n ++ 32 ∷ []) (sym size)) ∙ append_assoc (decimal (length octets)) (32 ∷ []) octets
+    e ∙ ap (λ (s : List ℕ). s ++ octets) (h.2 ∙ ap (λ (n : ℕ). decimal n ++ 32 ∷ []) (sym size))
+    ∙ append_assoc (decimal (length octets)) (32 ∷ []) octets
 
 pub carried : (count : ℕ) (head octets : List ℕ) → MsgLen count head → length octets ≡ count → CanCarry Counted octets
 carried count head octets h size = (omega (arith, h.0, size), omega (arith, h.1, size))
 
-pub begins_with : (most count : ℕ) (head octets text rest : List ℕ) → MsgLen count head → text ≡ head ++ octets → length octets ≡ count → count ≤ most
+pub begins_with : (most count : ℕ) (head octets text rest : List ℕ) → MsgLen count head → text ≡ head ++ octets
+    → length octets ≡ count → count ≤ most
     → BeginsWithOctets most (text ++ rest) octets
-begins_with most count head octets text rest h e size fits =
-    (carried count head octets h size, omega (arith, fits, size), (rest, ap (λ (s : List ℕ). s ++ rest) (framed_octets count head octets text h e size)))
+begins_with most count head octets text rest h e size fits = (
+  carried count head octets h size,
+  omega (arith, fits, size),
+  (rest, ap (λ (s : List ℕ). s ++ rest) (framed_octets count head octets text h e size)),
+)

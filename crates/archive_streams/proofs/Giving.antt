@@ -1,5 +1,6 @@
 -- What a reader gives, call by call.
-use Rattle.std.proofs.Common.{◌≡◌, ℕ, ◌+◌, ◌-◌, ◌≤◌, List, [], ◌++◌, Option, length, take, drop, refl, sym, ap, ◌∙◌, append-nil, append_assoc, arith}
+use Rattle.std.proofs.Common.{◌≡◌, ℕ, ◌+◌, ◌-◌, ◌≤◌, List, [], ◌++◌, Option, length, take, drop, refl, sym, ap, ◌∙◌}
+use Rattle.std.proofs.Common.{append-nil, append_assoc, arith}
 use Rattle.std.proofs.lemmas.List.{drop-take, drop-drop, length-append, length-take, take-append-drop}
 use Rattle.std.proofs.KnownBytes.{Consumes-nil, Consumes-trans, Consumes-kept}
 use Rattle.std.specs.Io.KnownBytes.{Consumes, Keeps}
@@ -7,12 +8,15 @@ use Rattle.archive_streams.specs.Pieces.{ReadsOn, Reader}
 use Rattle.archive_streams.specs.declared.pieces.Pieces.{Pieces}
 
 -- octets of a piece are used
-pub used_of : (start end used : ℕ) (piece : List ℕ) → used ≤ length (take (end - start) (drop start piece)) → take (end - (start + used)) (drop (start + used) piece) ≡ drop used (take (end - start) (drop start piece))
+pub used_of : (start end used : ℕ) (piece : List ℕ) → used ≤ length (take (end - start) (drop start piece))
+    → take (end - (start + used)) (drop (start + used) piece) ≡ drop used (take (end - start) (drop start piece))
 used_of start end used piece within =
     let len = length-take (end - start) (drop start piece) in
     let room : end - start ≡ used + (end - (start + used)) = omega (arith, within, len) in
-    let drops : drop used (take (used + (end - (start + used))) (drop start piece)) ≡ take (end - (start + used)) (drop (start + used) piece) =
-    drop-take used (end - (start + used)) (drop start piece) ∙ ap (take (end - (start + used))) (drop-drop used start piece) in
+    let drops : drop used (take (used + (end - (start + used))) (drop start piece))
+    ≡ take (end - (start + used)) (drop (start + used) piece) =
+    drop-take used (end - (start + used)) (drop start piece)
+    ∙ ap (take (end - (start + used))) (drop-drop used start piece) in
     sym (ap (λ (n : ℕ). drop used (take n (drop start piece))) room ∙ drops)
 
 -- nothing was read
@@ -28,7 +32,8 @@ ReadsOn-same p d s = record {
 }
 
 -- one call after the other
-pub ReadsOn-then : (p q r : Pieces) (d e f : Reader) (a b c : List ℕ) → ReadsOn p q d e a b → ReadsOn q r e f b c → ReadsOn p r d f a c
+pub ReadsOn-then : (p q r : Pieces) (d e f : Reader) (a b c : List ℕ) → ReadsOn p q d e a b → ReadsOn q r e f b c
+    → ReadsOn p r d f a c
 ReadsOn-then p q r d e f a b c x y = record {
   more = x.more ++ y.more;
   consumed = Consumes-trans d.left e.left f.left _ _ x.consumed y.consumed;
@@ -45,13 +50,15 @@ ReadsOn-then p q r d e f a b c x y = record {
 }
 
 -- some of what stands before goes behind a text
-pub ReadsOn-moved : (p q r : Pieces) (d e : Reader) (a b text after rest : List ℕ) (n : ℕ) → ReadsOn p q d e a b → r.calls ≡ q.calls → r.ends ≡ q.ends
+pub ReadsOn-moved : (p q r : Pieces) (d e : Reader) (a b text after rest : List ℕ) (n : ℕ) → ReadsOn p q d e a b
+    → r.calls ≡ q.calls → r.ends ≡ q.ends
     → after ≡ text ++ take n b → rest ≡ drop n b → ReadsOn p r d e (text ++ a) (after ++ rest)
 ReadsOn-moved p q r d e a b text after rest n x calls ends is_after is_rest = record {
   more = x.more;
   consumed = x.consumed;
   grown =
-      ap (λ (s : List ℕ). s ++ rest) is_after ∙ ap (λ (s : List ℕ). (text ++ take n b) ++ s) is_rest ∙ append_assoc text (take n b) (drop n b) ∙ ap (λ (s : List ℕ). text ++ s) (take-append-drop n b ∙ x.grown)
+      ap (λ (s : List ℕ). s ++ rest) is_after ∙ ap (λ (s : List ℕ). (text ++ take n b) ++ s) is_rest
+      ∙ append_assoc text (take n b) (drop n b) ∙ ap (λ (s : List ℕ). text ++ s) (take-append-drop n b ∙ x.grown)
       ∙ sym (append_assoc text a x.more);
   far = omega (arith, x.far, calls);
   calls = λ h. omega (arith, x.calls h, calls);
@@ -60,7 +67,8 @@ ReadsOn-moved p q r d e a b text after rest n x calls ends is_after is_rest = re
 }
 
 -- nothing goes behind a text
-pub ReadsOn-behind : (p q : Pieces) (d e : Reader) (a b text : List ℕ) → ReadsOn p q d e a b → ReadsOn p q d e (text ++ a) (text ++ b)
+pub ReadsOn-behind : (p q : Pieces) (d e : Reader) (a b text : List ℕ) → ReadsOn p q d e a b
+    → ReadsOn p q d e (text ++ a) (text ++ b)
 ReadsOn-behind p q d e a b text x = record {
   more = x.more;
   consumed = x.consumed;

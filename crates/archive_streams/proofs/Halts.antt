@@ -1,5 +1,6 @@
 -- Where a fault halts two archives on their way into one.
-use Rattle.std.proofs.Common.{◌≡◌, ℕ, ◌+◌, ◌*◌, ◌^◌, ◌<◌, ◌≤◌, List, [], ◌∷◌, ◌++◌, Option, length, take, drop, refl, sym, ap, subst, ◌∙◌, arith, inl, inr}
+use Rattle.std.proofs.Common.{◌≡◌, ℕ, ◌+◌, ◌*◌, ◌^◌, ◌<◌, ◌≤◌, List, [], ◌∷◌, ◌++◌, Option, length, take, drop, refl}
+use Rattle.std.proofs.Common.{sym, ap, subst, ◌∙◌, arith, inl, inr}
 use Rattle.std.specs.Prelude.{◌≢◌, ◌⊎◌}
 use Rattle.std.specs.Io.KnownBytes.{Appends, Consumes}
 use Rattle.std.proofs.lemmas.List.{length-take, take-append-drop}
@@ -11,7 +12,7 @@ use Rattle.archive_text.proofs.Prefixes.{archive_fault}
 use Rattle.archive_text.proofs.Texts.{text_length, text_push}
 use Rattle.held_output.specs.Held.{Carries, Held, StopsWithin}
 use Rattle.held_output.proofs.Carrying.{StopsWithin-take}
-use Rattle.syslog_value.specs.declared.loops.TheConstants.{READER_CALLS}
+use Rattle.syslog_value.specs.declared.loops.TheConstants.{READ_MAX, READER_CALLS}
 use Rattle.archive_streams.specs.EntryTexts.{entry_in}
 use Rattle.archive_streams.specs.Halted.{Halted, IsNotWrite, IsUnderWay}
 use Rattle.archive_streams.specs.Joining.{IsPrefixOfUnion, IsUnion, IsWithin}
@@ -28,43 +29,69 @@ use Rattle.archive_streams.specs.declared.fault.Side.TheVariants.{Left as side_L
 use Rattle.archive_streams.specs.declared.fault.SideFault.{SideFault}
 use Rattle.archive_streams.specs.declared.fault.SideFault.TheVariants.{Archive, Input}
 use Rattle.archive_streams.specs.declared.merge.Merge.{Merge}
-use Rattle.archive_streams.specs.declared.pieces.TheConstants.{PIECE}
 use Rattle.archive_streams.specs.declared.side.ArchiveReader.{ArchiveReader}
-use Rattle.archive_streams.proofs.Joining.{AllWithin, SideAt, first_above, first_within, prefix_of_union, shorter_prefix, up_to_first}
+use Rattle.archive_streams.proofs.Joining.{AllWithin, SideAt, first_above, first_within, prefix_of_union}
+use Rattle.archive_streams.proofs.Joining.{shorter_prefix, up_to_first}
 use Rattle.archive_streams.proofs.Merges.{HasNext, has_next, longer_both, longer_left, longer_right, still_side}
-use Rattle.archive_streams.proofs.Unions.{IsAhead, all_within, side_ahead, side_due, side_ready, turned, union_both, union_left, union_right}
+use Rattle.archive_streams.proofs.Unions.{IsAhead, all_within, side_ahead, side_due, side_ready, turned, union_both}
+use Rattle.archive_streams.proofs.Unions.{union_left, union_right}
 
 -- ---- what is joined is short
 
 -- the octets that so many calls give
-near_short : (r : ArchiveReader) → IsNear r → r.position ≤ PIECE * READER_CALLS
+near_short : (r : ArchiveReader) → IsNear r → r.position ≤ READ_MAX * READER_CALLS
 near_short r near = omega (arith, near, r.pieces.few)
 
-due_short : (s : ArchiveReader) (d e : Reader) (es : List Entry) (last : EntryText) → IsNear s → Due s d e es last → length (text_of es) ≤ PIECE * READER_CALLS
+due_short : (s : ArchiveReader) (d e : Reader) (es : List Entry) (last : EntryText) → IsNear s → Due s d e es last
+    → length (text_of es) ≤ READ_MAX * READER_CALLS
 due_short s d e es last near r = omega (arith, near_short s near, r.read.position)
 
-ready_short : (s : ArchiveReader) (d e : Reader) (ls ws : List Entry) → IsNear s → Ready s d e ls ws → length (text_of ls) ≤ PIECE * READER_CALLS
+ready_short : (s : ArchiveReader) (d e : Reader) (ls ws : List Entry) → IsNear s → Ready s d e ls ws
+    → length (text_of ls) ≤ READ_MAX * READER_CALLS
 ready_short s d e ls ws near r = placed r.place
   where
-    placed : IsNextOrEnd s r.es ls ws → length (text_of ls) ≤ PIECE * READER_CALLS
-    placed (inl next) = omega (arith, near_short s near, r.read.position, ap (λ (l : List Entry). length (text_of l)) next.1, text_length ls (entry_in s.entry ∷ []))
-    placed (inr end) = omega (arith, near_short s near, r.read.position, ap (λ (l : List Entry). length (text_of l)) end.1)
+    placed : IsNextOrEnd s r.es ls ws → length (text_of ls) ≤ READ_MAX * READER_CALLS
+    placed (inl next) = omega (
+      arith,
+      near_short s near,
+      r.read.position,
+      ap (λ (l : List Entry). length (text_of l)) next.1,
+      text_length ls (entry_in s.entry ∷ []),
+    )
+    placed (inr end) = omega (
+      arith,
+      near_short s near,
+      r.read.position,
+      ap (λ (l : List Entry). length (text_of l)) end.1,
+    )
 
-next_short : (s : ArchiveReader) (d e : Reader) (ls ws : List Entry) → IsNear s → HasNext s d e ls ws → length (text_of (ls ++ entry_in s.entry ∷ [])) ≤ PIECE * READER_CALLS
+next_short : (s : ArchiveReader) (d e : Reader) (ls ws : List Entry) → IsNear s → HasNext s d e ls ws
+    → length (text_of (ls ++ entry_in s.entry ∷ [])) ≤ READ_MAX * READER_CALLS
 next_short s d e ls ws near n = omega (arith, near_short s near, n.read.position)
 
-both_short : (ls rs ws : List Entry) → length (text_of ws) ≤ length (text_of ls) + length (text_of rs) → length (text_of ls) ≤ PIECE * READER_CALLS → length (text_of rs) ≤ PIECE * READER_CALLS
+both_short : (ls rs ws : List Entry) → length (text_of ws) ≤ length (text_of ls) + length (text_of rs)
+    → length (text_of ls) ≤ READ_MAX * READER_CALLS → length (text_of rs) ≤ READ_MAX * READER_CALLS
     → length (text_of ws) < 2 ^ 64
 both_short ls rs ws short left right = omega (arith, short, left, right)
 
 -- ---- a side stops
 
 -- the octets of a side that stops
-stopped_side : (fault : SideFault) (s : ArchiveReader) (d e : Reader) (ls ws : List Entry) (last : EntryText) → (t : IsSideStop fault s d e ls) → EndsWith ls last → EndsWith ws last → IsAscending ws → SideAt t.x ls ws
-stopped_side fault s d e ls ws last t of_side of_all_joined up = record { es = ls; rest = t.rest; parts = t.parts; archive = t.archive; stands = inr (inr (refl, all_within ls ws last of_side of_all_joined up)) }
+stopped_side : (fault : SideFault) (s : ArchiveReader) (d e : Reader) (ls ws : List Entry) (last : EntryText)
+    → (t : IsSideStop fault s d e ls) → EndsWith ls last → EndsWith ws last → IsAscending ws → SideAt t.x ls ws
+stopped_side fault s d e ls ws last t of_side of_all_joined up =
+    record {
+      es = ls;
+      rest = t.rest;
+      parts = t.parts;
+      archive = t.archive;
+      stands =
+          inr (inr (refl, all_within ls ws last of_side of_all_joined up));
+    }
 
 -- its end was given
-side_ended : (fault : SideFault) (s : ArchiveReader) (d e : Reader) (ls : List Entry) → IsSideStop fault s d e ls → 0 < s.pieces.ends → HasEnded d e
+side_ended : (fault : SideFault) (s : ArchiveReader) (d e : Reader) (ls : List Entry) → IsSideStop fault s d e ls
+    → 0 < s.pieces.ends → HasEnded d e
 side_ended fault s d e ls t some = record { ends = λ low. omega (arith, t.ends low, some); none_left = t.at_end some }
 
 -- the fault that is told of the left
@@ -79,17 +106,20 @@ right_fault (Archive fault) = Right fault
 right_fault (Input Device) = Read side_Right
 right_fault (Input input_Endless) = Endless side_Right
 
-left_under_way : (fault : SideFault) (held : Held) (start now : Option (List ℕ)) (text : List ℕ) → Carries start now held text → IsUnderWay (left_fault fault) held start now text
+left_under_way : (fault : SideFault) (held : Held) (start now : Option (List ℕ)) (text : List ℕ)
+    → Carries start now held text → IsUnderWay (left_fault fault) held start now text
 left_under_way (Archive fault) held start now text c = c
 left_under_way (Input Device) held start now text c = c
 left_under_way (Input input_Endless) held start now text c = c
 
-right_under_way : (fault : SideFault) (held : Held) (start now : Option (List ℕ)) (text : List ℕ) → Carries start now held text → IsUnderWay (right_fault fault) held start now text
+right_under_way : (fault : SideFault) (held : Held) (start now : Option (List ℕ)) (text : List ℕ)
+    → Carries start now held text → IsUnderWay (right_fault fault) held start now text
 right_under_way (Archive fault) held start now text c = c
 right_under_way (Input Device) held start now text c = c
 right_under_way (Input input_Endless) held start now text c = c
 
-left_input : (fault : SideFault) (s : ArchiveReader) (dl el dr er : Reader) (ls rs ws : List Entry) (y : List ℕ) → (t : IsSideStop fault s dl el ls) → SideAt t.x ls ws → SideAt y rs ws → IsUnion ls rs ws
+left_input : (fault : SideFault) (s : ArchiveReader) (dl el dr er : Reader) (ls rs ws : List Entry) (y : List ℕ)
+    → (t : IsSideStop fault s dl el ls) → SideAt t.x ls ws → SideAt y rs ws → IsUnion ls rs ws
     → AllWithin ls ws → IsInputFault (left_fault fault) dl el dr er t.x y (text_of ws)
 left_input (Archive fault) s dl el dr er ls rs ws y t a b u all = (
   record {
@@ -100,9 +130,11 @@ left_input (Archive fault) s dl el dr er ls rs ws y t a b u all = (
   λ other too. first_within t.x y ls rs ws t.rest fault other t.archive t.parts t.cause.0 b u too,
 )
 left_input (Input Device) s dl el dr er ls rs ws y t a b u all = tt
-left_input (Input input_Endless) s dl el dr er ls rs ws y t a b u all = record { calls = λ low. omega (arith, t.calls low, t.cause.0); ends = λ low. omega (arith, t.ends low, t.cause.1) }
+left_input (Input input_Endless) s dl el dr er ls rs ws y t a b u all =
+    record { calls = λ low. omega (arith, t.calls low, t.cause.0); ends = λ low. omega (arith, t.ends low, t.cause.1) }
 
-right_input : (fault : SideFault) (s : ArchiveReader) (dl el dr er : Reader) (ls rs ws : List Entry) (x : List ℕ) → (t : IsSideStop fault s dr er rs) → (a : SideAt x ls ws) → IsAhead a.es ls ws a.rest → SideAt t.x rs ws
+right_input : (fault : SideFault) (s : ArchiveReader) (dl el dr er : Reader) (ls rs ws : List Entry) (x : List ℕ)
+    → (t : IsSideStop fault s dr er rs) → (a : SideAt x ls ws) → IsAhead a.es ls ws a.rest → SideAt t.x rs ws
     → IsUnion ls rs ws → AllWithin rs ws → IsInputFault (right_fault fault) dl el dr er x t.x (text_of ws)
 right_input (Archive fault) s dl el dr er ls rs ws x t a ahead b u all = (
   record {
@@ -113,11 +145,14 @@ right_input (Archive fault) s dl el dr er ls rs ws x t a ahead b u all = (
   λ other too. first_above x t.x ls rs ws t.rest fault other t.archive t.parts t.cause.0 a ahead u too,
 )
 right_input (Input Device) s dl el dr er ls rs ws x t a ahead b u all = tt
-right_input (Input input_Endless) s dl el dr er ls rs ws x t a ahead b u all = record { calls = λ low. omega (arith, t.calls low, t.cause.0); ends = λ low. omega (arith, t.ends low, t.cause.1) }
+right_input (Input input_Endless) s dl el dr er ls rs ws x t a ahead b u all =
+    record { calls = λ low. omega (arith, t.calls low, t.cause.0); ends = λ low. omega (arith, t.ends low, t.cause.1) }
 
 -- the left stops
-left_stops : (fault : SideFault) (s : ArchiveReader) (m : Merge) (dl el dr er : Reader) (ls rs ws : List Entry) (y : List ℕ) (start now : Option (List ℕ)) → IsSideStop fault s dl el ls → EndsWith ls m.last
-    → SideAt y rs ws → Consumes dr.left er.left y → Joins m ls rs ws start now → length (text_of ws) < 2 ^ 64 → Halted (left_fault fault) m.held dl el dr er start now
+left_stops : (fault : SideFault) (s : ArchiveReader) (m : Merge) (dl el dr er : Reader) (ls rs ws : List Entry)
+    (y : List ℕ) (start now : Option (List ℕ)) → IsSideStop fault s dl el ls → EndsWith ls m.last
+    → SideAt y rs ws → Consumes dr.left er.left y → Joins m ls rs ws start now → length (text_of ws) < 2 ^ 64
+    → Halted (left_fault fault) m.held dl el dr er start now
 left_stops fault s m dl el dr er ls rs ws y start now t ends b consumed j short =
     let a : SideAt t.x ls ws = stopped_side fault s dl el ls ws m.last t ends j.last_is j.union.ascending in
     let all : AllWithin ls ws = record { within = all_within ls ws m.last ends j.last_is j.union.ascending } in
@@ -133,32 +168,47 @@ left_stops fault s m dl el dr er ls rs ws y start now t ends b consumed j short 
       input = left_input fault s dl el dr er ls rs ws y t a b j.union all;
     }
 
-pub left_halts : (fault found : SideFault) (s : ArchiveReader) (m : Merge) (dl el fl dr er : Reader) (start now : Option (List ℕ)) → HasRoom m → found ≡ fault
-    → ((d : Reader) (es : List Entry) → Due m.left d el es m.last → IsSideStop found s d fl es) → LeftDue m dl el dr er start now → Halted (left_fault fault) m.held dl fl dr er start now
+pub left_halts : (fault found : SideFault) (s : ArchiveReader) (m : Merge) (dl el fl dr er : Reader)
+    (start now : Option (List ℕ)) → HasRoom m → found ≡ fault
+    → ((d : Reader) (es : List Entry) → Due m.left d el es m.last → IsSideStop found s d fl es)
+    → LeftDue m dl el dr er start now → Halted (left_fault fault) m.held dl fl dr er start now
 left_halts fault found s m dl el fl dr er start now room same stop h =
     let left = due_short m.left dl el h.ls m.last room.left_near h.left in
     let right = ready_short m.right dr er h.rs h.ws room.right_near h.right in
-    left_stops fault s m dl fl dr er h.ls h.rs h.ws h.right.x start now (subst (λ (f : SideFault). IsSideStop f s dl fl h.ls) same (stop dl h.ls h.left)) h.left.ends (side_ready m.right dr er h.rs h.ws h.right) h.right.read.consumed h.joins
+    left_stops fault s m dl fl dr er h.ls h.rs h.ws h.right.x start now
+    (subst (λ (f : SideFault). IsSideStop f s dl fl h.ls) same (stop dl h.ls h.left)) h.left.ends
+    (side_ready m.right dr er h.rs h.ws h.right) h.right.read.consumed h.joins
     (both_short h.ls h.rs h.ws h.joins.short left right)
 
-pub left_halts_first : (fault found : SideFault) (s : ArchiveReader) (m : Merge) (dl el fl dr er : Reader) (start now : Option (List ℕ)) → HasRoom m → found ≡ fault
-    → ((d : Reader) (es : List Entry) → Due m.left d el es m.last → IsSideStop found s d fl es) → BothDue m dl el dr er start now → Halted (left_fault fault) m.held dl fl dr er start now
+pub left_halts_first : (fault found : SideFault) (s : ArchiveReader) (m : Merge) (dl el fl dr er : Reader)
+    (start now : Option (List ℕ)) → HasRoom m → found ≡ fault
+    → ((d : Reader) (es : List Entry) → Due m.left d el es m.last → IsSideStop found s d fl es)
+    → BothDue m dl el dr er start now → Halted (left_fault fault) m.held dl fl dr er start now
 left_halts_first fault found s m dl el fl dr er start now room same stop h =
     let left = due_short m.left dl el h.ls m.last room.left_near h.left in
     let right = due_short m.right dr er h.rs m.last room.right_near h.right in
-    left_stops fault s m dl fl dr er h.ls h.rs h.ws h.right.x start now (subst (λ (f : SideFault). IsSideStop f s dl fl h.ls) same (stop dl h.ls h.left)) h.left.ends (side_due m.right dr er h.rs h.ws m.last h.right h.joins.last_is h.joins.union.ascending) h.right.read.consumed
+    left_stops fault s m dl fl dr er h.ls h.rs h.ws h.right.x start now
+    (subst (λ (f : SideFault). IsSideStop f s dl fl h.ls) same (stop dl h.ls h.left)) h.left.ends
+    (side_due m.right dr er h.rs h.ws m.last h.right h.joins.last_is h.joins.union.ascending) h.right.read.consumed
     h.joins (both_short h.ls h.rs h.ws h.joins.short left right)
 
 -- the right stops, and the left is ahead
-pub right_halts : (fault found : SideFault) (s : ArchiveReader) (m : Merge) (dl el dr er fr : Reader) (start now : Option (List ℕ)) → HasRoom m → found ≡ fault
-    → ((d : Reader) (es : List Entry) → Due m.right d er es m.last → IsSideStop found s d fr es) → RightDue m dl el dr er start now → Halted (right_fault fault) m.held dl el dr fr start now
+pub right_halts : (fault found : SideFault) (s : ArchiveReader) (m : Merge) (dl el dr er fr : Reader)
+    (start now : Option (List ℕ)) → HasRoom m → found ≡ fault
+    → ((d : Reader) (es : List Entry) → Due m.right d er es m.last → IsSideStop found s d fr es)
+    → RightDue m dl el dr er start now → Halted (right_fault fault) m.held dl el dr fr start now
 right_halts fault found s m dl el dr er fr start now room same stop h =
     let left = ready_short m.left dl el h.ls h.ws room.left_near h.left in
     let right = due_short m.right dr er h.rs m.last room.right_near h.right in
     let a = side_ready m.left dl el h.ls h.ws h.left in
-    let t : IsSideStop fault s dr fr h.rs = subst (λ (f : SideFault). IsSideStop f s dr fr h.rs) same (stop dr h.rs h.right) in
-    let b : SideAt t.x h.rs h.ws = stopped_side fault s dr fr h.rs h.ws m.last t h.right.ends h.joins.last_is h.joins.union.ascending in
-    let all : AllWithin h.rs h.ws = record { within = all_within h.rs h.ws m.last h.right.ends h.joins.last_is h.joins.union.ascending } in
+    let t : IsSideStop fault s dr fr h.rs = subst (λ (f : SideFault). IsSideStop f s dr fr h.rs) same
+    (stop dr h.rs h.right) in
+    let b : SideAt t.x h.rs h.ws = stopped_side fault s dr fr h.rs h.ws m.last t h.right.ends h.joins.last_is
+    h.joins.union.ascending in
+    let all : AllWithin h.rs h.ws = record {
+      within =
+          all_within h.rs h.ws m.last h.right.ends h.joins.last_is h.joins.union.ascending;
+    } in
     record {
       x = h.left.x;
       y = t.x;
@@ -168,14 +218,23 @@ right_halts fault found s m dl el dr er fr start now room same stop h =
       prefix = prefix_of_union h.left.x t.x h.ls h.rs h.ws a b h.joins.union;
       short = both_short h.ls h.rs h.ws h.joins.short left right;
       under_way = right_under_way fault m.held start now (text_of h.ws) h.joins.carries;
-      input = right_input fault s dl el dr fr h.ls h.rs h.ws h.left.x t a (side_ahead m.left dl el h.ls h.ws h.left) b h.joins.union all;
+      input = right_input fault s dl el dr fr h.ls h.rs h.ws h.left.x t a (side_ahead m.left dl el h.ls h.ws h.left) b
+          h.joins.union all;
     }
 
 -- ---- the writer fails
 
 -- all entries of a side whose next one is written are joined
-written_side : (s : ArchiveReader) (d e : Reader) (ls ws : List Entry) → (n : HasNext s d e ls ws) → SideAt n.x (ls ++ entry_in s.entry ∷ []) (ws ++ entry_in s.entry ∷ [])
-written_side s d e ls ws n = record { es = ls ++ entry_in s.entry ∷ []; rest = unused s.pieces; parts = n.read.parts; archive = n.read.archive; stands = inr (inr (refl, within)) }
+written_side : (s : ArchiveReader) (d e : Reader) (ls ws : List Entry) → (n : HasNext s d e ls ws)
+    → SideAt n.x (ls ++ entry_in s.entry ∷ []) (ws ++ entry_in s.entry ∷ [])
+written_side s d e ls ws n = record {
+  es = ls ++ entry_in s.entry ∷ [];
+  rest = unused s.pieces;
+  parts =
+      n.read.parts;
+  archive = n.read.archive;
+  stands = inr (inr (refl, within));
+}
   where
     here : Has (ls ++ entry_in s.entry ∷ []) (entry_in s.entry)
     here = has_right ls (entry_in s.entry ∷ []) (entry_in s.entry) (inl refl)
@@ -185,16 +244,25 @@ written_side s d e ls ws n = record { es = ls ++ entry_in s.entry ∷ []; rest =
     alone v (inr none) = absurd none
 
     within : (v : Entry) → Has (ws ++ entry_in s.entry ∷ []) v → IsWithin (ls ++ entry_in s.entry ∷ []) v
-    within v h = (entry_in s.entry, here, elim (has_either ws (entry_in s.entry ∷ []) v h) [ inl k ↦ inr (n.below v k) | inr k ↦ alone v k ])
+    within v h = (
+      entry_in s.entry,
+      here,
+      elim (has_either ws (entry_in s.entry ∷ []) v h)
+          [ inl k ↦ inr (n.below v k) | inr k ↦ alone v k ],
+    )
 
 -- the text goes on with the entry
-written_text : (s : ArchiveReader) (d e : Reader) (ls ws : List Entry) → HasNext s d e ls ws → text_of ws ++ s.entry.text.items ≡ text_of (ws ++ entry_in s.entry ∷ [])
-written_text s d e ls ws n = ap (λ (u : List ℕ). text_of ws ++ u) n.holds.text_is ∙ sym (text_push ws (entry_in s.entry))
+written_text : (s : ArchiveReader) (d e : Reader) (ls ws : List Entry) → HasNext s d e ls ws
+    → text_of ws ++ s.entry.text.items ≡ text_of (ws ++ entry_in s.entry ∷ [])
+written_text s d e ls ws n = ap (λ (u : List ℕ). text_of ws ++ u) n.holds.text_is
+    ∙ sym (text_push ws (entry_in s.entry))
 
 -- as the left is written alone
-pub less_halts : (m : Merge) (held : Held) (dl el dr er : Reader) (start a b : Option (List ℕ)) (sent : ℕ) → HasRoom m → m.left.entry.text.items ≢ []
+pub less_halts : (m : Merge) (held : Held) (dl el dr er : Reader) (start a b : Option (List ℕ)) (sent : ℕ) → HasRoom m
+    → m.left.entry.text.items ≢ []
     → (m.right.entry.text.items ≢ [] → IsBelow (entry_in m.left.entry) (entry_in m.right.entry))
-    → ((text : List ℕ) → Carries start a m.held text → StopsWithin start b (text ++ m.left.entry.text.items) sent) → Merging m dl el dr er start a → Halted (Write sent) held dl el dr er start b
+    → ((text : List ℕ) → Carries start a m.held text → StopsWithin start b (text ++ m.left.entry.text.items) sent)
+    → Merging m dl el dr er start a → Halted (Write sent) held dl el dr er start b
 less_halts m held dl el dr er start a b sent room some above stops s =
     let w = entry_in m.left.entry in
     let next = has_next m.left dl el s.ls s.ws some s.left in
@@ -206,16 +274,22 @@ less_halts m held dl el dr er start a b sent room some above stops s =
       text = text_of (s.ws ++ w ∷ []);
       left = next.read.consumed;
       right = s.right.read.consumed;
-      prefix = prefix_of_union next.x s.right.x (s.ls ++ w ∷ []) s.rs (s.ws ++ w ∷ []) (written_side m.left dl el s.ls s.ws next) other union;
-      short = both_short (s.ls ++ w ∷ []) s.rs (s.ws ++ w ∷ []) (longer_left s.ls s.rs s.ws w s.joins.short) (next_short m.left dl el s.ls s.ws room.left_near next) (ready_short m.right dr er s.rs s.ws room.right_near s.right);
-      under_way = subst (λ (u : List ℕ). StopsWithin start b u sent) (written_text m.left dl el s.ls s.ws next) (stops (text_of s.ws) s.joins.carries);
+      prefix = prefix_of_union next.x s.right.x (s.ls ++ w ∷ []) s.rs (s.ws ++ w ∷ [])
+          (written_side m.left dl el s.ls s.ws next) other union;
+      short = both_short (s.ls ++ w ∷ []) s.rs (s.ws ++ w ∷ []) (longer_left s.ls s.rs s.ws w s.joins.short)
+          (next_short m.left dl el s.ls s.ws room.left_near next)
+          (ready_short m.right dr er s.rs s.ws room.right_near s.right);
+      under_way = subst (λ (u : List ℕ). StopsWithin start b u sent) (written_text m.left dl el s.ls s.ws next)
+          (stops (text_of s.ws) s.joins.carries);
       input = tt;
     }
 
 -- as the right is written alone
-pub greater_halts : (m : Merge) (held : Held) (dl el dr er : Reader) (start a b : Option (List ℕ)) (sent : ℕ) → HasRoom m → m.right.entry.text.items ≢ []
+pub greater_halts : (m : Merge) (held : Held) (dl el dr er : Reader) (start a b : Option (List ℕ)) (sent : ℕ)
+    → HasRoom m → m.right.entry.text.items ≢ []
     → (m.left.entry.text.items ≢ [] → IsBelow (entry_in m.right.entry) (entry_in m.left.entry))
-    → ((text : List ℕ) → Carries start a m.held text → StopsWithin start b (text ++ m.right.entry.text.items) sent) → Merging m dl el dr er start a → Halted (Write sent) held dl el dr er start b
+    → ((text : List ℕ) → Carries start a m.held text → StopsWithin start b (text ++ m.right.entry.text.items) sent)
+    → Merging m dl el dr er start a → Halted (Write sent) held dl el dr er start b
 greater_halts m held dl el dr er start a b sent room some above stops s =
     let w = entry_in m.right.entry in
     let next = has_next m.right dr er s.rs s.ws some s.right in
@@ -227,37 +301,51 @@ greater_halts m held dl el dr er start a b sent room some above stops s =
       text = text_of (s.ws ++ w ∷ []);
       left = s.left.read.consumed;
       right = next.read.consumed;
-      prefix = prefix_of_union s.left.x next.x s.ls (s.rs ++ w ∷ []) (s.ws ++ w ∷ []) other (written_side m.right dr er s.rs s.ws next) union;
-      short = both_short s.ls (s.rs ++ w ∷ []) (s.ws ++ w ∷ []) (longer_right s.ls s.rs s.ws w s.joins.short) (ready_short m.left dl el s.ls s.ws room.left_near s.left) (next_short m.right dr er s.rs s.ws room.right_near next);
-      under_way = subst (λ (u : List ℕ). StopsWithin start b u sent) (written_text m.right dr er s.rs s.ws next) (stops (text_of s.ws) s.joins.carries);
+      prefix = prefix_of_union s.left.x next.x s.ls (s.rs ++ w ∷ []) (s.ws ++ w ∷ []) other
+          (written_side m.right dr er s.rs s.ws next) union;
+      short = both_short s.ls (s.rs ++ w ∷ []) (s.ws ++ w ∷ []) (longer_right s.ls s.rs s.ws w s.joins.short)
+          (ready_short m.left dl el s.ls s.ws room.left_near s.left)
+          (next_short m.right dr er s.rs s.ws room.right_near next);
+      under_way = subst (λ (u : List ℕ). StopsWithin start b u sent) (written_text m.right dr er s.rs s.ws next)
+          (stops (text_of s.ws) s.joins.carries);
       input = tt;
     }
 
 -- as an equal pair is written
-pub equal_halts : (m : Merge) (held : Held) (dl el dr er : Reader) (start a b : Option (List ℕ)) (sent : ℕ) → HasRoom m → m.left.entry.text.items ≢ [] → m.right.entry.text.items ≢ []
+pub equal_halts : (m : Merge) (held : Held) (dl el dr er : Reader) (start a b : Option (List ℕ)) (sent : ℕ) → HasRoom m
+    → m.left.entry.text.items ≢ [] → m.right.entry.text.items ≢ []
     → entry_in m.left.entry ≡ entry_in m.right.entry
-    → ((text : List ℕ) → Carries start a m.held text → StopsWithin start b (text ++ m.left.entry.text.items) sent) → Merging m dl el dr er start a → Halted (Write sent) held dl el dr er start b
+    → ((text : List ℕ) → Carries start a m.held text → StopsWithin start b (text ++ m.left.entry.text.items) sent)
+    → Merging m dl el dr er start a → Halted (Write sent) held dl el dr er start b
 equal_halts m held dl el dr er start a b sent room some also same stops s =
     let w = entry_in m.left.entry in
     let next = has_next m.left dl el s.ls s.ws some s.left in
     let other = has_next m.right dr er s.rs s.ws also s.right in
     let union = union_both s.ls s.rs s.ws w s.joins.union next.below in
-    let side : SideAt other.x (s.rs ++ w ∷ []) (s.ws ++ w ∷ []) = subst (λ (e : Entry). SideAt other.x (s.rs ++ e ∷ []) (s.ws ++ e ∷ [])) (sym same) (written_side m.right dr er s.rs s.ws other) in
-    let right : length (text_of (s.rs ++ w ∷ [])) ≤ PIECE * READER_CALLS = subst (λ (e : Entry). length (text_of (s.rs ++ e ∷ [])) ≤ PIECE * READER_CALLS) (sym same) (next_short m.right dr er s.rs s.ws room.right_near other) in
+    let side : SideAt other.x (s.rs ++ w ∷ []) (s.ws ++ w ∷ []) =
+    subst (λ (e : Entry). SideAt other.x (s.rs ++ e ∷ []) (s.ws ++ e ∷ [])) (sym same)
+    (written_side m.right dr er s.rs s.ws other) in
+    let right : length (text_of (s.rs ++ w ∷ [])) ≤ READ_MAX * READER_CALLS =
+    subst (λ (e : Entry). length (text_of (s.rs ++ e ∷ [])) ≤ READ_MAX * READER_CALLS) (sym same)
+    (next_short m.right dr er s.rs s.ws room.right_near other) in
     record {
       x = next.x;
       y = other.x;
       text = text_of (s.ws ++ w ∷ []);
       left = next.read.consumed;
       right = other.read.consumed;
-      prefix = prefix_of_union next.x other.x (s.ls ++ w ∷ []) (s.rs ++ w ∷ []) (s.ws ++ w ∷ []) (written_side m.left dl el s.ls s.ws next) side union;
-      short = both_short (s.ls ++ w ∷ []) (s.rs ++ w ∷ []) (s.ws ++ w ∷ []) (longer_both s.ls s.rs s.ws w s.joins.short) (next_short m.left dl el s.ls s.ws room.left_near next) right;
-      under_way = subst (λ (u : List ℕ). StopsWithin start b u sent) (written_text m.left dl el s.ls s.ws next) (stops (text_of s.ws) s.joins.carries);
+      prefix = prefix_of_union next.x other.x (s.ls ++ w ∷ []) (s.rs ++ w ∷ []) (s.ws ++ w ∷ [])
+          (written_side m.left dl el s.ls s.ws next) side union;
+      short = both_short (s.ls ++ w ∷ []) (s.rs ++ w ∷ []) (s.ws ++ w ∷ []) (longer_both s.ls s.rs s.ws w s.joins.short)
+          (next_short m.left dl el s.ls s.ws room.left_near next) right;
+      under_way = subst (λ (u : List ℕ). StopsWithin start b u sent) (written_text m.left dl el s.ls s.ws next)
+          (stops (text_of s.ws) s.joins.carries);
       input = tt;
     }
 
 -- as what is held back is written, where all is joined
-pub end_halts : (m : Merge) (held : Held) (dl el dr er : Reader) (start a b : Option (List ℕ)) (sent : ℕ) → HasRoom m → ((text : List ℕ) → Carries start a m.held text → StopsWithin start b text sent) → Merging m dl el dr er start a
+pub end_halts : (m : Merge) (held : Held) (dl el dr er : Reader) (start a b : Option (List ℕ)) (sent : ℕ) → HasRoom m
+    → ((text : List ℕ) → Carries start a m.held text → StopsWithin start b text sent) → Merging m dl el dr er start a
     → Halted (Write sent) held dl el dr er start b
 end_halts m held dl el dr er start a b sent room stops s = record {
   x = s.left.x;
@@ -265,8 +353,10 @@ end_halts m held dl el dr er start a b sent room stops s = record {
   text = text_of s.ws;
   left = s.left.read.consumed;
   right = s.right.read.consumed;
-  prefix = prefix_of_union s.left.x s.right.x s.ls s.rs s.ws (side_ready m.left dl el s.ls s.ws s.left) (side_ready m.right dr er s.rs s.ws s.right) s.joins.union;
-  short = both_short s.ls s.rs s.ws s.joins.short (ready_short m.left dl el s.ls s.ws room.left_near s.left) (ready_short m.right dr er s.rs s.ws room.right_near s.right);
+  prefix = prefix_of_union s.left.x s.right.x s.ls s.rs s.ws (side_ready m.left dl el s.ls s.ws s.left)
+      (side_ready m.right dr er s.rs s.ws s.right) s.joins.union;
+  short = both_short s.ls s.rs s.ws s.joins.short (ready_short m.left dl el s.ls s.ws room.left_near s.left)
+      (ready_short m.right dr er s.rs s.ws room.right_near s.right);
   under_way = stops (text_of s.ws) s.joins.carries;
   input = tt;
 }

@@ -1,5 +1,6 @@
 -- Two archives that are joined, as lists of entries.
-use Rattle.std.proofs.Common.{◌≡◌, ℕ, List, [], ◌∷◌, ◌++◌, length, refl, sym, ap, subst, ◌∙◌, append_assoc, arith, inl, inr}
+use Rattle.std.proofs.Common.{◌≡◌, ℕ, List, [], ◌∷◌, ◌++◌, length, refl, sym, ap, subst, ◌∙◌, append_assoc, arith, inl}
+use Rattle.std.proofs.Common.{inr}
 use Rattle.std.specs.Prelude.{◌⊎◌}
 use Rattle.std.proofs.lemmas.List.{append-nil, length-append}
 use Rattle.archive_text.specs.Entries.{Entry, Has, IsAscending, IsBelow}
@@ -42,13 +43,16 @@ has_none gs e none h = subst (λ (l : List Entry). Has l e) none h
 
 -- what was joined of a side was read of it
 read_of : (es ls ws : List Entry) (rest : List ℕ) (e : Entry) → Standing es ls ws rest → Has ls e → Has es e
-read_of es ls ws rest e (inl (n, same, below)) h = subst (λ (l : List Entry). Has l e) (sym same) (has_left ls (n ∷ []) e h)
+read_of es ls ws rest e (inl (n, same, below)) h =
+    subst (λ (l : List Entry). Has l e) (sym same) (has_left ls (n ∷ []) e h)
 read_of es ls ws rest e (inr (inl (same, none))) h = subst (λ (l : List Entry). Has l e) (sym same) h
 read_of es ls ws rest e (inr (inr (same, within))) h = subst (λ (l : List Entry). Has l e) (sym same) h
 
 -- an entry that was read of a side was joined, or is above all that was
-read_already : (es ls ws : List Entry) (rest : List ℕ) (e : Entry) → Standing es ls ws rest → Has es e → Has ls e ⊎ AllBelow ws e
-read_already es ls ws rest e (inl (n, same, below)) h = one (has_either ls (n ∷ []) e (subst (λ (l : List Entry). Has l e) same h))
+read_already : (es ls ws : List Entry) (rest : List ℕ) (e : Entry) → Standing es ls ws rest → Has es e
+    → Has ls e ⊎ AllBelow ws e
+read_already es ls ws rest e (inl (n, same, below)) h =
+    one (has_either ls (n ∷ []) e (subst (λ (l : List Entry). Has l e) same h))
   where
     one : Has ls e ⊎ Has (n ∷ []) e → Has ls e ⊎ AllBelow ws e
     one (inl k) = inl k
@@ -58,30 +62,38 @@ read_already es ls ws rest e (inr (inl (same, none))) h = inl (subst (λ (l : Li
 read_already es ls ws rest e (inr (inr (same, within))) h = inl (subst (λ (l : List Entry). Has l e) same h)
 
 -- an entry behind those that were read is above all that was joined
-read_later : (es ls ws gs : List Entry) (rest r : List ℕ) (e : Entry) → Standing es ls ws rest → IsAscending (es ++ gs) → rest ≡ text_of gs ++ r → Has gs e → AllBelow ws e
+read_later : (es ls ws gs : List Entry) (rest r : List ℕ) (e : Entry) → Standing es ls ws rest → IsAscending (es ++ gs)
+    → rest ≡ text_of gs ++ r → Has gs e → AllBelow ws e
 read_later es ls ws gs rest r e (inl (n, same, below)) up is h =
     let next : Has es n = subst (λ (l : List Entry). Has l n) (sym same) (has_right ls (n ∷ []) n (inl refl)) in
     λ w k. below_transitive w n e (below w k) (ascending_across es gs n e up next h)
-read_later es ls ws gs rest r e (inr (inl (same, none))) up is h = absurd (has_none gs e (no_text gs r (sym none ∙ is)) h)
+read_later es ls ws gs rest r e (inr (inl (same, none))) up is h =
+    absurd (has_none gs e (no_text gs r (sym none ∙ is)) h)
 read_later es ls ws gs rest r e (inr (inr (same, within))) up is h =
-    λ w k. within_below ls w e (within w k) (λ m has. ascending_across es gs m e up (subst (λ (l : List Entry). Has l m) (sym same) has) h)
+    λ w k. within_below ls w e (within w k) (λ m has.
+    ascending_across es gs m e up (subst (λ (l : List Entry). Has l m) (sym same) has) h)
 
 -- each entry of an archive that the octets begin with was joined, or is above all that was
-pub further : (x : List ℕ) (ls ws xs : List Entry) (r : List ℕ) (e : Entry) → SideAt x ls ws → IsArchive ENTRY_MAX xs → x ≡ text_of xs ++ r → Has xs e → Has ls e ⊎ AllBelow ws e
+pub further : (x : List ℕ) (ls ws xs : List Entry) (r : List ℕ) (e : Entry) → SideAt x ls ws → IsArchive ENTRY_MAX xs
+    → x ≡ text_of xs ++ r → Has xs e → Has ls e ⊎ AllBelow ws e
 further x ls ws xs r e s a is h =
     elim (one_begins ENTRY_MAX ENTRY_MAX s.es xs s.rest r (omega arith) (omega arith) s.archive a (sym s.parts ∙ is)) [
       | inl (gs, same, more) ↦
           elim (has_either s.es gs e (subst (λ (l : List Entry). Has l e) same h)) [
             | inl early ↦ read_already s.es ls ws s.rest e s.stands early
-            | inr late ↦ inr (read_later s.es ls ws gs s.rest r e s.stands (subst IsAscending same a.ascending) more late)
+            | inr late ↦ inr (read_later s.es ls ws gs s.rest r e s.stands (subst IsAscending same a.ascending) more
+                late)
           ]
-      | inr (gs, same, more) ↦ read_already s.es ls ws s.rest e s.stands (subst (λ (l : List Entry). Has l e) (sym same) (has_left xs gs e h))
+      | inr (gs, same, more) ↦ read_already s.es ls ws s.rest e s.stands
+          (subst (λ (l : List Entry). Has l e) (sym same) (has_left xs gs e h))
     ]
 
 -- what was read of a side is in its front
-before_all : (x : List ℕ) (ls ws xs : List Entry) (r : List ℕ) (e : Entry) → (s : SideAt x ls ws) → IsLongestArchive ENTRY_MAX x xs r → Has s.es e → Has xs e
+before_all : (x : List ℕ) (ls ws xs : List Entry) (r : List ℕ) (e : Entry) → (s : SideAt x ls ws)
+    → IsLongestArchive ENTRY_MAX x xs r → Has s.es e → Has xs e
 before_all x ls ws xs r e s f h =
-    elim (one_begins ENTRY_MAX ENTRY_MAX s.es xs s.rest r (omega arith) (omega arith) s.archive f.archive (sym s.parts ∙ f.parts)) [
+    elim (one_begins ENTRY_MAX ENTRY_MAX s.es xs s.rest r (omega arith) (omega arith) s.archive f.archive
+    (sym s.parts ∙ f.parts)) [
       | inl (gs, same, more) ↦ subst (λ (l : List Entry). Has l e) (sym same) (has_left s.es gs e h)
       | inr (gs, same, more) ↦ shorter gs same
     ]
@@ -89,9 +101,17 @@ before_all x ls ws xs r e s f h =
     shorter : (gs : List Entry) → s.es ≡ xs ++ gs → Has xs e
     shorter [] same = subst (λ (l : List Entry). Has l e) (same ∙ append-nil xs) h
     shorter (g ∷ gs) same =
-        absurd (omega (arith, f.longest s.es s.rest s.archive s.parts, ap (λ (l : List Entry). length (text_of l)) same, text_length xs (g ∷ gs), length-append (entry_text g) (text_of gs), text_some g))
+        absurd (omega (
+          arith,
+          f.longest s.es s.rest s.archive s.parts,
+          ap (λ (l : List Entry). length (text_of l)) same,
+          text_length xs (g ∷ gs),
+          length-append (entry_text g) (text_of gs),
+          text_some g,
+        ))
 
-pub joined_before : (x : List ℕ) (ls ws xs : List Entry) (r : List ℕ) (e : Entry) → SideAt x ls ws → IsLongestArchive ENTRY_MAX x xs r → Has ls e → Has xs e
+pub joined_before : (x : List ℕ) (ls ws xs : List Entry) (r : List ℕ) (e : Entry) → SideAt x ls ws
+    → IsLongestArchive ENTRY_MAX x xs r → Has ls e → Has xs e
 joined_before x ls ws xs r e s f h = before_all x ls ws xs r e s f (read_of s.es ls ws s.rest e s.stands h)
 
 -- ---- an ascending list whose members are the least ones of another begins it
@@ -100,39 +120,50 @@ below_head : (w : Entry) (ws : List Entry) (e : Entry) → IsAscending (w ∷ ws
 below_head w ws e up h = of_member (IsBelow w) ws e up.0 h
 
 -- the two first ones are one
-same_head : (w z : Entry) (ws zs : List Entry) → IsAscending (w ∷ ws) → IsAscending (z ∷ zs) → Has (z ∷ zs) w → Has (w ∷ ws) z ⊎ AllBelow (w ∷ ws) z → w ≡ z
+same_head : (w z : Entry) (ws zs : List Entry) → IsAscending (w ∷ ws) → IsAscending (z ∷ zs) → Has (z ∷ zs) w
+    → Has (w ∷ ws) z ⊎ AllBelow (w ∷ ws) z → w ≡ z
 same_head w z ws zs up above (inl same) there = sym same
 same_head w z ws zs up above (inr later) (inl (inl same)) = same
-same_head w z ws zs up above (inr later) (inl (inr other)) = absurd (below_asymmetric w z (below_head w ws z up other) (below_head z zs w above later))
-same_head w z ws zs up above (inr later) (inr all) = absurd (below_asymmetric w z (all w (inl refl)) (below_head z zs w above later))
+same_head w z ws zs up above (inr later) (inl (inr other)) =
+    absurd (below_asymmetric w z (below_head w ws z up other) (below_head z zs w above later))
+same_head w z ws zs up above (inr later) (inr all) =
+    absurd (below_asymmetric w z (all w (inl refl)) (below_head z zs w above later))
 
-pub initial : (ws zs : List Entry) → IsAscending ws → IsAscending zs → ((e : Entry) → Has ws e → Has zs e) → ((e : Entry) → Has zs e → Has ws e ⊎ AllBelow ws e)
+pub initial : (ws zs : List Entry) → IsAscending ws → IsAscending zs → ((e : Entry) → Has ws e → Has zs e)
+    → ((e : Entry) → Has zs e → Has ws e ⊎ AllBelow ws e)
     → (rest : List Entry) × (zs ≡ ws ++ rest)
 initial [] zs up above into from = (zs, refl)
 initial (w ∷ ws) [] up above into from = absurd (into w (inl refl))
 initial (w ∷ ws) (z ∷ zs) up above into from =
     let same : w ≡ z = same_head w z ws zs up above (into w (inl refl)) (from z (inl refl)) in
-    let rest = initial ws zs up.1 above.1 (λ e h. still e h same (into e (inr h))) (λ e h. yet e h same (from e (inr h))) in
+    let rest = initial ws zs up.1 above.1 (λ e h. still e h same (into e (inr h)))
+    (λ e h. yet e h same (from e (inr h))) in
     (rest.0, ap (λ (k : Entry). k ∷ zs) (sym same) ∙ ap (λ (l : List Entry). w ∷ l) rest.1)
   where
     still : (e : Entry) → Has ws e → w ≡ z → Has (z ∷ zs) e → Has zs e
     still e h same (inr k) = k
-    still e h same (inl k) = absurd (below_irreflexive w (subst (IsBelow w) (sym k ∙ sym same) (below_head w ws e up h)))
+    still e h same (inl k) = absurd (below_irreflexive w
+        (subst (IsBelow w) (sym k ∙ sym same) (below_head w ws e up h)))
 
     yet : (e : Entry) → Has zs e → w ≡ z → Has (w ∷ ws) e ⊎ AllBelow (w ∷ ws) e → Has ws e ⊎ AllBelow ws e
     yet e h same (inl (inr k)) = inl k
-    yet e h same (inl (inl k)) = absurd (below_irreflexive z (subst (IsBelow z) (sym k ∙ same) (below_head z zs e above h)))
+    yet e h same (inl (inl k)) = absurd (below_irreflexive z
+        (subst (IsBelow z) (sym k ∙ same) (below_head z zs e above h)))
     yet e h same (inr all) = inr (λ v k. all v (inr k))
 
 -- ---- what was joined, and the prefixes
 
 -- each entry of the prefixes was joined, or is above all that was
-either_side : (x y : List ℕ) (ls rs ws xs ys : List Entry) (r s : List ℕ) (e : Entry) → SideAt x ls ws → SideAt y rs ws → IsUnion ls rs ws → IsLongestArchive ENTRY_MAX x xs r → IsLongestArchive ENTRY_MAX y ys s
+either_side : (x y : List ℕ) (ls rs ws xs ys : List Entry) (r s : List ℕ) (e : Entry) → SideAt x ls ws → SideAt y rs ws
+    → IsUnion ls rs ws → IsLongestArchive ENTRY_MAX x xs r → IsLongestArchive ENTRY_MAX y ys s
     → Has xs e ⊎ Has ys e → Has ws e ⊎ AllBelow ws e
-either_side x y ls rs ws xs ys r s e a b u f g (inl h) = elim (further x ls ws xs r e a f.archive f.parts h) [ inl k ↦ inl (u.left e k) | inr k ↦ inr k ]
-either_side x y ls rs ws xs ys r s e a b u f g (inr h) = elim (further y rs ws ys s e b g.archive g.parts h) [ inl k ↦ inl (u.right e k) | inr k ↦ inr k ]
+either_side x y ls rs ws xs ys r s e a b u f g (inl h) =
+    elim (further x ls ws xs r e a f.archive f.parts h) [ inl k ↦ inl (u.left e k) | inr k ↦ inr k ]
+either_side x y ls rs ws xs ys r s e a b u f g (inr h) =
+    elim (further y rs ws ys s e b g.archive g.parts h) [ inl k ↦ inl (u.right e k) | inr k ↦ inr k ]
 
-joined_of : (x y : List ℕ) (ls rs ws xs ys : List Entry) (r s : List ℕ) (e : Entry) → SideAt x ls ws → SideAt y rs ws → IsLongestArchive ENTRY_MAX x xs r → IsLongestArchive ENTRY_MAX y ys s
+joined_of : (x y : List ℕ) (ls rs ws xs ys : List Entry) (r s : List ℕ) (e : Entry) → SideAt x ls ws → SideAt y rs ws
+    → IsLongestArchive ENTRY_MAX x xs r → IsLongestArchive ENTRY_MAX y ys s
     → Has ls e ⊎ Has rs e → Has xs e ⊎ Has ys e
 joined_of x y ls rs ws xs ys r s e a b f g (inl h) = inl (joined_before x ls ws xs r e a f h)
 joined_of x y ls rs ws xs ys r s e a b f g (inr h) = inr (joined_before y rs ws ys s e b g h)
@@ -142,9 +173,11 @@ in_union xs ys zs e u (inl h) = u.left e h
 in_union xs ys zs e u (inr h) = u.right e h
 
 -- what was joined begins the union of the prefixes
-pub prefix_of_union : (x y : List ℕ) (ls rs ws : List Entry) → SideAt x ls ws → SideAt y rs ws → IsUnion ls rs ws → IsPrefixOfUnion x y (text_of ws)
+pub prefix_of_union : (x y : List ℕ) (ls rs ws : List Entry) → SideAt x ls ws → SideAt y rs ws → IsUnion ls rs ws
+    → IsPrefixOfUnion x y (text_of ws)
 prefix_of_union x y ls rs ws a b u xs ys zs r s f g v =
-    let rest = initial ws zs u.ascending v.ascending (λ e h. in_union xs ys zs e v (joined_of x y ls rs ws xs ys r s e a b f g (u.only e h)))
+    let rest = initial ws zs u.ascending v.ascending
+    (λ e h. in_union xs ys zs e v (joined_of x y ls rs ws xs ys r s e a b f g (u.only e h)))
     (λ e h. either_side x y ls rs ws xs ys r s e a b u f g (v.only e h)) in
     (text_of rest.0, ap text_of rest.1 ∙ text_append ws rest.0)
 
@@ -161,45 +194,75 @@ pub record AllWithin (ls ws : List Entry) : Type 0 where
   pub within : (w : Entry) → Has ws w → IsWithin ls w
 
 not_above : (ls ws : List Entry) (e : Entry) → ((m : Entry) → Has ls m → Has ws m) → IsWithin ls e → AllBelow ws e → ⊥
-not_above ls ws e into (m, has, inl same) all = below_irreflexive e (subst (λ (k : Entry). IsBelow k e) (sym same) (all m (into m has)))
+not_above ls ws e into (m, has, inl same) all =
+    below_irreflexive e (subst (λ (k : Entry). IsBelow k e) (sym same) (all m (into m has)))
 not_above ls ws e into (m, has, inr less) all = below_asymmetric e m less (all m (into m has))
 
 -- of a prefix that is all that was joined of its side
-pub up_to_first : (x y : List ℕ) (ls rs ws : List Entry) (rest : List ℕ) (fault : ArchiveFault) → IsArchive ENTRY_MAX ls → x ≡ text_of ls ++ rest → IsFaultBehind ENTRY_MAX ls rest fault
+pub up_to_first : (x y : List ℕ) (ls rs ws : List Entry) (rest : List ℕ) (fault : ArchiveFault) → IsArchive ENTRY_MAX ls
+    → x ≡ text_of ls ++ rest → IsFaultBehind ENTRY_MAX ls rest fault
     → SideAt x ls ws → SideAt y rs ws → IsUnion ls rs ws → AllWithin ls ws → IsUpToFirst x y (text_of ws)
 up_to_first x y ls rs ws rest fault archive parts wrong a b u all xs ys r s f g =
-    let same : ls ≡ xs = (one_longest ENTRY_MAX x ls xs rest r (omega arith) (longest_faulty ENTRY_MAX x ls rest fault (omega arith) archive parts wrong) f).0 in (
+    let same : ls ≡ xs = (one_longest ENTRY_MAX x ls xs rest r (omega arith)
+    (longest_faulty ENTRY_MAX x ls rest fault (omega arith) archive parts wrong) f).0 in (
       ws,
       u.ascending,
       refl,
       λ e. (
-        λ h. (joined_of x y ls rs ws xs ys r s e a b f g (u.only e h), subst (λ (l : List Entry). IsWithin l e) same (all.within e h)),
-        λ h. elim (either_side x y ls rs ws xs ys r s e a b u f g h.0) [ inl k ↦ k | inr k ↦ absurd (not_above ls ws e u.left (subst (λ (l : List Entry). IsWithin l e) (sym same) h.1) k) ],
+        λ h. (
+          joined_of x y ls rs ws xs ys r s e a b f g (u.only e h),
+          subst (λ (l : List Entry). IsWithin l e) same (all.within e h),
+        ),
+        λ h. elim (either_side x y ls rs ws xs ys r s e a b u f g h.0) [
+          | inl k ↦ k
+          | inr k ↦ absurd (not_above ls ws e u.left
+              (subst (λ (l : List Entry). IsWithin l e) (sym same) h.1) k)
+        ],
       ),
     )
 
 -- the other side, where it has a fault too, has an entry that is not below what was joined
-pub first_within : (x y : List ℕ) (ls rs ws : List Entry) (rest : List ℕ) (fault other : ArchiveFault) → IsArchive ENTRY_MAX ls → x ≡ text_of ls ++ rest → IsFaultBehind ENTRY_MAX ls rest fault
+pub first_within : (x y : List ℕ) (ls rs ws : List Entry) (rest : List ℕ) (fault other : ArchiveFault)
+    → IsArchive ENTRY_MAX ls → x ≡ text_of ls ++ rest → IsFaultBehind ENTRY_MAX ls rest fault
     → SideAt y rs ws → IsUnion ls rs ws → IsArchiveFault ENTRY_MAX y other → IsFirstWithin x y
 first_within x y ls rs ws rest fault other archive parts wrong b u too xs ys r s f g m h =
-    let same : ls ≡ xs = (one_longest ENTRY_MAX x ls xs rest r (omega arith) (longest_faulty ENTRY_MAX x ls rest fault (omega arith) archive parts wrong) f).0 in
+    let same : ls ≡ xs = (one_longest ENTRY_MAX x ls xs rest r (omega arith)
+    (longest_faulty ENTRY_MAX x ls rest fault (omega arith) archive parts wrong) f).0 in
     known b.stands (u.left m (subst (λ (l : List Entry). Has l m) (sym same) h))
   where
     known : Standing b.es rs ws b.rest → Has ws m → IsWithin ys m
-    known (inl (n, is, below)) k = (n, before_all y rs ws ys s n b g (subst (λ (l : List Entry). Has l n) (sym is) (has_right rs (n ∷ []) n (inl refl))), inr (below m k))
+    known (inl (n, is, below)) k = (
+      n,
+      before_all y rs ws ys s n b g
+          (subst (λ (l : List Entry). Has l n) (sym is) (has_right rs (n ∷ []) n (inl refl))),
+      inr (below m k),
+    )
     known (inr (inl (is, none))) k =
-        absurd (archive_has_no_fault ENTRY_MAX b.es other b.archive (subst (λ (t : List ℕ). IsArchiveFault ENTRY_MAX t other) (b.parts ∙ ap (λ (t : List ℕ). text_of b.es ++ t) none ∙ append-nil (text_of b.es)) too))
+        absurd (archive_has_no_fault ENTRY_MAX b.es other b.archive
+        (subst (λ (t : List ℕ). IsArchiveFault ENTRY_MAX t other)
+        (b.parts ∙ ap (λ (t : List ℕ). text_of b.es ++ t) none ∙ append-nil (text_of b.es)) too))
     known (inr (inr (is, within))) k = let w = within m k in (w.0, joined_before y rs ws ys s w.0 b g w.1, w.2)
 
 -- the other side, where it has a fault too and its next entry was read, has an entry above all that was joined
-pub first_above : (x y : List ℕ) (ls rs ws : List Entry) (rest : List ℕ) (fault other : ArchiveFault) → IsArchive ENTRY_MAX rs → y ≡ text_of rs ++ rest → IsFaultBehind ENTRY_MAX rs rest fault
-    → (a : SideAt x ls ws) → ((e : Entry) × (a.es ≡ ls ++ e ∷ []) × AllBelow ws e) ⊎ ((a.es ≡ ls) × (a.rest ≡ [])) → IsUnion ls rs ws → IsArchiveFault ENTRY_MAX x other → IsFirstAbove x y
+pub first_above : (x y : List ℕ) (ls rs ws : List Entry) (rest : List ℕ) (fault other : ArchiveFault)
+    → IsArchive ENTRY_MAX rs → y ≡ text_of rs ++ rest → IsFaultBehind ENTRY_MAX rs rest fault
+    → (a : SideAt x ls ws) → ((e : Entry) × (a.es ≡ ls ++ e ∷ []) × AllBelow ws e) ⊎ ((a.es ≡ ls) × (a.rest ≡ []))
+    → IsUnion ls rs ws → IsArchiveFault ENTRY_MAX x other → IsFirstAbove x y
 first_above x y ls rs ws rest fault other archive parts wrong a stands u too xs ys r s f g =
-    let same : rs ≡ ys = (one_longest ENTRY_MAX y rs ys rest s (omega arith) (longest_faulty ENTRY_MAX y rs rest fault (omega arith) archive parts wrong) g).0 in
+    let same : rs ≡ ys = (one_longest ENTRY_MAX y rs ys rest s (omega arith)
+    (longest_faulty ENTRY_MAX y rs rest fault (omega arith) archive parts wrong) g).0 in
     known same stands
   where
-    known : rs ≡ ys → ((e : Entry) × (a.es ≡ ls ++ e ∷ []) × AllBelow ws e) ⊎ ((a.es ≡ ls) × (a.rest ≡ [])) → (m : Entry) × Has xs m × ((e : Entry) → Has ys e → IsBelow e m)
-    known same (inl (n, is, below)) =
-        (n, before_all x ls ws xs r n a f (subst (λ (l : List Entry). Has l n) (sym is) (has_right ls (n ∷ []) n (inl refl))), λ e h. below e (u.right e (subst (λ (l : List Entry). Has l e) (sym same) h)))
+    known : rs ≡ ys → ((e : Entry) × (a.es ≡ ls ++ e ∷ []) × AllBelow ws e) ⊎ ((a.es ≡ ls) × (a.rest ≡ []))
+        → (m : Entry) × Has xs m × ((e : Entry) → Has ys e → IsBelow e m)
+    known same (inl (n, is, below)) = (
+      n,
+      before_all x ls ws xs r n a f (subst (λ (l : List Entry). Has l n) (sym is)
+          (has_right ls (n ∷ []) n (inl refl))),
+      λ e h.
+          below e (u.right e (subst (λ (l : List Entry). Has l e) (sym same) h)),
+    )
     known same (inr (is, none)) =
-        absurd (archive_has_no_fault ENTRY_MAX a.es other a.archive (subst (λ (t : List ℕ). IsArchiveFault ENTRY_MAX t other) (a.parts ∙ ap (λ (t : List ℕ). text_of a.es ++ t) none ∙ append-nil (text_of a.es)) too))
+        absurd (archive_has_no_fault ENTRY_MAX a.es other a.archive
+        (subst (λ (t : List ℕ). IsArchiveFault ENTRY_MAX t other)
+        (a.parts ∙ ap (λ (t : List ℕ). text_of a.es ++ t) none ∙ append-nil (text_of a.es)) too))

@@ -1,62 +1,86 @@
 -- The entry that comes next, or why there is none.
-use Rattle.std.proofs.Common.{◌≡◌, ℕ, ◌+◌, ◌*◌, ◌<◌, ◌≤◌, List, [], ◌∷◌, ◌++◌, length, refl, sym, ap, subst, arith, inl, inr}
+use Rattle.std.proofs.Common.{◌≡◌, ℕ, ◌+◌, ◌*◌, ◌<◌, ◌≤◌, List, [], ◌∷◌, ◌++◌, length, refl, sym, ap, subst, arith, inl}
+use Rattle.std.proofs.Common.{inr}
 use Rattle.std.specs.Prelude.{◌≢◌, ◌⊎◌}
 use Rattle.std.specs.Fmt.{decimal}
 use Rattle.std.proofs.lemmas.List.{length-append}
 use Rattle.syslog_frame.specs.Frames.{framed}
 use Rattle.syslog_frame.specs.declared.framing.Framing.TheVariants.{Counted}
+use Rattle.syslog_value.specs.declared.loops.TheConstants.{READ_MAX}
 use Rattle.archive_text.specs.Entries.{Entry, IsAscending}
 use Rattle.archive_text.specs.Faults.{BeginsWithOctets, IsFaultBefore, IsFaultBehind, IsNotAscending}
 use Rattle.archive_text.specs.Text.{IsArchive, text_of}
 use Rattle.archive_text.specs.declared.fault.ArchiveFault.{ArchiveFault}
-use Rattle.archive_text.specs.declared.fault.ArchiveFault.TheVariants.{BadFrame, EntryTooLong, BadEntry, NotCanonical, NotAscending}
+use Rattle.archive_text.specs.declared.fault.ArchiveFault.TheVariants.{BadFrame, EntryTooLong, BadEntry, NotCanonical}
+use Rattle.archive_text.specs.declared.fault.ArchiveFault.TheVariants.{NotAscending}
 use Rattle.archive_text.specs.declared.limits.TheConstants.{ENTRY_MAX}
 use Rattle.archive_text.proofs.Ascending.{not_after}
 use Rattle.archive_streams.specs.EntryTexts.{entry_in, HoldsEntry, IsAbove}
 use Rattle.archive_streams.specs.Faults.{IsSideFault}
-use Rattle.archive_streams.specs.Judging.{IsJudged, at_of, moved}
+use Rattle.archive_text.specs.Positions.{later, position_of}
+use Rattle.archive_streams.specs.Judging.{IsJudged}
 use Rattle.archive_streams.specs.Pieces.{ReadsOn, Reader, unused}
 use Rattle.archive_streams.specs.Sides.{EndsWith, IsNextFault}
 use Rattle.archive_streams.specs.declared.entry.EntryText.{EntryText}
 use Rattle.archive_streams.specs.declared.fault.SideFault.TheVariants.{Archive}
 use Rattle.archive_streams.specs.declared.pieces.Pieces.{Pieces}
-use Rattle.archive_streams.specs.declared.pieces.TheConstants.{PIECE}
 
 -- an entry has octets before it
 begun : (most : ℕ) (s b : List ℕ) → BeginsWithOctets most s b → 0 < length s
-begun most s b w = omega (arith, ap length w.2.1, length-append (framed Counted b) w.2.0, length-append (decimal (length b)) (32 ∷ b))
+begun most s b w = omega (
+  arith,
+  ap length w.2.1,
+  length-append (framed Counted b) w.2.0,
+  length-append (decimal (length b)) (32 ∷ b),
+)
 
 -- octets that are no entry are the fault of what they begin
-pub judged_fault : (most : ℕ) (b s : List ℕ) (fault : ArchiveFault) (ends : ℕ) → BeginsWithOctets most s b → IsJudged b fault
-    → IsFaultBefore most s fault × (0 < length s) × (at_of fault ≡ length s → 0 < ends)
-judged_fault most b s (BadEntry at fault) ends w j = ((j.0, (b, w, j.1)), begun most s b w, λ e. absurd (omega (arith, e, j.0, begun most s b w)))
-judged_fault most b s (NotCanonical at) ends w j = ((j.0, (b, w, j.1)), begun most s b w, λ e. absurd (omega (arith, e, j.0, begun most s b w)))
+pub judged_fault : (most : ℕ) (b s : List ℕ) (fault : ArchiveFault) (ends : ℕ) → BeginsWithOctets most s b
+    → IsJudged b fault
+    → IsFaultBefore most s fault × (0 < length s) × (position_of fault ≡ length s → 0 < ends)
+judged_fault most b s (BadEntry at fault) ends w j =
+    ((j.0, (b, w, j.1)), begun most s b w, λ e. absurd (omega (arith, e, j.0, begun most s b w)))
+judged_fault most b s (NotCanonical at) ends w j =
+    ((j.0, (b, w, j.1)), begun most s b w, λ e. absurd (omega (arith, e, j.0, begun most s b w)))
 judged_fault most b s (BadFrame at) ends w j = absurd j
 judged_fault most b s (EntryTooLong at) ends w j = absurd j
 judged_fault most b s (NotAscending at) ends w j = absurd j
 
 -- a fault at the start of what follows entries is a fault behind them
-fault_after : (fault : ArchiveFault) (position : ℕ) (rest : List ℕ) (es : List Entry) → length (text_of es) ≡ position → IsFaultBefore ENTRY_MAX rest fault
-    → IsFaultBehind ENTRY_MAX es rest (moved position fault)
+fault_after : (fault : ArchiveFault) (position : ℕ) (rest : List ℕ) (es : List Entry) → length (text_of es) ≡ position
+    → IsFaultBefore ENTRY_MAX rest fault
+    → IsFaultBehind ENTRY_MAX es rest (later position fault)
 fault_after (BadFrame at) position rest es e h = (at, h, omega (arith, e))
 fault_after (EntryTooLong at) position rest es e h = (omega (arith, e, h.0), h.1)
 fault_after (BadEntry at fault) position rest es e h = (omega (arith, e, h.0), (refl, h.1))
 fault_after (NotCanonical at) position rest es e h = (omega (arith, e, h.0), (refl, h.1))
 fault_after (NotAscending at) position rest es e h = absurd h
 
-at_moved : (fault : ArchiveFault) (position : ℕ) → at_of (moved position fault) ≡ position + at_of fault
-at_moved (BadFrame at) position = refl
-at_moved (EntryTooLong at) position = refl
-at_moved (BadEntry at fault) position = refl
-at_moved (NotCanonical at) position = refl
-at_moved (NotAscending at) position = refl
+-- a fault is within the text
+pub position_within : (most : ℕ) (rest : List ℕ) (fault : ArchiveFault) → IsFaultBefore most rest fault
+    → position_of fault ≤ length rest
+position_within most rest (BadFrame at) (inl (none, offset)) = offset.within
+position_within most rest (BadFrame at) (inr (count, behind, follows, low, cut, is)) = omega (arith, is)
+position_within most rest (EntryTooLong at) (is, h) = omega (arith, is)
+position_within most rest (BadEntry at fault) (is, h) = omega (arith, is)
+position_within most rest (NotCanonical at) (is, h) = omega (arith, is)
+position_within most rest (NotAscending at) h = absurd h
 
-pub next_fault : (fault : ArchiveFault) (last : EntryText) (position : ℕ) (rest : List ℕ) (p : Pieces) → IsSideFault (Archive fault) rest p
-    → IsNextFault (Archive (moved position fault)) last position rest p
+position_later : (fault : ArchiveFault) (position : ℕ)
+    → position_of (later position fault) ≡ position + position_of fault
+position_later (BadFrame at) position = refl
+position_later (EntryTooLong at) position = refl
+position_later (BadEntry at fault) position = refl
+position_later (NotCanonical at) position = refl
+position_later (NotAscending at) position = refl
+
+pub next_fault : (fault : ArchiveFault) (last : EntryText) (position : ℕ) (rest : List ℕ) (p : Pieces)
+    → IsSideFault (Archive fault) rest p
+    → IsNextFault (Archive (later position fault)) last position rest p
 next_fault fault last position rest p h = (
   λ es archive ends e. fault_after fault position rest es e h.0,
   h.1,
-  λ e. h.2 (omega (arith, e, at_moved fault position)),
+  λ e. h.2 (omega (arith, e, position_later fault position)),
 )
 
 -- ---- the last entry
@@ -66,22 +90,37 @@ some_or_none [] = inl refl
 some_or_none (x ∷ l) = inr (λ e. absurd cc)
 
 -- an entry that is not above the last one is no further entry
-not_next : (last t : EntryText) (rest : List ℕ) (es : List Entry) → HoldsEntry t → ¬ (IsAbove last (entry_in t)) → IsArchive ENTRY_MAX es → EndsWith es last
+not_next : (last t : EntryText) (rest : List ℕ) (es : List Entry) → HoldsEntry t → ¬ (IsAbove last (entry_in t))
+    → IsArchive ENTRY_MAX es → EndsWith es last
     → IsNotAscending ENTRY_MAX es (t.text.items ++ rest)
-not_next last t rest es h low archive ends = elim (some_or_none last.text.items) [ inl none ↦ absurd (low (λ some. absurd (some none))) | inr some ↦ after (ends.some some) ]
+not_next last t rest es h low archive ends =
+    elim (some_or_none last.text.items) [
+      | inl none ↦ absurd (low (λ some. absurd (some none)))
+      | inr some ↦ after
+          (ends.some some)
+    ]
   where
-    after : (before : List Entry) × (es ≡ before ++ entry_in last ∷ []) → IsNotAscending ENTRY_MAX es (t.text.items ++ rest)
+    after : (before : List Entry) × (es ≡ before ++ entry_in last ∷ [])
+        → IsNotAscending ENTRY_MAX es (t.text.items ++ rest)
     after (before, same) = (
       entry_in t,
       h.entry,
       (h.carries, h.fits, (rest, ap (λ (s : List ℕ). s ++ rest) h.text_is)),
-      λ up. not_after before (entry_in last) (entry_in t) (subst IsAscending same archive.ascending) (λ below. low (λ some. below)) (subst (λ (l : List Entry). IsAscending (l ++ entry_in t ∷ [])) same up),
+      λ up. not_after before (entry_in last) (entry_in t) (subst IsAscending same archive.ascending)
+          (λ below. low (λ some. below)) (subst (λ (l : List Entry). IsAscending (l ++ entry_in t ∷ [])) same up),
     )
 
-pub not_above_fault : (last t : EntryText) (position : ℕ) (rest : List ℕ) (p : Pieces) → HoldsEntry t → ¬ (IsAbove last (entry_in t))
+pub not_above_fault : (last t : EntryText) (position : ℕ) (rest : List ℕ) (p : Pieces) → HoldsEntry t
+    → ¬ (IsAbove last (entry_in t))
     → IsNextFault (Archive (NotAscending position)) last position (t.text.items ++ rest) p
 not_above_fault last t position rest p h low =
-    let some : 0 < length (t.text.items ++ rest) = omega (arith, length-append t.text.items rest, ap length h.text_is, length-append (decimal (length (entry_in t).octets)) (32 ∷ (entry_in t).octets)) in (
+    let some : 0 < length (t.text.items ++ rest) =
+    omega (
+      arith,
+      length-append t.text.items rest,
+      ap length h.text_is,
+      length-append (decimal (length (entry_in t).octets)) (32 ∷ (entry_in t).octets),
+    ) in (
       λ es archive ends e. (sym e, not_next last t rest es h low archive ends),
       some,
       λ e. absurd (omega (arith, e, some)),
@@ -89,6 +128,8 @@ not_above_fault last t position rest p h low =
 
 -- ---- positions
 
-pub near_on : (p q : Pieces) (d e : Reader) (s text : List ℕ) (position : ℕ) → ReadsOn p q d e s (text ++ unused q) → position + length s ≤ PIECE * p.calls
-    → position + length text + length (unused q) ≤ PIECE * q.calls
-near_on p q d e s text position x near = omega (arith, x.far, near, ap length x.grown, length-append s x.more, length-append text (unused q))
+pub near_on : (p q : Pieces) (d e : Reader) (s text : List ℕ) (position : ℕ) → ReadsOn p q d e s (text ++ unused q)
+    → position + length s ≤ READ_MAX * p.calls
+    → position + length text + length (unused q) ≤ READ_MAX * q.calls
+near_on p q d e s text position x near = omega
+    (arith, x.far, near, ap length x.grown, length-append s x.more, length-append text (unused q))

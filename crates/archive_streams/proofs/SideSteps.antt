@@ -1,5 +1,6 @@
 -- A side that is read on, entry by entry.
-use Rattle.std.proofs.Common.{◌≡◌, ℕ, ◌+◌, ◌<◌, List, [], ◌∷◌, ◌++◌, length, refl, sym, ap, subst, ◌∙◌, append_assoc, arith, inl, inr}
+use Rattle.std.proofs.Common.{◌≡◌, ℕ, ◌+◌, ◌<◌, List, [], ◌∷◌, ◌++◌, length, refl, sym, ap, subst, ◌∙◌, append_assoc}
+use Rattle.std.proofs.Common.{arith, inl, inr}
 use Rattle.std.proofs.KnownBytes.{Consumes-trans}
 use Rattle.std.proofs.lemmas.List.{length-append}
 use Rattle.archive_text.specs.Entries.{Entry, Has, IsAscending, IsBelow}
@@ -19,39 +20,67 @@ use Rattle.archive_streams.specs.declared.side.ArchiveReader.{ArchiveReader}
 use Rattle.archive_streams.proofs.NextEntries.{some_or_none}
 
 -- an entry above the last one is above all before it
-above_all : (ws : List Entry) (last : EntryText) (e : Entry) → EndsWith ws last → IsAscending ws → IsAbove last e → (w : Entry) → Has ws w → IsBelow w e
-above_all ws last e ends up above w h = elim (some_or_none last.text.items) [ inl none ↦ absurd (subst (λ (l : List Entry). Has l w) (ends.none none) h) | inr some ↦ behind (ends.some some) (above some) ]
+above_all : (ws : List Entry) (last : EntryText) (e : Entry) → EndsWith ws last → IsAscending ws → IsAbove last e
+    → (w : Entry) → Has ws w → IsBelow w e
+above_all ws last e ends up above w h = elim (some_or_none last.text.items) [
+  | inl none ↦ absurd (subst (λ (l : List Entry). Has l w) (ends.none none) h)
+  | inr some ↦ behind (ends.some some)
+      (above some)
+]
   where
     behind : (before : List Entry) × (ws ≡ before ++ entry_in last ∷ []) → IsBelow (entry_in last) e → IsBelow w e
     behind (before, same) below =
-        of_member (λ (x : Entry). IsBelow x e) (before ++ entry_in last ∷ []) w (below_after before (entry_in last) e (subst IsAscending same up) below) (subst (λ (l : List Entry). Has l w) same h)
+        of_member (λ (x : Entry). IsBelow x e) (before ++ entry_in last ∷ []) w
+        (below_after before (entry_in last) e (subst IsAscending same up) below)
+        (subst (λ (l : List Entry). Has l w) same h)
 
 -- so an archive goes on with it
-archive_on : (es : List Entry) (last t : EntryText) → EndsWith es last → IsArchive ENTRY_MAX es → HoldsEntry t → IsAbove last (entry_in t) → IsArchive ENTRY_MAX (es ++ entry_in t ∷ [])
-archive_on es last t ends archive h above = archive_from ENTRY_MAX es (entry_in t) archive h.entry h.fits (elim (some_or_none last.text.items) [ inl none ↦ alone (ends.none none) | inr some ↦ behind (ends.some some) (above some) ])
+archive_on : (es : List Entry) (last t : EntryText) → EndsWith es last → IsArchive ENTRY_MAX es → HoldsEntry t
+    → IsAbove last (entry_in t) → IsArchive ENTRY_MAX (es ++ entry_in t ∷ [])
+archive_on es last t ends archive h above =
+    archive_from ENTRY_MAX es (entry_in t) archive h.entry h.fits
+    (elim (some_or_none last.text.items) [
+      | inl none ↦ alone (ends.none none)
+      | inr some ↦ behind (ends.some some)
+          (above some)
+    ])
   where
     alone : es ≡ [] → IsAscending (es ++ entry_in t ∷ [])
     alone none = subst (λ (l : List Entry). IsAscending (l ++ entry_in t ∷ [])) (sym none) (tt, tt)
 
-    behind : (before : List Entry) × (es ≡ before ++ entry_in last ∷ []) → IsBelow (entry_in last) (entry_in t) → IsAscending (es ++ entry_in t ∷ [])
+    behind : (before : List Entry) × (es ≡ before ++ entry_in last ∷ []) → IsBelow (entry_in last) (entry_in t)
+        → IsAscending (es ++ entry_in t ∷ [])
     behind (before, same) below =
-        subst (λ (l : List Entry). IsAscending (l ++ entry_in t ∷ [])) (sym same) (ascending_after before (entry_in last) (entry_in t) (subst IsAscending same archive.ascending) below)
+        subst (λ (l : List Entry). IsAscending (l ++ entry_in t ∷ [])) (sym same)
+        (ascending_after before (entry_in last) (entry_in t) (subst IsAscending same archive.ascending) below)
 
 -- what was given, and what was given then
-given_on : (s t : ArchiveReader) (d e f : Reader) (x : List ℕ) (es : List Entry) → ReadTo s d e x es → (r : ReadsOn s.pieces t.pieces e f (unused s.pieces) (t.entry.text.items ++ unused t.pieces))
+given_on : (s t : ArchiveReader) (d e f : Reader) (x : List ℕ) (es : List Entry) → ReadTo s d e x es
+    → (r : ReadsOn s.pieces t.pieces e f (unused s.pieces) (t.entry.text.items ++ unused t.pieces))
     → x ++ r.more ≡ text_of es ++ (t.entry.text.items ++ unused t.pieces)
 given_on s t d e f x es read r =
-    ap (λ (u : List ℕ). u ++ r.more) read.parts ∙ append_assoc (text_of es) (unused s.pieces) r.more ∙ ap (λ (u : List ℕ). text_of es ++ u) (sym r.grown)
+    ap (λ (u : List ℕ). u ++ r.more) read.parts ∙ append_assoc (text_of es) (unused s.pieces) r.more
+    ∙ ap (λ (u : List ℕ). text_of es ++ u) (sym r.grown)
 
 -- the next entry was read
-pub read_next : (s t : ArchiveReader) (d e f : Reader) (x : List ℕ) (es : List Entry) (last : EntryText) → ReadTo s d e x es → EndsWith es last → HoldsEntry t.entry → IsAbove last (entry_in t.entry)
-    → (r : ReadsOn s.pieces t.pieces e f (unused s.pieces) (t.entry.text.items ++ unused t.pieces)) → t.position ≡ s.position + length t.entry.text.items
+pub read_next : (s t : ArchiveReader) (d e f : Reader) (x : List ℕ) (es : List Entry) (last : EntryText)
+    → ReadTo s d e x es → EndsWith es last → HoldsEntry t.entry → IsAbove last (entry_in t.entry)
+    → (r : ReadsOn s.pieces t.pieces e f (unused s.pieces) (t.entry.text.items ++ unused t.pieces))
+    → t.position ≡ s.position + length t.entry.text.items
     → ReadTo t d f (x ++ r.more) (es ++ entry_in t.entry ∷ [])
 read_next s t d e f x es last read ends h above r position = record {
   consumed = Consumes-trans d.left e.left f.left _ _ read.consumed r.consumed;
-  parts = text_goes_on es (entry_in t.entry) (x ++ r.more) (t.entry.text.items ++ unused t.pieces) (unused t.pieces) (given_on s t d e f x es read r) (ap (λ (u : List ℕ). u ++ unused t.pieces) h.text_is);
+  parts = text_goes_on es (entry_in t.entry) (x ++ r.more) (t.entry.text.items ++ unused t.pieces) (unused t.pieces)
+      (given_on s t d e f x es read r) (ap (λ (u : List ℕ). u ++ unused t.pieces) h.text_is);
   archive = archive_on es last t.entry ends read.archive h above;
-  position = omega (arith, position, read.position, ap length (text_push es (entry_in t.entry)), length-append (text_of es) (entry_text (entry_in t.entry)), ap length h.text_is);
+  position = omega (
+    arith,
+    position,
+    read.position,
+    ap length (text_push es (entry_in t.entry)),
+    length-append (text_of es) (entry_text (entry_in t.entry)),
+    ap length h.text_is,
+  );
   calls = λ low.
       let first = read.calls low in
       omega (arith, first, r.calls (omega (arith, low, first)));
@@ -62,7 +91,8 @@ read_next s t d e f x es last read ends h above r position = record {
 }
 
 -- the end was found
-pub read_end : (s t : ArchiveReader) (d e f : Reader) (x : List ℕ) (es : List Entry) → ReadTo s d e x es → (r : ReadsOn s.pieces t.pieces e f (unused s.pieces) (t.entry.text.items ++ unused t.pieces))
+pub read_end : (s t : ArchiveReader) (d e f : Reader) (x : List ℕ) (es : List Entry) → ReadTo s d e x es
+    → (r : ReadsOn s.pieces t.pieces e f (unused s.pieces) (t.entry.text.items ++ unused t.pieces))
     → t.entry.text.items ≡ [] → t.position ≡ s.position + length t.entry.text.items → ReadTo t d f (x ++ r.more) es
 read_end s t d e f x es read r none position = record {
   consumed = Consumes-trans d.left e.left f.left _ _ read.consumed r.consumed;
@@ -79,8 +109,10 @@ read_end s t d e f x es read r none position = record {
 }
 
 -- a side is ready again
-pub ready_next : (s t : ArchiveReader) (d e f : Reader) (es ws : List Entry) (last : EntryText) → Due s d e es last → EndsWith ws last → IsAscending ws → HoldsEntry t.entry → IsAbove last (entry_in t.entry)
-    → ReadsOn s.pieces t.pieces e f (unused s.pieces) (t.entry.text.items ++ unused t.pieces) → t.position ≡ s.position + length t.entry.text.items → Ready t d f es ws
+pub ready_next : (s t : ArchiveReader) (d e f : Reader) (es ws : List Entry) (last : EntryText) → Due s d e es last
+    → EndsWith ws last → IsAscending ws → HoldsEntry t.entry → IsAbove last (entry_in t.entry)
+    → ReadsOn s.pieces t.pieces e f (unused s.pieces) (t.entry.text.items ++ unused t.pieces)
+    → t.position ≡ s.position + length t.entry.text.items → Ready t d f es ws
 ready_next s t d e f es ws last due ends up h above r position = record {
   x = due.x ++ r.more;
   es = es ++ entry_in t.entry ∷ [];
@@ -88,8 +120,10 @@ ready_next s t d e f es ws last due ends up h above r position = record {
   place = inl (h, refl, above_all ws last (entry_in t.entry) ends up above);
 }
 
-pub ready_end : (s t : ArchiveReader) (d e f : Reader) (es ws : List Entry) (last : EntryText) → Due s d e es last → ReadsOn s.pieces t.pieces e f (unused s.pieces) (t.entry.text.items ++ unused t.pieces)
-    → t.position ≡ s.position + length t.entry.text.items → (t.entry.text.items ≡ []) × (unused t.pieces ≡ []) × (0 < t.pieces.ends) → Ready t d f es ws
+pub ready_end : (s t : ArchiveReader) (d e f : Reader) (es ws : List Entry) (last : EntryText) → Due s d e es last
+    → ReadsOn s.pieces t.pieces e f (unused s.pieces) (t.entry.text.items ++ unused t.pieces)
+    → t.position ≡ s.position + length t.entry.text.items
+    → (t.entry.text.items ≡ []) × (unused t.pieces ≡ []) × (0 < t.pieces.ends) → Ready t d f es ws
 ready_end s t d e f es ws last due r position end = record {
   x = due.x ++ r.more;
   es = es;
@@ -98,15 +132,21 @@ ready_end s t d e f es ws last due r position end = record {
 }
 
 -- why a side stops
-stop_cause : (fault : SideFault) (s t : ArchiveReader) (x rest : List ℕ) (es : List Entry) (last : EntryText) → IsArchive ENTRY_MAX es → EndsWith es last → s.position ≡ length (text_of es) → x ≡ text_of es ++ rest
+stop_cause : (fault : SideFault) (s t : ArchiveReader) (x rest : List ℕ) (es : List Entry) (last : EntryText)
+    → IsArchive ENTRY_MAX es → EndsWith es last → s.position ≡ length (text_of es) → x ≡ text_of es ++ rest
     → IsNextFault fault last s.position rest t.pieces → IsStopCause fault t x rest es
-stop_cause (Archive fault) s t x rest es last archive ends position parts wrong =
-    (wrong.0 es archive ends (sym position), wrong.1, λ at. wrong.2 (omega (arith, at, ap length parts, length-append (text_of es) rest, position)))
+stop_cause (Archive fault) s t x rest es last archive ends position parts wrong = (
+  wrong.0 es archive ends (sym position),
+  wrong.1,
+  λ at.
+      wrong.2 (omega (arith, at, ap length parts, length-append (text_of es) rest, position)),
+)
 stop_cause (Input Device) s t x rest es last archive ends position parts wrong = tt
 stop_cause (Input Endless) s t x rest es last archive ends position parts wrong = wrong
 
 -- a side stops
-pub side_stops : (fault : SideFault) (s t : ArchiveReader) (d e f : Reader) (es : List Entry) (last : EntryText) → Due s d e es last → ReadsOn s.pieces t.pieces e f (unused s.pieces) (t.entry.text.items ++ unused t.pieces)
+pub side_stops : (fault : SideFault) (s t : ArchiveReader) (d e f : Reader) (es : List Entry) (last : EntryText)
+    → Due s d e es last → ReadsOn s.pieces t.pieces e f (unused s.pieces) (t.entry.text.items ++ unused t.pieces)
     → IsNextFault fault last s.position (t.entry.text.items ++ unused t.pieces) t.pieces → IsSideStop fault t d f es
 side_stops fault s t d e f es last due r wrong =
     let rest = t.entry.text.items ++ unused t.pieces in
@@ -117,7 +157,8 @@ side_stops fault s t d e f es last due r wrong =
       consumed = Consumes-trans d.left e.left f.left _ _ due.read.consumed r.consumed;
       parts = parts;
       archive = due.read.archive;
-      cause = stop_cause fault s t (due.x ++ r.more) rest es last due.read.archive due.ends due.read.position parts wrong;
+      cause = stop_cause fault s t (due.x ++ r.more) rest es last due.read.archive due.ends due.read.position parts
+          wrong;
       calls = λ low.
           let first = due.read.calls low in
           omega (arith, first, r.calls (omega (arith, low, first)));

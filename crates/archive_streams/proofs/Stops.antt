@@ -13,7 +13,8 @@ use Rattle.archive_streams.specs.declared.fault.MergeFault.TheVariants.{Left, Ri
 use Rattle.archive_streams.proofs.Joining.{shorter_prefix}
 
 -- the writer took so many octets
-pub stopped_sent : (sent : ℕ) (held : Held) (dl el dr er : Reader) (start now : Option (List ℕ)) → Halted (Write sent) held dl el dr er start now → Stopped (Write sent) dl el dr er start now
+pub stopped_sent : (sent : ℕ) (held : Held) (dl el dr er : Reader) (start now : Option (List ℕ))
+    → Halted (Write sent) held dl el dr er start now → Stopped (Write sent) dl el dr er start now
 stopped_sent sent held dl el dr er start now h =
     let taken = StopsWithin-take start now h.text sent h.under_way h.short in
     record {
@@ -23,14 +24,18 @@ stopped_sent sent held dl el dr er start now h =
       left = h.left;
       right = h.right;
       taken = taken.1;
-      prefix = shorter_prefix h.x h.y (take sent h.text) (drop sent h.text) (subst (IsPrefixOfUnion h.x h.y) (sym (take-append-drop sent h.text)) h.prefix);
+      prefix = shorter_prefix h.x h.y (take sent h.text) (drop sent h.text)
+          (subst (IsPrefixOfUnion h.x h.y) (sym (take-append-drop sent h.text)) h.prefix);
       input = tt;
       sent = omega (arith, length-take sent h.text, taken.0);
     }
 
-pub stopped_write : (fault : MergeFault) (sent : ℕ) (held : Held) (dl el dr er : Reader) (start now : Option (List ℕ)) → fault ≡ Write sent → Halted fault held dl el dr er start now
+pub stopped_write : (fault : MergeFault) (sent : ℕ) (held : Held) (dl el dr er : Reader) (start now : Option (List ℕ))
+    → fault ≡ Write sent → Halted fault held dl el dr er start now
     → Stopped (Write sent) dl el dr er start now
-stopped_write fault sent held dl el dr er start now same h = stopped_sent sent held dl el dr er start now (subst (λ (f : MergeFault). Halted f held dl el dr er start now) same h)
+stopped_write fault sent held dl el dr er start now same h =
+    stopped_sent sent held dl el dr er start now
+    (subst (λ (f : MergeFault). Halted f held dl el dr er start now) same h)
 
 -- each fault that is not the writer's
 pub is_not_write : (fault : MergeFault) → ((sent : ℕ) → fault ≡ Write sent → ⊥) → IsNotWrite fault
@@ -41,7 +46,8 @@ is_not_write (Read side) other = tt
 is_not_write (Endless side) other = tt
 is_not_write Memory other = tt
 
-held_back : (fault : MergeFault) (held : Held) (start now : Option (List ℕ)) (text : List ℕ) → IsNotWrite fault → IsUnderWay fault held start now text → Carries start now held text
+held_back : (fault : MergeFault) (held : Held) (start now : Option (List ℕ)) (text : List ℕ) → IsNotWrite fault
+    → IsUnderWay fault held start now text → Carries start now held text
 held_back (Write sent) held start now text other c = absurd other
 held_back (Left fault) held start now text other c = c
 held_back (Right fault) held start now text other c = c
@@ -58,7 +64,8 @@ none_sent (Endless side) written other = tt
 none_sent Memory written other = tt
 
 -- what is held back is written before a fault is told
-pub stopped_whole : (fault : MergeFault) (held : Held) (dl el dr er : Reader) (start now after : Option (List ℕ)) → IsNotWrite fault → ((text : List ℕ) → Carries start now held text → Appends start after text)
+pub stopped_whole : (fault : MergeFault) (held : Held) (dl el dr er : Reader) (start now after : Option (List ℕ))
+    → IsNotWrite fault → ((text : List ℕ) → Carries start now held text → Appends start after text)
     → Halted fault held dl el dr er start now → Stopped fault dl el dr er start after
 stopped_whole fault held dl el dr er start now after other whole h = record {
   x = h.x;
@@ -73,7 +80,8 @@ stopped_whole fault held dl el dr er start now after other whole h = record {
 }
 
 -- or the writer fails before it is told
-pub stopped_before : (fault : MergeFault) (held : Held) (dl el dr er : Reader) (start now after : Option (List ℕ)) (sent : ℕ) → IsNotWrite fault → ((text : List ℕ) → Carries start now held text → StopsWithin start after text sent)
+pub stopped_before : (fault : MergeFault) (held : Held) (dl el dr er : Reader) (start now after : Option (List ℕ))
+    (sent : ℕ) → IsNotWrite fault → ((text : List ℕ) → Carries start now held text → StopsWithin start after text sent)
     → Halted fault held dl el dr er start now → Stopped (Write sent) dl el dr er start after
 stopped_before fault held dl el dr er start now after sent other stops h =
     stopped_sent sent held dl el dr er start after (record {

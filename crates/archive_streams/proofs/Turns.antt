@@ -16,7 +16,8 @@ some_length [] some = absurd (some refl)
 some_length (x ∷ s) some = omega arith
 
 -- the order of two entries is which of them comes next
-pub next_of : (o : Ordering) (m : Merge) → m.left.entry.text.items ≢ [] → m.right.entry.text.items ≢ [] → IsOrder o (entry_in m.left.entry) (entry_in m.right.entry) → IsNextOrder o m
+pub next_of : (o : Ordering) (m : Merge) → m.left.entry.text.items ≢ [] → m.right.entry.text.items ≢ []
+    → IsOrder o (entry_in m.left.entry) (entry_in m.right.entry) → IsNextOrder o m
 next_of Less m left right h = (left, λ _. h)
 next_of Equal m left right h = (left, right, h)
 next_of Greater m left right h = (right, λ _. h)
@@ -26,10 +27,21 @@ pub near_start : (r : ArchiveReader) → unused r.pieces ≡ [] → r.position �
 near_start r none first = omega (arith, ap length none, first)
 
 -- an entry of both sides was written
-pub falls_both : (old new : Merge) → IsSteady old → old.left.entry.text.items ≢ [] → old.right.entry.text.items ≢ [] → new.left.position ≡ old.left.position + length new.left.entry.text.items
+pub falls_both : (old new : Merge) → IsSteady old → old.left.entry.text.items ≢ [] → old.right.entry.text.items ≢ []
+    → new.left.position ≡ old.left.position + length new.left.entry.text.items
     → new.right.position ≡ old.right.position + length new.right.entry.text.items → height new < height old
 falls_both old new s left right l r =
-    omega (arith, s.room.left_near, s.room.right_near, old.left.pieces.few, old.right.pieces.few, some_length old.left.entry.text.items left, some_length old.right.entry.text.items right, l, r)
+    omega (
+      arith,
+      s.room.left_near,
+      s.room.right_near,
+      old.left.pieces.few,
+      old.right.pieces.few,
+      some_length old.left.entry.text.items left,
+      some_length old.right.entry.text.items right,
+      l,
+      r,
+    )
 
 -- what holds at Ok, and what follows from it
 pub if_ok_then : {T E : Type 0} (r : Result T E) (P Q : T → Type 0) → IfOk r P → ((x : T) → P x → Q x) → IfOk r Q

@@ -18,10 +18,12 @@ pub union_nil : IsUnion [] [] []
 union_nil = record { ascending = tt; left = λ e h. h; right = λ e h. h; only = λ e h. inl h }
 
 -- an entry of one side, above all that was joined
-pub union_left : (ls rs ws : List Entry) (w : Entry) → IsUnion ls rs ws → AllBelow ws w → IsUnion (ls ++ w ∷ []) rs (ws ++ w ∷ [])
+pub union_left : (ls rs ws : List Entry) (w : Entry) → IsUnion ls rs ws → AllBelow ws w
+    → IsUnion (ls ++ w ∷ []) rs (ws ++ w ∷ [])
 union_left ls rs ws w u below = record {
   ascending = ascending_appended ws w u.ascending (of_all (λ x. IsBelow x w) ws below);
-  left = λ e h. elim (has_either ls (w ∷ []) e h) [ inl k ↦ has_left ws (w ∷ []) e (u.left e k) | inr k ↦ has_right ws (w ∷ []) e k ];
+  left = λ e h. elim (has_either ls (w ∷ []) e h)
+      [ inl k ↦ has_left ws (w ∷ []) e (u.left e k) | inr k ↦ has_right ws (w ∷ []) e k ];
   right = λ e h. has_left ws (w ∷ []) e (u.right e h);
   only = λ e h.
       elim (has_either ws (w ∷ []) e h) [
@@ -31,19 +33,29 @@ union_left ls rs ws w u below = record {
 }
 
 pub turned : (ls rs ws : List Entry) → IsUnion ls rs ws → IsUnion rs ls ws
-turned ls rs ws u = record { ascending = u.ascending; left = u.right; right = u.left; only = λ e h. elim (u.only e h) [ inl k ↦ inr k | inr k ↦ inl k ] }
+turned ls rs ws u = record {
+  ascending = u.ascending;
+  left = u.right;
+  right = u.left;
+  only =
+      λ e h. elim (u.only e h) [ inl k ↦ inr k | inr k ↦ inl k ];
+}
 
-pub union_right : (ls rs ws : List Entry) (w : Entry) → IsUnion ls rs ws → AllBelow ws w → IsUnion ls (rs ++ w ∷ []) (ws ++ w ∷ [])
-union_right ls rs ws w u below = turned (rs ++ w ∷ []) ls (ws ++ w ∷ []) (union_left rs ls ws w (turned ls rs ws u) below)
+pub union_right : (ls rs ws : List Entry) (w : Entry) → IsUnion ls rs ws → AllBelow ws w
+    → IsUnion ls (rs ++ w ∷ []) (ws ++ w ∷ [])
+union_right ls rs ws w u below = turned (rs ++ w ∷ []) ls (ws ++ w ∷ [])
+    (union_left rs ls ws w (turned ls rs ws u) below)
 
 -- an entry of both
-pub union_both : (ls rs ws : List Entry) (w : Entry) → IsUnion ls rs ws → AllBelow ws w → IsUnion (ls ++ w ∷ []) (rs ++ w ∷ []) (ws ++ w ∷ [])
+pub union_both : (ls rs ws : List Entry) (w : Entry) → IsUnion ls rs ws → AllBelow ws w
+    → IsUnion (ls ++ w ∷ []) (rs ++ w ∷ []) (ws ++ w ∷ [])
 union_both ls rs ws w u below =
     let l = union_left ls rs ws w u below in
     record {
       ascending = l.ascending;
       left = l.left;
-      right = λ e h. elim (has_either rs (w ∷ []) e h) [ inl k ↦ has_left ws (w ∷ []) e (u.right e k) | inr k ↦ has_right ws (w ∷ []) e k ];
+      right = λ e h. elim (has_either rs (w ∷ []) e h)
+          [ inl k ↦ has_left ws (w ∷ []) e (u.right e k) | inr k ↦ has_right ws (w ∷ []) e k ];
       only = λ e h. elim (l.only e h) [ inl k ↦ inl k | inr k ↦ inr (has_left rs (w ∷ []) e k) ];
     }
 
@@ -57,7 +69,14 @@ below_more_joined ws w e below less v h = elim (has_either ws (w ∷ []) v h) [ 
 
 -- a side whose next entry is known
 pub side_ready : (s : ArchiveReader) (d e : Reader) (ls ws : List Entry) → (r : Ready s d e ls ws) → SideAt r.x ls ws
-side_ready s d e ls ws r = record { es = r.es; rest = unused s.pieces; parts = r.read.parts; archive = r.read.archive; stands = placed r.place }
+side_ready s d e ls ws r = record {
+  es = r.es;
+  rest = unused s.pieces;
+  parts = r.read.parts;
+  archive =
+      r.read.archive;
+  stands = placed r.place;
+}
   where
     placed : IsNextOrEnd s r.es ls ws → Standing r.es ls ws (unused s.pieces)
     placed (inl next) = inl (entry_in s.entry, next.1, next.2)
@@ -67,7 +86,8 @@ side_ready s d e ls ws r = record { es = r.es; rest = unused s.pieces; parts = r
 abbrev pub IsAhead : List Entry → List Entry → List Entry → List ℕ → Type 0
 IsAhead es ls ws rest = ((e : Entry) × (es ≡ ls ++ e ∷ []) × AllBelow ws e) ⊎ ((es ≡ ls) × (rest ≡ []))
 
-pub side_ahead : (s : ArchiveReader) (d e : Reader) (ls ws : List Entry) → (r : Ready s d e ls ws) → IsAhead (side_ready s d e ls ws r).es ls ws (side_ready s d e ls ws r).rest
+pub side_ahead : (s : ArchiveReader) (d e : Reader) (ls ws : List Entry) → (r : Ready s d e ls ws)
+    → IsAhead (side_ready s d e ls ws r).es ls ws (side_ready s d e ls ws r).rest
 unfolding side_ready
 side_ahead s d e ls ws r = placed r.place
   where
@@ -76,25 +96,36 @@ side_ahead s d e ls ws r = placed r.place
     placed (inr end) = inr (end.1, end.2)
 
 -- where the last entry of all is the last of a side, all are within it
-pub all_within : (ls ws : List Entry) (last : EntryText) → EndsWith ls last → EndsWith ws last → IsAscending ws → (w : Entry) → Has ws w → IsWithin ls w
-all_within ls ws last of_side of_all_joined up w h = elim (some_or_none last.text.items) [ inl none ↦ absurd (subst (λ (l : List Entry). Has l w) (of_all_joined.none none) h) | inr some ↦ behind (of_side.some some) (of_all_joined.some some) ]
+pub all_within : (ls ws : List Entry) (last : EntryText) → EndsWith ls last → EndsWith ws last → IsAscending ws
+    → (w : Entry) → Has ws w → IsWithin ls w
+all_within ls ws last of_side of_all_joined up w h =
+    elim (some_or_none last.text.items) [
+      | inl none ↦ absurd
+          (subst (λ (l : List Entry). Has l w) (of_all_joined.none none) h)
+      | inr some ↦ behind (of_side.some some)
+          (of_all_joined.some some)
+    ]
   where
     alone : Has (entry_in last ∷ []) w → (w ≡ entry_in last) ⊎ IsBelow w (entry_in last)
     alone (inl same) = inl (sym same)
     alone (inr none) = absurd none
 
-    behind : (before : List Entry) × (ls ≡ before ++ entry_in last ∷ []) → (before : List Entry) × (ws ≡ before ++ entry_in last ∷ []) → IsWithin ls w
+    behind : (before : List Entry) × (ls ≡ before ++ entry_in last ∷ [])
+        → (before : List Entry) × (ws ≡ before ++ entry_in last ∷ []) → IsWithin ls w
     behind (a, is) (b, same) = (
       entry_in last,
-      subst (λ (l : List Entry). Has l (entry_in last)) (sym is) (has_right a (entry_in last ∷ []) (entry_in last) (inl refl)),
+      subst (λ (l : List Entry). Has l (entry_in last)) (sym is)
+          (has_right a (entry_in last ∷ []) (entry_in last) (inl refl)),
       elim (has_either b (entry_in last ∷ []) w (subst (λ (l : List Entry). Has l w) same h)) [
-        | inl k ↦ inr (of_member (λ (x : Entry). IsBelow x (entry_in last)) b w (below_last b (entry_in last) (subst IsAscending same up)) k)
+        | inl k ↦ inr (of_member (λ (x : Entry). IsBelow x (entry_in last)) b w
+            (below_last b (entry_in last) (subst IsAscending same up)) k)
         | inr k ↦ alone k
       ],
     )
 
 -- a side all of whose entries were joined
-pub side_due : (s : ArchiveReader) (d e : Reader) (ls ws : List Entry) (last : EntryText) → (r : Due s d e ls last) → EndsWith ws last → IsAscending ws → SideAt r.x ls ws
+pub side_due : (s : ArchiveReader) (d e : Reader) (ls ws : List Entry) (last : EntryText) → (r : Due s d e ls last)
+    → EndsWith ws last → IsAscending ws → SideAt r.x ls ws
 side_due s d e ls ws last r of_all_joined up = record {
   es = ls;
   rest = unused s.pieces;

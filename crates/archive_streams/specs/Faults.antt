@@ -4,7 +4,7 @@ use Rattle.syslog_value.specs.Device.{count_on}
 use Rattle.syslog_value.specs.declared.loops.TheConstants.{READER_CALLS}
 use Rattle.archive_text.specs.Faults.{IsFaultBefore}
 use Rattle.archive_text.specs.declared.limits.TheConstants.{ENTRY_MAX}
-use Rattle.archive_streams.specs.Judging.{at_of}
+use Rattle.archive_text.specs.Positions.{position_of}
 use Rattle.archive_streams.specs.declared.fault.InputFault.TheVariants.{Device, Endless}
 use Rattle.archive_streams.specs.declared.fault.SideFault.{SideFault}
 use Rattle.archive_streams.specs.declared.fault.SideFault.TheVariants.{Archive, Input}
@@ -14,7 +14,7 @@ use Rattle.archive_streams.specs.declared.pieces.Pieces.{Pieces}
 -- no end in so many calls
 abbrev pub IsSideFault : SideFault → List ℕ → Pieces → Type 0
 IsSideFault (Archive fault) rest p =
-    IsFaultBefore ENTRY_MAX rest fault × (0 < length rest) × (at_of fault ≡ length rest → 0 < p.ends)
+    IsFaultBefore ENTRY_MAX rest fault × (0 < length rest) × (position_of fault ≡ length rest → 0 < p.ends)
 IsSideFault (Input Device) rest p = Unit {0}
 IsSideFault (Input Endless) rest p = (p.calls ≡ READER_CALLS) × (p.ends ≡ 0)
 

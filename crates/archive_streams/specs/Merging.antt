@@ -1,5 +1,6 @@
 -- Two archives on their way into one.
-use Rattle.std.specs.Prelude.{◌≡◌, ◌≢◌, ℕ, ◌+◌, ◌-◌, ◌^◌, ◌<◌, ◌≤◌, List, [], length, min, vec_capacity, Result, Ok, Err}
+use Rattle.std.specs.Prelude.{◌≡◌, ◌≢◌, ℕ, ◌+◌, ◌-◌, ◌^◌, ◌<◌, ◌≤◌, List, [], length, min, vec_capacity, Result, Ok}
+use Rattle.std.specs.Prelude.{Err}
 use Rattle.std.specs.declared.cmp.Ordering.{Ordering}
 use Rattle.std.specs.declared.cmp.Ordering.TheVariants.{Less, Equal, Greater}
 use Rattle.syslog_value.specs.Device.{count_on}
@@ -55,11 +56,13 @@ pub record IsRightDue (m : Merge) : Type 0 where
 -- which entry comes next
 abbrev pub IsNextOrder : Ordering → Merge → Type 0
 IsNextOrder Less m =
-    (m.left.entry.text.items ≢ []) × (m.right.entry.text.items ≢ [] → IsBelow (entry_in m.left.entry) (entry_in m.right.entry))
+    (m.left.entry.text.items ≢ []) × (m.right.entry.text.items ≢ []
+    → IsBelow (entry_in m.left.entry) (entry_in m.right.entry))
 IsNextOrder Equal m =
     (m.left.entry.text.items ≢ []) × (m.right.entry.text.items ≢ []) × (entry_in m.left.entry ≡ entry_in m.right.entry)
 IsNextOrder Greater m =
-    (m.right.entry.text.items ≢ []) × (m.left.entry.text.items ≢ [] → IsBelow (entry_in m.right.entry) (entry_in m.left.entry))
+    (m.right.entry.text.items ≢ []) × (m.left.entry.text.items ≢ []
+    → IsBelow (entry_in m.right.entry) (entry_in m.left.entry))
 
 -- a reader failed at this fault alone
 abbrev pub LeftFailures : {X : Type 0} → Result X MergeFault → ℕ → ℕ → Type 0

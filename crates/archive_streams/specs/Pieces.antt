@@ -1,11 +1,12 @@
 -- What a reader gave and was not yet used, and what its calls do to its counts.
-use Rattle.std.specs.Prelude.{◌≡◌, ℕ, ◌+◌, ◌-◌, ◌*◌, ◌^◌, ◌<◌, ◌≤◌, List, ◌++◌, length, take, drop, Option, Result, Ok, Err}
+use Rattle.std.specs.Prelude.{◌≡◌, ℕ, ◌+◌, ◌-◌, ◌*◌, ◌^◌, ◌<◌, ◌≤◌, List, ◌++◌, length, take, drop, Option, Result, Ok}
+use Rattle.std.specs.Prelude.{Err}
 use Rattle.std.specs.Io.KnownBytes.{Consumes, IsAtEnd}
 use Rattle.syslog_value.specs.Device.{count_on}
+use Rattle.syslog_value.specs.declared.loops.TheConstants.{READ_MAX}
 use Rattle.archive_streams.specs.declared.fault.InputFault.{InputFault}
 use Rattle.archive_streams.specs.declared.fault.InputFault.TheVariants.{Device, Endless}
 use Rattle.archive_streams.specs.declared.pieces.Pieces.{Pieces}
-use Rattle.archive_streams.specs.declared.pieces.TheConstants.{PIECE}
 
 -- the octets that are not yet used
 abbrev pub unused : Pieces → List ℕ
@@ -26,7 +27,7 @@ pub record ReadsOn (p q : Pieces) (d e : Reader) (before after : List ℕ) : Typ
   pub more : List ℕ
   pub consumed : Consumes d.left e.left more
   pub grown : after ≡ before ++ more
-  pub far : length more + PIECE * p.calls ≤ PIECE * q.calls
+  pub far : length more + READ_MAX * p.calls ≤ READ_MAX * q.calls
   pub calls : d.calls < 2 ^ 63 + p.calls → e.calls + p.calls ≡ d.calls + q.calls
   pub ends : d.calls < 2 ^ 63 + p.calls → e.ends + p.ends ≡ d.ends + q.ends
   pub at_end : (0 < p.ends → IsAtEnd d.left) → 0 < q.ends → IsAtEnd e.left

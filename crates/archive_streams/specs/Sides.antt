@@ -1,25 +1,24 @@
 -- An archive that is read entry by entry.
 use Rattle.std.specs.Prelude.{◌≡◌, ◌≢◌, ℕ, ◌+◌, ◌*◌, ◌^◌, ◌<◌, ◌≤◌, ◌⊎◌, List, [], ◌∷◌, ◌++◌, length}
 use Rattle.std.specs.Io.KnownBytes.{Consumes, IsAtEnd}
-use Rattle.syslog_value.specs.declared.loops.TheConstants.{READER_CALLS}
+use Rattle.syslog_value.specs.declared.loops.TheConstants.{READ_MAX, READER_CALLS}
 use Rattle.archive_text.specs.Entries.{Entry, Has, IsBelow}
 use Rattle.archive_text.specs.Faults.{IsFaultBehind}
 use Rattle.archive_text.specs.Text.{IsArchive, text_of}
 use Rattle.archive_text.specs.declared.limits.TheConstants.{ENTRY_MAX}
 use Rattle.archive_streams.specs.EntryTexts.{entry_in, HoldsEntry}
-use Rattle.archive_streams.specs.Judging.{at_of}
+use Rattle.archive_text.specs.Positions.{position_of}
 use Rattle.archive_streams.specs.Pieces.{Reader, unused}
 use Rattle.archive_streams.specs.declared.entry.EntryText.{EntryText}
 use Rattle.archive_streams.specs.declared.fault.InputFault.TheVariants.{Device, Endless}
 use Rattle.archive_streams.specs.declared.fault.SideFault.{SideFault}
 use Rattle.archive_streams.specs.declared.fault.SideFault.TheVariants.{Archive, Input}
 use Rattle.archive_streams.specs.declared.pieces.Pieces.{Pieces}
-use Rattle.archive_streams.specs.declared.pieces.TheConstants.{PIECE}
 use Rattle.archive_streams.specs.declared.side.ArchiveReader.{ArchiveReader}
 
 -- the position is one of the octets that so many calls can give
 abbrev pub IsNear : ArchiveReader → Type 0
-IsNear r = r.position + length (unused r.pieces) ≤ PIECE * r.pieces.calls
+IsNear r = r.position + length (unused r.pieces) ≤ READ_MAX * r.pieces.calls
 
 -- the last entry is the last of the list; there is none where the list has none
 pub record EndsWith (es : List Entry) (last : EntryText) : Type 0 where
@@ -31,7 +30,7 @@ abbrev pub IsNextFault : SideFault → EntryText → ℕ → List ℕ → Pieces
 IsNextFault (Archive fault) last position rest p =
     ((es : List Entry) → IsArchive ENTRY_MAX es → EndsWith es last → length (text_of es) ≡ position
     → IsFaultBehind ENTRY_MAX es rest fault)
-    × (0 < length rest) × (at_of fault ≡ position + length rest → 0 < p.ends)
+    × (0 < length rest) × (position_of fault ≡ position + length rest → 0 < p.ends)
 IsNextFault (Input Device) last position rest p = Unit {0}
 IsNextFault (Input Endless) last position rest p = (p.calls ≡ READER_CALLS) × (p.ends ≡ 0)
 
@@ -68,7 +67,7 @@ pub record Ready (s : ArchiveReader) (d e : Reader) (ls ws : List Entry) : Type 
 -- what is known where a side stops
 abbrev pub IsStopCause : SideFault → ArchiveReader → List ℕ → List ℕ → List Entry → Type 0
 IsStopCause (Archive fault) s x rest es =
-    IsFaultBehind ENTRY_MAX es rest fault × (0 < length rest) × (at_of fault ≡ length x → 0 < s.pieces.ends)
+    IsFaultBehind ENTRY_MAX es rest fault × (0 < length rest) × (position_of fault ≡ length x → 0 < s.pieces.ends)
 IsStopCause (Input Device) s x rest es = Unit {0}
 IsStopCause (Input Endless) s x rest es = (s.pieces.calls ≡ READER_CALLS) × (s.pieces.ends ≡ 0)
 

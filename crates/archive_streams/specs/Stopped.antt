@@ -6,7 +6,7 @@ use Rattle.archive_text.specs.Faults.{IsArchiveFault}
 use Rattle.archive_text.specs.declared.fault.ArchiveFault.{ArchiveFault}
 use Rattle.archive_text.specs.declared.limits.TheConstants.{ENTRY_MAX}
 use Rattle.archive_streams.specs.Joining.{IsFirstAbove, IsFirstWithin, IsPrefixOfUnion, IsUpToFirst}
-use Rattle.archive_streams.specs.Judging.{at_of}
+use Rattle.archive_text.specs.Positions.{position_of}
 use Rattle.archive_streams.specs.Pieces.{Reader}
 use Rattle.archive_streams.specs.declared.fault.MergeFault.{MergeFault}
 use Rattle.archive_streams.specs.declared.fault.MergeFault.TheVariants.{Left, Right, Read, Endless, Write, Memory}
@@ -26,7 +26,7 @@ pub record HasNoEnd (d e : Reader) : Type 0 where
 -- its front were written; a fault at the end of what it gave is told at its end alone
 pub record IsNoArchive (fault : ArchiveFault) (d e : Reader) (given other written : List ℕ) : Type 0 where
   pub fault_is : IsArchiveFault ENTRY_MAX given fault
-  pub at_end : at_of fault ≡ length given → HasEnded d e
+  pub at_end : position_of fault ≡ length given → HasEnded d e
   pub up_to_front : IsUpToFirst given other written
 
 -- what is known of the two sides at a fault; where both are no archives, the left is told exactly where

@@ -1,8 +1,8 @@
 //! The octets of an entry are judged.
 
-ghost use Rattle.std.specs.Prelude.{◌+◌, ◌^◌, ◌<◌, IfErr, IfOk};
+ghost use Rattle.std.specs.Prelude.{IfErr, IfOk};
 ghost use Rattle.archive_text.specs.Entries.{IsEntry};
-ghost use Rattle.archive_streams.specs.Judging.{at_of, IsJudged, IsMoved};
+ghost use Rattle.archive_streams.specs.Judging.{IsJudged};
 
 use archive_text::{ArchiveFault, EntryFault, entry_of_octets};
 use syslog_value::Instant;
@@ -16,22 +16,5 @@ pub fn instant_of(octets: &[u8]) -> Result<Option<Instant>, ArchiveFault>
         Ok(entry) => Ok(entry.instant),
         Err(EntryFault::Bad(fault)) => Err(ArchiveFault::BadEntry { at: 0, fault }),
         Err(EntryFault::NotCanonical) => Err(ArchiveFault::NotCanonical { at: 0 }),
-    }
-}
-
-/// A fault behind an offset.
-pub fn fault_behind(position: u64, fault: ArchiveFault) -> ArchiveFault
-    requires { position + at_of fault < 2 ^ 64 }
-    ensures { IsMoved position fault result }
-{
-    match fault {
-        ArchiveFault::BadFrame { at } => ArchiveFault::BadFrame { at: position + at },
-        ArchiveFault::EntryTooLong { at } => ArchiveFault::EntryTooLong { at: position + at },
-        ArchiveFault::BadEntry { at, fault } => ArchiveFault::BadEntry {
-            at: position + at,
-            fault,
-        },
-        ArchiveFault::NotCanonical { at } => ArchiveFault::NotCanonical { at: position + at },
-        ArchiveFault::NotAscending { at } => ArchiveFault::NotAscending { at: position + at },
     }
 }

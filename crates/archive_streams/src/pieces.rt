@@ -2,26 +2,22 @@
 
 ghost use Rattle.std.specs.Prelude.{◌≡◌, ◌≤◌, ◌<◌, ◌+◌, ◌++◌, [], length, drop, false};
 ghost use Rattle.std.specs.Prelude.{IfOk, IsTrue, IsErrOf, vec_capacity, vec_len};
-ghost use Rattle.syslog_value.specs.declared.loops.TheConstants.{READER_CALLS};
-ghost use Rattle.archive_streams.specs.declared.pieces.TheConstants.{PIECE};
+ghost use Rattle.syslog_value.specs.declared.loops.TheConstants.{READ_MAX, READER_CALLS};
 
 use crate::fault::InputFault;
-use syslog_value::{DeviceFault, Input, READER_CALLS};
+use syslog_value::{DeviceFault, Input, READ_MAX, READER_CALLS};
 
-// octets asked of a reader at a time
-pub const PIECE: usize = 4096;
-
-/// A reader's octets, a piece at a time: from `start` to `end` they were given and not yet used.
-/// `calls` of the reader were made, and `ends` of them gave the end.
+/// A reader's octets, a piece of at most `READ_MAX` at a time: from `start` to `end` they were given
+/// and not yet used. `calls` of the reader were made, and `ends` of them gave the end.
 #[derive(Drop)]
 pub struct Pieces {
-    pub piece: [u8; PIECE],
+    pub piece: [u8; READ_MAX],
     pub start: usize,
     pub end: usize,
     pub calls: u64,
     pub ends: u64,
     pub ghost order: { start ≤ end },
-    pub ghost within: { end ≤ PIECE },
+    pub ghost within: { end ≤ READ_MAX },
     pub ghost few: { calls ≤ READER_CALLS },
     pub ghost once: { ends ≤ calls },
 }
@@ -36,7 +32,7 @@ impl Pieces {
         ensures ends { result.ends ≡ 0 }
     {
         Pieces {
-            piece: [0u8; PIECE],
+            piece: [0u8; READ_MAX],
             start: 0,
             end: 0,
             calls: 0,

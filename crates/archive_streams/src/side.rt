@@ -5,13 +5,11 @@ ghost use Rattle.std.specs.Prelude.{vec_capacity, vec_len, List, IfErr, IfOk, Is
 ghost use Rattle.archive_streams.specs.Pieces.{ReadsOn, device, unused};
 ghost use Rattle.archive_streams.specs.EntryTexts.{entry_in, HoldsEntry, IsAbove};
 ghost use Rattle.archive_streams.specs.Faults.{SideFailures};
-ghost use Rattle.archive_streams.specs.declared.pieces.TheConstants.{PIECE};
 ghost use Rattle.archive_streams.specs.declared.entry.TheConstants.{TEXT_MAX};
 
 use crate::entry::{EntryText, TEXT_MAX};
 use crate::fault::SideFault;
-use crate::judging::fault_behind;
-use crate::pieces::{PIECE, Pieces};
+use crate::pieces::Pieces;
 use crate::reading::read_entry;
 use archive_text::ArchiveFault;
 use std::alloc::{AllocError, Global};
@@ -81,7 +79,7 @@ impl ArchiveReader {
                 Ok(true)
             }
             Err(SideFault::Archive(fault)) => {
-                Err(SideFault::Archive(fault_behind(self.position, fault)))
+                Err(SideFault::Archive(fault.later(self.position)))
             }
             Err(SideFault::Input(fault)) => Err(SideFault::Input(fault)),
         }

@@ -7,6 +7,8 @@ mod archives;
 #[cfg(test)]
 mod collectors;
 #[cfg(test)]
+mod legacy;
+#[cfg(test)]
 mod migrations;
 #[cfg(test)]
 mod refusals;

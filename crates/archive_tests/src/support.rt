@@ -5,6 +5,7 @@ use std::alloc::Global;
 use std::test::Fail;
 use syslog_collect::{Collector, Event, Outcome, RunEnd};
 use syslog_grammar::view;
+use syslog_legacy::LegacyClock;
 use syslog_value::ToWrite;
 
 pub const A: &[u8] = b"<13>1 - h a - - - x";
@@ -38,12 +39,21 @@ pub fn text_of<S: Store>(alloc: Global, store: &S) -> Result<Vec<u8>, Fail> {
     Ok(writer.into_inner())
 }
 
-/// A collector over a store.
-pub fn collector<S: Store + Drop>(alloc: Global, store: S) -> Result<Collector<S>, Fail> {
-    match Collector::new(alloc, store, None) {
+/// A collector over a store, which reads legacy packets under a clock, if it has one.
+pub fn collector_under<S: Store + Drop>(
+    alloc: Global,
+    clock: Option<LegacyClock>,
+    store: S,
+) -> Result<Collector<S>, Fail> {
+    match Collector::new(alloc, store, clock) {
         Ok(collector) => Ok(collector),
         Err(_) => Err("no memory")?,
     }
+}
+
+/// A collector over a store.
+pub fn collector<S: Store + Drop>(alloc: Global, store: S) -> Result<Collector<S>, Fail> {
+    collector_under(alloc, None, store)
 }
 
 /// The end of a run over events, what it logs, and the text of the archive then.
@@ -52,7 +62,17 @@ pub fn collected<S: Store + Drop>(
     store: S,
     events: &[Event<'_>],
 ) -> Result<(RunEnd, Vec<Outcome>, Vec<u8>), Fail> {
-    let mut collector = collector(alloc, store)?;
+    collected_under(alloc, None, store, events)
+}
+
+/// The same, where legacy packets are read under a clock, if there is one.
+pub fn collected_under<S: Store + Drop>(
+    alloc: Global,
+    clock: Option<LegacyClock>,
+    store: S,
+    events: &[Event<'_>],
+) -> Result<(RunEnd, Vec<Outcome>, Vec<u8>), Fail> {
+    let mut collector = collector_under(alloc, clock, store)?;
     let mut log = Vec::new(alloc);
     let end = collector.run(alloc, events, &mut log);
     let text = text_of(alloc, collector.store())?;

@@ -4,7 +4,8 @@ use Rattle.archive_text.specs.Entries.{Entry, IsAscending, IsBelow}
 use Rattle.archive_text.specs.Faults.{BeginsWithOctets, IsFaultBefore, IsFaultBehind}
 use Rattle.archive_text.specs.Text.{BeginsWithEntry, text_of}
 use Rattle.archive_text.specs.declared.fault.ArchiveFault.{ArchiveFault}
-use Rattle.archive_text.specs.declared.fault.ArchiveFault.TheVariants.{BadFrame, EntryTooLong, BadEntry, NotCanonical, NotAscending}
+use Rattle.archive_text.specs.declared.fault.ArchiveFault.TheVariants.{BadFrame, EntryTooLong, BadEntry, NotCanonical}
+use Rattle.archive_text.specs.declared.fault.ArchiveFault.TheVariants.{NotAscending}
 use Rattle.archive_text.proofs.Ascending.{not_after}
 
 -- the same fault so many octets later
@@ -25,11 +26,13 @@ fault_later most es rest (NotCanonical at) h = (omega (arith, h.0), (refl, h.1))
 fault_later most es rest (NotAscending at) h = absurd h
 
 -- an entry that is read is counted octets
-pub begins_with_octets : (most : ℕ) (rest : List ℕ) (e : Entry) (behind : List ℕ) → BeginsWithEntry most rest e behind → BeginsWithOctets most rest e.octets
+pub begins_with_octets : (most : ℕ) (rest : List ℕ) (e : Entry) (behind : List ℕ) → BeginsWithEntry most rest e behind
+    → BeginsWithOctets most rest e.octets
 begins_with_octets most rest e behind h = (h.carries, h.fits, (behind, h.parts))
 
 -- an entry that is not above the last
-pub not_ascending : (most : ℕ) (es : List Entry) (l e : Entry) (rest behind : List ℕ) → IsAscending (es ++ l ∷ []) → BeginsWithEntry most rest e behind → ¬ (IsBelow l e)
+pub not_ascending : (most : ℕ) (es : List Entry) (l e : Entry) (rest behind : List ℕ) → IsAscending (es ++ l ∷ [])
+    → BeginsWithEntry most rest e behind → ¬ (IsBelow l e)
     → IsFaultBehind most (es ++ l ∷ []) rest (NotAscending (length (text_of (es ++ l ∷ []))))
 not_ascending most es l e rest behind ascending h none =
     (refl, (e, h.entry, begins_with_octets most rest e behind h, not_after es l e ascending none))

@@ -6,7 +6,8 @@ use Rattle.archive_text.specs.Entries.{Entry, Has}
 
 -- ---- what holds of all
 
-pub all_append : {X : Type 0} (P : X → Type 0) (a b : List X) → AllByRecursion P a → AllByRecursion P b → AllByRecursion P (a ++ b)
+pub all_append : {X : Type 0} (P : X → Type 0) (a b : List X) → AllByRecursion P a → AllByRecursion P b
+    → AllByRecursion P (a ++ b)
 all_append P [] b h k = k
 all_append P (x ∷ a) b h k = (h.0, all_append P a b h.1 k)
 
@@ -18,7 +19,8 @@ pub all_right : {X : Type 0} (P : X → Type 0) (a b : List X) → AllByRecursio
 all_right P [] b h = h
 all_right P (x ∷ a) b h = all_right P a b h.1
 
-pub all_weaker : {X : Type 0} (P Q : X → Type 0) → ((x : X) → P x → Q x) → (xs : List X) → AllByRecursion P xs → AllByRecursion Q xs
+pub all_weaker : {X : Type 0} (P Q : X → Type 0) → ((x : X) → P x → Q x) → (xs : List X) → AllByRecursion P xs
+    → AllByRecursion Q xs
 all_weaker P Q each [] h = tt
 all_weaker P Q each (x ∷ xs) h = (each x h.0, all_weaker P Q each xs h.1)
 
@@ -64,4 +66,8 @@ has_old (f ∷ a) b e x (inl same) = inl same
 has_old (f ∷ a) b e x (inr more) = inr (has_old a b e x more)
 
 pub has_inserted_iff : (a b : List Entry) (e x : Entry) → Has (a ++ e ∷ b) x ↔ ((e ≡ x) ⊎ Has (a ++ b) x)
-has_inserted_iff a b e x = (has_inserted a b e x, λ h. elim h [ inl same ↦ subst (Has (a ++ e ∷ b)) same (has_new a b e) | inr old ↦ has_old a b e x old ])
+has_inserted_iff a b e x = (
+  has_inserted a b e x,
+  λ h.
+      elim h [ inl same ↦ subst (Has (a ++ e ∷ b)) same (has_new a b e) | inr old ↦ has_old a b e x old ],
+)

@@ -16,10 +16,12 @@ entry_with i b = record { instant = i; octets = b }
 
 -- an instant and octets make one entry
 pub same_entry : (a b : Entry) → a.instant ≡ b.instant → a.octets ≡ b.octets → a ≡ b
-same_entry a b instant octets = let same : entry_with a.instant a.octets ≡ entry_with b.instant b.octets = rw (instant, octets) refl in same
+same_entry a b instant octets = let same : entry_with a.instant a.octets ≡ entry_with b.instant b.octets =
+    rw (instant, octets) refl in same
 
 -- entries of one instant, as their octets compare
-pub by_octets : (a b : Entry) (o : Ordering) → a.instant ≡ b.instant → MatchOrdering o (OctetsBelow a.octets b.octets) (a.octets ≡ b.octets) (OctetsBelow b.octets a.octets)
+pub by_octets : (a b : Entry) (o : Ordering) → a.instant ≡ b.instant
+    → MatchOrdering o (OctetsBelow a.octets b.octets) (a.octets ≡ b.octets) (OctetsBelow b.octets a.octets)
     → IsOrder o a b
 by_octets a b Less same h = inr (same, h)
 by_octets a b Equal same h = same_entry a b same h
@@ -47,7 +49,8 @@ instant_transitive (Some i) (Some j) (Some k) h l = omega (arith, ints, h, l)
 pub instant_asymmetric : (i j : Option ℤ) → InstantBelow i j → ¬ (InstantBelow j i)
 instant_asymmetric i j h k = instant_irreflexive i (instant_transitive i j i h k)
 
-some_total : (i j : ℤ) (o : Ordering) → MatchOrdering o (i <ℤ j) (i ≡ j) (j <ℤ i) → InstantBelow (Some i) (Some j) ⊎ ((Some i ≡ Some j) ⊎ InstantBelow (Some j) (Some i))
+some_total : (i j : ℤ) (o : Ordering) → MatchOrdering o (i <ℤ j) (i ≡ j) (j <ℤ i)
+    → InstantBelow (Some i) (Some j) ⊎ ((Some i ≡ Some j) ⊎ InstantBelow (Some j) (Some i))
 some_total i j Less h = inl h
 some_total i j Equal h = inr (inl (ap Some h))
 some_total i j Greater h = inr (inr h)
@@ -69,7 +72,8 @@ octets_transitive = below_trans
 pub octets_asymmetric : (a b : List ℕ) → OctetsBelow a b → ¬ (OctetsBelow b a)
 octets_asymmetric a b h k = below_itself a (below_trans a b a h k)
 
-octets_ordered : (a b : List ℕ) (o : Ordering) → MatchOrdering o (OctetsBelow a b) (a ≡ b) (OctetsBelow b a) → OctetsBelow a b ⊎ ((a ≡ b) ⊎ OctetsBelow b a)
+octets_ordered : (a b : List ℕ) (o : Ordering) → MatchOrdering o (OctetsBelow a b) (a ≡ b) (OctetsBelow b a)
+    → OctetsBelow a b ⊎ ((a ≡ b) ⊎ OctetsBelow b a)
 octets_ordered a b Less h = inl h
 octets_ordered a b Equal h = inr (inl h)
 octets_ordered a b Greater h = inr (inr h)

@@ -21,7 +21,14 @@ pub record Place (e : Entry) (es : List Entry) : Type 0 where
 
 place_later : (f e : Entry) (es : List Entry) → IsBelow f e → Has es e ⊎ Place e es → Has (f ∷ es) e ⊎ Place e (f ∷ es)
 place_later f e es less (inl held) = inl (inr held)
-place_later f e es less (inr p) = inr (record { before = f ∷ p.before; after = p.after; parts = ap (λ xs. f ∷ xs) p.parts; below = (less, p.below); above = p.above })
+place_later f e es less (inr p) = inr (record {
+  before = f ∷ p.before;
+  after = p.after;
+  parts =
+      ap (λ xs. f ∷ xs) p.parts;
+  below = (less, p.below);
+  above = p.above;
+})
 
 -- an ascending list has the entry, or a place for it
 pub place_of : (e : Entry) (es : List Entry) → IsAscending es → Has es e ⊎ Place e es
@@ -48,13 +55,17 @@ place_absent e es p held = not_between p.before p.after e p.below p.above (subst
 pub place_adds : (e : Entry) (es : List Entry) (p : Place e es) → AddsEntry e es (p.before ++ e ∷ p.after) New
 place_adds e es p = (place_absent e es p, (p.before, p.after, p.parts, refl))
 
-pub place_archive : (most : ℕ) (e : Entry) (es : List Entry) (p : Place e es) → IsArchive most es → IsEntry e → length e.octets ≤ most → IsArchive most (p.before ++ e ∷ p.after)
-place_archive most e es p h entry fits = archive_inserted most p.before p.after e (subst (IsArchive most) p.parts h) entry fits p.below p.above
+pub place_archive : (most : ℕ) (e : Entry) (es : List Entry) (p : Place e es) → IsArchive most es → IsEntry e
+    → length e.octets ≤ most → IsArchive most (p.before ++ e ∷ p.after)
+place_archive most e es p h entry fits = archive_inserted most p.before p.after e (subst (IsArchive most) p.parts h)
+    entry fits p.below p.above
 
 -- the members once an entry was added
-pub adds_has : (e : Entry) (old new : List Entry) (added : Added) → AddsEntry e old new added → (x : Entry) → Has new x ↔ ((e ≡ x) ⊎ Has old x)
+pub adds_has : (e : Entry) (old new : List Entry) (added : Added) → AddsEntry e old new added → (x : Entry)
+    → Has new x ↔ ((e ≡ x) ⊎ Has old x)
 adds_has e old new New (none, (a, b, is_old, is_new)) x =
-    subst (λ xs. Has new x ↔ ((e ≡ x) ⊎ Has xs x)) (sym is_old) (subst (λ xs. Has xs x ↔ ((e ≡ x) ⊎ Has (a ++ b) x)) (sym is_new) (has_inserted_iff a b e x))
+    subst (λ xs. Has new x ↔ ((e ≡ x) ⊎ Has xs x)) (sym is_old)
+    (subst (λ xs. Has xs x ↔ ((e ≡ x) ⊎ Has (a ++ b) x)) (sym is_new) (has_inserted_iff a b e x))
 adds_has e old new Held (held, same) x = (
   λ h. inr (subst (λ xs. Has xs x) same h),
   λ h. subst (λ xs. Has xs x) (sym same) (elim h [ inl first ↦ subst (Has old) first held | inr more ↦ more ]),

@@ -19,20 +19,33 @@ ok_value (Ok x) p e = p
 ok_value (Err y) p e = absurd (false≢true (sym e))
 
 -- the octets of a vector that was empty
-pub shown_alone : {T E : Type 0} (s : ViewParts) (r : Result T E) (was new octets : List ℕ) → OnOk r (AddsShown s was new) → is_err r ≡ false → was ≡ [] → octets ≡ new → AddsShown s [] octets
+pub shown_alone : {T E : Type 0} (s : ViewParts) (r : Result T E) (was new octets : List ℕ)
+    → OnOk r (AddsShown s was new) → is_err r ≡ false → was ≡ [] → octets ≡ new → AddsShown s [] octets
 shown_alone s r was new octets adds ok empty same =
-    subst (λ (o : List ℕ). AddsShown s [] o) (sym same) (subst (λ (o : List ℕ). AddsShown s o new) empty (ok_value r adds ok))
+    subst (λ (o : List ℕ). AddsShown s [] o) (sym same)
+    (subst (λ (o : List ℕ). AddsShown s o new) empty (ok_value r adds ok))
 
 -- the entry of the record that a view shows
-pub shown_entry : (s : ViewParts) (scratch : List ℕ) (i : Option ℤ) (h : AddsShown s [] scratch) → i ≡ s.instant → IsEntryOf h.shown (record { instant = i; octets = scratch })
-shown_entry s scratch i h is = record { valid = h.valid; instant = is ∙ h.instant; canonical = subst (Canonical h.shown) (sym h.added) h.canonical }
+pub shown_entry : (s : ViewParts) (scratch : List ℕ) (i : Option ℤ) (h : AddsShown s [] scratch) → i ≡ s.instant
+    → IsEntryOf h.shown (record { instant = i; octets = scratch })
+shown_entry s scratch i h is = record {
+  valid = h.valid;
+  instant = is ∙ h.instant;
+  canonical =
+      subst (Canonical h.shown) (sym h.added) h.canonical;
+}
 
-pub shown_added : (s : ViewParts) (scratch b : List ℕ) (i : Option ℤ) (old new : List Entry) (added : Added) → AddsShown s [] scratch → i ≡ s.instant → IsViewOf b s
-    → AddsEntry (record { instant = i; octets = scratch }) old new added → (r : Parts ℤ) × WellFormed r b × AddsRecord r old new added
-shown_added s scratch b i old new added h is seen adds = (h.shown, h.spelled b seen, (record { instant = i; octets = scratch }, shown_entry s scratch i h is, adds))
+pub shown_added : (s : ViewParts) (scratch b : List ℕ) (i : Option ℤ) (old new : List Entry) (added : Added)
+    → AddsShown s [] scratch → i ≡ s.instant → IsViewOf b s
+    → AddsEntry (record { instant = i; octets = scratch }) old new added
+    → (r : Parts ℤ) × WellFormed r b × AddsRecord r old new added
+shown_added s scratch b i old new added h is seen adds =
+    (h.shown, h.spelled b seen, (record { instant = i; octets = scratch }, shown_entry s scratch i h is, adds))
 
-pub shown_long : (most : ℕ) (s : ViewParts) (scratch b : List ℕ) → AddsShown s [] scratch → IsViewOf b s → most < length scratch → (r : Parts ℤ) (e : Entry) → WellFormed r b → IsEntryOf r e → most < length e.octets
+pub shown_long : (most : ℕ) (s : ViewParts) (scratch b : List ℕ) → AddsShown s [] scratch → IsViewOf b s
+    → most < length scratch → (r : Parts ℤ) (e : Entry) → WellFormed r b → IsEntryOf r e → most < length e.octets
 shown_long most s scratch b h seen long r e also is =
     let same : r ≡ h.shown = one_meaning r h.shown b also (h.spelled b seen) in
-    let octets : e.octets ≡ scratch = canonical_once h.shown e.octets h.octets (subst (λ (p : Parts ℤ). Canonical p e.octets) same is.canonical) h.canonical ∙ sym h.added in
+    let octets : e.octets ≡ scratch = canonical_once h.shown e.octets h.octets
+    (subst (λ (p : Parts ℤ). Canonical p e.octets) same is.canonical) h.canonical ∙ sym h.added in
     subst (λ (o : List ℕ). most < length o) (sym octets) long

@@ -10,7 +10,8 @@ use Rattle.syslog_grammar.specs.WellFormed.{WellFormed}
 use Rattle.archive_text.specs.Entries.{Entry, IsAscending, IsEntry}
 use Rattle.archive_text.specs.Text.{IsArchive, text_of}
 use Rattle.archive_text.specs.declared.fault.ArchiveFault.{ArchiveFault}
-use Rattle.archive_text.specs.declared.fault.ArchiveFault.TheVariants.{BadFrame, EntryTooLong, BadEntry, NotCanonical, NotAscending}
+use Rattle.archive_text.specs.declared.fault.ArchiveFault.TheVariants.{BadFrame, EntryTooLong, BadEntry, NotCanonical}
+use Rattle.archive_text.specs.declared.fault.ArchiveFault.TheVariants.{NotAscending}
 use Rattle.archive_text.specs.declared.fault.EntryFault.{EntryFault}
 use Rattle.archive_text.specs.declared.fault.EntryFault.TheVariants.{Bad, NotCanonical as entry_NotCanonical}
 

@@ -1,7 +1,8 @@
 -- Where faults are.
 use Rattle.std.specs.Prelude.{ℕ, ◌+◌}
 use Rattle.archive_text.specs.declared.fault.ArchiveFault.{ArchiveFault}
-use Rattle.archive_text.specs.declared.fault.ArchiveFault.TheVariants.{BadFrame, EntryTooLong, BadEntry, NotCanonical, NotAscending}
+use Rattle.archive_text.specs.declared.fault.ArchiveFault.TheVariants.{BadFrame, EntryTooLong, BadEntry, NotCanonical}
+use Rattle.archive_text.specs.declared.fault.ArchiveFault.TheVariants.{NotAscending}
 
 -- the position of a fault
 abbrev pub position_of : ArchiveFault → ℕ

@@ -6,7 +6,8 @@ use Rattle.archive_text.specs.Faults.{IsFaultBefore, IsFaultBehind}
 use Rattle.archive_text.specs.Positions.{later, position_of}
 use Rattle.archive_text.specs.Text.{BeginsWithEntry, IsArchive, text_of}
 use Rattle.archive_text.specs.declared.fault.ArchiveFault.{ArchiveFault}
-use Rattle.archive_text.specs.declared.fault.ArchiveFault.TheVariants.{BadFrame, EntryTooLong, BadEntry, NotCanonical, NotAscending}
+use Rattle.archive_text.specs.declared.fault.ArchiveFault.TheVariants.{BadFrame, EntryTooLong, BadEntry, NotCanonical}
+use Rattle.archive_text.specs.declared.fault.ArchiveFault.TheVariants.{NotAscending}
 use Rattle.archive_text.specs.declared.limits.TheConstants.{ENTRY_MAX}
 use Rattle.archive_text.proofs.Ascending.{below_last}
 use Rattle.archive_text.proofs.Prefixes.{archive_fault}
@@ -15,7 +16,8 @@ use Rattle.archive_vec.specs.declared.reading.ReadFault.{ReadFault}
 use Rattle.archive_vec.specs.declared.reading.ReadFault.TheVariants.{Bad, Memory}
 
 -- a fault is within the text
-pub position_within : (most : ℕ) (rest : List ℕ) (fault : ArchiveFault) → IsFaultBefore most rest fault → position_of fault ≤ length rest
+pub position_within : (most : ℕ) (rest : List ℕ) (fault : ArchiveFault) → IsFaultBefore most rest fault
+    → position_of fault ≤ length rest
 position_within most rest (BadFrame at) (inl (none, offset)) = offset.within
 position_within most rest (BadFrame at) (inr (count, behind, follows, low, cut, is)) = omega (arith, is)
 position_within most rest (EntryTooLong at) (is, h) = omega (arith, is)
@@ -24,7 +26,8 @@ position_within most rest (NotCanonical at) (is, h) = omega (arith, is)
 position_within most rest (NotAscending at) h = absurd h
 
 -- counted from the start of the text of the entries before it
-pub fault_behind : (most n : ℕ) (es : List Entry) (rest : List ℕ) (fault : ArchiveFault) → n ≡ length (text_of es) → IsFaultBefore most rest fault
+pub fault_behind : (most n : ℕ) (es : List Entry) (rest : List ℕ) (fault : ArchiveFault) → n ≡ length (text_of es)
+    → IsFaultBefore most rest fault
     → IsFaultBehind most es rest (later n fault)
 fault_behind most n es rest (BadFrame at) start h = (at, h, ap (λ (m : ℕ). m + at) start)
 fault_behind most n es rest (EntryTooLong at) start (is, h) = (omega (arith, is, start), h)
@@ -33,13 +36,16 @@ fault_behind most n es rest (NotCanonical at) start (is, h) = (omega (arith, is,
 fault_behind most n es rest (NotAscending at) start h = absurd h
 
 -- an entry that is not above all others
-pub not_ascending : (most n : ℕ) (es : List Entry) (e : Entry) (rest behind : List ℕ) → n ≡ length (text_of es) → BeginsWithEntry most rest e behind
+pub not_ascending : (most n : ℕ) (es : List Entry) (e : Entry) (rest behind : List ℕ) → n ≡ length (text_of es)
+    → BeginsWithEntry most rest e behind
     → ¬ (AllByRecursion (λ x. IsBelow x e) es) → IsFaultBehind most es rest (NotAscending n)
 not_ascending most n es e rest behind start h none =
     (start, (e, h.entry, (h.carries, h.fits, (behind, h.parts)), λ ascending. none (below_last es e ascending)))
 
 -- and what was read before it is an archive
-pub read_fault : (text rest : List ℕ) (es : List Entry) (fault : ReadFault) → IsArchive ENTRY_MAX es → text ≡ text_of es ++ rest → 0 < length rest
+pub read_fault : (text rest : List ℕ) (es : List Entry) (fault : ReadFault) → IsArchive ENTRY_MAX es
+    → text ≡ text_of es ++ rest → 0 < length rest
     → IsFaultOn es rest fault → IsReadFault text fault
-read_fault text rest es (Bad fault) archive is some bad = archive_fault ENTRY_MAX text es rest fault (omega arith) archive is some bad
+read_fault text rest es (Bad fault) archive is some bad =
+    archive_fault ENTRY_MAX text es rest fault (omega arith) archive is some bad
 read_fault text rest es Memory archive is some bad = tt

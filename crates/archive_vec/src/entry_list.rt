@@ -1,6 +1,7 @@
 //! Entries in order, their octets in one vector.
 
-ghost use Rattle.std.specs.Prelude.{◌≡◌, ◌<◌, ◌≤◌, ◌↔◌, ◌++◌, ◌∷◌, [], drop, length, slice_get, take, IfOk, IsErrOf, IsTrue, OnOk, OnErr, Some};
+ghost use Rattle.std.specs.Prelude.{◌≡◌, ◌<◌, ◌≤◌, ◌↔◌, ◌++◌, ◌∷◌, [], drop, length, slice_get, take, IfOk, IsErrOf};
+ghost use Rattle.std.specs.Prelude.{IsTrue, OnOk, OnErr, Some};
 ghost use Rattle.std.specs.List.{AllByRecursion, insert};
 ghost use Rattle.archive_text.specs.Entries.{IsBelow, IsEntry};
 ghost use Rattle.archive_text.specs.EntryViews.{entry_of};

@@ -1,2 +1,4 @@
 pub mod Steps
 pub mod Listed
+pub mod Lines
+pub mod Ends

@@ -3,7 +3,9 @@ use Rattle.std.specs.Prelude.{ℕ, zero, suc, ◌+◌, List, [], ◌∷◌, take
 use Rattle.std.specs.Global.{Global}
 use Rattle.syslog_frame.specs.declared.limits.TheConstants.{FRAME_MAX}
 use Rattle.collect_engine.specs.declared.step.Step.{Step}
-use Rattle.collect_engine.specs.declared.step.Step.TheVariants.{Opened as step_Opened, Piece as step_Piece, Ended as step_Ended, Datagram as step_Datagram, Finished as step_Finished, Failed as step_Failed}
+use Rattle.collect_engine.specs.declared.step.Step.TheVariants.{Opened as step_Opened, Piece as step_Piece}
+use Rattle.collect_engine.specs.declared.step.Step.TheVariants.{Ended as step_Ended, Datagram as step_Datagram}
+use Rattle.collect_engine.specs.declared.step.Step.TheVariants.{Finished as step_Finished, Failed as step_Failed}
 use Rattle.collect_engine.specs.Steps.{Given, Opened, Piece, Ended, Datagram, Finished, Failed}
 
 -- an item of a list: a step, and the octets of a piece or a datagram

@@ -3,7 +3,9 @@ use Rattle.std.specs.Prelude.{◌≡◌, ℕ, ◌+◌, ◌≤◌, List, take, Op
 use Rattle.syslog_value.specs.Device.{count_on}
 use Rattle.syslog_frame.specs.declared.framing.Framing.{Framing}
 use Rattle.collect_engine.specs.declared.step.Step.{Step}
-use Rattle.collect_engine.specs.declared.step.Step.TheVariants.{Opened as step_Opened, Piece as step_Piece, Ended as step_Ended, Datagram as step_Datagram, Finished as step_Finished, Failed as step_Failed}
+use Rattle.collect_engine.specs.declared.step.Step.TheVariants.{Opened as step_Opened, Piece as step_Piece}
+use Rattle.collect_engine.specs.declared.step.Step.TheVariants.{Ended as step_Ended, Datagram as step_Datagram}
+use Rattle.collect_engine.specs.declared.step.Step.TheVariants.{Finished as step_Finished, Failed as step_Failed}
 
 -- a step with its octets
 pub data Given : Type 0 where

@@ -15,9 +15,14 @@ default_rule id value = record (option_rule id) { defaults = value ∷ [] }
 abbrev pub required_rule : Text → Rule
 required_rule id = record (new_rule id) { required = true }
 
+-- the options of a command that may read legacy packets
+abbrev pub with_legacy_rules : App → App
+with_legacy_rules a =
+    with_rule (with_rule a (option_rule (codes "legacy"))) (default_rule (codes "zone") (codes "E0000"))
+
 -- a command that reads records
 abbrev pub input_app : Text → App
-input_app name = with_rule (new_app name) (default_rule (codes "framing") (codes "datagram"))
+input_app name = with_legacy_rules (with_rule (new_app name) (default_rule (codes "framing") (codes "datagram")))
 
 -- the command that reads records and writes them in canonical form
 abbrev pub convert_app : App
@@ -51,9 +56,17 @@ send_app =
     with_rule (with_rule (with_send_words (with_send_defaults (new_app (codes "send")))) (option_rule (codes "micros")))
     (required_rule (codes "TEXT"))
 
--- the words do not begin with the program's name, and a subcommand is required
+-- the command that receives records from sockets
+abbrev pub collect_app : App
+collect_app =
+    with_legacy_rules (with_rule (with_rule (with_rule (new_app (codes "collect"))
+    (required_rule (codes "TRANSPORT"))) (required_rule (codes "PORT"))) (required_rule (codes "COUNT")))
+
+-- the words do not begin with the program's name, a subcommand is required, and there is a version to tell
 abbrev pub empty_app : App
-empty_app = on_top (λ s. record s { no_binary_name = true; subcommand_required = true }) (new_app (codes "syslogbox"))
+empty_app =
+    on_top (λ s. record s { has_version = true; no_binary_name = true; subcommand_required = true })
+    (new_app (codes "syslogbox"))
 
 -- the commands that handle frames one by one
 abbrev pub with_frame_commands : App → App
@@ -64,8 +77,11 @@ with_frame_commands a =
 -- the commands that write an archive
 abbrev pub with_archive_commands : App → App
 with_archive_commands a =
-    with_subcommand (with_subcommand (with_subcommand a (input_app (codes "archive")).top) merge_app.top) migrate_app.top
+    with_subcommand (with_subcommand (with_subcommand a (input_app (codes "archive")).top) merge_app.top)
+    migrate_app.top
 
 -- the whole command line
 abbrev pub line_app : App
-line_app = with_subcommand (with_archive_commands (with_frame_commands empty_app)) send_app.top
+line_app =
+    with_subcommand (with_subcommand (with_archive_commands (with_frame_commands empty_app)) send_app.top)
+    collect_app.top

@@ -1,2 +1,4 @@
+pub mod Clocks
 pub mod CommandLine
+pub mod Numbers
 pub mod Requests

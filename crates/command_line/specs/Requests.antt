@@ -1,5 +1,6 @@
 -- What the words of a command line ask for.
-use Rattle.std.specs.Prelude.{⊤, List, [], ◌∷◌, Some, None, Option, codes, if◌then◌else◌, option_and_then, option_map}
+use Rattle.std.specs.Prelude.{⊤, ℕ, List, [], ◌∷◌, Some, None, Option, Result, Ok, Err, codes, if◌then◌else◌}
+use Rattle.std.specs.Prelude.{option_and_then, option_map}
 use Rattle.std.specs.Str.{bytes_eq}
 use Rattle.clap.specs.Walk.{Text, Row, first_of}
 use Rattle.clap.specs.Simple.{subcommand_of}
@@ -7,7 +8,13 @@ use Rattle.clap.specs.Faults.{fault_of}
 use Rattle.clap.specs.Kinds.{Kinds}
 use Rattle.syslog_frame.specs.declared.framing.Framing.{Framing}
 use Rattle.syslog_frame.specs.declared.framing.Framing.TheVariants.{Counted, Lf}
+use Rattle.syslog_legacy.specs.FrameReadings.{Clock}
+use Rattle.collect_engine.specs.declared.collect_words.CollectWords.{CollectWords}
+use Rattle.collect_engine.specs.declared.collect_words.Transport.{Transport}
+use Rattle.collect_engine.specs.declared.collect_words.Transport.TheVariants as transport
+use Rattle.command_line.specs.Clocks.{clock_in}
 use Rattle.command_line.specs.CommandLine.{line_app}
+use Rattle.command_line.specs.Numbers.{number_in}
 use Rattle.send_engine.specs.Options.{OptionTexts, texts_of}
 use Rattle.frame_engine.specs.declared.input_framing.InputFraming.{InputFraming}
 use Rattle.frame_engine.specs.declared.input_framing.InputFraming.TheVariants.{Datagram, Stream}
@@ -18,31 +25,36 @@ use Rattle.command_line.specs.declared.words.WordsFault.TheVariants.{Usage, Memo
 
 -- a request, its files by their names
 pub data Asked : Type 0 where
-  Check : InputFraming → Asked
-  Show : InputFraming → Asked
-  Convert : InputFraming → Option Framing → Asked
-  Archive : InputFraming → Asked
+  Check : Clock → InputFraming → Asked
+  Show : Clock → InputFraming → Asked
+  Convert : Clock → InputFraming → Option Framing → Asked
+  Archive : Clock → InputFraming → Asked
   Merge : Text → Text → Asked
   Migrate : Text → Asked
   Send : OptionTexts → Asked
+  Collect : CollectWords → Asked
 
 -- the request, without where its names lie in memory
 abbrev pub asked_by : Request → Asked
-asked_by (request.Check input_framing) = Check input_framing
-asked_by (request.Show input_framing) = Show input_framing
-asked_by (request.Convert input_framing to) = Convert input_framing to
-asked_by (request.Archive input_framing) = Archive input_framing
+asked_by (request.Check input_framing clock) = Check clock input_framing
+asked_by (request.Show input_framing clock) = Show clock input_framing
+asked_by (request.Convert input_framing clock to) = Convert clock input_framing to
+asked_by (request.Archive input_framing clock) = Archive clock input_framing
 asked_by (request.Merge left right) = Merge left.now right.now
 asked_by (request.Migrate file) = Migrate file.now
 asked_by (request.Send options) = Send (texts_of options)
+asked_by (request.Collect words) = Collect words
 
 -- the framing with this name
 abbrev pub framing_of : Text → Option Framing
-framing_of name = if bytes_eq name (codes "counted") then Some Counted else (if bytes_eq name (codes "lf") then Some Lf else None)
+framing_of name =
+    if bytes_eq name (codes "counted") then Some Counted
+    else (if bytes_eq name (codes "lf") then Some Lf else None)
 
 -- the framing of an input, by its name
 abbrev pub input_framing_of : Text → Option InputFraming
-input_framing_of name = if bytes_eq name (codes "datagram") then Some Datagram else option_map Stream (framing_of name)
+input_framing_of name =
+    if bytes_eq name (codes "datagram") then Some Datagram else option_map Stream (framing_of name)
 
 -- the value of `--framing`
 abbrev pub input_framing_in : List Row → Option InputFraming
@@ -50,11 +62,15 @@ input_framing_in rows = option_and_then input_framing_of (first_of (codes "frami
 
 -- `check` with the values of its options
 abbrev pub read_check : List Row → Option Asked
-read_check rows = option_map (λ input_framing. Check input_framing) (input_framing_in rows)
+read_check rows =
+    option_and_then (λ input_framing. option_map (λ clock. Check clock input_framing) (clock_in rows))
+    (input_framing_in rows)
 
 -- `show` with the values of its options
 abbrev pub read_show : List Row → Option Asked
-read_show rows = option_map (λ input_framing. Show input_framing) (input_framing_in rows)
+read_show rows =
+    option_and_then (λ input_framing. option_map (λ clock. Show clock input_framing) (clock_in rows))
+    (input_framing_in rows)
 
 -- the framing of an input, as one of frames
 abbrev pub own_framing : InputFraming → Option Framing
@@ -69,16 +85,20 @@ to_of input_framing (Some name) = option_map (λ kind. Some kind) (framing_of na
 -- `convert` with the values of its options
 abbrev pub read_convert : List Row → Option Asked
 read_convert rows =
-    option_and_then (λ input_framing. option_map (λ to. Convert input_framing to) (to_of input_framing (first_of (codes "to") rows))) (input_framing_in rows)
+    option_and_then (λ input_framing. option_and_then (λ clock. option_map (λ to. Convert clock input_framing to)
+    (to_of input_framing (first_of (codes "to") rows))) (clock_in rows)) (input_framing_in rows)
 
 -- `archive` with the values of its options
 abbrev pub read_archive : List Row → Option Asked
-read_archive rows = option_map (λ input_framing. Archive input_framing) (input_framing_in rows)
+read_archive rows =
+    option_and_then (λ input_framing. option_map (λ clock. Archive clock input_framing) (clock_in rows))
+    (input_framing_in rows)
 
 -- `merge` with its files
 abbrev pub read_merge : List Row → Option Asked
 read_merge rows =
-    option_and_then (λ left. option_map (λ right. Merge left right) (first_of (codes "RIGHT") rows)) (first_of (codes "LEFT") rows)
+    option_and_then (λ left. option_map (λ right. Merge left right) (first_of (codes "RIGHT") rows))
+    (first_of (codes "LEFT") rows)
 
 -- `migrate` with its file
 abbrev pub read_migrate : List Row → Option Asked
@@ -87,7 +107,8 @@ read_migrate rows = option_map (λ file. Migrate file) (first_of (codes "FILE") 
 -- `send` with the texts of its options
 abbrev pub read_send : List Row → Option Asked
 read_send rows =
-    option_and_then (λ facility. option_and_then (λ severity. option_and_then (λ up_to. option_and_then (λ framing. option_map (λ text. Send record {
+    option_and_then (λ facility. option_and_then (λ severity. option_and_then (λ up_to. option_and_then
+    (λ framing. option_map (λ text. Send record {
       facility = facility;
       severity = severity;
       up_to = up_to;
@@ -101,25 +122,69 @@ read_send rows =
     }) (first_of (codes "TEXT") rows)) (first_of (codes "framing") rows)) (first_of (codes "up-to") rows))
     (first_of (codes "severity") rows)) (first_of (codes "facility") rows)
 
+-- the transport with this name
+abbrev pub transport_of : Text → Option Transport
+transport_of name =
+    if bytes_eq name (codes "udp") then Some transport.Udp
+    else (if bytes_eq name (codes "counted") then Some transport.Counted
+    else (if bytes_eq name (codes "lf") then Some transport.Lf else None))
+
+-- how many datagrams or connections may be asked for at most
+abbrev pub count_max : Transport → ℕ
+count_max transport.Udp = 1_000_000
+count_max transport.Counted = 100_000
+count_max transport.Lf = 100_000
+
+-- `collect` with its values
+abbrev pub read_collect : List Row → Option CollectWords
+read_collect rows =
+    option_and_then (λ kind. option_and_then (λ port. option_and_then (λ count. option_map (λ clock. record {
+      transport = kind;
+      port = port;
+      count = count;
+      clock = clock;
+    }) (clock_in rows)) (option_and_then (number_in 1 (count_max kind)) (first_of (codes "COUNT") rows)))
+    (option_and_then (number_in 1 65_535) (first_of (codes "PORT") rows)))
+    (option_and_then transport_of (first_of (codes "TRANSPORT") rows))
+
 -- the request of a subcommand with the values of its options
 abbrev pub read_of : Text × List Row → Option Asked
 read_of (name, rows) =
-    if bytes_eq name (codes "check") then read_check rows
+    if bytes_eq name (codes "collect") then option_map (λ words. Collect words) (read_collect rows)
+    else (if bytes_eq name (codes "check") then read_check rows
     else (if bytes_eq name (codes "convert") then read_convert rows
     else (if bytes_eq name (codes "show") then read_show rows
     else (if bytes_eq name (codes "archive") then read_archive rows
     else (if bytes_eq name (codes "merge") then read_merge rows
     else (if bytes_eq name (codes "migrate") then read_migrate rows
-    else (if bytes_eq name (codes "send") then read_send rows else None))))))
+    else (if bytes_eq name (codes "send") then read_send rows else None)))))))
 
--- the request, where the parse has no fault
-abbrev pub request_of : Kinds → Option (Text × List Row) → Option Asked
-request_of [] rows = option_and_then read_of rows
-request_of (kind ∷ kinds) rows = None
+-- the subcommand with the values of its options, where the parse has no fault
+abbrev pub rows_where : Kinds → Option (Text × List Row) → Option (Text × List Row)
+rows_where [] rows = rows
+rows_where (kind ∷ kinds) rows = None
+
+-- the subcommand of the words with the values of its options, where they parse
+unfoldable pub rows_asked : List Text → Option (Text × List Row)
+rows_asked words = rows_where (fault_of line_app words) (subcommand_of line_app words)
 
 -- the request of the words, where they parse and their values are accepted: a function of the words alone
 unfoldable pub parsed : List Text → Option Asked
-parsed words = request_of (fault_of line_app words) (subcommand_of line_app words)
+parsed words = option_and_then read_of (rows_asked words)
+
+-- the arguments of `collect`, or status 2 where one is refused
+abbrev pub or_fault : Option CollectWords → Result (Option CollectWords) ℕ
+or_fault None = Err 2
+or_fault (Some words) = Ok (Some words)
+
+-- the same of any words: none for another command, whatever its values, and status 2 where they do not parse
+abbrev pub collect_by : Option (Text × List Row) → Result (Option CollectWords) ℕ
+collect_by None = Err 2
+collect_by (Some (name, rows)) = if bytes_eq name (codes "collect") then or_fault (read_collect rows) else Ok None
+
+-- what the words ask of `collect`: a function of the words alone
+unfoldable pub collect_asked : List Text → Result (Option CollectWords) ℕ
+collect_asked words = collect_by (rows_asked words)
 
 -- the fault is one of the words, and not of memory
 abbrev pub IsUsage : WordsFault → Type 0

@@ -1,28 +1,35 @@
 //! The request that a command line makes.
 
+use collect_engine::CollectWords;
 use frame_engine::InputFraming;
 use send_engine::SendOptions;
 use syslog_frame::Framing;
+use syslog_legacy::LegacyClock;
 
-/// What the words of a command line ask for. Names of files are lent by the words.
+/// What the words of a command line ask for. Names of files are lent by the words. A command that
+/// has a clock reads legacy packets under it; without one it refuses them.
 #[derive(Clone, Copy, Debug)]
 pub enum Request<'a> {
     /// `check`: one line for each frame.
     Check {
         input_framing: InputFraming,
+        clock: Option<LegacyClock>,
     },
     /// `show`: the fields of each record, one line each.
     Show {
         input_framing: InputFraming,
+        clock: Option<LegacyClock>,
     },
     /// `convert`: the canonical octets of each record, in a framing, or bare where there is none.
     Convert {
         input_framing: InputFraming,
+        clock: Option<LegacyClock>,
         to: Option<Framing>,
     },
     /// `archive`: the records of the input, as an archive.
     Archive {
         input_framing: InputFraming,
+        clock: Option<LegacyClock>,
     },
     /// `merge`: the archive of the records of two archives.
     Merge {
@@ -36,5 +43,9 @@ pub enum Request<'a> {
     /// `send`: one record, as a frame.
     Send {
         options: SendOptions<'a>,
+    },
+    /// `collect`: the records that come to a port, as an archive.
+    Collect {
+        words: CollectWords,
     },
 }

@@ -3,22 +3,14 @@
 ghost use Rattle.std.specs.Prelude.{◌≡◌, false, option_map, IfOk};
 ghost use Rattle.clap.specs.Words.{app_of, found_of, rows_of, rule_of};
 ghost use Rattle.clap.specs.declared.builder.command.Command.TheViews.{out-Command as fields_of};
-ghost use Rattle.command_line.specs.CommandLine.{default_rule, option_rule, send_app, with_send_defaults, with_send_words};
+ghost use Rattle.command_line.specs.CommandLine.{option_rule, send_app, with_send_defaults, with_send_words};
 ghost use Rattle.command_line.specs.Requests.{asked_by, read_send};
 
 use crate::request::Request;
-use crate::words::{command, described, option, positional, value, with_arg};
+use crate::words::{command, default_option, described, option, positional, value, with_arg};
 use clap::{Arg, ArgMatches, Command};
 use send_engine::SendOptions;
 use std::alloc::{AllocError, Global};
-
-// An option that takes a value, and has this one by default.
-fn default_option<'a>(alloc: Global, id: &'a str, default: &'a str, help: &'a str) -> Arg<'a>
-    ensures rule { rule_of result ≡ default_rule id.entry.now default.entry.now }
-    ensures local { result.global ≡ false }
-{
-    described(option(alloc, id), help).default_value(default)
-}
 
 // An option that takes a word of the header.
 fn word_option<'a>(alloc: Global, id: &'a str, help: &'a str) -> Arg<'a>

@@ -5,13 +5,17 @@ ghost use Rattle.clap.specs.Walk.{first_of};
 ghost use Rattle.clap.specs.Words.{app_of, found_of, rows_of, rule_of, subcommand_rows_of};
 ghost use Rattle.clap.specs.Simple.{new_app, with_rule, with_subcommand};
 ghost use Rattle.clap.specs.declared.builder.command.Command.TheViews.{out-Command as fields_of};
+ghost use Rattle.command_line.specs.Clocks.{clock_in};
 ghost use Rattle.command_line.specs.CommandLine.{convert_app, default_rule, empty_app, input_app, line_app};
 ghost use Rattle.command_line.specs.CommandLine.{merge_app, migrate_app, option_rule, required_rule};
 ghost use Rattle.command_line.specs.CommandLine.{with_archive_commands, with_frame_commands};
-ghost use Rattle.command_line.specs.Requests.{IsUsage, asked_by, input_framing_in, input_framing_of, framing_of};
+ghost use Rattle.command_line.specs.Requests.{Collect, IsUsage, asked_by, read_collect};
+ghost use Rattle.command_line.specs.Requests.{input_framing_in, input_framing_of, framing_of};
 ghost use Rattle.command_line.specs.Requests.{own_framing, parsed, read_archive, read_check, read_convert};
 ghost use Rattle.command_line.specs.Requests.{read_merge, read_migrate, read_of, read_show, to_of};
 
+use crate::clock_words::{clock_of_matches, with_legacy};
+use crate::collecting::{collect_command, read_collect_words};
 use crate::request::Request;
 use crate::send_words::{read_send_words, send_command};
 use clap::error::ErrorKind;
@@ -20,6 +24,9 @@ use frame_engine::InputFraming;
 use std::alloc::{AllocError, Global};
 use std::convert::AsStr;
 use syslog_frame::Framing;
+
+// What `--version` tells beside the program's name.
+const VERSION: &str = "0.1.0";
 
 /// Why words are no request.
 #[derive(Debug, Drop)]
@@ -57,12 +64,17 @@ pub(crate) fn described<'a>(option: Arg<'a>, help: &'a str) -> Arg<'a>
     option.help(help)
 }
 
-// An option that takes the name of a framing.
-fn framing_option<'a>(alloc: Global, id: &'a str, help: &'a str) -> Arg<'a>
-    ensures rule { rule_of result ≡ option_rule id.entry.now }
+// An option that takes a value, and has this one by default.
+pub(crate) fn default_option<'a>(
+    alloc: Global,
+    id: &'a str,
+    default: &'a str,
+    help: &'a str,
+) -> Arg<'a>
+    ensures rule { rule_of result ≡ default_rule id.entry.now default.entry.now }
     ensures local { result.global ≡ false }
 {
-    described(option(alloc, id), help)
+    described(option(alloc, id), help).default_value(default)
 }
 
 // `--framing`, the framing of the input: a datagram by default.
@@ -71,7 +83,7 @@ fn input_option<'a>(alloc: Global) -> Arg<'a>
     ensures local { result.global ≡ false }
 {
     let help = "Framing of the input: datagram, counted or lf";
-    framing_option(alloc, "framing", help).default_value("datagram")
+    default_option(alloc, "framing", "datagram", help)
 }
 
 // A value that has to be given, by its place among the words.
@@ -110,7 +122,8 @@ fn input_command<'a>(
     ensures app { IfOk result (λ c. app_of c ≡ input_app name.entry.now) }
     ensures local { IfOk result (λ c. (fields_of c).has_globals ≡ false) }
 {
-    with_arg(command(alloc, name, about), input_option(alloc))
+    let command = with_arg(command(alloc, name, about), input_option(alloc))?;
+    with_legacy(alloc, command)
 }
 
 // The command that reads records and writes them in canonical form.
@@ -122,7 +135,7 @@ fn convert_command<'a>(alloc: Global) -> Result<Command<'a>, AllocError>
     let help = "Framing of the output: counted or lf [default: that of the input]";
     with_arg(
         input_command(alloc, "convert", about)?,
-        framing_option(alloc, "to", help),
+        described(option(alloc, "to"), help),
     )
 }
 
@@ -159,6 +172,7 @@ fn empty_line<'a>(alloc: Global) -> Command<'a>
     ensures { app_of result ≡ empty_app }
 {
     Command::new(alloc, "syslogbox")
+        .version(VERSION)
         .no_binary_name(true)
         .subcommand_required(true)
 }
@@ -195,12 +209,14 @@ fn with_archive_commands<'a>(alloc: Global, line: Command<'a>) -> Result<Command
     with_command(line, migrate_command(alloc)?)
 }
 
-fn whole_line<'a>(alloc: Global) -> Result<Command<'a>, AllocError>
+/// The whole command line.
+pub(crate) fn whole_line<'a>(alloc: Global) -> Result<Command<'a>, AllocError>
     ensures { IfOk result (λ c. app_of c ≡ line_app) }
 {
     let line = with_frame_commands(alloc, empty_line(alloc))?;
     let line = with_archive_commands(alloc, line)?;
-    with_command(line, send_command(alloc)?)
+    let line = with_command(line, send_command(alloc)?)?;
+    with_command(line, collect_command(alloc)?)
 }
 
 pub(crate) fn value<'a>(matches: &ArgMatches<'a>, id: &str) -> Option<&'a str>
@@ -239,7 +255,11 @@ fn read_check_words<'a>(matches: &ArgMatches<'a>) -> Option<Request<'a>>
     ensures { option_map asked_by result ≡ read_check (rows_of (found_of matches.now)) }
 {
     let input_framing = input_framing_of_matches(matches)?;
-    Some(Request::Check { input_framing })
+    let clock = clock_of_matches(matches)?;
+    Some(Request::Check {
+        input_framing,
+        clock,
+    })
 }
 
 // The framing of an input, as one of frames; a datagram has none.
@@ -267,22 +287,35 @@ fn read_convert_words<'a>(matches: &ArgMatches<'a>) -> Option<Request<'a>>
     ensures { option_map asked_by result ≡ read_convert (rows_of (found_of matches.now)) }
 {
     let input_framing = input_framing_of_matches(matches)?;
+    let clock = clock_of_matches(matches)?;
     let to = to(input_framing, value(matches, "to"))?;
-    Some(Request::Convert { input_framing, to })
+    Some(Request::Convert {
+        input_framing,
+        clock,
+        to,
+    })
 }
 
 fn read_show_words<'a>(matches: &ArgMatches<'a>) -> Option<Request<'a>>
     ensures { option_map asked_by result ≡ read_show (rows_of (found_of matches.now)) }
 {
     let input_framing = input_framing_of_matches(matches)?;
-    Some(Request::Show { input_framing })
+    let clock = clock_of_matches(matches)?;
+    Some(Request::Show {
+        input_framing,
+        clock,
+    })
 }
 
 fn read_archive_words<'a>(matches: &ArgMatches<'a>) -> Option<Request<'a>>
     ensures { option_map asked_by result ≡ read_archive (rows_of (found_of matches.now)) }
 {
     let input_framing = input_framing_of_matches(matches)?;
-    Some(Request::Archive { input_framing })
+    let clock = clock_of_matches(matches)?;
+    Some(Request::Archive {
+        input_framing,
+        clock,
+    })
 }
 
 fn read_merge_words<'a>(matches: &ArgMatches<'a>) -> Option<Request<'a>>
@@ -300,12 +333,22 @@ fn read_migrate_words<'a>(matches: &ArgMatches<'a>) -> Option<Request<'a>>
     Some(Request::Migrate { file })
 }
 
+// `collect`, with its arguments.
+fn read_collect_request<'a>(matches: &ArgMatches<'a>) -> Option<Request<'a>>
+    ensures { option_map asked_by result
+        ≡ option_map (λ words. Collect words) (read_collect (rows_of (found_of matches.now))) }
+{
+    let words = read_collect_words(matches)?;
+    Some(Request::Collect { words })
+}
+
 fn asked_for<'a>(matches: &ArgMatches<'a>) -> Option<Request<'a>>
     ensures { option_map asked_by result
         ≡ option_and_then read_of (subcommand_rows_of matches.now) }
 {
     let (name, inner) = matches.subcommand()?;
     match name {
+        "collect" => read_collect_request(inner),
         "check" => read_check_words(inner),
         "convert" => read_convert_words(inner),
         "show" => read_show_words(inner),
@@ -325,12 +368,25 @@ fn refused(alloc: Global, error: &clap::Error) -> WordsFault {
     }
 }
 
+// Which values the options of a command take, for one that `clap` accepts and this program does not.
+fn takes(name: &str) -> &'static str {
+    match name {
+        "collect" => {
+            "error: TRANSPORT is udp, counted or lf; PORT is 1 to 65535; COUNT is 1 to 1000000 for \
+             udp and 1 to 100000 for others; --legacy is a year from 1 to 9998; --zone is E or W, \
+             then hours and minutes in two digits each, as E0130\n"
+        }
+        _ => {
+            "error: --framing is datagram, counted or lf; --to is counted or lf; --legacy is a year \
+             from 1 to 9998; --zone is E or W, then hours and minutes in two digits each, as E0130\n"
+        }
+    }
+}
+
 // The text for a value that `clap` accepts and this program does not.
-fn unknown(alloc: Global) -> WordsFault {
-    match String::from_str(
-        alloc,
-        "error: --framing is datagram, counted or lf, and --to is counted or lf\n",
-    ) {
+fn unknown(alloc: Global, matches: &ArgMatches<'_>) -> WordsFault {
+    let name = matches.subcommand_name().unwrap_or("");
+    match String::from_str(alloc, takes(name)) {
         Ok(text) => WordsFault::Usage(text),
         Err(_) => WordsFault::Memory,
     }
@@ -346,7 +402,7 @@ pub fn read_words<'a, S: AsStr>(alloc: Global, words: &'a [S]) -> Result<Request
     match line.try_get_matches_from(words) {
         Ok(matches) => match asked_for(&matches) {
             Some(request) => Ok(request),
-            None => Err(unknown(alloc)),
+            None => Err(unknown(alloc, &matches)),
         },
         Err(error) => match error.kind() {
             ErrorKind::OutOfMemory => Err(WordsFault::Memory),

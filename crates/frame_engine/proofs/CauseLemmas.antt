@@ -17,12 +17,19 @@ cause_of (Ok x) w0 w1 w2 n0 n1 n2 R E ws ns read endless write notes ok memory c
       | inr h ↦ elim h [ inl w ↦ inr (inl (omega (arith, w, ok.0))) | inr n ↦ inr (inr (inl (omega (arith, n, ok.1)))) ]
     ]
 cause_of (Err Read) w0 w1 w2 n0 n1 n2 R E ws ns read endless write notes ok memory closed wk nk = inl (read refl)
-cause_of (Err Endless) w0 w1 w2 n0 n1 n2 R E ws ns read endless write notes ok memory closed wk nk = inr (inr (inr (endless refl)))
-cause_of (Err Write) w0 w1 w2 n0 n1 n2 R E ws ns read endless write notes ok memory closed wk nk = inr (inl (omega (arith, write refl, wk refl)))
-cause_of (Err Notes) w0 w1 w2 n0 n1 n2 R E ws ns read endless write notes ok memory closed wk nk = inr (inr (inl (omega (arith, notes refl, nk refl))))
+cause_of (Err Endless) w0 w1 w2 n0 n1 n2 R E ws ns read endless write notes ok memory closed wk nk =
+    inr (inr (inr (endless refl)))
+cause_of (Err Write) w0 w1 w2 n0 n1 n2 R E ws ns read endless write notes ok memory closed wk nk =
+    inr (inl (omega (arith, write refl, wk refl)))
+cause_of (Err Notes) w0 w1 w2 n0 n1 n2 R E ws ns read endless write notes ok memory closed wk nk =
+    inr (inr (inl (omega (arith, notes refl, nk refl))))
 cause_of (Err Memory) w0 w1 w2 n0 n1 n2 R E ws ns read endless write notes ok memory closed wk nk =
     let same = memory refl in
     elim (closed (omega (arith, same.0)) (omega (arith, same.1))) [
       | inl b ↦ absurd b
-      | inr h ↦ elim h [ inl w ↦ inr (inl (omega (arith, w, same.0))) | inr n ↦ inr (inr (inl (omega (arith, n, same.1)))) ]
+      | inr h ↦ elim h [
+        | inl w ↦ inr (inl (omega (arith, w, same.0)))
+        | inr n ↦ inr
+            (inr (inl (omega (arith, n, same.1))))
+      ]
     ]

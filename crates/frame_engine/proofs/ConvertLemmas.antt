@@ -1,5 +1,6 @@
 -- What `convert` writes.
-use Rattle.std.proofs.Common.{◌≡◌, ℕ, ℤ, ◌<◌, ◌≤◌, List, [], ◌++◌, length, Option, None, Some, refl, sym, ap, subst, ◌∙◌, arith, inl, inr}
+use Rattle.std.proofs.Common.{◌≡◌, ℕ, ℤ, ◌<◌, ◌≤◌, List, [], ◌++◌, length, Option, None, Some, refl, sym, ap, subst}
+use Rattle.std.proofs.Common.{◌∙◌, arith, inl, inr}
 use Rattle.syslog_frame.specs.Frames.{CanCarry, IsLine, framed}
 use Rattle.syslog_frame.specs.Put.{IsFit, IsPutFault}
 use Rattle.syslog_frame.specs.declared.fault.PutFault.{PutFault}
@@ -9,16 +10,16 @@ use Rattle.syslog_frame.specs.declared.framing.Framing.TheVariants.{Counted, Lf}
 use Rattle.syslog_frame.specs.declared.limits.TheConstants.{FRAME_MAX}
 use Rattle.syslog_value.specs.Parts.{Parts}
 use Rattle.syslog_grammar.specs.Canonical.{Canonical, HeaderForm, priority_version_form}
-use Rattle.syslog_grammar.specs.WellFormed.{AddsCanonical}
+use Rattle.syslog_legacy.specs.FrameReadings.{Clock}
+use Rattle.frame_engine.specs.Readings.{AddsRecord}
 use Rattle.frame_engine.specs.Converted.{Carries, Converts, convert_handling, Framed, GoesOut, goes_out, noted_line}
 use Rattle.frame_engine.specs.declared.line.Line.TheVariants.{CanonicalTooLong, HasLf}
 use Rattle.frame_engine.specs.Pending.{Adds}
 use Rattle.frame_engine.specs.Handling.{Done, HasOneOutput, then_done}
 use Rattle.std.specs.Prelude.{Result, Ok, Err, OnOk}
 use Rattle.syslog_grammar.proofs.CanonicalParses.{canonical_once}
-use Rattle.syslog_grammar.proofs.Excluded.{fault_excludes}
-use Rattle.syslog_grammar.proofs.Laws.{one_meaning}
 use Rattle.frame_engine.proofs.HandlingLemmas.{adds_output, same_done}
+use Rattle.frame_engine.proofs.ReadingLemmas.{not_both, one_record}
 
 pub carries : (kind : Framing) (octets : List ℕ) → CanCarry kind octets → Carries kind octets
 carries Counted octets h = tt
@@ -33,49 +34,80 @@ no_line Counted octets e h = absurd cc
 no_line Lf octets e h = h
 
 -- bare octets are appended to the output
-pub bare : (n : ℕ) (b : List ℕ) (old new : Done) → AddsCanonical b old.output new.output → new.refused ≡ old.refused → new.notes ≡ old.notes → Adds (Converts None n b) old new
-bare n b old new (r, h, (c, k, e)) same notes = (goes_out c, (r, h, c, k, refl), adds_output old new c same e notes)
+pub bare : (clock : Clock) (n : ℕ) (f : List ℕ) (old new : Done) → AddsRecord clock f old.output new.output
+    → new.refused ≡ old.refused → new.notes ≡ old.notes → Adds (Converts clock None n f) old new
+bare clock n f old new (r, h, (c, k, e)) same notes =
+    (goes_out c, (r, h, c, k, refl), adds_output old new c same e notes)
 
 -- the canonical octets in the scratch went out as a frame
-pub in_frame : (kind : Framing) (n : ℕ) (b c : List ℕ) (old mid new : Done) → AddsCanonical b [] c → mid ≡ old → Adds (Framed kind n c) mid new → Adds (Converts (Some kind) n b) old new
-in_frame kind n b c old mid new (r, h, (text, k, e)) same (d, out, whole) =
+pub in_frame : (clock : Clock) (kind : Framing) (n : ℕ) (f c : List ℕ) (old mid new : Done) → AddsRecord clock f [] c
+    → mid ≡ old → Adds (Framed kind n c) mid new → Adds (Converts clock (Some kind) n f) old new
+in_frame clock kind n f c old mid new (r, h, (text, k, e)) same (d, out, whole) =
     (d, (r, h, c, subst (Canonical r) (sym e) k, out), whole ∙ ap (λ (x : Done). then_done x d) same)
 
 -- octets went out as one frame
-pub out_framed : (kind : Framing) (n : ℕ) (c s : List ℕ) (old new : Done) → s ≡ c → CanCarry kind s → length s ≤ FRAME_MAX → new.output ≡ old.output ++ framed kind s → new.refused ≡ old.refused → new.notes ≡ old.notes
+pub out_framed : (kind : Framing) (n : ℕ) (c s : List ℕ) (old new : Done) → s ≡ c → CanCarry kind s
+    → length s ≤ FRAME_MAX → new.output ≡ old.output ++ framed kind s → new.refused ≡ old.refused
+    → new.notes ≡ old.notes
     → Adds (Framed kind n c) old new
-out_framed kind n c s old new same can few e r o =
-    (goes_out (framed kind c), inl (carries kind c (subst (CanCarry kind) same can), subst (λ (x : List ℕ). length x ≤ FRAME_MAX) same few, refl), adds_output old new (framed kind c) r (e ∙ ap (λ (x : List ℕ). old.output ++ framed kind x) same) o)
+out_framed kind n c s old new same can few e r o = (
+  goes_out (framed kind c),
+  inl (
+    carries kind c (subst (CanCarry kind) same can),
+    subst (λ (x : List ℕ). length x ≤ FRAME_MAX) same few,
+    refl,
+  ),
+  adds_output old new (framed kind c) r (e ∙ ap (λ (x : List ℕ). old.output ++ framed kind x) same) o,
+)
 
-pub out_line : (kind : Framing) (n : ℕ) (c s : List ℕ) (fault : PutFault) (old new : Done) → s ≡ c → fault ≡ NotLine → IsPutFault FRAME_MAX kind s fault → new ≡ then_done old (noted_line (HasLf n)) → Adds (Framed kind n c) old new
+pub out_line : (kind : Framing) (n : ℕ) (c s : List ℕ) (fault : PutFault) (old new : Done) → s ≡ c → fault ≡ NotLine
+    → IsPutFault FRAME_MAX kind s fault → new ≡ then_done old (noted_line (HasLf n)) → Adds (Framed kind n c) old new
 out_line kind n c s fault old new same is h e =
     let reported : (kind ≡ Lf) × ¬ (IsLine s) = rw is at h in
     (noted_line (HasLf n), inr (inl (no_line kind c reported.0 (λ l. reported.1 (subst IsLine (sym same) l)), refl)), e)
 
-pub out_long : (kind : Framing) (n : ℕ) (c s : List ℕ) (fault : PutFault) (old new : Done) → s ≡ c → fault ≡ Long → IsPutFault FRAME_MAX kind s fault → new ≡ then_done old (noted_line (CanonicalTooLong n)) → Adds (Framed kind n c) old new
+pub out_long : (kind : Framing) (n : ℕ) (c s : List ℕ) (fault : PutFault) (old new : Done) → s ≡ c → fault ≡ Long
+    → IsPutFault FRAME_MAX kind s fault → new ≡ then_done old (noted_line (CanonicalTooLong n))
+    → Adds (Framed kind n c) old new
 out_long kind n c s fault old new same is h e =
-    let reported : IsFit kind s × (FRAME_MAX < length s) = rw is at h in
-    (noted_line (CanonicalTooLong n), inr (inr (fit_carries kind c (subst (IsFit kind) same reported.0), subst (λ (x : List ℕ). FRAME_MAX < length x) same reported.1, refl)), e)
+    let reported : IsFit kind s × (FRAME_MAX < length s) = rw is at h in (
+      noted_line (CanonicalTooLong n),
+      inr (inr (
+        fit_carries kind c (subst (IsFit kind) same reported.0),
+        subst (λ (x : List ℕ). FRAME_MAX < length x) same reported.1,
+        refl,
+      )),
+      e,
+    )
 
 -- canonical octets begin with an angle bracket
-pub some_octets : (b c : List ℕ) → AddsCanonical b [] c → 0 < length c
+pub some_octets : (clock : Clock) (f c : List ℕ) → AddsRecord clock f [] c → 0 < length c
 unfolding HeaderForm
-some_octets b c (r, h, (text, (x, y, e, (prefix, following, f, g, w), t), whole)) =
-    let all : c ≡ (priority_version_form r.priority ++ following) ++ y = whole ∙ e ∙ ap (λ (s : List ℕ). s ++ y) (f ∙ ap (λ (s : List ℕ). s ++ following) g) in
+some_octets clock frame c (r, h, (text, (x, y, e, (prefix, following, f, g, w), t), whole)) =
+    let all : c ≡ (priority_version_form r.priority ++ following) ++ y =
+    whole ∙ e ∙ ap (λ (s : List ℕ). s ++ y) (f ∙ ap (λ (s : List ℕ). s ++ following) g) in
     rw all (omega arith)
 
 -- an outcome is added to an equal account of what was done
-pub adds_after : (D : Done → Type 0) (old mid new : Done) → mid.refused ≡ old.refused → mid.output ≡ old.output → mid.notes ≡ old.notes → Adds D mid new → Adds D old new
-adds_after D old mid new r o n (d, h, e) = (d, h, e ∙ ap (λ (x : Done). then_done x d) (same_done mid.refused old.refused mid.output old.output mid.notes old.notes r o n))
+pub adds_after : (D : Done → Type 0) (old mid new : Done) → mid.refused ≡ old.refused → mid.output ≡ old.output
+    → mid.notes ≡ old.notes → Adds D mid new → Adds D old new
+adds_after D old mid new r o n (d, h, e) = (
+  d,
+  h,
+  e ∙ ap (λ (x : Done). then_done x d)
+      (same_done mid.refused old.refused mid.output old.output mid.notes old.notes r o n),
+)
 
 -- what holds of each octet text at Ok holds at Ok of each
-pub at_ok : {X E : Type 0} (r : Result X E) (P Q : List ℕ → Type 0) → ((b : List ℕ) → P b → OnOk r (Q b)) → OnOk r ((b : List ℕ) → P b → Q b)
+pub at_ok : {X E : Type 0} (r : Result X E) (P Q : List ℕ → Type 0) → ((b : List ℕ) → P b → OnOk r (Q b))
+    → OnOk r ((b : List ℕ) → P b → Q b)
 at_ok (Ok x) P Q h = h
 at_ok (Err e) P Q h = tt
 
 -- ---- a frame has one output
 
-framed_output : (kind : Framing) (n : ℕ) (octets : List ℕ) (a b : Done) → Framed kind n octets a → Framed kind n octets b → a.output ≡ b.output
+framed_output : (kind : Framing) (n : ℕ) (octets : List ℕ) (a b : Done) → Framed kind n octets a
+    → Framed kind n octets b → a.output ≡ b.output
 framed_output kind n octets a b (inl (can, few, e)) (inl (can', few', f)) = ap (λ (d : Done). d.output) (e ∙ sym f)
 framed_output kind n octets a b (inl (can, few, e)) (inr (inl (never, f))) = absurd (never can)
 framed_output kind n octets a b (inl (can, few, e)) (inr (inr (can', long, f))) = absurd (omega (arith, few, long))
@@ -84,25 +116,24 @@ framed_output kind n octets a b (inr (inl (never, e))) (inr (inl (never', f))) =
 framed_output kind n octets a b (inr (inl (never, e))) (inr (inr (can, long, f))) = absurd (never can)
 framed_output kind n octets a b (inr (inr (can, long, e))) (inl (can', few, f)) = absurd (omega (arith, few, long))
 framed_output kind n octets a b (inr (inr (can, long, e))) (inr (inl (never, f))) = absurd (never can)
-framed_output kind n octets a b (inr (inr (can, long, e))) (inr (inr (can', long', f))) = ap (λ (d : Done). d.output) (e ∙ sym f)
+framed_output kind n octets a b (inr (inr (can, long, e))) (inr (inr (can', long', f))) =
+    ap (λ (d : Done). d.output) (e ∙ sym f)
 
-out_output : (to : Option Framing) (n : ℕ) (octets : List ℕ) (a b : Done) → GoesOut to n octets a → GoesOut to n octets b → a.output ≡ b.output
+out_output : (to : Option Framing) (n : ℕ) (octets : List ℕ) (a b : Done) → GoesOut to n octets a
+    → GoesOut to n octets b → a.output ≡ b.output
 out_output None n octets a b e f = ap (λ (d : Done). d.output) (e ∙ sym f)
 out_output (Some kind) n octets a b h k = framed_output kind n octets a b h k
 
-converts_output : (to : Option Framing) (n : ℕ) (f : List ℕ) (a b : Done) → Converts to n f a → Converts to n f b → a.output ≡ b.output
-converts_output to n f a b (r, h, c, k, out) (r', h', c', k', out') =
-    let same : r ≡ r' = one_meaning r r' f h h' in
+converts_output : (clock : Clock) (to : Option Framing) (n : ℕ) (f : List ℕ) (a b : Done) → Converts clock to n f a
+    → Converts clock to n f b → a.output ≡ b.output
+converts_output clock to n f a b (r, h, c, k, out) (r', h', c', k', out') =
+    let same : r ≡ r' = one_record clock f r r' h h' in
     let octets : c ≡ c' = canonical_once r' c c' (subst (λ (x : Parts ℤ). Canonical x c) same k) k' in
     out_output to n c' a b (subst (λ (x : List ℕ). GoesOut to n x a) octets out) out'
 
-pub convert_output : (to : Option Framing) → HasOneOutput (convert_handling to)
-convert_output to n f a b (inl (long, e)) (inl (long', g)) = ap (λ (d : Done). d.output) (e ∙ sym g)
-convert_output to n f a b (inl (long, e)) (inr (inl (few, w))) = absurd (omega (arith, few, long))
-convert_output to n f a b (inl (long, e)) (inr (inr (few, fault, bad, g))) = absurd (omega (arith, few, long))
-convert_output to n f a b (inr (inl (few, w))) (inl (long, e)) = absurd (omega (arith, few, long))
-convert_output to n f a b (inr (inl (few, w))) (inr (inl (few', w'))) = converts_output to n f a b w w'
-convert_output to n f a b (inr (inl (few, w))) (inr (inr (few', fault, bad, e))) = absurd (fault_excludes f fault w.0 bad w.1)
-convert_output to n f a b (inr (inr (few, fault, bad, e))) (inl (long, g)) = absurd (omega (arith, few, long))
-convert_output to n f a b (inr (inr (few, fault, bad, e))) (inr (inl (few', w'))) = absurd (fault_excludes f fault w'.0 bad w'.1)
-convert_output to n f a b (inr (inr (few, fault, bad, e))) (inr (inr (few', fault', bad', e'))) = ap (λ (d : Done). d.output) e ∙ sym (ap (λ (d : Done). d.output) e')
+pub convert_output : (clock : Clock) (to : Option Framing) → HasOneOutput (convert_handling clock to)
+convert_output clock to n f a b (inl h) (inl k) = converts_output clock to n f a b h k
+convert_output clock to n f a b (inl (r, h, c, is, out)) (inr (line, k, e)) = absurd (not_both clock n f r line k h)
+convert_output clock to n f a b (inr (line, k, e)) (inl (r, h, c, is, out)) = absurd (not_both clock n f r line k h)
+convert_output clock to n f a b (inr (l, h, e)) (inr (m, k, g)) =
+    ap (λ (d : Done). d.output) e ∙ sym (ap (λ (d : Done). d.output) g)

@@ -6,3 +6,5 @@ pub mod OutputLemmas
 pub mod ScanLemmas
 pub mod ShowLemmas
 pub mod StreamLemmas
+pub mod ReadingLemmas
+pub mod StopLemmas

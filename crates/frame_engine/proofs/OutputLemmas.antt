@@ -1,5 +1,6 @@
 -- What `check` and `show` write of a frame is one text.
-use Rattle.std.proofs.Common.{◌≡◌, ℕ, ℤ, ◌+◌, ◌*◌, ◌<◌, List, ◌++◌, Option, None, Some, codes, refl, sym, ap, ap₂, subst, ◌∙◌, arith, get_or, inl, inr}
+use Rattle.std.proofs.Common.{◌≡◌, ℕ, ℤ, ◌+◌, ◌*◌, ◌<◌, List, Option, None, Some, codes, sym, ap, ap₂, subst, ◌∙◌}
+use Rattle.std.proofs.Common.{arith, get_or, inl, inr}
 use Rattle.std.specs.List.{flat_map}
 use Rattle.octet_language.specs.Language.{Language, Only, ◌⋅◌}
 use Rattle.syslog_value.proofs.CivilTimes.{civil-injective}
@@ -14,16 +15,14 @@ use Rattle.syslog_value.specs.declared.severity.Severity.{Severity}
 use Rattle.syslog_value.specs.declared.severity.Severity.TheVariants.{Emergency}
 use Rattle.syslog_value.specs.declared.severity.TheConstants.Severity as severities
 use Rattle.syslog_grammar.proofs.CanonicalParses.{once}
-use Rattle.syslog_grammar.proofs.Excluded.{fault_excludes}
-use Rattle.syslog_grammar.proofs.Laws.{one_meaning}
-use Rattle.syslog_grammar.proofs.OneFault.{one_fault}
 use Rattle.syslog_grammar.specs.Canonical.{TimeForm, civil_text}
-use Rattle.syslog_grammar.specs.declared.fault.Fault.{Fault}
+use Rattle.syslog_legacy.specs.FrameReadings.{Clock}
 use Rattle.frame_engine.specs.Checked.{check_handling}
 use Rattle.frame_engine.specs.Handling.{Done, HasOneOutput}
 use Rattle.frame_engine.specs.Line.{line_text}
-use Rattle.frame_engine.specs.declared.line.Line.TheVariants.{Refused}
-use Rattle.frame_engine.specs.Showing.{PriorityLine, RecordLines, TimeLine, element_lines, line_of, message_line, number_line, priority_line, show_handling, word_lines}
+use Rattle.frame_engine.proofs.ReadingLemmas.{not_both, one_line, one_record}
+use Rattle.frame_engine.specs.Showing.{PriorityLine, RecordLines, TimeLine, element_lines, line_of, message_line}
+use Rattle.frame_engine.specs.Showing.{number_line, priority_line, show_handling, word_lines}
 
 abbrev output_of : Done → List ℕ
 output_of d = d.output
@@ -31,17 +30,12 @@ output_of d = d.output
 only_once : (a s t : List ℕ) → Only a s → Only a t → s ≡ t
 only_once a s t h k = h ∙ sym k
 
-pub check_output : HasOneOutput check_handling
-check_output n f a b (inl (long, e)) (inl (long', g)) = ap output_of (e ∙ sym g)
-check_output n f a b (inl (long, e)) (inr (inl (few, w, g))) = absurd (omega (arith, few, long))
-check_output n f a b (inl (long, e)) (inr (inr (few, fault, bad, g))) = absurd (omega (arith, few, long))
-check_output n f a b (inr (inl (few, w, e))) (inl (long, g)) = absurd (omega (arith, few, long))
-check_output n f a b (inr (inl (few, w, e))) (inr (inl (few', w', g))) = ap output_of (e ∙ sym g)
-check_output n f a b (inr (inl (few, w, e))) (inr (inr (few', fault, bad, g))) = absurd (fault_excludes f fault w.0 bad w.1)
-check_output n f a b (inr (inr (few, fault, bad, e))) (inl (long, g)) = absurd (omega (arith, few, long))
-check_output n f a b (inr (inr (few, fault, bad, e))) (inr (inl (few', w, g))) = absurd (fault_excludes f fault w.0 bad w.1)
-check_output n f a b (inr (inr (few, fault, bad, e))) (inr (inr (few', fault', bad', g))) =
-    ap output_of e ∙ ap (λ (x : Fault). line_text (Refused n x)) (one_fault f fault fault' bad bad') ∙ sym (ap output_of g)
+pub check_output : (clock : Clock) → HasOneOutput (check_handling clock)
+check_output clock n f a b (inl (h, e)) (inl (k, g)) = ap output_of (e ∙ sym g)
+check_output clock n f a b (inl ((r, h), e)) (inr (line, k, g)) = absurd (not_both clock n f r line k h)
+check_output clock n f a b (inr (line, k, e)) (inl ((r, h), g)) = absurd (not_both clock n f r line k h)
+check_output clock n f a b (inr (l, h, e)) (inr (m, k, g)) =
+    ap output_of e ∙ ap line_text (one_line clock n f l m h k) ∙ sym (ap output_of g)
 
 -- ---- the lines of a record
 
@@ -57,13 +51,15 @@ same_facility f g s t e h k = omega arith
 priority_line_once : (v : ℕ) (b c : List ℕ) → PriorityLine v b → PriorityLine v c → b ≡ c
 priority_line_once v b c (f, s, e, h) (g, t, e', k) =
     let codes : facility_code f * 8 + severity_code s ≡ facility_code g * 8 + severity_code t = sym e ∙ e' in
-    let facility : facility_code f ≡ facility_code g = same_facility _ _ _ _ codes (severity_code-lt s) (severity_code-lt t) in
+    let facility : facility_code f ≡ facility_code g =
+    same_facility _ _ _ _ codes (severity_code-lt s) (severity_code-lt t) in
     let severity : severity_code s ≡ severity_code t = omega (arith, codes, facility) in
     h ∙ ap₂ (priority_line v) (facility_once f g facility) (severity_once s t severity) ∙ sym k
 
 time_form_once : (i : Option ℤ) (b c : List ℕ) → TimeForm i b → TimeForm i c → b ≡ c
 time_form_once None b c h k = h ∙ sym k
-time_form_once (Some i) b c (u, uc, ui, ub) (v, vc, vi, vb) = ub ∙ ap civil_text (civil-injective u v uc vc (ui ∙ sym vi)) ∙ sym vb
+time_form_once (Some i) b c (u, uc, ui, ub) (v, vc, vi, vb) =
+    ub ∙ ap civil_text (civil-injective u v uc vc (ui ∙ sym vi)) ∙ sym vb
 
 time_line_once : (i : Option ℤ) (b c : List ℕ) → TimeLine i b → TimeLine i c → b ≡ c
 time_line_once i b c (s, h, e) (t, k, g) = e ∙ ap (line_of (codes "time")) (time_form_once i s t h k) ∙ sym g
@@ -74,21 +70,20 @@ record_lines_once n r b c h k =
     let words : Language = Only (word_lines r) in
     let elements : Language = Only (flat_map element_lines r.elements) in
     let message : Language = Only (message_line r.message) in
-    once (Only (number_line n)) (PriorityLine r.priority ⋅ TimeLine r.time ⋅ words ⋅ elements ⋅ message) b c (only_once (number_line n))
-    (λ s t. once (PriorityLine r.priority) (TimeLine r.time ⋅ words ⋅ elements ⋅ message) s t (priority_line_once r.priority)
+    once (Only (number_line n)) (PriorityLine r.priority ⋅ TimeLine r.time ⋅ words ⋅ elements ⋅ message) b c
+    (only_once (number_line n))
+    (λ s t. once (PriorityLine r.priority) (TimeLine r.time ⋅ words ⋅ elements ⋅ message) s t
+    (priority_line_once r.priority)
     (λ s t. once (TimeLine r.time) (words ⋅ elements ⋅ message) s t (time_line_once r.time)
     (λ s t. once words (elements ⋅ message) s t (only_once (word_lines r))
-    (λ s t. once elements message s t (only_once (flat_map element_lines r.elements)) (only_once (message_line r.message)))))) h k
+    (λ s t. once elements message s t (only_once (flat_map element_lines r.elements))
+    (only_once (message_line r.message)))))) h k
 
-pub show_output : HasOneOutput show_handling
-show_output n f a b (inl (long, e)) (inl (long', g)) = ap output_of (e ∙ sym g)
-show_output n f a b (inl (long, e)) (inr (inl (few, r, h, s, lines, g))) = absurd (omega (arith, few, long))
-show_output n f a b (inl (long, e)) (inr (inr (few, fault, bad, g))) = absurd (omega (arith, few, long))
-show_output n f a b (inr (inl (few, r, h, s, lines, e))) (inl (long, g)) = absurd (omega (arith, few, long))
-show_output n f a b (inr (inl (few, r, h, s, lines, e))) (inr (inl (few', q, k, t, lines', g))) =
-    let same : r ≡ q = one_meaning r q f h k in
-    ap output_of e ∙ record_lines_once n q s t (subst (λ (x : Parts ℤ). RecordLines n x s) same lines) lines' ∙ sym (ap output_of g)
-show_output n f a b (inr (inl (few, r, h, s, lines, e))) (inr (inr (few', fault, bad, g))) = absurd (fault_excludes f fault r bad h)
-show_output n f a b (inr (inr (few, fault, bad, e))) (inl (long, g)) = absurd (omega (arith, few, long))
-show_output n f a b (inr (inr (few, fault, bad, e))) (inr (inl (few', r, h, s, lines, g))) = absurd (fault_excludes f fault r bad h)
-show_output n f a b (inr (inr (few, fault, bad, e))) (inr (inr (few', fault', bad', g))) = ap output_of e ∙ sym (ap output_of g)
+pub show_output : (clock : Clock) → HasOneOutput (show_handling clock)
+show_output clock n f a b (inl (r, h, s, lines, e)) (inl (q, k, t, lines', g)) =
+    let same : r ≡ q = one_record clock f r q h k in
+    ap output_of e ∙ record_lines_once n q s t (subst (λ (x : Parts ℤ). RecordLines n x s) same lines) lines'
+    ∙ sym (ap output_of g)
+show_output clock n f a b (inl (r, h, s, lines, e)) (inr (line, k, g)) = absurd (not_both clock n f r line k h)
+show_output clock n f a b (inr (line, k, e)) (inl (r, h, s, lines, g)) = absurd (not_both clock n f r line k h)
+show_output clock n f a b (inr (l, h, e)) (inr (m, k, g)) = ap output_of e ∙ sym (ap output_of g)

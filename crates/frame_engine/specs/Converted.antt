@@ -6,13 +6,12 @@ use Rattle.syslog_frame.specs.declared.framing.Framing.TheVariants.{Counted, Lf}
 use Rattle.syslog_frame.specs.declared.limits.TheConstants.{FRAME_MAX}
 use Rattle.syslog_value.specs.Parts.{Parts}
 use Rattle.syslog_grammar.specs.Canonical.{Canonical}
-use Rattle.syslog_grammar.specs.Faults.{FaultOf}
-use Rattle.syslog_grammar.specs.WellFormed.{WellFormed}
-use Rattle.syslog_grammar.specs.declared.fault.Fault.{Fault}
+use Rattle.syslog_legacy.specs.FrameReadings.{Clock}
 use Rattle.frame_engine.specs.Handling.{Handling, Done}
 use Rattle.frame_engine.specs.Line.{line_text}
+use Rattle.frame_engine.specs.Readings.{IsRecordOf, IsRefusedWith}
 use Rattle.frame_engine.specs.declared.line.Line.{Line}
-use Rattle.frame_engine.specs.declared.line.Line.TheVariants.{CanonicalTooLong, HasLf, Refused, TooLong}
+use Rattle.frame_engine.specs.declared.line.Line.TheVariants.{CanonicalTooLong, HasLf}
 
 -- octets go to the output
 abbrev pub goes_out : List ℕ → Done
@@ -27,7 +26,8 @@ abbrev pub Carries : Framing → List ℕ → Type 0
 Carries Counted octets = ⊤
 Carries Lf octets = IsLine octets
 
--- octets go out as one frame; or the framing does not carry them, or they are too long for a frame, which is noted with the number of the frame that they came from
+-- octets go out as one frame; or the framing does not carry them, or they are too long for a frame,
+-- which is noted with the number of the frame that they came from
 abbrev pub Framed : Framing → ℕ → List ℕ → Done → Type 0
 Framed kind n octets d =
     (Carries kind octets × (length octets ≤ FRAME_MAX) × (d ≡ goes_out (framed kind octets)))
@@ -39,13 +39,13 @@ abbrev pub GoesOut : Option Framing → ℕ → List ℕ → Done → Type 0
 GoesOut None n octets d = d ≡ goes_out octets
 GoesOut (Some kind) n octets d = Framed kind n octets d
 
--- a frame is a record, whose canonical octets go out
-abbrev pub Converts : Option Framing → ℕ → List ℕ → Done → Type 0
-Converts to n f d = (r : Parts ℤ) × WellFormed r f × (c : List ℕ) × Canonical r c × GoesOut to n c d
+-- a frame is read as a record, whose canonical octets go out
+abbrev pub Converts : Clock → Option Framing → ℕ → List ℕ → Done → Type 0
+Converts clock to n f d =
+    (r : Parts ℤ) × IsRecordOf clock r f × (c : List ℕ) × Canonical r c × GoesOut to n c d
 
--- a frame is too long, or its canonical octets go out, or it is no record because of this fault
-abbrev pub convert_handling : Option Framing → Handling
-convert_handling to n f d =
-    ((FRAME_MAX < length f) × (d ≡ noted_line (TooLong n)))
-    ⊎ (((length f ≤ FRAME_MAX) × Converts to n f d)
-    ⊎ ((length f ≤ FRAME_MAX) × (fault : Fault) × FaultOf f fault × (d ≡ noted_line (Refused n fault))))
+-- the canonical octets of a record go out, or it is noted why the frame is none
+abbrev pub convert_handling : Clock → Option Framing → Handling
+convert_handling clock to n f d =
+    Converts clock to n f d
+    ⊎ ((line : Line) × IsRefusedWith clock n f line × (d ≡ noted_line line))

@@ -3,6 +3,8 @@ pub mod Converted
 pub mod Pending
 pub mod Handling
 pub mod Line
+pub mod Readings
 pub mod Scans
 pub mod Showing
 pub mod Streams
+pub mod Stops

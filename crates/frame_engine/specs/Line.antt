@@ -5,7 +5,8 @@ use Rattle.syslog_grammar.specs.declared.fault.Fault.TheVariants.{Syntax, Instan
 use Rattle.syslog_grammar.specs.declared.fault.Field.{Field}
 use Rattle.syslog_grammar.specs.declared.fault.Field.TheVariants as field
 use Rattle.frame_engine.specs.declared.line.Line.{Line}
-use Rattle.frame_engine.specs.declared.line.Line.TheVariants.{Accepted, LegacyNotUtf8, Refused, TooLong, BadCount, HasLf, CanonicalTooLong, Unterminated}
+use Rattle.frame_engine.specs.declared.line.Line.TheVariants.{Accepted, LegacyNotUtf8, Refused, TooLong, BadCount}
+use Rattle.frame_engine.specs.declared.line.Line.TheVariants.{HasLf, CanonicalTooLong, Unterminated}
 
 -- the name of a field
 abbrev pub field_name : Field → List ℕ

@@ -1,20 +1,19 @@
 -- The lines that `show` prints of a record.
-use Rattle.std.specs.Prelude.{◌≡◌, ◌≤◌, ◌<◌, ◌+◌, ◌*◌, ℕ, ℤ, List, [], ◌∷◌, ◌++◌, ◌⊎◌, length, codes, decimal, Bool, ◌&&◌, ◌==◌, ◌/◌, ◌%◌, nat_le, nat_lt, if◌then◌else◌, Option, not}
+use Rattle.std.specs.Prelude.{◌≡◌, ◌+◌, ◌*◌, ℕ, ℤ, List, [], ◌∷◌, ◌++◌, ◌⊎◌, codes, decimal, Bool, ◌&&◌, ◌==◌, ◌/◌, ◌%◌}
+use Rattle.std.specs.Prelude.{nat_le, nat_lt, if◌then◌else◌, Option, not}
 use Rattle.std.specs.List.{flat_map}
 use Rattle.octet_language.specs.Language.{Language, Only, ◌⋅◌}
-use Rattle.syslog_frame.specs.declared.limits.TheConstants.{FRAME_MAX}
 use Rattle.syslog_value.specs.Facilities.{facility_code, facility_name}
 use Rattle.syslog_value.specs.Parts.{ElementParts, MessageParts, AnyOctets, Utf8Text, ParamParts, Parts}
 use Rattle.syslog_value.specs.Severities.{severity_code, severity_name}
 use Rattle.syslog_value.specs.declared.facility.Facility.{Facility}
 use Rattle.syslog_value.specs.declared.severity.Severity.{Severity}
 use Rattle.syslog_grammar.specs.Canonical.{TimeForm, word_form}
-use Rattle.syslog_grammar.specs.Faults.{FaultOf}
-use Rattle.syslog_grammar.specs.WellFormed.{WellFormed}
-use Rattle.syslog_grammar.specs.declared.fault.Fault.{Fault}
+use Rattle.syslog_legacy.specs.FrameReadings.{Clock}
 use Rattle.frame_engine.specs.Converted.{goes_out, noted_line}
 use Rattle.frame_engine.specs.Handling.{Handling}
-use Rattle.frame_engine.specs.declared.line.Line.TheVariants.{Refused, TooLong}
+use Rattle.frame_engine.specs.Readings.{IsRecordOf, IsRefusedWith}
+use Rattle.frame_engine.specs.declared.line.Line.{Line}
 
 -- a lower-case hexadecimal digit
 abbrev pub hex_digit : ℕ → ℕ
@@ -59,7 +58,8 @@ priority_line v f s = line_of (codes "priority") (decimal v ++ 32 ∷ facility_n
 
 -- the names are those of the facility and the severity that PRIVAL is made of
 abbrev pub PriorityLine : ℕ → Language
-PriorityLine v b = (f : Facility) × (s : Severity) × (v ≡ facility_code f * 8 + severity_code s) × (b ≡ priority_line v f s)
+PriorityLine v b = (f : Facility) × (s : Severity) × (v ≡ facility_code f * 8 + severity_code s)
+    × (b ≡ priority_line v f s)
 
 -- the canonical timestamp
 abbrev pub TimeLine : Option ℤ → Language
@@ -76,9 +76,8 @@ RecordLines n r =
     Only (number_line n) ⋅ PriorityLine r.priority ⋅ TimeLine r.time ⋅ Only (word_lines r)
     ⋅ Only (flat_map element_lines r.elements) ⋅ Only (message_line r.message)
 
--- a frame is too long, or a record that is shown, or no record because of this fault
-abbrev pub show_handling : Handling
-show_handling n f d =
-    ((FRAME_MAX < length f) × (d ≡ noted_line (TooLong n)))
-    ⊎ (((length f ≤ FRAME_MAX) × (r : Parts ℤ) × WellFormed r f × (b : List ℕ) × RecordLines n r b × (d ≡ goes_out b))
-    ⊎ ((length f ≤ FRAME_MAX) × (fault : Fault) × FaultOf f fault × (d ≡ noted_line (Refused n fault))))
+-- the lines of the record that a frame is read as, or it is noted why it is none
+abbrev pub show_handling : Clock → Handling
+show_handling clock n f d =
+    ((r : Parts ℤ) × IsRecordOf clock r f × (b : List ℕ) × RecordLines n r b × (d ≡ goes_out b))
+    ⊎ ((line : Line) × IsRefusedWith clock n f line × (d ≡ noted_line line))

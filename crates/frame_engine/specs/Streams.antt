@@ -1,5 +1,6 @@
 -- What comes of a stream whose frames are handled in order.
-use Rattle.std.specs.Prelude.{◌≡◌, ℕ, ◌+◌, ◌<◌, List, [], ◌++◌, length, false, ◌⊎◌, Option, Some, None, IfSome, take, if◌then◌else◌}
+use Rattle.std.specs.Prelude.{◌≡◌, ℕ, ◌+◌, ◌<◌, List, [], ◌++◌, length, false, ◌⊎◌, Option, Some, None, IfSome, take}
+use Rattle.std.specs.Prelude.{if◌then◌else◌}
 use Rattle.std.specs.List.{AllByRecursion, flat_map}
 use Rattle.std.specs.Io.KnownBytes.{Appends, Consumes}
 use Rattle.octet_language.specs.Language.{Begins}
@@ -17,11 +18,13 @@ use Rattle.frame_engine.specs.declared.input_framing.InputFraming.TheVariants.{D
 use Rattle.frame_engine.specs.declared.stream.Step.{Step}
 use Rattle.frame_engine.specs.declared.stream.Step.TheVariants.{Nothing, Bad, Handled}
 
--- what is reported of the end of a stream: nothing after its last frame; where an unfinished frame begins; or where a MSG-LEN is bad, with the number that its frame would have
+-- what is reported of the end of a stream: nothing after its last frame; where an unfinished frame begins; or where a
+-- MSG-LEN is bad, with the number that its frame would have
 abbrev pub ReportsEnd : (Line → Done) → Framing → List ℕ → List (List ℕ) → List ℕ → Done → Type 0
 ReportsEnd T kind stream frames rest d =
     ((rest ≡ []) × (d ≡ nothing))
-    ⊎ (((start : ℕ) × (0 < length rest) × Begins (Whole kind) rest × (start + length rest ≡ length stream) × (d ≡ T (Unterminated start)))
+    ⊎ (((start : ℕ) × (0 < length rest) × Begins (Whole kind) rest × (start + length rest ≡ length stream)
+    × (d ≡ T (Unterminated start)))
     ⊎ ((at : ℕ) × IsBadAt kind stream frames rest at × (d ≡ T (BadCount (length frames + 1) at))))
 
 -- what comes of a stream: of its frames in order, numbered from 1, and then of its end
@@ -40,12 +43,13 @@ abbrev pub written_out : List ℕ → List ℕ → Done
 written_out output notes = record { refused = false; output = output; notes = notes }
 
 -- the scanner read these octets, and the frames that it released were handled; the next frame has this number
-pub record HasHandled (D : Handling) (s : Scan) (kind : Framing) (octets : List ℕ) (number : ℕ) (total : Done) : Type 0 where
-  pub frames : List (List ℕ)
-  pub rest : List ℕ
-  pub reads : Reads FRAME_MAX s kind 0 octets frames rest
-  pub handled : HandledFrom D 1 frames total
-  pub number_is : number ≡ length frames + 1
+pub record HasHandled (D : Handling) (s : Scan) (kind : Framing) (octets : List ℕ) (number : ℕ) (total : Done) : Type 0
+  where
+    pub frames : List (List ℕ)
+    pub rest : List ℕ
+    pub reads : Reads FRAME_MAX s kind 0 octets frames rest
+    pub handled : HandledFrom D 1 frames total
+    pub number_is : number ≡ length frames + 1
 
 -- the stream is bad at an offset, and all frames before it were handled
 pub record HasBad (D : Handling) (kind : Framing) (stream : List ℕ) (number : ℕ) (total : Done) (at : ℕ) : Type 0 where
@@ -81,7 +85,9 @@ HandlesOn D s kind octets number total None = HasHandled D s kind octets number 
 HandlesOn D s kind octets number total (Some at) = (more : List ℕ) → HasBad D kind (octets ++ more) number total at
 
 -- a stream was read to its end or up to a bad MSG-LEN, and what comes of it was written, but for what is left to write
-pub record IsAnswered (D : Handling) (T : Line → Done) (kind : Framing) (input : List ℕ) (taken_old taken_new notes_old notes_new : Option (List ℕ)) (left : Done) : Type 0 where
+pub record IsAnswered (D : Handling) (T : Line
+    → Done) (kind : Framing) (input : List ℕ) (taken_old taken_new notes_old notes_new : Option (List ℕ))
+    (left : Done) : Type 0 where
   pub all : Done
   pub output : List ℕ
   pub notes : List ℕ
@@ -91,7 +97,8 @@ pub record IsAnswered (D : Handling) (T : Line → Done) (kind : Framing) (input
   pub whole : all ≡ then_done (written_out output notes) left
 
 -- some of what comes of the stream was written: together with what is left to write it is a prefix of the output
-pub record IsBegun (D : Handling) (kind : Framing) (input : List ℕ) (taken_old taken_new : Option (List ℕ)) (left : List ℕ) : Type 0 where
+pub record IsBegun (D : Handling) (kind : Framing) (input : List ℕ) (taken_old taken_new : Option (List ℕ))
+    (left : List ℕ) : Type 0 where
   pub total : Done
   pub part : HasPart D kind input total
   pub output : List ℕ
@@ -99,8 +106,10 @@ pub record IsBegun (D : Handling) (kind : Framing) (input : List ℕ) (taken_old
   pub taken : Appends taken_old taken_new output
   pub begins : total.output ≡ (output ++ left) ++ following
 
--- a device gave these octets of a stream, whose whole frames were handled; what comes of them was written, but for what is left to write
-pub record IsStreaming (D : Handling) (kind : Framing) (s : Scan) (number : ℕ) (left_old left_new taken_old taken_new notes_old notes_new : Option (List ℕ)) (left : Done) : Type 0 where
+-- a device gave these octets of a stream, whose whole frames were handled; what comes of them was written, but for what
+-- is left to write
+pub record IsStreaming (D : Handling) (kind : Framing) (s : Scan) (number : ℕ)
+    (left_old left_new taken_old taken_new notes_old notes_new : Option (List ℕ)) (left : Done) : Type 0 where
   pub given : List ℕ
   pub output : List ℕ
   pub notes : List ℕ
@@ -122,7 +131,8 @@ abbrev pub status_of : Done → ℕ
 status_of d = if d.refused then 1 else 0
 
 -- the status, the output and the notes are what comes of the input
-abbrev pub AnswersWith : (List ℕ → Done → Type 0) → Option (List ℕ) → ℕ → Option (List ℕ) → Option (List ℕ) → Option (List ℕ) → Option (List ℕ) → Type 0
+abbrev pub AnswersWith : (List ℕ → Done → Type 0) → Option (List ℕ) → ℕ → Option (List ℕ) → Option (List ℕ)
+    → Option (List ℕ) → Option (List ℕ) → Type 0
 AnswersWith A left status taken_old taken_new notes_old notes_new =
     IfSome left (λ input. (d : Done) × A input d × (status ≡ status_of d)
     × Appends taken_old taken_new d.output × Appends notes_old notes_new d.notes)

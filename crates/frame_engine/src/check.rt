@@ -9,13 +9,16 @@ ghost use Rattle.frame_engine.specs.declared.line.Line.{Line};
 use crate::frame_handler::FrameHandler;
 use crate::line::{Line, put_line};
 use crate::pending::PendingOutput;
+use crate::reading::read_frame;
 use std::alloc::AllocError;
-use syslog_frame::FRAME_MAX;
-use syslog_grammar::view;
+use syslog_legacy::LegacyClock;
 
 /// Writes for each frame whether it is a record, and if not, why not. No frame is copied.
 #[derive(Clone, Copy, Debug)]
-pub struct Check;
+pub struct Check {
+    /// The clock of legacy packets; None: every frame is read by RFC 5424.
+    pub clock: Option<LegacyClock>,
+}
 
 // Reports a refusal on the output.
 fn refuse(line: Line, done: &mut PendingOutput) -> Result<(), AllocError>
@@ -28,10 +31,11 @@ fn refuse(line: Line, done: &mut PendingOutput) -> Result<(), AllocError>
 }
 
 impl FrameHandler for Check {
-    ghost use Rattle.std.proofs.Common.{inl, refl};
+    ghost use Rattle.std.proofs.Common.{inl, inr, refl};
     ghost use Rattle.frame_engine.specs.Checked.{check_handling};
+    ghost use Rattle.frame_engine.specs.declared.line.Line.TheVariants.{TooLong};
 
-    ghost handles = { λ _. check_handling };
+    ghost handles = { λ c. check_handling c.clock };
 
     ghost reports = { λ _. refused_line };
 
@@ -41,12 +45,9 @@ impl FrameHandler for Check {
         frame: &[u8],
         done: &mut PendingOutput,
     ) -> Result<(), AllocError> {
-        if frame.len() > FRAME_MAX {
-            return refuse(Line::TooLong { number }, done);
-        }
-        match view(frame) {
+        match read_frame(self.clock, number, frame) {
             Ok(_) => put_line(&mut done.output, Line::Accepted { number }),
-            Err(fault) => refuse(Line::Refused { number, fault }, done),
+            Err(line) => refuse(line, done),
         }
     }
 
@@ -54,5 +55,5 @@ impl FrameHandler for Check {
         refuse(line, done)
     }
 
-    ghost long = { λ d n f h. inl (h, refl) };
+    ghost long = { λ d n f h. inr (TooLong n, inl (h, refl), refl) };
 }

@@ -1,23 +1,26 @@
 //! `convert`: the canonical octets of each record.
 
 ghost use Rattle.std.specs.Prelude.{◌≡◌, ◌<◌, List, ℕ, OnErr, OnOk, Some, length};
-ghost use Rattle.syslog_grammar.specs.ViewParts.{IsViewOf, view_parts};
 ghost use Rattle.frame_engine.specs.Converted.{Converts, Framed, noted_line};
 ghost use Rattle.frame_engine.specs.Pending.{Adds, done_of};
 ghost use Rattle.frame_engine.specs.Handling.{then_done};
+ghost use Rattle.frame_engine.specs.Readings.{IsReadingOf};
 
 use crate::frame_handler::FrameHandler;
 use crate::line::{Line, put_line};
 use crate::pending::PendingOutput;
+use crate::reading::{Reading, read_frame};
 use std::alloc::{AllocError, Global};
-use syslog_frame::{FRAME_MAX, Framing, PutFault, put_frame};
-use syslog_grammar::{RecordView, put_canonical, view};
+use syslog_frame::{Framing, PutFault, put_frame};
+use syslog_legacy::LegacyClock;
 
 /// Writes the canonical octets of each record, and notes why a frame has none.
 #[derive(Clone, Copy, Debug)]
 pub struct Convert {
     /// The allocator for a record whose element ids do not ascend.
     pub alloc: Global,
+    /// The clock of legacy packets; None: every frame is read by RFC 5424.
+    pub clock: Option<LegacyClock>,
     /// The framing of the output; None: bare octets.
     pub to: Option<Framing>,
 }
@@ -53,28 +56,30 @@ impl Convert {
     fn put_record(
         &self,
         number: u64,
-        view: &RecordView<'_>,
+        reading: &Reading<'_>,
         done: &mut PendingOutput,
     ) -> Result<(), AllocError>
-        requires { (b : List ℕ) × IsViewOf b (view_parts view.now) }
-        ensures ok { OnOk result ((b : List ℕ) → IsViewOf b (view_parts view.now) →
-            Adds (Converts self.now.to number b) (done_of done.old) (done_of done.new)) }
+        requires { (f : List ℕ) × IsReadingOf self.now.clock f reading.now }
+        ensures ok { OnOk result ((f : List ℕ) → IsReadingOf self.now.clock f reading.now →
+            Adds (Converts self.now.clock self.now.to number f)
+            (done_of done.old) (done_of done.new)) }
         ensures err { OnErr result (done_of done.new ≡ done_of done.old) }
     {
         let Some(framing) = self.to else {
-            return put_canonical(self.alloc, view, &mut done.output);
+            return reading.put_canonical(self.alloc, &mut done.output);
         };
         done.scratch.clear();
-        put_canonical(self.alloc, view, &mut done.scratch)?;
+        reading.put_canonical(self.alloc, &mut done.scratch)?;
         put_framed(framing, number, done)
     }
 }
 
 impl FrameHandler for Convert {
-    ghost use Rattle.std.proofs.Common.{inl, refl};
+    ghost use Rattle.std.proofs.Common.{inl, inr, refl};
     ghost use Rattle.frame_engine.specs.Converted.{convert_handling, noted_line};
+    ghost use Rattle.frame_engine.specs.declared.line.Line.TheVariants.{TooLong};
 
-    ghost handles = { λ c. convert_handling c.to };
+    ghost handles = { λ c. convert_handling c.clock c.to };
 
     ghost reports = { λ _. noted_line };
 
@@ -84,12 +89,9 @@ impl FrameHandler for Convert {
         frame: &[u8],
         done: &mut PendingOutput,
     ) -> Result<(), AllocError> {
-        if frame.len() > FRAME_MAX {
-            return note_line(Line::TooLong { number }, done);
-        }
-        match view(frame) {
-            Ok(view) => self.put_record(number, &view, done),
-            Err(fault) => note_line(Line::Refused { number, fault }, done),
+        match read_frame(self.clock, number, frame) {
+            Ok(reading) => self.put_record(number, &reading, done),
+            Err(line) => note_line(line, done),
         }
     }
 
@@ -97,5 +99,5 @@ impl FrameHandler for Convert {
         note_line(line, done)
     }
 
-    ghost long = { λ d n f h. inl (h, refl) };
+    ghost long = { λ d n f h. inr (TooLong n, inl (h, refl), refl) };
 }

@@ -12,6 +12,9 @@ pub fn note<N: Output>(notes: &mut N, line: &[u8], status: u8) -> u8
         (result ≡ status) × Appends (N.taken notes.old) (N.taken notes.new) line.now }
     ensures cause { N.failures notes.old < 2 ^ 63 → result ≡ FAULT →
         (status ≡ FAULT) ⊎ (N.failures notes.old < N.failures notes.new) }
+    ensures written { N.failures notes.old < 2 ^ 63 →
+        N.failures notes.new ≡ N.failures notes.old →
+        Appends (N.taken notes.old) (N.taken notes.new) line.now }
     ensures fault { status ≡ FAULT → result ≡ FAULT }
     ensures failed { N.failures notes.old < N.failures notes.new → result ≡ FAULT }
 {

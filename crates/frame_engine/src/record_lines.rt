@@ -1,6 +1,7 @@
 //! The fields of a record, one line each.
 
-ghost use Rattle.std.specs.Prelude.{◌≡◌, ◌++◌, ◌<◌, List, ℕ, OnErr, OnOk, codes, decimal, option_map, if◌then◌else◌, ◌∷◌};
+ghost use Rattle.std.specs.Prelude.{◌≡◌, ◌++◌, ◌<◌, List, ℕ, OnErr, OnOk, codes, decimal, option_map, if◌then◌else◌};
+ghost use Rattle.std.specs.Prelude.{◌∷◌};
 ghost use Rattle.syslog_value.specs.Parts.{AnyOctets, Utf8Text};
 ghost use Rattle.std.specs.List.{flat_map};
 ghost use Rattle.std.specs.Option.{option_copied};
@@ -8,7 +9,8 @@ ghost use Rattle.octet_language.specs.Language.{Only};
 ghost use Rattle.syslog_grammar.specs.Appending.{Adds, Anything, Puts};
 ghost use Rattle.syslog_grammar.specs.Canonical.{word_form};
 ghost use Rattle.frame_engine.specs.Showing.{PriorityLine, RecordLines, TimeLine, element_lines};
-ghost use Rattle.frame_engine.specs.Showing.{hex_digit, line_of, message_line, number_line, hex_escaped_octet, hex_escaped, param_lines, priority_line, quoted_line, word_lines};
+ghost use Rattle.frame_engine.specs.Showing.{hex_digit, line_of, message_line, number_line, hex_escaped_octet};
+ghost use Rattle.frame_engine.specs.Showing.{hex_escaped, param_lines, priority_line, quoted_line, word_lines};
 
 use itoa::Buffer;
 use std::alloc::AllocError;

@@ -1,12 +1,17 @@
 //! An input read from a device and handled frame by frame.
 
-ghost use Rattle.std.specs.Prelude.{◌≡◌, ◌≤◌, ◌<◌, ◌+◌, ◌^◌, ℕ, List, [], length, take, OnErr, OnOk, IfErr, IfSome, IsErrOf, IsOk, ◌⊎◌, if◌then◌else◌};
+ghost use Rattle.std.specs.Prelude.{◌≡◌, ◌≢◌, ◌≤◌, ◌<◌, ◌+◌, ◌^◌, ◌++◌, ◌⊎◌, ℕ, List, [], codes, length, take};
+ghost use Rattle.std.specs.Prelude.{OnErr, OnOk, IfErr, IfSome, IsErrOf, IsOk, if◌then◌else◌};
+ghost use Rattle.syslog_frame.specs.declared.framing.Framing.{Framing as Kind};
 ghost use Rattle.std.specs.Io.KnownBytes.{Appends};
 ghost use Rattle.syslog_value.specs.Device.{AreSmall};
 ghost use Rattle.frame_engine.specs.Pending.{done_of};
 ghost use Rattle.frame_engine.specs.Handling.{HasOneOutput, nothing};
 ghost use Rattle.frame_engine.specs.Scans.{IsCause};
-ghost use Rattle.frame_engine.specs.Streams.{AnswersWith, InputDone, IsAnswered, IsBegun, Moves, StreamDone, WritesPrefixOf, status_of};
+ghost use Rattle.frame_engine.specs.Stops.{IsStopped, ReadsUpTo, StopsReading, StopsWith, WritesLast};
+ghost use Rattle.frame_engine.specs.Streams.{AnswersWith, InputDone, IsAnswered, IsBegun, Moves};
+ghost use Rattle.frame_engine.specs.Streams.{StreamDone, WritesPrefixOf, status_of};
+ghost use Rattle.frame_engine.specs.declared.input_framing.InputFraming.TheVariants.{Datagram, Stream};
 
 use crate::frame_handler::FrameHandler;
 use crate::input_framing::InputFraming;
@@ -70,6 +75,9 @@ pub fn flush<W: Output, N: Output>(
     ensures quiet { N.failures notes.old < N.failures notes.new → IsErrOf result Stopped.Notes }
     ensures quiet_write { W.failures writer.old < W.failures writer.new →
         IsErrOf result Stopped.Write ⊎ IsErrOf result Stopped.Notes }
+    ensures noted { (text : List ℕ) × Appends (N.taken notes.old) (N.taken notes.new) text }
+    ensures notes_kept { IsErrOf result Stopped.Write →
+        N.failures notes.new ≡ N.failures notes.old }
 {
     let reported = write_all(notes, done.notes.as_slice());
     done.notes.clear();
@@ -108,6 +116,9 @@ fn flush_due<W: Output, N: Output>(
     ensures quiet { N.failures notes.old < N.failures notes.new → IsErrOf result Stopped.Notes }
     ensures quiet_write { W.failures writer.old < W.failures writer.new →
         IsErrOf result Stopped.Write ⊎ IsErrOf result Stopped.Notes }
+    ensures noted { (text : List ℕ) × Appends (N.taken notes.old) (N.taken notes.new) text }
+    ensures notes_kept { IsErrOf result Stopped.Write →
+        N.failures notes.new ≡ N.failures notes.old }
 {
     if !waits && done.output.len() < LARGE && done.notes.len() < LARGE {
         return Ok(());
@@ -156,6 +167,21 @@ pub fn handle_stream<D: FrameHandler, R: Input, W: Output, N: Output>(
     ensures memory { IsErrOf result Stopped.Memory →
         (W.failures writer.new ≡ W.failures writer.old)
         × (N.failures notes.new ≡ N.failures notes.old) }
+    ensures notes_kept { IsErrOf result Stopped.Write →
+        N.failures notes.new ≡ N.failures notes.old }
+    ensures noted { (text : List ℕ) × Appends (N.taken notes.old) (N.taken notes.new) text }
+    ensures stopped { IsErrOf result Stopped.Read ⊎ IsErrOf result Stopped.Endless →
+        (W.failures writer.new ≡ W.failures writer.old)
+        × (N.failures notes.new ≡ N.failures notes.old)
+        × IsStopped (D.handles handler.now) framing (R.left reader.old) (R.left reader.new)
+        (W.taken writer.old) (W.taken writer.new) (N.taken notes.old) (N.taken notes.new)
+        (done_of done.new) }
+    ensures ends { R.ends reader.new ≤ R.ends reader.old + 1 }
+    ensures ended { R.ends reader.old < R.ends reader.new →
+        R.failures reader.new ≡ R.failures reader.old }
+    ensures reads { AreSmall (R.calls reader.old) (R.failures reader.old) →
+        StopsReading framing (R.calls reader.old) (R.calls reader.new)
+        (R.left reader.old) (R.left reader.new) }
 {
     let mut scanner = Scanner::new(alloc, framing)?;
     let mut number = 1;
@@ -198,7 +224,13 @@ fn close_with<W: Output, N: Output>(
     ensures held { W.failures writer.old < 2 ^ 63 → N.failures notes.old < 2 ^ 63 →
         W.failures writer.new ≡ W.failures writer.old →
         N.failures notes.new ≡ N.failures notes.old →
-        Appends (W.taken writer.old) (W.taken writer.new) done.old.output.items }
+        Appends (W.taken writer.old) (W.taken writer.new) done.old.output.items
+        × Appends (N.taken notes.old) (N.taken notes.new) (done.old.notes.items ++ line.now) }
+    ensures write_line { N.failures notes.old < 2 ^ 63 →
+        W.failures writer.old < W.failures writer.new →
+        N.failures notes.new ≡ N.failures notes.old →
+        WritesLast (codes "write fault\n") (N.taken notes.old) (N.taken notes.new) }
+    ensures line { result ≢ FAULT → WritesLast line.now (N.taken notes.old) (N.taken notes.new) }
     ensures fault { status ≡ FAULT → result ≡ FAULT }
     ensures written { W.failures writer.old < W.failures writer.new → result ≡ FAULT }
 {
@@ -241,6 +273,24 @@ fn close<W: Output, N: Output>(
         W.failures writer.new ≡ W.failures writer.old }
     ensures notes_kept { IsErrOf outcome Stopped.Notes →
         N.failures notes.new ≡ N.failures notes.old }
+    ensures read_line { IsErrOf outcome Stopped.Read → W.failures writer.old < 2 ^ 63 →
+        N.failures notes.old < 2 ^ 63 → W.failures writer.new ≡ W.failures writer.old →
+        N.failures notes.new ≡ N.failures notes.old →
+        Appends (W.taken writer.old) (W.taken writer.new) done.old.output.items
+        × Appends (N.taken notes.old) (N.taken notes.new)
+        (done.old.notes.items ++ codes "read fault\n") }
+    ensures endless_line { IsErrOf outcome Stopped.Endless → W.failures writer.old < 2 ^ 63 →
+        N.failures notes.old < 2 ^ 63 → W.failures writer.new ≡ W.failures writer.old →
+        N.failures notes.new ≡ N.failures notes.old →
+        Appends (W.taken writer.old) (W.taken writer.new) done.old.output.items
+        × Appends (N.taken notes.old) (N.taken notes.new)
+        (done.old.notes.items ++ codes "endless input\n") }
+    ensures write_line { N.failures notes.old < 2 ^ 63 → IsErrOf outcome Stopped.Write
+        ⊎ (W.failures writer.old < W.failures writer.new) →
+        N.failures notes.new ≡ N.failures notes.old →
+        WritesLast (codes "write fault\n") (N.taken notes.old) (N.taken notes.new) }
+    ensures memory_line { result ≡ NO_MEMORY →
+        WritesLast (codes "want of memory\n") (N.taken notes.old) (N.taken notes.new) }
 {
     match outcome {
         Ok(()) => {
@@ -287,6 +337,33 @@ fn scan_stream<D: FrameHandler, R: Input, W: Output, N: Output>(
         R.calls reader.new ≤ R.calls reader.old + READER_CALLS }
     ensures read_failed { R.failures reader.old < R.failures reader.new → result ≡ FAULT }
     ensures write_failed { W.failures writer.old < W.failures writer.new → result ≡ FAULT }
+    ensures ends { R.ends reader.new ≤ R.ends reader.old + 1 }
+    ensures ended { R.ends reader.old < R.ends reader.new →
+        R.failures reader.new ≡ R.failures reader.old }
+    ensures reads { AreSmall (R.calls reader.old) (R.failures reader.old) →
+        StopsReading framing (R.calls reader.old) (R.calls reader.new)
+        (R.left reader.old) (R.left reader.new) }
+    ensures read_fault { W.failures writer.old < 2 ^ 63 → N.failures notes.old < 2 ^ 63 →
+        R.failures reader.old < R.failures reader.new →
+        W.failures writer.new ≡ W.failures writer.old →
+        N.failures notes.new ≡ N.failures notes.old →
+        StopsWith (D.handles handler.now) (Stream framing) (codes "read fault\n")
+        (R.left reader.old) (R.left reader.new) (W.taken writer.old) (W.taken writer.new)
+        (N.taken notes.old) (N.taken notes.new) }
+    ensures endless_input { AreSmall (R.calls reader.old) (R.failures reader.old) →
+        W.failures writer.old < 2 ^ 63 → N.failures notes.old < 2 ^ 63 → result ≡ FAULT →
+        R.failures reader.new ≡ R.failures reader.old →
+        W.failures writer.new ≡ W.failures writer.old →
+        N.failures notes.new ≡ N.failures notes.old →
+        StopsWith (D.handles handler.now) (Stream framing) (codes "endless input\n")
+        (R.left reader.old) (R.left reader.new) (W.taken writer.old) (W.taken writer.new)
+        (N.taken notes.old) (N.taken notes.new) }
+    ensures write_fault { N.failures notes.old < 2 ^ 63 →
+        W.failures writer.old < W.failures writer.new →
+        N.failures notes.new ≡ N.failures notes.old →
+        WritesLast (codes "write fault\n") (N.taken notes.old) (N.taken notes.new) }
+    ensures no_memory { result ≡ NO_MEMORY →
+        WritesLast (codes "want of memory\n") (N.taken notes.old) (N.taken notes.new) }
 {
     let mut done = PendingOutput::new(alloc);
     let outcome = handle_stream(alloc, framing, handler, reader, writer, notes, &mut done);
@@ -316,6 +393,7 @@ fn handle_datagram<D: FrameHandler, R: Input>(
         IsErrOf result Stopped.Read }
     ensures calls { AreSmall (R.calls reader.old) (R.failures reader.old) →
         R.calls reader.new ≤ R.calls reader.old + READER_CALLS }
+    ensures ends { R.ends reader.new ≤ R.ends reader.old + 1 }
 {
     let datagram = match read_all(alloc, reader, FRAME_MAX + 1) {
         Ok(datagram) => datagram,
@@ -356,6 +434,28 @@ fn scan_datagram<D: FrameHandler, R: Input, W: Output, N: Output>(
         R.calls reader.new ≤ R.calls reader.old + READER_CALLS }
     ensures read_failed { R.failures reader.old < R.failures reader.new → result ≡ FAULT }
     ensures write_failed { W.failures writer.old < W.failures writer.new → result ≡ FAULT }
+    ensures ends { R.ends reader.new ≤ R.ends reader.old + 1 }
+    ensures read_fault { W.failures writer.old < 2 ^ 63 → N.failures notes.old < 2 ^ 63 →
+        R.failures reader.old < R.failures reader.new →
+        W.failures writer.new ≡ W.failures writer.old →
+        N.failures notes.new ≡ N.failures notes.old →
+        StopsWith (D.handles handler.now) Datagram (codes "read fault\n")
+        (R.left reader.old) (R.left reader.new) (W.taken writer.old) (W.taken writer.new)
+        (N.taken notes.old) (N.taken notes.new) }
+    ensures endless_input { AreSmall (R.calls reader.old) (R.failures reader.old) →
+        W.failures writer.old < 2 ^ 63 → N.failures notes.old < 2 ^ 63 → result ≡ FAULT →
+        R.failures reader.new ≡ R.failures reader.old →
+        W.failures writer.new ≡ W.failures writer.old →
+        N.failures notes.new ≡ N.failures notes.old →
+        StopsWith (D.handles handler.now) Datagram (codes "endless input\n")
+        (R.left reader.old) (R.left reader.new) (W.taken writer.old) (W.taken writer.new)
+        (N.taken notes.old) (N.taken notes.new) }
+    ensures write_fault { N.failures notes.old < 2 ^ 63 →
+        W.failures writer.old < W.failures writer.new →
+        N.failures notes.new ≡ N.failures notes.old →
+        WritesLast (codes "write fault\n") (N.taken notes.old) (N.taken notes.new) }
+    ensures no_memory { result ≡ NO_MEMORY →
+        WritesLast (codes "want of memory\n") (N.taken notes.old) (N.taken notes.new) }
 {
     let mut done = PendingOutput::new(alloc);
     let outcome = handle_datagram(alloc, handler, reader, &mut done);
@@ -394,6 +494,33 @@ pub fn scan_input<D: FrameHandler, R: Input, W: Output, N: Output>(
         R.calls reader.new ≤ R.calls reader.old + READER_CALLS }
     ensures read_failed { R.failures reader.old < R.failures reader.new → result ≡ FAULT }
     ensures write_failed { W.failures writer.old < W.failures writer.new → result ≡ FAULT }
+    ensures ends { R.ends reader.new ≤ R.ends reader.old + 1 }
+    ensures ended { (kind : Kind) → input_framing ≡ Stream kind →
+        R.ends reader.old < R.ends reader.new → R.failures reader.new ≡ R.failures reader.old }
+    ensures reads { AreSmall (R.calls reader.old) (R.failures reader.old) →
+        ReadsUpTo input_framing (R.calls reader.old) (R.calls reader.new)
+        (R.left reader.old) (R.left reader.new) }
+    ensures read_fault { W.failures writer.old < 2 ^ 63 → N.failures notes.old < 2 ^ 63 →
+        R.failures reader.old < R.failures reader.new →
+        W.failures writer.new ≡ W.failures writer.old →
+        N.failures notes.new ≡ N.failures notes.old →
+        StopsWith (D.handles handler.now) input_framing (codes "read fault\n")
+        (R.left reader.old) (R.left reader.new) (W.taken writer.old) (W.taken writer.new)
+        (N.taken notes.old) (N.taken notes.new) }
+    ensures endless_input { AreSmall (R.calls reader.old) (R.failures reader.old) →
+        W.failures writer.old < 2 ^ 63 → N.failures notes.old < 2 ^ 63 → result ≡ FAULT →
+        R.failures reader.new ≡ R.failures reader.old →
+        W.failures writer.new ≡ W.failures writer.old →
+        N.failures notes.new ≡ N.failures notes.old →
+        StopsWith (D.handles handler.now) input_framing (codes "endless input\n")
+        (R.left reader.old) (R.left reader.new) (W.taken writer.old) (W.taken writer.new)
+        (N.taken notes.old) (N.taken notes.new) }
+    ensures write_fault { N.failures notes.old < 2 ^ 63 →
+        W.failures writer.old < W.failures writer.new →
+        N.failures notes.new ≡ N.failures notes.old →
+        WritesLast (codes "write fault\n") (N.taken notes.old) (N.taken notes.new) }
+    ensures no_memory { result ≡ NO_MEMORY →
+        WritesLast (codes "want of memory\n") (N.taken notes.old) (N.taken notes.new) }
 {
     match input_framing {
         InputFraming::Datagram => scan_datagram(alloc, handler, reader, writer, notes),

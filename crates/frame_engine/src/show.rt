@@ -7,24 +7,27 @@ use crate::convert::note_line;
 use crate::frame_handler::FrameHandler;
 use crate::line::Line;
 use crate::pending::PendingOutput;
+use crate::reading::read_frame;
 use crate::record_lines::put_record_lines;
 use std::alloc::{AllocError, Global};
-use syslog_frame::FRAME_MAX;
-use syslog_grammar::view;
+use syslog_legacy::LegacyClock;
 
 /// Writes the fields of each record, and notes why a frame is no record.
 #[derive(Clone, Copy, Debug)]
 pub struct Show {
     /// The allocator for a record.
     pub alloc: Global,
+    /// The clock of legacy packets; None: every frame is read by RFC 5424.
+    pub clock: Option<LegacyClock>,
 }
 
 impl FrameHandler for Show {
-    ghost use Rattle.std.proofs.Common.{inl, refl};
+    ghost use Rattle.std.proofs.Common.{inl, inr, refl};
     ghost use Rattle.frame_engine.specs.Converted.{noted_line};
     ghost use Rattle.frame_engine.specs.Showing.{show_handling};
+    ghost use Rattle.frame_engine.specs.declared.line.Line.TheVariants.{TooLong};
 
-    ghost handles = { λ _. show_handling };
+    ghost handles = { λ c. show_handling c.clock };
 
     ghost reports = { λ _. noted_line };
 
@@ -34,15 +37,12 @@ impl FrameHandler for Show {
         frame: &[u8],
         done: &mut PendingOutput,
     ) -> Result<(), AllocError> {
-        if frame.len() > FRAME_MAX {
-            return note_line(Line::TooLong { number }, done);
-        }
-        match view(frame) {
-            Ok(view) => {
-                let record = view.to_record(self.alloc)?;
+        match read_frame(self.clock, number, frame) {
+            Ok(reading) => {
+                let record = reading.to_record(self.alloc)?;
                 put_record_lines(number, &record, &mut done.output)
             }
-            Err(fault) => note_line(Line::Refused { number, fault }, done),
+            Err(line) => note_line(line, done),
         }
     }
 
@@ -50,5 +50,5 @@ impl FrameHandler for Show {
         note_line(line, done)
     }
 
-    ghost long = { λ d n f h. inl (h, refl) };
+    ghost long = { λ d n f h. inr (TooLong n, inl (h, refl), refl) };
 }

@@ -1,5 +1,7 @@
 -- What is sent.
-use Rattle.std.proofs.Common.{◌≡◌, ◌≢◌, ℕ, ℤ, pos, ◌+◌, ◌*◌, ◌/◌, ◌%◌, ◌<◌, ◌≤◌, ◌↔◌, List, [], ◌∷◌, length, take, Bool, true, false, refl, sym, ap, ap₂, subst, ◌∙◌, arith, slice_index, get_or, inl, inr, Option, None, Some, Result, Ok, Err}
+use Rattle.std.proofs.Common.{◌≡◌, ◌≢◌, ℕ, ℤ, pos, ◌+◌, ◌*◌, ◌/◌, ◌%◌, ◌<◌, ◌≤◌, ◌↔◌, List, [], ◌∷◌, length, take, Bool}
+use Rattle.std.proofs.Common.{true, false, refl, sym, ap, ap₂, subst, ◌∙◌, arith, slice_index, get_or, inl, inr, Option}
+use Rattle.std.proofs.Common.{None, Some, Result, Ok, Err}
 use Rattle.std.specs.Prelude.{IfErr, IfOk, IsTrue, MatchBool, OnErr, OnOk, codes, if◌then◌else◌, ◌==◌, ◌⊎◌}
 use Rattle.std.specs.Option.{ForSome}
 use Rattle.std.specs.Io.KnownBytes.{Appends}
@@ -33,7 +35,8 @@ use Rattle.frame_engine.specs.Handling.{Done, nothing}
 use Rattle.frame_engine.specs.Streams.{status_of}
 use Rattle.send_engine.specs.Options.{IsTime, Name, OptionTexts, OptionValues, framing_name}
 use Rattle.send_engine.specs.Sending.{IsMessageOf, SendDone, Sends, SentAs, refusal, sent_record}
-use Rattle.send_engine.specs.Values.{ConcludesWith, IsLetThrough, IsMade, IsRead, IsSender, IsSent, NamesSender, record_with}
+use Rattle.send_engine.specs.Values.{ConcludesWith, IsLetThrough, IsMade, IsRead, IsSender, IsSent, NamesSender}
+use Rattle.send_engine.specs.Values.{record_with}
 use Rattle.send_engine.specs.declared.values.Values.{Values}
 
 -- ---- a message
@@ -129,7 +132,8 @@ time_once (Some text) i j (x, (digits, few, e), h) (y, (digits', few', f), k) = 
 abbrev values : Facility → Severity → Severity → Option ℤ → Framing → OptionValues
 values f s u i k = record { facility = f; severity = s; up_to = u; time = i; framing = k }
 
-same_values : (f g : Facility) (s t u v : Severity) (i j : Option ℤ) (k l : Framing) → f ≡ g → s ≡ t → u ≡ v → i ≡ j → k ≡ l → values f s u i k ≡ values g t v j l
+same_values : (f g : Facility) (s t u v : Severity) (i j : Option ℤ) (k l : Framing) → f ≡ g → s ≡ t → u ≡ v → i ≡ j
+    → k ≡ l → values f s u i k ≡ values g t v j l
 same_values f g s t u v i j k l a b c d e = rw (a, b, c, d, e) refl
 
 values_once : (t : OptionTexts) (v w : OptionValues) → Name t v → Name t w → v ≡ w
@@ -142,9 +146,12 @@ values_once t v w h k =
     (framing_once v.framing w.framing (h.framing ∙ sym k.framing))
 
 -- what was made of the texts
-pub made_of : (t : OptionTexts) (s : SenderParts) (f : Facility) (up_to sev : Severity) (i : Option ℤ) (msg_id : Option (List ℕ)) (k : Framing) (x : Values)
-    → NamesSender t f up_to s → severity_name sev ≡ t.severity → IsTime t.micros i → msg_id ≡ t.msg_id → ForSome t.msg_id (IsWord 32) → framing_name k ≡ t.framing
-    → x ≡ record { sender = s; severity = sev; instant = i; msg_id = msg_id; framing = k } → (v : OptionValues) × Name t v × IsMade t v x
+pub made_of : (t : OptionTexts) (s : SenderParts) (f : Facility) (up_to sev : Severity) (i : Option ℤ)
+    (msg_id : Option (List ℕ)) (k : Framing) (x : Values)
+    → NamesSender t f up_to s → severity_name sev ≡ t.severity → IsTime t.micros i → msg_id ≡ t.msg_id
+    → ForSome t.msg_id (IsWord 32) → framing_name k ≡ t.framing
+    → x ≡ record { sender = s; severity = sev; instant = i; msg_id = msg_id; framing = k }
+    → (v : OptionValues) × Name t v × IsMade t v x
 made_of t s f up_to sev i msg_id k x n severity time same valid framing e = (
   values f sev up_to i k,
   record {
@@ -183,7 +190,8 @@ own_code f severity.Informational = refl
 own_code f severity.Debug = refl
 
 severity_at_code : (s t : Severity) → severity_code s ≡ severity_code t → s ≡ t
-severity_at_code s t e = sym (severity_at s) ∙ ap (λ (k : ℕ). get_or severities.ALL k severity.Emergency) e ∙ severity_at t
+severity_at_code s t e = sym (severity_at s) ∙ ap (λ (k : ℕ). get_or severities.ALL k severity.Emergency) e
+    ∙ severity_at t
 
 code_below : (s : Severity) → severity_code s % 8 ≡ severity_code s
 code_below severity.Emergency = refl
@@ -196,32 +204,50 @@ code_below severity.Informational = refl
 code_below severity.Debug = refl
 
 -- the mask lets a severity through exactly where it is no less severe
-let_through : (mask : ℕ) (s up_to : Severity) → ((v : Severity) → Holds mask v ↔ (severity_code v ≤ severity_code up_to)) → LetsThrough mask (severity_code s) ↔ (severity_code s ≤ severity_code up_to)
+let_through : (mask : ℕ) (s up_to : Severity)
+    → ((v : Severity) → Holds mask v ↔ (severity_code v ≤ severity_code up_to))
+    → LetsThrough mask (severity_code s) ↔ (severity_code s ≤ severity_code up_to)
 let_through mask s up_to h = (
   λ (t, code, held). (h s).0 (subst (Holds mask) (severity_at_code t s (code ∙ code_below s)) held),
   λ below. (s, sym (code_below s), (h s).1 below),
 )
 
 parts : ℕ → Option ℤ → Option (List ℕ) → Option (List ℕ) → Option (List ℕ) → Option (List ℕ) → MessageParts → Parts ℤ
-parts p i h a q g m = record { priority = p; time = i; hostname = h; app_name = a; proc_id = q; msg_id = g; elements = []; message = m }
+parts p i h a q g m = record {
+  priority = p;
+  time = i;
+  hostname = h;
+  app_name = a;
+  proc_id = q;
+  msg_id = g;
+  elements =
+      [];
+  message = m;
+}
 
-same_parts : (p q : ℕ) (i j : Option ℤ) (h h' a a' r r' g g' : Option (List ℕ)) (m : MessageParts) → p ≡ q → i ≡ j → h ≡ h' → a ≡ a' → r ≡ r' → g ≡ g' → parts p i h a r g m ≡ parts q j h' a' r' g' m
+same_parts : (p q : ℕ) (i j : Option ℤ) (h h' a a' r r' g g' : Option (List ℕ)) (m : MessageParts) → p ≡ q → i ≡ j
+    → h ≡ h' → a ≡ a' → r ≡ r' → g ≡ g' → parts p i h a r g m ≡ parts q j h' a' r' g' m
 unfolding parts
 same_parts p q i j h h' a a' r r' g g' m e f k l n o = rw (e, f, k, l, n, o) refl
 
 -- the record is that of the texts
-same_record : (t : OptionTexts) (v : OptionValues) (x : Values) (m : MessageParts) → IsMade t v x → record_with x m ≡ sent_record t v m
+same_record : (t : OptionTexts) (v : OptionValues) (x : Values) (m : MessageParts) → IsMade t v x
+    → record_with x m ≡ sent_record t v m
 unfolding parts
 same_record t v x m h =
-    let priority : own_priority x.sender.facility (severity_code x.severity) ≡ facility_code (own_facility v.facility) * 8 + severity_code v.severity =
+    let priority : own_priority x.sender.facility (severity_code x.severity)
+    ≡ facility_code (own_facility v.facility) * 8 + severity_code v.severity =
     own_code x.sender.facility x.severity
     ∙ ap₂ (λ (f : Facility) (s : Severity). facility_code f * 8 + severity_code s) h.sender.facility_is h.severity in
-    same_parts _ _ _ _ _ _ _ _ _ _ _ _ m priority h.instant h.sender.hostname h.sender.app_name h.sender.proc_id h.msg_id
+    same_parts _ _ _ _ _ _ _ _ _ _ _ _ m priority h.instant h.sender.hostname h.sender.app_name h.sender.proc_id
+    h.msg_id
 
 -- whether the values are let through, by the texts
-through : (t : OptionTexts) (v : OptionValues) (x : Values) → IsMade t v x → IsLetThrough x ↔ (severity_code v.severity ≤ severity_code v.up_to)
+through : (t : OptionTexts) (v : OptionValues) (x : Values) → IsMade t v x
+    → IsLetThrough x ↔ (severity_code v.severity ≤ severity_code v.up_to)
 through t v x h =
-    subst (λ (s : Severity). LetsThrough x.sender.mask (severity_code s) ↔ (severity_code v.severity ≤ severity_code v.up_to)) (sym h.severity)
+    subst (λ (s : Severity). LetsThrough x.sender.mask (severity_code s)
+    ↔ (severity_code v.severity ≤ severity_code v.up_to)) (sym h.severity)
     (let_through x.sender.mask v.severity v.up_to h.sender.mask)
 
 not_carried : (framing : Framing) (octets : List ℕ) → framing ≡ Lf → ¬ (IsLine octets) → ¬ (Carries framing octets)
@@ -229,7 +255,8 @@ not_carried Counted octets e h = absurd cc
 not_carried Lf octets e h = h
 
 -- what comes of the answer of the sender
-pub answered : (t : OptionTexts) (v : OptionValues) (x : Values) (m : MessageParts) (sent : Result Bool SendFault) (old new before noted : Option (List ℕ)) (status : ℕ)
+pub answered : (t : OptionTexts) (v : OptionValues) (x : Values) (m : MessageParts) (sent : Result Bool SendFault)
+    (old new before noted : Option (List ℕ)) (status : ℕ)
     → IsRead t v x m → IsSent x m sent old new → ConcludesWith sent status before noted
     → (d : Done) × SendDone t d × (status ≡ status_of d) × Appends old new d.output × Appends before noted d.notes
 answered t v x m (Ok true) old new before noted status h (l, (octets, canonical, (frame, taken))) (zero, same) = (
@@ -243,7 +270,10 @@ answered t v x m (Ok true) old new before noted status h (l, (octets, canonical,
       h.message,
       octets,
       subst (λ (r : Parts ℤ). Canonical r octets) (same_record t v x m h.made) canonical,
-      inl (subst (λ (k : Framing). IsFrame k octets) h.made.framing frame, ap (λ (k : Framing). goes_out (framed k octets)) h.made.framing),
+      inl (
+        subst (λ (k : Framing). IsFrame k octets) h.made.framing frame,
+        ap (λ (k : Framing). goes_out (framed k octets)) h.made.framing,
+      ),
     ),
   ),
   zero,
@@ -252,79 +282,104 @@ answered t v x m (Ok true) old new before noted status h (l, (octets, canonical,
 )
 answered t v x m (Ok false) old new before noted status h (l, kept) (zero, same) = (
   nothing,
-  (v, h.named, inl (omega (arith, λ (k : severity_code v.severity ≤ severity_code v.up_to). l ((through t v x h.made).1 k)), refl)),
+  (
+    v,
+    h.named,
+    inl (
+      omega (
+        arith,
+        λ (k : severity_code v.severity ≤ severity_code v.up_to).
+            l ((through t v x h.made).1 k),
+      ),
+      refl,
+    ),
+  ),
   zero,
   subst (λ (s : Option (List ℕ)). Appends old s []) (sym kept) (Appends-nil old),
   subst (λ (s : Option (List ℕ)). Appends before s []) (sym same) (Appends-nil before),
 )
-answered t v x m (Err fault.HasLf) old new before noted status h (l, (octets, canonical, (kind, no_line)), kept) (one, said) = (
-  refusal (codes "has-lf\n"),
-  (
-    v,
-    h.named,
-    inr (
-      (through t v x h.made).0 l,
-      m,
-      h.message,
-      octets,
-      subst (λ (r : Parts ℤ). Canonical r octets) (same_record t v x m h.made) canonical,
-      inr (inl (not_carried v.framing octets (sym h.made.framing ∙ kind) no_line, refl)),
-    ),
-  ),
-  one,
-  subst (λ (s : Option (List ℕ)). Appends old s []) (sym (kept (λ w. w))) (Appends-nil old),
-  said,
-)
-answered t v x m (Err fault.TooLong) old new before noted status h (l, (octets, canonical, (carried, long)), kept) (one, said) = (
-  refusal (codes "canonical-too-long\n"),
-  (
-    v,
-    h.named,
-    inr (
-      (through t v x h.made).0 l,
-      m,
-      h.message,
-      octets,
-      subst (λ (r : Parts ℤ). Canonical r octets) (same_record t v x m h.made) canonical,
-      inr (inr (subst (λ (k : Framing). Carries k octets) h.made.framing carried, long, refl)),
-    ),
-  ),
-  one,
-  subst (λ (s : Option (List ℕ)). Appends old s []) (sym (kept (λ w. w))) (Appends-nil old),
-  said,
-)
+answered t v x m (Err fault.HasLf) old new before noted status h (l, (octets, canonical, (kind, no_line)), kept)
+    (one, said) = (
+      refusal (codes "has-lf\n"),
+      (
+        v,
+        h.named,
+        inr (
+          (through t v x h.made).0 l,
+          m,
+          h.message,
+          octets,
+          subst (λ (r : Parts ℤ). Canonical r octets) (same_record t v x m h.made) canonical,
+          inr (inl (not_carried v.framing octets (sym h.made.framing ∙ kind) no_line, refl)),
+        ),
+      ),
+      one,
+      subst (λ (s : Option (List ℕ)). Appends old s []) (sym (kept (λ w. w))) (Appends-nil old),
+      said,
+    )
+answered t v x m (Err fault.TooLong) old new before noted status h (l, (octets, canonical, (carried, long)), kept)
+    (one, said) = (
+      refusal (codes "canonical-too-long\n"),
+      (
+        v,
+        h.named,
+        inr (
+          (through t v x h.made).0 l,
+          m,
+          h.message,
+          octets,
+          subst (λ (r : Parts ℤ). Canonical r octets) (same_record t v x m h.made) canonical,
+          inr (inr (subst (λ (k : Framing). Carries k octets) h.made.framing carried, long, refl)),
+        ),
+      ),
+      one,
+      subst (λ (s : Option (List ℕ)). Appends old s []) (sym (kept (λ w. w))) (Appends-nil old),
+      said,
+    )
 answered t v x m (Err fault.Memory) old new before noted status h s k = absurd k
 answered t v x m (Err (fault.Write sent)) old new before noted status h s k = absurd k
 
 -- ---- a prefix
 
 -- octets that were written go out, and no others
-out_once : (framing : Framing) (octets : List ℕ) (d : Done) → IsFrame framing octets → SentAs framing octets d → d.output ≡ framed framing octets
+out_once : (framing : Framing) (octets : List ℕ) (d : Done) → IsFrame framing octets → SentAs framing octets d
+    → d.output ≡ framed framing octets
 out_once framing octets d (carried, few) (inl (frame, e)) = ap (λ (d : Done). d.output) e
 out_once framing octets d (carried, few) (inr (inl (never, e))) = absurd (never carried)
 out_once framing octets d (carried, few) (inr (inr (carried', long, e))) = absurd (omega (arith, few, long))
 
 -- the canonical octets of the record go out for the texts
-sent_output : (t : OptionTexts) (v : OptionValues) (x : Values) (m : MessageParts) (octets : List ℕ) (d : Done) → IsRead t v x m → IsLetThrough x
+sent_output : (t : OptionTexts) (v : OptionValues) (x : Values) (m : MessageParts) (octets : List ℕ) (d : Done)
+    → IsRead t v x m → IsLetThrough x
     → Canonical (record_with x m) octets → IsFrame x.framing octets → SendDone t d → d.output ≡ framed x.framing octets
 sent_output t v x m octets d h l canonical frame (w, named, inl (above, e)) =
     let same : w ≡ v = values_once t w v named h.named in
     let below : severity_code v.severity ≤ severity_code v.up_to = (through t v x h.made).0 l in
-    absurd (omega (arith, below, subst (λ (u : OptionValues). severity_code u.up_to < severity_code u.severity) same above))
+    absurd (omega (
+      arith,
+      below,
+      subst (λ (u : OptionValues). severity_code u.up_to < severity_code u.severity) same
+          above,
+    ))
 sent_output t v x m octets d h l canonical frame (w, named, inr (below, n, message, others, canonical', out)) =
     let same : w ≡ v = values_once t w v named h.named in
     let text : n ≡ m = message_once t.text n m message h.message in
-    let its : Canonical (sent_record t v m) others = subst (λ (u : OptionValues). Canonical (sent_record t u m) others) same (subst (λ (k : MessageParts). Canonical (sent_record t w k) others) text canonical') in
-    let mine : Canonical (sent_record t v m) octets = subst (λ (r : Parts ℤ). Canonical r octets) (same_record t v x m h.made) canonical in
+    let its : Canonical (sent_record t v m) others =
+    subst (λ (u : OptionValues). Canonical (sent_record t u m) others) same
+    (subst (λ (k : MessageParts). Canonical (sent_record t w k) others) text canonical') in
+    let mine : Canonical (sent_record t v m) octets =
+    subst (λ (r : Parts ℤ). Canonical r octets) (same_record t v x m h.made) canonical in
     let equal : others ≡ octets = canonical_once (sent_record t v m) others octets its mine in
     let kind : w.framing ≡ x.framing = ap (λ (u : OptionValues). u.framing) same ∙ sym h.made.framing in
-    out_once x.framing octets d frame (subst (λ (k : Framing). SentAs k octets d) kind (subst (λ (b : List ℕ). SentAs w.framing b d) equal out))
+    out_once x.framing octets d frame (subst (λ (k : Framing). SentAs k octets d) kind
+    (subst (λ (b : List ℕ). SentAs w.framing b d) equal out))
 
 none_written : (old new : Option (List ℕ)) (text : List ℕ) → new ≡ old → (n : ℕ) × Appends old new (take n text)
 none_written old new text same = (0, subst (λ (s : Option (List ℕ)). Appends old s []) (sym same) (Appends-nil old))
 
 -- whatever the answer, a prefix of what comes of the texts was written
-pub prefix_sent : (t : OptionTexts) (v : OptionValues) (x : Values) (m : MessageParts) (sent : Result Bool SendFault) (old new : Option (List ℕ))
+pub prefix_sent : (t : OptionTexts) (v : OptionValues) (x : Values) (m : MessageParts) (sent : Result Bool SendFault)
+    (old new : Option (List ℕ))
     → IsRead t v x m → IsSent x m sent old new → (d : Done) → SendDone t d → (n : ℕ) × Appends old new (take n d.output)
 prefix_sent t v x m (Ok true) old new h (l, (octets, canonical, (frame, taken))) d done =
     let e : d.output ≡ framed x.framing octets = sent_output t v x m octets d h l canonical frame done in

@@ -48,7 +48,8 @@ pub record OptionValues : Type 0 where
 
 -- the microseconds that decimal digits alone write, in the years up to 9999
 abbrev pub IsMicros : List ℕ → ℤ → Type 0
-IsMicros text i = IsNumeral 10 text × (digits_value 10 text ≤ 253_402_300_799_999_999) × (i ≡ pos (digits_value 10 text))
+IsMicros text i = IsNumeral 10 text × (digits_value 10 text ≤ 253_402_300_799_999_999)
+    × (i ≡ pos (digits_value 10 text))
 
 abbrev pub IsTime : Option (List ℕ) → Option ℤ → Type 0
 IsTime None time = time ≡ None

@@ -1,5 +1,6 @@
 -- A settled collector holds what was received.
-use Rattle.std.proofs.Common.{◌≡◌, ℕ, zero, suc, ◌+◌, List, [], ◌∷◌, ◌++◌, length, set as set_at, inl, inr, refl, sym, ◌∙◌, ap, subst}
+use Rattle.std.proofs.Common.{◌≡◌, ℕ, zero, suc, ◌+◌, List, [], ◌∷◌, ◌++◌, length, set as set_at, inl, inr, refl, sym}
+use Rattle.std.proofs.Common.{◌∙◌, ap, subst}
 use Rattle.std.specs.Prelude.{◌⊎◌, ◌↔◌, Result, Ok, Err, OnOk}
 use Rattle.std.specs.List.{remove}
 use Rattle.syslog_frame.specs.Scan.{HasFrame, HasReady}
@@ -22,13 +23,19 @@ use Rattle.syslog_collect.proofs.Places.{AtPlace}
 use Rattle.syslog_collect.specs.Standing.{AreAt, IsAt, Stands}
 
 -- where no frame is ready, the frames that were handled are those of the opening
-pub one_settled : (c : Connection) (s : Stream) (d : List (List ℕ)) → IsAt c s d → ¬ (HasFrame c.scanner) → IsFramesOf s d
+pub one_settled : (c : Connection) (s : Stream) (d : List (List ℕ)) → IsAt c s d → ¬ (HasFrame c.scanner)
+    → IsFramesOf s d
 one_settled c s d at none = elim at.scanner [
-  | inl here ↦ (here.rest, frames_read FRAME_MAX c.scanner s.framing 0 s.octets d here.rest here.reads (none_unless_frame FRAME_MAX c.scanner s.framing (0 + length s.octets) here.rest none here.reads.stands))
+  | inl here ↦ (
+    here.rest,
+    frames_read FRAME_MAX c.scanner s.framing 0 s.octets d here.rest here.reads
+        (none_unless_frame FRAME_MAX c.scanner s.framing (0 + length s.octets) here.rest none here.reads.stands),
+  )
   | inr broken ↦ (broken.rest, broken.bad.frames_are)
 ]
 
-all_settled : (cs : List Connection) (ss : List Stream) (ds : List (List (List ℕ))) → AreAt cs ss ds → IsSettled cs → AreFramesOf ss ds
+all_settled : (cs : List Connection) (ss : List Stream) (ds : List (List (List ℕ))) → AreAt cs ss ds → IsSettled cs
+    → AreFramesOf ss ds
 all_settled [] [] [] f h = tt
 all_settled (c ∷ cs) (s ∷ ss) (d ∷ ds) f h = (one_settled c s d f.0 h.0, all_settled cs ss ds f.1 h.1)
 all_settled [] [] (d ∷ ds) f h = absurd f
@@ -38,11 +45,13 @@ all_settled (c ∷ cs) [] [] f h = absurd f
 all_settled (c ∷ cs) [] (d ∷ ds) f h = absurd f
 all_settled (c ∷ cs) (s ∷ ss) [] f h = absurd f
 
-pub settled_push : (cs : List Connection) (c : Connection) → IsSettled cs → ¬ (HasFrame c.scanner) → IsSettled (cs ++ c ∷ [])
+pub settled_push : (cs : List Connection) (c : Connection) → IsSettled cs → ¬ (HasFrame c.scanner)
+    → IsSettled (cs ++ c ∷ [])
 settled_push [] c h none = (none, tt)
 settled_push (d ∷ cs) c h none = (h.0, settled_push cs c h.1 none)
 
-settled_set : (cs : List Connection) (i : ℕ) (c : Connection) → IsSettled cs → ¬ (HasFrame c.scanner) → IsSettled (set_at cs i c)
+settled_set : (cs : List Connection) (i : ℕ) (c : Connection) → IsSettled cs → ¬ (HasFrame c.scanner)
+    → IsSettled (set_at cs i c)
 settled_set [] zero c h none = tt
 settled_set [] (suc i) c h none = tt
 settled_set (d ∷ cs) zero c h none = (none, h.1)
@@ -54,16 +63,19 @@ settled_remove [] (suc i) h = tt
 settled_remove (d ∷ cs) zero h = h.1
 settled_remove (d ∷ cs) (suc i) h = (h.0, settled_remove cs i h.1)
 
-pub settled_at : (c i : ℕ) (x : Connection) (ls : List Connection) → IsSettled ls → AtPlace c ls i x → ¬ (HasFrame x.scanner)
+pub settled_at : (c i : ℕ) (x : Connection) (ls : List Connection) → IsSettled ls → AtPlace c ls i x
+    → ¬ (HasFrame x.scanner)
 settled_at c i x [] settled at = absurd at
 settled_at c zero x (l ∷ ls) settled at = subst (λ (z : Connection). ¬ (HasFrame z.scanner)) at.0 settled.0
 settled_at c (suc i) x (l ∷ ls) settled at = settled_at c i x ls settled.1 at.1
 
-pub settled_advance : {T E : Type 0} (r : Result T E) (cs : List Connection) (n : ℕ) (c : Connection) → OnOk r (¬ (HasReady c.scanner)) → OnOk r (IsSettled cs → IsSettled (set_at cs n c))
+pub settled_advance : {T E : Type 0} (r : Result T E) (cs : List Connection) (n : ℕ) (c : Connection)
+    → OnOk r (¬ (HasReady c.scanner)) → OnOk r (IsSettled cs → IsSettled (set_at cs n c))
 settled_advance (Ok x) cs n c quiet = λ h. settled_set cs n c h (λ f. quiet (inl f))
 settled_advance (Err e) cs n c quiet = tt
 
-pub settled_piece : (r : EventEnd) (cs : List Connection) (n : ℕ) (c : Connection) → IfDone r (¬ (HasReady c.scanner)) → IfDone r (IsSettled cs → IsSettled (set_at cs n c))
+pub settled_piece : (r : EventEnd) (cs : List Connection) (n : ℕ) (c : Connection) → IfDone r (¬ (HasReady c.scanner))
+    → IfDone r (IsSettled cs → IsSettled (set_at cs n c))
 settled_piece end_Done cs n c quiet = λ h. settled_set cs n c h (λ f. quiet (inl f))
 settled_piece (end_Stopped k fault) cs n c quiet = tt
 
@@ -85,24 +97,36 @@ one_each (s ∷ ss) (f ∷ fs) (g ∷ gs) a b =
 -- a history has one list of frames
 pub one_history : (h : History) (fs gs : List (List ℕ)) → HasFrames h fs → HasFrames h gs → fs ≡ gs
 one_history h fs gs a b =
-    a.all ∙ ap (λ (z : List (List (List ℕ))). all_of z ++ (all_of a.ended_frames ++ h.datagrams)) (one_each h.streams a.open_frames b.open_frames a.open_are b.open_are)
-    ∙ ap (λ (z : List (List (List ℕ))). all_of b.open_frames ++ (all_of z ++ h.datagrams)) (one_each h.ended a.ended_frames b.ended_frames a.ended_are b.ended_are) ∙ sym b.all
+    a.all ∙ ap (λ (z : List (List (List ℕ))). all_of z ++ (all_of a.ended_frames ++ h.datagrams))
+    (one_each h.streams a.open_frames b.open_frames a.open_are b.open_are)
+    ∙ ap (λ (z : List (List (List ℕ))). all_of b.open_frames ++ (all_of z ++ h.datagrams))
+    (one_each h.ended a.ended_frames b.ended_frames a.ended_are b.ended_are) ∙ sym b.all
 
-pub holds_received : (clock : Clock) (cs : List Connection) (kept first : List Entry) (es : List AcceptedEvent) → Stands clock cs kept first es → IsSettled cs → (x : Entry) → Has kept x ↔ (Has first x ⊎ IsReceived clock es x)
+pub holds_received : (clock : Clock) (cs : List Connection) (kept first : List Entry) (es : List AcceptedEvent)
+    → Stands clock cs kept first es → IsSettled cs → (x : Entry) → Has kept x ↔ (Has first x ⊎ IsReceived clock es x)
 holds_received clock cs kept first es was settled x =
     let h = history_of es in
     let sa = was.stands_at in
     let fs = all_of sa.handled ++ (all_of sa.ended_frames ++ h.datagrams) in
-    let are : HasFrames h fs = record { open_frames = sa.handled; ended_frames = sa.ended_frames; open_are = all_settled cs h.streams sa.handled sa.follow settled; ended_are = sa.ended_are; all = refl } in (
+    let are : HasFrames h fs = record {
+      open_frames = sa.handled;
+      ended_frames = sa.ended_frames;
+      open_are =
+          all_settled cs h.streams sa.handled sa.follow settled;
+      ended_are = sa.ended_are;
+      all = refl;
+    } in (
       λ k. elim ((sa.gains x).0 k) [ inl a ↦ inl a | inr b ↦ inr (fs, are, b) ],
       λ k. elim k [
         | inl a ↦ (sa.gains x).1 (inl a)
-        | inr (gs, others, b) ↦ (sa.gains x).1 (inr (subst (λ (z : List (List ℕ)). IsSpelled clock z x) (one_history h gs fs others are) b))
+        | inr (gs, others, b) ↦ (sa.gains x).1 (inr
+            (subst (λ (z : List (List ℕ)). IsSpelled clock z x) (one_history h gs fs others are) b))
       ],
     )
 
 -- over an empty store, just what was received
-pub holds_just : (clock : Clock) (cs : List Connection) (kept : List Entry) (es : List AcceptedEvent) → Stands clock cs kept [] es → IsSettled cs → (x : Entry) → Has kept x ↔ IsReceived clock es x
+pub holds_just : (clock : Clock) (cs : List Connection) (kept : List Entry) (es : List AcceptedEvent)
+    → Stands clock cs kept [] es → IsSettled cs → (x : Entry) → Has kept x ↔ IsReceived clock es x
 holds_just clock cs kept es was settled x =
     let h = holds_received clock cs kept [] es was settled x in (
       λ k. elim (h.0 k) [ inl a ↦ absurd a | inr b ↦ b ],
@@ -110,18 +134,25 @@ holds_just clock cs kept es was settled x =
     )
 
 -- two settled collectors that received the same hold the same entries
-pub same_entries : (clock : Clock) (most : ℕ) (cs ds : List Connection) (kept other : List Entry) (es fs : List AcceptedEvent) → IsArchive most kept → IsArchive most other
-    → Stands clock cs kept [] es → Stands clock ds other [] fs → IsSettled cs → IsSettled ds → ReceivedSame clock es fs → kept ≡ other
+pub same_entries : (clock : Clock) (most : ℕ) (cs ds : List Connection) (kept other : List Entry)
+    (es fs : List AcceptedEvent) → IsArchive most kept → IsArchive most other
+    → Stands clock cs kept [] es → Stands clock ds other [] fs → IsSettled cs → IsSettled ds → ReceivedSame clock es fs
+    → kept ≡ other
 same_entries clock most cs ds kept other es fs a b one two settled settled_too same =
     same_members kept other a.ascending b.ascending
-    (λ x k. (holds_just clock ds other fs two settled_too x).1 ((same x).0 ((holds_just clock cs kept es one settled x).0 k)))
-    (λ x k. (holds_just clock cs kept es one settled x).1 ((same x).1 ((holds_just clock ds other fs two settled_too x).0 k)))
+    (λ x k. (holds_just clock ds other fs two settled_too x).1
+    ((same x).0 ((holds_just clock cs kept es one settled x).0 k)))
+    (λ x k. (holds_just clock cs kept es one settled x).1
+    ((same x).1 ((holds_just clock ds other fs two settled_too x).0 k)))
 
 -- the entries of two settled collectors together are those of a third that received what they did
-pub union_entries : (clock : Clock) (most : ℕ) (cs ds bs : List Connection) (kept other all merged : List Entry) (es fs gs : List AcceptedEvent) → IsArchive most all → IsArchive most merged
-    → Stands clock cs kept [] es → Stands clock ds other [] fs → Stands clock bs all [] gs → IsSettled cs → IsSettled ds → IsSettled bs
+pub union_entries : (clock : Clock) (most : ℕ) (cs ds bs : List Connection) (kept other all merged : List Entry)
+    (es fs gs : List AcceptedEvent) → IsArchive most all → IsArchive most merged
+    → Stands clock cs kept [] es → Stands clock ds other [] fs → Stands clock bs all [] gs → IsSettled cs → IsSettled ds
+    → IsSettled bs
     → ReceivedBoth clock gs es fs → IsUnion merged kept other → merged ≡ all
-union_entries clock most cs ds bs kept other all merged es fs gs a b one two three settled settled_too settled_three received union =
+union_entries clock most cs ds bs kept other all merged es fs gs a b one two three settled settled_too settled_three
+    received union =
     same_members merged all b.ascending a.ascending
     (λ x k. (holds_just clock bs all gs three settled_three x).1 ((received x).1 (elim ((union x).0 k) [
       | inl p ↦ inl ((holds_just clock cs kept es one settled x).0 p)

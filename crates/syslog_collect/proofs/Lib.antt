@@ -7,7 +7,9 @@ pub mod Gains
 pub mod Places
 pub mod Steps
 pub mod Waiting
+pub mod Taking
 pub mod Headline
 pub mod Pieces
 pub mod EventRuns
 pub mod Logging
+pub mod Stopping

@@ -1,5 +1,6 @@
 -- One connection among the connections, and its opening among the openings.
-use Rattle.std.proofs.Common.{◌≡◌, ℕ, zero, suc, ◌+◌, ◌<◌, true, false, cond, List, [], ◌∷◌, ◌++◌, length, get_or, set as set_at, eqb, refl, sym, ◌∙◌, ap, subst, arith, inl, inr}
+use Rattle.std.proofs.Common.{◌≡◌, ℕ, zero, suc, ◌+◌, ◌<◌, true, false, cond, List, [], ◌∷◌, ◌++◌, length, get_or}
+use Rattle.std.proofs.Common.{set as set_at, eqb, refl, sym, ◌∙◌, ap, subst, arith, inl, inr}
 use Rattle.std.specs.Prelude.{Option, Some, None, IsSome}
 use Rattle.std.specs.List.{position_from, remove}
 use Rattle.archive_text.specs.Entries.{Entry}
@@ -10,7 +11,8 @@ use Rattle.syslog_collect.specs.Frames.{AreFramesOf, IsFramesOf, all_of}
 use Rattle.syslog_collect.specs.History.{Stream, with_piece, with_octets, stream_of, streams_of, without}
 use Rattle.syslog_collect.specs.Outcomes.{AreReported}
 use Rattle.syslog_collect.specs.Standing.{AreAt, IsAt}
-use Rattle.syslog_collect.proofs.Gains.{Joins, joins_after, joins_append, joins_before, spelled_after, spelled_before, spelled_either}
+use Rattle.syslog_collect.proofs.Gains.{Joins, joins_after, joins_append, joins_before, spelled_after, spelled_before}
+use Rattle.syslog_collect.proofs.Gains.{spelled_either}
 
 -- the first connection of the number is the i-th
 abbrev pub AtPlace : ℕ → List Connection → ℕ → Connection → Type 0
@@ -21,12 +23,15 @@ AtPlace c (l ∷ ls) (suc i) x = (eqb l.number c ≡ false) × AtPlace c ls i x
 abbrev pub place_from : ℕ → ℕ → List Connection → Option ℕ
 place_from c n ls = position_from (λ l. eqb l.number c) n ls
 
-pub found_at : (c n m : ℕ) (ls : List Connection) → place_from c n ls ≡ Some m → (i : ℕ) × (x : Connection) × (m ≡ n + i) × AtPlace c ls i x
+pub found_at : (c n m : ℕ) (ls : List Connection) → place_from c n ls ≡ Some m
+    → (i : ℕ) × (x : Connection) × (m ≡ n + i) × AtPlace c ls i x
 found_at c n m [] e = absurd (cc)
 found_at c n m (l ∷ ls) e =
-    elim (eqb l.number c) as (λ b. eqb l.number c ≡ b → cond b (Some n) (place_from c (n + 1) ls) ≡ Some m → (i : ℕ) × (x : Connection) × (m ≡ n + i) × AtPlace c (l ∷ ls) i x) [
+    elim (eqb l.number c) as (λ b. eqb l.number c ≡ b → cond b (Some n) (place_from c (n + 1) ls) ≡ Some m
+    → (i : ℕ) × (x : Connection) × (m ≡ n + i) × AtPlace c (l ∷ ls) i x) [
       | true ↦ λ is same. let eq : n ≡ m = cc in (0, l, omega arith, (refl, is))
-      | false ↦ λ is later. let there = found_at c (n + 1) m ls later in (suc there.0, there.1, omega (arith, there.2), (is, there.3))
+      | false ↦ λ is later. let there = found_at c (n + 1) m ls later in
+          (suc there.0, there.1, omega (arith, there.2), (is, there.3))
     ] refl e
 
 in_range : (c i : ℕ) (x : Connection) (ls : List Connection) → AtPlace c ls i x → i < length ls
@@ -44,7 +49,8 @@ pub within : (c n : ℕ) (ls : List Connection) → place_from c 0 ls ≡ Some n
 within c n ls is = let there = found_at c 0 n ls is in omega (arith, in_range c there.0 there.1 ls there.3, there.2)
 
 -- the connection at a place that was found
-pub found_here : (c n : ℕ) (x : Connection) (ls : List Connection) → place_from c 0 ls ≡ Some n → x ≡ get_or ls n x → AtPlace c ls n x
+pub found_here : (c n : ℕ) (x : Connection) (ls : List Connection) → place_from c 0 ls ≡ Some n → x ≡ get_or ls n x
+    → AtPlace c ls n x
 found_here c n x ls is item =
     let there = found_at c 0 n ls is in
     let place : there.0 ≡ n = omega (arith, there.2) in
@@ -52,10 +58,12 @@ found_here c n x ls is item =
     subst (λ (z : Connection). AtPlace c ls n z) (sym (item ∙ at_index c n there.1 x ls at)) at
 
 -- no connection of a number, no opening of it
-pub no_stream : (c n : ℕ) (ls : List Connection) (ss : List Stream) (ds : List (List (List ℕ))) → AreAt ls ss ds → place_from c n ls ≡ None → stream_of c ss ≡ None
+pub no_stream : (c n : ℕ) (ls : List Connection) (ss : List Stream) (ds : List (List (List ℕ))) → AreAt ls ss ds
+    → place_from c n ls ≡ None → stream_of c ss ≡ None
 no_stream c n [] [] [] f e = refl
 no_stream c n (l ∷ ls) (s ∷ ss) (d ∷ ds) f e =
-    elim (eqb l.number c) as (λ b. eqb s.number c ≡ b → cond b (Some n) (place_from c (n + 1) ls) ≡ None → cond (eqb s.number c) (Some s) (stream_of c ss) ≡ None) [
+    elim (eqb l.number c) as (λ b. eqb s.number c ≡ b → cond b (Some n) (place_from c (n + 1) ls) ≡ None
+    → cond (eqb s.number c) (Some s) (stream_of c ss) ≡ None) [
       | true ↦ λ same is. absurd (cc)
       | false ↦ λ same is. rw same (no_stream c (n + 1) ls ss ds f.1 is)
     ] (ap (λ (m : ℕ). eqb m c) (sym f.0.number)) e
@@ -67,21 +75,25 @@ no_stream c n (l ∷ ls) [] (d ∷ ds) f e = absurd f
 no_stream c n (l ∷ ls) (s ∷ ss) [] f e = absurd f
 
 -- what a connection at an opening does with octets
-pub record AdvancesOn (clock : Clock) (old new : Connection) (kept now : List Entry) (octets : List ℕ) (outcomes : List Outcome) (s : Stream) (handled : List (List ℕ)) : Type 0 where
+pub record AdvancesOn (clock : Clock) (old new : Connection) (kept now : List Entry) (octets : List ℕ)
+    (outcomes : List Outcome) (s : Stream) (handled : List (List ℕ)) : Type 0 where
   pub fresh : List (List ℕ)
   pub now_at : IsAt new (with_octets s octets) (handled ++ fresh)
   pub reported : AreReported clock kept now fresh outcomes
 
 -- what one connection's octets do to all
-pub record Advanced (clock : Clock) (c : ℕ) (ls : List Connection) (ss : List Stream) (ds : List (List (List ℕ))) (kept now : List Entry) (o : List ℕ) (outcomes : List Outcome) : Type 0 where
+pub record Advanced (clock : Clock) (c : ℕ) (ls : List Connection) (ss : List Stream) (ds : List (List (List ℕ)))
+    (kept now : List Entry) (o : List ℕ) (outcomes : List Outcome) : Type 0 where
   pub now_handled : List (List (List ℕ))
   pub fresh : List (List ℕ)
   pub follow : AreAt ls (with_piece c o ss) now_handled
   pub joins : Joins clock (all_of now_handled) (all_of ds) fresh
   pub reported : AreReported clock kept now fresh outcomes
 
-pub advance_at : (clock : Clock) (c i : ℕ) (x y : Connection) (ls : List Connection) (ss : List Stream) (ds : List (List (List ℕ))) (kept now : List Entry) (o : List ℕ) (outcomes : List Outcome)
-    → AreAt ls ss ds → AtPlace c ls i x → ((s : Stream) (d : List (List ℕ)) → IsAt x s d → AdvancesOn clock x y kept now o outcomes s d)
+pub advance_at : (clock : Clock) (c i : ℕ) (x y : Connection) (ls : List Connection) (ss : List Stream)
+    (ds : List (List (List ℕ))) (kept now : List Entry) (o : List ℕ) (outcomes : List Outcome)
+    → AreAt ls ss ds → AtPlace c ls i x → ((s : Stream) (d : List (List ℕ)) → IsAt x s d
+    → AdvancesOn clock x y kept now o outcomes s d)
     → Advanced clock c (set_at ls i y) ss ds kept now o outcomes
 advance_at clock c zero x y (l ∷ ls) (s ∷ ss) (d ∷ ds) kept now o outcomes f at moves =
     let m = moves s d (subst (λ (z : Connection). IsAt z s d) at.0 f.0) in
@@ -112,7 +124,8 @@ advance_at clock c i x y (l ∷ ls) [] (d ∷ ds) kept now o outcomes f at moves
 advance_at clock c i x y (l ∷ ls) (s ∷ ss) [] kept now o outcomes f at moves = absurd f
 
 -- a new connection after all, and its opening after all
-pub follow_push : (l : Connection) (s : Stream) (d : List (List ℕ)) (ls : List Connection) (ss : List Stream) (ds : List (List (List ℕ)))
+pub follow_push : (l : Connection) (s : Stream) (d : List (List ℕ)) (ls : List Connection) (ss : List Stream)
+    (ds : List (List (List ℕ)))
     → AreAt ls ss ds → IsAt l s d → AreAt (ls ++ l ∷ []) (ss ++ s ∷ []) (ds ++ d ∷ [])
 follow_push l s d [] [] [] f g = (g, tt)
 follow_push l s d (m ∷ ls) (z ∷ ss) (e ∷ ds) f g = (f.0, follow_push l s d ls ss ds f.1 g)
@@ -123,7 +136,8 @@ follow_push l s d (m ∷ ls) [] [] f g = absurd f
 follow_push l s d (m ∷ ls) [] (e ∷ ds) f g = absurd f
 follow_push l s d (m ∷ ls) (z ∷ ss) [] f g = absurd f
 
-pub same_count : (ls : List Connection) (ss : List Stream) (ds : List (List (List ℕ))) → AreAt ls ss ds → length ls ≡ length ss
+pub same_count : (ls : List Connection) (ss : List Stream) (ds : List (List (List ℕ))) → AreAt ls ss ds
+    → length ls ≡ length ss
 same_count [] [] [] f = refl
 same_count (m ∷ ls) (z ∷ ss) (e ∷ ds) f = ap suc (same_count ls ss ds f.1)
 same_count [] [] (e ∷ ds) f = absurd f
@@ -140,7 +154,8 @@ pub record HasOpening (c : ℕ) (x : Connection) (ss : List Stream) : Type 0 whe
   pub at : IsAt x opening handled
   pub is : stream_of c ss ≡ Some opening
 
-pub opening_at : (c i : ℕ) (x : Connection) (ls : List Connection) (ss : List Stream) (ds : List (List (List ℕ))) → AreAt ls ss ds → AtPlace c ls i x → HasOpening c x ss
+pub opening_at : (c i : ℕ) (x : Connection) (ls : List Connection) (ss : List Stream) (ds : List (List (List ℕ)))
+    → AreAt ls ss ds → AtPlace c ls i x → HasOpening c x ss
 opening_at c zero x (l ∷ ls) (s ∷ ss) (d ∷ ds) f at =
     let here : eqb s.number c ≡ true = ap (λ (n : ℕ). eqb n c) (sym f.0.number) ∙ at.1 in
     record { opening = s; handled = d; at = subst (λ (z : Connection). IsAt z s d) at.0 f.0; is = rw here refl }
@@ -166,15 +181,17 @@ abbrev pub IsHandled : Connection → Type 0
 IsHandled x = (s : Stream) (d : List (List ℕ)) → IsAt x s d → IsFramesOf s d
 
 -- one connection is taken out
-pub record Closed (clock : Clock) (c : ℕ) (ls : List Connection) (ss : List Stream) (ds : List (List (List ℕ))) : Type 0 where
-  pub was_open : IsSome (stream_of c ss)
-  pub still : List (List (List ℕ))
-  pub gone : List (List ℕ)
-  pub follow : AreAt ls (without c ss) still
-  pub gone_are : AreFramesOf (streams_of c ss) (gone ∷ [])
-  pub joins : Joins clock (all_of ds) (all_of still) gone
+pub record Closed (clock : Clock) (c : ℕ) (ls : List Connection) (ss : List Stream) (ds : List (List (List ℕ))) : Type 0
+  where
+    pub was_open : IsSome (stream_of c ss)
+    pub still : List (List (List ℕ))
+    pub gone : List (List ℕ)
+    pub follow : AreAt ls (without c ss) still
+    pub gone_are : AreFramesOf (streams_of c ss) (gone ∷ [])
+    pub joins : Joins clock (all_of ds) (all_of still) gone
 
-pub close_at : (clock : Clock) (c i : ℕ) (x : Connection) (ls : List Connection) (ss : List Stream) (ds : List (List (List ℕ))) → AreAt ls ss ds → AtPlace c ls i x → IsHandled x → Closed clock c (remove ls i) ss ds
+pub close_at : (clock : Clock) (c i : ℕ) (x : Connection) (ls : List Connection) (ss : List Stream)
+    (ds : List (List (List ℕ))) → AreAt ls ss ds → AtPlace c ls i x → IsHandled x → Closed clock c (remove ls i) ss ds
 close_at clock c zero x (l ∷ ls) (s ∷ ss) (d ∷ ds) f at none =
     let here : eqb s.number c ≡ true = ap (λ (n : ℕ). eqb n c) (sym f.0.number) ∙ at.1 in
     record {

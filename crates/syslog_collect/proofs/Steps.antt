@@ -1,5 +1,6 @@
 -- A step of the collector, over whole lists of events.
-use Rattle.std.proofs.Common.{◌≡◌, ℕ, ◌<◌, List, [], ◌∷◌, ◌++◌, length, set as set_at, get_or, inl, inr, append_assoc, refl, sym, ◌∙◌, ap, subst, arith}
+use Rattle.std.proofs.Common.{◌≡◌, ℕ, ◌<◌, List, [], ◌∷◌, ◌++◌, length, set as set_at, get_or, inl, inr, append_assoc}
+use Rattle.std.proofs.Common.{refl, sym, ◌∙◌, ap, subst, arith}
 use Rattle.std.specs.Prelude.{◌+◌, Option, Some, None, Result, Ok, Err, IfOk, OnErr, IsSome, IsSomeAnd}
 use Rattle.std.specs.List.{remove}
 use Rattle.std.proofs.lemmas.List.{append-nil}
@@ -15,28 +16,39 @@ use Rattle.syslog_legacy.specs.FrameReadings.{Clock}
 use Rattle.syslog_collect.specs.declared.connection.Connection.{Connection}
 use Rattle.syslog_collect.specs.declared.fault.Advance.{Advance}
 use Rattle.syslog_collect.specs.declared.fault.CollectFault.{CollectFault}
-use Rattle.syslog_collect.specs.declared.fault.CollectFault.TheVariants.{AlreadyOpen, TooManyOpen, NotOpen, ConnFailed, StreamTooLong, Unreleased, Unterminated, Memory}
+use Rattle.syslog_collect.specs.declared.fault.CollectFault.TheVariants.{AlreadyOpen, TooManyOpen, NotOpen, ConnFailed}
+use Rattle.syslog_collect.specs.declared.fault.CollectFault.TheVariants.{StreamTooLong, Unreleased, Unterminated}
+use Rattle.syslog_collect.specs.declared.fault.CollectFault.TheVariants.{Memory}
 use Rattle.syslog_collect.specs.declared.limits.TheConstants.{CONNECTIONS_MAX}
 use Rattle.syslog_collect.specs.declared.outcome.Outcome.{Outcome}
-use Rattle.syslog_collect.specs.Answers.{EndsWhole, IfRefused, IsAnswerAt, IsCause, IsUnfinished, Advances, AdvancesBy, accepted_datagram, accepted_piece}
+use Rattle.syslog_collect.specs.Answers.{EndsWhole, IfRefused, IsAnswerAt, IsCause, IsUnfinished, Advances, AdvancesBy}
+use Rattle.syslog_collect.specs.Answers.{accepted_datagram, accepted_piece}
 use Rattle.syslog_collect.specs.Frames.{AreFramesOf, Gains, all_of}
-use Rattle.syslog_collect.specs.History.{Datagram, HoldsBadCount, Ended, History, MayAccept, MayAcceptAll, Opened, Piece, Stream, AcceptedEvent, history_after, history_of, accept, initial, stream_of}
+use Rattle.syslog_collect.specs.History.{Datagram, HoldsBadCount, Ended, History, MayAccept, MayAcceptAll, Opened}
+use Rattle.syslog_collect.specs.History.{Piece, Stream, AcceptedEvent, history_after, history_of, accept, initial}
+use Rattle.syslog_collect.specs.History.{stream_of}
 use Rattle.syslog_collect.specs.Outcomes.{IsOutcome}
 use Rattle.syslog_collect.specs.Standing.{IsAt, Stands, StandsAt}
-use Rattle.syslog_collect.proofs.Gains.{Joins, SpellSame, all_of-append, gains_also, gains_frame, gains_more, gains_nothing, gains_reported, joins_append, joins_before, spelled_after, spelled_before, spelled_either}
+use Rattle.syslog_collect.proofs.Gains.{Joins, SpellSame, all_of-append, gains_also, gains_frame, gains_more}
+use Rattle.syslog_collect.proofs.Gains.{gains_nothing, gains_reported, joins_append, joins_before, spelled_after}
+use Rattle.syslog_collect.proofs.Gains.{spelled_before, spelled_either}
 use Rattle.syslog_collect.proofs.Moving.{good_open, open_unless_failed}
-use Rattle.syslog_collect.proofs.Places.{AtPlace, IsHandled, AdvancesOn, advance_at, close_at, follow_push, found_at, found_here, no_stream, opening_at, place_from, same_count, set_same}
+use Rattle.syslog_collect.proofs.Places.{AtPlace, IsHandled, AdvancesOn, advance_at, close_at, follow_push, found_at}
+use Rattle.syslog_collect.proofs.Places.{found_here, no_stream, opening_at, place_from, same_count, set_same}
 
-pub history_after-push : (h : History) (es : List AcceptedEvent) (e : AcceptedEvent) → history_after h (es ++ e ∷ []) ≡ accept (history_after h es) e
+pub history_after-push : (h : History) (es : List AcceptedEvent) (e : AcceptedEvent)
+    → history_after h (es ++ e ∷ []) ≡ accept (history_after h es) e
 history_after-push h [] e = refl
 history_after-push h (x ∷ es) e = history_after-push (accept h x) es e
 
-pub may_push : (h : History) (es : List AcceptedEvent) (e : AcceptedEvent) → MayAcceptAll h es → MayAccept (history_after h es) e → MayAcceptAll h (es ++ e ∷ [])
+pub may_push : (h : History) (es : List AcceptedEvent) (e : AcceptedEvent) → MayAcceptAll h es
+    → MayAccept (history_after h es) e → MayAcceptAll h (es ++ e ∷ [])
 may_push h [] e all may = (may, tt)
 may_push h (x ∷ es) e all may = (all.0, may_push (accept h x) es e all.1 may)
 
 -- one event more
-pub step : (clock : Clock) (ls ms : List Connection) (kept now first : List Entry) (es : List AcceptedEvent) (e : AcceptedEvent) → Stands clock ls kept first es → MayAccept (history_of es) e
+pub step : (clock : Clock) (ls ms : List Connection) (kept now first : List Entry) (es : List AcceptedEvent)
+    (e : AcceptedEvent) → Stands clock ls kept first es → MayAccept (history_of es) e
     → StandsAt clock ms now first (accept (history_of es) e) → Stands clock ms now first (es ++ e ∷ [])
 step clock ls ms kept now first es e was may next = record {
   acceptable = may_push initial es e was.acceptable may;
@@ -44,7 +56,8 @@ step clock ls ms kept now first es e was may next = record {
 }
 
 -- no event more
-pub still : (clock : Clock) (ls : List Connection) (kept now first : List Entry) (es : List AcceptedEvent) → now ≡ kept → Stands clock ls kept first es → Stands clock ls now first (es ++ [])
+pub still : (clock : Clock) (ls : List Connection) (kept now first : List Entry) (es : List AcceptedEvent) → now ≡ kept
+    → Stands clock ls kept first es → Stands clock ls now first (es ++ [])
 still clock ls kept now first es same was = rw (append-nil es, same) was
 
 -- before any event
@@ -54,7 +67,8 @@ stands_first clock kept = record {
   stands_at = record { handled = []; ended_frames = []; follow = tt; ended_are = tt; gains = gains_nothing clock kept };
 }
 
-pub datagram_step : (clock : Clock) (ls : List Connection) (kept now first : List Entry) (es : List AcceptedEvent) (octets : List ℕ) (o : Outcome) → IsOutcome clock kept now octets o
+pub datagram_step : (clock : Clock) (ls : List Connection) (kept now first : List Entry) (es : List AcceptedEvent)
+    (octets : List ℕ) (o : Outcome) → IsOutcome clock kept now octets o
     → Stands clock ls kept first es → Stands clock ls now first (es ++ Datagram octets ∷ [])
 datagram_step clock ls kept now first es octets o out was =
     let h = history_of es in
@@ -66,13 +80,17 @@ datagram_step clock ls kept now first es octets o out was =
       ended_frames = at.ended_frames;
       follow = at.follow;
       ended_are = at.ended_are;
-      gains = gains_more clock first kept now (fs ++ (es' ++ h.datagrams)) (fs ++ (es' ++ (h.datagrams ++ octets ∷ []))) (octets ∷ []) at.gains (gains_frame clock kept now octets o out)
-          (subst (λ (z : List (List ℕ)). Joins clock z (fs ++ (es' ++ h.datagrams)) (octets ∷ [])) (append_assoc fs (es' ++ h.datagrams) (octets ∷ []) ∙ ap (λ (z : List (List ℕ)). fs ++ z) (append_assoc es' h.datagrams (octets ∷ [])))
+      gains = gains_more clock first kept now (fs ++ (es' ++ h.datagrams)) (fs ++ (es' ++ (h.datagrams ++ octets ∷ [])))
+          (octets ∷ []) at.gains (gains_frame clock kept now octets o out)
+          (subst (λ (z : List (List ℕ)). Joins clock z (fs ++ (es' ++ h.datagrams)) (octets ∷ []))
+          (append_assoc fs (es' ++ h.datagrams) (octets ∷ [])
+          ∙ ap (λ (z : List (List ℕ)). fs ++ z) (append_assoc es' h.datagrams (octets ∷ [])))
           (joins_append clock (fs ++ (es' ++ h.datagrams)) (octets ∷ [])));
     })
 
 -- one connection's octets
-pub moved : (clock : Clock) (c i : ℕ) (x y : Connection) (ls : List Connection) (kept now first : List Entry) (h : History) (o : List ℕ) (outcomes : List Outcome)
+pub moved : (clock : Clock) (c i : ℕ) (x y : Connection) (ls : List Connection) (kept now first : List Entry)
+    (h : History) (o : List ℕ) (outcomes : List Outcome)
     → AtPlace c ls i x → ((s : Stream) (d : List (List ℕ)) → IsAt x s d → AdvancesOn clock x y kept now o outcomes s d)
     → StandsAt clock ls kept first h → StandsAt clock (set_at ls i y) now first (accept h (Piece c o))
 moved clock c i x y ls kept now first h o outcomes at moves sa =
@@ -83,23 +101,29 @@ moved clock c i x y ls kept now first h o outcomes at moves sa =
       ended_frames = sa.ended_frames;
       follow = a.follow;
       ended_are = sa.ended_are;
-      gains = gains_more clock first kept now (all_of sa.handled ++ past) (all_of a.now_handled ++ past) a.fresh sa.gains (gains_reported clock kept now a.fresh outcomes a.reported)
+      gains = gains_more clock first kept now (all_of sa.handled ++ past) (all_of a.now_handled ++ past) a.fresh
+          sa.gains (gains_reported clock kept now a.fresh outcomes a.reported)
           (joins_before clock (all_of a.now_handled) (all_of sa.handled) a.fresh past a.joins);
     }
 
-pub advance_step : (clock : Clock) (c i : ℕ) (x y : Connection) (ls : List Connection) (kept now first : List Entry) (es : List AcceptedEvent) (o : List ℕ) (outcomes : List Outcome)
+pub advance_step : (clock : Clock) (c i : ℕ) (x y : Connection) (ls : List Connection) (kept now first : List Entry)
+    (es : List AcceptedEvent) (o : List ℕ) (outcomes : List Outcome)
     → AtPlace c ls i x → ((s : Stream) (d : List (List ℕ)) → IsAt x s d → Advances clock x y kept now o outcomes s d)
     → Stands clock ls kept first es → Stands clock (set_at ls i y) now first (es ++ Piece c o ∷ [])
 advance_step clock c i x y ls kept now first es o outcomes at moves was =
     let h = history_of es in
     let there = opening_at c i x ls h.streams was.stands_at.handled was.stands_at.follow at in
-    step clock ls (set_at ls i y) kept now first es (Piece c o) was (rw there.is (moves there.opening there.handled there.at).may)
+    step clock ls (set_at ls i y) kept now first es (Piece c o) was
+    (rw there.is (moves there.opening there.handled there.at).may)
     (moved clock c i x y ls kept now first h o outcomes at
-    (λ s d a. let m = moves s d a in record { fresh = m.fresh; now_at = m.now_at; reported = m.reported }) was.stands_at)
+    (λ s d a. let m = moves s d a in record { fresh = m.fresh; now_at = m.now_at; reported = m.reported })
+    was.stands_at)
 
 -- the same, by the place that was found and by what was accepted
-pub advance_found : (clock : Clock) (c n : ℕ) (x y : Connection) (ls : List Connection) (kept now first : List Entry) (es : List AcceptedEvent) (accepted : Option (List ℕ)) (outcomes : List Outcome)
-    → place_from c 0 ls ≡ Some n → x ≡ get_or ls n x → ((s : Stream) (d : List (List ℕ)) → IsAt x s d → AdvancesBy clock accepted x y kept now outcomes s d)
+pub advance_found : (clock : Clock) (c n : ℕ) (x y : Connection) (ls : List Connection) (kept now first : List Entry)
+    (es : List AcceptedEvent) (accepted : Option (List ℕ)) (outcomes : List Outcome)
+    → place_from c 0 ls ≡ Some n → x ≡ get_or ls n x
+    → ((s : Stream) (d : List (List ℕ)) → IsAt x s d → AdvancesBy clock accepted x y kept now outcomes s d)
     → Stands clock ls kept first es → Stands clock (set_at ls n y) now first (es ++ accepted_piece c accepted)
 advance_found clock c n x y ls kept now first es None outcomes is item moves was =
     let at = found_here c n x ls is item in
@@ -111,14 +135,21 @@ advance_found clock c n x y ls kept now first es (Some o) outcomes is item moves
     advance_step clock c n x y ls kept now first es o outcomes (found_here c n x ls is item) moves was
 
 -- where a connection is what it was, so are all
-pub unchanged_found : {T A : Type 0} (r : Result A CollectFault) (c n : ℕ) (x y : Connection) (ls : List Connection) (was now : T)
-    → place_from c 0 ls ≡ Some n → x ≡ get_or ls n x → IfRefused r ((y ≡ x) × (now ≡ was)) → IfRefused r ((set_at ls n y ≡ ls) × (now ≡ was))
+pub unchanged_found : {T A : Type 0} (r : Result A CollectFault) (c n : ℕ) (x y : Connection) (ls : List Connection)
+    (was now : T)
+    → place_from c 0 ls ≡ Some n → x ≡ get_or ls n x → IfRefused r ((y ≡ x) × (now ≡ was))
+    → IfRefused r ((set_at ls n y ≡ ls) × (now ≡ was))
 unchanged_found {T = T} {A = A} r c n x y ls was now is item h = each r h
   where
     all : (y ≡ x) × (now ≡ was) → (set_at ls n y ≡ ls) × (now ≡ was)
-    all (same, kept) = (ap (λ (z : Connection). set_at ls n z) same ∙ set_same c n x ls (found_here c n x ls is item), kept)
+    all (same, kept) = (
+      ap (λ (z : Connection). set_at ls n z) same
+          ∙ set_same c n x ls (found_here c n x ls is item),
+      kept,
+    )
 
-    each : (q : Result A CollectFault) → IfRefused q ((y ≡ x) × (now ≡ was)) → IfRefused q ((set_at ls n y ≡ ls) × (now ≡ was))
+    each : (q : Result A CollectFault) → IfRefused q ((y ≡ x) × (now ≡ was))
+        → IfRefused q ((set_at ls n y ≡ ls) × (now ≡ was))
     each (Ok a) k = tt
     each (Err (Memory m)) k = tt
     each (Err (Unterminated start)) k = tt
@@ -130,7 +161,8 @@ unchanged_found {T = T} {A = A} r c n x y ls was now is item h = each r h
     each (Err Unreleased) k = all k
 
 -- why an advance is refused
-answer_at : (clock : Clock) (c : ℕ) (piece : List ℕ) (r : Result Advance CollectFault) (h : History) (s : Stream) → stream_of c h.streams ≡ Some s → IsCause clock piece r s → IsAnswerAt clock c piece r h
+answer_at : (clock : Clock) (c : ℕ) (piece : List ℕ) (r : Result Advance CollectFault) (h : History) (s : Stream)
+    → stream_of c h.streams ≡ Some s → IsCause clock piece r s → IsAnswerAt clock c piece r h
 answer_at clock c piece (Ok a) h s is cause = rw is cause
 answer_at clock c piece (Err (Memory n)) h s is cause = rw is cause
 answer_at clock c piece (Err ConnFailed) h s is cause = rw is cause
@@ -141,71 +173,99 @@ answer_at clock c piece (Err TooManyOpen) h s is cause = absurd cause
 answer_at clock c piece (Err Unreleased) h s is cause = absurd cause
 answer_at clock c piece (Err (Unterminated start)) h s is cause = absurd cause
 
-pub cause_found : (clock : Clock) (c n : ℕ) (x : Connection) (ls : List Connection) (kept first : List Entry) (es : List AcceptedEvent) (piece : List ℕ) (r : Result Advance CollectFault)
-    → place_from c 0 ls ≡ Some n → x ≡ get_or ls n x → ((s : Stream) (d : List (List ℕ)) → IsAt x s d → IsCause clock piece r s) → Stands clock ls kept first es → IsAnswerAt clock c piece r (history_of es)
+pub cause_found : (clock : Clock) (c n : ℕ) (x : Connection) (ls : List Connection) (kept first : List Entry)
+    (es : List AcceptedEvent) (piece : List ℕ) (r : Result Advance CollectFault)
+    → place_from c 0 ls ≡ Some n → x ≡ get_or ls n x
+    → ((s : Stream) (d : List (List ℕ)) → IsAt x s d → IsCause clock piece r s) → Stands clock ls kept first es
+    → IsAnswerAt clock c piece r (history_of es)
 cause_found clock c n x ls kept first es piece r is item cause was =
-    let there = opening_at c n x ls (history_of es).streams was.stands_at.handled was.stands_at.follow (found_here c n x ls is item) in
+    let there = opening_at c n x ls (history_of es).streams was.stands_at.handled was.stands_at.follow
+    (found_here c n x ls is item) in
     answer_at clock c piece r (history_of es) there.opening there.is (cause there.opening there.handled there.at)
 
-pub not_open : (clock : Clock) (c : ℕ) (ls : List Connection) (kept first : List Entry) (es : List AcceptedEvent) → place_from c 0 ls ≡ None → Stands clock ls kept first es → stream_of c (history_of es).streams ≡ None
-not_open clock c ls kept first es absent was = no_stream c 0 ls (history_of es).streams was.stands_at.handled was.stands_at.follow absent
+pub not_open : (clock : Clock) (c : ℕ) (ls : List Connection) (kept first : List Entry) (es : List AcceptedEvent)
+    → place_from c 0 ls ≡ None → Stands clock ls kept first es → stream_of c (history_of es).streams ≡ None
+not_open clock c ls kept first es absent was =
+    no_stream c 0 ls (history_of es).streams was.stands_at.handled was.stands_at.follow absent
 
 -- a connection is opened
-pub open_step : (clock : Clock) (c : ℕ) (k : Framing) (scanner : Scan) (ls : List Connection) (kept first : List Entry) (es : List AcceptedEvent)
+pub open_step : (clock : Clock) (c : ℕ) (k : Framing) (scanner : Scan) (ls : List Connection) (kept first : List Entry)
+    (es : List AcceptedEvent)
     → place_from c 0 ls ≡ None → length ls < CONNECTIONS_MAX → Reads FRAME_MAX scanner k 0 [] [] [] → IsReading scanner
-    → Stands clock ls kept first es → Stands clock (ls ++ record { number = c; scanner = scanner } ∷ []) kept first (es ++ Opened c k ∷ [])
+    → Stands clock ls kept first es → Stands clock (ls ++ record { number = c; scanner = scanner } ∷ []) kept first
+    (es ++ Opened c k ∷ [])
 open_step clock c k scanner ls kept first es absent room reads reading was =
     let h = history_of es in
     let sa = was.stands_at in
     let few : length h.streams < CONNECTIONS_MAX = omega (arith, same_count ls h.streams sa.handled sa.follow, room) in
     let s : Stream = record { number = c; framing = k; octets = [] } in
     let past = all_of sa.ended_frames ++ h.datagrams in
-    let same : all_of (sa.handled ++ [] ∷ []) ≡ all_of sa.handled = all_of-append sa.handled ([] ∷ []) ∙ append-nil (all_of sa.handled) in
+    let same : all_of (sa.handled ++ [] ∷ []) ≡ all_of sa.handled =
+    all_of-append sa.handled ([] ∷ []) ∙ append-nil (all_of sa.handled) in
     step clock ls _ kept kept first es (Opened c k) was (not_open clock c ls kept first es absent was, few) (record {
       handled = sa.handled ++ [] ∷ [];
       ended_frames = sa.ended_frames;
-      follow = follow_push _ s [] ls h.streams sa.handled sa.follow (record { number = refl; scanner = inl (record { rest = []; reads = reads; good = λ bad. reading.0 (inr bad) }) });
+      follow = follow_push _ s [] ls h.streams sa.handled sa.follow
+          (record {
+            number = refl;
+            scanner = inl (record {
+              rest = [];
+              reads = reads;
+              good =
+                  λ bad. reading.0 (inr bad);
+            });
+          });
       ended_are = sa.ended_are;
       gains = subst (λ (z : List (List ℕ)). Gains clock first kept (z ++ past)) (sym same) sa.gains;
     })
 
 -- ---- the end of a connection
 
-are_frames_push : (ss ts : List Stream) (fs : List (List (List ℕ))) (gone : List (List ℕ)) → AreFramesOf ss fs → AreFramesOf ts (gone ∷ []) → AreFramesOf (ss ++ ts) (fs ++ gone ∷ [])
+are_frames_push : (ss ts : List Stream) (fs : List (List (List ℕ))) (gone : List (List ℕ)) → AreFramesOf ss fs
+    → AreFramesOf ts (gone ∷ []) → AreFramesOf (ss ++ ts) (fs ++ gone ∷ [])
 are_frames_push [] ts [] gone f g = g
 are_frames_push [] ts (x ∷ fs) gone f g = absurd f
 are_frames_push (s ∷ ss) ts [] gone f g = absurd f
 are_frames_push (s ∷ ss) ts (x ∷ fs) gone f g = (f.0, are_frames_push ss ts fs gone f.1 g)
 
 -- frames of an opening that ended are still among the frames
-spell_moved : (clock : Clock) (ds still ended : List (List (List ℕ))) (gone datagrams : List (List ℕ)) → Joins clock (all_of ds) (all_of still) gone
-    → SpellSame clock (all_of ds ++ (all_of ended ++ datagrams)) (all_of still ++ (all_of (ended ++ gone ∷ []) ++ datagrams))
+spell_moved : (clock : Clock) (ds still ended : List (List (List ℕ))) (gone datagrams : List (List ℕ))
+    → Joins clock (all_of ds) (all_of still) gone
+    → SpellSame clock (all_of ds ++ (all_of ended ++ datagrams))
+    (all_of still ++ (all_of (ended ++ gone ∷ []) ++ datagrams))
 spell_moved clock ds still ended gone datagrams j x =
-    let both : all_of (ended ++ gone ∷ []) ≡ all_of ended ++ gone = all_of-append ended (gone ∷ []) ∙ ap (λ (z : List (List ℕ)). all_of ended ++ z) (append-nil gone) in
+    let both : all_of (ended ++ gone ∷ []) ≡ all_of ended ++ gone =
+    all_of-append ended (gone ∷ []) ∙ ap (λ (z : List (List ℕ)). all_of ended ++ z) (append-nil gone) in
     rw both (
       λ h. elim (spelled_either clock (all_of ds) (all_of ended ++ datagrams) x h) [
         | inl d ↦ elim ((j x).0 d) [
           | inl s ↦ spelled_before clock (all_of still) ((all_of ended ++ gone) ++ datagrams) x s
-          | inr g ↦ spelled_after clock (all_of still) ((all_of ended ++ gone) ++ datagrams) x (spelled_before clock (all_of ended ++ gone) datagrams x (spelled_after clock (all_of ended) gone x g))
+          | inr g ↦ spelled_after clock (all_of still) ((all_of ended ++ gone) ++ datagrams) x
+              (spelled_before clock (all_of ended ++ gone) datagrams x (spelled_after clock (all_of ended) gone x g))
         ]
-        | inr p ↦ spelled_after clock (all_of still) ((all_of ended ++ gone) ++ datagrams) x (elim (spelled_either clock (all_of ended) datagrams x p) [
-          | inl e ↦ spelled_before clock (all_of ended ++ gone) datagrams x (spelled_before clock (all_of ended) gone x e)
-          | inr d ↦ spelled_after clock (all_of ended ++ gone) datagrams x d
-        ])
+        | inr p ↦ spelled_after clock (all_of still) ((all_of ended ++ gone) ++ datagrams) x
+            (elim (spelled_either clock (all_of ended) datagrams x p) [
+              | inl e ↦ spelled_before clock (all_of ended ++ gone) datagrams x
+                  (spelled_before clock (all_of ended) gone x e)
+              | inr d ↦ spelled_after clock (all_of ended ++ gone) datagrams x d
+            ])
       ],
       λ h. elim (spelled_either clock (all_of still) ((all_of ended ++ gone) ++ datagrams) x h) [
         | inl s ↦ spelled_before clock (all_of ds) (all_of ended ++ datagrams) x ((j x).1 (inl s))
         | inr p ↦ elim (spelled_either clock (all_of ended ++ gone) datagrams x p) [
           | inl eg ↦ elim (spelled_either clock (all_of ended) gone x eg) [
-            | inl e ↦ spelled_after clock (all_of ds) (all_of ended ++ datagrams) x (spelled_before clock (all_of ended) datagrams x e)
+            | inl e ↦ spelled_after clock (all_of ds) (all_of ended ++ datagrams) x
+                (spelled_before clock (all_of ended) datagrams x e)
             | inr g ↦ spelled_before clock (all_of ds) (all_of ended ++ datagrams) x ((j x).1 (inr g))
           ]
-          | inr d ↦ spelled_after clock (all_of ds) (all_of ended ++ datagrams) x (spelled_after clock (all_of ended) datagrams x d)
+          | inr d ↦ spelled_after clock (all_of ds) (all_of ended ++ datagrams) x
+              (spelled_after clock (all_of ended) datagrams x d)
         ]
       ],
     )
 
-pub close_step : (clock : Clock) (c i : ℕ) (x : Connection) (ls : List Connection) (kept first : List Entry) (es : List AcceptedEvent) → AtPlace c ls i x → IsHandled x
+pub close_step : (clock : Clock) (c i : ℕ) (x : Connection) (ls : List Connection) (kept first : List Entry)
+    (es : List AcceptedEvent) → AtPlace c ls i x → IsHandled x
     → Stands clock ls kept first es → Stands clock (remove ls i) kept first (es ++ Ended c ∷ [])
 close_step clock c i x ls kept first es at none was =
     let h = history_of es in
@@ -216,33 +276,43 @@ close_step clock c i x ls kept first es at none was =
       ended_frames = sa.ended_frames ++ z.gone ∷ [];
       follow = z.follow;
       ended_are = are_frames_push h.ended _ sa.ended_frames z.gone sa.ended_are z.gone_are;
-      gains = gains_also clock first kept _ _ sa.gains (spell_moved clock sa.handled z.still sa.ended_frames z.gone h.datagrams z.joins);
+      gains = gains_also clock first kept _ _ sa.gains
+          (spell_moved clock sa.handled z.still sa.ended_frames z.gone h.datagrams z.joins);
     })
 
-pub close_found : (clock : Clock) (c n : ℕ) (x : Connection) (ls : List Connection) (kept first : List Entry) (es : List AcceptedEvent) → place_from c 0 ls ≡ Some n → x ≡ get_or ls n x → IsHandled x
+pub close_found : (clock : Clock) (c n : ℕ) (x : Connection) (ls : List Connection) (kept first : List Entry)
+    (es : List AcceptedEvent) → place_from c 0 ls ≡ Some n → x ≡ get_or ls n x → IsHandled x
     → Stands clock ls kept first es → Stands clock (remove ls n) kept first (es ++ Ended c ∷ [])
-close_found clock c n x ls kept first es is item none was = close_step clock c n x ls kept first es (found_here c n x ls is item) none was
+close_found clock c n x ls kept first es is item none was =
+    close_step clock c n x ls kept first es (found_here c n x ls is item) none was
 
 -- ---- the answers of the calls
 
-pub datagram_answer : {E : Type 0} (clock : Clock) (ls : List Connection) (kept now first : List Entry) (es : List AcceptedEvent) (octets : List ℕ) (r : Result Outcome E) → IfOk r (λ o. IsOutcome clock kept now octets o) → OnErr r (now ≡ kept)
+pub datagram_answer : {E : Type 0} (clock : Clock) (ls : List Connection) (kept now first : List Entry)
+    (es : List AcceptedEvent) (octets : List ℕ) (r : Result Outcome E) → IfOk r (λ o. IsOutcome clock kept now octets o)
+    → OnErr r (now ≡ kept)
     → Stands clock ls kept first es → Stands clock ls now first (es ++ accepted_datagram octets r)
-datagram_answer clock ls kept now first es octets (Ok o) out same was = datagram_step clock ls kept now first es octets o out was
+datagram_answer clock ls kept now first es octets (Ok o) out same was =
+    datagram_step clock ls kept now first es octets o out was
 datagram_answer clock ls kept now first es octets (Err e) out same was = still clock ls kept now first es same was
 
 -- a number whose connection was found is open
-pub is_open : (clock : Clock) (c n : ℕ) (ls : List Connection) (kept first : List Entry) (es : List AcceptedEvent) → place_from c 0 ls ≡ Some n → Stands clock ls kept first es → IsSome (stream_of c (history_of es).streams)
+pub is_open : (clock : Clock) (c n : ℕ) (ls : List Connection) (kept first : List Entry) (es : List AcceptedEvent)
+    → place_from c 0 ls ≡ Some n → Stands clock ls kept first es → IsSome (stream_of c (history_of es).streams)
 is_open clock c n ls kept first es is was =
     let found = found_at c 0 n ls is in
-    let there = opening_at c found.0 found.1 ls (history_of es).streams was.stands_at.handled was.stands_at.follow found.3 in
+    let there = opening_at c found.0 found.1 ls (history_of es).streams was.stands_at.handled was.stands_at.follow
+    found.3 in
     rw there.is refl
 
 -- as many connections as openings
-pub count_open : (clock : Clock) (ls : List Connection) (kept first : List Entry) (es : List AcceptedEvent) → Stands clock ls kept first es → length ls ≡ length (history_of es).streams
+pub count_open : (clock : Clock) (ls : List Connection) (kept first : List Entry) (es : List AcceptedEvent)
+    → Stands clock ls kept first es → length ls ≡ length (history_of es).streams
 count_open clock ls kept first es was = same_count ls (history_of es).streams was.stands_at.handled was.stands_at.follow
 
 -- all frames of a connection's opening were handled where its scanner says so
-pub handled_by : (x : Connection) → ((kind : Framing) (first : ℕ) (octets : List ℕ) (frames : List (List ℕ)) (rest : List ℕ) → Reads FRAME_MAX x.scanner kind first octets frames rest
+pub handled_by : (x : Connection) → ((kind : Framing) (first : ℕ) (octets : List ℕ) (frames : List (List ℕ))
+    (rest : List ℕ) → Reads FRAME_MAX x.scanner kind first octets frames rest
     → (left : List ℕ) × Frames kind octets frames left) → IsHandled x
 handled_by x h s d at = elim at.scanner [
   | inl here ↦ h s.framing 0 s.octets d here.rest here.reads
@@ -250,44 +320,61 @@ handled_by x h s d at = elim at.scanner [
 ]
 
 unfinished_one : (start : ℕ) (x : Connection) (s : Stream) (d : List (List ℕ)) → ¬ (IsFailed x.scanner)
-    → ((kind : Framing) (first : ℕ) (octets : List ℕ) (frames : List (List ℕ)) (rest : List ℕ) → Reads FRAME_MAX x.scanner kind first octets frames rest
-    → Frames kind octets frames rest × (0 < length rest) × (start + length rest ≡ first + length octets)) → IsAt x s d → ¬ (HoldsBadCount s) × IsUnfinished start s
+    → ((kind : Framing) (first : ℕ) (octets : List ℕ) (frames : List (List ℕ)) (rest : List ℕ)
+    → Reads FRAME_MAX x.scanner kind first octets frames rest
+    → Frames kind octets frames rest × (0 < length rest) × (start + length rest ≡ first + length octets)) → IsAt x s d
+    → ¬ (HoldsBadCount s) × IsUnfinished start s
 unfinished_one start x s d live h at =
     let here = open_unless_failed x s d live at in
     let e = h s.framing 0 s.octets d here.rest here.reads in
     (good_open x.scanner s d here, (d, here.rest, e.0, e.1, omega (arith, e.2)))
 
-pub unfinished_at : (clock : Clock) (c n start : ℕ) (x : Connection) (ls : List Connection) (kept first : List Entry) (es : List AcceptedEvent) → place_from c 0 ls ≡ Some n → x ≡ get_or ls n x → ¬ (IsFailed x.scanner)
-    → ((kind : Framing) (first : ℕ) (octets : List ℕ) (frames : List (List ℕ)) (rest : List ℕ) → Reads FRAME_MAX x.scanner kind first octets frames rest
+pub unfinished_at : (clock : Clock) (c n start : ℕ) (x : Connection) (ls : List Connection) (kept first : List Entry)
+    (es : List AcceptedEvent) → place_from c 0 ls ≡ Some n → x ≡ get_or ls n x → ¬ (IsFailed x.scanner)
+    → ((kind : Framing) (first : ℕ) (octets : List ℕ) (frames : List (List ℕ)) (rest : List ℕ)
+    → Reads FRAME_MAX x.scanner kind first octets frames rest
     → Frames kind octets frames rest × (0 < length rest) × (start + length rest ≡ first + length octets))
-    → Stands clock ls kept first es → IsSomeAnd (stream_of c (history_of es).streams) (λ s. ¬ (HoldsBadCount s) × IsUnfinished start s)
+    → Stands clock ls kept first es → IsSomeAnd (stream_of c (history_of es).streams)
+    (λ s. ¬ (HoldsBadCount s) × IsUnfinished start s)
 unfinished_at clock c n start x ls kept first es is item live h was =
-    let there = opening_at c n x ls (history_of es).streams was.stands_at.handled was.stands_at.follow (found_here c n x ls is item) in
+    let there = opening_at c n x ls (history_of es).streams was.stands_at.handled was.stands_at.follow
+    (found_here c n x ls is item) in
     rw there.is (unfinished_one start x there.opening there.handled live h there.at)
 
 -- an opening whose end is accepted is whole frames, or holds a bad count
-ended_one : (x : Connection) (s : Stream) (d : List (List ℕ)) → ((kind : Framing) (first : ℕ) (octets : List ℕ) (frames : List (List ℕ)) (rest : List ℕ) → Reads FRAME_MAX x.scanner kind first octets frames rest
+ended_one : (x : Connection) (s : Stream) (d : List (List ℕ))
+    → ((kind : Framing) (first : ℕ) (octets : List ℕ) (frames : List (List ℕ)) (rest : List ℕ)
+    → Reads FRAME_MAX x.scanner kind first octets frames rest
     → Frames kind octets frames []) → IsAt x s d → EndsWhole s
 ended_one x s d h at = elim at.scanner [
   | inl here ↦ inr (d, h s.framing 0 s.octets d here.rest here.reads)
   | inr broken ↦ inl (d, broken.rest, broken.offset, broken.bad)
 ]
 
-pub ended_at : (clock : Clock) (c n : ℕ) (x : Connection) (ls : List Connection) (kept first : List Entry) (es : List AcceptedEvent) → place_from c 0 ls ≡ Some n → x ≡ get_or ls n x
-    → ((kind : Framing) (first : ℕ) (octets : List ℕ) (frames : List (List ℕ)) (rest : List ℕ) → Reads FRAME_MAX x.scanner kind first octets frames rest → Frames kind octets frames [])
+pub ended_at : (clock : Clock) (c n : ℕ) (x : Connection) (ls : List Connection) (kept first : List Entry)
+    (es : List AcceptedEvent) → place_from c 0 ls ≡ Some n → x ≡ get_or ls n x
+    → ((kind : Framing) (first : ℕ) (octets : List ℕ) (frames : List (List ℕ)) (rest : List ℕ)
+    → Reads FRAME_MAX x.scanner kind first octets frames rest → Frames kind octets frames [])
     → Stands clock ls kept first es → IsSomeAnd (stream_of c (history_of es).streams) EndsWhole
 ended_at clock c n x ls kept first es is item h was =
-    let there = opening_at c n x ls (history_of es).streams was.stands_at.handled was.stands_at.follow (found_here c n x ls is item) in
+    let there = opening_at c n x ls (history_of es).streams was.stands_at.handled was.stands_at.follow
+    (found_here c n x ls is item) in
     rw there.is (ended_one x there.opening there.handled h there.at)
 
 -- what is ready in a connection is a frame
-pub ready_frame : (clock : Clock) (c n : ℕ) (x : Connection) (ls : List Connection) (kept first : List Entry) (es : List AcceptedEvent) → place_from c 0 ls ≡ Some n → x ≡ get_or ls n x → HasReady x.scanner
+pub ready_frame : (clock : Clock) (c n : ℕ) (x : Connection) (ls : List Connection) (kept first : List Entry)
+    (es : List AcceptedEvent) → place_from c 0 ls ≡ Some n → x ≡ get_or ls n x → HasReady x.scanner
     → Stands clock ls kept first es → HasFrame x.scanner
 ready_frame clock c n x ls kept first es is item ready was =
-    let there = opening_at c n x ls (history_of es).streams was.stands_at.handled was.stands_at.follow (found_here c n x ls is item) in
+    let there = opening_at c n x ls (history_of es).streams was.stands_at.handled was.stands_at.follow
+    (found_here c n x ls is item) in
     elim ready [
       | inl frame ↦ frame
-      | inr bad ↦ elim there.at.scanner [ inl here ↦ absurd (here.good bad) | inr broken ↦ absurd (bad_not_failed x.scanner.phase bad broken.failed) ]
+      | inr bad ↦ elim there.at.scanner [
+        | inl here ↦ absurd (here.good bad)
+        | inr broken ↦ absurd
+            (bad_not_failed x.scanner.phase bad broken.failed)
+      ]
     ]
   where
     bad_not_failed : (phase : Phase) → phase ≡ phase_BadCount → phase ≡ Failed → ⊥

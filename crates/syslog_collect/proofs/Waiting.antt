@@ -1,5 +1,6 @@
 -- Frames that wait, of each number, and that numbers of open connections are distinct.
-use Rattle.std.proofs.Common.{◌≡◌, ◌≢◌, ℕ, ◌+◌, zero, suc, true, false, cond, List, [], ◌∷◌, ◌++◌, length, get_or, set as set_at, eqb, refl, sym, ◌∙◌, ap, subst, inl, inr}
+use Rattle.std.proofs.Common.{◌≡◌, ◌≢◌, ℕ, ◌+◌, zero, suc, true, false, cond, List, [], ◌∷◌, ◌++◌, length, get_or}
+use Rattle.std.proofs.Common.{set as set_at, eqb, refl, sym, ◌∙◌, ap, subst, inl, inr}
 use Rattle.std.specs.Prelude.{Some, None, Result, Ok, Err, OnOk}
 use Rattle.std.specs.List.{remove}
 use Rattle.std.proofs.lemmas.Bool.{both_ways, eq-eqb, eqb-true}
@@ -8,7 +9,8 @@ use Rattle.std.proofs.lemmas.List.{append-nil}
 use Rattle.syslog_frame.specs.Scan.{HasFrame, HasReady}
 use Rattle.syslog_frame.specs.declared.limits.TheConstants.{FRAME_MAX}
 use Rattle.syslog_frame.specs.declared.phase.Phase.{Phase}
-use Rattle.syslog_frame.specs.declared.phase.Phase.TheVariants.{Counting, Inside, Ended as phase_Ended, BadCount as phase_BadCount, Failed}
+use Rattle.syslog_frame.specs.declared.phase.Phase.TheVariants.{Counting, Inside, Ended as phase_Ended}
+use Rattle.syslog_frame.specs.declared.phase.Phase.TheVariants.{BadCount as phase_BadCount, Failed}
 use Rattle.syslog_frame.proofs.Calls.{none_unless_frame}
 use Rattle.syslog_frame.proofs.Reading.{frames_read, frames_with}
 use Rattle.syslog_frame.proofs.Standing.{whole_ended}
@@ -17,10 +19,14 @@ use Rattle.syslog_legacy.specs.FrameReadings.{Clock}
 use Rattle.syslog_collect.specs.declared.connection.Connection.{Connection}
 use Rattle.syslog_collect.specs.declared.fault.Advance.{Advance}
 use Rattle.syslog_collect.specs.declared.fault.CollectFault.{CollectFault}
-use Rattle.syslog_collect.specs.declared.fault.CollectFault.TheVariants.{AlreadyOpen, TooManyOpen, NotOpen, ConnFailed, StreamTooLong, Unreleased, Unterminated, Memory}
+use Rattle.syslog_collect.specs.declared.fault.CollectFault.TheVariants.{AlreadyOpen, TooManyOpen, NotOpen, ConnFailed}
+use Rattle.syslog_collect.specs.declared.fault.CollectFault.TheVariants.{StreamTooLong, Unreleased, Unterminated}
+use Rattle.syslog_collect.specs.declared.fault.CollectFault.TheVariants.{Memory}
 use Rattle.syslog_collect.specs.Answers.{IfMemory, IfRefused, IsUsedWithin}
 use Rattle.syslog_collect.specs.Frames.{IsFramesOf}
-use Rattle.syslog_collect.specs.History.{AcceptedEvent, Datagram, Ended, History, MayAcceptAll, Opened, Piece, Stream, accept, history_after, history_of, initial, stream_of, with_octets, with_piece, without}
+use Rattle.syslog_collect.specs.History.{AcceptedEvent, Datagram, Ended, History, MayAcceptAll, Opened, Piece, Stream}
+use Rattle.syslog_collect.specs.History.{accept, history_after, history_of, initial, stream_of, with_octets, with_piece}
+use Rattle.syslog_collect.specs.History.{without}
 use Rattle.syslog_collect.specs.Logs.{ready_count, waiting, waiting_then}
 use Rattle.syslog_collect.specs.Standing.{AreAt, IsAt, Stands}
 use Rattle.syslog_collect.proofs.Moving.{ended_or_not}
@@ -49,7 +55,8 @@ pub frames_waiting : (c : Connection) (s : Stream) (d : List (List ℕ)) → IsA
 frames_waiting c s d at = elim at.scanner [
   | inl here ↦ elim (ended_or_not c.scanner.phase) [
     | inl ended ↦
-        let whole = whole_ended FRAME_MAX s.framing c.scanner.count c.scanner.size c.scanner.kept here.rest (rw ended at here.reads.stands.holds) in
+        let whole = whole_ended FRAME_MAX s.framing c.scanner.count c.scanner.size c.scanner.kept here.rest
+        (rw ended at here.reads.stands.holds) in
         record {
           left = whole.0 ∷ [];
           frames = ([], frames_with FRAME_MAX c.scanner s.framing 0 s.octets d here.rest whole.0 here.reads whole.1);
@@ -57,7 +64,11 @@ frames_waiting c s d at = elim at.scanner [
         }
     | inr other ↦ record {
       left = [];
-      frames = rw append-nil (here.rest, frames_read FRAME_MAX c.scanner s.framing 0 s.octets d here.rest here.reads (none_unless_frame FRAME_MAX c.scanner s.framing (0 + length s.octets) here.rest other here.reads.stands));
+      frames = rw append-nil (
+        here.rest,
+        frames_read FRAME_MAX c.scanner s.framing 0 s.octets d here.rest here.reads
+            (none_unless_frame FRAME_MAX c.scanner s.framing (0 + length s.octets) here.rest other here.reads.stands),
+      );
       count = sym (ready_none c.scanner.phase other);
     }
   ]
@@ -70,7 +81,8 @@ frames_waiting c s d at = elim at.scanner [
 
 -- ---- one connection among all
 
-pub waiting_at : (c i : ℕ) (x : Connection) (ls : List Connection) → AtPlace c ls i x → waiting ls c ≡ ready_count x.scanner.phase
+pub waiting_at : (c i : ℕ) (x : Connection) (ls : List Connection) → AtPlace c ls i x
+    → waiting ls c ≡ ready_count x.scanner.phase
 waiting_at c i x [] at = absurd at
 waiting_at c zero x (l ∷ ls) at = rw at.1 (ap (λ (z : Connection). ready_count z.scanner.phase) at.0)
 waiting_at c (suc i) x (l ∷ ls) at = rw at.0 (waiting_at c i x ls at.1)
@@ -80,43 +92,66 @@ number_at c i x [] at = absurd at
 number_at c zero x (l ∷ ls) at = ap (λ (z : Connection). z.number) (sym at.0) ∙ eqb-true l.number c at.1
 number_at c (suc i) x (l ∷ ls) at = number_at c i x ls at.1
 
-pub place_set : (c i : ℕ) (x y : Connection) (ls : List Connection) → y.number ≡ x.number → AtPlace c ls i x → AtPlace c (set_at ls i y) i y
+pub place_set : (c i : ℕ) (x y : Connection) (ls : List Connection) → y.number ≡ x.number → AtPlace c ls i x
+    → AtPlace c (set_at ls i y) i y
 place_set c i x y [] e at = absurd at
-place_set c zero x y (l ∷ ls) e at = (refl, eq-eqb y.number c (e ∙ ap (λ (z : Connection). z.number) (sym at.0) ∙ eqb-true l.number c at.1))
+place_set c zero x y (l ∷ ls) e at = (
+  refl,
+  eq-eqb y.number c (e ∙ ap (λ (z : Connection). z.number) (sym at.0) ∙ eqb-true l.number c at.1),
+)
 place_set c (suc i) x y (l ∷ ls) e at = (at.0, place_set c i x y ls e at.1)
 
 other_false : (a b d : ℕ) → a ≡ b → ¬ (b ≡ d) → eqb a d ≡ false
 other_false a b d e ne = elim (eqb_tells a d) [ inl h ↦ absurd (ne (sym e ∙ h.1)) | inr h ↦ h.0 ]
 
-pub waiting_other : (c i d : ℕ) (x y : Connection) (ls : List Connection) → y.number ≡ x.number → AtPlace c ls i x → ¬ (c ≡ d) → waiting (set_at ls i y) d ≡ waiting ls d
+pub waiting_other : (c i d : ℕ) (x y : Connection) (ls : List Connection) → y.number ≡ x.number → AtPlace c ls i x
+    → ¬ (c ≡ d) → waiting (set_at ls i y) d ≡ waiting ls d
 waiting_other c i d x y [] e at ne = absurd at
 waiting_other c zero d x y (l ∷ ls) e at ne =
     let n : l.number ≡ c = eqb-true l.number c at.1 in
-    rw (other_false y.number c d (e ∙ ap (λ (z : Connection). z.number) (sym at.0) ∙ n) ne, other_false l.number c d n ne) refl
-waiting_other c (suc i) d x y (l ∷ ls) e at ne = ap (λ (m : ℕ). cond (eqb l.number d) (ready_count l.scanner.phase) m) (waiting_other c i d x y ls e at.1 ne)
+    rw (
+      other_false y.number c d (e ∙ ap (λ (z : Connection). z.number) (sym at.0) ∙ n) ne,
+      other_false l.number c d n ne,
+    ) refl
+waiting_other c (suc i) d x y (l ∷ ls) e at ne =
+    ap (λ (m : ℕ). cond (eqb l.number d) (ready_count l.scanner.phase) m) (waiting_other c i d x y ls e at.1 ne)
 
 -- all numbers after one connection has so many frames ready
-pub waiting_set : (c i k : ℕ) (x y : Connection) (ls : List Connection) → y.number ≡ x.number → AtPlace c ls i x → ready_count y.scanner.phase ≡ k
+pub waiting_set : (c i k : ℕ) (x y : Connection) (ls : List Connection) → y.number ≡ x.number → AtPlace c ls i x
+    → ready_count y.scanner.phase ≡ k
     → (d : ℕ) → waiting (set_at ls i y) d ≡ cond (eqb c d) k (waiting ls d)
 waiting_set c i k x y ls e at is d = elim (eqb_tells c d) [
-  | inl (same, eq) ↦ rw same (ap (λ (n : ℕ). waiting (set_at ls i y) n) (sym eq) ∙ waiting_at c i y (set_at ls i y) (place_set c i x y ls e at) ∙ is)
+  | inl (same, eq) ↦ rw same (ap (λ (n : ℕ). waiting (set_at ls i y) n) (sym eq)
+      ∙ waiting_at c i y (set_at ls i y) (place_set c i x y ls e at) ∙ is)
   | inr (other, ne) ↦ rw other (waiting_other c i d x y ls e at ne)
 ]
 
-pub waiting_push : (c : Connection) (ls : List Connection) (d : ℕ) → ready_count c.scanner.phase ≡ 0 → waiting (ls ++ c ∷ []) d ≡ waiting ls d
-waiting_push c [] d e = elim (eqb c.number d) as (λ b. cond b (ready_count c.scanner.phase) 0 ≡ 0) [ true ↦ e | false ↦ refl ]
-waiting_push c (l ∷ ls) d e = ap (λ (m : ℕ). cond (eqb l.number d) (ready_count l.scanner.phase) m) (waiting_push c ls d e)
+pub waiting_push : (c : Connection) (ls : List Connection) (d : ℕ) → ready_count c.scanner.phase ≡ 0
+    → waiting (ls ++ c ∷ []) d ≡ waiting ls d
+waiting_push c [] d e = elim (eqb c.number d) as (λ b. cond b (ready_count c.scanner.phase) 0 ≡ 0)
+    [ true ↦ e | false ↦ refl ]
+waiting_push c (l ∷ ls) d e = ap (λ (m : ℕ). cond (eqb l.number d) (ready_count l.scanner.phase) m)
+    (waiting_push c ls d e)
 
 -- after an advance
-pub waiting_advance : {T : Type 0} (piece : List ℕ) (r : Result Advance CollectFault) (c n : ℕ) (x y : Connection) (ls : List Connection) (was now : T) → IsUsedWithin piece r → place_from c 0 ls ≡ Some n → x ≡ get_or ls n x → y.number ≡ x.number
-    → OnOk r (¬ (HasReady y.scanner)) → IfMemory r (HasFrame y.scanner) → IfRefused r ((set_at ls n y ≡ ls) × (now ≡ was)) → (d : ℕ) → waiting (set_at ls n y) d ≡ waiting_then r c (waiting ls) d
-waiting_advance piece (Ok a) c n x y ls was now within is item e quiet waits same d = waiting_set c n 0 x y ls e (found_here c n x ls is item) (ready_none y.scanner.phase (λ f. quiet (inl f))) d
-waiting_advance piece (Err (Memory m)) c n x y ls was now within is item e quiet waits same d = waiting_set c n 1 x y ls e (found_here c n x ls is item) (ready_some y.scanner.phase waits) d
+pub waiting_advance : {T : Type 0} (piece : List ℕ) (r : Result Advance CollectFault) (c n : ℕ) (x y : Connection)
+    (ls : List Connection) (was now : T) → IsUsedWithin piece r → place_from c 0 ls ≡ Some n → x ≡ get_or ls n x
+    → y.number ≡ x.number
+    → OnOk r (¬ (HasReady y.scanner)) → IfMemory r (HasFrame y.scanner)
+    → IfRefused r ((set_at ls n y ≡ ls) × (now ≡ was)) → (d : ℕ)
+    → waiting (set_at ls n y) d ≡ waiting_then r c (waiting ls) d
+waiting_advance piece (Ok a) c n x y ls was now within is item e quiet waits same d =
+    waiting_set c n 0 x y ls e (found_here c n x ls is item) (ready_none y.scanner.phase (λ f. quiet (inl f))) d
+waiting_advance piece (Err (Memory m)) c n x y ls was now within is item e quiet waits same d =
+    waiting_set c n 1 x y ls e (found_here c n x ls is item) (ready_some y.scanner.phase waits) d
 waiting_advance piece (Err AlreadyOpen) c n x y ls was now within is item e quiet waits same d = absurd within
 waiting_advance piece (Err TooManyOpen) c n x y ls was now within is item e quiet waits same d = absurd within
-waiting_advance piece (Err NotOpen) c n x y ls was now within is item e quiet waits same d = ap (λ (zs : List Connection). waiting zs d) same.0
-waiting_advance piece (Err ConnFailed) c n x y ls was now within is item e quiet waits same d = ap (λ (zs : List Connection). waiting zs d) same.0
-waiting_advance piece (Err StreamTooLong) c n x y ls was now within is item e quiet waits same d = ap (λ (zs : List Connection). waiting zs d) same.0
+waiting_advance piece (Err NotOpen) c n x y ls was now within is item e quiet waits same d =
+    ap (λ (zs : List Connection). waiting zs d) same.0
+waiting_advance piece (Err ConnFailed) c n x y ls was now within is item e quiet waits same d =
+    ap (λ (zs : List Connection). waiting zs d) same.0
+waiting_advance piece (Err StreamTooLong) c n x y ls was now within is item e quiet waits same d =
+    ap (λ (zs : List Connection). waiting zs d) same.0
 waiting_advance piece (Err Unreleased) c n x y ls was now within is item e quiet waits same d = absurd within
 waiting_advance piece (Err (Unterminated start)) c n x y ls was now within is item e quiet waits same d = absurd within
 
@@ -126,18 +161,21 @@ abbrev pub AreDistinct : List Stream → Type 0
 AreDistinct [] = Unit {0}
 AreDistinct (s ∷ ss) = (stream_of s.number ss ≡ None) × AreDistinct ss
 
-absent_first : (c : ℕ) (s : Stream) (ss : List Stream) → stream_of c (s ∷ ss) ≡ None → (eqb s.number c ≡ false) × (stream_of c ss ≡ None)
+absent_first : (c : ℕ) (s : Stream) (ss : List Stream) → stream_of c (s ∷ ss) ≡ None
+    → (eqb s.number c ≡ false) × (stream_of c ss ≡ None)
 absent_first c s ss e =
     elim (eqb s.number c) as (λ b. cond b (Some s) (stream_of c ss) ≡ None → (b ≡ false) × (stream_of c ss ≡ None)) [
       | true ↦ λ h. absurd (cc)
       | false ↦ λ h. (refl, h)
     ] e
 
-absent_push : (c : ℕ) (s : Stream) (ss : List Stream) → eqb s.number c ≡ false → stream_of c ss ≡ None → stream_of c (ss ++ s ∷ []) ≡ None
+absent_push : (c : ℕ) (s : Stream) (ss : List Stream) → eqb s.number c ≡ false → stream_of c ss ≡ None
+    → stream_of c (ss ++ s ∷ []) ≡ None
 absent_push c s [] ne e = rw ne refl
 absent_push c s (t ∷ ss) ne e = let h = absent_first c t ss e in rw h.0 (absent_push c s ss ne h.1)
 
-absent_piece : (c d : ℕ) (o : List ℕ) (ss : List Stream) → stream_of d ss ≡ None → stream_of d (with_piece c o ss) ≡ None
+absent_piece : (c d : ℕ) (o : List ℕ) (ss : List Stream) → stream_of d ss ≡ None
+    → stream_of d (with_piece c o ss) ≡ None
 absent_piece c d o [] e = refl
 absent_piece c d o (s ∷ ss) e =
     let h = absent_first d s ss e in
@@ -158,7 +196,8 @@ absent_without c d (s ∷ ss) e =
 flipped : (a b : ℕ) → eqb a b ≡ false → eqb b a ≡ false
 flipped a b e = elim (eqb_tells b a) [ inl h ↦ absurd (both_ways (eqb a b) e (eq-eqb a b (sym h.1))) | inr h ↦ h.0 ]
 
-distinct_push : (s : Stream) (ss : List Stream) → AreDistinct ss → stream_of s.number ss ≡ None → AreDistinct (ss ++ s ∷ [])
+distinct_push : (s : Stream) (ss : List Stream) → AreDistinct ss → stream_of s.number ss ≡ None
+    → AreDistinct (ss ++ s ∷ [])
 distinct_push s [] d e = (refl, tt)
 distinct_push s (t ∷ ss) d e =
     let h = absent_first s.number t ss e in
@@ -180,10 +219,14 @@ distinct_without c (s ∷ ss) d =
       | false ↦ (absent_without c s.number ss d.0, distinct_without c ss d.1)
     ]
 
-distinct_after : (h : History) (es : List AcceptedEvent) → AreDistinct h.streams → MayAcceptAll h es → AreDistinct (history_after h es).streams
+distinct_after : (h : History) (es : List AcceptedEvent) → AreDistinct h.streams → MayAcceptAll h es
+    → AreDistinct (history_after h es).streams
 distinct_after h [] d may = d
-distinct_after h (Opened c k ∷ es) d may = distinct_after (accept h (Opened c k)) es (distinct_push (record { number = c; framing = k; octets = [] }) h.streams d may.0.0) may.1
-distinct_after h (Piece c o ∷ es) d may = distinct_after (accept h (Piece c o)) es (distinct_piece c o h.streams d) may.1
+distinct_after h (Opened c k ∷ es) d may =
+    distinct_after (accept h (Opened c k)) es
+    (distinct_push (record { number = c; framing = k; octets = [] }) h.streams d may.0.0) may.1
+distinct_after h (Piece c o ∷ es) d may = distinct_after (accept h (Piece c o)) es (distinct_piece c o h.streams d)
+    may.1
 distinct_after h (Ended c ∷ es) d may = distinct_after (accept h (Ended c)) es (distinct_without c h.streams d) may.1
 distinct_after h (Datagram o ∷ es) d may = distinct_after (accept h (Datagram o)) es d may.1
 
@@ -194,7 +237,8 @@ absent_once c (s ∷ ss) d = elim (eqb_tells s.number c) [
   | inr (other, ne) ↦ rw (other, other) (absent_once c ss d.1)
 ]
 
-waiting_absent : (c : ℕ) (ls : List Connection) (ss : List Stream) (ds : List (List (List ℕ))) → AreAt ls ss ds → stream_of c ss ≡ None → waiting ls c ≡ 0
+waiting_absent : (c : ℕ) (ls : List Connection) (ss : List Stream) (ds : List (List (List ℕ))) → AreAt ls ss ds
+    → stream_of c ss ≡ None → waiting ls c ≡ 0
 waiting_absent c [] [] [] f e = refl
 waiting_absent c (l ∷ ls) (s ∷ ss) (d ∷ ds) f e =
     let h = absent_first c s ss e in
@@ -207,21 +251,26 @@ waiting_absent c (l ∷ ls) [] [] f e = absurd f
 waiting_absent c (l ∷ ls) [] (d ∷ ds) f e = absurd f
 waiting_absent c (l ∷ ls) (s ∷ ss) [] f e = absurd f
 
-waiting_removed : (c i d : ℕ) (x : Connection) (ls : List Connection) → AtPlace c ls i x → ¬ (c ≡ d) → waiting (remove ls i) d ≡ waiting ls d
+waiting_removed : (c i d : ℕ) (x : Connection) (ls : List Connection) → AtPlace c ls i x → ¬ (c ≡ d)
+    → waiting (remove ls i) d ≡ waiting ls d
 waiting_removed c i d x [] at ne = absurd at
 waiting_removed c zero d x (l ∷ ls) at ne = rw (other_false l.number c d (eqb-true l.number c at.1) ne) refl
-waiting_removed c (suc i) d x (l ∷ ls) at ne = ap (λ (m : ℕ). cond (eqb l.number d) (ready_count l.scanner.phase) m) (waiting_removed c i d x ls at.1 ne)
+waiting_removed c (suc i) d x (l ∷ ls) at ne =
+    ap (λ (m : ℕ). cond (eqb l.number d) (ready_count l.scanner.phase) m) (waiting_removed c i d x ls at.1 ne)
 
 -- no frame waits of a connection that was closed, and the others wait as before
-pub waiting_closed : (clock : Clock) (c n : ℕ) (x : Connection) (ls : List Connection) (kept first : List Entry) (es : List AcceptedEvent) → place_from c 0 ls ≡ Some n → x ≡ get_or ls n x → ready_count x.scanner.phase ≡ 0
+pub waiting_closed : (clock : Clock) (c n : ℕ) (x : Connection) (ls : List Connection) (kept first : List Entry)
+    (es : List AcceptedEvent) → place_from c 0 ls ≡ Some n → x ≡ get_or ls n x → ready_count x.scanner.phase ≡ 0
     → IsHandled x → Stands clock ls kept first es → (d : ℕ) → waiting (remove ls n) d ≡ waiting ls d
 waiting_closed clock c n x ls kept first es is item none handled was d =
     let at = found_here c n x ls is item in
     let gone = absent_once c (history_of es).streams (distinct_after initial es tt was.acceptable) in
     let h = (close_found clock c n x ls kept first es is item handled was).stands_at in
-    let absent = subst (λ (g : History). stream_of c g.streams ≡ None) (sym (history_after-push initial es (Ended c))) gone in
+    let absent = subst (λ (g : History). stream_of c g.streams ≡ None) (sym (history_after-push initial es (Ended c)))
+    gone in
     elim (eqb_tells c d) [
       | inl (same, eq) ↦ subst (λ (m : ℕ). waiting (remove ls n) m ≡ waiting ls m) eq
-          (waiting_absent c (remove ls n) (history_of (es ++ Ended c ∷ [])).streams h.handled h.follow absent ∙ sym (waiting_at c n x ls at ∙ none))
+          (waiting_absent c (remove ls n) (history_of (es ++ Ended c ∷ [])).streams h.handled h.follow absent
+          ∙ sym (waiting_at c n x ls at ∙ none))
       | inr (other, ne) ↦ waiting_removed c n d x ls at ne
     ]

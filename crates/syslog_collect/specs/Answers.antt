@@ -9,11 +9,15 @@ use Rattle.syslog_legacy.specs.FrameReadings.{Clock}
 use Rattle.syslog_collect.specs.declared.connection.Connection.{Connection}
 use Rattle.syslog_collect.specs.declared.fault.Advance.{Advance}
 use Rattle.syslog_collect.specs.declared.fault.CollectFault.{CollectFault}
-use Rattle.syslog_collect.specs.declared.fault.CollectFault.TheVariants.{AlreadyOpen, TooManyOpen, NotOpen, ConnFailed, StreamTooLong, Unreleased, Unterminated, Memory}
+use Rattle.syslog_collect.specs.declared.fault.CollectFault.TheVariants.{AlreadyOpen, TooManyOpen, NotOpen, ConnFailed}
+use Rattle.syslog_collect.specs.declared.fault.CollectFault.TheVariants.{StreamTooLong, Unreleased, Unterminated}
+use Rattle.syslog_collect.specs.declared.fault.CollectFault.TheVariants.{Memory}
 use Rattle.syslog_collect.specs.declared.limits.TheConstants.{CONNECTIONS_MAX}
 use Rattle.syslog_collect.specs.declared.outcome.Outcome.{Outcome}
-use Rattle.syslog_collect.specs.declared.outcome.Outcome.TheVariants.{New, Held, Refused, RefusedLegacy, TooLong, BadCount}
-use Rattle.syslog_collect.specs.History.{History, HoldsBadCount, MayContinue, Stream, AcceptedEvent, Opened, Piece, Ended, Datagram, with_octets, stream_of}
+use Rattle.syslog_collect.specs.declared.outcome.Outcome.TheVariants.{New, Held, Refused, RefusedLegacy, TooLong}
+use Rattle.syslog_collect.specs.declared.outcome.Outcome.TheVariants.{BadCount}
+use Rattle.syslog_collect.specs.History.{History, HoldsBadCount, MayContinue, Stream, AcceptedEvent, Opened, Piece}
+use Rattle.syslog_collect.specs.History.{Ended, Datagram, with_octets, stream_of}
 use Rattle.syslog_collect.specs.Outcomes.{AreReported, IsRecordFrame, outcomes_of}
 use Rattle.syslog_collect.specs.Standing.{IsAt}
 
@@ -100,13 +104,17 @@ pub record Advances (clock : Clock) (old new : Connection) (kept_old kept_new : 
   pub marks : ReportsBadCount outcomes (with_octets s octets)
 
 -- by what was accepted: where nothing was, nothing changes
-abbrev pub AdvancesBy : Clock → Option (List ℕ) → Connection → Connection → List Entry → List Entry → List Outcome → Stream → List (List ℕ) → Type 0
-AdvancesBy clock None old new kept_old kept_new outcomes s handled = (new ≡ old) × (kept_new ≡ kept_old) × (outcomes ≡ [])
-AdvancesBy clock (Some octets) old new kept_old kept_new outcomes s handled = Advances clock old new kept_old kept_new octets outcomes s handled
+abbrev pub AdvancesBy : Clock → Option (List ℕ) → Connection → Connection → List Entry → List Entry → List Outcome
+    → Stream → List (List ℕ) → Type 0
+AdvancesBy clock None old new kept_old kept_new outcomes s handled =
+    (new ≡ old) × (kept_new ≡ kept_old) × (outcomes ≡ [])
+AdvancesBy clock (Some octets) old new kept_old kept_new outcomes s handled =
+    Advances clock old new kept_old kept_new octets outcomes s handled
 
 -- with these octets the opening is whole frames, and the last of them spells a record
 abbrev pub EndsInRecord : Clock → Stream → List ℕ → Type 0
-EndsInRecord clock s octets = (frames : List (List ℕ)) × (f : List ℕ) × Frames s.framing (s.octets ++ octets) (frames ++ f ∷ []) [] × IsRecordFrame clock f
+EndsInRecord clock s octets = (frames : List (List ℕ)) × (f : List ℕ)
+    × Frames s.framing (s.octets ++ octets) (frames ++ f ∷ []) [] × IsRecordFrame clock f
 
 -- why an advance of a connection at an opening is refused, the first cause that holds
 abbrev pub IsCause : Clock → List ℕ → Result Advance CollectFault → Stream → Type 0
@@ -119,6 +127,40 @@ IsCause clock piece (Err AlreadyOpen) s = ⊥
 IsCause clock piece (Err TooManyOpen) s = ⊥
 IsCause clock piece (Err Unreleased) s = ⊥
 IsCause clock piece (Err (Unterminated start)) s = ⊥
+
+-- n octets of a piece come in their turn at an opening where so many frames wait: none, where one waits; else the piece
+-- is
+-- not too long for the opening
+abbrev pub ComesInTurn : List ℕ → ℕ → ℕ → Stream → Type 0
+ComesInTurn piece waits n s = ((waits ≡ 1) × (n ≡ 0)) ⊎ ((waits ≡ 0) × (length s.octets + length piece ≤ POSITION_MAX))
+
+-- with octets more an opening is whole frames
+abbrev pub IsWholeWith : List ℕ → Stream → Type 0
+IsWholeWith o s = (frames : List (List ℕ)) × Frames s.framing (s.octets ++ o) frames []
+
+-- where n octets of a piece stop at an opening, by what became of them: at the end of a frame; before a bad octet,
+-- which is
+-- at this offset; else at the end of the piece
+abbrev pub StopsRight : List ℕ → ℕ → Option Outcome → Stream → Type 0
+StopsRight piece n None s = n ≡ length piece
+StopsRight piece n (Some New) s = IsWholeWith (take n piece) s
+StopsRight piece n (Some Held) s = IsWholeWith (take n piece) s
+StopsRight piece n (Some (Refused fault)) s = IsWholeWith (take n piece) s
+StopsRight piece n (Some (RefusedLegacy offset)) s = IsWholeWith (take n piece) s
+StopsRight piece n (Some TooLong) s = IsWholeWith (take n piece) s
+StopsRight piece n (Some (BadCount at)) s = at ≡ length s.octets + n
+
+-- how much of a piece an advance takes at an opening where so many frames wait
+abbrev pub IsTaken : List ℕ → ℕ → Result Advance CollectFault → Stream → Type 0
+IsTaken piece waits (Ok a) s = ComesInTurn piece waits a.used s × StopsRight piece a.used a.outcome s
+IsTaken piece waits (Err (Memory n)) s = ComesInTurn piece waits n s
+IsTaken piece waits (Err StreamTooLong) s = waits ≡ 0
+IsTaken piece waits (Err ConnFailed) s = Unit {0}
+IsTaken piece waits (Err NotOpen) s = Unit {0}
+IsTaken piece waits (Err AlreadyOpen) s = Unit {0}
+IsTaken piece waits (Err TooManyOpen) s = Unit {0}
+IsTaken piece waits (Err Unreleased) s = Unit {0}
+IsTaken piece waits (Err (Unterminated start)) s = Unit {0}
 
 -- no more is used than there is; and no refusal of another call is answered
 abbrev pub IsUsedWithin : List ℕ → Result Advance CollectFault → Type 0
@@ -138,7 +180,8 @@ IsAnswerAt clock c piece (Err NotOpen) h = stream_of c h.streams ≡ None
 IsAnswerAt clock c piece (Ok a) h = IsSomeAnd (stream_of c h.streams) (IsCause clock piece (Ok a))
 IsAnswerAt clock c piece (Err (Memory n)) h = IsSomeAnd (stream_of c h.streams) (IsCause clock piece (Err (Memory n)))
 IsAnswerAt clock c piece (Err ConnFailed) h = IsSomeAnd (stream_of c h.streams) (IsCause clock piece (Err ConnFailed))
-IsAnswerAt clock c piece (Err StreamTooLong) h = IsSomeAnd (stream_of c h.streams) (IsCause clock piece (Err StreamTooLong))
+IsAnswerAt clock c piece (Err StreamTooLong) h =
+    IsSomeAnd (stream_of c h.streams) (IsCause clock piece (Err StreamTooLong))
 IsAnswerAt clock c piece (Err AlreadyOpen) h = ⊥
 IsAnswerAt clock c piece (Err TooManyOpen) h = ⊥
 IsAnswerAt clock c piece (Err Unreleased) h = ⊥
@@ -192,7 +235,8 @@ abbrev pub IsEnding : {U : Type 0} → ℕ → Result U CollectFault → History
 IsEnding c (Ok u) h = IsSomeAnd (stream_of c h.streams) EndsWhole
 IsEnding c (Err NotOpen) h = stream_of c h.streams ≡ None
 IsEnding c (Err Unreleased) h = IsSome (stream_of c h.streams)
-IsEnding c (Err (Unterminated start)) h = IsSomeAnd (stream_of c h.streams) (λ s. ¬ (HoldsBadCount s) × IsUnfinished start s)
+IsEnding c (Err (Unterminated start)) h = IsSomeAnd (stream_of c h.streams)
+    (λ s. ¬ (HoldsBadCount s) × IsUnfinished start s)
 IsEnding c (Err AlreadyOpen) h = ⊥
 IsEnding c (Err TooManyOpen) h = ⊥
 IsEnding c (Err ConnFailed) h = ⊥

@@ -6,3 +6,4 @@ pub mod Answers
 pub mod Headline
 pub mod Runs
 pub mod Logs
+pub mod Stops

@@ -16,7 +16,8 @@ use Rattle.archive_text.specs.declared.store.Added.{Added}
 use Rattle.archive_text.specs.declared.store.Added.TheVariants as added
 use Rattle.syslog_legacy.specs.FrameReadings.{Clock, IsLegacy, IsNotUtf8At, IsReadAs}
 use Rattle.syslog_collect.specs.declared.outcome.Outcome.{Outcome}
-use Rattle.syslog_collect.specs.declared.outcome.Outcome.TheVariants.{New, Held, Refused, RefusedLegacy, TooLong, BadCount}
+use Rattle.syslog_collect.specs.declared.outcome.Outcome.TheVariants.{New, Held, Refused, RefusedLegacy, TooLong}
+use Rattle.syslog_collect.specs.declared.outcome.Outcome.TheVariants.{BadCount}
 
 -- the record as which the frame is read is added so
 abbrev pub AddsFrame : Clock → List ℕ → List Entry → List Entry → Added → Type 0
@@ -26,7 +27,8 @@ AddsFrame clock f old new how = (length f ≤ FRAME_MAX) × ((r : Parts ℤ) × 
 abbrev pub IsOutcome : Clock → List Entry → List Entry → List ℕ → Outcome → Type 0
 IsOutcome clock old new f New = AddsFrame clock f old new added.New
 IsOutcome clock old new f Held = AddsFrame clock f old new added.Held
-IsOutcome clock old new f (Refused fault) = (length f ≤ FRAME_MAX) × ¬ (IsLegacy clock f) × FaultOf f fault × ¬ (AnyOf WellFormed f) × (new ≡ old)
+IsOutcome clock old new f (Refused fault) =
+    (length f ≤ FRAME_MAX) × ¬ (IsLegacy clock f) × FaultOf f fault × ¬ (AnyOf WellFormed f) × (new ≡ old)
 IsOutcome clock old new f (RefusedLegacy offset) = (length f ≤ FRAME_MAX) × IsNotUtf8At clock offset f × (new ≡ old)
 IsOutcome clock old new f TooLong = (FRAME_MAX < length f) × (new ≡ old)
 IsOutcome clock old new f (BadCount at) = ⊥
@@ -55,7 +57,8 @@ HasRecord clock s = (kind : Framing) (first : ℕ) (octets : List ℕ) (frames :
 
 -- a scanner has a frame ready, which becomes this
 abbrev pub HandlesFrame : Clock → Scan → List Entry → List Entry → Outcome → Type 0
-HandlesFrame clock s old new o = HasFrame s × ((kind : Framing) (first : ℕ) (octets : List ℕ) (frames : List (List ℕ)) (rest : List ℕ)
+HandlesFrame clock s old new o = HasFrame s
+    × ((kind : Framing) (first : ℕ) (octets : List ℕ) (frames : List (List ℕ)) (rest : List ℕ)
     → Reads FRAME_MAX s kind first octets frames rest → (f : List ℕ) × Frame kind f rest × IsOutcome clock old new f o)
 
 -- what becomes of what a scanner has ready: nothing, where nothing is; a bad count; or a frame
@@ -73,8 +76,10 @@ abbrev pub IsReported : Clock → List Entry → List Entry → List (List ℕ) 
 IsReported clock old new frames (BadCount at) = (frames ≡ []) × (new ≡ old)
 IsReported clock old new frames New = (f : List ℕ) × (frames ≡ f ∷ []) × IsOutcome clock old new f New
 IsReported clock old new frames Held = (f : List ℕ) × (frames ≡ f ∷ []) × IsOutcome clock old new f Held
-IsReported clock old new frames (Refused fault) = (f : List ℕ) × (frames ≡ f ∷ []) × IsOutcome clock old new f (Refused fault)
-IsReported clock old new frames (RefusedLegacy offset) = (f : List ℕ) × (frames ≡ f ∷ []) × IsOutcome clock old new f (RefusedLegacy offset)
+IsReported clock old new frames (Refused fault) =
+    (f : List ℕ) × (frames ≡ f ∷ []) × IsOutcome clock old new f (Refused fault)
+IsReported clock old new frames (RefusedLegacy offset) =
+    (f : List ℕ) × (frames ≡ f ∷ []) × IsOutcome clock old new f (RefusedLegacy offset)
 IsReported clock old new frames TooLong = (f : List ℕ) × (frames ≡ f ∷ []) × IsOutcome clock old new f TooLong
 
 -- one outcome after the other, each over the entries that the one before it left

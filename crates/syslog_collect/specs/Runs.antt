@@ -1,18 +1,22 @@
 -- What a run of events accepts, and what it logs.
 use Rattle.std.specs.Prelude.{◌≡◌, ℕ, ◌<◌, ◌≤◌, ◌⊎◌, List, [], ◌∷◌, ◌++◌, length, take, drop, Result, Ok, Err}
 use Rattle.syslog_frame.specs.declared.phase.Phase.{Phase}
-use Rattle.syslog_frame.specs.declared.phase.Phase.TheVariants.{Counting, Inside, Ended as phase_Ended, BadCount as phase_BadCount, Failed}
+use Rattle.syslog_frame.specs.declared.phase.Phase.TheVariants.{Counting, Inside, Ended as phase_Ended}
+use Rattle.syslog_frame.specs.declared.phase.Phase.TheVariants.{BadCount as phase_BadCount, Failed}
 use Rattle.archive_text.specs.Entries.{Entry}
 use Rattle.syslog_legacy.specs.FrameReadings.{Clock}
 use Rattle.syslog_collect.specs.declared.connection.Connection.{Connection}
 use Rattle.syslog_collect.specs.declared.event.Event.{Event}
-use Rattle.syslog_collect.specs.declared.event.Event.TheVariants.{Opened as event_Opened, Piece as event_Piece, Ended as event_Ended, Datagram as event_Datagram}
+use Rattle.syslog_collect.specs.declared.event.Event.TheVariants.{Opened as event_Opened, Piece as event_Piece}
+use Rattle.syslog_collect.specs.declared.event.Event.TheVariants.{Ended as event_Ended, Datagram as event_Datagram}
 use Rattle.syslog_collect.specs.declared.event.EventEnd.{EventEnd}
 use Rattle.syslog_collect.specs.declared.event.EventEnd.TheVariants.{Done as end_Done, Stopped as end_Stopped}
 use Rattle.syslog_collect.specs.declared.event.RunEnd.{RunEnd}
 use Rattle.syslog_collect.specs.declared.event.RunEnd.TheVariants.{Done, Stopped}
 use Rattle.syslog_collect.specs.declared.fault.CollectFault.{CollectFault}
-use Rattle.syslog_collect.specs.declared.fault.CollectFault.TheVariants.{AlreadyOpen, TooManyOpen, NotOpen, ConnFailed, StreamTooLong, Unreleased, Unterminated, Memory}
+use Rattle.syslog_collect.specs.declared.fault.CollectFault.TheVariants.{AlreadyOpen, TooManyOpen, NotOpen, ConnFailed}
+use Rattle.syslog_collect.specs.declared.fault.CollectFault.TheVariants.{StreamTooLong, Unreleased, Unterminated}
+use Rattle.syslog_collect.specs.declared.fault.CollectFault.TheVariants.{Memory}
 use Rattle.syslog_collect.specs.declared.outcome.Outcome.{Outcome}
 use Rattle.syslog_collect.specs.declared.piece.Step.{Step}
 use Rattle.syslog_collect.specs.declared.piece.Step.TheVariants.{Stopped as step_Stopped, Ended as step_Ended, On}
@@ -70,19 +74,25 @@ piece_octets piece end_Done = piece
 piece_octets piece (end_Stopped taken fault) = take taken piece
 
 -- a connection moved by octets; or there were none, and nothing changed
-abbrev pub AdvancesOrStays : Clock → Connection → Connection → List Entry → List Entry → List ℕ → List Outcome → Stream → List (List ℕ) → Type 0
+abbrev pub AdvancesOrStays : Clock → Connection → Connection → List Entry → List Entry → List ℕ → List Outcome → Stream
+    → List (List ℕ) → Type 0
 AdvancesOrStays clock old new kept_old kept_new octets outcomes s handled =
-    ((octets ≡ []) × (new ≡ old) × (kept_new ≡ kept_old) × (outcomes ≡ [])) ⊎ Advances clock old new kept_old kept_new octets outcomes s handled
+    ((octets ≡ []) × (new ≡ old) × (kept_new ≡ kept_old) × (outcomes ≡ []))
+    ⊎ Advances clock old new kept_old kept_new octets outcomes s handled
 
 -- octets moved it, and the log grew by the outcomes
-abbrev pub LogsAdvance : Clock → Connection → Connection → List Entry → List Entry → List ℕ → List Outcome → List Outcome → Stream → List (List ℕ) → Type 0
+abbrev pub LogsAdvance : Clock → Connection → Connection → List Entry → List Entry → List ℕ → List Outcome
+    → List Outcome → Stream → List (List ℕ) → Type 0
 LogsAdvance clock old new kept_old kept_new octets log_old log_new s handled =
-    (outcomes : List Outcome) × (log_new ≡ log_old ++ outcomes) × Advances clock old new kept_old kept_new octets outcomes s handled
+    (outcomes : List Outcome) × (log_new ≡ log_old ++ outcomes)
+    × Advances clock old new kept_old kept_new octets outcomes s handled
 
 -- the same, or nothing came
-abbrev pub Logs : Clock → Connection → Connection → List Entry → List Entry → List ℕ → List Outcome → List Outcome → Stream → List (List ℕ) → Type 0
+abbrev pub Logs : Clock → Connection → Connection → List Entry → List Entry → List ℕ → List Outcome → List Outcome
+    → Stream → List (List ℕ) → Type 0
 Logs clock old new kept_old kept_new octets log_old log_new s handled =
-    (outcomes : List Outcome) × (log_new ≡ log_old ++ outcomes) × AdvancesOrStays clock old new kept_old kept_new octets outcomes s handled
+    (outcomes : List Outcome) × (log_new ≡ log_old ++ outcomes)
+    × AdvancesOrStays clock old new kept_old kept_new octets outcomes s handled
 
 -- whether a frame or a bad count is ready, as a number
 abbrev pub pending : Phase → ℕ

@@ -48,6 +48,7 @@ pub record StandsAt (clock : Clock) (cs : List Connection) (kept first : List En
   pub gains : Gains clock first kept (all_of handled ++ (all_of ended_frames ++ h.datagrams))
 
 -- connections and entries stand at first entries and acceptable events
-pub record Stands (clock : Clock) (cs : List Connection) (kept first : List Entry) (events : List AcceptedEvent) : Type 0 where
+pub record Stands (clock : Clock) (cs : List Connection) (kept first : List Entry) (events : List AcceptedEvent) : Type
+    0 where
   pub acceptable : AreAcceptable events
   pub stands_at : StandsAt clock cs kept first (history_of events)

@@ -3,9 +3,10 @@
 ghost use Rattle.std.specs.Prelude.{◌≡◌, ◌<◌, ◌≤◌, ℕ, List, IfOk, OnErr, OnOk, length};
 ghost use Rattle.syslog_frame.specs.Scan.{HasFrame, HasReady, IsFailed, IsReading};
 ghost use Rattle.syslog_collect.specs.Answers.{AdvancesBy, IfMemory, IfRefused};
-ghost use Rattle.syslog_collect.specs.Answers.{IsBadCount, IsCause, IsUsedWithin};
+ghost use Rattle.syslog_collect.specs.Answers.{IsBadCount, IsCause, IsTaken, IsUsedWithin};
 ghost use Rattle.syslog_collect.specs.Answers.{accepted_octets, answered, dropped_octets};
 ghost use Rattle.syslog_collect.specs.History.{Stream};
+ghost use Rattle.syslog_collect.specs.Logs.{ready_count};
 ghost use Rattle.syslog_collect.specs.Standing.{IsAt};
 
 use crate::connection::{Connection, handle_ready};
@@ -33,6 +34,8 @@ pub fn advance_connection<S: Store>(
     // Where memory was refused, the frame stays ready, and the store is what it was.
     ensures waits { IfMemory result (HasFrame connection.new.scanner) }
     ensures err { OnErr result (S.entries store.new ≡ S.entries store.old) }
+    ensures taken { (s : Stream) (handled : List (List ℕ)) → IsAt connection.old s handled
+        → IsTaken piece.now (ready_count connection.old.scanner.phase) result s }
 
     // Why it is refused, and that nothing has changed then, but where memory was refused.
     ensures cause { (s : Stream) (handled : List (List ℕ)) → IsAt connection.old s handled

@@ -1,15 +1,15 @@
 //! The collector: streams in pieces, and datagrams, into a set of records.
 
-ghost use Rattle.std.specs.Prelude.{◌≡◌, ◌⊎◌, ◌↔◌, ◌++◌, ◌==◌, ℕ, List, [], IfErr, IfOk, OnErr, OnOk};
+ghost use Rattle.std.specs.Prelude.{◌≡◌, ◌⊎◌, ◌↔◌, ◌++◌, ◌==◌, ℕ, List, [], IfErr, IfOk, IfSome, OnErr, OnOk};
 ghost use Rattle.std.specs.List.{position_from};
 ghost use Rattle.archive_text.specs.Entries.{Entry, Has};
 ghost use Rattle.archive_text.specs.Text.{IsArchive, text_of};
-ghost use Rattle.syslog_collect.specs.Answers.{IfRefused, IfUnreleased, IsAnswerAt, IsEnding, IsOpening};
+ghost use Rattle.syslog_collect.specs.Answers.{IfRefused, IfUnreleased, IsAnswerAt, IsEnding, IsOpening, IsTaken};
 ghost use Rattle.syslog_collect.specs.Answers.{IsUsedWithin, accepted_octets, dropped_octets, used_octets};
 ghost use Rattle.syslog_collect.specs.Answers.{accepted_datagram, accepted_ending, accepted_opening, accepted_piece};
 ghost use Rattle.syslog_collect.specs.Frames.{IsReceived};
 ghost use Rattle.syslog_collect.specs.Headline.{IsSettled, IsUnion, ReceivedBoth, ReceivedSame};
-ghost use Rattle.syslog_collect.specs.History.{AcceptedEvent, history_of};
+ghost use Rattle.syslog_collect.specs.History.{AcceptedEvent, history_of, stream_of};
 ghost use Rattle.syslog_collect.specs.Logs.{Reports, waiting, waiting_then};
 ghost use Rattle.syslog_collect.specs.Outcomes.{IsOutcome, IsRecordFrame, outcomes_of};
 ghost use Rattle.syslog_collect.specs.Standing.{Stands};
@@ -67,6 +67,10 @@ impl<S: Store> Collector<S> {
 
     /// Opens a connection, by a number of the caller's. A number that was ended may be opened
     /// again, as a new stream.
+    ///
+    /// It is refused, in this order, with `AlreadyOpen` if the number is open, `TooManyOpen` if
+    /// `CONNECTIONS_MAX` connections are, and `Memory { used: 0 }` if a growth is refused. A refusal
+    /// changes nothing.
     pub fn open_conn(
         &mut self,
         alloc: Global,
@@ -108,10 +112,13 @@ impl<S: Store> Collector<S> {
     }
 
     /// Takes octets of a connection's piece, and handles one frame at most. A frame that is ready
-    /// already is handled first, and then no octet is taken.
+    /// already is handled first, and then no octet is taken. Else octets are taken up to the end of
+    /// a frame, or up to a bad octet of a count, or to the end of the piece.
     ///
-    /// After `Memory { used }` those octets were taken and the frame stays ready: the next call
-    /// handles it. After `BadCount` the connection takes no more, and the others go on.
+    /// It is refused, in this order, with `NotOpen`, `ConnFailed` after a bad count, and
+    /// `StreamTooLong` if the stream would have more than `POSITION_MAX` octets. These change
+    /// nothing. After `Memory { used }` those octets were taken and the frame stays ready: the next
+    /// call handles it. After `BadCount` the connection takes no more, and the others go on.
     pub fn advance(
         &mut self,
         alloc: Global,
@@ -119,6 +126,12 @@ impl<S: Store> Collector<S> {
         piece: &[u8],
     ) -> Result<Advance, CollectFault>
         ensures within { IsUsedWithin piece.now result }
+        // How much is taken: nothing while a frame waits, which is handled first; else all up to the
+        // end of a frame, or up to a bad octet, or the whole piece.
+        ensures taken { (first : List Entry) (events : List AcceptedEvent)
+            → Stands self.old.clock self.old.connections.items (S.entries self.old.store) first events
+            → IfSome (stream_of conn (history_of events).streams)
+            (IsTaken piece.now (waiting self.old.connections.items conn) result) }
         // It stands at the events with what was accepted: the octets used, and a bad one.
         ensures stands { (first : List Entry) (events : List AcceptedEvent)
             → Stands self.old.clock self.old.connections.items (S.entries self.old.store) first events
@@ -164,7 +177,7 @@ impl<S: Store> Collector<S> {
         }
     }
 
-    /// Handles a datagram.
+    /// Handles a datagram: its octets are one frame. If a growth is refused, nothing has changed.
     pub fn datagram(&mut self, alloc: Global, octets: &[u8]) -> Result<Outcome, AllocError>
         ensures stands { (first : List Entry) (events : List AcceptedEvent)
             → Stands self.old.clock self.old.connections.items (S.entries self.old.store) first events
@@ -181,8 +194,10 @@ impl<S: Store> Collector<S> {
         handle(alloc, self.clock, &mut self.store, octets)
     }
 
-    /// Ends a connection. It is closed after Ok, and after `Unterminated` too; one whose stream
-    /// held a bad count is closed with Ok.
+    /// Ends a connection. It is closed after Ok, and after `Unterminated { start }` too, where the
+    /// stream stops inside the frame that begins at that position; one whose stream held a bad count
+    /// is closed with Ok. `NotOpen`, and `Unreleased` while a frame waits whose memory was refused,
+    /// change nothing.
     pub fn end_conn(&mut self, conn: u32) -> Result<(), CollectFault>
         ensures stands { (first : List Entry) (events : List AcceptedEvent)
             → Stands self.old.clock self.old.connections.items (S.entries self.old.store) first events
@@ -194,6 +209,10 @@ impl<S: Store> Collector<S> {
         ensures unreleased { (first : List Entry) (events : List AcceptedEvent)
             → Stands self.old.clock self.old.connections.items (S.entries self.old.store) first events
             → IfUnreleased result (¬ (IsSettled self.old.connections.items)) }
+        // The frame that is not handled is one of this connection.
+        ensures ready { (first : List Entry) (events : List AcceptedEvent)
+            → Stands self.old.clock self.old.connections.items (S.entries self.old.store) first events
+            → IfUnreleased result (waiting self.old.connections.items conn ≡ 1) }
         ensures unchanged { IfRefused result
             (self.new.connections.items ≡ self.old.connections.items) }
         ensures settled { IsSettled self.old.connections.items

@@ -13,15 +13,15 @@
 //! - History: what a list of events says, with no word of how a collector works. `AcceptedEvent` is
 //!   an event that was accepted, `AreAcceptable` says which events may come, and `history_of` folds
 //!   them into the openings with their octets and the datagrams.
-//! - Readings: `IsReadAs`, the record as which a frame is read. Without a clock it is the record of
-//!   RFC 5424 that the frame spells ([`frames_have_one_reading`]).
+//! - FrameReadings, of `syslog_legacy`: `IsReadAs`, the record as which a frame is read. Without a
+//!   clock it is the record of RFC 5424 that the frame spells ([`frames_have_one_reading`]).
 //! - Frames: `HasFrames`, the frames of all openings and datagrams; `IsReceived`, the received set:
 //!   the records as which a frame of at most `FRAME_MAX` octets is read, each as its entry
 //!   ([`received_records`]).
 //! - Standing: `Stands`, where a collector is after events over a first set. Each call's clause
 //!   `stands` says that it then stands at these events with those that the call accepted.
 //! - Answers and Runs: what a call or a run accepted, as a function of its answer, and the cause of
-//!   each refusal. Outcomes: what becomes of a frame.
+//!   each refusal. Stops: why a run stopped. Outcomes: what becomes of a frame.
 //! - Logs: `LogsRun`, the log of a run, outcome by outcome; `waiting`, how many frames of a
 //!   connection wait, since memory was refused for them.
 //! - Headline: `IsSettled`, that no frame is left ready, and `ReceivedSame`.

@@ -6,7 +6,9 @@ ghost use Rattle.syslog_collect.specs.History.{Stream};
 ghost use Rattle.syslog_collect.specs.Outcomes.{outcomes_of};
 ghost use Rattle.syslog_collect.specs.Runs.{IfAccepted, IfDone, IsStepWithin, Logs, LogsAdvance, OnGoing};
 ghost use Rattle.syslog_collect.specs.Runs.{piece_octets, step_octets, used_before};
+ghost use Rattle.syslog_collect.specs.Logs.{ready_count};
 ghost use Rattle.syslog_collect.specs.Standing.{IsAt};
+ghost use Rattle.syslog_collect.specs.Stops.{IfStopped, MayGoOn, OnStopped, StopsPiece};
 ghost use Rattle.syslog_frame.specs.Scan.{HasReady};
 
 use crate::advancing::advance_connection;
@@ -72,6 +74,11 @@ fn take_step<S: Store>(
     ensures accepted { (s : Stream) (handled : List (List ℕ)) → IsAt connection.old s handled
         → IfAccepted result (LogsAdvance clock connection.old connection.new (S.entries store.old)
         (S.entries store.new) (step_octets rest.now result) log.old.items log.new.items s handled) }
+    ensures goes_on { (s : Stream) (handled : List (List ℕ)) → IsAt connection.old s handled
+        → OnGoing result (λ used. MayGoOn rest.now used s) }
+    ensures cause { (s : Stream) (handled : List (List ℕ)) → IsAt connection.old s handled
+        → OnStopped result (λ used fault. StopsPiece clock rest.now used
+        (ready_count connection.new.scanner.phase) fault s) }
 {
     if log.reserve(1).is_err() {
         let fault = CollectFault::Memory { used: 0 };
@@ -100,6 +107,7 @@ pub fn take_piece<S: Store>(
     piece: &[u8],
     log: &mut Vec<Outcome>,
 ) -> EventEnd
+    ensures within { IfStopped result (λ taken fault. taken ≤ length piece.now) }
     ensures settled { IfDone result (¬ (HasReady connection.new.scanner)) }
     ensures moves { (s : Stream) (handled : List (List ℕ)) → IsAt connection.old s handled
         → Logs clock connection.old connection.new (S.entries store.old) (S.entries store.new)
@@ -107,6 +115,10 @@ pub fn take_piece<S: Store>(
     ensures accepted { (s : Stream) (handled : List (List ℕ)) → IsAt connection.old s handled
         → IfDone result (LogsAdvance clock connection.old connection.new (S.entries store.old)
         (S.entries store.new) piece.now log.old.items log.new.items s handled) }
+    // Why it is refused.
+    ensures cause { (s : Stream) (handled : List (List ℕ)) → IsAt connection.old s handled
+        → IfStopped result (λ taken fault. StopsPiece clock piece.now taken
+        (ready_count connection.new.scanner.phase) fault s) }
 {
     let mut taken = 0;
     'pieces: loop {

@@ -1,14 +1,18 @@
 //! A run of a collector over a list of events.
 
-ghost use Rattle.std.specs.Prelude.{◌≡◌, ◌++◌, ◌<◌, ◌+◌, List, vec_capacity, vec_len};
+ghost use Rattle.std.specs.Prelude.{◌≡◌, ◌⊎◌, ◌++◌, ◌<◌, ◌≤◌, ◌+◌, List, length, vec_capacity, vec_len};
 ghost use Rattle.archive_text.specs.Entries.{Entry};
 ghost use Rattle.syslog_collect.specs.Headline.{IsSettled};
 ghost use Rattle.syslog_collect.specs.History.{AcceptedEvent, history_of};
 ghost use Rattle.syslog_collect.specs.Logs.{Grows, LogsDatagram, LogsEventEnd, LogsPiece, LogsRun};
 ghost use Rattle.syslog_collect.specs.Logs.{waiting};
+ghost use Rattle.syslog_collect.specs.Outcomes.{IsRecordFrame};
 ghost use Rattle.syslog_collect.specs.Runs.{IfAllDone, IfDone, accepted_by, accepted_datagram_end};
 ghost use Rattle.syslog_collect.specs.Runs.{accepted_piece_end, accepted_run, event_end};
 ghost use Rattle.syslog_collect.specs.Standing.{Stands};
+ghost use Rattle.syslog_collect.specs.Stops.{EndWell, EndsWell, IfStopped, IsPieceRefusal, StopsAs, StopsAt};
+ghost use Rattle.syslog_collect.specs.Stops.{done_events};
+ghost use Rattle.syslog_collect.specs.declared.fault.CollectFault.TheVariants.{Memory};
 
 use crate::collector::{Collector, place};
 use crate::event::{Event, EventEnd, RunEnd};
@@ -42,6 +46,12 @@ impl<S: Store> Collector<S> {
             → Grows (LogsPiece self.old.clock (history_of events) (waiting self.old.connections.items)
             (waiting self.new.connections.items) conn octets.now result
             (S.entries self.old.store) (S.entries self.new.store)) log.old.items log.new.items }
+        ensures within { IfStopped result (λ taken fault. taken ≤ length octets.now) }
+        ensures cause { (first : List Entry) (events : List AcceptedEvent)
+            → Stands self.old.clock self.old.connections.items (S.entries self.old.store) first events
+            → IfStopped result (λ taken fault. (fault ≡ Memory 0)
+            ⊎ IsPieceRefusal self.old.clock conn octets.now taken
+            (waiting self.new.connections.items conn) fault (history_of events)) }
     {
         match place(&self.connections, conn) {
             None => EventEnd::Stopped {
@@ -70,6 +80,8 @@ impl<S: Store> Collector<S> {
         ensures clock { self.new.clock ≡ self.old.clock }
         ensures logged { Grows (LogsDatagram self.old.clock octets.now result (S.entries self.old.store)
             (S.entries self.new.store)) log.old.items log.new.items }
+        ensures cause { IfStopped result (λ taken fault. (taken ≡ 0) × (fault ≡ Memory 0)
+            × IsRecordFrame self.old.clock octets.now) }
     {
         match self.datagram(alloc, octets) {
             Ok(outcome) => {
@@ -97,6 +109,13 @@ impl<S: Store> Collector<S> {
             → Grows (LogsEventEnd self.old.clock (history_of events) (waiting self.old.connections.items)
             (waiting self.new.connections.items) event.entry result
             (S.entries self.old.store) (S.entries self.new.store)) log.old.items log.new.items }
+        ensures cause { (first : List Entry) (events : List AcceptedEvent)
+            → Stands self.old.clock self.old.connections.items (S.entries self.old.store) first events
+            → IfStopped result (StopsAt self.old.clock (history_of events)
+            (waiting self.new.connections.items) event.entry) }
+        ensures ends { (first : List Entry) (events : List AcceptedEvent)
+            → Stands self.old.clock self.old.connections.items (S.entries self.old.store) first events
+            → IfDone result (EndsWell (history_of events) event.entry) }
     {
         if log.reserve(1).is_err() {
             return EventEnd::Stopped {
@@ -114,17 +133,32 @@ impl<S: Store> Collector<S> {
 
     /// Handles events in order, up to the first that is refused, and appends each outcome to the
     /// log. The octets of a piece that follow a bad count are dropped.
+    ///
+    /// After `Stopped { at, taken, fault }` the events before `at` were accepted, and `taken` octets
+    /// of a piece there, so that the caller may go on with the rest; an end there that is
+    /// `Unterminated` has closed its connection. Room for an outcome is made in the log before each
+    /// call: if that is refused, the fault is `Memory { used: 0 }`.
     pub fn run(&mut self, alloc: Global, events: &[Event<'_>], log: &mut Vec<Outcome>) -> RunEnd
         ensures stands { (first : List Entry) (before : List AcceptedEvent)
             → Stands self.old.clock self.old.connections.items (S.entries self.old.store) first before
             → Stands self.new.clock self.new.connections.items (S.entries self.new.store) first
             (before ++ accepted_run events.now result) }
+        // Why it stopped: the first event that is refused, its cause after the events before it, and
+        // how much of a piece was taken there.
+        ensures cause { (first : List Entry) (before : List AcceptedEvent)
+            → Stands self.old.clock self.old.connections.items (S.entries self.old.store) first before
+            → StopsAs self.old.clock (history_of before) (waiting self.new.connections.items)
+            events.now result }
+        // It did not stop at an end: the connection's last frame is whole, or it held a bad count.
+        ensures ends { (first : List Entry) (before : List AcceptedEvent)
+            → Stands self.old.clock self.old.connections.items (S.entries self.old.store) first before
+            → EndWell (history_of before) (done_events events.now result) }
         // After Done no frame is left ready.
         ensures settled { IfAllDone result (IsSettled self.old.connections.items
             → IsSettled self.new.connections.items) }
+        ensures clock { self.new.clock ≡ self.old.clock }
         // The log has the outcomes in the order in which the frames' last octets came: of a run
         // that stops too, where a frame for which memory was refused waits for the next call.
-        ensures clock { self.new.clock ≡ self.old.clock }
         ensures logged { (first : List Entry) (before : List AcceptedEvent)
             → Stands self.old.clock self.old.connections.items (S.entries self.old.store) first before
             → Grows (LogsRun self.old.clock (history_of before) (waiting self.old.connections.items)

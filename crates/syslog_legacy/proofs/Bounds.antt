@@ -33,7 +33,13 @@ spaced_len w b (x, y, e, h, k) = omega (arith, together x y b e, ap length h, ap
 header_len : (p : ℕ) (time : Option ℤ) (h a i : Option (List ℕ)) (b : List ℕ) → HeaderForm p time h a i None b
     → len b ≤ len (decimal p) + 4 + 28 + (len (word_form h) + 1) + (len (word_form a) + 1) + (len (word_form i) + 1) + 2
 unfolding HeaderForm
-header_len p time h a i b (u0, v0, f0, g0, (u2, v2, f2, (u1, v1, f1, g1, k1), (u3, v3, f3, g3, (u4, v4, f4, g4, (u5, v5, f5, g5, g6))))) =
+header_len p time h a i b (
+  u0,
+  v0,
+  f0,
+  g0,
+  (u2, v2, f2, (u1, v1, f1, g1, k1), (u3, v3, f3, g3, (u4, v4, f4, g4, (u5, v5, f5, g5, g6)))),
+) =
     omega (
       arith,
       together u0 v0 b f0,
@@ -80,21 +86,48 @@ follows_len b rest (t, e, h) = omega (arith, together t rest b e)
 
 -- what a front and a message take of a packet
 abbrev taken : FrontParts → List ℕ → ℕ
-taken f m = len (decimal f.priority) + (len (word_form f.hostname) + len (word_form f.app_name) + len (word_form f.proc_id)) + len m
+taken f m = len (decimal f.priority) + (len (word_form f.hostname) + len (word_form f.app_name)
+    + len (word_form f.proc_id)) + len m
 
 digits_13 : len (decimal 13) ≡ 2
 digits_13 =
-    omega (arith, ap length (next_digit 1 51 (omega arith) (omega arith, omega arith) (omega arith)), ap length (one_digit 49 (omega arith, omega arith)), length-append (decimal 1) (51 ∷ []))
+    omega (
+      arith,
+      ap length (next_digit 1 51 (omega arith) (omega arith, omega arith) (omega arith)),
+      ap length (one_digit 49 (omega arith, omega arith)),
+      length-append (decimal 1) (51 ∷ []),
+    )
 
-front_taken : (clock : LegacyClock) (b : List ℕ) (f : FrontParts) (m : List ℕ) → Splits clock b f m → taken f m ≤ len b + 5
+front_taken : (clock : LegacyClock) (b : List ℕ) (f : FrontParts) (m : List ℕ) → Splits clock b f m
+    → taken f m ≤ len b + 5
 front_taken clock b f m (inl (none, (e, h))) =
     omega (arith, ap (λ (g : FrontParts). taken g m) e, ap length h, digits_13)
-front_taken clock b f m (inr (v, r, p, inl (none, (e, h)))) = omega (arith, ap (λ (g : FrontParts). taken g m) e, ap length h, priority_len v b r p)
+front_taken clock b f m (inr (v, r, p, inl (none, (e, h)))) =
+    omega (arith, ap (λ (g : FrontParts). taken g m) e, ap length h, priority_len v b r p)
 front_taken clock b f m (inr (v, r, p, inr (t, s, q, inl (none, (e, h))))) =
-    omega (arith, ap (λ (g : FrontParts). taken g m) e, ap length h, priority_len v b r p, follows_len {A = TimestampText clock t} r s q)
+    omega (
+      arith,
+      ap (λ (g : FrontParts). taken g m) e,
+      ap length h,
+      priority_len v b r p,
+      follows_len {A = TimestampText clock t} r s q,
+    )
 front_taken clock b f m (inr (v, r, p, inr (t, s, q, inr (host, u, k, inl (none, (e, h)))))) =
-    omega (arith, ap (λ (g : FrontParts). taken g m) e, ap length h, priority_len v b r p, follows_len {A = TimestampText clock t} r s q, host_len host s u k)
-front_taken clock b f m (inr (v, r, p, inr (t, s, q, inr (host, u, k, inr (tag, w, (behind, (x, g, (y, z, i, (a, n), j)), l), (e, h)))))) =
+    omega (
+      arith,
+      ap (λ (g : FrontParts). taken g m) e,
+      ap length h,
+      priority_len v b r p,
+      follows_len {A = TimestampText clock t} r s q,
+      host_len host s u k,
+    )
+front_taken clock b f m (inr (
+  v,
+  r,
+  p,
+  inr
+      (t, s, q, inr (host, u, k, inr (tag, w, (behind, (x, g, (y, z, i, (a, n), j)), l), (e, h)))),
+)) =
     omega (
       arith,
       ap (λ (g : FrontParts). taken g m) e,
@@ -115,11 +148,21 @@ message_len (AnyOctets (x ∷ octets)) b h = omega (arith, ap length h.2)
 message_len (Utf8Text text) b (t, (x, y, e, h, k)) = omega (arith, together x y b e, ap length h, ap length k)
 
 -- the canonical octets of a record of these parts
-form_len : (f : FrontParts) (message : MessageParts) (octets c : List ℕ) → Message message octets → Canonical (legacy_parts f message) c → len c ≤ taken f octets + 44
+form_len : (f : FrontParts) (message : MessageParts) (octets c : List ℕ) → Message message octets
+    → Canonical (legacy_parts f message) c → len c ≤ taken f octets + 44
 form_len f message octets c h (u, v, g, i, (w, z, j, o, q)) =
-    omega (arith, together u v c g, together w z v j, ap length o, ap length q, header_len f.priority f.time f.hostname f.app_name f.proc_id u i, message_len message octets h)
+    omega (
+      arith,
+      together u v c g,
+      together w z v j,
+      ap length o,
+      ap length q,
+      header_len f.priority f.time f.hostname f.app_name f.proc_id u i,
+      message_len message octets h,
+    )
 
-pub legacy_bounded : (clock : LegacyClock) (r : Parts ℤ) (b c : List ℕ) (packet entry : ℕ) → IsRead clock b r → Canonical r c → length b ≤ packet → packet + 64 ≤ entry → length c ≤ entry
+pub legacy_bounded : (clock : LegacyClock) (r : Parts ℤ) (b c : List ℕ) (packet entry : ℕ) → IsRead clock b r
+    → Canonical r c → length b ≤ packet → packet + 64 ≤ entry → length c ≤ entry
 legacy_bounded clock r b c packet entry h k most room =
     let form : Canonical (legacy_parts h.front h.message) c = subst (λ (q : Parts ℤ). Canonical q c) h.is k in
     omega (arith, form_len h.front h.message h.octets c h.means form, front_taken clock b h.front h.octets h.splits)

@@ -7,3 +7,4 @@ pub mod Splitting
 pub mod OneAnswer
 pub mod Valid
 pub mod Bounds
+pub mod FrameReadings

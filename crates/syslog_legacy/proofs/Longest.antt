@@ -9,21 +9,25 @@ use Rattle.syslog_grammar.specs.Spans.{IsRun}
 use Rattle.syslog_legacy.specs.Hosts.{IsNilable, SplitsRun}
 
 -- the octets of a class that come first, n at most, are the longest such prefix
-longest : (C : ℕ → Type 0) (n : ℕ) (run rest text more : List ℕ) → AllByRecursion C run → (length run < n → IfFirst (λ x. ¬ (C x)) rest)
+longest : (C : ℕ → Type 0) (n : ℕ) (run rest text more : List ℕ) → AllByRecursion C run
+    → (length run < n → IfFirst (λ x. ¬ (C x)) rest)
     → AllByRecursion C text → length text ≤ n → IfFirst (λ x. ¬ (C x)) more → text ++ more ≡ run ++ rest → text ≡ run
 longest C n [] rest [] more p ends q fits out e = refl
 longest C n (y ∷ run) rest [] [] p ends q fits out e = absurd cc
-longest C n (y ∷ run) rest [] (x ∷ more) p ends q fits out e = absurd (out (subst C (sym (heads x y more (run ++ rest) e)) p.0))
+longest C n (y ∷ run) rest [] (x ∷ more) p ends q fits out e =
+    absurd (out (subst C (sym (heads x y more (run ++ rest) e)) p.0))
 longest C n [] [] (x ∷ text) more p ends q fits out e = absurd cc
 longest C n [] (y ∷ rest) (x ∷ text) more p ends q fits out e =
     absurd (ends (omega arith) (subst C (heads x y (text ++ more) rest e) q.0))
 longest C n (y ∷ run) rest (x ∷ text) more p ends q fits out e =
     ap (λ (k : ℕ). k ∷ text) (heads x y (text ++ more) (run ++ rest) e)
     ∙ ap (λ (k : List ℕ). y ∷ k)
-    (longest C (n - 1) run rest text more p.1 (λ h. ends (omega arith)) q.1 (omega arith) out (tails x y (text ++ more) (run ++ rest) e))
+    (longest C (n - 1) run rest text more p.1 (λ h. ends (omega arith)) q.1 (omega arith) out
+    (tails x y (text ++ more) (run ++ rest) e))
 
 -- a run that no octet of its class follows is the run at the front
-pub the_run : (C : ℕ → Type 0) (n : ℕ) (b run rest text more : List ℕ) → SplitsRun C n b run rest → IsRun C n text → IfFirst (λ x. ¬ (C x)) more → b ≡ text ++ more
+pub the_run : (C : ℕ → Type 0) (n : ℕ) (b run rest text more : List ℕ) → SplitsRun C n b run rest → IsRun C n text
+    → IfFirst (λ x. ¬ (C x)) more → b ≡ text ++ more
     → (text ≡ run) × (more ≡ rest)
 the_run C n b run rest text more s r out e =
     let whole : text ++ more ≡ run ++ rest = sym e ∙ s.parts in

@@ -16,7 +16,8 @@ use Rattle.syslog_legacy.specs.Timestamps.{TimestampText}
 use Rattle.syslog_legacy.specs.Hosts.{Host}
 use Rattle.syslog_legacy.specs.Tags.{Tag}
 use Rattle.syslog_legacy.specs.Readings.{Answer, IsRead, Legacy, NotUtf8At, ReadAs, StopsIn, legacy_parts}
-use Rattle.syslog_legacy.specs.Splits.{AllMessage, BehindHost, BehindPriority, BehindTime, First, FrontParts, Part, Split, Splits, front_of, no_tag}
+use Rattle.syslog_legacy.specs.Splits.{AllMessage, BehindHost, BehindPriority, BehindTime, First, FrontParts, Part}
+use Rattle.syslog_legacy.specs.Splits.{Split, Splits, front_of, no_tag}
 use Rattle.syslog_legacy.proofs.Hosts.{host_one}
 use Rattle.syslog_legacy.proofs.Tags.{tag_one}
 use Rattle.syslog_legacy.proofs.Times.{IsPrefixFree-time, time_one}
@@ -37,7 +38,8 @@ follows_one A free one b v w s t (x, e, h) (y, f, k) =
 all_one : (front : FrontParts) → OneSplit (AllMessage front)
 all_one front b f g m n (e, h) (d, k) = (e ∙ sym d, h ∙ sym k)
 
-first_one : {V : Type 0} (P : Part V) (behind : V → Split) (front : FrontParts) → OnePart P → ((v : V) → OneSplit (behind v)) → OneSplit (First P behind front)
+first_one : {V : Type 0} (P : Part V) (behind : V → Split) (front : FrontParts) → OnePart P
+    → ((v : V) → OneSplit (behind v)) → OneSplit (First P behind front)
 first_one P behind front part on b f g m n (inl (none, h)) (inl (other, k)) = all_one front b f g m n h k
 first_one P behind front part on b f g m n (inl (none, h)) (inr (v, rest, p, k)) = absurd (none v rest p)
 first_one P behind front part on b f g m n (inr (v, rest, p, k)) (inl (none, h)) = absurd (none v rest p)
@@ -49,8 +51,10 @@ first_one {V} P behind front part on b f g m n (inr (v, s, p, h)) (inr (w, t, q,
 
 pub split_one : (clock : LegacyClock) → OneSplit (Splits clock)
 split_one clock =
-    first_one (λ p. Follows (Priority p)) (BehindPriority clock) (front_of 13 None None no_tag) (follows_one Priority IsPrefixFree-priority priority_same)
-    (λ p. first_one (λ t. Follows (TimestampText clock t)) (BehindTime p) (front_of p None None no_tag) (follows_one (TimestampText clock) (IsPrefixFree-time clock) (time_one clock))
+    first_one (λ p. Follows (Priority p)) (BehindPriority clock) (front_of 13 None None no_tag)
+    (follows_one Priority IsPrefixFree-priority priority_same)
+    (λ p. first_one (λ t. Follows (TimestampText clock t)) (BehindTime p) (front_of p None None no_tag)
+    (follows_one (TimestampText clock) (IsPrefixFree-time clock) (time_one clock))
     (λ t. first_one Host (BehindHost p t) (front_of p (Some t) None no_tag) host_one
     (λ host. first_one Tag (λ tag. AllMessage (front_of p (Some t) host tag)) (front_of p (Some t) host no_tag) tag_one
     (λ tag. all_one (front_of p (Some t) host tag)))))
@@ -59,10 +63,12 @@ split_one clock =
 marked : (message : MessageParts) (text : List ℕ) → Message message (bom ++ text) → IsText text
 marked (AnyOctets octets) text h = absurd (h.1 (ap (λ (k : List ℕ). take 3 k) (sym h.2)))
 marked (Utf8Text t) text (is, (x, y, e, h, k)) =
-    let same : text ≡ t = append_cancel_left bom text t (e ∙ ap (λ (u : List ℕ). u ++ y) h ∙ ap (λ (u : List ℕ). bom ++ u) k) in
+    let same : text ≡ t = append_cancel_left bom text t
+    (e ∙ ap (λ (u : List ℕ). u ++ y) h ∙ ap (λ (u : List ℕ). bom ++ u) k) in
     subst IsText (sym same) is
 
-reads_stops : (clock : LegacyClock) (b : List ℕ) (r : Parts ℤ) (offset : ℕ) → IsRead clock b r → StopsIn clock b offset → ⊥
+reads_stops : (clock : LegacyClock) (b : List ℕ) (r : Parts ℤ) (offset : ℕ) → IsRead clock b r → StopsIn clock b offset
+    → ⊥
 reads_stops clock b r offset h k =
     let same = split_one clock b h.front k.front h.octets (bom ++ k.text) h.splits k.splits in
     k.faulty (marked h.message k.text (subst (Message h.message) same.1 h.means))
@@ -71,18 +77,28 @@ pub legacy_one : (clock : LegacyClock) (x y : Answer) (b : List ℕ) → Legacy 
 legacy_one clock (ReadAs r) (ReadAs q) b h k =
     let same = split_one clock b h.front k.front h.octets k.octets h.splits k.splits in
     let message = message_same h.message k.message k.octets (subst (Message h.message) same.1 h.means) k.means in
-    ap ReadAs (h.is ∙ ap (λ (f : FrontParts). legacy_parts f h.message) same.0 ∙ ap (legacy_parts k.front) message ∙ sym k.is)
+    ap ReadAs (h.is ∙ ap (λ (f : FrontParts). legacy_parts f h.message) same.0 ∙ ap (legacy_parts k.front) message
+    ∙ sym k.is)
 legacy_one clock (ReadAs r) (NotUtf8At n) b h k = absurd (reads_stops clock b r n h k)
 legacy_one clock (NotUtf8At n) (ReadAs r) b h k = absurd (reads_stops clock b r n k h)
 legacy_one clock (NotUtf8At n) (NotUtf8At m) b h k =
     let same = split_one clock b h.front k.front (bom ++ h.text) (bom ++ k.text) h.splits k.splits in
     let text = append_cancel_left bom h.text k.text same.1 in
-    let within = IsFaultOffset-unique IsText k.text h.within k.within (subst (λ (t : List ℕ). IsFaultOffset IsText t h.within) text h.stops) k.stops in
+    let within = IsFaultOffset-unique IsText k.text h.within k.within
+    (subst (λ (t : List ℕ). IsFaultOffset IsText t h.within) text h.stops) k.stops in
     let len : length h.before ≡ length k.before =
-    omega (arith, ap length h.parts, ap length k.parts, length-append h.before h.text, length-append k.before k.text, ap length text) in
+    omega (
+      arith,
+      ap length h.parts,
+      ap length k.parts,
+      length-append h.before h.text,
+      length-append k.before k.text,
+      ap length text,
+    ) in
     ap NotUtf8At (omega (arith, h.offset_is, k.offset_is, within, len))
 
 -- an answer of either kind is one
-pub some_answer : {X E : Type 0} (r : Result X E) (A : Answer → Type 0) (p : X → Parts ℤ) (q : E → ℕ) → MatchResult r (λ x. A (ReadAs (p x))) (λ e. A (NotUtf8At (q e))) → (answer : Answer) × A answer
+pub some_answer : {X E : Type 0} (r : Result X E) (A : Answer → Type 0) (p : X → Parts ℤ) (q : E → ℕ)
+    → MatchResult r (λ x. A (ReadAs (p x))) (λ e. A (NotUtf8At (q e))) → (answer : Answer) × A answer
 some_answer (Ok x) A p q h = (ReadAs (p x), h)
 some_answer (Err e) A p q h = (NotUtf8At (q e), h)

@@ -1,5 +1,6 @@
 -- A legacy timestamp, part by part, and its instant, which is in range.
-use Rattle.std.proofs.Common.{◌≡◌, ◌≢◌, ℕ, ◌+◌, ◌/◌, ◌%◌, ◌≤◌, List, [], ◌∷◌, ◌++◌, refl, sym, ap, subst, ◌∙◌, arith, inl, inr}
+use Rattle.std.proofs.Common.{◌≡◌, ◌≢◌, ℕ, ◌+◌, ◌/◌, ◌%◌, ◌≤◌, List, [], ◌∷◌, ◌++◌, refl, sym, ap, subst, ◌∙◌, arith}
+use Rattle.std.proofs.Common.{inl, inr}
 use Rattle.std.specs.Prelude.{ℤ, pos, neg_ℤ, ◌≤ℤ◌, ◌+ℤ◌, ◌-ℤ◌, ◌*ℤ◌}
 use Rattle.jiff_core.specs.declared.civil.date.Date.{Date}
 use Rattle.jiff_core.specs.Calendar.{days_from_civil}
@@ -39,17 +40,23 @@ any_time clock s (i, (c, cy, cm, (x, y, e, d, (u, v, f, k, sp)), is)) =
     let time : ℕ × ℕ × ℕ = (c.hour, c.minute, c.second) in
     (x, y, e, (date, subst (λ (n : ℕ). DateText n date x) cy d), (u, v, f, (time, k), sp))
 
-none_of : (clock : LegacyClock) (year : ℕ) (b : List ℕ) → year ≡ clock.year → NoPrefix (AnyTime year) b → NoPrefix (AnyOf (TimestampText clock)) b
+none_of : (clock : LegacyClock) (year : ℕ) (b : List ℕ) → year ≡ clock.year → NoPrefix (AnyTime year) b
+    → NoPrefix (AnyOf (TimestampText clock)) b
 none_of clock year b is none x y e h = none x y e (subst (λ (n : ℕ). AnyTime n x) (sym is) (any_time clock x h))
 
-pub no_date : (clock : LegacyClock) (year : ℕ) (b : List ℕ) → year ≡ clock.year → NoPrefix (AnyOf (DateText year)) b → NoPrefix (AnyOf (TimestampText clock)) b
-no_date clock year b is none = none_of clock year b is (NoPrefix-first (AnyOf (DateText year)) (AnyOf Clock ⋅ Only (32 ∷ [])) b none)
+pub no_date : (clock : LegacyClock) (year : ℕ) (b : List ℕ) → year ≡ clock.year → NoPrefix (AnyOf (DateText year)) b
+    → NoPrefix (AnyOf (TimestampText clock)) b
+no_date clock year b is none = none_of clock year b is
+    (NoPrefix-first (AnyOf (DateText year)) (AnyOf Clock ⋅ Only (32 ∷ [])) b none)
 
-pub no_clock : (clock : LegacyClock) (year : ℕ) (d : ℕ × ℕ) (b rest : List ℕ) → year ≡ clock.year → Follows (DateText year d) b rest → NoPrefix (AnyOf Clock) rest → NoPrefix (AnyOf (TimestampText clock)) b
+pub no_clock : (clock : LegacyClock) (year : ℕ) (d : ℕ × ℕ) (b rest : List ℕ) → year ≡ clock.year
+    → Follows (DateText year d) b rest → NoPrefix (AnyOf Clock) rest → NoPrefix (AnyOf (TimestampText clock)) b
 no_clock clock year d b rest is (x, e, h) none =
-    none_of clock year b is (NoPrefix-later (AnyOf (DateText year)) (AnyOf Clock ⋅ Only (32 ∷ [])) b x rest (IsPrefixFree-date year) (d, h) e (NoPrefix-first (AnyOf Clock) (Only (32 ∷ [])) rest none))
+    none_of clock year b is (NoPrefix-later (AnyOf (DateText year)) (AnyOf Clock ⋅ Only (32 ∷ [])) b x rest
+    (IsPrefixFree-date year) (d, h) e (NoPrefix-first (AnyOf Clock) (Only (32 ∷ [])) rest none))
 
-pub no_space : (clock : LegacyClock) (year : ℕ) (d : ℕ × ℕ) (t : ℕ × ℕ × ℕ) (b rest after : List ℕ) → year ≡ clock.year → Follows (DateText year d) b rest → Follows (Clock t) rest after → NoPrefix (Only (32 ∷ [])) after
+pub no_space : (clock : LegacyClock) (year : ℕ) (d : ℕ × ℕ) (t : ℕ × ℕ × ℕ) (b rest after : List ℕ) → year ≡ clock.year
+    → Follows (DateText year d) b rest → Follows (Clock t) rest after → NoPrefix (Only (32 ∷ [])) after
     → NoPrefix (AnyOf (TimestampText clock)) b
 no_space clock year d t b rest after is (x, e, h) (y, f, k) none =
     none_of clock year b is
@@ -60,10 +67,13 @@ no_space clock year d t b rest after is (x, e, h) (y, f, k) none =
 abbrev pub civil_of : ℕ → ℕ × ℕ → ℕ × ℕ × ℕ → Civil
 civil_of year d t = record { year = year; month = d.0; day = d.1; hour = t.0; minute = t.1; second = t.2; micros = 0 }
 
-pub time_read : (clock : LegacyClock) (year : ℕ) (d : ℕ × ℕ) (t : ℕ × ℕ × ℕ) (i z : ℤ) (b rest after behind : List ℕ) → year ≡ clock.year → z ≡ clock.offset_minutes → Follows (DateText year d) b rest
-    → Follows (Clock t) rest after → after ≡ 32 ∷ behind → i ≡ instant_of (civil_of year d t) z → Follows (TimestampText clock i) b behind
+pub time_read : (clock : LegacyClock) (year : ℕ) (d : ℕ × ℕ) (t : ℕ × ℕ × ℕ) (i z : ℤ) (b rest after behind : List ℕ)
+    → year ≡ clock.year → z ≡ clock.offset_minutes → Follows (DateText year d) b rest
+    → Follows (Clock t) rest after → after ≡ 32 ∷ behind → i ≡ instant_of (civil_of year d t) z
+    → Follows (TimestampText clock i) b behind
 time_read clock year d t i z b rest after behind is offset f g e value =
-    let k = Follows-then (DateText year d) (Clock t ⋅ Only (32 ∷ [])) b rest behind f (Follows-then (Clock t) (Only (32 ∷ [])) rest after behind g (32 ∷ [], e, refl)) in
+    let k = Follows-then (DateText year d) (Clock t ⋅ Only (32 ∷ [])) b rest behind f
+    (Follows-then (Clock t) (Only (32 ∷ [])) rest after behind g (32 ∷ [], e, refl)) in
     (k.0, k.1, (civil_of year d t, is, refl, k.2, value ∙ ap (instant_of (civil_of year d t)) offset))
 
 -- ---- the instant
@@ -73,21 +83,27 @@ day_within last d b (inl (l, h, e)) = (l, h)
 day_within last d b (inr (l, h, n, e)) = (l, h)
 
 clock_within : (h m s : ℕ) (b : List ℕ) → ClockText h m s b → (h ≤ 23) × (m ≤ 59) × (s ≤ 59)
-clock_within h m s b (a, c, g, (hl, hh, he), (v, w, i, k, (p, q, j, (ml, mh, me), (r, t, l, n, (sl, sh, se))))) = (hh, mh, sh)
+clock_within h m s b (a, c, g, (hl, hh, he), (v, w, i, k, (p, q, j, (ml, mh, me), (r, t, l, n, (sl, sh, se))))) =
+    (hh, mh, sh)
 
-pub civil_exists : (year : ℕ) (d : ℕ × ℕ) (t : ℕ × ℕ × ℕ) (b rest after : List ℕ) → IsYear year → Follows (DateText year d) b rest → Follows (Clock t) rest after → IsCivil (civil_of year d t)
+pub civil_exists : (year : ℕ) (d : ℕ × ℕ) (t : ℕ × ℕ × ℕ) (b rest after : List ℕ) → IsYear year
+    → Follows (DateText year d) b rest → Follows (Clock t) rest after → IsCivil (civil_of year d t)
 civil_exists year d t b rest after y (x, e, h) (u, f, k) =
     let o = date_of_text year d x h in
     let day = day_within (month_length year d.0) d.1 o.day o.is_day in
     let time = clock_within t.0 t.1 t.2 u k in
     ((omega (arith, y.1), o.is_month.0, o.is_month.1, day.0, day.1), (time.0, time.1, time.2, omega arith))
 
-pub civil_valid : (c : Civil) (date time : List ℕ) → IsYear c.year → (let d : ℕ × ℕ = (c.month, c.day) in DateText c.year d date) → ClockText c.hour c.minute c.second time → c.micros ≡ 0 → IsCivil c
+pub civil_valid : (c : Civil) (date time : List ℕ) → IsYear c.year
+    → (let d : ℕ × ℕ = (c.month, c.day) in DateText c.year d date) → ClockText c.hour c.minute c.second time
+    → c.micros ≡ 0 → IsCivil c
 civil_valid c date time y h k none =
     let o = date_of_text c.year (c.month, c.day) date h in
     let day = day_within (month_length c.year c.month) c.day o.day o.is_day in
-    let within = clock_within c.hour c.minute c.second time k in
-    ((omega (arith, y.1), o.is_month.0, o.is_month.1, day.0, day.1), (within.0, within.1, within.2, omega (arith, none)))
+    let within = clock_within c.hour c.minute c.second time k in (
+      (omega (arith, y.1), o.is_month.0, o.is_month.1, day.0, day.1),
+      (within.0, within.1, within.2, omega (arith, none)),
+    )
 
 date_made : (y m d : ℕ) → IsDay y m d → Date
 date_made y m d h = record {
@@ -100,10 +116,20 @@ date_made y m d h = record {
 }
 
 last_of_year_0 : days_from_civil (pos 0) 12 31 ≡ neg_ℤ (pos 719_163)
-last_of_year_0 = omega (arith, signed_arith, days_from_civil-day_count (pos 0) 12 31, day_count-late (pos 0) 10000 12 31 refl (omega arith) (omega arith) (omega arith))
+last_of_year_0 = omega (
+  arith,
+  signed_arith,
+  days_from_civil-day_count (pos 0) 12 31,
+  day_count-late (pos 0) 10000 12 31 refl (omega arith) (omega arith) (omega arith),
+)
 
 first_of_year_9999 : days_from_civil (pos 9999) 1 1 ≡ pos 2_932_532
-first_of_year_9999 = omega (arith, signed_arith, days_from_civil-day_count (pos 9999) 1 1, day_count-early (pos 9999) 19998 1 1 refl (omega arith) (omega arith) (omega arith))
+first_of_year_9999 = omega (
+  arith,
+  signed_arith,
+  days_from_civil-day_count (pos 9999) 1 1,
+  day_count-early (pos 9999) 19998 1 1 refl (omega arith) (omega arith) (omega arith),
+)
 
 abbrev Within : ℤ → Type 0
 Within day = (neg_ℤ (pos 719_162) ≤ℤ day) × (day ≤ℤ pos 2_932_531)
@@ -111,18 +137,23 @@ Within day = (neg_ℤ (pos 719_162) ≤ℤ day) × (day ≤ℤ pos 2_932_531)
 day_in_range : (y m d : ℕ) → IsYear y → IsDay y m d → Within (day_number y m d)
 unfolding date_made
 day_in_range y m d year h =
-    let low = epoch_day-lt (date_made 0 12 31 (omega arith, omega arith, omega arith, omega arith, omega arith)) (date_made y m d h) (inl (omega (arith, signed_arith, year.0))) in
-    let high = epoch_day-lt (date_made y m d h) (date_made 9999 1 1 (omega arith, omega arith, omega arith, omega arith, omega arith)) (inl (omega (arith, signed_arith, year.1))) in
+    let low = epoch_day-lt (date_made 0 12 31 (omega arith, omega arith, omega arith, omega arith, omega arith))
+    (date_made y m d h) (inl (omega (arith, signed_arith, year.0))) in
+    let high = epoch_day-lt (date_made y m d h)
+    (date_made 9999 1 1 (omega arith, omega arith, omega arith, omega arith, omega arith))
+    (inl (omega (arith, signed_arith, year.1))) in
     let is = day_number-same y m d h.3 in
     (omega (arith, signed_arith, low, last_of_year_0, is), omega (arith, signed_arith, high, first_of_year_9999, is))
 
-joined : (day o : ℤ) (s u : ℕ) → Within day → IsOffset o → s ≤ 86_399 → u ≤ 999_999 → IsInstant ((day *ℤ pos 86_400 +ℤ pos s -ℤ o *ℤ pos 60) *ℤ pos 1_000_000 +ℤ pos u)
+joined : (day o : ℤ) (s u : ℕ) → Within day → IsOffset o → s ≤ 86_399 → u ≤ 999_999
+    → IsInstant ((day *ℤ pos 86_400 +ℤ pos s -ℤ o *ℤ pos 60) *ℤ pos 1_000_000 +ℤ pos u)
 joined day o s u (dl, dh) (ol, oh) sh uh = (omega (arith, signed_arith), omega (arith, signed_arith))
 
 -- a civil time of a clock's year names an instant in range
 pub in_range : (c : Civil) (o : ℤ) → IsYear c.year → IsCivil c → IsOffset o → IsInstant (instant_of c o)
 in_range c o year h offset =
-    joined (day_number c.year c.month c.day) o (second_of_day c) c.micros (day_in_range c.year c.month c.day year h.0) offset (omega (arith, h.1.0, h.1.1, h.1.2)) h.1.3
+    joined (day_number c.year c.month c.day) o (second_of_day c) c.micros (day_in_range c.year c.month c.day year h.0)
+    offset (omega (arith, h.1.0, h.1.1, h.1.2)) h.1.3
 
 pub no_fault : (c : Civil) (o : ℤ) (fault : TimeFault) → IsYear c.year → IsCivil c → IsOffset o → IsFault c o fault → ⊥
 no_fault c o NoSuchDate year h offset f = f h.0
@@ -135,43 +166,57 @@ no_fault c o OutOfRange year h offset f = f.2 (in_range c o year h offset)
 pub IsPrefixFree-time : (clock : LegacyClock) → IsPrefixFree (AnyOf (TimestampText clock))
 IsPrefixFree-time clock =
     IsPrefixFree-same (AnyTime clock.year) (AnyOf (TimestampText clock)) (any_time clock)
-    (IsPrefixFree-then (AnyOf (DateText clock.year)) (AnyOf Clock ⋅ Only (32 ∷ [])) (IsPrefixFree-date clock.year) (IsPrefixFree-then (AnyOf Clock) (Only (32 ∷ [])) IsPrefixFree-clock (IsPrefixFree-only (32 ∷ []))))
+    (IsPrefixFree-then (AnyOf (DateText clock.year)) (AnyOf Clock ⋅ Only (32 ∷ [])) (IsPrefixFree-date clock.year)
+    (IsPrefixFree-then (AnyOf Clock) (Only (32 ∷ [])) IsPrefixFree-clock (IsPrefixFree-only (32 ∷ []))))
 
 clock_text : (h m s : ℕ) (b : List ℕ) → ClockText h m s b → b ≡ padded 2 h ++ 58 ∷ (padded 2 m ++ 58 ∷ padded 2 s)
-clock_text h m s b (a, c, g, (hl, hh, he), (v, w, i, k, (p, q, j, (ml, mh, me), (r, t, l, n, (sl, sh, se))))) = g ∙ rw (he, i, k, j, me, l, n, se) refl
+clock_text h m s b (a, c, g, (hl, hh, he), (v, w, i, k, (p, q, j, (ml, mh, me), (r, t, l, n, (sl, sh, se))))) =
+    g ∙ rw (he, i, k, j, me, l, n, se) refl
 
 two_same : (n m : ℕ) → n ≤ 99 → m ≤ 99 → 48 + n / 10 % 10 ≡ 48 + m / 10 % 10 → 48 + n % 10 ≡ 48 + m % 10 → n ≡ m
 two_same n m h k a b = omega arith
 
-clock_one : (h m s h' m' s' : ℕ) (b : List ℕ) → ClockText h m s b → ClockText h' m' s' b → (h ≡ h') × (m ≡ m') × (s ≡ s')
+clock_one : (h m s h' m' s' : ℕ) (b : List ℕ) → ClockText h m s b → ClockText h' m' s' b
+    → (h ≡ h') × (m ≡ m') × (s ≡ s')
 clock_one h m s h' m' s' b k l =
     let i = clock_within h m s b k in
     let j = clock_within h' m' s' b l in
-    let same : padded 2 h ++ 58 ∷ (padded 2 m ++ 58 ∷ padded 2 s) ≡ padded 2 h' ++ 58 ∷ (padded 2 m' ++ 58 ∷ padded 2 s') = sym (clock_text h m s b k) ∙ clock_text h' m' s' b l in
+    let same : padded 2 h ++ 58 ∷ (padded 2 m ++ 58 ∷ padded 2 s)
+    ≡ padded 2 h' ++ 58 ∷ (padded 2 m' ++ 58 ∷ padded 2 s') = sym (clock_text h m s b k) ∙ clock_text h' m' s' b l
+    in
     let a1 : 48 + h / 10 % 10 ≡ 48 + h' / 10 % 10 = cc in
     let a2 : 48 + h % 10 ≡ 48 + h' % 10 = cc in
     let b1 : 48 + m / 10 % 10 ≡ 48 + m' / 10 % 10 = cc in
     let b2 : 48 + m % 10 ≡ 48 + m' % 10 = cc in
     let c1 : 48 + s / 10 % 10 ≡ 48 + s' / 10 % 10 = cc in
-    let c2 : 48 + s % 10 ≡ 48 + s' % 10 = cc in
-    (two_same h h' (omega (arith, i.0)) (omega (arith, j.0)) a1 a2, two_same m m' (omega (arith, i.1)) (omega (arith, j.1)) b1 b2, two_same s s' (omega (arith, i.2)) (omega (arith, j.2)) c1 c2)
+    let c2 : 48 + s % 10 ≡ 48 + s' % 10 = cc in (
+      two_same h h' (omega (arith, i.0)) (omega (arith, j.0)) a1 a2,
+      two_same m m' (omega (arith, i.1)) (omega (arith, j.1)) b1 b2,
+      two_same s s' (omega (arith, i.2)) (omega (arith, j.2)) c1 c2,
+    )
 
-instant_same : (c d : Civil) (o : ℤ) → c.year ≡ d.year → c.month ≡ d.month → c.day ≡ d.day → c.hour ≡ d.hour → c.minute ≡ d.minute → c.second ≡ d.second → c.micros ≡ d.micros → instant_of c o ≡ instant_of d o
+instant_same : (c d : Civil) (o : ℤ) → c.year ≡ d.year → c.month ≡ d.month → c.day ≡ d.day → c.hour ≡ d.hour
+    → c.minute ≡ d.minute → c.second ≡ d.second → c.micros ≡ d.micros → instant_of c o ≡ instant_of d o
 instant_same c d o year month day hour minute second micros = rw (year, month, day, hour, minute, second, micros) refl
 
 pub time_one : (clock : LegacyClock) (i j : ℤ) (b : List ℕ) → TimestampText clock i b → TimestampText clock j b → i ≡ j
-time_one clock i j b (c, cy, cm, (x, y, e, d, (u, v, f, k, sp)), is) (c', cy', cm', (x', y', e', d', (u', v', f', k', sp')), is') =
+time_one clock i j b (c, cy, cm, (x, y, e, d, (u, v, f, k, sp)), is)
+    (c', cy', cm', (x', y', e', d', (u', v', f', k', sp')), is') =
     let date : ℕ × ℕ = (c.month, c.day) in
     let date' : ℕ × ℕ = (c'.month, c'.day) in
     let dates : DateText clock.year date x = subst (λ (n : ℕ). DateText n date x) cy d in
     let dates' : DateText clock.year date' x' = subst (λ (n : ℕ). DateText n date' x') cy' d' in
-    let first = by_prefix (AnyOf (DateText clock.year)) x y x' y' (IsPrefixFree-date clock.year) (date, dates) (date', dates') (sym e ∙ e') in
-    let same_day : date ≡ date' = date_one clock.year date date' x' (subst (DateText clock.year date) first.0 dates) dates' in
+    let first = by_prefix (AnyOf (DateText clock.year)) x y x' y' (IsPrefixFree-date clock.year) (date, dates)
+    (date', dates') (sym e ∙ e') in
+    let same_day : date ≡ date' = date_one clock.year date date' x' (subst (DateText clock.year date) first.0 dates)
+    dates' in
     let time : ℕ × ℕ × ℕ = (c.hour, c.minute, c.second) in
     let time' : ℕ × ℕ × ℕ = (c'.hour, c'.minute, c'.second) in
     let second = by_prefix (AnyOf Clock) u v u' v' IsPrefixFree-clock (time, k) (time', k') (sym f ∙ first.1 ∙ f') in
-    let times = clock_one c.hour c.minute c.second c'.hour c'.minute c'.second u' (subst (ClockText c.hour c.minute c.second) second.0 k) k' in
-    is ∙ instant_same c c' clock.offset_minutes (cy ∙ sym cy') (ap (λ (p : ℕ × ℕ). p.0) same_day) (ap (λ (p : ℕ × ℕ). p.1) same_day) times.0 times.1 times.2 (cm ∙ sym cm') ∙ sym is'
+    let times = clock_one c.hour c.minute c.second c'.hour c'.minute c'.second u'
+    (subst (ClockText c.hour c.minute c.second) second.0 k) k' in
+    is ∙ instant_same c c' clock.offset_minutes (cy ∙ sym cy') (ap (λ (p : ℕ × ℕ). p.0) same_day)
+    (ap (λ (p : ℕ × ℕ). p.1) same_day) times.0 times.1 times.2 (cm ∙ sym cm') ∙ sym is'
 
 -- ---- the space behind it
 

@@ -4,7 +4,8 @@ use Rattle.std.specs.Prelude.{ℤ, Option, Some, None, IfSome}
 use Rattle.octet_language.specs.Reading.{Follows}
 use Rattle.octet_language.proofs.Lists.{AllByRecursion-weaker}
 use Rattle.syslog_value.specs.Instants.{IsOffset}
-use Rattle.syslog_value.specs.Parts.{IsInstant, IsMessage, IsPrintable, IsRecord, IsWord, MessageParts, AnyOctets, Utf8Text, Parts}
+use Rattle.syslog_value.specs.Parts.{IsInstant, IsMessage, IsPrintable, IsRecord, IsWord, MessageParts, AnyOctets}
+use Rattle.syslog_value.specs.Parts.{Utf8Text, Parts}
 use Rattle.syslog_grammar.specs.Grammar.{Message, Priority}
 use Rattle.syslog_grammar.proofs.Utf8Text.{IsUtf8-text}
 use Rattle.syslog_legacy.specs.declared.clock.LegacyClock.{LegacyClock}
@@ -18,10 +19,17 @@ use Rattle.syslog_legacy.proofs.Times.{civil_valid, in_range}
 
 -- ---- words
 
-word : (C : ℕ → Type 0) (n : ℕ) (w : Option (List ℕ)) (b : List ℕ) → ((x : ℕ) → C x → IsPrintable x) → NilableRun C n w b → IfSome w (IsWord n)
+word : (C : ℕ → Type 0) (n : ℕ) (w : Option (List ℕ)) (b : List ℕ) → ((x : ℕ) → C x → IsPrintable x)
+    → NilableRun C n w b → IfSome w (IsWord n)
 word C n None b printable h = tt
 word C n (Some w) b printable (r, (apart, e)) =
-    let valid : IsWord n b = record { some = r.some; fits = r.fits; printable = AllByRecursion-weaker C IsPrintable printable b r.octets; not_nil = apart } in
+    let valid : IsWord n b = record {
+      some = r.some;
+      fits = r.fits;
+      printable =
+          AllByRecursion-weaker C IsPrintable printable b r.octets;
+      not_nil = apart;
+    } in
     subst (IsWord n) e valid
 
 tag_printable : (x : ℕ) → IsTagOctet x → IsPrintable x
@@ -46,19 +54,49 @@ record IsFront (f : FrontParts) : Type 0 where
 priority_most : (v : ℕ) (b rest : List ℕ) → Follows (Priority v) b rest → v ≤ 191
 priority_most v b rest (t, e, (x, y, f, h, (u, w, g, (n, i), j))) = n
 
-time_valid : (clock : LegacyClock) (t : ℤ) (b rest : List ℕ) → IsYear clock.year → IsOffset clock.offset_minutes → Follows (TimestampText clock t) b rest → IsInstant t
+time_valid : (clock : LegacyClock) (t : ℤ) (b rest : List ℕ) → IsYear clock.year → IsOffset clock.offset_minutes
+    → Follows (TimestampText clock t) b rest → IsInstant t
 time_valid clock t b rest year offset (x, e, (c, cy, cm, (p, q, f, d, (u, v, g, k, sp)), is)) =
     let own : IsYear c.year = subst IsYear (sym cy) year in
     subst IsInstant (sym is) (in_range c clock.offset_minutes own (civil_valid c p u own d k cm) offset)
 
-front_valid : (clock : LegacyClock) (b : List ℕ) (f : FrontParts) (m : List ℕ) → IsYear clock.year → IsOffset clock.offset_minutes → Splits clock b f m → IsFront f
-front_valid clock b f m year offset (inl (none, (e, h))) = subst IsFront (sym e) (record { priority = omega arith; time = tt; hostname = tt; app_name = tt; proc_id = tt })
-front_valid clock b f m year offset (inr (v, r, p, inl (none, (e, h)))) = subst IsFront (sym e) (record { priority = priority_most v b r p; time = tt; hostname = tt; app_name = tt; proc_id = tt })
+front_valid : (clock : LegacyClock) (b : List ℕ) (f : FrontParts) (m : List ℕ) → IsYear clock.year
+    → IsOffset clock.offset_minutes → Splits clock b f m → IsFront f
+front_valid clock b f m year offset (inl (none, (e, h))) =
+    subst IsFront (sym e) (record { priority = omega arith; time = tt; hostname = tt; app_name = tt; proc_id = tt })
+front_valid clock b f m year offset (inr (v, r, p, inl (none, (e, h)))) =
+    subst IsFront (sym e) (record {
+      priority = priority_most v b r p;
+      time = tt;
+      hostname = tt;
+      app_name = tt;
+      proc_id =
+          tt;
+    })
 front_valid clock b f m year offset (inr (v, r, p, inr (t, s, q, inl (none, (e, h))))) =
-    subst IsFront (sym e) (record { priority = priority_most v b r p; time = time_valid clock t r s year offset q; hostname = tt; app_name = tt; proc_id = tt })
+    subst IsFront (sym e) (record {
+      priority = priority_most v b r p;
+      time =
+          time_valid clock t r s year offset q;
+      hostname = tt;
+      app_name = tt;
+      proc_id = tt;
+    })
 front_valid clock b f m year offset (inr (v, r, p, inr (t, s, q, inr (host, u, k, inl (none, (e, h)))))) =
-    subst IsFront (sym e) (record { priority = priority_most v b r p; time = time_valid clock t r s year offset q; hostname = host_word host s u k; app_name = tt; proc_id = tt })
-front_valid clock b f m year offset (inr (v, r, p, inr (t, s, q, inr (host, u, k, inr (tag, w, (behind, (x, g, (y, z, i, n, j)), l), (e, h)))))) =
+    subst IsFront (sym e) (record {
+      priority = priority_most v b r p;
+      time =
+          time_valid clock t r s year offset q;
+      hostname = host_word host s u k;
+      app_name = tt;
+      proc_id = tt;
+    })
+front_valid clock b f m year offset (inr (
+  v,
+  r,
+  p,
+  inr (t, s, q, inr (host, u, k, inr (tag, w, (behind, (x, g, (y, z, i, n, j)), l), (e, h)))),
+)) =
     subst IsFront (sym e) (record {
       priority = priority_most v b r p;
       time = time_valid clock t r s year offset q;
@@ -73,9 +111,21 @@ message_valid : (m : MessageParts) (b : List ℕ) → Message m b → IsMessage 
 message_valid (AnyOctets octets) b h = (h.0, h.1)
 message_valid (Utf8Text text) b h = IsUtf8-text text h.0
 
-pub read_valid : (clock : LegacyClock) (r : Parts ℤ) (b : List ℕ) → IsYear clock.year → IsOffset clock.offset_minutes → IsRead clock b r → IsRecord r
+pub read_valid : (clock : LegacyClock) (r : Parts ℤ) (b : List ℕ) → IsYear clock.year → IsOffset clock.offset_minutes
+    → IsRead clock b r → IsRecord r
 read_valid clock r b year offset h =
     let f = front_valid clock b h.front h.octets year offset h.splits in
     let valid : IsRecord (legacy_parts h.front h.message) =
-    record { priority = f.priority; time = f.time; hostname = f.hostname; app_name = f.app_name; proc_id = f.proc_id; msg_id = tt; elements = tt; by_id = tt; message = message_valid h.message h.octets h.means } in
+    record {
+      priority = f.priority;
+      time = f.time;
+      hostname = f.hostname;
+      app_name = f.app_name;
+      proc_id =
+          f.proc_id;
+      msg_id = tt;
+      elements = tt;
+      by_id = tt;
+      message = message_valid h.message h.octets h.means;
+    } in
     subst IsRecord (sym h.is) valid

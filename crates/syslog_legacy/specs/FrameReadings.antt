@@ -1,4 +1,5 @@
--- How a frame is read: as a record of RFC 5424; or, under a clock and without the front of RFC 5424, as a legacy packet.
+-- How a frame is read: as a record of RFC 5424; or, under a clock and without the front of RFC 5424, as a legacy
+-- packet.
 use Rattle.std.specs.Prelude.{ℕ, ℤ, List, ◌⊎◌, Option, Some, None}
 use Rattle.syslog_value.specs.Parts.{Parts}
 use Rattle.syslog_grammar.specs.WellFormed.{WellFormed}

@@ -7,4 +7,5 @@ use Rattle.syslog_grammar.specs.Utf8.{IsText}
 -- the BOM and no text, and no text goes on at this offset
 abbrev pub MessageStops : List ℕ → ℕ → Type 0
 MessageStops b offset =
-    (text : List ℕ) × (within : ℕ) × (b ≡ bom ++ text) × ¬ (IsText text) × IsFaultOffset IsText text within × (offset ≡ 3 + within)
+    (text : List ℕ) × (within : ℕ) × (b ≡ bom ++ text) × ¬ (IsText text) × IsFaultOffset IsText text within
+    × (offset ≡ 3 + within)

@@ -8,7 +8,8 @@ use Rattle.syslog_legacy.specs.Hosts.{NilableRun}
 -- a letter, a digit, "-", "_", "." or "/"
 abbrev pub IsTagOctet : ℕ → Type 0
 IsTagOctet x =
-    ((65 ≤ x) × (x ≤ 90)) ⊎ (((97 ≤ x) × (x ≤ 122)) ⊎ (((48 ≤ x) × (x ≤ 57)) ⊎ ((x ≡ 45) ⊎ ((x ≡ 95) ⊎ ((x ≡ 46) ⊎ (x ≡ 47))))))
+    ((65 ≤ x) × (x ≤ 90)) ⊎ (((97 ≤ x) × (x ≤ 122))
+    ⊎ (((48 ≤ x) × (x ≤ 57)) ⊎ ((x ≡ 45) ⊎ ((x ≡ 95) ⊎ ((x ≡ 46) ⊎ (x ≡ 47))))))
 
 -- printable, and no closing bracket
 abbrev pub IsProcOctet : ℕ → Type 0

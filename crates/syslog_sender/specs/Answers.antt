@@ -23,7 +23,8 @@ IsFrameFault framing octets old new HasLf = (framing ≡ Lf) × ¬ (IsLine octet
 IsFrameFault framing octets old new TooLong = Carries framing octets × (FRAME_MAX < length octets)
 IsFrameFault framing octets old new Memory = ⊤
 IsFrameFault framing octets old new (Write sent) =
-    IsFrame framing octets × (sent < length (framed framing octets)) × Appends old new (take sent (framed framing octets))
+    IsFrame framing octets × (sent < length (framed framing octets))
+    × Appends old new (take sent (framed framing octets))
 
 -- ---- a record
 

@@ -13,10 +13,12 @@ pub data Call : Type 0 where
 
 -- ---- the definition
 
--- the octets that a list of calls writes: the frame of each event that is sent, in order, each under the mask that is in force by then
+-- the octets that a list of calls writes: the frame of each event that is sent, in order, each under the mask that is
+-- in force by then
 abbrev pub Outputs : SenderParts → List Call → List ℕ → Type 0
 Outputs s [] text = text ≡ []
-Outputs s (SetMask mask ∷ calls) text = (new : ℕ) × SetsMask s.mask mask new × Outputs (record s { mask = new }) calls text
+Outputs s (SetMask mask ∷ calls) text = (new : ℕ) × SetsMask s.mask mask new
+    × Outputs (record s { mask = new }) calls text
 Outputs s (Prepare event ∷ calls) text = Outputs s calls text
 Outputs s (Send framing event ∷ calls) text =
     (frame : List ℕ) × (more : List ℕ) × Writes s framing event frame × Outputs s calls more × (text ≡ frame ++ more)
@@ -27,7 +29,8 @@ Outputs s (Send framing event ∷ calls) text =
 abbrev pub Step : SenderParts → Option (List ℕ) → Call → SenderParts → Option (List ℕ) → Type 0
 Step s taken (SetMask mask) t then = SetsMask s.mask mask t.mask × (t ≡ record s { mask = t.mask }) × (then ≡ taken)
 Step s taken (Prepare event) t then = (t ≡ s) × (then ≡ taken)
-Step s taken (Send framing event) t then = (t ≡ s) × (frame : List ℕ) × Writes s framing event frame × Appends taken then frame
+Step s taken (Send framing event) t then = (t ≡ s) × (frame : List ℕ) × Writes s framing event frame × Appends taken
+    then frame
 
 abbrev pub Steps : SenderParts → Option (List ℕ) → List Call → SenderParts → Option (List ℕ) → Type 0
 Steps s taken [] t then = (t ≡ s) × (then ≡ taken)
@@ -47,4 +50,5 @@ masks_of (Send framing event ∷ calls) = masks_of calls
 abbrev pub IsInForce : ℕ → List ℕ → ℕ → Type 0
 IsInForce first masks mask =
     (AllByRecursion IsEmpty masks × (mask ≡ first))
-    ⊎ ((before : List ℕ) × (after : List ℕ) × (masks ≡ before ++ mask ∷ after) × ¬ (IsEmpty mask) × AllByRecursion IsEmpty after)
+    ⊎ ((before : List ℕ) × (after : List ℕ) × (masks ≡ before ++ mask ∷ after) × ¬ (IsEmpty mask)
+    × AllByRecursion IsEmpty after)

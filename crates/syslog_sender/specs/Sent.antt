@@ -50,9 +50,11 @@ IsFrame framing octets = Carries framing octets × (length octets ≤ FRAME_MAX)
 -- what is written for a record: the frame of its canonical octets, or nothing where they are none
 abbrev pub WritesRecord : Parts ℤ → Framing → List ℕ → Type 0
 WritesRecord r framing text =
-    (octets : List ℕ) × Canonical r octets × ((IsFrame framing octets × (text ≡ framed framing octets)) ⊎ (¬ (IsFrame framing octets) × (text ≡ [])))
+    (octets : List ℕ) × Canonical r octets × ((IsFrame framing octets × (text ≡ framed framing octets))
+    ⊎ (¬ (IsFrame framing octets) × (text ≡ [])))
 
 -- what is written for an event under the mask in force: nothing where it holds the severity back
 abbrev pub Writes : SenderParts → Framing → EventParts → List ℕ → Type 0
 Writes s framing event text =
-    (LetsThrough s.mask event.priority × WritesRecord (record_of s event) framing text) ⊎ (¬ (LetsThrough s.mask event.priority) × (text ≡ []))
+    (LetsThrough s.mask event.priority × WritesRecord (record_of s event) framing text)
+    ⊎ (¬ (LetsThrough s.mask event.priority) × (text ≡ []))

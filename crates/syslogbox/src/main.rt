@@ -1,6 +1,7 @@
 //! Reads syslog records and writes them in their one canonical form.
 #![tactic(auto)]
 
+mod collect;
 mod disk;
 mod files;
 mod memory;
@@ -8,6 +9,7 @@ mod run;
 #[cfg(test)]
 mod tests;
 
+use command_line::collect_words;
 use disk::DiskFiles;
 use frame_engine::{FAULT, NO_MEMORY, note};
 use run::run;
@@ -40,8 +42,19 @@ fn main(rt: HostRuntime) -> ExitCode {
             return ExitCode::from(note(&mut notes, line, FAULT));
         }
     };
-    let mut reader = FromRead::new(rt.stdin());
     let mut writer = ToWrite::new(rt.stdout());
+    match collect_words(rt.alloc(), words.as_slice()) {
+        Ok(Some(words)) => {
+            let status = collect::collect(&rt, rt.alloc(), &words, &mut writer, &mut notes);
+            return ExitCode::from(status);
+        }
+        Err(NO_MEMORY) => {
+            return ExitCode::from(note(&mut notes, b"want of memory\n", NO_MEMORY));
+        }
+        // another command, or words that `run` refuses with their text
+        Ok(None) | Err(_) => {}
+    }
+    let mut reader = FromRead::new(rt.stdin());
     let mut files = DiskFiles::new(&rt);
     let status = run(
         rt.alloc(),

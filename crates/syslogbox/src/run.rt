@@ -1,20 +1,23 @@
 //! The program over any devices and files.
 
-ghost use Rattle.std.specs.Prelude.{◌≡◌, ◌≢◌, ◌≤◌, ◌<◌, ◌+◌, ◌^◌, ◌⊎◌, List, ℕ, Option, Some, None, IfSome, map, string_bytes, take};
+ghost use Rattle.std.specs.Prelude.{◌≡◌, ◌≢◌, ◌≤◌, ◌<◌, ◌+◌, ◌^◌, ◌⊎◌, List, ℕ, Option, Some, None, IfSome, map};
+ghost use Rattle.std.specs.Prelude.{string_bytes, take};
 ghost use Rattle.syslog_value.specs.Device.{AreSmall};
 ghost use Rattle.syslog_frame.specs.declared.framing.Framing.{Framing};
+ghost use Rattle.syslog_legacy.specs.FrameReadings.{Clock};
 ghost use Rattle.frame_engine.specs.Checked.{check_handling, refused_line};
 ghost use Rattle.frame_engine.specs.Converted.{convert_handling, noted_line};
 ghost use Rattle.frame_engine.specs.Showing.{show_handling};
 ghost use Rattle.frame_engine.specs.Streams.{AnswersWith, InputDone, WritesPrefixOf};
 ghost use Rattle.frame_engine.specs.declared.input_framing.InputFraming.{InputFraming};
 ghost use Rattle.archive_engine.specs.Archived.{ArchiveDone};
-ghost use Rattle.archive_engine.specs.Merged.{IsMerged};
+ghost use Rattle.archive_engine.specs.Merged.{MergeDone, WritesFronts};
 ghost use Rattle.archive_engine.specs.Migrated.{MigrateDone};
 ghost use Rattle.command_line.specs.Requests.{Asked, parsed};
 ghost use Rattle.command_line.specs.Requests.{Check as check, Show as show, Convert as convert};
 ghost use Rattle.command_line.specs.Requests.{Archive as archive, Merge as merge, Migrate as migrate};
-ghost use Rattle.command_line.specs.Requests.{Send as send};
+ghost use Rattle.command_line.specs.Requests.{Collect as collect, Send as send};
+ghost use Rattle.collect_engine.specs.declared.collect_words.CollectWords.{CollectWords};
 ghost use Rattle.frame_engine.specs.Handling.{Done};
 ghost use Rattle.frame_engine.specs.Streams.{status_of};
 ghost use Rattle.send_engine.specs.Options.{NameNothing, OptionTexts};
@@ -40,9 +43,12 @@ fn merge_files<W: Output, N: Output, F: Files>(
     files: &mut F,
 ) -> u8
     ensures known { result ≤ 3 }
-    ensures merged { result < 1 → IfSome (F.stored files.old) (λ octets.
-        IfSome (octets left.now) (λ x. AnswersWith (IsMerged x) (octets right.now) result
+    ensures merged { result < 2 → IfSome (F.stored files.old) (λ octets.
+        IfSome (octets left.now) (λ x. AnswersWith (MergeDone x) (octets right.now) result
         (W.taken writer.old) (W.taken writer.new) (N.taken notes.old) (N.taken notes.new))) }
+    ensures prefix { IfSome (F.stored files.old) (λ octets. IfSome (octets left.now) (λ x.
+        IfSome (octets right.now) (λ y.
+        WritesFronts x y (W.taken writer.old) (W.taken writer.new)))) }
     ensures unknown { IfSome (F.stored files.old) (λ octets.
         (octets left.now ≡ None) ⊎ (octets right.now ≡ None) →
         (2 ≤ result) × (W.taken writer.new ≡ W.taken writer.old)) }
@@ -100,37 +106,38 @@ pub fn run<R: Input, W: Output, N: Output, F: Files>(
 
     // `convert`, where no device fails and memory suffices: the canonical octets of each record in
     // the order of the frames, in the framing that was asked for
-    ensures converted { (input_framing : InputFraming) (to : Option Framing)
-        → parsed (map string_bytes words.now) ≡ Some (convert input_framing to)
+    ensures converted { (clock : Clock) (input_framing : InputFraming) (to : Option Framing)
+        → parsed (map string_bytes words.now) ≡ Some (convert clock input_framing to)
         → result < 2 → AnswersWith
-        (InputDone (convert_handling to) noted_line input_framing) (R.left reader.old) result
+        (InputDone (convert_handling clock to) noted_line input_framing) (R.left reader.old) result
         (W.taken writer.old) (W.taken writer.new) (N.taken notes.old) (N.taken notes.new) }
 
     // `check`, likewise: one line for each frame, and one on how a stream ends
-    ensures checked { (input_framing : InputFraming)
-        → parsed (map string_bytes words.now) ≡ Some (check input_framing)
+    ensures checked { (clock : Clock) (input_framing : InputFraming)
+        → parsed (map string_bytes words.now) ≡ Some (check clock input_framing)
         → result < 2 → AnswersWith
-        (InputDone check_handling refused_line input_framing) (R.left reader.old) result
+        (InputDone (check_handling clock) refused_line input_framing) (R.left reader.old) result
         (W.taken writer.old) (W.taken writer.new) (N.taken notes.old) (N.taken notes.new) }
 
     // `show`, likewise: the fields of each record, one line each
-    ensures shown { (input_framing : InputFraming)
-        → parsed (map string_bytes words.now) ≡ Some (show input_framing)
+    ensures shown { (clock : Clock) (input_framing : InputFraming)
+        → parsed (map string_bytes words.now) ≡ Some (show clock input_framing)
         → result < 2 → AnswersWith
-        (InputDone show_handling noted_line input_framing) (R.left reader.old) result
+        (InputDone (show_handling clock) noted_line input_framing) (R.left reader.old) result
         (W.taken writer.old) (W.taken writer.new) (N.taken notes.old) (N.taken notes.new) }
 
     // `archive`, likewise: the archive of the received set, and a line on what is refused
-    ensures archived { (input_framing : InputFraming)
-        → parsed (map string_bytes words.now) ≡ Some (archive input_framing)
-        → result < 2 → AnswersWith (ArchiveDone input_framing) (R.left reader.old) result
+    ensures archived { (clock : Clock) (input_framing : InputFraming)
+        → parsed (map string_bytes words.now) ≡ Some (archive clock input_framing)
+        → result < 2 → AnswersWith (ArchiveDone clock input_framing) (R.left reader.old) result
         (W.taken writer.old) (W.taken writer.new) (N.taken notes.old) (N.taken notes.new) }
 
-    // `merge`, where it answers 0: both files are archives, and their union was written
+    // `merge`: the archive of the union; or a line on why a file is no archive, behind the entries
+    // that were written before it was met
     ensures merged { (left right : List ℕ)
         → parsed (map string_bytes words.now) ≡ Some (merge left right)
-        → result < 1 → IfSome (F.stored files.old) (λ octets.
-        IfSome (octets left) (λ x. AnswersWith (IsMerged x) (octets right) result
+        → result < 2 → IfSome (F.stored files.old) (λ octets.
+        IfSome (octets left) (λ x. AnswersWith (MergeDone x) (octets right) result
         (W.taken writer.old) (W.taken writer.new) (N.taken notes.old) (N.taken notes.new))) }
 
     // `migrate`: the archive of the migrated set, or a line on why the file is no old archive
@@ -151,22 +158,27 @@ pub fn run<R: Input, W: Output, N: Output, F: Files>(
         → (2 ≤ result) × (W.taken writer.new ≡ W.taken writer.old) }
 
     // whatever the status, a prefix of the right output was written
-    ensures check_prefix { (input_framing : InputFraming)
-        → parsed (map string_bytes words.now) ≡ Some (check input_framing) →
-        WritesPrefixOf (InputDone check_handling refused_line input_framing)
+    ensures check_prefix { (clock : Clock) (input_framing : InputFraming)
+        → parsed (map string_bytes words.now) ≡ Some (check clock input_framing) →
+        WritesPrefixOf (InputDone (check_handling clock) refused_line input_framing)
         (R.left reader.old) (W.taken writer.old) (W.taken writer.new) }
-    ensures show_prefix { (input_framing : InputFraming)
-        → parsed (map string_bytes words.now) ≡ Some (show input_framing) →
-        WritesPrefixOf (InputDone show_handling noted_line input_framing)
+    ensures show_prefix { (clock : Clock) (input_framing : InputFraming)
+        → parsed (map string_bytes words.now) ≡ Some (show clock input_framing) →
+        WritesPrefixOf (InputDone (show_handling clock) noted_line input_framing)
         (R.left reader.old) (W.taken writer.old) (W.taken writer.new) }
-    ensures convert_prefix { (input_framing : InputFraming) (to : Option Framing)
-        → parsed (map string_bytes words.now) ≡ Some (convert input_framing to) →
-        WritesPrefixOf (InputDone (convert_handling to) noted_line input_framing)
+    ensures convert_prefix { (clock : Clock) (input_framing : InputFraming) (to : Option Framing)
+        → parsed (map string_bytes words.now) ≡ Some (convert clock input_framing to) →
+        WritesPrefixOf (InputDone (convert_handling clock to) noted_line input_framing)
         (R.left reader.old) (W.taken writer.old) (W.taken writer.new) }
-    ensures archive_prefix { (input_framing : InputFraming)
-        → parsed (map string_bytes words.now) ≡ Some (archive input_framing) →
-        WritesPrefixOf (ArchiveDone input_framing)
+    ensures archive_prefix { (clock : Clock) (input_framing : InputFraming)
+        → parsed (map string_bytes words.now) ≡ Some (archive clock input_framing) →
+        WritesPrefixOf (ArchiveDone clock input_framing)
         (R.left reader.old) (W.taken writer.old) (W.taken writer.new) }
+    ensures merge_prefix { (left right : List ℕ)
+        → parsed (map string_bytes words.now) ≡ Some (merge left right)
+        → IfSome (F.stored files.old) (λ octets. IfSome (octets left) (λ x.
+        IfSome (octets right) (λ y.
+        WritesFronts x y (W.taken writer.old) (W.taken writer.new)))) }
     ensures migrate_prefix { (file : List ℕ)
         → parsed (map string_bytes words.now) ≡ Some (migrate file) →
         IfSome (F.stored files.old) (λ octets. WritesPrefixOf MigrateDone (octets file)
@@ -175,6 +187,11 @@ pub fn run<R: Input, W: Output, N: Output, F: Files>(
     ensures send_prefix { (texts : OptionTexts) (d : Done)
         → parsed (map string_bytes words.now) ≡ Some (send texts) → SendDone texts d
         → (n : ℕ) × Appends (W.taken writer.old) (W.taken writer.new) (take n d.output) }
+
+    // `collect`, which needs sockets and is no command of this function
+    ensures collected { (asked : CollectWords)
+        → parsed (map string_bytes words.now) ≡ Some (collect asked)
+        → (2 ≤ result) × (W.taken writer.new ≡ W.taken writer.old) }
 
     // of a name without a file nothing is written
     ensures merge_unknown { (left right : List ℕ)
@@ -207,24 +224,47 @@ pub fn run<R: Input, W: Output, N: Output, F: Files>(
     ensures write_failed { W.failures writer.old < W.failures writer.new → result ≡ FAULT }
 {
     match read_words(alloc, words) {
-        Ok(Request::Check { input_framing }) => {
-            scan_input(alloc, input_framing, &Check, reader, writer, notes)
+        Ok(
+            Request::Check {
+                input_framing,
+                clock,
+            },
+        ) => {
+            let check = Check { clock };
+            scan_input(alloc, input_framing, &check, reader, writer, notes)
         }
-        Ok(Request::Show { input_framing }) => {
-            scan_input(alloc, input_framing, &Show { alloc }, reader, writer, notes)
+        Ok(
+            Request::Show {
+                input_framing,
+                clock,
+            },
+        ) => {
+            let show = Show { alloc, clock };
+            scan_input(alloc, input_framing, &show, reader, writer, notes)
         }
-        Ok(Request::Convert { input_framing, to }) => {
-            let handler = Convert { alloc, to };
-            scan_input(alloc, input_framing, &handler, reader, writer, notes)
+        Ok(
+            Request::Convert {
+                input_framing,
+                clock,
+                to,
+            },
+        ) => {
+            let convert = Convert { alloc, clock, to };
+            scan_input(alloc, input_framing, &convert, reader, writer, notes)
         }
-        Ok(Request::Archive { input_framing }) => {
-            archive_input(alloc, input_framing, reader, writer, notes)
-        }
+        Ok(
+            Request::Archive {
+                input_framing,
+                clock,
+            },
+        ) => archive_input(alloc, input_framing, clock, reader, writer, notes),
         Ok(Request::Merge { left, right }) => {
             merge_files(alloc, left, right, writer, notes, files)
         }
         Ok(Request::Migrate { file }) => migrate_file(alloc, file, writer, notes, files),
         Ok(Request::Send { options }) => send_text(alloc, &options, writer, notes),
+        // only `main` has sockets
+        Ok(Request::Collect { .. }) => note(notes, b"socket fault\n", FAULT),
         Err(WordsFault::Usage(text)) => note(notes, text.as_bytes(), FAULT),
         Err(WordsFault::Memory) => note(notes, b"want of memory\n", NO_MEMORY),
     }

@@ -2,6 +2,7 @@
 
 mod archives;
 mod devices;
+mod legacy;
 mod rows;
 mod sending;
 mod streams;

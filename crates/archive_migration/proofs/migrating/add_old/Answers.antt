@@ -9,9 +9,11 @@ use Rattle.archive_migration.proofs.migrating.add_old.Goals as goal
 
 pub unreachable-requires : goal.unreachable-requires
 unreachable-requires g c =
-    never_too_long ENTRY_MAX (old_entry_of c.args.old.now) (view_parts c.args.old.now.view) c.requires.entry c.requires.fits c.requires.view
+    never_too_long ENTRY_MAX (old_entry_of c.args.old.now) (view_parts c.args.old.now.view) c.requires.entry
+    c.requires.fits c.requires.view
     (c.in-Err-TooLong.ensures.long (ap (λ fault. Err fault) c.in-Err-TooLong.field-0-is))
 
 pub returns-in-Ok : goal.returns-in-Ok
 returns-in-Ok g c =
-    adds_new (old_entry_of c.args.old.now) (view_parts c.args.old.now.view) _ _ c.in-Ok.field-0 c.requires.entry c.requires.view c.in-Ok.ensures.ok
+    adds_new (old_entry_of c.args.old.now) (view_parts c.args.old.now.view) _ _ c.in-Ok.field-0 c.requires.entry
+    c.requires.view c.in-Ok.ensures.ok

@@ -6,12 +6,14 @@ use Rattle.archive_migration.proofs.old_entry.old_entry_of_octets.Goals as goal
 
 pub returns-clause-entry : goal.returns-clause-entry
 returns-clause-entry c =
-    canonical_old_entry (record { instant = c.instant.result; octets = c.args.octets.now }) (view_parts c.in-Ok.seen) c.in-Ok.ensures.whole c.instant.ensures (c.is_canon_unsorted.ensures.0 c.if-not-is_canon_unsorted.false)
+    canonical_old_entry (record { instant = c.instant.result; octets = c.args.octets.now }) (view_parts c.in-Ok.seen)
+    c.in-Ok.ensures.whole c.instant.ensures (c.is_canon_unsorted.ensures.0 c.if-not-is_canon_unsorted.false)
 
 pub returns-then-not-is_canon_unsorted-clause-fault : goal.returns-then-not-is_canon_unsorted-clause-fault
 returns-then-not-is_canon_unsorted-clause-fault c = (
   c.in-Ok.ensures.some,
   λ e (r, is) same.
-      let never : false ≡ true = sym c.if-not-is_canon_unsorted.true ∙ c.is_canon_unsorted.ensures.1 (r, is.valid, subst (Canonical r) same is.canonical) in
+      let never : false ≡ true = sym c.if-not-is_canon_unsorted.true
+      ∙ c.is_canon_unsorted.ensures.1 (r, is.valid, subst (Canonical r) same is.canonical) in
       absurd cc,
 )

@@ -11,5 +11,6 @@ returns c =
     let last = length page - 1 in
     let s = slice_index_or page last spare in
     let blocks = blocks_of c.args.arena.now in
-    last_order blocks page last s (entry_at blocks s) (entry_of c.args.entry.now) c.compare_span.result (omega (arith, c.requires.some)) refl (read_at page last (omega (arith, c.requires.some))) refl
+    last_order blocks page last s (entry_at blocks s) (entry_of c.args.entry.now) c.compare_span.result
+    (omega (arith, c.requires.some)) refl (read_at page last (omega (arith, c.requires.some))) refl
     c.compare_span.ensures

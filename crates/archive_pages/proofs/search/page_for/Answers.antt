@@ -9,11 +9,13 @@ use Rattle.archive_pages.proofs.search.page_for.Goals as goal
 
 pub begins_above-requires-clause-some : goal.begins_above-requires-clause-some
 begins_above-requires-clause-some c =
-    page_some (blocks_of c.args.arena.now) c.args.pages.now _ c.index-pages-middle.result c.deref.result.now c.requires.pages (omega arith) c.index-pages-middle.is c.deref.ensures.value
+    page_some (blocks_of c.args.arena.now) c.args.pages.now _ c.index-pages-middle.result c.deref.result.now
+    c.requires.pages (omega arith) c.index-pages-middle.is c.deref.ensures.value
 
 pub begins_above-requires-clause-within : goal.begins_above-requires-clause-within
 begins_above-requires-clause-within c =
-    page_within (blocks_of c.args.arena.now) c.args.pages.now _ c.index-pages-middle.result c.deref.result.now c.requires.pages (omega arith) c.index-pages-middle.is c.deref.ensures.value
+    page_within (blocks_of c.args.arena.now) c.args.pages.now _ c.index-pages-middle.result c.deref.result.now
+    c.requires.pages (omega arith) c.index-pages-middle.is c.deref.ensures.value
 
 pub loop-low-preserved-then-begins_above : goal.loop-low-preserved-then-begins_above
 loop-low-preserved-then-begins_above c =
@@ -21,12 +23,14 @@ loop-low-preserved-then-begins_above c =
     let e = entry_of c.args.entry.now in
     let middle = c.loop-low.low + (c.loop-low.high - c.loop-low.low) / 2 in
     let pages = lists_of c.args.pages.now in
-    let page = page_is c.args.pages.now middle c.index-pages-middle.result c.deref.result.now (omega arith) c.index-pages-middle.is c.deref.ensures.value in
+    let page = page_is c.args.pages.now middle c.index-pages-middle.result c.deref.result.now (omega arith)
+    c.index-pages-middle.is c.deref.ensures.value in
     record {
       ordered = omega arith;
       within = omega arith;
       below = c.loop-low.invariant.below;
-      above = page_above blocks pages e middle c.requires.pages (omega (arith, count_is c.args.pages.now)) (subst (λ p. BeginsAbove blocks p e) page c.if-begins_above.ensures);
+      above = page_above blocks pages e middle c.requires.pages (omega (arith, count_is c.args.pages.now))
+          (subst (λ p. BeginsAbove blocks p e) page c.if-begins_above.ensures);
     }
 
 pub loop-low-preserved : goal.loop-low-preserved
@@ -35,9 +39,11 @@ loop-low-preserved c =
     let e = entry_of c.args.entry.now in
     let middle = c.loop-low.low + (c.loop-low.high - c.loop-low.low) / 2 in
     let pages = lists_of c.args.pages.now in
-    let page = page_is c.args.pages.now middle c.index-pages-middle.result c.deref.result.now (omega arith) c.index-pages-middle.is c.deref.ensures.value in
+    let page = page_is c.args.pages.now middle c.index-pages-middle.result c.deref.result.now (omega arith)
+    c.index-pages-middle.is c.deref.ensures.value in
     let back : middle + 1 - 1 ≡ middle = omega arith in
-    let below = page_up_to blocks pages e middle c.requires.pages (omega (arith, count_is c.args.pages.now)) (subst (λ p. BeginsUpTo blocks p e) page c.if-begins_above.ensures) in
+    let below = page_up_to blocks pages e middle c.requires.pages (omega (arith, count_is c.args.pages.now))
+    (subst (λ p. BeginsUpTo blocks p e) page c.if-begins_above.ensures) in
     record {
       ordered = omega arith;
       within = omega arith;
@@ -53,5 +59,6 @@ returns c =
     let met : c.loop-low.high ≡ c.loop-low.low = omega arith in
     let count = count_is c.args.pages.now in
     subst (λ k. IsPage blocks pages e k) (sym c.saturating_sub.ensures)
-    (page_found blocks pages e c.loop-low.low (omega (arith, count, c.requires.some)) (omega (arith, count, c.loop-low.invariant.within)) c.loop-low.invariant.below
+    (page_found blocks pages e c.loop-low.low (omega (arith, count, c.requires.some))
+    (omega (arith, count, c.loop-low.invariant.within)) c.loop-low.invariant.below
     (subst (λ k. AreAbove blocks e (joined (drop k pages))) met c.loop-low.invariant.above))

@@ -10,5 +10,6 @@ returns-in_err-put_entry-clause-err g c =
     let page = c.args.page.now in
     let at = c.loop-span.span-index in
     let p = err_from_is_err_and c.from_residual.result c.from_residual.ensures.1 in
-    rw (p.1, p.2) (page_stops_at (blocks_of c.args.arena.now) page at (slice_index_or page at spare) _ _ _ _ _ _ _ c.loop-span-test.true (read_at page at c.loop-span-test.true) c.octets.ensures
+    rw (p.1, p.2) (page_stops_at (blocks_of c.args.arena.now) page at (slice_index_or page at spare) _ _ _ _ _ _ _
+    c.loop-span-test.true (read_at page at c.loop-span-test.true) c.octets.ensures
     c.loop-span.invariant.puts c.in_err-put_entry.ensures.err)

@@ -6,6 +6,7 @@ use Rattle.archive_pages.proofs.writing.put_page.Given as goal
 
 abbrev pub invariant-loop-span : goal.invariant-loop-span
 invariant-loop-span g l = record {
-  puts : Puts (g.W.Output.taken l.fn.writer) (g.W.Output.taken l.writer) l.fn.held l.held (text_of (entries_at (blocks_of l.arena) (take l.span-index l.page)));
+  puts : Puts (g.W.Output.taken l.fn.writer) (g.W.Output.taken l.writer) l.fn.held l.held
+      (text_of (entries_at (blocks_of l.arena) (take l.span-index l.page)));
   no_failure : g.W.Output.failures l.writer ≡ g.W.Output.failures l.fn.writer;
 }

@@ -7,6 +7,7 @@ use Rattle.archive_pages.proofs.writing.put_pages.Given as goal
 
 abbrev pub invariant-loop-page : goal.invariant-loop-page
 invariant-loop-page g l = record {
-  puts : Puts (g.W.Output.taken l.fn.writer) (g.W.Output.taken l.writer) l.fn.held l.held (text_of (entries_of (blocks_of l.arena) (take l.page-index (lists_of l.pages))));
+  puts : Puts (g.W.Output.taken l.fn.writer) (g.W.Output.taken l.writer) l.fn.held l.held
+      (text_of (entries_of (blocks_of l.arena) (take l.page-index (lists_of l.pages))));
   no_failure : g.W.Output.failures l.writer ≡ g.W.Output.failures l.fn.writer;
 }

@@ -14,14 +14,19 @@ returns-in_err-put_pages-clause-sent g c =
     rw (p.1, p.2) (all_stopped _ _ _ _ _ c.new-held.ensures c.in_err-put_pages.ensures.err c.requires.fits).1
 
 pub returns-clause-ok : goal.returns-clause-ok
-returns-clause-ok g c = on_ok_weaker c.finish.result (λ f. f _ _ (all_put _ _ _ _ _ c.new-held.ensures c.in_ok-put_pages.ensures.ok)) c.finish.ensures.whole
+returns-clause-ok g c = on_ok_weaker c.finish.result
+    (λ f. f _ _ (all_put _ _ _ _ _ c.new-held.ensures c.in_ok-put_pages.ensures.ok)) c.finish.ensures.whole
 
 pub returns-clause-some_left : goal.returns-clause-some_left
 returns-clause-some_left g c =
-    IfErr-weaker c.finish.result _ _ (λ fault f. (StopsWithin-take _ _ _ fault.sent (f _ _ (all_put _ _ _ _ _ c.new-held.ensures c.in_ok-put_pages.ensures.ok)) c.requires.fits).0)
+    IfErr-weaker c.finish.result _ _ (λ fault f.
+    (StopsWithin-take _ _ _ fault.sent (f _ _ (all_put _ _ _ _ _ c.new-held.ensures c.in_ok-put_pages.ensures.ok))
+    c.requires.fits).0)
     c.finish.ensures.stopped
 
 pub returns-clause-sent : goal.returns-clause-sent
 returns-clause-sent g c =
-    IfErr-weaker c.finish.result _ _ (λ fault f. (StopsWithin-take _ _ _ fault.sent (f _ _ (all_put _ _ _ _ _ c.new-held.ensures c.in_ok-put_pages.ensures.ok)) c.requires.fits).1)
+    IfErr-weaker c.finish.result _ _ (λ fault f.
+    (StopsWithin-take _ _ _ fault.sent (f _ _ (all_put _ _ _ _ _ c.new-held.ensures c.in_ok-put_pages.ensures.ok))
+    c.requires.fits).1)
     c.finish.ensures.stopped

@@ -10,7 +10,11 @@ use Rattle.archive_streams.proofs.Counting.{bad_count, bad_within, cut_count, un
 use Rattle.archive_streams.proofs.reading.next_digit.Goals as goal
 
 pub take-requires-clause-room : goal.take-requires-clause-room
-take-requires-clause-room g c = omega (arith, unfinished_short c.args.text.now.items c.requires.unfinished, c.requires.room)
+take-requires-clause-room g c = omega (
+  arith,
+  unfinished_short c.args.text.now.items c.requires.unfinished,
+  c.requires.room,
+)
 
 pub returns-then-not-some-clause-fault : goal.returns-then-not-some-clause-fault
 returns-then-not-some-clause-fault g c =
@@ -27,32 +31,56 @@ pub returns-in-Part-clause-short : goal.returns-in-Part-clause-short
 returns-in-Part-clause-short g c =
     let some : IsTrue c.in-Ok.some = search rules in
     let m = c.in-Ok.ensures.some some in
-    omega (arith, unfinished_short c.args.text.now.items c.requires.unfinished, m.few, ap length m.grown, length-append c.args.text.now.items m.more)
+    omega (
+      arith,
+      unfinished_short c.args.text.now.items c.requires.unfinished,
+      m.few,
+      ap length m.grown,
+      length-append c.args.text.now.items m.more,
+    )
 
 pub returns-in-Part-clause-step : goal.returns-in-Part-clause-step
 returns-in-Part-clause-step g c =
     let some : IsTrue c.in-Ok.some = search rules in
     let m = c.in-Ok.ensures.some some in
-    let h : IsMsgLen c.take.new.text.items Part = subst (λ (s : List ℕ). IsMsgLen s Part) c.deref.ensures.value c.in-Part.ensures in
-    (record { none = h.0; begins = h.1 }, omega (arith, m.some, m.few, ap length m.grown, length-append c.args.text.now.items m.more))
+    let h : IsMsgLen c.take.new.text.items Part =
+    subst (λ (s : List ℕ). IsMsgLen s Part) c.deref.ensures.value c.in-Part.ensures in (
+      record { none = h.0; begins = h.1 },
+      omega
+          (arith, m.some, m.few, ap length m.grown, length-append c.args.text.now.items m.more),
+    )
 
 pub returns-in-Whole-clause-short : goal.returns-in-Whole-clause-short
 returns-in-Whole-clause-short g c =
     let some : IsTrue c.in-Ok.some = search rules in
     let m = c.in-Ok.ensures.some some in
-    omega (arith, unfinished_short c.args.text.now.items c.requires.unfinished, m.few, ap length m.grown, length-append c.args.text.now.items m.more)
+    omega (
+      arith,
+      unfinished_short c.args.text.now.items c.requires.unfinished,
+      m.few,
+      ap length m.grown,
+      length-append c.args.text.now.items m.more,
+    )
 
 pub returns-in-Whole-clause-step : goal.returns-in-Whole-clause-step
 returns-in-Whole-clause-step g c =
     let some : IsTrue c.in-Ok.some = search rules in
     let m = c.in-Ok.ensures.some some in
-    let h : IsMsgLen c.take.new.text.items (Whole c.in-Whole.count c.in-Whole.used) = subst (λ (s : List ℕ). IsMsgLen s (Whole c.in-Whole.count c.in-Whole.used)) c.deref.ensures.value c.in-Whole.ensures in
-    whole_all c.args.text.now.items m.more c.take.new.text.items c.in-Whole.count c.in-Whole.used c.requires.unfinished m.grown m.few h
+    let h : IsMsgLen c.take.new.text.items (Whole c.in-Whole.count c.in-Whole.used) =
+    subst (λ (s : List ℕ). IsMsgLen s (Whole c.in-Whole.count c.in-Whole.used)) c.deref.ensures.value
+    c.in-Whole.ensures in
+    whole_all c.args.text.now.items m.more c.take.new.text.items c.in-Whole.count c.in-Whole.used c.requires.unfinished
+    m.grown m.few h
 
 pub returns-in-Bad-clause-fault : goal.returns-in-Bad-clause-fault
 returns-in-Bad-clause-fault g c =
     let text = c.take.new.text.items in
     let rest = unused c.take.new.self in
-    let h : IsMsgLen text (Bad c.in-Bad.at) = subst (λ (s : List ℕ). IsMsgLen s (Bad c.in-Bad.at)) c.deref.ensures.value c.in-Bad.ensures in
-    let within = bad_within text c.in-Bad.at h in
-    (bad_count ENTRY_MAX text rest c.in-Bad.at h, omega (arith, within, length-append text rest), λ e. absurd (omega (arith, e, within, length-append text rest)))
+    let h : IsMsgLen text (Bad c.in-Bad.at) =
+    subst (λ (s : List ℕ). IsMsgLen s (Bad c.in-Bad.at)) c.deref.ensures.value c.in-Bad.ensures in
+    let within = bad_within text c.in-Bad.at h in (
+      bad_count ENTRY_MAX text rest c.in-Bad.at h,
+      omega (arith, within, length-append text rest),
+      λ e.
+          absurd (omega (arith, e, within, length-append text rest)),
+    )

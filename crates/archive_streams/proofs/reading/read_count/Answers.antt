@@ -8,16 +8,19 @@ use Rattle.archive_streams.proofs.reading.read_count.Goals as goal
 pub digits-init : goal.digits-init
 digits-init g c =
     let p = c.args.pieces.now in
-    let d = device (g.R.Input.left c.args.reader.now) (g.R.Input.calls c.args.reader.now) (g.R.Input.ends c.args.reader.now) in
+    let d = device (g.R.Input.left c.args.reader.now) (g.R.Input.calls c.args.reader.now)
+    (g.R.Input.ends c.args.reader.now) in
     record {
       unfinished = subst IsUnfinished (sym c.requires.empty) unfinished_nil;
       room = omega arith;
       failures = refl;
-      reads = subst (λ (s : List ℕ). ReadsOn p p d d (unused p) (s ++ unused p)) (sym c.requires.empty) (ReadsOn-same p d (unused p));
+      reads = subst (λ (s : List ℕ). ReadsOn p p d d (unused p) (s ++ unused p)) (sym c.requires.empty)
+          (ReadsOn-same p d (unused p));
     }
 
 pub returns-in_err-next_digit-clause-reads : goal.returns-in_err-next_digit-clause-reads
-returns-in_err-next_digit-clause-reads g c = ReadsOn-then _ _ _ _ _ _ _ _ _ c.digits.invariant.reads c.next_digit.ensures.reads
+returns-in_err-next_digit-clause-reads g c =
+    ReadsOn-then _ _ _ _ _ _ _ _ _ c.digits.invariant.reads c.next_digit.ensures.reads
 
 pub digits-preserved : goal.digits-preserved
 digits-preserved g c = record {

@@ -10,7 +10,8 @@ use Rattle.archive_streams.proofs.NextEntries.{judged_fault}
 use Rattle.archive_streams.proofs.reading.read_entry.Goals as goal
 
 pub returns-in_err-read_octets-clause-reads : goal.returns-in_err-read_octets-clause-reads
-returns-in_err-read_octets-clause-reads g c = ReadsOn-then _ _ _ _ _ _ _ _ _ c.read_count.ensures.reads c.read_octets.ensures.reads
+returns-in_err-read_octets-clause-reads g c =
+    ReadsOn-then _ _ _ _ _ _ _ _ _ c.read_count.ensures.reads c.read_octets.ensures.reads
 
 pub returns-in-Ok-clause-reads : goal.returns-in-Ok-clause-reads
 returns-in-Ok-clause-reads g c = ReadsOn-then _ _ _ _ _ _ _ _ _ c.read_count.ensures.reads c.read_octets.ensures.reads
@@ -26,7 +27,10 @@ returns-in-Err-clause-fault g c =
     let h : MsgLen c.in-Some.count head = search rules in
     let k = c.in_ok-read_octets.ensures.ok in
     let start : length head ≡ c.len-entry.result = omega arith in
-    let same : c.split_at.result.1.now ≡ k.octets = c.split_at.ensures.back ∙ ap (drop c.len-entry.result) (c.deref.ensures.value ∙ k.parts) ∙ drop_at head k.octets c.len-entry.result start in
+    let same : c.split_at.result.1.now ≡ k.octets =
+    c.split_at.ensures.back ∙ ap (drop c.len-entry.result) (c.deref.ensures.value ∙ k.parts)
+    ∙ drop_at head k.octets c.len-entry.result start in
     let fits : c.in-Some.count ≤ ENTRY_MAX = omega arith in
-    judged_fault ENTRY_MAX k.octets (text ++ rest) c.in-Err.fault c.read_octets.new.pieces.ends (begins_with ENTRY_MAX c.in-Some.count head k.octets text rest h k.parts k.size fits)
+    judged_fault ENTRY_MAX k.octets (text ++ rest) c.in-Err.fault c.read_octets.new.pieces.ends
+    (begins_with ENTRY_MAX c.in-Some.count head k.octets text rest h k.parts k.size fits)
     (subst (λ (s : List ℕ). IsJudged s c.in-Err.fault) same c.in-Err.ensures.fault)

@@ -1,4 +1,5 @@
-use Rattle.std.proofs.Common.{rules, ◌≡◌, ◌+◌, ◌<◌, ◌++◌, ◌∷◌, [], ℕ, List, IsTrue, false, length, ap, sym, subst, ◌∙◌, append_assoc, arith}
+use Rattle.std.proofs.Common.{rules, ◌≡◌, ◌+◌, ◌<◌, ◌++◌, ◌∷◌, [], ℕ, List, IsTrue, false, length, ap, sym, subst, ◌∙◌}
+use Rattle.std.proofs.Common.{append_assoc, arith}
 use Rattle.std.specs.Fmt.{decimal}
 use Rattle.std.proofs.lemmas.List.{length-append}
 use Rattle.archive_text.specs.Faults.{IsBadFrame}
@@ -17,11 +18,19 @@ returns-then-not-some-clause-fault g c =
     let none : c.in-Ok.some ≡ false = search rules in
     let end = c.in-Ok.ensures.end none in
     let parts : text ≡ head ++ inv.some.octets = end.2 ∙ inv.some.parts in
-    let size : length c.octets.text.items ≡ length head + length inv.some.octets = omega (arith, ap length inv.some.parts, length-append head inv.some.octets) in
+    let size : length c.octets.text.items ≡ length head + length inv.some.octets =
+    omega (arith, ap length inv.some.parts, length-append head inv.some.octets) in
     let less : length inv.some.octets < c.args.count = omega (arith, size, c.octets-test.true, inv.size) in
-    let some : 0 < length text = omega (arith, ap length parts, length-append head inv.some.octets, ap length c.requires.counted.2, length-append (decimal c.args.count) (32 ∷ [])) in
+    let some : 0 < length text = omega (
+      arith,
+      ap length parts,
+      length-append head inv.some.octets,
+      ap length c.requires.counted.2,
+      length-append (decimal c.args.count) (32 ∷ []),
+    ) in
     let at : c.len-at.result ≡ length text = omega arith in
-    let cut = cut_entry ENTRY_MAX c.args.count head inv.some.octets text rest c.requires.counted parts c.requires.fits less end.0 in
+    let cut = cut_entry ENTRY_MAX c.args.count head inv.some.octets text rest c.requires.counted parts c.requires.fits
+    less end.0 in
     (subst (IsBadFrame ENTRY_MAX (text ++ rest)) (sym at) cut, omega (arith, some, length-append text rest), λ e. end.1)
 
 pub octets-preserved : goal.octets-preserved
@@ -30,7 +39,8 @@ octets-preserved g c =
     let inv = c.octets.invariant in
     let some : IsTrue c.in-Ok.some = search rules in
     let m = c.in-Ok.ensures.some some in
-    let size : length c.octets.text.items ≡ length head + length inv.some.octets = omega (arith, ap length inv.some.parts, length-append head inv.some.octets) in
+    let size : length c.octets.text.items ≡ length head + length inv.some.octets =
+    omega (arith, ap length inv.some.parts, length-append head inv.some.octets) in
     record {
       size = omega arith;
       some = record {

@@ -9,4 +9,5 @@ returns-in-Equal c =
     (octets_ranked c.args.a.now.octets.now c.args.b.now.octets.now c.cmp.result c.cmp.ensures)
 
 pub returns-in_default : goal.returns-in_default
-returns-in_default c = by_instant (entry_of c.args.a.now) (entry_of c.args.b.now) c.compare_instants.result c.compare_instants.ensures c.in_default.not-Equal
+returns-in_default c = by_instant (entry_of c.args.a.now) (entry_of c.args.b.now) c.compare_instants.result
+    c.compare_instants.ensures c.in_default.not-Equal

@@ -1,6 +1,7 @@
 use Rattle.octet_language.specs.Language.{Only, ◌⋅◌, Language}
 use Rattle.std.specs.List.{flat_map}
-use Rattle.frame_engine.specs.Showing.{PriorityLine, RecordLines, TimeLine, element_lines, message_line, number_line, word_lines}
+use Rattle.frame_engine.specs.Showing.{PriorityLine, RecordLines, TimeLine, element_lines, message_line, number_line}
+use Rattle.frame_engine.specs.Showing.{word_lines}
 use Rattle.syslog_grammar.proofs.Appends.{puts_as, puts_then}
 use Rattle.frame_engine.proofs.ShowLemmas.{same_lines, same_message}
 use Rattle.std.proofs.Common.{◌∙◌, subst, sym}
@@ -27,12 +28,16 @@ returns c =
     let words : Language = Only (word_lines r) in
     let elements : Language = Only (flat_map element_lines c.elements.result.now) in
     let message : Language = Only (message_line m) in
-    let whole = puts_then number (priority ⋅ time ⋅ words ⋅ elements ⋅ message) old s0 new c.put_message.result c.in_ok-put_number.ensures
+    let whole = puts_then number (priority ⋅ time ⋅ words ⋅ elements ⋅ message) old s0 new c.put_message.result
+    c.in_ok-put_number.ensures
     (puts_then priority (time ⋅ words ⋅ elements ⋅ message) s0 s1 new c.put_message.result c.in_ok-put_priority.ensures
     (puts_then time (words ⋅ elements ⋅ message) s1 s2 new c.put_message.result c.in_ok-put_time.ensures
     (puts_then words (elements ⋅ message) s2 s3 new c.put_message.result c.in_ok-put_words.ensures
     (puts_then elements message s3 s4 new c.put_message.result c.in_ok-put_elements.ensures c.put_message.ensures)))) in
-    puts_as (number ⋅ priority ⋅ time ⋅ words ⋅ elements ⋅ message) (RecordLines c.args.number r) old new c.put_message.result
-    (same_lines c.args.number c.priority.result r c.instant.result c.elements.result.now m c.priority.ensures.value c.instant.ensures (c.elements.ensures.value ∙ c.structured.ensures)
+    puts_as (number ⋅ priority ⋅ time ⋅ words ⋅ elements ⋅ message) (RecordLines c.args.number r) old new
+    c.put_message.result
+    (same_lines c.args.number c.priority.result r c.instant.result c.elements.result.now m c.priority.ensures.value
+    c.instant.ensures (c.elements.ensures.value ∙ c.structured.ensures)
     (same_message c.message.result.now c.octets.result.now c.has_mark.result c.octets.ensures.value
-    (subst (λ (x : MessageParts). IsTrue c.has_mark.result ↔ HasMark x) (c.message-2.ensures ∙ sym c.message.ensures) c.has_mark.ensures) ∙ c.message.ensures)) whole
+    (subst (λ (x : MessageParts). IsTrue c.has_mark.result ↔ HasMark x) (c.message-2.ensures ∙ sym c.message.ensures)
+    c.has_mark.ensures) ∙ c.message.ensures)) whole

@@ -7,4 +7,5 @@ use Rattle.frame_engine.specs.Showing.{line_of, param_lines}
 use Rattle.frame_engine.proofs.record_lines.put_element.Given as goal
 
 abbrev pub invariant-loop-param : goal.invariant-loop-param
-invariant-loop-param l = Adds (Only (line_of (codes "element") l.element.id ++ flat_map param_lines (take l.param-index l.param-items))) l.fn.out.items l.out.items
+invariant-loop-param l = Adds (Only (line_of (codes "element") l.element.id
+    ++ flat_map param_lines (take l.param-index l.param-items))) l.fn.out.items l.out.items

@@ -6,4 +6,5 @@ use Rattle.frame_engine.specs.Showing.{element_lines}
 use Rattle.frame_engine.proofs.record_lines.put_elements.Given as goal
 
 abbrev pub invariant-loop-element : goal.invariant-loop-element
-invariant-loop-element l = Adds (Only (flat_map element_lines (take l.element-index l.elements))) l.fn.out.items l.out.items
+invariant-loop-element l = Adds (Only (flat_map element_lines (take l.element-index l.elements))) l.fn.out.items
+    l.out.items

@@ -6,5 +6,7 @@ use Rattle.frame_engine.proofs.record_lines.put_octets.Goals as goal
 
 pub returns-in_err-put_octet : goal.returns-in_err-put_octet
 returns-in_err-put_octet c =
-    puts_failed (Only (hex_escaped (take c.loop-octet.octet-index c.args.octets.now))) (Only (hex_escaped c.args.octets.now))
-    c.args.out.now.items c.loop-octet.out.items c.put_octet.new.out.items c.from_residual.result c.from_residual.ensures.0 c.loop-octet.invariant c.in_err-put_octet.ensures
+    puts_failed (Only (hex_escaped (take c.loop-octet.octet-index c.args.octets.now)))
+    (Only (hex_escaped c.args.octets.now))
+    c.args.out.now.items c.loop-octet.out.items c.put_octet.new.out.items c.from_residual.result
+    c.from_residual.ensures.0 c.loop-octet.invariant c.in_err-put_octet.ensures

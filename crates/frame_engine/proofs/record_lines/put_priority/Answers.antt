@@ -6,5 +6,13 @@ use Rattle.frame_engine.proofs.record_lines.put_priority.Goals as goal
 
 pub returns : goal.returns
 returns c =
-    puts_as (Only (priority_line c.value.result c.facility.result c.severity.result)) (PriorityLine c.args.priority) c.args.out.now.items c.put_names.new.out.items c.put_names.result
-    (λ s e. (c.facility.result, c.severity.result, omega (arith, c.facility.ensures, c.severity.ensures), e ∙ ap (λ (v : ℕ). priority_line v c.facility.result c.severity.result) c.value.ensures.value)) c.put_names.ensures
+    puts_as (Only (priority_line c.value.result c.facility.result c.severity.result)) (PriorityLine c.args.priority)
+    c.args.out.now.items c.put_names.new.out.items c.put_names.result
+    (λ s e. (
+      c.facility.result,
+      c.severity.result,
+      omega (arith, c.facility.ensures, c.severity.ensures),
+      e
+          ∙ ap (λ (v : ℕ). priority_line v c.facility.result c.severity.result) c.value.ensures.value,
+    ))
+    c.put_names.ensures

@@ -9,6 +9,8 @@ pub returns-then-is_err-clause-err : goal.returns-then-is_err-clause-err
 returns-then-is_err-clause-err c =
     let old = c.args.out.now.items in
     let new = c.append_record_lines-put.new.out.items in
-    let begun = puts_begun (RecordLines c.args.number c.args.record.now) old new c.append_record_lines-put.result c.append_record_lines-put.ensures in
+    let begun = puts_begun (RecordLines c.args.number c.args.record.now) old new c.append_record_lines-put.result
+    c.append_record_lines-put.ensures in
     let len : c.len-before.result ≡ length old = search rules in
-    always_err c.append_record_lines-put.result (c.truncate.new.self.items ≡ old) (c.truncate.ensures.items ∙ ap (λ (n : ℕ). take n new) len ∙ adds_prefix Anything old new begun)
+    always_err c.append_record_lines-put.result (c.truncate.new.self.items ≡ old)
+    (c.truncate.ensures.items ∙ ap (λ (n : ℕ). take n new) len ∙ adds_prefix Anything old new begun)

@@ -7,4 +7,5 @@ use Rattle.frame_engine.proofs.record_lines.put_time.Goals as goal
 
 pub returns-in-None : goal.returns-in-None
 returns-in-None c =
-    rw c.in-None.is (puts_as (Only (codes "time -\n")) (TimeLine None) c.args.out.now.items c.put.new.out.items c.put.result (λ s e. (45 ∷ [], refl, e)) c.put.ensures)
+    rw c.in-None.is (puts_as (Only (codes "time -\n")) (TimeLine None) c.args.out.now.items c.put.new.out.items
+    c.put.result (λ s e. (45 ∷ [], refl, e)) c.put.ensures)

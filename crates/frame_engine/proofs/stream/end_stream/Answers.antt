@@ -8,8 +8,10 @@ use Rattle.frame_engine.proofs.stream.end_stream.Goals as goal
 
 pub returns-in-Ok-clause-ok : goal.returns-in-Ok-clause-ok
 returns-in-Ok-clause-ok g c = λ kind octets frames rest r.
-    let q = c.in-Ok.ensures.reads kind 0 octets frames rest r in
-    (subst (Frames kind octets frames) (sym q.0) q.1, (nothing, inl (q.0, refl), sym (then_nothing (done_of c.args.done.now))))
+    let q = c.in-Ok.ensures.reads kind 0 octets frames rest r in (
+      subst (Frames kind octets frames) (sym q.0) q.1,
+      (nothing, inl (q.0, refl), sym (then_nothing (done_of c.args.done.now))),
+    )
 
 pub returns-in-Err-Unterminated-clause-ok : goal.returns-in-Err-Unterminated-clause-ok
 returns-in-Err-Unterminated-clause-ok g c =

@@ -14,7 +14,8 @@ returns-in_err-handle_next-clause-err g c =
     let p = err_from_is_err_and c.from_residual.result c.from_residual.ensures.1 in
     rw p.1
     (λ kind octets before h.
-    handled_part _ c.loop-rest.scanner kind octets c.args.piece.now c.loop-rest.rest.now _ _ _ (c.loop-rest.invariant.handled kind octets before h) (ap (then_done before) c.in_err-handle_next.ensures.err))
+    handled_part _ c.loop-rest.scanner kind octets c.args.piece.now c.loop-rest.rest.now _ _ _
+    (c.loop-rest.invariant.handled kind octets before h) (ap (then_done before) c.in_err-handle_next.ensures.err))
 
 pub loop-rest-preserved-in-Nothing : goal.loop-rest-preserved-in-Nothing
 loop-rest-preserved-in-Nothing g c =
@@ -22,14 +23,24 @@ loop-rest-preserved-in-Nothing g c =
     let n = c.in-Ok.used in
     rw (take_rest rest n)
     (record {
-      reading = elim (rw c.in-Nothing.is at c.in_ok-handle_next.ensures.reports) [ inl r ↦ r | inr f ↦ absurd (c.in-Ok.ensures.live f) ];
-      position = omega (arith, c.in-Ok.ensures.position, c.in-Ok.ensures.within, c.loop-rest.invariant.position, length-drop n rest);
+      reading = elim (rw c.in-Nothing.is at c.in_ok-handle_next.ensures.reports)
+          [ inl r ↦ r | inr f ↦ absurd (c.in-Ok.ensures.live f) ];
+      position = omega (
+        arith,
+        c.in-Ok.ensures.position,
+        c.in-Ok.ensures.within,
+        c.loop-rest.invariant.position,
+        length-drop n rest,
+      );
       few = omega (arith, c.loop-rest.invariant.few, length-drop n rest);
       handled = λ kind octets before h.
           let d = c.loop-rest.invariant.handled kind octets before h in
-          let on = c.in-Ok.ensures.reads kind 0 (octets ++ d.0) d.2.frames d.2.rest d.2.reads (λ b. c.loop-rest.invariant.reading.0 (inr b)) in
-          let same = rw c.in-Nothing.is at (c.in_ok-handle_next.ensures.handles kind ((octets ++ d.0) ++ take n rest) d.2.frames (d.2.rest ++ take n rest) on.reads) in
-          handled_nothing _ c.loop-rest.scanner c.push.new.self kind octets c.args.piece.now rest _ n _ _ d on (ap (then_done before) same);
+          let on = c.in-Ok.ensures.reads kind 0 (octets ++ d.0) d.2.frames d.2.rest d.2.reads
+          (λ b. c.loop-rest.invariant.reading.0 (inr b)) in
+          let same = rw c.in-Nothing.is at (c.in_ok-handle_next.ensures.handles kind ((octets ++ d.0) ++ take n rest)
+          d.2.frames (d.2.rest ++ take n rest) on.reads) in
+          handled_nothing _ c.loop-rest.scanner c.push.new.self kind octets c.args.piece.now rest _ n _ _ d on
+          (ap (then_done before) same);
     })
 
 pub returns-in-Bad-clause-handles : goal.returns-in-Bad-clause-handles
@@ -37,9 +48,12 @@ returns-in-Bad-clause-handles g c = λ kind octets before h more.
     let rest = c.loop-rest.rest.now in
     let n = c.in-Ok.used in
     let d = c.loop-rest.invariant.handled kind octets before h in
-    let on = c.in-Ok.ensures.reads kind 0 (octets ++ d.0) d.2.frames d.2.rest d.2.reads (λ b. c.loop-rest.invariant.reading.0 (inr b)) in
-    let reported = rw c.in-Bad.is at (c.in_ok-handle_next.ensures.handles kind ((octets ++ d.0) ++ take n rest) d.2.frames (d.2.rest ++ take n rest) on.reads) in
-    handled_bad _ c.loop-rest.scanner c.push.new.self kind octets c.args.piece.now rest _ n c.in-Bad.at _ _ d on (rw c.in-Bad.is at c.in_ok-handle_next.ensures.reports) reported.1 (ap (then_done before) reported.0) more
+    let on = c.in-Ok.ensures.reads kind 0 (octets ++ d.0) d.2.frames d.2.rest d.2.reads
+    (λ b. c.loop-rest.invariant.reading.0 (inr b)) in
+    let reported = rw c.in-Bad.is at (c.in_ok-handle_next.ensures.handles kind ((octets ++ d.0) ++ take n rest)
+    d.2.frames (d.2.rest ++ take n rest) on.reads) in
+    handled_bad _ c.loop-rest.scanner c.push.new.self kind octets c.args.piece.now rest _ n c.in-Bad.at _ _ d on
+    (rw c.in-Bad.is at c.in_ok-handle_next.ensures.reports) reported.1 (ap (then_done before) reported.0) more
 
 pub loop-rest-preserved : goal.loop-rest-preserved
 loop-rest-preserved g c =
@@ -48,16 +62,28 @@ loop-rest-preserved g c =
     rw (take_rest rest n)
     (record {
       reading = c.release.ensures.frame (rw c.in-Handled.is at c.in_ok-handle_next.ensures.reports);
-      position = omega (arith, c.release.ensures.position, c.in-Ok.ensures.position, c.in-Ok.ensures.within, c.loop-rest.invariant.position, length-drop n rest);
+      position = omega (
+        arith,
+        c.release.ensures.position,
+        c.in-Ok.ensures.position,
+        c.in-Ok.ensures.within,
+        c.loop-rest.invariant.position,
+        length-drop n rest,
+      );
       few =
           let frame : HasFrame c.push.new.self = rw c.in-Handled.is at c.in_ok-handle_next.ensures.reports in
           let some : 0 < length rest = search rules in
-          let more : 0 < n = c.in-Ok.ensures.progress c.loop-rest.invariant.reading some (not_bad c.push.new.self frame) in
+          let more : 0 < n = c.in-Ok.ensures.progress c.loop-rest.invariant.reading some (not_bad c.push.new.self frame)
+          in
           omega (arith, c.loop-rest.invariant.few, length-drop n rest, more, c.in-Ok.ensures.within);
       handled = λ kind octets before h.
           let d = c.loop-rest.invariant.handled kind octets before h in
-          let on = c.in-Ok.ensures.reads kind 0 (octets ++ d.0) d.2.frames d.2.rest d.2.reads (λ b. c.loop-rest.invariant.reading.0 (inr b)) in
-          let f = rw c.in-Handled.is at (c.in_ok-handle_next.ensures.handles kind ((octets ++ d.0) ++ take n rest) d.2.frames (d.2.rest ++ take n rest) on.reads) in
-          let begun = c.release.ensures.reads kind 0 ((octets ++ d.0) ++ take n rest) d.2.frames (d.2.rest ++ take n rest) f.0 on.reads f.1 in
-          handled_frame _ c.loop-rest.scanner c.release.new.self kind octets c.args.piece.now rest _ n f.0 before _ _ d begun f.2;
+          let on = c.in-Ok.ensures.reads kind 0 (octets ++ d.0) d.2.frames d.2.rest d.2.reads
+          (λ b. c.loop-rest.invariant.reading.0 (inr b)) in
+          let f = rw c.in-Handled.is at (c.in_ok-handle_next.ensures.handles kind ((octets ++ d.0) ++ take n rest)
+          d.2.frames (d.2.rest ++ take n rest) on.reads) in
+          let begun = c.release.ensures.reads kind 0 ((octets ++ d.0) ++ take n rest) d.2.frames
+          (d.2.rest ++ take n rest) f.0 on.reads f.1 in
+          handled_frame _ c.loop-rest.scanner c.release.new.self kind octets c.args.piece.now rest _ n f.0 before _ _ d
+          begun f.2;
     })

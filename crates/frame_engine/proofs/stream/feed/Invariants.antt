@@ -12,8 +12,11 @@ invariant-loop-rest g l = record {
   reading : IsReading l.scanner;
   position : l.scanner.position + length l.rest ≡ l.fn.scanner.position + length l.piece;
   few : l.number + length l.rest ≤ l.fn.number + length l.piece;
-  handled : (kind : Framing) (octets : List ℕ) (before : Done) → HasHandled (g.D.FrameHandler.handles l.handler) l.fn.scanner kind octets l.fn.number (then_done before (done_of l.fn.done))
-      → HandledPiece (g.D.FrameHandler.handles l.handler) l.scanner kind octets l.piece l.rest l.number (then_done before (done_of l.done));
+  handled : (kind : Framing) (octets : List ℕ) (before : Done)
+      → HasHandled (g.D.FrameHandler.handles l.handler) l.fn.scanner kind octets l.fn.number
+      (then_done before (done_of l.fn.done))
+      → HandledPiece (g.D.FrameHandler.handles l.handler) l.scanner kind octets l.piece l.rest l.number
+      (then_done before (done_of l.done));
 }
 
 abbrev pub decreases-loop-rest : goal.decreases-loop-rest

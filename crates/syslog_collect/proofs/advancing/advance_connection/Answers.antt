@@ -1,5 +1,8 @@
-use Rattle.std.proofs.Common.{◌+◌, length, refl, arith}
-use Rattle.syslog_collect.proofs.Moving.{advanced, good_unless_failed, pushed, released, too_long, waiting, waiting_record}
+use Rattle.std.proofs.Common.{◌+◌, length, inl, refl, arith}
+use Rattle.syslog_collect.proofs.Moving.{advanced, good_unless_failed, pushed, released, too_long, waiting}
+use Rattle.syslog_collect.proofs.Moving.{waiting_record}
+use Rattle.syslog_collect.proofs.Taking.{in_turn, stops_right}
+use Rattle.syslog_collect.proofs.Waiting.{ready_none}
 use Rattle.syslog_collect.proofs.advancing.advance_connection.Goals as goal
 
 pub returns-in-Err-StreamTooLong-clause-cause : goal.returns-in-Err-StreamTooLong-clause-cause
@@ -11,41 +14,74 @@ pub returns-in_default-clause-cause : goal.returns-in_default-clause-cause
 returns-in_default-clause-cause g c s handled at =
     let e = c.in-Ok.ensures in
     waiting_record c.args.clock c.args.connection.now c.push.new.self s handled c.args.piece.now c.in-Ok.used
-    (pushed _ _ c.args.piece.now c.in-Ok.used e.failed e.too_long e.waits e.within e.position e.bound e.reads e.takes) c.in_default.ensures.spelled at
+    (pushed _ _ c.args.piece.now c.in-Ok.used e.failed e.too_long e.waits e.within e.position e.bound e.reads e.takes)
+    c.in_default.ensures.spelled at
 
 pub returns-in_default-clause-moves : goal.returns-in_default-clause-moves
 returns-in_default-clause-moves g c s handled at =
     let e = c.in-Ok.ensures in
     waiting c.args.clock c.args.connection.now _ _ _ c.args.piece.now c.in-Ok.used s handled refl
-    (pushed _ _ c.args.piece.now c.in-Ok.used e.failed e.too_long e.waits e.within e.position e.bound e.reads e.takes) c.in_default.ensures.waits c.in_default.ensures.err at
+    (pushed _ _ c.args.piece.now c.in-Ok.used e.failed e.too_long e.waits e.within e.position e.bound e.reads e.takes)
+    c.in_default.ensures.waits c.in_default.ensures.err at
 
 pub returns-in_default-clause-drops : goal.returns-in_default-clause-drops
 returns-in_default-clause-drops g c s handled at =
     let e = c.in-Ok.ensures in
     waiting c.args.clock c.args.connection.now _ _ _ c.args.piece.now c.in-Ok.used s handled refl
-    (pushed _ _ c.args.piece.now c.in-Ok.used e.failed e.too_long e.waits e.within e.position e.bound e.reads e.takes) c.in_default.ensures.waits c.in_default.ensures.err at
+    (pushed _ _ c.args.piece.now c.in-Ok.used e.failed e.too_long e.waits e.within e.position e.bound e.reads e.takes)
+    c.in_default.ensures.waits c.in_default.ensures.err at
 
 pub returns-clause-cause : goal.returns-clause-cause
 returns-clause-cause g c s handled at =
     let e = c.in-Ok.ensures in
-    let p = pushed _ _ c.args.piece.now c.in-Ok.used e.failed e.too_long e.waits e.within e.position e.bound e.reads e.takes in
+    let p = pushed _ _ c.args.piece.now c.in-Ok.used e.failed e.too_long e.waits e.within e.position e.bound e.reads
+    e.takes in
     good_unless_failed c.args.connection.now s handled p.live at
 
 pub returns-clause-moves : goal.returns-clause-moves
 returns-clause-moves g c s handled at =
     let e = c.in-Ok.ensures in
     let r = c.release.ensures in
-    advanced c.args.clock c.args.connection.now _ c.push.new.self _ _ c.args.piece.now c.in-Ok.used (c.in-Ok.used + 1) c.in-Ok-handle_ready.outcome s handled refl
-    (pushed _ _ c.args.piece.now c.in-Ok.used e.failed e.too_long e.waits e.within e.position e.bound e.reads e.takes) c.in-Ok-handle_ready.ensures.handles
+    advanced c.args.clock c.args.connection.now _ c.push.new.self _ _ c.args.piece.now c.in-Ok.used (c.in-Ok.used + 1)
+    c.in-Ok-handle_ready.outcome s handled refl
+    (pushed _ _ c.args.piece.now c.in-Ok.used e.failed e.too_long e.waits e.within e.position e.bound e.reads e.takes)
+    c.in-Ok-handle_ready.ensures.handles
     (released _ _ c.release.result r.value r.same r.frame r.failed r.reads) (λ lt. (omega arith, omega (arith, lt))) at
 
 pub returns-clause-drops : goal.returns-clause-drops
 returns-clause-drops g c s handled at =
     let e = c.in-Ok.ensures in
     let r = c.release.ensures in
-    advanced c.args.clock c.args.connection.now _ c.push.new.self _ _ c.args.piece.now c.in-Ok.used (length c.args.piece.now) c.in-Ok-handle_ready.outcome s handled refl
-    (pushed _ _ c.args.piece.now c.in-Ok.used e.failed e.too_long e.waits e.within e.position e.bound e.reads e.takes) c.in-Ok-handle_ready.ensures.handles
+    advanced c.args.clock c.args.connection.now _ c.push.new.self _ _ c.args.piece.now c.in-Ok.used
+    (length c.args.piece.now) c.in-Ok-handle_ready.outcome s handled refl
+    (pushed _ _ c.args.piece.now c.in-Ok.used e.failed e.too_long e.waits e.within e.position e.bound e.reads e.takes)
+    c.in-Ok-handle_ready.ensures.handles
     (released _ _ c.release.result r.value r.same r.frame r.failed r.reads) (λ lt. (lt, omega arith)) at
 
 pub returns-clause-live : goal.returns-clause-live
 returns-clause-live g c = λ f. let e = c.in-Ok.ensures.failed.1 f in absurd (cc)
+
+pub returns-in-Err-StreamTooLong-clause-taken : goal.returns-in-Err-StreamTooLong-clause-taken
+returns-in-Err-StreamTooLong-clause-taken g c s handled at =
+    let long = c.in-Err-StreamTooLong.ensures.too_long.0 (rw c.in-Err-StreamTooLong.field-0-is refl) in
+    ready_none c.args.connection.now.scanner.phase (λ frame. long.0.0 (inl frame))
+
+pub returns-in_default-clause-taken : goal.returns-in_default-clause-taken
+returns-in_default-clause-taken g c s handled at =
+    in_turn c.args.connection.now s handled c.args.piece.now c.in-Ok.used
+    (λ f. let e = c.in-Ok.ensures.failed.1 f in absurd (cc))
+    (λ long. let e = c.in-Ok.ensures.too_long.1 long in absurd (cc))
+    (λ ready. let e = (c.in-Ok.ensures.waits ready).0 in cc) at
+
+pub returns-clause-taken : goal.returns-clause-taken
+returns-clause-taken g c s handled at =
+    let e = c.in-Ok.ensures in (
+      in_turn c.args.connection.now s handled c.args.piece.now c.in-Ok.used
+          (λ f. let e = c.in-Ok.ensures.failed.1 f in absurd (cc))
+          (λ long. let e = c.in-Ok.ensures.too_long.1 long in absurd (cc))
+          (λ ready. let e = (c.in-Ok.ensures.waits ready).0 in cc) at,
+      stops_right c.args.clock c.args.connection.now c.push.new.self _ _ c.args.piece.now c.in-Ok.used
+          c.in-Ok-handle_ready.outcome s handled
+          (pushed _ _ c.args.piece.now c.in-Ok.used e.failed e.too_long e.waits e.within e.position e.bound e.reads
+          e.takes) c.in-Ok-handle_ready.ensures.handles e.takes at,
+    )

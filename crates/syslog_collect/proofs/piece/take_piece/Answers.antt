@@ -1,5 +1,8 @@
 use Rattle.std.proofs.Common.{◌+◌, ◌-◌, drop, length, take, arith}
-use Rattle.syslog_collect.proofs.Pieces.{logs_of, logs_on, logs_on_advance, measure_falls, taken_all, taken_on, within_rest}
+use Rattle.syslog_collect.proofs.Pieces.{logs_of, logs_on, logs_on_advance, measure_falls, taken_all, taken_on}
+use Rattle.syslog_collect.proofs.Pieces.{within_rest}
+use Rattle.syslog_collect.proofs.Stopping.{piece_goes_on, piece_stops, within_taken}
+use Rattle.syslog_collect.specs.Logs.{ready_count}
 use Rattle.syslog_collect.proofs.piece.take_piece.Goals as goal
 
 pub returns-in-Stopped-clause-moves : goal.returns-in-Stopped-clause-moves
@@ -7,20 +10,27 @@ returns-in-Stopped-clause-moves g c s d at =
     let p = c.args.piece.now in
     let n = c.pieces.taken in
     let m = c.in-Stopped.used in
-    logs_on c.args.clock c.args.connection.now c.pieces.connection c.take_step.new.connection (g.S.Store.entries c.args.store.now) (g.S.Store.entries c.pieces.store) (g.S.Store.entries c.take_step.new.store)
-    (take n p) (take m (take (length p - n) (drop n p))) (take (n + m) p) c.args.log.now.items c.pieces.log.items c.take_step.new.log.items s d (taken_on p n m) at
+    logs_on c.args.clock c.args.connection.now c.pieces.connection c.take_step.new.connection
+    (g.S.Store.entries c.args.store.now) (g.S.Store.entries c.pieces.store)
+    (g.S.Store.entries c.take_step.new.store)
+    (take n p) (take m (take (length p - n) (drop n p))) (take (n + m) p) c.args.log.now.items c.pieces.log.items
+    c.take_step.new.log.items s d (taken_on p n m) at
     (c.pieces.invariant.so_far s d at) c.in-Stopped.ensures.moves
 
 pub returns-in-Ended-clause-accepted : goal.returns-in-Ended-clause-accepted
 returns-in-Ended-clause-accepted g c s d at =
     let p = c.args.piece.now in
     let n = c.pieces.taken in
-    logs_on_advance c.args.clock c.args.connection.now c.pieces.connection c.take_step.new.connection (g.S.Store.entries c.args.store.now) (g.S.Store.entries c.pieces.store) (g.S.Store.entries c.take_step.new.store)
-    (take n p) (take (length p - n) (drop n p)) p c.args.log.now.items c.pieces.log.items c.take_step.new.log.items s d (taken_all p n) at
+    logs_on_advance c.args.clock c.args.connection.now c.pieces.connection c.take_step.new.connection
+    (g.S.Store.entries c.args.store.now) (g.S.Store.entries c.pieces.store)
+    (g.S.Store.entries c.take_step.new.store)
+    (take n p) (take (length p - n) (drop n p)) p c.args.log.now.items c.pieces.log.items c.take_step.new.log.items s d
+    (taken_all p n) at
     (c.pieces.invariant.so_far s d at) c.in-Ended.ensures.accepted
 
 pub returns-in-Ended-clause-moves : goal.returns-in-Ended-clause-moves
-returns-in-Ended-clause-moves g c s d at = logs_of c.args.clock _ _ _ _ _ _ _ s d (returns-in-Ended-clause-accepted g c s d at)
+returns-in-Ended-clause-moves g c s d at =
+    logs_of c.args.clock _ _ _ _ _ _ _ s d (returns-in-Ended-clause-accepted g c s d at)
 
 pub pieces-preserved : goal.pieces-preserved
 pieces-preserved g c =
@@ -30,12 +40,34 @@ pieces-preserved g c =
     record {
       within = omega (arith, within_rest p n m c.pieces.invariant.within c.in-On.ensures.within);
       so_far = λ s d at.
-          logs_on c.args.clock c.args.connection.now c.pieces.connection c.take_step.new.connection (g.S.Store.entries c.args.store.now) (g.S.Store.entries c.pieces.store) (g.S.Store.entries c.take_step.new.store)
-          (take n p) (take m (take (length p - n) (drop n p))) (take (n + m) p) c.args.log.now.items c.pieces.log.items c.take_step.new.log.items s d (taken_on p n m) at
+          logs_on c.args.clock c.args.connection.now c.pieces.connection c.take_step.new.connection
+          (g.S.Store.entries c.args.store.now) (g.S.Store.entries c.pieces.store)
+          (g.S.Store.entries c.take_step.new.store)
+          (take n p) (take m (take (length p - n) (drop n p))) (take (n + m) p) c.args.log.now.items c.pieces.log.items
+          c.take_step.new.log.items s d (taken_on p n m) at
           (c.pieces.invariant.so_far s d at) c.in-On.ensures.moves;
+      goes_on = λ s d at.
+          piece_goes_on c.args.clock c.args.connection.now c.pieces.connection (g.S.Store.entries c.args.store.now)
+          (g.S.Store.entries c.pieces.store) p n m c.args.log.now.items c.pieces.log.items s d
+          c.pieces.invariant.within at (c.pieces.invariant.so_far s d at) (c.pieces.invariant.goes_on s d at)
+          c.in-On.ensures.goes_on;
     }
 
 pub pieces-smaller : goal.pieces-smaller
 pieces-smaller g c =
-    measure_falls c.pieces.connection.scanner.phase c.take_step.new.connection.scanner.phase (length c.args.piece.now) c.pieces.taken c.in-On.used c.in-On.ensures.settled c.in-On.ensures.progress
+    measure_falls c.pieces.connection.scanner.phase c.take_step.new.connection.scanner.phase (length c.args.piece.now)
+    c.pieces.taken c.in-On.used c.in-On.ensures.settled c.in-On.ensures.progress
     (within_rest c.args.piece.now c.pieces.taken c.in-On.used c.pieces.invariant.within c.in-On.ensures.within)
+
+pub returns-in-Stopped-clause-within : goal.returns-in-Stopped-clause-within
+returns-in-Stopped-clause-within g c = within_taken c.args.piece.now c.pieces.taken c.in-Stopped.used
+    c.pieces.invariant.within c.in-Stopped.ensures.within
+
+pub returns-in-Stopped-clause-cause : goal.returns-in-Stopped-clause-cause
+returns-in-Stopped-clause-cause g c s d at =
+    piece_stops c.args.clock c.args.connection.now c.pieces.connection (g.S.Store.entries c.args.store.now)
+    (g.S.Store.entries c.pieces.store) c.args.piece.now c.pieces.taken c.in-Stopped.used
+    (ready_count c.take_step.new.connection.scanner.phase) c.in-Stopped.fault c.args.log.now.items c.pieces.log.items s
+    d
+    c.pieces.invariant.within at (c.pieces.invariant.so_far s d at) (c.pieces.invariant.goes_on s d at)
+    c.in-Stopped.ensures.cause

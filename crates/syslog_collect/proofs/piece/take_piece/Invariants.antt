@@ -2,6 +2,7 @@ use Rattle.std.proofs.Common.{ℕ, ◌+◌, ◌-◌, ◌≤◌, List, length, ta
 use Rattle.syslog_collect.specs.History.{Stream}
 use Rattle.syslog_collect.specs.Runs.{Logs, pending}
 use Rattle.syslog_collect.specs.Standing.{IsAt}
+use Rattle.syslog_collect.specs.Stops.{MayGoOn}
 use Rattle.syslog_collect.proofs.piece.take_piece.Given as goal
 
 -- so much of the piece was accepted
@@ -9,7 +10,9 @@ abbrev pub invariant-pieces : goal.invariant-pieces
 invariant-pieces g l = record {
   within : l.taken ≤ length l.piece;
   so_far : (s : Stream) (d : List (List ℕ)) → IsAt l.fn.connection s d →
-      Logs l.fn.clock l.fn.connection l.connection (g.S.Store.entries l.fn.store) (g.S.Store.entries l.store) (take l.taken l.piece) l.fn.log.items l.log.items s d;
+      Logs l.fn.clock l.fn.connection l.connection (g.S.Store.entries l.fn.store) (g.S.Store.entries l.store)
+      (take l.taken l.piece) l.fn.log.items l.log.items s d;
+  goes_on : (s : Stream) (d : List (List ℕ)) → IsAt l.fn.connection s d → MayGoOn l.piece l.taken s;
 }
 
 abbrev pub decreases-pieces : goal.decreases-pieces

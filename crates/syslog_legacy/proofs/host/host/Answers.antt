@@ -10,4 +10,5 @@ returns-then-is_empty c =
 pub returns-in_err-rest : goal.returns-in_err-rest
 returns-in_err-rest c =
     let some : 0 < length c.host_run.result.1.now = search rules in
-    rw c.from_residual.ensures (no_host_behind c.args.octets.now c.host_run.result.0.now c.host_run.result.1.now c.host_run.ensures some c.in_err-rest.ensures)
+    rw c.from_residual.ensures (no_host_behind c.args.octets.now c.host_run.result.0.now c.host_run.result.1.now
+    c.host_run.ensures some c.in_err-rest.ensures)

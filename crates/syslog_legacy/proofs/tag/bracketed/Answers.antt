@@ -9,9 +9,11 @@ returns-then-is_empty c =
 
 pub returns-in_err-rest : goal.returns-in_err-rest
 returns-in_err-rest c =
-    rw c.from_residual.ensures (no_bracketed_open c.args.octets.now c.proc_run.result.0.now c.proc_run.result.1.now c.proc_run.ensures c.in_err-rest.ensures)
+    rw c.from_residual.ensures (no_bracketed_open c.args.octets.now c.proc_run.result.0.now c.proc_run.result.1.now
+    c.proc_run.ensures c.in_err-rest.ensures)
 
 pub returns : goal.returns
 returns c =
     let some : 0 < length c.proc_run.result.0.now = search rules in
-    bracketed_read c.args.octets.now c.proc_run.result.0.now c.proc_run.result.1.now c.in_ok-rest.rest.now _ c.proc_run.ensures some c.in_ok-rest.ensures c.nilable.ensures
+    bracketed_read c.args.octets.now c.proc_run.result.0.now c.proc_run.result.1.now c.in_ok-rest.rest.now _
+    c.proc_run.ensures some c.in_ok-rest.ensures c.nilable.ensures

@@ -6,9 +6,11 @@ use Rattle.syslog_legacy.proofs.view.legacy_view.Goals as goal
 
 pub overflow_sub-result : goal.overflow_sub-result
 overflow_sub-result c =
-    let end = message_ends c.args.clock.now c.args.octets.now (front_parts c.split-front.result.0) c.split-front.result.1.now c.split-front.ensures in
+    let end = message_ends c.args.clock.now c.args.octets.now (front_parts c.split-front.result.0)
+    c.split-front.result.1.now c.split-front.ensures in
     omega (arith, ap length end.1, length-append end.0 c.split-front.result.1.now)
 
 pub returns-in-Err : goal.returns-in-Err
 returns-in-Err c =
-    message_stops c.args.clock.now c.args.octets.now (front_parts c.split-front.result.0) c.split-front.result.1.now c.in-Err.at c.split-front.ensures c.in-Err.ensures
+    message_stops c.args.clock.now c.args.octets.now (front_parts c.split-front.result.0) c.split-front.result.1.now
+    c.in-Err.at c.split-front.ensures c.in-Err.ensures

@@ -3,52 +3,69 @@ use Rattle.send_engine.specs.Options.{NameNothing, OptionTexts}
 use Rattle.send_engine.specs.Sending.{SendDone}
 use Rattle.frame_engine.proofs.ConvertLemmas.{convert_output}
 use Rattle.frame_engine.proofs.OutputLemmas.{check_output, show_output}
+use Rattle.syslogbox.proofs.FileLemmas.{nothing_written}
 use Rattle.syslogbox.proofs.RequestLemmas.{same_check, same_convert, same_send, same_show}
 use Rattle.syslogbox.proofs.run.run.Goals as goal
 
 pub returns-in-Ok-Check-clause-checked : goal.returns-in-Ok-Check-clause-checked
-returns-in-Ok-Check-clause-checked g c = λ input_framing h few.
-    let same = same_check c.in-Ok-Check.input_framing input_framing c.in-Ok-Check.field-0 _ c.in-Ok-Check.field-0-is c.in-Ok-Check.ensures.ok h in
-    rw same at (c.scan_input.ensures.answer few)
+returns-in-Ok-Check-clause-checked g c = λ clock input_framing h few.
+    let same = same_check c.in-Ok-Check.input_framing input_framing c.in-Ok-Check.clock clock c.in-Ok-Check.field-0 _
+    c.in-Ok-Check.field-0-is c.in-Ok-Check.ensures.ok h in
+    rw (same.0, same.1) at (c.scan_input.ensures.answer few)
 
 pub returns-in-Ok-Show-clause-shown : goal.returns-in-Ok-Show-clause-shown
-returns-in-Ok-Show-clause-shown g c = λ input_framing h few.
-    let same = same_show c.in-Ok-Show.input_framing input_framing c.in-Ok-Show.field-0 _ c.in-Ok-Show.field-0-is c.in-Ok-Show.ensures.ok h in
-    rw same at (c.scan_input-in-Ok-Show.ensures.answer few)
+returns-in-Ok-Show-clause-shown g c = λ clock input_framing h few.
+    let same = same_show c.in-Ok-Show.input_framing input_framing c.in-Ok-Show.clock clock c.in-Ok-Show.field-0 _
+    c.in-Ok-Show.field-0-is c.in-Ok-Show.ensures.ok h in
+    rw (same.0, same.1) at (c.scan_input-in-Ok-Show.ensures.answer few)
 
 pub returns-in-Ok-Convert-clause-converted : goal.returns-in-Ok-Convert-clause-converted
-returns-in-Ok-Convert-clause-converted g c = λ input_framing to h few.
-    let same = same_convert c.in-Ok-Convert.input_framing input_framing c.in-Ok-Convert.to to c.in-Ok-Convert.field-0 _ c.in-Ok-Convert.field-0-is c.in-Ok-Convert.ensures.ok h in
-    rw (same.0, same.1) at (c.scan_input-in-Ok-Convert.ensures.answer few)
+returns-in-Ok-Convert-clause-converted g c = λ clock input_framing to h few.
+    let same = same_convert c.in-Ok-Convert.input_framing input_framing c.in-Ok-Convert.clock clock c.in-Ok-Convert.to
+    to
+    c.in-Ok-Convert.field-0 _ c.in-Ok-Convert.field-0-is c.in-Ok-Convert.ensures.ok h in
+    rw (same.0, same.1, same.2) at (c.scan_input-in-Ok-Convert.ensures.answer few)
 
 pub returns-in-Ok-Convert-clause-convert_prefix : goal.returns-in-Ok-Convert-clause-convert_prefix
-returns-in-Ok-Convert-clause-convert_prefix g c = λ input_framing to h.
-    let same = same_convert c.in-Ok-Convert.input_framing input_framing c.in-Ok-Convert.to to c.in-Ok-Convert.field-0 _ c.in-Ok-Convert.field-0-is c.in-Ok-Convert.ensures.ok h in
-    rw (same.0, same.1) at (c.scan_input-in-Ok-Convert.ensures.prefix (convert_output c.in-Ok-Convert.to))
+returns-in-Ok-Convert-clause-convert_prefix g c = λ clock input_framing to h.
+    let same = same_convert c.in-Ok-Convert.input_framing input_framing c.in-Ok-Convert.clock clock c.in-Ok-Convert.to
+    to
+    c.in-Ok-Convert.field-0 _ c.in-Ok-Convert.field-0-is c.in-Ok-Convert.ensures.ok h in
+    rw (same.0, same.1, same.2) at
+    (c.scan_input-in-Ok-Convert.ensures.prefix (convert_output c.in-Ok-Convert.clock c.in-Ok-Convert.to))
 
 pub returns-in-Ok-Check-clause-check_prefix : goal.returns-in-Ok-Check-clause-check_prefix
-returns-in-Ok-Check-clause-check_prefix g c = λ input_framing h.
-    let same = same_check c.in-Ok-Check.input_framing input_framing c.in-Ok-Check.field-0 _ c.in-Ok-Check.field-0-is c.in-Ok-Check.ensures.ok h in
-    rw same at (c.scan_input.ensures.prefix check_output)
+returns-in-Ok-Check-clause-check_prefix g c = λ clock input_framing h.
+    let same = same_check c.in-Ok-Check.input_framing input_framing c.in-Ok-Check.clock clock c.in-Ok-Check.field-0 _
+    c.in-Ok-Check.field-0-is c.in-Ok-Check.ensures.ok h in
+    rw (same.0, same.1) at (c.scan_input.ensures.prefix (check_output c.in-Ok-Check.clock))
 
 pub returns-in-Ok-Show-clause-show_prefix : goal.returns-in-Ok-Show-clause-show_prefix
-returns-in-Ok-Show-clause-show_prefix g c = λ input_framing h.
-    let same = same_show c.in-Ok-Show.input_framing input_framing c.in-Ok-Show.field-0 _ c.in-Ok-Show.field-0-is c.in-Ok-Show.ensures.ok h in
-    rw same at (c.scan_input-in-Ok-Show.ensures.prefix show_output)
+returns-in-Ok-Show-clause-show_prefix g c = λ clock input_framing h.
+    let same = same_show c.in-Ok-Show.input_framing input_framing c.in-Ok-Show.clock clock c.in-Ok-Show.field-0 _
+    c.in-Ok-Show.field-0-is c.in-Ok-Show.ensures.ok h in
+    rw (same.0, same.1) at (c.scan_input-in-Ok-Show.ensures.prefix (show_output c.in-Ok-Show.clock))
 
 pub returns-in-Ok-Send-clause-sent : goal.returns-in-Ok-Send-clause-sent
 returns-in-Ok-Send-clause-sent g c = λ texts h few.
-    let same = same_send c.in-Ok-Send.options texts c.in-Ok-Send.field-0 _ c.in-Ok-Send.field-0-is c.in-Ok-Send.ensures.ok h in
+    let same = same_send c.in-Ok-Send.options texts c.in-Ok-Send.field-0 _ c.in-Ok-Send.field-0-is
+    c.in-Ok-Send.ensures.ok h in
     let (d, done, status, taken, noted) = c.send_text.ensures.answer few in
     (d, subst (λ (t : OptionTexts). SendDone t d) same done, status, taken, noted)
 
 pub returns-in-Ok-Send-clause-send_prefix : goal.returns-in-Ok-Send-clause-send_prefix
 returns-in-Ok-Send-clause-send_prefix g c = λ texts d h done.
-    let same = same_send c.in-Ok-Send.options texts c.in-Ok-Send.field-0 _ c.in-Ok-Send.field-0-is c.in-Ok-Send.ensures.ok h in
+    let same = same_send c.in-Ok-Send.options texts c.in-Ok-Send.field-0 _ c.in-Ok-Send.field-0-is
+    c.in-Ok-Send.ensures.ok h in
     c.send_text.ensures.prefix d (subst (λ (t : OptionTexts). SendDone t d) (sym same) done)
 
 pub returns-in-Ok-Send-clause-send_refused : goal.returns-in-Ok-Send-clause-send_refused
 returns-in-Ok-Send-clause-send_refused g c = λ texts h none.
-    let same = same_send c.in-Ok-Send.options texts c.in-Ok-Send.field-0 _ c.in-Ok-Send.field-0-is c.in-Ok-Send.ensures.ok h in
+    let same = same_send c.in-Ok-Send.options texts c.in-Ok-Send.field-0 _ c.in-Ok-Send.field-0-is
+    c.in-Ok-Send.ensures.ok h in
     let refused = c.send_text.ensures.refused (subst NameNothing (sym same) none) in
     (refused.0, ap (λ w. g.W.Output.taken w) refused.1)
+
+pub returns-in-Err-Memory-clause-merge_prefix : goal.returns-in-Err-Memory-clause-merge_prefix
+returns-in-Err-Memory-clause-merge_prefix g c = λ left right h.
+    nothing_written (g.F.Files.stored c.args.files.now) left right (g.W.Output.taken c.args.writer.now)

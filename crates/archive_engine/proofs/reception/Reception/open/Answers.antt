@@ -3,5 +3,9 @@ use Rattle.archive_engine.proofs.ArchiveLemmas.{both_ok}
 use Rattle.archive_engine.proofs.ReceiveLemmas.{receives_opening}
 use Rattle.archive_engine.proofs.reception.Reception.open.Goals as goal
 
-pub returns : goal.returns
-returns g c = both_ok c.run_event.result _ _ _ (λ stands settled. receives_opening _ _ c.args.framing (stands [] [] c.requires.stands) (settled c.requires.settled)) c.run_event.ensures.stands c.run_event.ensures.settled
+pub returns-clause-receives : goal.returns-clause-receives
+returns-clause-receives g c =
+    both_ok c.run_event.result _ _ _
+    (λ stands settled.
+    receives_opening _ _ _ c.args.framing (stands [] [] c.requires.stands) (settled c.requires.settled))
+    c.run_event.ensures.stands c.run_event.ensures.settled

@@ -1,6 +1,6 @@
-use Rattle.std.proofs.Common.{List, None, ◌∷◌, ◌++◌, [], subst, sym, ◌∙◌}
-use Rattle.syslog_collect.specs.History.{AcceptedEvent, history_of}
-use Rattle.syslog_collect.specs.Logs.{Grows, IsLogOf, waiting}
+use Rattle.std.proofs.Common.{List, ◌∷◌, ◌++◌, [], subst}
+use Rattle.syslog_collect.specs.History.{history_of}
+use Rattle.syslog_collect.specs.Logs.{waiting}
 use Rattle.syslog_legacy.specs.FrameReadings.{Clock}
 use Rattle.syslog_collect.specs.Runs.{accepted_event}
 use Rattle.syslog_collect.specs.Standing.{Stands}
@@ -9,12 +9,14 @@ use Rattle.archive_engine.proofs.reception.Reception.run_event.Goals as goal
 
 pub returns-in-Done-clause-stands : goal.returns-in-Done-clause-stands
 returns-in-Done-clause-stands g c = λ first before was.
-    let plain = c.args.self.now.plain in
-    let here = c.in-Done.ensures.stands first before (subst (λ (k : Clock). Stands k c.args.self.now.collector.connections.items (g.S.Store.entries c.args.self.now.collector.store) first before) (sym plain) was) in
-    subst (λ (k : Clock). Stands k c.run.new.self.connections.items (g.S.Store.entries c.run.new.self.store) first (before ++ accepted_event c.args.event ∷ [])) (c.in-Done.ensures.clock ∙ plain) here
+    subst
+    (λ (k : Clock). Stands k c.run.new.self.connections.items (g.S.Store.entries c.run.new.self.store) first
+    (before ++ accepted_event c.args.event ∷ []))
+    c.in-Done.ensures.clock (c.in-Done.ensures.stands first before was)
 
 pub returns-in-Done-clause-logged : goal.returns-in-Done-clause-logged
 returns-in-Done-clause-logged g c = λ first before was settled.
-    let plain = c.args.self.now.plain in
-    let here = c.in-Done.ensures.logged first before (subst (λ (k : Clock). Stands k c.args.self.now.collector.connections.items (g.S.Store.entries c.args.self.now.collector.store) first before) (sym plain) was) in
-    log_only (history_of before) (waiting c.args.self.now.collector.connections.items) (waiting c.run.new.self.connections.items) (accepted_event c.args.event ∷ []) (g.S.Store.entries c.args.self.now.collector.store) (g.S.Store.entries c.run.new.self.store) _ _ c.clear.ensures.items (rw plain at here)
+    log_only _ (history_of before) (waiting c.args.self.now.collector.connections.items)
+    (waiting c.run.new.self.connections.items) (accepted_event c.args.event ∷ [])
+    (g.S.Store.entries c.args.self.now.collector.store) (g.S.Store.entries c.run.new.self.store) _ _
+    c.clear.ensures.items (c.in-Done.ensures.logged first before was)

@@ -13,6 +13,12 @@ returns c =
     let r = c.args.record.now in
     let blocks = blocks_of c.args.self.now.arena in
     let a : Entry = record { instant = c.instant.result; octets = c.as_slice.result.now } in
-    let one : IsEntryOf r a = record { valid = is.valid; instant = c.instant.ensures; canonical = subst (Canonical r) (sym c.as_slice.ensures.value) c.in_ok-octets.ensures } in
-    let alike = held_alike r (entries_of blocks (lists_of c.deref.result.now)) a c.holds_entry.result one c.holds_entry.ensures e is in
+    let one : IsEntryOf r a = record {
+      valid = is.valid;
+      instant = c.instant.ensures;
+      canonical =
+          subst (Canonical r) (sym c.as_slice.ensures.value) c.in_ok-octets.ensures;
+    } in
+    let alike = held_alike r (entries_of blocks (lists_of c.deref.result.now)) a c.holds_entry.result one
+    c.holds_entry.ensures e is in
     subst (λ ps. IsTrue c.holds_entry.result ↔ Has (entries_of blocks (lists_of ps)) e) c.deref.ensures.value alike

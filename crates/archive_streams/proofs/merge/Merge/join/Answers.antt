@@ -8,7 +8,8 @@ entries-init g c = record {
   left = c.in_ok-advance_left.ensures.failures;
   right = c.in_ok-advance_right.ensures.failures;
   writer = refl;
-  joins = λ dl dr start s. c.in_ok-advance_right.ensures.ready dl _ dr start _ (c.in_ok-advance_left.ensures.first dl dr _ start _ s);
+  joins = λ dl dr start s. c.in_ok-advance_right.ensures.ready dl _ dr start _
+      (c.in_ok-advance_left.ensures.first dl dr _ start _ s);
 }
 
 pub entries-preserved : goal.entries-preserved
@@ -25,13 +26,17 @@ returns-clause-joins g c = c.entries.invariant.joins
 
 pub returns-in_err-advance_left-clause-halted : goal.returns-in_err-advance_left-clause-halted
 returns-in_err-advance_left-clause-halted g c =
-    at_err c.from_residual.result c.in_err-advance_left.field-0.0 _ c.from_residual.ensures.1 (λ dl dr start s. c.in_err-advance_left.ensures.halted_first dl dr _ start _ s)
+    at_err c.from_residual.result c.in_err-advance_left.field-0.0 _ c.from_residual.ensures.1
+    (λ dl dr start s. c.in_err-advance_left.ensures.halted_first dl dr _ start _ s)
 
 pub returns-in_err-advance_right-clause-halted : goal.returns-in_err-advance_right-clause-halted
 returns-in_err-advance_right-clause-halted g c =
-    at_err c.from_residual-in_err-advance_right.result c.in_err-advance_right.field-0.0 _ c.from_residual-in_err-advance_right.ensures.1
-    (λ dl dr start s. c.in_err-advance_right.ensures.halted dl _ dr start _ (c.in_ok-advance_left.ensures.first dl dr _ start _ s))
+    at_err c.from_residual-in_err-advance_right.result c.in_err-advance_right.field-0.0 _
+    c.from_residual-in_err-advance_right.ensures.1
+    (λ dl dr start s. c.in_err-advance_right.ensures.halted dl _ dr start _
+    (c.in_ok-advance_left.ensures.first dl dr _ start _ s))
 
 pub returns-in_err-turn-clause-halted : goal.returns-in_err-turn-clause-halted
 returns-in_err-turn-clause-halted g c =
-    at_err c.from_residual-in_err-turn.result c.in_err-turn.field-0.0 _ c.from_residual-in_err-turn.ensures.1 (λ dl dr start s. c.in_err-turn.ensures.halted dl dr start (c.entries.invariant.joins dl dr start s))
+    at_err c.from_residual-in_err-turn.result c.in_err-turn.field-0.0 _ c.from_residual-in_err-turn.ensures.1
+    (λ dl dr start s. c.in_err-turn.ensures.halted dl dr start (c.entries.invariant.joins dl dr start s))

@@ -28,4 +28,5 @@ pub returns-clause-both : goal.returns-clause-both
 returns-clause-both c = λ dl dr start.
     let left = c.in_ok-new.ensures in
     let right = c.in_ok-new-2.ensures in
-    both_start _ dl dr start left.unused left.position left.calls left.ends right.unused right.position right.calls right.ends c.in_ok-new-3.ensures.empty c.new-4.ensures refl
+    both_start _ dl dr start left.unused left.position left.calls left.ends right.unused right.position right.calls
+    right.ends c.in_ok-new-3.ensures.empty c.new-4.ensures refl

@@ -6,19 +6,24 @@ use Rattle.archive_streams.proofs.merge.Merge.run.Goals as goal
 
 pub returns-in_default-clause-joined : goal.returns-in_default-clause-joined
 returns-in_default-clause-joined g c =
-    if_ok_then c.finish.result _ _ c.finish.ensures.joined (λ n j dl dr start s. j dl _ dr _ start c.in_default.ensures.done (c.in_default.ensures.joins dl dr start s))
+    if_ok_then c.finish.result _ _ c.finish.ensures.joined
+    (λ n j dl dr start s. j dl _ dr _ start c.in_default.ensures.done (c.in_default.ensures.joins dl dr start s))
 
 pub returns-in_default-clause-stopped : goal.returns-in_default-clause-stopped
 returns-in_default-clause-stopped g c =
-    IfErr-weaker c.finish.result _ _ (λ fault h dl dr start s. h dl _ dr _ start c.in_default.ensures.room (c.in_default.ensures.joins dl dr start s)) c.finish.ensures.stopped
+    IfErr-weaker c.finish.result _ _ (λ fault h dl dr start s.
+    h dl _ dr _ start c.in_default.ensures.room (c.in_default.ensures.joins dl dr start s)) c.finish.ensures.stopped
 
 pub returns-in-Write-clause-stopped : goal.returns-in-Write-clause-stopped
-returns-in-Write-clause-stopped g c = λ dl dr start s. stopped_write c.in-Err.fault c.in-Write.sent _ dl _ dr _ start _ c.in-Write.is (c.in-Err.ensures.halted dl dr start s)
+returns-in-Write-clause-stopped g c = λ dl dr start s.
+    stopped_write c.in-Err.fault c.in-Write.sent _ dl _ dr _ start _ c.in-Write.is
+    (c.in-Err.ensures.halted dl dr start s)
 
 pub returns-in-Ok : goal.returns-in-Ok
 returns-in-Ok g c = record {
   joined = tt;
-  stopped = λ dl dr start s. c.in-Ok.ensures.halted c.in-Err.fault dl _ dr _ start (is_not_write c.in-Err.fault c.in_default-fault.not-Write) (c.in-Err.ensures.halted dl dr start s);
+  stopped = λ dl dr start s. c.in-Ok.ensures.halted c.in-Err.fault dl _ dr _ start
+      (is_not_write c.in-Err.fault c.in_default-fault.not-Write) (c.in-Err.ensures.halted dl dr start s);
   read_left = search rules;
   read_right = search rules;
   writer = search rules;
@@ -28,7 +33,8 @@ returns-in-Ok g c = record {
 pub returns-in-Err-finish : goal.returns-in-Err-finish
 returns-in-Err-finish g c = record {
   joined = tt;
-  stopped = λ dl dr start s. c.in-Err-finish.ensures.halted_stopped c.in-Err.fault dl _ dr _ start (is_not_write c.in-Err.fault c.in_default-fault.not-Write) (c.in-Err.ensures.halted dl dr start s);
+  stopped = λ dl dr start s. c.in-Err-finish.ensures.halted_stopped c.in-Err.fault dl _ dr _ start
+      (is_not_write c.in-Err.fault c.in_default-fault.not-Write) (c.in-Err.ensures.halted dl dr start s);
   read_left = search rules;
   read_right = search rules;
   writer = search rules;

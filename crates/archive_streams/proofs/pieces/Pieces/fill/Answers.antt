@@ -6,7 +6,8 @@ pub returns-in-Err-clause-reads : goal.returns-in-Err-clause-reads
 returns-in-Err-clause-reads g c = record {
   more = [];
   consumed = Consumes-none _ _ c.in-Err.ensures.octets;
-  grown = sym (ap (λ (s : List ℕ). s ++ []) (none_unused c.args.self.now.start c.args.self.now.end c.args.self.now.piece c.if-self.false));
+  grown = sym (ap (λ (s : List ℕ). s ++ []) (none_unused c.args.self.now.start c.args.self.now.end c.args.self.now.piece
+      c.if-self.false));
   far = omega arith;
   calls = λ h. omega (arith, h, c.read.ensures.calls, c.args.self.now.few);
   ends = λ h. omega (arith, c.in-Err.ensures.ends);

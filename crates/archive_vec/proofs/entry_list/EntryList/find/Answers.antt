@@ -7,7 +7,8 @@ use Rattle.archive_vec.proofs.Finding.{below_up_to, above_from}
 use Rattle.archive_vec.proofs.entry_list.EntryList.find.Goals as goal
 
 pub find_between-requires-clause-above : goal.find_between-requires-clause-above
-find_between-requires-clause-above c = above_from _ _ _ _ c.len-len.ensures.archive.ascending c.at.ensures c.in-Greater.ensures
+find_between-requires-clause-above c = above_from _ _ _ _ c.len-len.ensures.archive.ascending c.at.ensures
+    c.in-Greater.ensures
 
 pub returns-in-Less : goal.returns-in-Less
 returns-in-Less c =
@@ -18,6 +19,7 @@ returns-in-Less c =
     let none : drop len es ≡ _ = drop_all len es (omega arith) in
     record {
       within = omega arith;
-      below = subst (λ n. AllByRecursion (λ x. IsBelow x e) (take n es)) whole (below_up_to _ _ _ _ c.len-len.ensures.archive.ascending c.at.ensures c.in-Less.ensures);
+      below = subst (λ n. AllByRecursion (λ x. IsBelow x e) (take n es)) whole
+          (below_up_to _ _ _ _ c.len-len.ensures.archive.ascending c.at.ensures c.in-Less.ensures);
       above = rw none tt;
     }

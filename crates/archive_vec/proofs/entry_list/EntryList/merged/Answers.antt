@@ -12,14 +12,16 @@ pub push-requires-clause-entry : goal.push-requires-clause-entry
 push-requires-clause-entry c = all_at IsEntry _ _ _ c.len.ensures.archive.entries c.at-left.ensures
 
 pub push-requires-clause-fits : goal.push-requires-clause-fits
-push-requires-clause-fits c = all_at (λ e. length e.octets ≤ ENTRY_MAX) _ _ _ c.len.ensures.archive.fits c.at-left.ensures
+push-requires-clause-fits c = all_at (λ e. length e.octets ≤ ENTRY_MAX) _ _ _ c.len.ensures.archive.fits
+    c.at-left.ensures
 
 pub loop-i-preserved-in-Less : goal.loop-i-preserved-in-Less
 loop-i-preserved-in-Less c =
     record {
       left = omega arith;
       right = omega arith;
-      merging = step_left _ _ _ _ _ _ _ _ c.len.ensures.archive.ascending c.len-in-loop-i.ensures.archive.ascending c.at-left.ensures
+      merging = step_left _ _ _ _ _ _ _ _ c.len.ensures.archive.ascending c.len-in-loop-i.ensures.archive.ascending
+          c.at-left.ensures
           c.at-right.ensures c.in-Less.ensures c.in_ok-push-in-Less.ensures.ok c.loop-i.invariant.merging;
     }
 
@@ -30,14 +32,16 @@ pub push-requires-in-Equal-clause-entry : goal.push-requires-in-Equal-clause-ent
 push-requires-in-Equal-clause-entry c = all_at IsEntry _ _ _ c.len.ensures.archive.entries c.at-left.ensures
 
 pub push-requires-in-Equal-clause-fits : goal.push-requires-in-Equal-clause-fits
-push-requires-in-Equal-clause-fits c = all_at (λ e. length e.octets ≤ ENTRY_MAX) _ _ _ c.len.ensures.archive.fits c.at-left.ensures
+push-requires-in-Equal-clause-fits c = all_at (λ e. length e.octets ≤ ENTRY_MAX) _ _ _ c.len.ensures.archive.fits
+    c.at-left.ensures
 
 pub loop-i-preserved-in-Equal : goal.loop-i-preserved-in-Equal
 loop-i-preserved-in-Equal c =
     record {
       left = omega arith;
       right = omega arith;
-      merging = step_both _ _ _ _ _ _ _ _ c.len.ensures.archive.ascending c.len-in-loop-i.ensures.archive.ascending c.at-left.ensures
+      merging = step_both _ _ _ _ _ _ _ _ c.len.ensures.archive.ascending c.len-in-loop-i.ensures.archive.ascending
+          c.at-left.ensures
           c.at-right.ensures c.in-Equal.ensures c.in_ok-push-in-Equal.ensures.ok c.loop-i.invariant.merging;
     }
 
@@ -45,7 +49,8 @@ pub push-requires-in-Greater-clause-below : goal.push-requires-in-Greater-clause
 push-requires-in-Greater-clause-below c = right_goes_on _ _ _ _ _ _ c.at-right.ensures c.loop-i.invariant.merging
 
 pub push-requires-in-Greater-clause-entry : goal.push-requires-in-Greater-clause-entry
-push-requires-in-Greater-clause-entry c = all_at IsEntry _ _ _ c.len-in-loop-i.ensures.archive.entries c.at-right.ensures
+push-requires-in-Greater-clause-entry c = all_at IsEntry _ _ _ c.len-in-loop-i.ensures.archive.entries
+    c.at-right.ensures
 
 pub push-requires-in-Greater-clause-fits : goal.push-requires-in-Greater-clause-fits
 push-requires-in-Greater-clause-fits c =
@@ -56,7 +61,8 @@ loop-i-preserved c =
     record {
       left = omega arith;
       right = omega arith;
-      merging = step_right _ _ _ _ _ _ _ _ c.len.ensures.archive.ascending c.len-in-loop-i.ensures.archive.ascending c.at-left.ensures
+      merging = step_right _ _ _ _ _ _ _ _ c.len.ensures.archive.ascending c.len-in-loop-i.ensures.archive.ascending
+          c.at-left.ensures
           c.at-right.ensures c.in-Greater.ensures c.in_ok-push-in-Greater.ensures.ok c.loop-i.invariant.merging;
     }
 

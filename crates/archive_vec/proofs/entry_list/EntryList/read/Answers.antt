@@ -5,4 +5,5 @@ use Rattle.archive_vec.proofs.entry_list.EntryList.read.Goals as goal
 
 pub returns-in-Err-clause-err : goal.returns-in-Err-clause-err
 returns-in-Err-clause-err c =
-    read_fault _ _ _ _ c.len-archive.ensures.archive c.loop-rest.invariant (grind (arith, common_steps)) c.in-Err.ensures.err
+    read_fault _ _ _ _ c.len-archive.ensures.archive c.loop-rest.invariant (grind (arith, common_steps))
+    c.in-Err.ensures.err

@@ -10,4 +10,5 @@ returns-clause-long c =
     let r = c.args.record.now in
     let e : Entry = record { instant = c.instant.result; octets = c.as_slice.result.now } in
     let canonical = subst (Canonical r) (sym c.as_slice.ensures.value) c.in-Ok.ensures in
-    λ h f k. long_for_each ENTRY_MAX r e f (entry_with r e c.priority-valid.ensures.valid c.instant.ensures canonical) (c.add.ensures.long h) k
+    λ h f k. long_for_each ENTRY_MAX r e f (entry_with r e c.priority-valid.ensures.valid c.instant.ensures canonical)
+    (c.add.ensures.long h) k

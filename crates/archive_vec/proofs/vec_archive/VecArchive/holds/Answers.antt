@@ -9,5 +9,6 @@ returns c =
     let r = c.args.record.now in
     let e : Entry = record { instant = c.instant.result; octets = c.as_slice.result.now } in
     let canonical = subst (Canonical r) (sym c.as_slice.ensures.value) c.in_ok-octets.ensures in
-    λ f k. found_for_each c.args.self.now.list r e f c.find.result c.is_ok.result (entry_with r e c.priority-valid.ensures.valid c.instant.ensures canonical)
+    λ f k. found_for_each c.args.self.now.list r e f c.find.result c.is_ok.result
+    (entry_with r e c.priority-valid.ensures.valid c.instant.ensures canonical)
     c.find.ensures c.is_ok.ensures.value k

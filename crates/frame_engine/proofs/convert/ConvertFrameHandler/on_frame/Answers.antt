@@ -2,16 +2,12 @@ use Rattle.std.proofs.Common.{refl, inl, inr}
 use Rattle.std.proofs.lemmas.Result.{on_ok_weaker}
 use Rattle.frame_engine.proofs.convert.ConvertFrameHandler.on_frame.Goals as goal
 
-pub returns-then-frame-gt-FRAME_MAX-clause-ok : goal.returns-then-frame-gt-FRAME_MAX-clause-ok
-returns-then-frame-gt-FRAME_MAX-clause-ok c = on_ok_weaker c.note_line.result (λ e. (_, inl (c.if-frame-gt-FRAME_MAX.true, refl), e)) c.note_line.ensures.ok
-
 pub returns-in-Ok-clause-ok : goal.returns-in-Ok-clause-ok
 returns-in-Ok-clause-ok c =
     on_ok_weaker c.put_record.result
-    (λ h. let (d, w, e) = h c.args.frame.now c.in-Ok.ensures.whole in (d, inr (inl (c.if-frame-gt-FRAME_MAX.false, w)), e))
-    c.put_record.ensures.ok
+    (λ h. let (d, w, e) = h c.args.frame.now c.in-Ok.ensures.reading in (d, inl w, e)) c.put_record.ensures.ok
 
 pub returns-in-Err-clause-ok : goal.returns-in-Err-clause-ok
 returns-in-Err-clause-ok c =
-    on_ok_weaker c.note_line-in-Err.result
-    (λ e. (_, inr (inr (c.if-frame-gt-FRAME_MAX.false, c.in-Err.fault, c.in-Err.ensures.whole, refl)), e)) c.note_line-in-Err.ensures.ok
+    on_ok_weaker c.note_line.result (λ e. (_, inr (c.in-Err.line, c.in-Err.ensures.refused, refl), e))
+    c.note_line.ensures.ok

@@ -21,47 +21,87 @@ some_of (Some x) e = (x, refl)
 pub returns-then-is_some-clause-cause : goal.returns-then-is_some-clause-cause
 returns-then-is_some-clause-cause g c first events was =
     let found = some_of c.place.result (sym c.is_some.ensures ∙ c.if-is_some.true) in
-    let is = subst (λ (ls : List Connection). place_from c.args.conn 0 ls ≡ Some found.0) c.deref.ensures.value (sym c.place.ensures ∙ found.1) in
+    let is = subst (λ (ls : List Connection). place_from c.args.conn 0 ls ≡ Some found.0) c.deref.ensures.value
+    (sym c.place.ensures ∙ found.1) in
     is_open c.args.self.now.clock c.args.conn found.0 c.args.self.now.connections.items _ first events is was
 
 pub returns-then-len-ge-CONNECTIONS_MAX-clause-cause : goal.returns-then-len-ge-CONNECTIONS_MAX-clause-cause
 returns-then-len-ge-CONNECTIONS_MAX-clause-cause g c first events was =
-    let absent = subst (λ (ls : List Connection). place_from c.args.conn 0 ls ≡ None) c.deref.ensures.value (sym c.place.ensures ∙ none_of c.place.result (sym c.is_some.ensures ∙ c.if-is_some.false)) in
-    (not_open c.args.self.now.clock c.args.conn c.args.self.now.connections.items _ first events absent was, omega (arith, c.len.ensures, count_open c.args.self.now.clock c.args.self.now.connections.items _ first events was))
+    let absent = subst (λ (ls : List Connection). place_from c.args.conn 0 ls ≡ None) c.deref.ensures.value
+    (sym c.place.ensures ∙ none_of c.place.result (sym c.is_some.ensures ∙ c.if-is_some.false)) in (
+      not_open c.args.self.now.clock c.args.conn c.args.self.now.connections.items _ first events absent was,
+      omega (
+        arith,
+        c.len.ensures,
+        count_open c.args.self.now.clock c.args.self.now.connections.items _ first events
+            was,
+      ),
+    )
 
 pub returns-in_default-clause-cause : goal.returns-in_default-clause-cause
 returns-in_default-clause-cause g c first events was =
-    let absent = subst (λ (ls : List Connection). place_from c.args.conn 0 ls ≡ None) c.deref.ensures.value (sym c.place.ensures ∙ none_of c.place.result (sym c.is_some.ensures ∙ c.if-is_some.false)) in
-    (not_open c.args.self.now.clock c.args.conn c.args.self.now.connections.items _ first events absent was, omega (arith, c.len.ensures, count_open c.args.self.now.clock c.args.self.now.connections.items _ first events was), refl)
+    let absent = subst (λ (ls : List Connection). place_from c.args.conn 0 ls ≡ None) c.deref.ensures.value
+    (sym c.place.ensures ∙ none_of c.place.result (sym c.is_some.ensures ∙ c.if-is_some.false)) in (
+      not_open c.args.self.now.clock c.args.conn c.args.self.now.connections.items _ first events absent was,
+      omega (
+        arith,
+        c.len.ensures,
+        count_open c.args.self.now.clock c.args.self.now.connections.items _ first events
+            was,
+      ),
+      refl,
+    )
 
 pub returns-in-Err-clause-stands : goal.returns-in-Err-clause-stands
-returns-in-Err-clause-stands g c first events was = rw c.in-Err.ensures.items (still c.args.self.now.clock c.args.self.now.connections.items _ _ first events refl was)
+returns-in-Err-clause-stands g c first events was =
+    rw c.in-Err.ensures.items (still c.args.self.now.clock c.args.self.now.connections.items _ _ first events refl was)
 
 pub returns-in-Err-clause-cause : goal.returns-in-Err-clause-cause
 returns-in-Err-clause-cause g c first events was =
-    let absent = subst (λ (ls : List Connection). place_from c.args.conn 0 ls ≡ None) c.deref.ensures.value (sym c.place.ensures ∙ none_of c.place.result (sym c.is_some.ensures ∙ c.if-is_some.false)) in
-    (not_open c.args.self.now.clock c.args.conn c.args.self.now.connections.items _ first events absent was, omega (arith, c.len.ensures, count_open c.args.self.now.clock c.args.self.now.connections.items _ first events was), refl)
+    let absent = subst (λ (ls : List Connection). place_from c.args.conn 0 ls ≡ None) c.deref.ensures.value
+    (sym c.place.ensures ∙ none_of c.place.result (sym c.is_some.ensures ∙ c.if-is_some.false)) in (
+      not_open c.args.self.now.clock c.args.conn c.args.self.now.connections.items _ first events absent was,
+      omega (
+        arith,
+        c.len.ensures,
+        count_open c.args.self.now.clock c.args.self.now.connections.items _ first events
+            was,
+      ),
+      refl,
+    )
 
 pub returns-clause-stands : goal.returns-clause-stands
 returns-clause-stands g c first events was =
-    let absent = subst (λ (ls : List Connection). place_from c.args.conn 0 ls ≡ None) c.deref.ensures.value (sym c.place.ensures ∙ none_of c.place.result (sym c.is_some.ensures ∙ c.if-is_some.false)) in
+    let absent = subst (λ (ls : List Connection). place_from c.args.conn 0 ls ≡ None) c.deref.ensures.value
+    (sym c.place.ensures ∙ none_of c.place.result (sym c.is_some.ensures ∙ c.if-is_some.false)) in
     let room : length c.args.self.now.connections.items < CONNECTIONS_MAX = omega (arith, c.len.ensures) in
     rw c.in_default-push.ensures.items
-    (open_step c.args.self.now.clock c.args.conn c.args.framing c.in-Ok.scanner c.args.self.now.connections.items _ first events absent room c.in-Ok.ensures.reads c.in-Ok.ensures.stands.1 was)
+    (open_step c.args.self.now.clock c.args.conn c.args.framing c.in-Ok.scanner c.args.self.now.connections.items _
+    first events absent room c.in-Ok.ensures.reads c.in-Ok.ensures.stands.1 was)
 
 pub returns-clause-cause : goal.returns-clause-cause
 returns-clause-cause g c first events was =
-    let absent = subst (λ (ls : List Connection). place_from c.args.conn 0 ls ≡ None) c.deref.ensures.value (sym c.place.ensures ∙ none_of c.place.result (sym c.is_some.ensures ∙ c.if-is_some.false)) in
-    (not_open c.args.self.now.clock c.args.conn c.args.self.now.connections.items _ first events absent was, omega (arith, c.len.ensures, count_open c.args.self.now.clock c.args.self.now.connections.items _ first events was))
+    let absent = subst (λ (ls : List Connection). place_from c.args.conn 0 ls ≡ None) c.deref.ensures.value
+    (sym c.place.ensures ∙ none_of c.place.result (sym c.is_some.ensures ∙ c.if-is_some.false)) in (
+      not_open c.args.self.now.clock c.args.conn c.args.self.now.connections.items _ first events absent was,
+      omega (
+        arith,
+        c.len.ensures,
+        count_open c.args.self.now.clock c.args.self.now.connections.items _ first events
+            was,
+      ),
+    )
 
 pub returns-in-Err-clause-settled : goal.returns-in-Err-clause-settled
 returns-in-Err-clause-settled g c h = rw c.in-Err.ensures.items h
 
 pub returns-clause-settled : goal.returns-clause-settled
-returns-clause-settled g c h = rw c.in_default-push.ensures.items (settled_push _ _ h (λ f. c.in-Ok.ensures.stands.1.0 (inl f)))
+returns-clause-settled g c h = rw c.in_default-push.ensures.items
+    (settled_push _ _ h (λ f. c.in-Ok.ensures.stands.1.0 (inl f)))
 
 pub returns-in-Err-clause-waits : goal.returns-in-Err-clause-waits
 returns-in-Err-clause-waits g c d = ap (λ (ls : List Connection). waiting ls d) c.in-Err.ensures.items
 
 pub returns-clause-waits : goal.returns-clause-waits
-returns-clause-waits g c d = rw c.in_default-push.ensures.items (waiting_push _ c.args.self.now.connections.items d (ready_none _ (λ f. c.in-Ok.ensures.stands.1.0 (inl f))))
+returns-clause-waits g c d = rw c.in_default-push.ensures.items
+    (waiting_push _ c.args.self.now.connections.items d (ready_none _ (λ f. c.in-Ok.ensures.stands.1.0 (inl f))))

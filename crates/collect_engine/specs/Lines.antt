@@ -1,0 +1,45 @@
+-- The lines on what is refused.
+use Rattle.std.specs.Prelude.{ℕ, List, [], ◌∷◌, ◌++◌, Bool, true, false}
+use Rattle.syslog_value.specs.Device.{count_on}
+use Rattle.syslog_collect.specs.declared.outcome.Outcome.{Outcome}
+use Rattle.syslog_collect.specs.declared.outcome.Outcome.TheVariants.{New, Held, Refused, RefusedLegacy, TooLong}
+use Rattle.syslog_collect.specs.declared.outcome.Outcome.TheVariants.{BadCount}
+use Rattle.frame_engine.specs.Line.{line_text}
+use Rattle.frame_engine.specs.declared.line.Line.TheVariants as line
+use Rattle.collect_engine.specs.declared.receiving.Received.{Received}
+use Rattle.collect_engine.specs.declared.receiving.Received.TheVariants as received
+
+-- the line on an outcome with this number: none, where it is a record
+abbrev pub outcome_line : ℕ → Outcome → List ℕ
+outcome_line n New = []
+outcome_line n Held = []
+outcome_line n (Refused fault) = line_text (line.Refused n fault)
+outcome_line n (RefusedLegacy offset) = line_text (line.LegacyNotUtf8 n offset)
+outcome_line n TooLong = line_text (line.TooLong n)
+outcome_line n (BadCount at) = line_text (line.BadCount n at)
+
+-- the lines on outcomes, the first of them with this number
+abbrev pub outcome_lines : ℕ → List Outcome → List ℕ
+outcome_lines n [] = []
+outcome_lines n (o ∷ os) = outcome_line n o ++ outcome_lines (count_on n) os
+
+-- the number that comes after outcomes, the first of them with this number
+abbrev pub counted : ℕ → List Outcome → ℕ
+counted n [] = n
+counted n (o ∷ os) = counted (count_on n) os
+
+-- the line on an end inside a frame
+abbrev pub end_line : Received → List ℕ
+end_line received.Accepted = []
+end_line (received.Unterminated start) = line_text (line.Unterminated start)
+end_line received.Refused = []
+end_line received.Memory = []
+
+-- the lines on an event
+abbrev pub lines_on : ℕ → List Outcome → Received → List ℕ
+lines_on n os r = outcome_lines n os ++ end_line r
+
+-- there is some octet
+abbrev pub has_some : List ℕ → Bool
+has_some [] = false
+has_some (x ∷ xs) = true

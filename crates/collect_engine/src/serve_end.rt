@@ -1,0 +1,40 @@
+//! How serving ends.
+
+use std::alloc::AllocError;
+
+/// How serving ended.
+#[derive(Clone, Copy, Debug, PartialEq, Eq)]
+pub enum ServeEnd {
+    /// The source gave its end. Whether a line was noted.
+    Done { refused: bool },
+    /// The source failed, the collector refused a step, or the notes could not be written.
+    Failed,
+    /// The source did not give its end in `SERVE_TURNS` steps.
+    Endless,
+    /// Out of memory.
+    Memory,
+}
+
+/// Why a source was not served to its end.
+#[derive(Clone, Copy, Debug, PartialEq, Eq)]
+pub(crate) enum Stopped {
+    /// The source failed, or the collector refused a step.
+    Step,
+    /// The notes could not be written.
+    Notes,
+    /// The source did not give its end in `SERVE_TURNS` steps.
+    Endless,
+    /// Out of memory.
+    Memory,
+}
+
+impl From<AllocError> for Stopped {
+    ghost use Rattle.std.specs.Prelude.{◌≡◌};
+    ghost use Rattle.collect_engine.specs.declared.serve_end.Stopped.TheVariants.{Memory};
+
+    ghost from_gives = { λ _ stopped. stopped ≡ Memory };
+
+    fn from(_: AllocError) -> Stopped {
+        Stopped::Memory
+    }
+}

@@ -1,0 +1,159 @@
+//! A source is served: its steps go into a collector.
+ghost use Rattle.std.specs.Prelude.{◌≡◌, ◌+◌, ◌<◌, ◌^◌, IfOk, IsErrOf, OnOk, length, vec_len};
+ghost use Rattle.syslog_value.specs.Device.{count_on};
+ghost use Rattle.collect_engine.specs.Ends.{FinishesBy, IfEndDone, IsEventStep};
+ghost use Rattle.collect_engine.specs.Steps.{IsWithin};
+
+use crate::lines::EventLines;
+use crate::receiving::{Received, receive};
+use crate::serve_end::{ServeEnd, Stopped};
+use crate::source::Source;
+use crate::step::Step;
+use archive_text::Store;
+use std::alloc::{AllocError, Global};
+use syslog_collect::{Collector, Event};
+use syslog_frame::FRAME_MAX;
+use syslog_value::Output;
+
+/// The most steps that are asked of a source.
+pub const SERVE_TURNS: u64 = 1_048_576;
+
+// the number of the one connection
+const CONN: u32 = 0;
+
+// Gives an event to the collector, and writes the lines on what is refused.
+fn serve_event<S: Store, N: Output>(
+    alloc: Global,
+    collector: &mut Collector<S>,
+    event: Event<'_>,
+    notes: &mut N,
+    lines: &mut EventLines,
+) -> Result<(), Stopped>
+    ensures going { ¬ (IsErrOf result Stopped.Endless) }
+    ensures clock { collector.new.clock ≡ collector.old.clock }
+{
+    let received = receive(alloc, collector, event, &mut lines.outcomes);
+    let written = lines.write(received, notes);
+    match received {
+        Received::Accepted | Received::Unterminated { .. } => written,
+        Received::Refused => Err(Stopped::Step),
+        Received::Memory => Err(Stopped::Memory),
+    }
+}
+
+// Serves a step that is an event.
+fn serve_step<S: Store, N: Output>(
+    alloc: Global,
+    collector: &mut Collector<S>,
+    step: Step,
+    buf: &[u8],
+    notes: &mut N,
+    lines: &mut EventLines,
+) -> Result<(), Stopped>
+    requires within { IsWithin (length buf.now) step }
+    requires event { IsEventStep step }
+    ensures going { ¬ (IsErrOf result Stopped.Endless) }
+    ensures clock { collector.new.clock ≡ collector.old.clock }
+{
+    let event = match step {
+        Step::Opened(framing) => Event::Opened {
+            conn: CONN,
+            framing,
+        },
+        Step::Piece(n) => Event::Piece {
+            conn: CONN,
+            octets: &buf[..n],
+        },
+        Step::Ended => Event::Ended { conn: CONN },
+        Step::Datagram(n) => Event::Datagram { octets: &buf[..n] },
+        Step::Finished | Step::Failed => unreachable!(),
+    };
+    serve_event(alloc, collector, event, notes, lines)
+}
+
+// Room for the octets of a step.
+fn make_room(alloc: Global) -> Result<Vec<u8>, AllocError>
+    ensures { IfOk result (λ room. vec_len room ≡ FRAME_MAX + 1) }
+{
+    vec![in alloc; 0u8; FRAME_MAX + 1]
+}
+
+// Serves the next step. Whether it was the end of the source.
+fn serve_next<S: Store, R: Source, N: Output>(
+    alloc: Global,
+    collector: &mut Collector<S>,
+    source: &mut R,
+    buf: &mut [u8],
+    notes: &mut N,
+    lines: &mut EventLines,
+) -> Result<bool, Stopped>
+    ensures steps { R.steps source.new ≡ count_on (R.steps source.old) }
+    ensures finishes { FinishesBy result (R.finishes source.old) (R.finishes source.new) }
+    ensures going { ¬ (IsErrOf result Stopped.Endless) }
+    ensures clock { collector.new.clock ≡ collector.old.clock }
+{
+    let step = source.next(buf);
+    match step {
+        Step::Finished => Ok(true),
+        Step::Failed => Err(Stopped::Step),
+        Step::Opened(_) | Step::Piece(_) | Step::Ended | Step::Datagram(_) => {
+            match serve_step(alloc, collector, step, buf, notes, lines) {
+                Ok(()) => Ok(false),
+                Err(stopped) => Err(stopped),
+            }
+        }
+    }
+}
+
+/// Serves the steps of a source, to its end. Whether a line was noted.
+pub(crate) fn serve_steps<S: Store, R: Source, N: Output>(
+    alloc: Global,
+    collector: &mut Collector<S>,
+    source: &mut R,
+    notes: &mut N,
+) -> Result<bool, Stopped>
+    ensures endless { R.steps source.old < 2 ^ 63 → IsErrOf result Stopped.Endless
+        → (R.steps source.new ≡ R.steps source.old + SERVE_TURNS)
+        × (R.finishes source.new ≡ R.finishes source.old) }
+    ensures finished { R.finishes source.old < 2 ^ 63
+        → OnOk result (R.finishes source.old < R.finishes source.new) }
+    ensures clock { collector.new.clock ≡ collector.old.clock }
+{
+    let mut buf = make_room(alloc)?;
+    let mut lines = EventLines::new(alloc);
+    for _turn in 0..SERVE_TURNS {
+        let room = buf.as_mut_slice();
+        if serve_next(alloc, collector, source, room, notes, &mut lines)? {
+            return Ok(lines.refused);
+        }
+    }
+    Err(Stopped::Endless)
+}
+
+/// Gives the steps of a source to a collector, each as an event on connection 0, until the source
+/// gives its end.
+///
+/// A line on each frame and each count that is refused, and on an end inside a frame, goes to
+/// `notes` as soon as it is met. Frames and counts are numbered from 1 over all connections. After
+/// a bad count the rest of that connection is passed over.
+pub fn serve<S: Store, R: Source, N: Output>(
+    alloc: Global,
+    collector: &mut Collector<S>,
+    source: &mut R,
+    notes: &mut N,
+) -> ServeEnd
+    ensures endless { R.steps source.old < 2 ^ 63 → result ≡ ServeEnd.Endless
+        → (R.steps source.new ≡ R.steps source.old + SERVE_TURNS)
+        × (R.finishes source.new ≡ R.finishes source.old) }
+    ensures finished { R.finishes source.old < 2 ^ 63
+        → IfEndDone result (R.finishes source.old < R.finishes source.new) }
+    ensures clock { collector.new.clock ≡ collector.old.clock }
+{
+    match serve_steps(alloc, collector, source, notes) {
+        Ok(refused) => ServeEnd::Done { refused },
+        Err(Stopped::Step) => ServeEnd::Failed,
+        Err(Stopped::Notes) => ServeEnd::Failed,
+        Err(Stopped::Endless) => ServeEnd::Endless,
+        Err(Stopped::Memory) => ServeEnd::Memory,
+    }
+}

@@ -1,0 +1,64 @@
+//! Datagrams from a socket.
+ghost use Rattle.std.specs.Prelude.{◌≡◌, length};
+ghost use Rattle.collect_engine.specs.Steps.{IsWithin};
+
+use crate::counts::StepCounts;
+use crate::source::Source;
+use crate::step::Step;
+use std::net::UdpSocket;
+
+/// The datagrams that come to a socket, each a step, until there were as many as asked for.
+#[derive(Drop)]
+pub struct UdpSource {
+    socket: UdpSocket,
+    left: u32,
+    counts: StepCounts,
+}
+
+impl UdpSource {
+    /// The next `count` datagrams of a bound socket, and then the end.
+    pub fn new(socket: UdpSocket, count: u32) -> UdpSource
+        ensures steps { ⟦<UdpSource as Source>⟧.steps result ≡ 0 }
+        ensures failures { ⟦<UdpSource as Source>⟧.failures result ≡ 0 }
+        ensures finishes { ⟦<UdpSource as Source>⟧.finishes result ≡ 0 }
+    {
+        UdpSource {
+            socket,
+            left: count,
+            counts: StepCounts::new(),
+        }
+    }
+
+    // Waits for a datagram, if one is still asked for.
+    fn receive(&mut self, buf: &mut [u8]) -> Step
+        ensures within { IsWithin (length buf.new) result }
+        ensures counts { self.new.counts ≡ self.old.counts }
+    {
+        let Some(left) = self.left.checked_sub(1) else {
+            return Step::Finished;
+        };
+        let Ok((n, _from)) = self.socket.recv_from(buf) else {
+            return Step::Failed;
+        };
+        self.left = left;
+        Step::Datagram(n)
+    }
+}
+
+impl Source for UdpSource {
+    ghost use Rattle.std.specs.Prelude.{None};
+
+    ghost steps = { λ s. s.counts.steps };
+
+    ghost failures = { λ s. s.counts.failures };
+
+    ghost finishes = { λ s. s.counts.finishes };
+
+    ghost coming = { λ _. None };
+
+    fn next(&mut self, buf: &mut [u8]) -> Step {
+        let step = self.receive(buf);
+        self.counts.count(step);
+        step
+    }
+}

@@ -1,0 +1,79 @@
+//! The words of `--legacy` and `--zone`.
+
+ghost use Rattle.std.specs.Prelude.{◌≡◌, codes, false, option_map, IfOk};
+ghost use Rattle.clap.specs.Words.{app_of, found_of, rows_of, rule_of};
+ghost use Rattle.clap.specs.declared.builder.command.Command.TheViews.{out-Command as fields_of};
+ghost use Rattle.command_line.specs.Clocks.{clock_at, clock_in, clock_of, minutes_of, zone_of};
+ghost use Rattle.command_line.specs.CommandLine.{with_legacy_rules};
+
+use crate::numbers::{number, two_digits};
+use crate::words::{default_option, described, option, value, with_arg};
+use clap::{ArgMatches, Command};
+use std::alloc::{AllocError, Global};
+use syslog_legacy::LegacyClock;
+
+/// The command with the options of legacy packets.
+pub(crate) fn with_legacy<'a>(
+    alloc: Global,
+    command: Command<'a>,
+) -> Result<Command<'a>, AllocError>
+    requires { (fields_of command).has_globals ≡ false }
+    ensures app { IfOk result (λ c. app_of c ≡ with_legacy_rules (app_of command.entry)) }
+    ensures local { IfOk result (λ c. (fields_of c).has_globals ≡ false) }
+{
+    let help = "Read legacy packets (RFC 3164) too, in this year: 1 to 9998";
+    let command = with_arg(command, described(option(alloc, "legacy"), help))?;
+    let help = "Zone of their times: E (ahead of UTC) or W (behind), hours and minutes, as E0130";
+    with_arg(command, default_option(alloc, "zone", "E0000", help))
+}
+
+// Two digits of hours and two of minutes, in minutes.
+fn minutes(digits: &[u8]) -> Option<u16>
+    ensures { result ≡ minutes_of digits.now }
+{
+    let [a, b, c, d] = digits else {
+        return None;
+    };
+    let hours = two_digits(*a, *b, 23)?;
+    let minutes = two_digits(*c, *d, 59)?;
+    Some(u16::from(hours) * 60 + u16::from(minutes))
+}
+
+// How many minutes a zone is ahead of UTC: E is ahead, W is behind.
+fn zone(text: &str) -> Option<i16>
+    ensures { result ≡ zone_of text.now }
+{
+    match text.as_bytes() {
+        [b'E', digits @ ..] => Some(minutes(digits)? as i16),
+        [b'W', digits @ ..] => Some(-(minutes(digits)? as i16)),
+        _ => None,
+    }
+}
+
+// The clock of a year and an offset, where they are in range.
+fn clock_at(year: u16, offset_minutes: i16) -> Option<LegacyClock>
+    ensures { result ≡ clock_at year offset_minutes }
+{
+    LegacyClock::new(year, offset_minutes)
+}
+
+// The clock of a year in a zone. Without a year there is none; the zone is tested all the same.
+fn clock(year: Option<&str>, zone_text: &str) -> Option<Option<LegacyClock>>
+    ensures { result ≡ clock_of (option_map (λ s. s.now) year.entry) zone_text.now }
+{
+    let offset_minutes = zone(zone_text)?;
+    let Some(year) = year else {
+        return Some(None);
+    };
+    let year = number(year, 9998)? as u16;
+    Some(Some(clock_at(year, offset_minutes)?))
+}
+
+/// The clock of legacy packets by the options, if they are read at all; None where a value of
+/// these options is refused.
+pub fn clock_of_matches(matches: &ArgMatches<'_>) -> Option<Option<LegacyClock>>
+    ensures { result ≡ clock_in (rows_of (found_of matches.now)) }
+{
+    let zone = value(matches, "zone")?;
+    clock(value(matches, "legacy"), zone)
+}

@@ -1,0 +1,63 @@
+-- A frame is read in one way, and each reading has one output.
+use Rattle.std.proofs.Common.{◌≡◌, ◌≤◌, ℕ, ℤ, List, Bool, true, false, length, refl, sym, ap, ◌∙◌, arith, inl, inr}
+use Rattle.std.specs.Prelude.{◌↔◌, IsTrue, None, Some}
+use Rattle.syslog_frame.specs.declared.limits.TheConstants.{FRAME_MAX}
+use Rattle.syslog_value.specs.Parts.{Parts}
+use Rattle.syslog_grammar.specs.Faults.{FaultOf}
+use Rattle.syslog_grammar.specs.declared.fault.Fault.{Fault}
+use Rattle.syslog_grammar.proofs.OneFault.{one_fault}
+use Rattle.syslog_legacy.proofs.FrameReadings.{fault_not_read, not_utf8, not_utf8_legacy, one_offset, one_reading}
+use Rattle.syslog_legacy.specs.FrameReadings.{Clock}
+use Rattle.syslog_legacy.specs.NewForm.{HasNewForm}
+use Rattle.syslog_legacy.specs.Readings.{Legacy, NotUtf8At, ReadAs}
+use Rattle.syslog_legacy.specs.declared.clock.LegacyClock.{LegacyClock}
+use Rattle.frame_engine.specs.Readings.{IsRecordOf, IsRefusedWith}
+use Rattle.frame_engine.specs.declared.line.Line.{Line}
+use Rattle.frame_engine.specs.declared.line.Line.TheVariants.{LegacyNotUtf8, Refused}
+
+pub one_record : (clock : Clock) (f : List ℕ) (r q : Parts ℤ) → IsRecordOf clock r f → IsRecordOf clock q f → r ≡ q
+one_record clock f r q h k = one_reading clock f r q h.1 k.1
+
+pub not_both : (clock : Clock) (n : ℕ) (f : List ℕ) (r : Parts ℤ) (line : Line) → IsRefusedWith clock n f line
+    → IsRecordOf clock r f → ⊥
+not_both clock n f r line (inl (long, e)) (few, is) = absurd (omega (arith, few, long))
+not_both clock n f r line (inr (inl (few, offset, stops, e))) (few', is) = not_utf8 clock f r offset stops is
+not_both clock n f r line (inr (inr (few, form, fault, bad, e))) (few', is) = fault_not_read clock f r fault form bad is
+
+pub one_line : (clock : Clock) (n : ℕ) (f : List ℕ) (l m : Line) → IsRefusedWith clock n f l → IsRefusedWith clock n f m
+    → l ≡ m
+one_line clock n f l m (inl (long, e)) (inl (long', g)) = e ∙ sym g
+one_line clock n f l m (inl (long, e)) (inr (inl (few, j, stops', g))) = absurd (omega (arith, few, long))
+one_line clock n f l m (inl (long, e)) (inr (inr (few, form', y, bad', g))) = absurd (omega (arith, few, long))
+one_line clock n f l m (inr (inl (few, i, stops, e))) (inl (long, g)) = absurd (omega (arith, few, long))
+one_line clock n f l m (inr (inl (few, i, stops, e))) (inr (inl (few', j, stops', g))) =
+    e ∙ ap (λ (k : ℕ). LegacyNotUtf8 n k) (one_offset clock f i j stops stops') ∙ sym g
+one_line clock n f l m (inr (inl (few, i, stops, e))) (inr (inr (few', form, y, bad', g))) =
+    absurd (form (not_utf8_legacy clock f i stops))
+one_line clock n f l m (inr (inr (few, form, x, bad, e))) (inl (long, g)) = absurd (omega (arith, few, long))
+one_line clock n f l m (inr (inr (few, form, x, bad, e))) (inr (inl (few', i, stops, g))) =
+    absurd (form (not_utf8_legacy clock f i stops))
+one_line clock n f l m (inr (inr (few, form, x, bad, e))) (inr (inr (few', form', y, bad', g))) =
+    e ∙ ap (λ (z : Fault). Refused n z) (one_fault f x y bad bad') ∙ sym g
+
+-- ---- a frame under a clock
+
+pub not_so : (A : Type 0) (b : Bool) → b ≡ false → (IsTrue b ↔ A) → ¬ A
+not_so A b e h a = let t : b ≡ true = h.1 a in absurd cc
+
+pub legacy_record : (clock : Clock) (k : LegacyClock) (r : Parts ℤ) (f : List ℕ) → clock ≡ Some k → length f ≤ FRAME_MAX
+    → ¬ (HasNewForm f) → Legacy k (ReadAs r) f → IsRecordOf clock r f
+legacy_record clock k r f e few form is = (few, rw e (inr (form, is)))
+
+pub legacy_refused : (clock : Clock) (k : LegacyClock) (n offset : ℕ) (f : List ℕ) → clock ≡ Some k
+    → length f ≤ FRAME_MAX → ¬ (HasNewForm f) → Legacy k (NotUtf8At offset) f
+    → IsRefusedWith clock n f (LegacyNotUtf8 n offset)
+legacy_refused clock k n offset f e few form stops = inr (inl (few, offset, rw e (form, stops), refl))
+
+pub new_form_refused : (clock : Clock) (k : LegacyClock) (n : ℕ) (f : List ℕ) (fault : Fault) → clock ≡ Some k
+    → length f ≤ FRAME_MAX → HasNewForm f → FaultOf f fault → IsRefusedWith clock n f (Refused n fault)
+new_form_refused clock k n f fault e few form bad = inr (inr (few, (rw e (λ no. no form)), fault, bad, refl))
+
+pub fault_refused : (clock : Clock) (n : ℕ) (f : List ℕ) (fault : Fault) → clock ≡ None → length f ≤ FRAME_MAX
+    → FaultOf f fault → IsRefusedWith clock n f (Refused n fault)
+fault_refused clock n f fault e few bad = inr (inr (few, (rw e (λ no. no)), fault, bad, refl))

@@ -1,0 +1,89 @@
+//! How a frame is read.
+
+ghost use Rattle.std.specs.Prelude.{◌≡◌, ℤ, List, ℕ, IfErr, IfOk, OnErr, OnOk};
+ghost use Rattle.syslog_value.specs.Parts.{Parts};
+ghost use Rattle.syslog_grammar.specs.ViewParts.{IsViewOf, view_parts};
+ghost use Rattle.syslog_grammar.specs.Faults.{FaultOf};
+ghost use Rattle.syslog_legacy.specs.FrameReadings.{Clock};
+ghost use Rattle.frame_engine.specs.Readings.{AddsRecord, IsReadingOf, IsRecordOf, IsRefusedWith};
+
+use crate::line::Line;
+use std::alloc::{AllocError, Global};
+use syslog_frame::FRAME_MAX;
+use syslog_grammar::{RecordView, put_canonical, view};
+use syslog_legacy::{LegacyClock, LegacyView, has_new_form, legacy_view, put_legacy_canonical};
+use syslog_value::Record;
+
+/// What a frame is read as. It lends its parts from the frame.
+#[derive(Clone, Copy, Debug)]
+pub enum Reading<'a> {
+    /// A record of RFC 5424.
+    Record(RecordView<'a>),
+    /// A legacy packet (RFC 3164).
+    Legacy(LegacyView<'a>),
+}
+
+/// Reads a frame, which has this number. With a clock, a frame without the front of RFC 5424 is a
+/// legacy packet. It takes no memory.
+///
+/// # Errors
+/// The line that says why the frame is no record.
+pub fn read_frame<'a>(
+    clock: Option<LegacyClock>,
+    number: u64,
+    frame: &'a [u8],
+) -> Result<Reading<'a>, Line>
+    ensures some { OnOk result ((r : Parts ℤ) × IsRecordOf clock r frame.now) }
+    ensures reading { IfOk result (λ reading. IsReadingOf clock frame.now reading) }
+    ensures refused { IfErr result (λ line. IsRefusedWith clock number frame.now line) }
+{
+    if frame.len() > FRAME_MAX {
+        return Err(Line::TooLong { number });
+    }
+    if let Some(clock) = clock {
+        if !has_new_form(frame) {
+            return match legacy_view(&clock, frame) {
+                Ok(view) => Ok(Reading::Legacy(view)),
+                Err(fault) => Err(Line::LegacyNotUtf8 {
+                    number,
+                    offset: fault.offset,
+                }),
+            };
+        }
+    }
+    match view(frame) {
+        Ok(view) => Ok(Reading::Record(view)),
+        Err(fault) => Err(Line::Refused { number, fault }),
+    }
+}
+
+impl<'a> Reading<'a> {
+    /// The record, with memory of its own.
+    ///
+    /// # Errors
+    /// Out of memory.
+    pub fn to_record(&self, alloc: Global) -> Result<Record, AllocError>
+        ensures { IfOk result (λ r. (clock : Clock) (f : List ℕ) → IsReadingOf clock f self.now
+            → IsRecordOf clock r f) }
+    {
+        match self {
+            Reading::Record(view) => view.to_record(alloc),
+            Reading::Legacy(view) => view.to_record(alloc),
+        }
+    }
+
+    /// Appends the canonical octets of the record; where a growth is refused, nothing.
+    ///
+    /// # Errors
+    /// Out of memory.
+    pub fn put_canonical(&self, alloc: Global, out: &mut Vec<u8>) -> Result<(), AllocError>
+        ensures ok { (clock : Clock) (f : List ℕ) → IsReadingOf clock f self.now
+            → OnOk result (AddsRecord clock f out.old.items out.new.items) }
+        ensures err { OnErr result (out.new.items ≡ out.old.items) }
+    {
+        match self {
+            Reading::Record(view) => put_canonical(alloc, view, out),
+            Reading::Legacy(view) => put_legacy_canonical(view, out),
+        }
+    }
+}

@@ -1,0 +1,292 @@
+-- Why a run stopped: from one step of a piece to the whole run.
+use Rattle.std.proofs.Common.{◌≡◌, ℕ, zero, suc, ◌+◌, ◌-◌, ◌<◌, ◌≤◌, List, [], ◌∷◌, ◌++◌, length, get_or, set as set_at}
+use Rattle.std.proofs.Common.{take, drop, inl, inr, append_assoc, refl, sym, ◌∙◌, ap, subst, arith}
+use denote.Bor.{Bor}
+use Rattle.std.specs.Prelude.{◌⊎◌, Option, Some, None, Result, Ok, Err}
+use Rattle.std.proofs.lemmas.List.{length-append, length-drop, length-take}
+use Rattle.syslog_frame.specs.Frames.{Frames}
+use Rattle.syslog_frame.specs.declared.framing.Framing.{Framing}
+use Rattle.syslog_frame.specs.declared.phase.Phase.{Phase}
+use Rattle.syslog_frame.specs.declared.phase.Phase.TheVariants.{Ended as phase_Ended}
+use Rattle.archive_text.specs.Entries.{Entry}
+use Rattle.syslog_legacy.specs.FrameReadings.{Clock}
+use Rattle.syslog_collect.specs.declared.connection.Connection.{Connection}
+use Rattle.syslog_collect.specs.declared.event.Event.{Event}
+use Rattle.syslog_collect.specs.declared.event.Event.TheVariants.{Opened as event_Opened, Piece as event_Piece}
+use Rattle.syslog_collect.specs.declared.event.Event.TheVariants.{Ended as event_Ended, Datagram as event_Datagram}
+use Rattle.syslog_collect.specs.declared.event.EventEnd.{EventEnd}
+use Rattle.syslog_collect.specs.declared.event.EventEnd.TheVariants.{Done as end_Done, Stopped as end_Stopped}
+use Rattle.syslog_collect.specs.declared.event.RunEnd.TheVariants.{Stopped}
+use Rattle.syslog_collect.specs.declared.fault.Advance.{Advance}
+use Rattle.syslog_collect.specs.declared.fault.CollectFault.{CollectFault}
+use Rattle.syslog_collect.specs.declared.fault.CollectFault.TheVariants.{AlreadyOpen, TooManyOpen, NotOpen, ConnFailed}
+use Rattle.syslog_collect.specs.declared.fault.CollectFault.TheVariants.{StreamTooLong, Unreleased, Unterminated}
+use Rattle.syslog_collect.specs.declared.fault.CollectFault.TheVariants.{Memory}
+use Rattle.syslog_collect.specs.declared.outcome.Outcome.{Outcome}
+use Rattle.syslog_collect.specs.declared.outcome.Outcome.TheVariants.{New, Held, Refused, RefusedLegacy, TooLong}
+use Rattle.syslog_collect.specs.declared.outcome.Outcome.TheVariants.{BadCount}
+use Rattle.syslog_collect.specs.Answers.{Advances, ComesInTurn, IfMemory, IfUnreleased, IsBadCount, IsCause, IsEnding}
+use Rattle.syslog_collect.specs.Answers.{IsOpening, ReportsBadCount, accepted_count}
+use Rattle.syslog_collect.specs.History.{AcceptedEvent, History, HoldsBadCount, Stream, accept, history_after}
+use Rattle.syslog_collect.specs.History.{history_of, stream_of, with_octets}
+use Rattle.syslog_collect.specs.Logs.{ready_count, waiting}
+use Rattle.syslog_collect.specs.Outcomes.{IsRecordFrame, outcomes_of}
+use Rattle.syslog_collect.specs.Runs.{IfDone, Logs, accepted_all, accepted_event, event_end, piece_octets, used_before}
+use Rattle.syslog_collect.specs.Standing.{IsAt, Stands}
+use Rattle.syslog_collect.specs.Stops.{EndWell, EndsWell, IfStopped, IsPieceCause, IsPieceRefusal, MayGoOn, StopsAs}
+use Rattle.syslog_collect.specs.Stops.{StopsAt, StopsAtFirst, StopsPiece}
+use Rattle.syslog_collect.proofs.EventRuns.{with_octets_none}
+use Rattle.syslog_collect.proofs.Pieces.{accepted_used, taken_on, with_octets_twice}
+use Rattle.syslog_collect.proofs.Places.{found_here, opening_at, place_from}
+use Rattle.syslog_collect.proofs.Waiting.{place_set, waiting_at}
+
+-- ---- one step of a piece
+
+-- an advance that was refused
+pub step_cause : (clock : Clock) (rest : List ℕ) (used : ℕ) (phase : Phase) (fault : CollectFault) (s : Stream)
+    → used ≡ used_before fault → IsCause clock rest (Err fault) s
+    → IfMemory {A = Advance} (Err fault) (phase ≡ phase_Ended)
+    → IsPieceCause clock rest used (ready_count phase) fault s
+step_cause clock rest used phase (Memory n) s is cause frame = (
+  subst (λ (k : ℕ). IsCause clock rest (Err (Memory k)) s) (sym is) cause,
+  omega arith,
+  ap (λ (p : Phase). ready_count p) frame,
+)
+step_cause clock rest used phase ConnFailed s is cause frame = (cause, is)
+step_cause clock rest used phase StreamTooLong s is cause frame = (cause, is)
+step_cause clock rest used phase NotOpen s is cause frame = absurd cause
+step_cause clock rest used phase AlreadyOpen s is cause frame = absurd cause
+step_cause clock rest used phase TooManyOpen s is cause frame = absurd cause
+step_cause clock rest used phase Unreleased s is cause frame = absurd cause
+step_cause clock rest used phase (Unterminated start) s is cause frame = absurd cause
+
+unmarked : (o : Option Outcome) (t : Stream) → ¬ (IsBadCount o) → ReportsBadCount (outcomes_of o) t
+    → ¬ (HoldsBadCount t)
+unmarked None t good marks = marks
+unmarked (Some New) t good marks = marks
+unmarked (Some Held) t good marks = marks
+unmarked (Some (Refused fault)) t good marks = marks
+unmarked (Some (RefusedLegacy offset)) t good marks = marks
+unmarked (Some TooLong) t good marks = marks
+unmarked (Some (BadCount at)) t good marks = absurd (good tt)
+
+-- one that was not, and met no bad count
+pub step_goes_on : (clock : Clock) (x y : Connection) (a b : List Entry) (rest : List ℕ) (n : ℕ) (o : Option Outcome)
+    (s : Stream) (d : List (List ℕ)) (waits : ℕ) → ¬ (IsBadCount o)
+    → ComesInTurn rest waits n s → Advances clock x y a b (take (accepted_count (length rest) n o) rest) (outcomes_of o)
+    s d → MayGoOn rest n s
+step_goes_on clock x y a b rest n o s d waits good (inl (one, none)) moves = inl none
+step_goes_on clock x y a b rest n o s d waits good (inr (none, fits)) moves =
+    inr (
+      unmarked o (with_octets s (take n rest)) good
+          (subst (λ (k : ℕ). ReportsBadCount (outcomes_of o) (with_octets s (take k rest)))
+          (accepted_used (length rest) n o good) moves.marks),
+      fits,
+    )
+
+-- ---- the steps of a piece
+
+-- where a connection is after octets
+reached : (clock : Clock) (x y : Connection) (a b : List Entry) (o : List ℕ) (l m : List Outcome) (s : Stream)
+    (d : List (List ℕ)) → IsAt x s d → Logs clock x y a b o l m s d
+    → (e : List (List ℕ)) × IsAt y (with_octets s o) e × ((o ≡ []) ⊎ ¬ (HoldsBadCount s))
+reached clock x y a b o l m s d at (os, log, inl (none, same, kept, quiet)) = (
+  d,
+  subst (λ (u : List ℕ). IsAt y (with_octets s u) d) (sym none)
+      (subst (λ (t : Stream). IsAt y t d) (sym (with_octets_none s))
+      (subst (λ (w : Connection). IsAt w s d) (sym same) at)),
+  inl none,
+)
+reached clock x y a b o l m s d at (os, log, inr moves) = (d ++ moves.fresh, moves.now_at, inr moves.may.0)
+
+-- with no octets more it is the opening
+of_none : (P : Stream → Type 0) (s : Stream) (o : List ℕ) → o ≡ [] → P (with_octets s o) → P s
+of_none P s o none h = subst P (with_octets_none s) (subst (λ (u : List ℕ). P (with_octets s u)) none h)
+
+take_none : (n : ℕ) (p : List ℕ) → n ≡ 0 → take n p ≡ []
+take_none zero p e = refl
+take_none (suc n) p e = absurd (omega arith)
+
+-- a piece and its rest are of one length together
+lengths : (s : Stream) (p : List ℕ) (n : ℕ) → n ≤ length p
+    → length (with_octets s (take n p)).octets + length (take (length p - n) (drop n p)) ≡ length s.octets + length p
+lengths s p n le = omega (
+  arith,
+  length-append s.octets (take n p),
+  length-take n p,
+  length-take (length p - n) (drop n p),
+  length-drop n p,
+)
+
+-- a cause of the rest of a piece is one of the piece
+of_rest : (clock : Clock) (p : List ℕ) (n m waits : ℕ) (fault : CollectFault) (s : Stream) → n ≤ length p
+    → (take n p ≡ []) ⊎ ¬ (HoldsBadCount s) → MayGoOn p n s
+    → IsPieceCause clock (take (length p - n) (drop n p)) m waits fault (with_octets s (take n p))
+    → IsPieceCause clock p (n + m) waits fault s
+of_rest clock p n m waits (Memory k) s le was may ((good, (frames, f, are, spelled)), lt, one) =
+    let before : ¬ (HoldsBadCount s) = elim was
+    [ inl none ↦ of_none (λ (t : Stream). ¬ (HoldsBadCount t)) s (take n p) none good | inr sound ↦ sound ] in
+    let same = append_assoc s.octets (take n p) (take m (take (length p - n) (drop n p)))
+    ∙ ap (λ (u : List ℕ). s.octets ++ u) (taken_on p n m) in (
+      (before, (frames, f, subst (λ (u : List ℕ). Frames s.framing u (frames ++ f ∷ []) []) same are, spelled)),
+      omega arith,
+      one,
+    )
+of_rest clock p n m waits ConnFailed s le was (inl none) (cause, zero_here) =
+    (of_none (λ (t : Stream). HoldsBadCount t) s (take n p) (take_none n p none) cause, omega arith)
+of_rest clock p n m waits ConnFailed s le was (inr (good, fits)) (cause, zero_here) = absurd (good cause)
+of_rest clock p n m waits StreamTooLong s le was (inl none) ((good, long), zero_here) = (
+  (
+    of_none (λ (t : Stream). ¬ (HoldsBadCount t)) s (take n p) (take_none n p none) good,
+    omega (arith, lengths s p n le, long),
+  ),
+  omega arith,
+)
+of_rest clock p n m waits StreamTooLong s le was (inr (good, fits)) ((still, long), zero_here) =
+    absurd (omega (arith, lengths s p n le, long, fits))
+of_rest clock p n m waits NotOpen s le was may cause = absurd cause
+of_rest clock p n m waits AlreadyOpen s le was may cause = absurd cause
+of_rest clock p n m waits TooManyOpen s le was may cause = absurd cause
+of_rest clock p n m waits Unreleased s le was may cause = absurd cause
+of_rest clock p n m waits (Unterminated start) s le was may cause = absurd cause
+
+pub piece_stops : (clock : Clock) (x y : Connection) (a b : List Entry) (p : List ℕ) (n m waits : ℕ)
+    (fault : CollectFault) (l k : List Outcome) (s : Stream) (d : List (List ℕ)) → n ≤ length p
+    → IsAt x s d → Logs clock x y a b (take n p) l k s d → MayGoOn p n s
+    → ((t : Stream) (e : List (List ℕ)) → IsAt y t e
+    → StopsPiece clock (take (length p - n) (drop n p)) m waits fault t) → StopsPiece clock p (n + m) waits fault s
+piece_stops clock x y a b p n m waits fault l k s d le at logs may cause =
+    let there = reached clock x y a b (take n p) l k s d at logs in
+    elim (cause (with_octets s (take n p)) there.0 there.1) [
+      | inl room ↦ inl room
+      | inr why ↦ inr (of_rest clock p n m waits fault s le there.2 may why)
+    ]
+
+pub piece_goes_on : (clock : Clock) (x y : Connection) (a b : List Entry) (p : List ℕ) (n m : ℕ) (l k : List Outcome)
+    (s : Stream) (d : List (List ℕ)) → n ≤ length p
+    → IsAt x s d → Logs clock x y a b (take n p) l k s d → MayGoOn p n s
+    → ((t : Stream) (e : List (List ℕ)) → IsAt y t e → MayGoOn (take (length p - n) (drop n p)) m t)
+    → MayGoOn p (n + m) s
+piece_goes_on clock x y a b p n m l k s d le at logs may next =
+    let there = reached clock x y a b (take n p) l k s d at logs in
+    elim (next (with_octets s (take n p)) there.0 there.1) [
+      | inl none ↦ let same : n ≡ n + m = omega arith in subst (λ (i : ℕ). MayGoOn p i s) same may
+      | inr (good, fits) ↦
+          inr (
+            subst (λ (u : List ℕ). ¬ (HoldsBadCount (with_octets s u))) (taken_on p n m)
+                (subst (λ (t : Stream). ¬ (HoldsBadCount t))
+                (with_octets_twice s (take n p) (take m (take (length p - n) (drop n p)))) good),
+            omega (arith, lengths s p n le, fits),
+          )
+    ]
+
+pub within_taken : (p : List ℕ) (n m : ℕ) → n ≤ length p → m ≤ length (take (length p - n) (drop n p))
+    → n + m ≤ length p
+within_taken p n m le lt = omega (arith, length-take (length p - n) (drop n p), length-drop n p)
+
+-- ---- a piece of a number
+
+refused_at : (clock : Clock) (c : ℕ) (piece : List ℕ) (taken waits : ℕ) (fault : CollectFault) (h : History)
+    (s : Stream) → stream_of c h.streams ≡ Some s → IsPieceCause clock piece taken waits fault s
+    → IsPieceRefusal clock c piece taken waits fault h
+refused_at clock c piece taken waits (Memory n) h s is cause = rw is cause
+refused_at clock c piece taken waits ConnFailed h s is cause = rw is cause
+refused_at clock c piece taken waits StreamTooLong h s is cause = rw is cause
+refused_at clock c piece taken waits NotOpen h s is cause = absurd cause
+refused_at clock c piece taken waits AlreadyOpen h s is cause = absurd cause
+refused_at clock c piece taken waits TooManyOpen h s is cause = absurd cause
+refused_at clock c piece taken waits Unreleased h s is cause = absurd cause
+refused_at clock c piece taken waits (Unterminated start) h s is cause = absurd cause
+
+-- a piece of the connection that was found
+pub piece_refused : (clock : Clock) (c n : ℕ) (x y : Connection) (ls : List Connection) (kept now first : List Entry)
+    (es : List AcceptedEvent) (o : List ℕ) (r : EventEnd) (l m : List Outcome)
+    → place_from c 0 ls ≡ Some n → x ≡ get_or ls n x
+    → ((s : Stream) (d : List (List ℕ)) → IsAt x s d → Logs clock x y kept now (piece_octets o r) l m s d)
+    → ((s : Stream) (d : List (List ℕ)) → IsAt x s d
+    → IfStopped r (λ taken fault. StopsPiece clock o taken (ready_count y.scanner.phase) fault s))
+    → Stands clock ls kept first es → IfStopped r
+    (λ taken fault. (fault ≡ Memory 0) ⊎ IsPieceRefusal clock c o taken (waiting (set_at ls n y) c) fault
+    (history_of es))
+piece_refused clock c n x y ls kept now first es o end_Done l m is item logs cause was = tt
+piece_refused clock c n x y ls kept now first es o (end_Stopped taken fault) l m is item logs cause was =
+    let here = found_here c n x ls is item in
+    let there = opening_at c n x ls (history_of es).streams was.stands_at.handled was.stands_at.follow here in
+    let then = reached clock x y kept now (take taken o) l m there.opening there.handled there.at
+    (logs there.opening there.handled there.at) in
+    let number : y.number ≡ x.number = then.1.number ∙ sym there.at.number in
+    let one = waiting_at c n y (set_at ls n y) (place_set c n x y ls number here) in
+    elim (cause there.opening there.handled there.at) [
+      | inl room ↦ inl room
+      | inr why ↦
+          inr (subst (λ (k : ℕ). IsPieceRefusal clock c o taken k fault (history_of es)) (sym one)
+          (refused_at clock c o taken (ready_count y.scanner.phase) fault (history_of es) there.opening there.is why))
+    ]
+
+-- ---- events
+
+pub opening_refused : (clock : Clock) (h : History) (w : ℕ
+    → ℕ) (c : ℕ) (k : Framing) (r : Result (Unit {0}) CollectFault) → IsOpening c r h
+    → IfStopped (event_end r) (StopsAt clock h w (event_Opened c k))
+opening_refused clock h w c k (Ok u) cause = tt
+opening_refused clock h w c k (Err fault) cause = (omega arith, inr cause)
+
+pub ending_refused : (clock : Clock) (h : History) (w v : ℕ → ℕ) (c : ℕ) (r : Result (Unit {0}) CollectFault)
+    → IsEnding c r h → IfUnreleased r (w c ≡ 1) → v c ≡ w c
+    → IfStopped (event_end r) (StopsAt clock h v (event_Ended c))
+ending_refused clock h w v c (Ok u) cause ready same = tt
+ending_refused clock h w v c (Err fault) cause ready same =
+    (omega arith, inr (cause, subst (λ (k : ℕ). IfUnreleased {U = Unit {0}} (Err fault) (k ≡ 1)) (sym same) ready))
+
+pub piece_event_refused : (clock : Clock) (h : History) (w : ℕ → ℕ) (c : ℕ) (o : Bor (List ℕ)) (r : EventEnd)
+    → IfStopped r (λ taken fault. taken ≤ length o.now)
+    → IfStopped r (λ taken fault. (fault ≡ Memory 0) ⊎ IsPieceRefusal clock c o.now taken (w c) fault h)
+    → IfStopped r (StopsAt clock h w (event_Piece c o))
+piece_event_refused clock h w c o end_Done within cause = tt
+piece_event_refused clock h w c o (end_Stopped taken fault) within cause = (within, cause)
+
+pub datagram_refused : (clock : Clock) (h : History) (w : ℕ → ℕ) (o : Bor (List ℕ)) (r : EventEnd)
+    → IfStopped r (λ taken fault. (taken ≡ 0) × (fault ≡ Memory 0) × IsRecordFrame clock o.now)
+    → IfStopped r (StopsAt clock h w (event_Datagram o))
+datagram_refused clock h w o end_Done cause = tt
+datagram_refused clock h w o (end_Stopped taken fault) (none, memory, spelled) = (omega arith, inr (memory, spelled))
+
+pub first_stops : (clock : Clock) (h : History) (w : ℕ
+    → ℕ) (es : List Event) (n taken : ℕ) (fault : CollectFault) (d : Event) → n < length es
+    → StopsAt clock h w (get_or es n d) taken fault
+    → StopsAtFirst clock h w (drop n es) taken fault
+first_stops clock h w [] n taken fault d lt stops = absurd (omega arith)
+first_stops clock h w (e ∷ es) zero taken fault d lt stops = stops
+first_stops clock h w (e ∷ es) (suc n) taken fault d lt stops =
+    first_stops clock h w es n taken fault d (omega arith) stops
+
+pub done_any : (r : EventEnd) → IfDone r (Unit {0})
+done_any end_Done = tt
+done_any (end_Stopped taken fault) = tt
+
+-- an end that is accepted
+pub ending_done : (h : History) (c : ℕ) (r : Result (Unit {0}) CollectFault) → IsEnding c r h
+    → IfDone (event_end r) (EndsWell h (event_Ended c))
+ending_done h c (Ok u) cause = cause
+ending_done h c (Err fault) cause = tt
+
+-- one event more
+pub end_well-next : (h : History) (es : List Event) (n : ℕ) (d : Event) → n < length es → EndWell h (take n es)
+    → EndsWell (history_after h (accepted_all (take n es))) (get_or es n d) → EndWell h (take (n + 1) es)
+end_well-next h [] n d lt all here = absurd (omega arith)
+end_well-next h (e ∷ es) zero d lt all here = (here, tt)
+end_well-next h (e ∷ es) (suc n) d lt all here =
+    let next : suc n + 1 ≡ suc (n + 1) = omega arith in
+    rw next (all.0, end_well-next (accept h (accepted_event e)) es n d (omega arith) all.1 here)
+
+pub end_well-whole : (h : History) (es : List Event) (n : ℕ) → n ≡ length es → EndWell h (take n es) → EndWell h es
+end_well-whole h [] n is all = tt
+end_well-whole h (e ∷ es) zero is all = absurd (omega arith)
+end_well-whole h (e ∷ es) (suc n) is all =
+    (all.0, end_well-whole (accept h (accepted_event e)) es n (omega arith) all.1)
+
+-- a run of one event
+pub one_stops : (clock : Clock) (h : History) (w : ℕ → ℕ) (e : Event) (at taken : ℕ) (fault : CollectFault)
+    → StopsAs clock h w (e ∷ []) (Stopped at taken fault) → (at ≡ 0) × StopsAt clock h w e taken fault
+one_stops clock h w e zero taken fault (lt, stops) = (refl, stops)
+one_stops clock h w e (suc n) taken fault (lt, stops) = absurd (omega arith)
