@@ -74,7 +74,7 @@ fn collected_by_tcp(
         client.write_all(octets)?;
         drop(client);
     }
-    let mut source = TcpSource::new(listener, framing, sent.len() as u32);
+    let mut source = TcpSource::new(listener, framing, sent.len().min(9) as u32);
     collected(rt.alloc(), &mut source)
 }
 
