@@ -18,7 +18,7 @@ pub record GoesOn (kind : Framing) (octets : List ℕ) : Type 0 where
   pub begins : Begins (Whole kind) rest
 
 -- what a stream's reader gave in some calls: all but what the last of them gave goes on, and each of
--- the others gave octets. So nothing is read after a bad MSG-LEN
+-- the others gave octets. So at most what one call gives lies beyond the last octets that go on
 pub record StopsReading (kind : Framing) (calls_old calls_new : ℕ) (left_old left_new : Option (List ℕ))
     : Type 0 where
   pub before : List ℕ
