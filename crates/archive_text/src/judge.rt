@@ -9,18 +9,18 @@ ghost use Rattle.archive_text.specs.Text.{BeginsWithEntry};
 use crate::entry::EntryView;
 use crate::fault::{ArchiveFault, EntryFault};
 use syslog_frame::{MsgLen, msg_len};
-use syslog_grammar::{is_canon, view};
+use syslog_grammar::view_and_form;
 
 /// The entry that the octets are: they are the canonical form of a record.
 pub fn entry_of_octets(octets: &[u8]) -> Result<EntryView<'_>, EntryFault>
     ensures entry { IfOk result (λ v. IsEntry (entry_of v) × (v.octets.now ≡ octets.now)) }
     ensures fault { MatchResult result (λ _. Unit {0}) (IsEntryFault octets.now) }
 {
-    let seen = match view(octets) {
-        Ok(seen) => seen,
+    let (seen, is_canonical) = match view_and_form(octets) {
+        Ok(read) => read,
         Err(fault) => return Err(EntryFault::Bad(fault)),
     };
-    if !is_canon(octets) {
+    if !is_canonical {
         return Err(EntryFault::NotCanonical);
     }
     Ok(EntryView {

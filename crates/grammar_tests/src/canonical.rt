@@ -4,6 +4,7 @@ use std::alloc::Global;
 use std::test::Fail;
 use syslog_grammar::{
     DecodeFault, Fault, canon, decode, is_canon, is_canon_unsorted, put_canonical, view,
+    view_and_form,
 };
 
 /// The canonical octets by way of the record, which are those of the view, with what stood before;
@@ -113,12 +114,12 @@ fn a_record_has_one_canonical_form(rt: HostRuntime) -> Result<(), Fail> {
 #[test]
 fn the_largest_record_grows_by_each_backslash(rt: HostRuntime) -> Result<(), Fail> {
     let mut octets = b"<0>1 - - - - - [a k=\"".to_vec(rt.alloc())?;
-    for _ in 0..32_756 {
+    for _ in 0..131_060 {
         octets.extend_from_slice(b"\\n")?;
     }
     octets.extend_from_slice(b"\"]")?;
-    assert_eq!(rt; octets.len(), 65_535);
-    assert_eq!(rt; canonical(rt.alloc(), octets.as_slice())?.len(), 98_291);
+    assert_eq!(rt; octets.len(), 262_143);
+    assert_eq!(rt; canonical(rt.alloc(), octets.as_slice())?.len(), 393_203);
     Ok(())
 }
 
@@ -190,4 +191,26 @@ fn canonical_octets_are_known_as_such(rt: HostRuntime) -> Result<(), Fail> {
         assert!(rt; is_canon_unsorted(octets) == unsorted);
     }
     Ok(())
+}
+
+/// Whether one reading gives the view, or the fault, and tells whether the octets are canonical.
+fn reads_both(octets: &[u8]) -> bool {
+    match (view_and_form(octets), view(octets)) {
+        (Ok((seen, is_canonical)), Ok(other)) => seen == other && is_canonical == is_canon(octets),
+        (Err(fault), Err(other)) => fault == other,
+        _ => false,
+    }
+}
+
+#[test]
+fn one_reading_gives_the_view_and_the_form(rt: HostRuntime) {
+    for (octets, _) in FORMS {
+        assert!(rt; reads_both(octets));
+    }
+    for (octets, _, _) in CANONICAL {
+        assert!(rt; reads_both(octets));
+    }
+    for (octets, _) in FAULTS {
+        assert!(rt; reads_both(octets));
+    }
 }

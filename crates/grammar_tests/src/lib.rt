@@ -6,4 +6,6 @@ mod canonical;
 #[cfg(test)]
 mod example;
 #[cfg(test)]
+mod ids;
+#[cfg(test)]
 mod reading;

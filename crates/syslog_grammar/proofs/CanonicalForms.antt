@@ -18,7 +18,7 @@ use Rattle.syslog_grammar.specs.Fields.{header_parts, TimeStands}
 use Rattle.syslog_grammar.specs.Grammar.{HeaderParts, Header, Priority, Version, Spaced, Nilable, Word}
 use Rattle.syslog_grammar.specs.Grammar.{StructuredDataText, MessagePart}
 use Rattle.syslog_grammar.specs.Ids.{HoldsDistinct, HoldsRepeated}
-use Rattle.syslog_grammar.specs.Instants.{IsOutOfRange}
+use Rattle.syslog_grammar.specs.Instants.{IsOutOfRange, IsTimeInRange}
 use Rattle.syslog_grammar.specs.Parsing.{IsParsed, IsSyntaxFault}
 use Rattle.syslog_grammar.specs.Time.{TimeText, instant}
 use Rattle.syslog_grammar.specs.Unsorted.{HasRecordParts, IsUnsortedRecord, IsFormOf, HoldsForm}
@@ -331,15 +331,19 @@ form_tail order b s k r test isn (q, h) =
     refuted r (k.end ≡ message_form (message_parts s.message)) (test k.end k.message_part (tail_count b s k)) isn
     (of_canonical order b s k q h).message_part
 
-pub form_whole : (order : ElementOrder) (b from : List ℕ) (s : Parsed) (t d r : Bool) (i : Option ℤ) → IsParsed b s
-    → (i ≡ option_map (λ c. instant (time_of c)) s.fields.time) × IfSome i IsInstant
+pub in_range : (s : Parsed) (i : Option ℤ)
+    → (i ≡ option_map (λ c. instant (time_of c)) s.fields.time) × IfSome i IsInstant → IsTimeInRange s.fields.time
+in_range s i range = range_same i (option_map (λ c. instant (time_of c)) s.fields.time) range.0 range.1
+
+pub form_whole : (order : ElementOrder) (b from : List ℕ) (s : Parsed) (t d r : Bool) → IsParsed b s
+    → IsTimeInRange s.fields.time
     → from ≡ drop (length b - s.fields.time_remaining) b → TimeTest t s from → t ≡ true
     → DataAnswer order d s.«structured_data».now → d ≡ true
     → TailTest r s (s.structured_data_remaining - length s.«structured_data».now) → r ≡ true
     → HoldsForm order b s.«structured_data».now
-form_whole order b from s t d r i k range e time t_is elements d_is message_part r_is =
+form_whole order b from s t d r k range e time t_is elements d_is message_part r_is =
     in_form order b s k (record {
-      range = range_same i (option_map (λ c. instant (time_of c)) s.fields.time) range.0 range.1;
+      range = range;
       time = (time_test b from s k t e time).0 t_is;
       elements = (elements k.elements.0 k.elements.1).0 d_is;
       message_part = (message_part k.end k.message_part (tail_count b s k)).0 r_is;

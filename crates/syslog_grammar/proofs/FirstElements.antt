@@ -1,12 +1,12 @@
 -- Where the first of known elements ends.
 use Rattle.std.proofs.Common.{◌≡◌, ◌≢◌, ℕ, zero, suc, ◌-◌, ◌<◌, true, List, [], ◌∷◌, ◌++◌, length, take, drop, get_or}
-use Rattle.std.proofs.Common.{refl, sym, ap, subst, ◌∙◌, append_assoc, arith, inl, inr, ◌⊎◌}
+use Rattle.std.proofs.Common.{◌+◌, refl, sym, ap, subst, ◌∙◌, append_assoc, arith, inl, inr, ◌⊎◌}
 use Rattle.std.specs.Prelude.{Some, None}
 use Rattle.std.specs.List.{AllByRecursion}
 use Rattle.std.proofs.lemmas.Bool.{cases_eq}
 use Rattle.std.proofs.lemmas.Bool.Decides.{nat_tests}
 use Rattle.std.proofs.lemmas.List.{append-nil, length-append, take-append-drop, take_at}
-use Rattle.memchr.specs.Find.{IsFirstByte, is_byte, is_byte2}
+use Rattle.memchr.specs.Find.{IsFirstByte, Nowhere, is_byte, is_byte2}
 use Rattle.octet_language.specs.Language.{Each}
 use Rattle.octet_language.proofs.Lists.{heads, tails}
 use Rattle.syslog_value.specs.Parts.{ParamParts, IsNameOctet}
@@ -19,6 +19,23 @@ use Rattle.syslog_grammar.specs.Values.{IsSpecial, Piece}
 use Rattle.syslog_grammar.proofs.Characters.{character_some}
 use Rattle.syslog_grammar.proofs.ParamTexts.{param_prefix}
 use Rattle.syslog_grammar.proofs.Unescaped.{plain_bare, special_test}
+
+-- ---- the first place
+
+below_or_same : (k i : ℕ) → k < i + 1 → (k < i) ⊎ (k ≡ i)
+below_or_same zero zero h = inr refl
+below_or_same zero (suc i) h = inl (omega arith)
+below_or_same (suc k) zero h = absurd (omega (arith, h))
+below_or_same (suc k) (suc i) h = elim (below_or_same k i (omega (arith, h))) [
+  | inl l ↦ inl (omega (arith, l))
+  | inr e ↦ inr (ap suc e)
+]
+
+pub nowhere_more : (P : ℕ → Type 0) (i : ℕ) → Nowhere P 0 i → ¬ (P i) → Nowhere P 0 (i + 1)
+nowhere_more P i none here k low less p = elim (below_or_same k i less) [
+  | inl l ↦ none k low l p
+  | inr e ↦ here (subst P e p)
+]
 
 -- ---- the id
 

@@ -48,3 +48,4 @@ pub mod Rewritten
 pub mod Props
 pub mod ShownRecords
 pub mod Sorting
+pub mod IdTables

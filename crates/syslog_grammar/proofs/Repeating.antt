@@ -1,7 +1,7 @@
 -- Elements one by one, and the first id that repeats an earlier one.
 use Rattle.std.proofs.Common.{◌≡◌, ◌≢◌, ℕ, ◌+◌, ◌-◌, List, [], ◌∷◌, ◌++◌, length, take, refl, sym, ap, subst, ◌∙◌}
 use Rattle.std.proofs.Common.{append_assoc, arith, inl, inr, ◌⊎◌}
-use Rattle.std.specs.Prelude.{Option, Some, None, IsTrue, ◌↔◌, Bool, true, false}
+use Rattle.std.specs.Prelude.{Some, IsTrue, ◌↔◌, Bool, true, false}
 use Rattle.std.specs.List.{AllByRecursion}
 use Rattle.std.specs.Ordering.{MatchOrdering}
 use Rattle.std.specs.declared.cmp.Ordering.{Ordering}
@@ -12,10 +12,9 @@ use Rattle.octet_language.proofs.Lists.{heads, tails}
 use Rattle.syslog_value.specs.Order.{OctetsBelow}
 use Rattle.syslog_value.specs.Parts.{ElementParts}
 use Rattle.syslog_value.specs.Structured.{HasId}
-use Rattle.syslog_value.proofs.Octets.{below_itself, below_trans}
 use Rattle.syslog_grammar.specs.Faults.{AreDistinct}
 use Rattle.syslog_grammar.specs.Grammar.{Element, StructuredDataText}
-use Rattle.syslog_grammar.specs.Ids.{HoldsDistinct, HoldsRepeated, IsAbove, IsAtMost, Known, Skips}
+use Rattle.syslog_grammar.specs.Ids.{HoldsDistinct, HoldsRepeated, IsAtMost, Known, Skips}
 use Rattle.syslog_grammar.specs.FirstElements.{SplitsElement}
 use Rattle.syslog_grammar.specs.Spans.{ElementSpan, SpannedElement}
 use Rattle.syslog_grammar.proofs.Ahead.{may_start}
@@ -128,7 +127,7 @@ has_end id [] e (inr h) = absurd h
 has_end id (d ∷ es) e (inl h) = inl (inl h)
 has_end id (d ∷ es) e (inr h) = elim (has_end id es e h) [ inl k ↦ inl (inr k) | inr k ↦ inr k ]
 
-distinct_end : (es : List ElementParts) (e : ElementParts) → AreDistinct es → ¬ (HasId e.id es)
+pub distinct_end : (es : List ElementParts) (e : ElementParts) → AreDistinct es → ¬ (HasId e.id es)
     → AreDistinct (es ++ e ∷ [])
 distinct_end [] e d none = (λ h. h, tt)
 distinct_end (f ∷ es) e d none = (
@@ -136,36 +135,14 @@ distinct_end (f ∷ es) e d none = (
   distinct_end es e d.1 (λ h. none (inr h)),
 )
 
-all_end : (P : ElementParts → Type 0) (es : List ElementParts) (e : ElementParts) → AllByRecursion P es → P e
+pub all_end : (P : ElementParts → Type 0) (es : List ElementParts) (e : ElementParts) → AllByRecursion P es → P e
     → AllByRecursion P (es ++ e ∷ [])
 all_end P [] e h p = (p, tt)
 all_end P (f ∷ es) e h p = (h.0, all_end P es e h.1 p)
 
-none_above : (id : List ℕ) (greatest : Option (List ℕ)) (es : List ElementParts) → IsAbove id greatest
-    → AllByRecursion (λ e. IsAtMost e.id greatest) es → ¬ (HasId id es)
-none_above id greatest [] a h k = k
-none_above id None (e ∷ es) a h k = h.0
-none_above id (Some g) (e ∷ es) a h (inl k) = elim h.0 [
-  | inl same ↦ below_itself id (subst (λ (l : List ℕ). OctetsBelow l id) (sym same ∙ k) a)
-  | inr less ↦ below_itself id (below_trans id g id (subst (λ (l : List ℕ). OctetsBelow l g) k less) a)
-]
-none_above id (Some g) (e ∷ es) a h (inr k) = none_above id (Some g) es a h.1 k
-
-raised : (id : List ℕ) (greatest : Option (List ℕ)) (es : List ElementParts) → IsAbove id greatest
-    → AllByRecursion (λ e. IsAtMost e.id greatest) es → AllByRecursion (λ e. IsAtMost e.id (Some id)) es
-raised id greatest [] a h = tt
-raised id None (e ∷ es) a h = absurd h.0
-raised id (Some g) (e ∷ es) a h = (
-  elim h.0 [
-    | inl same ↦ inr (subst (λ (l : List ℕ). OctetsBelow l id) (sym same) a)
-    | inr less ↦ inr (below_trans e.id g id less a)
-  ],
-  raised id (Some g) es a h.1,
-)
-
 -- ---- from the left
 
-each_end : (es : List ElementParts) (e : ElementParts) (p q : List ℕ) → Each Element es p → Element e q
+pub each_end : (es : List ElementParts) (e : ElementParts) (p q : List ℕ) → Each Element es p → Element e q
     → Each Element (es ++ e ∷ []) (p ++ q)
 each_end [] e p q h k = (q, [], ap (λ (u : List ℕ). u ++ q) h ∙ sym (append-nil q), k, refl)
 each_end (f ∷ es) e p q (x, y, g, h, l) k =
@@ -176,23 +153,6 @@ each_join : (es fs : List ElementParts) (p q : List ℕ) → Each Element es p �
 each_join [] fs p q h k = subst (λ (u : List ℕ). Each Element fs (u ++ q)) (sym h) k
 each_join (f ∷ es) fs p q (x, y, g, h, l) k =
     (x, y ++ q, ap (λ (u : List ℕ). u ++ q) g ∙ append_assoc x y q, h, each_join es fs y q l k)
-
--- the same, with the greatest id that was met
-pub record Rising (text rest : List ℕ) (greatest : Option (List ℕ)) : Type 0 where
-  pub known : Known text rest
-  pub most : AllByRecursion (λ e. IsAtMost e.id greatest) known.before
-
-pub rising_none : (text : List ℕ) → AnyOf StructuredDataText text → Rising text text None
-rising_none text ([], h) = record {
-  known =
-      record { prefix = []; before = []; parts = refl; each = refl; distinct = tt; more = inr (refl, h) };
-  most = tt;
-}
-rising_none text (e ∷ es, h) = record {
-  known =
-      record { prefix = []; before = []; parts = refl; each = refl; distinct = tt; more = inl (e ∷ es, h) };
-  most = tt;
-}
 
 some_data : (es : List ElementParts) (text : List ℕ) → text ≢ [] → Each Element es text → StructuredDataText es text
 some_data [] text some h = absurd (some h)
@@ -233,7 +193,7 @@ known_end text rest d e s = (
 )
 
 -- the element that was read, and the others
-record Next (rest behind : List ℕ) (v : ElementSpan) : Type 0 where
+pub record Next (rest behind : List ℕ) (v : ElementSpan) : Type 0 where
   pub element : ElementParts
   pub others : List ElementParts
   pub whole : Each Element (element ∷ others) rest
@@ -246,7 +206,7 @@ next_of [] rest behind t x v e h f =
 next_of (d ∷ es) rest behind t x v e h f =
     record { element = d; others = es; whole = h; split = split d es rest behind v h f }
 
-next : (text rest behind t : List ℕ) (x : ℕ) (v : ElementSpan) → rest ≡ x ∷ t → x ≡ 91 → SplitsElement rest v behind
+pub next : (text rest behind t : List ℕ) (x : ℕ) (v : ElementSpan) → rest ≡ x ∷ t → x ≡ 91 → SplitsElement rest v behind
     → Known text rest → Next rest behind v
 next text rest behind t x v e g f s = elim s.more [
   | inl k ↦ next_of k.0 rest behind t x v e k.1 f
@@ -259,7 +219,7 @@ prefix_is text prefix rest e =
     let n : length text - length rest ≡ length prefix = omega (arith, ap length e, length-append prefix rest) in
     rw (n, e) (take_at prefix rest (length prefix) refl)
 
-abbrev keep : (text rest behind : List ℕ) (v : ElementSpan) (s : Known text rest) → Next rest behind v
+abbrev pub keep : (text rest behind : List ℕ) (v : ElementSpan) (s : Known text rest) → Next rest behind v
     → ¬ (HasId v.id s.before) → Known text behind
 keep text rest behind v s n none = record {
   prefix = s.prefix ++ n.split.prefix;
@@ -271,19 +231,6 @@ keep text rest behind v s n none = record {
       (λ h. none (subst (λ (id : List ℕ). HasId id s.before) n.split.same h));
   more = inl (n.others, n.split.others);
 }
-
--- an id above all
-pub rising_above : (text rest behind t : List ℕ) (x : ℕ) (greatest : Option (List ℕ)) (v : ElementSpan) → rest ≡ x ∷ t
-    → x ≡ 91 → SplitsElement rest v behind → IsAbove v.id greatest → Rising text rest greatest
-    → Rising text behind (Some v.id)
-rising_above text rest behind t x greatest v e g f a s =
-    let n = next text rest behind t x v e g f s.known in
-    record {
-      known = keep text rest behind v s.known n (none_above v.id greatest s.known.before a s.most);
-      most = all_end (λ e. IsAtMost e.id (Some v.id)) s.known.before n.element
-          (raised v.id greatest s.known.before a s.most)
-          (subst (λ (id : List ℕ). IsAtMost id (Some v.id)) (sym n.split.same) (inl refl));
-    }
 
 -- an id that is not among those before
 pub known_new : (text rest behind t : List ℕ) (x : ℕ) (v : ElementSpan) (found : Bool) → rest ≡ x ∷ t → x ≡ 91

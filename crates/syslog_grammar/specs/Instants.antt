@@ -15,3 +15,7 @@ IsOutOfRange (Some t) = IsCivil t.civil → IsOffset t.offset_minutes → ¬ (Is
 abbrev pub IsTimeOf : {E : Type 0} → Option Timestamp → Result (Option ℤ) E → Type 0
 IsTimeOf t (Ok micros) = (micros ≡ option_map (λ s. instant (time_of s)) t) × IfSome micros IsInstant
 IsTimeOf t (Err e) = IsOutOfRange t
+
+-- the time, if there is one, names an instant in range
+abbrev pub IsTimeInRange : Option Timestamp → Type 0
+IsTimeInRange t = IfSome (option_map (λ s. instant (time_of s)) t) IsInstant

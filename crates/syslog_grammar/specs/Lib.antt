@@ -29,3 +29,4 @@ pub mod DecodeFaults
 pub mod Reescaped
 pub mod Unsorted
 pub mod Sorting
+pub mod IdHashes

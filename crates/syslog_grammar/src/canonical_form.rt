@@ -1,7 +1,7 @@
 //! Whether octets are the canonical form of a record.
 
 ghost use Rattle.std.specs.Prelude.{◌≡◌, ◌↔◌, ◌∷◌, [], ℕ, ℤ, List, IsTrue, MatchOption, length};
-ghost use Rattle.std.specs.Prelude.{option_map};
+ghost use Rattle.std.specs.Prelude.{IfOk, MatchResult, OnErr, OnOk, option_map};
 ghost use Rattle.octet_language.specs.Language.{◌⋅◌, AnyOf, Only};
 ghost use Rattle.octet_language.specs.Reading.{Follows};
 ghost use Rattle.syslog_value.specs.Parts.{ElementParts, IsRecord, Parts};
@@ -9,20 +9,27 @@ ghost use Rattle.syslog_grammar.specs.Canonical.{Canonical, TimeForm, message_fo
 ghost use Rattle.syslog_grammar.specs.Canonical.{structured_data_form};
 ghost use Rattle.syslog_grammar.specs.Dates.{time_of};
 ghost use Rattle.syslog_grammar.specs.ElementOrders.{IsInOrder};
+ghost use Rattle.syslog_grammar.specs.Faults.{FaultOf};
 ghost use Rattle.syslog_grammar.specs.Forms.{HasDataForms};
 ghost use Rattle.syslog_grammar.specs.Grammar.{Nilable, Spaced, MessagePart};
 ghost use Rattle.syslog_grammar.specs.Grammar.{StructuredDataText};
+ghost use Rattle.syslog_grammar.specs.Instants.{IsTimeInRange};
+ghost use Rattle.syslog_grammar.specs.Parsing.{IsParsed};
 ghost use Rattle.syslog_grammar.specs.Time.{TimeText, instant};
 ghost use Rattle.syslog_grammar.specs.Unsorted.{HoldsForm, IsFormOf, IsUnsortedRecord};
+ghost use Rattle.syslog_grammar.specs.ViewParts.{IsViewOf, view_parts};
 ghost use Rattle.syslog_grammar.specs.Views.{message_parts};
+ghost use Rattle.syslog_grammar.specs.WellFormed.{WellFormed};
 
 use crate::civil_text::civil_text;
+use crate::fault::Fault;
 use crate::message::MessageView;
 use crate::reading::{both, next};
+use crate::record_view::RecordView;
 use crate::repeated::first_repeated;
-use crate::syntax::parse;
+use crate::syntax::{Parsed, parse};
 use crate::timestamp::Timestamp;
-use crate::whole::{OutOfRange, micros_of};
+use crate::whole::{OutOfRange, micros_of, view_of};
 
 /// The order that is asked of elements.
 #[derive(Clone, Copy)]
@@ -80,6 +87,27 @@ fn has_message_form(message: &MessageView<'_>, count: usize) -> bool
     message.has_mark || !message.octets.is_empty() || count == 0
 }
 
+/// Whether a record whose parts were read, and whose instant is in range, is in its canonical form,
+/// with its elements in this order.
+#[inline(always)]
+fn has_form(octets: &[u8], parsed: Parsed<'_>, order: ElementOrder) -> bool
+    requires parsed { IsParsed octets.now parsed }
+    requires time { IsTimeInRange parsed.fields.time }
+    ensures form { IsTrue result → HoldsForm order octets.now parsed.entry.structured_data.now }
+    ensures none { (IsTrue result → ⊥) → ¬ (AnyOf (λ r b. IsFormOf order b r) octets.now) }
+{
+    let fields = parsed.fields;
+    let (_, time) = octets.split_at(octets.len() - fields.time_remaining);
+    if !has_time_form(fields.time, time) {
+        return false;
+    }
+    if !has_data_form(parsed.is_form, parsed.ascends, order) {
+        return false;
+    }
+    let count = parsed.structured_data_remaining - parsed.structured_data.len();
+    has_message_form(&parsed.message, count)
+}
+
 /// The structured data of octets that are a canonical form, with the elements in this order. Ids
 /// may repeat where the order is any.
 fn canonical_structured_data(octets: &[u8], order: ElementOrder) -> Option<&[u8]>
@@ -89,19 +117,10 @@ fn canonical_structured_data(octets: &[u8], order: ElementOrder) -> Option<&[u8]
     let Ok(parsed) = parse(octets) else {
         return None;
     };
-    let fields = parsed.fields;
-    if let Err(OutOfRange) = micros_of(fields.time) {
+    if let Err(OutOfRange) = micros_of(parsed.fields.time) {
         return None;
     }
-    let (_, time) = octets.split_at(octets.len() - fields.time_remaining);
-    if !has_time_form(fields.time, time) {
-        return None;
-    }
-    if !has_data_form(parsed.is_form, parsed.ascends, order) {
-        return None;
-    }
-    let count = parsed.structured_data_remaining - parsed.structured_data.len();
-    if !has_message_form(&parsed.message, count) {
+    if !has_form(octets, parsed, order) {
         return None;
     }
     Some(parsed.structured_data)
@@ -127,4 +146,21 @@ pub fn is_canon_unsorted(octets: &[u8]) -> bool
         None => false,
         Some(structured_data) => first_repeated(structured_data).is_none(),
     }
+}
+
+/// Reads a record as [`view`](crate::view) does, and tells whether the octets are its canonical form.
+///
+/// It takes no memory, and reads the octets once for both.
+pub fn view_and_form(octets: &[u8]) -> Result<(RecordView<'_>, bool), Fault>
+    ensures some { OnOk result (AnyOf WellFormed octets.now) }
+    ensures whole { MatchResult result (λ x. IsViewOf octets.now (view_parts x.0))
+        (FaultOf octets.now) }
+    ensures none { OnErr result (¬ (AnyOf WellFormed octets.now)) }
+    ensures form { IfOk result (λ x. IsTrue x.1
+        ↔ ((r : Parts ℤ) × IsRecord r × Canonical r octets.now)) }
+{
+    let parsed = parse(octets)?;
+    let view = view_of(octets, parsed)?;
+    let is_canonical = has_form(octets, parsed, ElementOrder::ById);
+    Ok((view, is_canonical))
 }

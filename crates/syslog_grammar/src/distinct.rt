@@ -89,25 +89,39 @@ fn few_differ(elements: &[u8]) -> bool
     differ_in(elements, &mut offsets)
 }
 
-/// Whether at most 16,384 elements have distinct ids.
+/// Whether at most 5,461 elements have distinct ids.
 #[inline(never)]
 fn many_differ(elements: &[u8]) -> bool
     ensures { IsTrue result → (es : List ElementParts) → Each Element es elements.now
         → AreDistinct es }
 {
     let (none, _) = elements.split_at(0);
-    let mut offsets = [none; 16_384];
+    let mut offsets = [none; 5_461];
     differ_in(elements, &mut offsets)
 }
 
-/// Whether elements have distinct ids. Where there are more than 16,384 it is not reported.
+/// Whether at most 65,536 elements have distinct ids.
+#[inline(never)]
+fn most_differ(elements: &[u8]) -> bool
+    ensures { IsTrue result → (es : List ElementParts) → Each Element es elements.now
+        → AreDistinct es }
+{
+    let (none, _) = elements.split_at(0);
+    let mut offsets = [none; 65_536];
+    differ_in(elements, &mut offsets)
+}
+
+/// Whether elements have distinct ids. Where there are more than 65,536 it is not reported. Each has
+/// three octets at least.
 pub fn differ(elements: &[u8]) -> bool
     ensures { IsTrue result → (es : List ElementParts) → Each Element es elements.now
         → AreDistinct es }
 {
     if elements.len() <= 3 * 256 {
         few_differ(elements)
-    } else {
+    } else if elements.len() <= 16_384 {
         many_differ(elements)
+    } else {
+        most_differ(elements)
     }
 }

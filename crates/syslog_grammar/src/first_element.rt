@@ -2,6 +2,7 @@
 //! and no test.
 
 ghost use Rattle.std.specs.Prelude.{◌≡◌, ◌≢◌, ◌≤◌, ◌<◌, ◌++◌, ℕ, List, drop, length};
+ghost use Rattle.memchr.specs.Find.{IsFirstByte, is_byte2};
 ghost use Rattle.syslog_grammar.specs.FirstElements.{IsIdLength, IsMarkedLength, IsNameLength};
 ghost use Rattle.syslog_grammar.specs.FirstElements.{SplitsElement, SplitsParam};
 ghost use Rattle.syslog_grammar.specs.Views.{element_span, param_span};
@@ -21,13 +22,36 @@ fn behind_first(octets: &[u8]) -> &[u8]
     }
 }
 
+/// So many octets are tried one by one, since a search of whole lanes takes longer to begin.
+const NEAR: usize = 8;
+
+#[inline(always)]
+fn is_either(first: u8, second: u8, octet: u8) -> bool
+    ensures { result ≡ is_byte2 first second octet }
+{
+    octet == first || octet == second
+}
+
+/// The first offset of either octet, which is mostly near.
+#[inline(always)]
+fn near_either(first: u8, second: u8, octets: &[u8]) -> Option<usize>
+    ensures { IsFirstByte (is_byte2 first second) octets.now result }
+{
+    for i in 0..octets.len().min(NEAR) {
+        if is_either(first, second, octets[i]) {
+            return Some(i);
+        }
+    }
+    memchr2(first, second, octets)
+}
+
 /// How many octets an id has, which a space or a bracket follows.
 #[inline(always)]
 fn id_len(octets: &[u8]) -> usize
     ensures within { result ≤ length octets.now }
     ensures id { IsIdLength octets.now result }
 {
-    match memchr2(b' ', b']', octets) {
+    match near_either(b' ', b']', octets) {
         Some(offset) => offset,
         None => octets.len(),
     }
@@ -53,7 +77,7 @@ fn marked_len(mark: u8, octets: &[u8]) -> usize
     ensures marked { IsMarkedLength mark octets.now result }
 {
     let mut rest = octets;
-    while let Some(offset) = memchr2(b'\\', mark, rest) {
+    while let Some(offset) = near_either(b'\\', mark, rest) {
         let (_, found) = rest.split_at(offset);
         let Some((first, behind)) = next(found) else {
             return octets.len();

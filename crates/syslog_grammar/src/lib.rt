@@ -16,6 +16,8 @@ mod fault;
 pub mod fields;
 mod first_element;
 mod header;
+mod id_hash;
+mod id_table;
 mod lanes;
 mod law;
 mod lent;
@@ -40,7 +42,7 @@ mod whole;
 mod word;
 
 pub use canonical::canon;
-pub use canonical_form::{is_canon, is_canon_unsorted};
+pub use canonical_form::{is_canon, is_canon_unsorted, view_and_form};
 pub use canonical_view::put_canonical;
 pub use civil_text::canonical_timestamp;
 pub use decoding::{DecodeFault, decode};

@@ -1,6 +1,6 @@
 //! The first id of the structured data that repeats an earlier one (RFC 5424, 6.3.2).
 
-ghost use Rattle.std.specs.Prelude.{◌≡◌, ◌↔◌, List, IsTrue, MatchOption, option_map};
+ghost use Rattle.std.specs.Prelude.{◌≡◌, ◌≤◌, ◌↔◌, length, List, IsTrue, MatchOption, option_map};
 ghost use Rattle.octet_language.specs.Language.{AnyOf, Each};
 ghost use Rattle.syslog_value.specs.Parts.{ElementParts};
 ghost use Rattle.syslog_value.specs.Structured.{HasId};
@@ -10,6 +10,7 @@ ghost use Rattle.syslog_grammar.specs.Ids.{Skips};
 
 use crate::distinct::differ;
 use crate::first_element::first_element;
+use crate::id_table::behind_hashed;
 use crate::reading::next;
 use std::cmp::Ordering;
 
@@ -45,28 +46,6 @@ pub fn is_above(id: &[u8], greatest: Option<&[u8]>) -> bool
     }
 }
 
-/// What follows the elements at the start whose ids ascend.
-fn behind_rising(structured_data: &[u8]) -> &[u8]
-    requires { AnyOf StructuredDataText structured_data.now }
-    ensures { Known structured_data.now result.now }
-{
-    let mut rest = structured_data;
-    let mut greatest: Option<&[u8]> = None;
-    while let Some((first, _after)) = next(rest) {
-        if first != b'[' {
-            return rest;
-        }
-        let (found, behind) = first_element(rest);
-        let id = found.id();
-        if !is_above(id, greatest) {
-            return rest;
-        }
-        greatest = Some(id);
-        rest = behind;
-    }
-    rest
-}
-
 /// What follows so many elements.
 fn behind_count(elements: &[u8], count: usize) -> &[u8]
     ensures { Skips elements.now result.now }
@@ -95,20 +74,15 @@ fn count(elements: &[u8]) -> usize {
     elements.len()
 }
 
-/// So many ids are sought one by one.
-const FEW: usize = 16;
-
-/// What follows elements at the start whose ids differ: all but a few of the longest such prefix,
-/// where it has at most 16,384 elements.
-fn behind_distinct(structured_data: &[u8]) -> &[u8]
-    requires { AnyOf StructuredDataText structured_data.now }
-    ensures { Known structured_data.now result.now }
+/// What follows elements at the start whose ids differ, by sorting: all of the longest such prefix,
+/// where it has at most 65,536 elements.
+fn behind_sorted<'a>(structured_data: &'a [u8], known: &'a [u8]) -> &'a [u8]
+    requires { Known structured_data.now known.now }
+    ensures known { Known structured_data.now result.now }
+    ensures within { length result.now ≤ length known.entry.now }
 {
-    let mut known = behind_rising(structured_data);
+    let mut known = known;
     let mut step = count(known);
-    if step <= FEW {
-        return known;
-    }
     while step > 0 {
         let Some((first, _after)) = next(known) else {
             return known;
@@ -126,17 +100,48 @@ fn behind_distinct(structured_data: &[u8]) -> &[u8]
     known
 }
 
+/// What is left behind elements whose ids differ, by their hashes with another multiplier.
+fn behind_rehashed<'a>(structured_data: &'a [u8], known: &'a [u8], multiplier: u64) -> &'a [u8]
+    requires data { AnyOf StructuredDataText structured_data.now }
+    requires known { Known structured_data.now known.now }
+    ensures known { Known structured_data.now result.now }
+    ensures within { length result.now ≤ length known.now }
+{
+    let rest = behind_hashed(structured_data, multiplier);
+    if rest.len() < known.len() {
+        return rest;
+    }
+    known
+}
+
+/// What is left behind elements whose ids differ, where so many tables were of no more use: hashes
+/// by another multiplier are in each other's way elsewhere. At last the ids are sorted, once.
+fn left_behind<'a>(structured_data: &'a [u8], known: &'a [u8], tables: u32) -> &'a [u8]
+    requires data { AnyOf StructuredDataText structured_data.now }
+    requires known { Known structured_data.now known.now }
+    ensures known { Known structured_data.now result.now }
+    ensures within { length result.now ≤ length known.now }
+{
+    match tables {
+        1 => behind_rehashed(structured_data, known, 0xBF58_476D_1CE4_E5B9),
+        2 => behind_rehashed(structured_data, known, 0x94D0_49BB_1331_11EB),
+        3 => behind_sorted(structured_data, known),
+        _ => known,
+    }
+}
+
 /// The offset of the first id that repeats an earlier one.
 ///
-/// Ids that ascend are distinct, which takes one pass. Others are sorted on the stack, in prefixes
-/// that are halved until the repeated id is near; from there on each id is sought among all before
-/// it.
+/// It takes one pass with a table of hashes on the stack. The table only tells that ids differ: one
+/// that it seems to have is sought among all before it. Where that is in vain, other hashes are
+/// taken, and at last the ids are sorted.
 pub fn first_repeated(structured_data: &[u8]) -> Option<usize>
     requires { AnyOf StructuredDataText structured_data.now }
     ensures { MatchOption result (HoldsDistinct structured_data.now)
         (HoldsRepeated structured_data.now) }
 {
-    let mut rest = behind_distinct(structured_data);
+    let mut rest = behind_hashed(structured_data, 0x9E37_79B9_7F4A_7C15);
+    let mut tables: u32 = 1;
     while let Some((first, _after)) = next(rest) {
         if first != b'[' {
             return None;
@@ -147,7 +152,8 @@ pub fn first_repeated(structured_data: &[u8]) -> Option<usize>
         if holds_id(before, id) {
             return Some(before.len() + 1);
         }
-        rest = behind;
+        rest = left_behind(structured_data, behind, tables);
+        tables = tables.saturating_add(1);
     }
     None
 }

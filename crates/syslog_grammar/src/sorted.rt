@@ -99,24 +99,48 @@ fn put_few(elements: &[u8], is_form: bool, out: &mut Vec<u8>) -> Result<bool, Al
     put_sorted_in(elements, &mut texts, is_form, out)
 }
 
-/// Appends at most 16,384 elements in the order of their ids.
+/// Appends at most 5,461 elements in the order of their ids.
+#[inline(never)]
+fn put_some(elements: &[u8], is_form: bool, out: &mut Vec<u8>) -> Result<bool, AllocError>
+    ensures { PutsUnless (SortedElementsOf is_form elements.now) ⊤ out.old.items out.new.items result }
+{
+    let (none, _) = elements.split_at(0);
+    let mut texts = [none; 5_461];
+    put_sorted_in(elements, &mut texts, is_form, out)
+}
+
+/// Appends at most 21,845 elements in the order of their ids.
 #[inline(never)]
 fn put_many(elements: &[u8], is_form: bool, out: &mut Vec<u8>) -> Result<bool, AllocError>
     ensures { PutsUnless (SortedElementsOf is_form elements.now) ⊤ out.old.items out.new.items result }
 {
     let (none, _) = elements.split_at(0);
-    let mut texts = [none; 16_384];
+    let mut texts = [none; 21_845];
     put_sorted_in(elements, &mut texts, is_form, out)
 }
 
-/// Appends elements in the order of their ids.
+/// Appends at most 65,536 elements in the order of their ids.
+#[inline(never)]
+fn put_most(elements: &[u8], is_form: bool, out: &mut Vec<u8>) -> Result<bool, AllocError>
+    ensures { PutsUnless (SortedElementsOf is_form elements.now) ⊤ out.old.items out.new.items result }
+{
+    let (none, _) = elements.split_at(0);
+    let mut texts = [none; 65_536];
+    put_sorted_in(elements, &mut texts, is_form, out)
+}
+
+/// Appends elements in the order of their ids. Each has three octets at least.
 fn put_elements(elements: &[u8], is_form: bool, out: &mut Vec<u8>) -> Result<bool, AllocError>
     ensures { PutsUnless (SortedElementsOf is_form elements.now) ⊤ out.old.items out.new.items result }
 {
     if elements.len() <= 1024 {
         put_few(elements, is_form, out)
-    } else {
+    } else if elements.len() <= 16_384 {
+        put_some(elements, is_form, out)
+    } else if elements.len() <= 65_536 {
         put_many(elements, is_form, out)
+    } else {
+        put_most(elements, is_form, out)
     }
 }
 

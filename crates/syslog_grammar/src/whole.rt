@@ -6,14 +6,15 @@ ghost use Rattle.syslog_value.specs.Parts.{ElementParts, IsById};
 ghost use Rattle.syslog_grammar.specs.Faults.{FaultOf};
 ghost use Rattle.syslog_grammar.specs.Grammar.{StructuredDataText};
 ghost use Rattle.syslog_grammar.specs.Ids.{HoldsDistinct, HoldsRepeated};
-ghost use Rattle.syslog_grammar.specs.Instants.{IsTimeOf};
+ghost use Rattle.syslog_grammar.specs.Instants.{IsTimeInRange, IsTimeOf};
+ghost use Rattle.syslog_grammar.specs.Parsing.{IsParsed};
 ghost use Rattle.syslog_grammar.specs.ViewParts.{IsViewOf, view_parts};
 ghost use Rattle.syslog_grammar.specs.WellFormed.{WellFormed};
 
 use crate::fault::Fault;
 use crate::record_view::RecordView;
 use crate::repeated::first_repeated;
-use crate::syntax::parse;
+use crate::syntax::{Parsed, parse};
 use crate::timestamp::Timestamp;
 use syslog_value::Instant;
 
@@ -47,17 +48,16 @@ fn repeated_id(structured_data: &[u8], ascends: bool) -> Option<usize>
     first_repeated(structured_data)
 }
 
-/// Reads a record from all of the octets: a view exactly where they are a well-formed record.
-///
-/// A fault of the syntax is reported before an instant that is out of range, and that before an id
-/// that is repeated. It takes no memory.
-pub fn view(octets: &[u8]) -> Result<RecordView<'_>, Fault>
+/// The view of a record whose parts the octets spell.
+#[inline(always)]
+pub fn view_of<'a>(octets: &'a [u8], spelling: Parsed<'a>) -> Result<RecordView<'a>, Fault>
+    requires { IsParsed octets.now spelling }
     ensures some { OnOk result (AnyOf WellFormed octets.now) }
     ensures whole { MatchResult result (λ v. IsViewOf octets.now (view_parts v))
         (FaultOf octets.now) }
     ensures none { OnErr result (¬ (AnyOf WellFormed octets.now)) }
+    ensures time { OnOk result (IsTimeInRange spelling.entry.fields.time) }
 {
-    let spelling = parse(octets)?;
     let fields = spelling.fields;
     let micros = match micros_of(fields.time) {
         Ok(micros) => micros,
@@ -85,4 +85,18 @@ pub fn view(octets: &[u8]) -> Result<RecordView<'_>, Fault>
         is_form: spelling.is_form,
         ascends: spelling.ascends,
     })
+}
+
+/// Reads a record from all of the octets: a view exactly where they are a well-formed record.
+///
+/// A fault of the syntax is reported before an instant that is out of range, and that before an id
+/// that is repeated. It takes no memory.
+pub fn view(octets: &[u8]) -> Result<RecordView<'_>, Fault>
+    ensures some { OnOk result (AnyOf WellFormed octets.now) }
+    ensures whole { MatchResult result (λ v. IsViewOf octets.now (view_parts v))
+        (FaultOf octets.now) }
+    ensures none { OnErr result (¬ (AnyOf WellFormed octets.now)) }
+{
+    let spelling = parse(octets)?;
+    view_of(octets, spelling)
 }

@@ -20,8 +20,8 @@ returns-then-holds_id c =
     (λ es h. c.holds_id.ensures es (subst (Each Element es) (sym c.split_at.ensures.front) h)) c.if-holds_id.true
     (ap (λ (k : List ℕ). length k + 1) c.split_at.ensures.front) c.loop-first.invariant
 
-pub loop-first-preserved : goal.loop-first-preserved
-loop-first-preserved c =
+pub left_behind-rest-requires-clause-known : goal.left_behind-rest-requires-clause-known
+left_behind-rest-requires-clause-known c =
     let v : ElementSpan = record { id = c.id-id.result.now; params = c.first_element.result.0.params.now } in
     let f : SplitsElement c.loop-first.rest.now v c.first_element.result.1.now =
     rw c.id-id.ensures c.first_element.ensures.element in
