@@ -10,6 +10,7 @@ use Rattle.syslog_grammar.specs.WellFormed.{WellFormed}
 use Rattle.syslog_grammar.proofs.Laws.{one_meaning}
 use Rattle.archive_text.specs.Entries.{Entry, IsAscending, IsEntryOf}
 use Rattle.archive_text.specs.EntryViews.{entry_of}
+use Rattle.archive_text.specs.Positions.{later, position_of}
 use Rattle.archive_text.specs.Stores.{AddsRecord}
 use Rattle.archive_text.specs.Text.{text_of}
 use Rattle.archive_text.specs.declared.entry.EntryView.{EntryView}
@@ -26,7 +27,7 @@ use Rattle.archive_migration.specs.Migration.{AddsMigrated, AddsNew, IsNewEntryO
 use Rattle.archive_migration.specs.OldEntries.{IsOldArchive, IsOldEntry}
 use Rattle.archive_migration.specs.OldFaults.{IsOldArchiveFault, IsOldFaultBefore}
 use Rattle.archive_migration.specs.OldTexts.{BeginsWithOldEntry}
-use Rattle.archive_migration.specs.Reading.{IsAboveLast, IsFaultAfter, IsLast, position_of, shift}
+use Rattle.archive_migration.specs.Reading.{IsAboveLast, IsFaultAfter, IsLast}
 use Rattle.archive_migration.proofs.OldForms.{new_form_well_formed, well_formed_new_form}
 use Rattle.archive_migration.proofs.OldPrefixes.{old_archive_fault}
 use Rattle.archive_migration.proofs.OldTexts.{old_archive_from}
@@ -46,7 +47,7 @@ position_within most rest (NotAscending at) h = absurd h
 -- counted from the start of the text of the entries before it
 pub fault_after : (last : Option EntryView) (offset : ℕ) (rest : List ℕ) (fault : ArchiveFault)
     → IsOldFaultBefore ENTRY_MAX rest fault
-    → IsFaultAfter last offset rest (shift offset fault)
+    → IsFaultAfter last offset rest (later offset fault)
 fault_after last offset rest (BadFrame at) h es ascending is_last start = (at, h, ap (λ (m : ℕ). m + at) start)
 fault_after last offset rest (EntryTooLong at) (is, h) es ascending is_last start = (omega (arith, is, start), h)
 fault_after last offset rest (BadEntry at fault) (is, h) es ascending is_last start =

@@ -1,13 +1,11 @@
 -- What the reading of an old archive answers.
-use Rattle.std.specs.Prelude.{◌≡◌, ℕ, ◌+◌, List, [], ◌∷◌, ◌++◌, length, Option, Some, None, ⊤}
+use Rattle.std.specs.Prelude.{◌≡◌, ℕ, List, [], ◌∷◌, ◌++◌, length, Option, Some, None, ⊤}
 use Rattle.syslog_grammar.specs.ViewParts.{IsViewOf, view_parts}
 use Rattle.archive_text.specs.Entries.{Entry, IsAscending, IsBelow}
 use Rattle.archive_text.specs.EntryViews.{entry_of}
 use Rattle.archive_text.specs.Text.{text_of}
 use Rattle.archive_text.specs.declared.entry.EntryView.{EntryView}
 use Rattle.archive_text.specs.declared.fault.ArchiveFault.{ArchiveFault}
-use Rattle.archive_text.specs.declared.fault.ArchiveFault.TheVariants.{BadFrame, EntryTooLong, BadEntry, NotCanonical}
-use Rattle.archive_text.specs.declared.fault.ArchiveFault.TheVariants.{NotAscending}
 use Rattle.archive_text.specs.declared.limits.TheConstants.{ENTRY_MAX}
 use Rattle.archive_migration.specs.OldFaults.{IsOldArchiveFault, IsOldFaultBehind}
 use Rattle.archive_migration.specs.declared.fault.MigrateFault.{MigrateFault}
@@ -21,22 +19,6 @@ old_entry_of old = entry_of old.entry
 -- the view shows the octets of the entry
 abbrev pub ShowsIt : OldEntry → Type 0
 ShowsIt old = IsViewOf old.entry.octets.now (view_parts old.view)
-
--- a fault, with its position counted from so many octets before
-abbrev pub shift : ℕ → ArchiveFault → ArchiveFault
-shift n (BadFrame at) = BadFrame (n + at)
-shift n (EntryTooLong at) = EntryTooLong (n + at)
-shift n (BadEntry at fault) = BadEntry (n + at) fault
-shift n (NotCanonical at) = NotCanonical (n + at)
-shift n (NotAscending at) = NotAscending (n + at)
-
--- the position of a fault
-abbrev pub position_of : ArchiveFault → ℕ
-position_of (BadFrame at) = at
-position_of (EntryTooLong at) = at
-position_of (BadEntry at fault) = at
-position_of (NotCanonical at) = at
-position_of (NotAscending at) = at
 
 -- the last of these entries, if there is one
 abbrev pub IsLast : Option EntryView → List Entry → Type 0

@@ -6,30 +6,12 @@ ghost use Rattle.archive_migration.specs.Migration.{AddsNew, Migrates};
 ghost use Rattle.archive_migration.specs.OldEntries.{IsOldEntry};
 ghost use Rattle.archive_migration.specs.OldTexts.{BeginsWithOldEntry};
 ghost use Rattle.archive_migration.specs.Reading.{IsAboveLast, IsFaultAfter, IsMigrateFault, ShowsIt, old_entry_of};
-ghost use Rattle.archive_migration.specs.Reading.{position_of, shift};
 
 use crate::fault::MigrateFault;
 use crate::old_entry::{OldEntry, read_old_entry};
 use archive_text::{AddFault, ArchiveFault, ENTRY_MAX, EntryView, Store, compare};
 use std::alloc::{AllocError, Global};
 use std::cmp::Ordering;
-
-/// A fault, with its position counted from so many octets before.
-fn shifted(fault: ArchiveFault, offset: u64) -> ArchiveFault
-    requires { offset + position_of fault < 2 ^ 64 }
-    ensures { result ≡ shift offset fault }
-{
-    match fault {
-        ArchiveFault::BadFrame { at } => ArchiveFault::BadFrame { at: offset + at },
-        ArchiveFault::EntryTooLong { at } => ArchiveFault::EntryTooLong { at: offset + at },
-        ArchiveFault::BadEntry { at, fault } => ArchiveFault::BadEntry {
-            at: offset + at,
-            fault,
-        },
-        ArchiveFault::NotCanonical { at } => ArchiveFault::NotCanonical { at: offset + at },
-        ArchiveFault::NotAscending { at } => ArchiveFault::NotAscending { at: offset + at },
-    }
-}
 
 /// Whether an entry is above the last one, if there is one.
 fn is_above(last: &Option<EntryView<'_>>, entry: &EntryView<'_>) -> bool
@@ -60,7 +42,7 @@ fn next_old<'a>(
 {
     let (old, behind) = match read_old_entry(ENTRY_MAX as u64, rest) {
         Ok(read) => read,
-        Err(fault) => return Err(shifted(fault, offset)),
+        Err(fault) => return Err(fault.later(offset)),
     };
     if !is_above(last, &old.entry) {
         return Err(ArchiveFault::NotAscending { at: offset });

@@ -1,10 +1,11 @@
 -- The length before an entry, as its octets come.
-use Rattle.std.proofs.Common.{◌≡◌, ℕ, ◌<◌, ◌≤◌, List, [], ◌∷◌, ◌++◌, length, take, drop, refl, sym, ap, subst, ◌∙◌}
+use Rattle.std.proofs.Common.{◌≡◌, ℕ, ◌+◌, ◌<◌, ◌≤◌, List, [], ◌∷◌, ◌++◌, length, take, drop, refl, sym, ap, subst, ◌∙◌}
 use Rattle.std.proofs.Common.{append_assoc, arith, inl, inr}
 use Rattle.std.specs.Fmt.{decimal}
 use Rattle.std.proofs.lemmas.Fmt.{length-decimal-le}
 use Rattle.std.proofs.lemmas.Bool.{cases_lt}
-use Rattle.std.proofs.lemmas.List.{append-nil, length-append, take-append-drop, take-append-le, take-take, take_all}
+use Rattle.std.proofs.lemmas.List.{append-nil, length-append, length-drop, length-take, take-append-drop}
+use Rattle.std.proofs.lemmas.List.{take-append-le, take-take, take_all, drop_at}
 use Rattle.std.proofs.lemmas.List.{take_at}
 use Rattle.octet_language.specs.Language.{AnyOf, Begins, IsFaultOffset, Language, NoPrefix}
 use Rattle.octet_language.proofs.Lists.{parted}
@@ -14,7 +15,9 @@ use Rattle.syslog_frame.specs.declared.count.MsgLen.TheVariants.{Whole, Bad}
 use Rattle.syslog_frame.specs.declared.framing.Framing.TheVariants.{Counted}
 use Rattle.syslog_frame.proofs.Counts.{Begins-count, HasPrefix-msg_len, NoPrefix-count}
 use Rattle.archive_text.specs.Faults.{BeginsWithOctets, IsBadFrame, IsTooLong}
+use Rattle.archive_text.specs.declared.limits.TheConstants.{ENTRY_MAX}
 use Rattle.archive_streams.specs.Counting.{IsUnfinished}
+use Rattle.archive_streams.specs.EntryTexts.{HasCounted, IsCounted}
 
 -- nothing is unfinished
 pub unfinished_nil : IsUnfinished []
@@ -135,11 +138,35 @@ framed_octets count head octets text h e size =
 pub carried : (count : ℕ) (head octets : List ℕ) → MsgLen count head → length octets ≡ count → CanCarry Counted octets
 carried count head octets h size = (omega (arith, h.0, size), omega (arith, h.1, size))
 
-pub begins_with : (most count : ℕ) (head octets text rest : List ℕ) → MsgLen count head → text ≡ head ++ octets
-    → length octets ≡ count → count ≤ most
-    → BeginsWithOctets most (text ++ rest) octets
-begins_with most count head octets text rest h e size fits = (
-  carried count head octets h size,
-  omega (arith, fits, size),
-  (rest, ap (λ (s : List ℕ). s ++ rest) (framed_octets count head octets text h e size)),
-)
+-- octets behind their length
+counted : (count start : ℕ) (text : List ℕ) → start ≤ length text → MsgLen count (take start text)
+    → length (drop start text) ≡ count → count ≤ ENTRY_MAX → IsCounted start text
+counted count start text within h size fits = record {
+  within = within;
+  fits = omega (arith, size, fits);
+  carries = carried count (take start text) (drop start text) h size;
+  text_is = framed_octets count (take start text) (drop start text) text h (sym (take-append-drop start text)) size;
+}
+
+-- in octets that begin with them
+pub counted_in : (count used size : ℕ) (rest text : List ℕ) → IsMsgLen rest (Whole count used) → size ≡ used + count
+    → size ≤ length rest → size ≤ ENTRY_MAX → text ≡ take size rest → IsCounted used text
+counted_in count used size rest text h sum within low same =
+    let len : length text ≡ size = omega (arith, ap length same, length-take size rest, within) in
+    let front : take used text ≡ take used rest =
+    ap (take used) same ∙ take-take used size rest (omega (arith, sum)) in
+    counted count used text (omega (arith, len, sum)) (subst (MsgLen count) (sym front) h.1)
+    (omega (arith, length-drop used text, len, sum)) (omega (arith, low, sum))
+
+-- read behind their length
+pub counted_behind : (count start : ℕ) (head text : List ℕ) → MsgLen count head → HasCounted count head text
+    → length head ≡ start → count ≤ ENTRY_MAX → IsCounted start text
+counted_behind count start head text h k is fits =
+    let front : take start text ≡ head = ap (take start) k.parts ∙ take_at head k.octets start is in
+    let back : drop start text ≡ k.octets = ap (drop start) k.parts ∙ drop_at head k.octets start is in
+    counted count start text (omega (arith, is, ap length k.parts, length-append head k.octets))
+    (subst (MsgLen count) (sym front) h) (ap length back ∙ k.size) fits
+
+pub begins_counted : (start : ℕ) (text rest : List ℕ) → IsCounted start text
+    → BeginsWithOctets ENTRY_MAX (text ++ rest) (drop start text)
+begins_counted start text rest k = (k.carries, k.fits, (rest, ap (λ (s : List ℕ). s ++ rest) k.text_is))

@@ -31,6 +31,19 @@ ReadsOn-same p d s = record {
   at_end = λ h. h;
 }
 
+-- nothing was read, and what was given is moved
+pub ReadsOn-kept : (p q : Pieces) (d : Reader) (before after : List ℕ) → q.calls ≡ p.calls → q.ends ≡ p.ends
+    → after ≡ before → ReadsOn p q d d before after
+ReadsOn-kept p q d before after calls ends same = record {
+  more = [];
+  consumed = Consumes-nil d.left;
+  grown = same ∙ sym (append-nil before);
+  far = omega (arith, calls);
+  calls = λ h. omega (arith, calls);
+  ends = λ h. omega (arith, ends);
+  at_end = λ h k. h (omega (arith, k, ends));
+}
+
 -- one call after the other
 pub ReadsOn-then : (p q r : Pieces) (d e f : Reader) (a b c : List ℕ) → ReadsOn p q d e a b → ReadsOn q r e f b c
     → ReadsOn p r d f a c

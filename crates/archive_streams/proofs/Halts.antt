@@ -1,9 +1,8 @@
 -- Where a fault halts two archives on their way into one.
-use Rattle.std.proofs.Common.{◌≡◌, ℕ, ◌+◌, ◌*◌, ◌^◌, ◌<◌, ◌≤◌, List, [], ◌∷◌, ◌++◌, Option, length, take, drop, refl}
+use Rattle.std.proofs.Common.{◌≡◌, ℕ, ◌+◌, ◌*◌, ◌^◌, ◌<◌, ◌≤◌, List, [], ◌∷◌, ◌++◌, Option, length, refl}
 use Rattle.std.proofs.Common.{sym, ap, subst, ◌∙◌, arith, inl, inr}
 use Rattle.std.specs.Prelude.{◌≢◌, ◌⊎◌}
-use Rattle.std.specs.Io.KnownBytes.{Appends, Consumes}
-use Rattle.std.proofs.lemmas.List.{length-take, take-append-drop}
+use Rattle.std.specs.Io.KnownBytes.{Consumes}
 use Rattle.archive_text.specs.Entries.{Entry, Has, IsAscending, IsBelow}
 use Rattle.archive_text.specs.Text.{text_of}
 use Rattle.archive_text.specs.declared.limits.TheConstants.{ENTRY_MAX}
@@ -11,28 +10,28 @@ use Rattle.archive_text.proofs.Members.{has_either, has_right}
 use Rattle.archive_text.proofs.Prefixes.{archive_fault}
 use Rattle.archive_text.proofs.Texts.{text_length, text_push}
 use Rattle.held_output.specs.Held.{Carries, Held, StopsWithin}
-use Rattle.held_output.proofs.Carrying.{StopsWithin-take}
 use Rattle.syslog_value.specs.declared.loops.TheConstants.{READ_MAX, READER_CALLS}
 use Rattle.archive_streams.specs.EntryTexts.{entry_in}
-use Rattle.archive_streams.specs.Halted.{Halted, IsNotWrite, IsUnderWay}
-use Rattle.archive_streams.specs.Joining.{IsPrefixOfUnion, IsUnion, IsWithin}
+use Rattle.archive_streams.specs.Halted.{Halted, IsUnderWay}
+use Rattle.archive_streams.specs.Joining.{IsUnion, IsWithin}
 use Rattle.archive_streams.specs.Joins.{BothDue, Joins, LeftDue, Merging, RightDue}
 use Rattle.archive_streams.specs.Merging.{HasRoom}
-use Rattle.archive_streams.specs.Pieces.{Reader, unused}
+use Rattle.archive_streams.specs.Pieces.{HasFewCalls, Reader, unused}
 use Rattle.archive_streams.specs.Sides.{Due, EndsWith, IsNear, IsNextOrEnd, IsSideStop, Ready}
-use Rattle.archive_streams.specs.Stopped.{HasEnded, IsInputFault, IsSent, Stopped}
+use Rattle.archive_streams.specs.Stopped.{HasEnded, IsInputFault}
 use Rattle.archive_streams.specs.declared.entry.EntryText.{EntryText}
 use Rattle.archive_streams.specs.declared.fault.InputFault.TheVariants.{Device, Endless as input_Endless}
 use Rattle.archive_streams.specs.declared.fault.MergeFault.{MergeFault}
-use Rattle.archive_streams.specs.declared.fault.MergeFault.TheVariants.{Left, Right, Read, Endless, Write, Memory}
+use Rattle.archive_streams.specs.declared.fault.MergeFault.TheVariants.{Left, Right, Read, Endless, Write}
 use Rattle.archive_streams.specs.declared.fault.Side.TheVariants.{Left as side_Left, Right as side_Right}
 use Rattle.archive_streams.specs.declared.fault.SideFault.{SideFault}
 use Rattle.archive_streams.specs.declared.fault.SideFault.TheVariants.{Archive, Input}
 use Rattle.archive_streams.specs.declared.merge.Merge.{Merge}
 use Rattle.archive_streams.specs.declared.side.ArchiveReader.{ArchiveReader}
 use Rattle.archive_streams.proofs.Joining.{AllWithin, SideAt, first_above, first_within, prefix_of_union}
-use Rattle.archive_streams.proofs.Joining.{shorter_prefix, up_to_first}
+use Rattle.archive_streams.proofs.Joining.{up_to_first}
 use Rattle.archive_streams.proofs.Merges.{HasNext, has_next, longer_both, longer_left, longer_right, still_side}
+use Rattle.archive_streams.proofs.SideSteps.{few_calls}
 use Rattle.archive_streams.proofs.Unions.{IsAhead, all_within, side_ahead, side_due, side_ready, turned, union_both}
 use Rattle.archive_streams.proofs.Unions.{union_left, union_right}
 
@@ -151,9 +150,10 @@ right_input (Input input_Endless) s dl el dr er ls rs ws x t a ahead b u all =
 -- the left stops
 left_stops : (fault : SideFault) (s : ArchiveReader) (m : Merge) (dl el dr er : Reader) (ls rs ws : List Entry)
     (y : List ℕ) (start now : Option (List ℕ)) → IsSideStop fault s dl el ls → EndsWith ls m.last
-    → SideAt y rs ws → Consumes dr.left er.left y → Joins m ls rs ws start now → length (text_of ws) < 2 ^ 64
+    → SideAt y rs ws → Consumes dr.left er.left y → HasFewCalls dr er → Joins m ls rs ws start now
+    → length (text_of ws) < 2 ^ 64
     → Halted (left_fault fault) m.held dl el dr er start now
-left_stops fault s m dl el dr er ls rs ws y start now t ends b consumed j short =
+left_stops fault s m dl el dr er ls rs ws y start now t ends b consumed few j short =
     let a : SideAt t.x ls ws = stopped_side fault s dl el ls ws m.last t ends j.last_is j.union.ascending in
     let all : AllWithin ls ws = record { within = all_within ls ws m.last ends j.last_is j.union.ascending } in
     record {
@@ -162,6 +162,8 @@ left_stops fault s m dl el dr er ls rs ws y start now t ends b consumed j short 
       text = text_of ws;
       left = t.consumed;
       right = consumed;
+      left_calls = few_calls s dl el t.calls;
+      right_calls = few;
       prefix = prefix_of_union t.x y ls rs ws a b j.union;
       short = short;
       under_way = left_under_way fault m.held start now (text_of ws) j.carries;
@@ -177,7 +179,8 @@ left_halts fault found s m dl el fl dr er start now room same stop h =
     let right = ready_short m.right dr er h.rs h.ws room.right_near h.right in
     left_stops fault s m dl fl dr er h.ls h.rs h.ws h.right.x start now
     (subst (λ (f : SideFault). IsSideStop f s dl fl h.ls) same (stop dl h.ls h.left)) h.left.ends
-    (side_ready m.right dr er h.rs h.ws h.right) h.right.read.consumed h.joins
+    (side_ready m.right dr er h.rs h.ws h.right) h.right.read.consumed (few_calls m.right dr er h.right.read.calls)
+    h.joins
     (both_short h.ls h.rs h.ws h.joins.short left right)
 
 pub left_halts_first : (fault found : SideFault) (s : ArchiveReader) (m : Merge) (dl el fl dr er : Reader)
@@ -190,7 +193,7 @@ left_halts_first fault found s m dl el fl dr er start now room same stop h =
     left_stops fault s m dl fl dr er h.ls h.rs h.ws h.right.x start now
     (subst (λ (f : SideFault). IsSideStop f s dl fl h.ls) same (stop dl h.ls h.left)) h.left.ends
     (side_due m.right dr er h.rs h.ws m.last h.right h.joins.last_is h.joins.union.ascending) h.right.read.consumed
-    h.joins (both_short h.ls h.rs h.ws h.joins.short left right)
+    (few_calls m.right dr er h.right.read.calls) h.joins (both_short h.ls h.rs h.ws h.joins.short left right)
 
 -- the right stops, and the left is ahead
 pub right_halts : (fault found : SideFault) (s : ArchiveReader) (m : Merge) (dl el dr er fr : Reader)
@@ -215,6 +218,8 @@ right_halts fault found s m dl el dr er fr start now room same stop h =
       text = text_of h.ws;
       left = h.left.read.consumed;
       right = t.consumed;
+      left_calls = few_calls m.left dl el h.left.read.calls;
+      right_calls = few_calls s dr fr t.calls;
       prefix = prefix_of_union h.left.x t.x h.ls h.rs h.ws a b h.joins.union;
       short = both_short h.ls h.rs h.ws h.joins.short left right;
       under_way = right_under_way fault m.held start now (text_of h.ws) h.joins.carries;
@@ -274,6 +279,8 @@ less_halts m held dl el dr er start a b sent room some above stops s =
       text = text_of (s.ws ++ w ∷ []);
       left = next.read.consumed;
       right = s.right.read.consumed;
+      left_calls = few_calls m.left dl el s.left.read.calls;
+      right_calls = few_calls m.right dr er s.right.read.calls;
       prefix = prefix_of_union next.x s.right.x (s.ls ++ w ∷ []) s.rs (s.ws ++ w ∷ [])
           (written_side m.left dl el s.ls s.ws next) other union;
       short = both_short (s.ls ++ w ∷ []) s.rs (s.ws ++ w ∷ []) (longer_left s.ls s.rs s.ws w s.joins.short)
@@ -301,6 +308,8 @@ greater_halts m held dl el dr er start a b sent room some above stops s =
       text = text_of (s.ws ++ w ∷ []);
       left = s.left.read.consumed;
       right = next.read.consumed;
+      left_calls = few_calls m.left dl el s.left.read.calls;
+      right_calls = few_calls m.right dr er s.right.read.calls;
       prefix = prefix_of_union s.left.x next.x s.ls (s.rs ++ w ∷ []) (s.ws ++ w ∷ []) other
           (written_side m.right dr er s.rs s.ws next) union;
       short = both_short s.ls (s.rs ++ w ∷ []) (s.ws ++ w ∷ []) (longer_right s.ls s.rs s.ws w s.joins.short)
@@ -334,6 +343,8 @@ equal_halts m held dl el dr er start a b sent room some also same stops s =
       text = text_of (s.ws ++ w ∷ []);
       left = next.read.consumed;
       right = other.read.consumed;
+      left_calls = few_calls m.left dl el s.left.read.calls;
+      right_calls = few_calls m.right dr er s.right.read.calls;
       prefix = prefix_of_union next.x other.x (s.ls ++ w ∷ []) (s.rs ++ w ∷ []) (s.ws ++ w ∷ [])
           (written_side m.left dl el s.ls s.ws next) side union;
       short = both_short (s.ls ++ w ∷ []) (s.rs ++ w ∷ []) (s.ws ++ w ∷ []) (longer_both s.ls s.rs s.ws w s.joins.short)
@@ -353,6 +364,8 @@ end_halts m held dl el dr er start a b sent room stops s = record {
   text = text_of s.ws;
   left = s.left.read.consumed;
   right = s.right.read.consumed;
+  left_calls = few_calls m.left dl el s.left.read.calls;
+  right_calls = few_calls m.right dr er s.right.read.calls;
   prefix = prefix_of_union s.left.x s.right.x s.ls s.rs s.ws (side_ready m.left dl el s.ls s.ws s.left)
       (side_ready m.right dr er s.rs s.ws s.right) s.joins.union;
   short = both_short s.ls s.rs s.ws s.joins.short (ready_short m.left dl el s.ls s.ws room.left_near s.left)

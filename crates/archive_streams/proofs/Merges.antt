@@ -25,6 +25,7 @@ use Rattle.archive_streams.specs.declared.merge.Merge.{Merge}
 use Rattle.archive_streams.specs.declared.pieces.Pieces.{Pieces}
 use Rattle.archive_streams.specs.declared.side.ArchiveReader.{ArchiveReader}
 use Rattle.archive_streams.proofs.Joining.{AllBelow, SideAt}
+use Rattle.archive_streams.proofs.SideSteps.{few_calls}
 use Rattle.archive_streams.proofs.Unions.{below_more_joined, side_ready, union_both, union_left, union_nil, union_right}
 
 -- what was read does not hang on the room of the entry
@@ -304,6 +305,8 @@ joined_of m dl el dr er start now after none written s =
       zs = s.ws;
       left = left.consumed;
       right = right.consumed;
+      left_calls = few_calls m.left dl el s.left.read.calls;
+      right_calls = few_calls m.right dr er s.right.read.calls;
       left_ended = left.ended;
       right_ended = right.ended;
       left_whole = left.at_end;

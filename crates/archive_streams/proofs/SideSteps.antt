@@ -1,6 +1,6 @@
 -- A side that is read on, entry by entry.
-use Rattle.std.proofs.Common.{◌≡◌, ℕ, ◌+◌, ◌<◌, List, [], ◌∷◌, ◌++◌, length, refl, sym, ap, subst, ◌∙◌, append_assoc}
-use Rattle.std.proofs.Common.{arith, inl, inr}
+use Rattle.std.proofs.Common.{◌≡◌, ℕ, ◌+◌, ◌<◌, ◌^◌, List, [], ◌∷◌, ◌++◌, length, refl, sym, ap, subst, ◌∙◌}
+use Rattle.std.proofs.Common.{append_assoc, arith, inl, inr}
 use Rattle.std.proofs.KnownBytes.{Consumes-trans}
 use Rattle.std.proofs.lemmas.List.{length-append}
 use Rattle.archive_text.specs.Entries.{Entry, Has, IsAscending, IsBelow}
@@ -10,7 +10,7 @@ use Rattle.archive_text.proofs.Ascending.{archive_from, ascending_after, below_a
 use Rattle.archive_text.proofs.Members.{of_member}
 use Rattle.archive_text.proofs.Texts.{text_goes_on, text_push}
 use Rattle.archive_streams.specs.EntryTexts.{entry_in, HoldsEntry, IsAbove}
-use Rattle.archive_streams.specs.Pieces.{ReadsOn, Reader, unused}
+use Rattle.archive_streams.specs.Pieces.{HasFewCalls, ReadsOn, Reader, unused}
 use Rattle.archive_streams.specs.Sides.{Due, EndsWith, IsNextFault, IsSideStop, IsStopCause, ReadTo, Ready}
 use Rattle.archive_streams.specs.declared.entry.EntryText.{EntryText}
 use Rattle.archive_streams.specs.declared.fault.SideFault.{SideFault}
@@ -18,6 +18,11 @@ use Rattle.archive_streams.specs.declared.fault.SideFault.TheVariants.{Archive, 
 use Rattle.archive_streams.specs.declared.fault.InputFault.TheVariants.{Device, Endless}
 use Rattle.archive_streams.specs.declared.side.ArchiveReader.{ArchiveReader}
 use Rattle.archive_streams.proofs.NextEntries.{some_or_none}
+
+-- a reader is called as often as its calls are counted
+pub few_calls : (s : ArchiveReader) (d e : Reader) → (d.calls < 2 ^ 63 → e.calls ≡ d.calls + s.pieces.calls)
+    → HasFewCalls d e
+few_calls s d e h = λ low. omega (arith, h low, s.pieces.few)
 
 -- an entry above the last one is above all before it
 above_all : (ws : List Entry) (last : EntryText) (e : Entry) → EndsWith ws last → IsAscending ws → IsAbove last e

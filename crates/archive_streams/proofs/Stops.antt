@@ -1,5 +1,5 @@
 -- What a call did that a fault stopped.
-use Rattle.std.proofs.Common.{◌≡◌, ℕ, List, Option, length, take, drop, refl, sym, subst, arith}
+use Rattle.std.proofs.Common.{◌≡◌, ℕ, List, Option, take, drop, refl, sym, subst, arith}
 use Rattle.std.specs.Io.KnownBytes.{Appends}
 use Rattle.std.proofs.lemmas.List.{length-take, take-append-drop}
 use Rattle.held_output.specs.Held.{Carries, Held, StopsWithin}
@@ -23,6 +23,8 @@ stopped_sent sent held dl el dr er start now h =
       written = take sent h.text;
       left = h.left;
       right = h.right;
+      left_calls = h.left_calls;
+      right_calls = h.right_calls;
       taken = taken.1;
       prefix = shorter_prefix h.x h.y (take sent h.text) (drop sent h.text)
           (subst (IsPrefixOfUnion h.x h.y) (sym (take-append-drop sent h.text)) h.prefix);
@@ -73,6 +75,8 @@ stopped_whole fault held dl el dr er start now after other whole h = record {
   written = h.text;
   left = h.left;
   right = h.right;
+  left_calls = h.left_calls;
+  right_calls = h.right_calls;
   taken = whole h.text (held_back fault held start now h.text other h.under_way);
   prefix = h.prefix;
   input = h.input;
@@ -90,6 +94,8 @@ stopped_before fault held dl el dr er start now after sent other stops h =
       text = h.text;
       left = h.left;
       right = h.right;
+      left_calls = h.left_calls;
+      right_calls = h.right_calls;
       prefix = h.prefix;
       short = h.short;
       under_way = stops h.text (held_back fault held start now h.text other h.under_way);

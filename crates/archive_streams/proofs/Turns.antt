@@ -1,13 +1,18 @@
 -- Numbers of two archives on their way into one.
-use Rattle.std.proofs.Common.{◌≡◌, ℕ, ◌+◌, ◌<◌, List, [], ◌∷◌, length, refl, sym, ap, subst, arith}
+use Rattle.std.proofs.Common.{◌≡◌, ℕ, ◌+◌, ◌<◌, List, [], ◌∷◌, length, refl, sym, ap, subst, arith, inl, inr}
 use Rattle.std.specs.Prelude.{◌≢◌, Result, Ok, Err, IfErr, IfOk, IsErrAnd, OnOk}
 use Rattle.std.specs.declared.cmp.Ordering.{Ordering}
 use Rattle.std.specs.declared.cmp.Ordering.TheVariants.{Less, Equal, Greater}
 use Rattle.archive_text.specs.Entries.{IsOrder}
 use Rattle.archive_streams.specs.EntryTexts.{entry_in}
-use Rattle.archive_streams.specs.Merging.{IsNextOrder, IsSteady, height}
+use Rattle.archive_streams.specs.Merging.{IsNextOrder, IsSteady, LeftFailures, LeftReadFailed, OnlyWrite}
+use Rattle.archive_streams.specs.Merging.{RightFailures, RightReadFailed, height}
 use Rattle.archive_streams.specs.Pieces.{unused}
 use Rattle.archive_streams.specs.Sides.{IsNear}
+use Rattle.archive_streams.specs.Halted.{IsNotWrite}
+use Rattle.archive_streams.specs.declared.fault.MergeFault.{MergeFault}
+use Rattle.archive_streams.specs.declared.fault.MergeFault.TheVariants.{Left, Right, Read, Endless, Write, Memory}
+use Rattle.archive_streams.specs.declared.fault.Side.TheVariants.{Left as side_Left, Right as side_Right}
 use Rattle.archive_streams.specs.declared.side.ArchiveReader.{ArchiveReader}
 use Rattle.archive_streams.specs.declared.merge.Merge.{Merge}
 
@@ -56,3 +61,89 @@ on_ok_then (Err e) P Q h f = tt
 pub at_err : {T E : Type 0} (r : Result T E) (e : E) (P : E → Type 0) → IsErrAnd r (λ x. x ≡ e) → P e → IfErr r P
 at_err (Ok x) e P h p = absurd h
 at_err (Err x) e P h p = subst P (sym h) p
+
+-- ---- how often the readers failed
+
+-- no read failed, and then the writer did or did not
+pub left_kept : {X : Type 0} (r : Result X MergeFault) (old new : ℕ) → OnlyWrite r → new ≡ old
+    → LeftReadFailed r old new
+left_kept (Ok x) old new only e = e
+left_kept (Err (Write sent)) old new only e = inl e
+left_kept (Err (Left fault)) old new only e = absurd only
+left_kept (Err (Right fault)) old new only e = absurd only
+left_kept (Err (Read side)) old new only e = absurd only
+left_kept (Err (Endless side)) old new only e = absurd only
+left_kept (Err Memory) old new only e = absurd only
+
+-- a fault is told
+pub left_told : (fault : MergeFault) (old new : ℕ) → IsNotWrite fault
+    → LeftFailures {X = Unit {0}} (Err fault) old new → LeftReadFailed {X = ℕ} (Err fault) old new
+left_told (Write sent) old new other h = absurd other
+left_told (Left fault) old new other h = h
+left_told (Right fault) old new other h = h
+left_told (Read side_Left) old new other h = h
+left_told (Read side_Right) old new other h = h
+left_told (Endless side) old new other h = h
+left_told Memory old new other h = h
+
+-- the writer fails before it is told
+pub left_before : (fault : MergeFault) (sent old new : ℕ) → LeftFailures {X = Unit {0}} (Err fault) old new
+    → LeftReadFailed {X = ℕ} (Err (Write sent)) old new
+left_before (Write more) sent old new h = inl h
+left_before (Left fault) sent old new h = inl h
+left_before (Right fault) sent old new h = inl h
+left_before (Read side_Left) sent old new h = inr h
+left_before (Read side_Right) sent old new h = inl h
+left_before (Endless side) sent old new h = inl h
+left_before Memory sent old new h = inl h
+
+pub left_first : (write fault : MergeFault) (old new : ℕ) → OnlyWrite {X = ℕ} (Err write)
+    → LeftFailures {X = Unit {0}} (Err fault) old new → LeftReadFailed {X = ℕ} (Err write) old new
+left_first (Write sent) fault old new only h = left_before fault sent old new h
+left_first (Left other) fault old new only h = absurd only
+left_first (Right other) fault old new only h = absurd only
+left_first (Read side) fault old new only h = absurd only
+left_first (Endless side) fault old new only h = absurd only
+left_first Memory fault old new only h = absurd only
+
+-- no read failed, and then the writer did or did not
+pub right_kept : {X : Type 0} (r : Result X MergeFault) (old new : ℕ) → OnlyWrite r → new ≡ old
+    → RightReadFailed r old new
+right_kept (Ok x) old new only e = e
+right_kept (Err (Write sent)) old new only e = inl e
+right_kept (Err (Left fault)) old new only e = absurd only
+right_kept (Err (Right fault)) old new only e = absurd only
+right_kept (Err (Read side)) old new only e = absurd only
+right_kept (Err (Endless side)) old new only e = absurd only
+right_kept (Err Memory) old new only e = absurd only
+
+-- a fault is told
+pub right_told : (fault : MergeFault) (old new : ℕ) → IsNotWrite fault
+    → RightFailures {X = Unit {0}} (Err fault) old new → RightReadFailed {X = ℕ} (Err fault) old new
+right_told (Write sent) old new other h = absurd other
+right_told (Left fault) old new other h = h
+right_told (Right fault) old new other h = h
+right_told (Read side_Left) old new other h = h
+right_told (Read side_Right) old new other h = h
+right_told (Endless side) old new other h = h
+right_told Memory old new other h = h
+
+-- the writer fails before it is told
+pub right_before : (fault : MergeFault) (sent old new : ℕ) → RightFailures {X = Unit {0}} (Err fault) old new
+    → RightReadFailed {X = ℕ} (Err (Write sent)) old new
+right_before (Write more) sent old new h = inl h
+right_before (Left fault) sent old new h = inl h
+right_before (Right fault) sent old new h = inl h
+right_before (Read side_Right) sent old new h = inr h
+right_before (Read side_Left) sent old new h = inl h
+right_before (Endless side) sent old new h = inl h
+right_before Memory sent old new h = inl h
+
+pub right_first : (write fault : MergeFault) (old new : ℕ) → OnlyWrite {X = ℕ} (Err write)
+    → RightFailures {X = Unit {0}} (Err fault) old new → RightReadFailed {X = ℕ} (Err write) old new
+right_first (Write sent) fault old new only h = right_before fault sent old new h
+right_first (Left other) fault old new only h = absurd only
+right_first (Right other) fault old new only h = absurd only
+right_first (Read side) fault old new only h = absurd only
+right_first (Endless side) fault old new only h = absurd only
+right_first Memory fault old new only h = absurd only

@@ -1,6 +1,6 @@
 -- The text of an entry.
 use Rattle.std.specs.Prelude.{◌≡◌, ◌≢◌, ℕ, ◌≤◌, List, [], ◌++◌, length, drop}
-use Rattle.syslog_frame.specs.Frames.{CanCarry}
+use Rattle.syslog_frame.specs.Frames.{CanCarry, framed}
 use Rattle.syslog_frame.specs.declared.framing.Framing.TheVariants.{Counted}
 use Rattle.archive_text.specs.Entries.{Entry, IsBelow, IsEntry}
 use Rattle.archive_text.specs.Text.{entry_text}
@@ -18,6 +18,13 @@ pub record HoldsEntry (t : EntryText) : Type 0 where
   pub fits : length (drop t.start t.text.items) ≤ ENTRY_MAX
   pub carries : CanCarry Counted (drop t.start t.text.items)
   pub text_is : t.text.items ≡ entry_text (entry_in t)
+
+-- the text is its octets from `start` on, behind their length and a space
+pub record IsCounted (start : ℕ) (text : List ℕ) : Type 0 where
+  pub within : start ≤ length text
+  pub fits : length (drop start text) ≤ ENTRY_MAX
+  pub carries : CanCarry Counted (drop start text)
+  pub text_is : text ≡ framed Counted (drop start text)
 
 -- an entry is above the last one, if there is one
 abbrev pub IsAbove : EntryText → Entry → Type 0

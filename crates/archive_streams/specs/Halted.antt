@@ -3,7 +3,7 @@ use Rattle.std.specs.Prelude.{ℕ, ◌^◌, ◌<◌, List, Option, length}
 use Rattle.std.specs.Io.KnownBytes.{Consumes}
 use Rattle.held_output.specs.Held.{Carries, Held, StopsWithin}
 use Rattle.archive_streams.specs.Joining.{IsPrefixOfUnion}
-use Rattle.archive_streams.specs.Pieces.{Reader}
+use Rattle.archive_streams.specs.Pieces.{HasFewCalls, Reader}
 use Rattle.archive_streams.specs.Stopped.{IsInputFault}
 use Rattle.archive_streams.specs.declared.fault.MergeFault.{MergeFault}
 use Rattle.archive_streams.specs.declared.fault.MergeFault.TheVariants.{Left, Right, Read, Endless, Write, Memory}
@@ -33,6 +33,8 @@ pub record Halted (fault : MergeFault) (held : Held) (dl el dr er : Reader) (sta
   pub text : List ℕ
   pub left : Consumes dl.left el.left x
   pub right : Consumes dr.left er.left y
+  pub left_calls : HasFewCalls dl el
+  pub right_calls : HasFewCalls dr er
   pub prefix : IsPrefixOfUnion x y text
   pub short : length text < 2 ^ 64
   pub under_way : IsUnderWay fault held start now text

@@ -1,6 +1,6 @@
 -- Two archives on their way into one.
-use Rattle.std.specs.Prelude.{◌≡◌, ◌≢◌, ℕ, ◌+◌, ◌-◌, ◌^◌, ◌<◌, ◌≤◌, List, [], length, min, vec_capacity, Result, Ok}
-use Rattle.std.specs.Prelude.{Err}
+use Rattle.std.specs.Prelude.{◌≡◌, ◌≢◌, ℕ, ◌+◌, ◌-◌, ◌^◌, ◌<◌, ◌≤◌, ◌⊎◌, List, [], length, min, vec_capacity, Result}
+use Rattle.std.specs.Prelude.{Ok, Err}
 use Rattle.std.specs.declared.cmp.Ordering.{Ordering}
 use Rattle.std.specs.declared.cmp.Ordering.TheVariants.{Less, Equal, Greater}
 use Rattle.syslog_value.specs.Device.{count_on}
@@ -72,6 +72,18 @@ LeftFailures r old new = new ≡ old
 abbrev pub RightFailures : {X : Type 0} → Result X MergeFault → ℕ → ℕ → Type 0
 RightFailures (Err (Read side_Right)) old new = new ≡ count_on old
 RightFailures r old new = new ≡ old
+
+-- a reader failed where it is told, or where the writer failed then as what was held back was
+-- written; else it did not
+abbrev pub LeftReadFailed : {X : Type 0} → Result X MergeFault → ℕ → ℕ → Type 0
+LeftReadFailed (Err (Read side_Left)) old new = new ≡ count_on old
+LeftReadFailed (Err (Write sent)) old new = (new ≡ old) ⊎ (new ≡ count_on old)
+LeftReadFailed r old new = new ≡ old
+
+abbrev pub RightReadFailed : {X : Type 0} → Result X MergeFault → ℕ → ℕ → Type 0
+RightReadFailed (Err (Read side_Right)) old new = new ≡ count_on old
+RightReadFailed (Err (Write sent)) old new = (new ≡ old) ⊎ (new ≡ count_on old)
+RightReadFailed r old new = new ≡ old
 
 -- the writer failed where this fault is reported; else it did not
 abbrev pub WriteFailed : {X : Type 0} → Result X MergeFault → ℕ → ℕ → Type 0

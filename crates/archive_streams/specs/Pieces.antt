@@ -3,7 +3,7 @@ use Rattle.std.specs.Prelude.{◌≡◌, ℕ, ◌+◌, ◌-◌, ◌*◌, ◌^◌
 use Rattle.std.specs.Prelude.{Err}
 use Rattle.std.specs.Io.KnownBytes.{Consumes, IsAtEnd}
 use Rattle.syslog_value.specs.Device.{count_on}
-use Rattle.syslog_value.specs.declared.loops.TheConstants.{READ_MAX}
+use Rattle.syslog_value.specs.declared.loops.TheConstants.{READ_MAX, READER_CALLS}
 use Rattle.archive_streams.specs.declared.fault.InputFault.{InputFault}
 use Rattle.archive_streams.specs.declared.fault.InputFault.TheVariants.{Device, Endless}
 use Rattle.archive_streams.specs.declared.pieces.Pieces.{Pieces}
@@ -20,6 +20,10 @@ pub record Reader : Type 0 where
 
 abbrev pub device : Option (List ℕ) → ℕ → ℕ → Reader
 device left calls ends = record { left = left; calls = calls; ends = ends }
+
+-- a reader was called as often as it may be, at most
+abbrev pub HasFewCalls : Reader → Reader → Type 0
+HasFewCalls d e = d.calls < 2 ^ 63 → e.calls ≤ d.calls + READER_CALLS
 
 -- a reader gave octets, which follow those before; its calls and the ends that it gave were
 -- counted, where its own count cannot come to its last value; and behind an end nothing is left

@@ -7,7 +7,7 @@ use Rattle.archive_text.specs.declared.fault.ArchiveFault.{ArchiveFault}
 use Rattle.archive_text.specs.declared.limits.TheConstants.{ENTRY_MAX}
 use Rattle.archive_streams.specs.Joining.{IsFirstAbove, IsFirstWithin, IsPrefixOfUnion, IsUpToFirst}
 use Rattle.archive_text.specs.Positions.{position_of}
-use Rattle.archive_streams.specs.Pieces.{Reader}
+use Rattle.archive_streams.specs.Pieces.{HasFewCalls, Reader}
 use Rattle.archive_streams.specs.declared.fault.MergeFault.{MergeFault}
 use Rattle.archive_streams.specs.declared.fault.MergeFault.TheVariants.{Left, Right, Read, Endless, Write, Memory}
 use Rattle.archive_streams.specs.declared.fault.Side.TheVariants.{Left as side_Left, Right as side_Right}
@@ -54,6 +54,8 @@ pub record Stopped (fault : MergeFault) (dl el dr er : Reader) (taken_old taken_
   pub written : List ℕ
   pub left : Consumes dl.left el.left x
   pub right : Consumes dr.left er.left y
+  pub left_calls : HasFewCalls dl el
+  pub right_calls : HasFewCalls dr er
   pub taken : Appends taken_old taken_new written
   pub prefix : IsPrefixOfUnion x y written
   pub input : IsInputFault fault dl el dr er x y written

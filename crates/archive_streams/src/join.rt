@@ -6,7 +6,8 @@ ghost use Rattle.archive_streams.specs.Halted.{Halted, IsNotWrite};
 ghost use Rattle.archive_streams.specs.Joined.{Joined};
 ghost use Rattle.archive_streams.specs.Joins.{BothDue, Merging};
 ghost use Rattle.archive_streams.specs.Merging.{HasRoom, IsLeftDue, IsNextOrder, IsSteady};
-ghost use Rattle.archive_streams.specs.Merging.{LeftFailures, RightFailures, WriteFailed};
+ghost use Rattle.archive_streams.specs.Merging.{LeftFailures, LeftReadFailed, OnlyWrite};
+ghost use Rattle.archive_streams.specs.Merging.{RightFailures, RightReadFailed, WriteFailed};
 ghost use Rattle.archive_streams.specs.Merging.{height, rank};
 ghost use Rattle.archive_streams.specs.Pieces.{Reader, device};
 ghost use Rattle.archive_streams.specs.Stopped.{Stopped};
@@ -131,6 +132,7 @@ impl Merge {
             Halted fault self.old.held dl el dr er start (W.taken writer.old) →
             Stopped write dl el dr er start (W.taken writer.new)) }
         ensures failures { WriteFailed result (W.failures writer.old) (W.failures writer.new) }
+        ensures only { OnlyWrite result }
         ensures not_left { ¬ (IsErrOf result (MergeFault.Read Side.Left)) }
         ensures not_right { ¬ (IsErrOf result (MergeFault.Read Side.Right)) }
         ensures not_memory { ¬ (IsErrOf result MergeFault.Memory) }
@@ -166,6 +168,8 @@ impl Merge {
             Stopped fault dl (device (R1.left left.new) (R1.calls left.new) (R1.ends left.new)) dr
             (device (R2.left right.new) (R2.calls right.new) (R2.ends right.new))
             start (W.taken writer.new)) }
+        ensures left { LeftReadFailed result (R1.failures left.old) (R1.failures left.new) }
+        ensures right { RightReadFailed result (R2.failures right.old) (R2.failures right.new) }
         ensures read_left { R1.failures left.old < 2 ^ 63 →
             IsErrOf result (MergeFault.Read Side.Left) →
             R1.failures left.old < R1.failures left.new }
@@ -191,10 +195,13 @@ impl Merge {
 /// Joins two archives, each the text of a set of records, into the text of the union. Answers how
 /// many entries that has.
 ///
-/// Room for three entries is reserved first; no further memory is taken. An entry of the left is
-/// read, then one of the right. The lesser is written, or an equal pair once, and then the next one
-/// of each input that was written is read, the left first. The first fault that is met in this
-/// order is the answer, and what is held back is written before it.
+/// Room for three entries is reserved first, for each `ENTRY_MAX` octets and 11 for its length and
+/// space; no further memory is taken. In itself the call has a piece of `READ_MAX` octets for each
+/// reader, and 16,384 octets that are held back, so that they leave by large pieces.
+///
+/// An entry of the left is read, then one of the right. The lesser is written, or an equal pair
+/// once, and then the next one of each input that was written is read, the left first. The first
+/// fault that is met in this order is the answer, and what is held back is written before it.
 pub fn merge_streams<R1: Input, R2: Input, W: Output>(
     alloc: Global,
     left: &mut R1,
@@ -225,6 +232,8 @@ pub fn merge_streams<R1: Input, R2: Input, W: Output>(
         IsErrOf result (MergeFault.Read Side.Right) →
         R2.failures right.old < R2.failures right.new }
     ensures writer { WriteFailed result (W.failures writer.old) (W.failures writer.new) }
+    ensures left { LeftReadFailed result (R1.failures left.old) (R1.failures left.new) }
+    ensures right { RightReadFailed result (R2.failures right.old) (R2.failures right.new) }
 
     // out of memory only before anything is read or written
     ensures memory { IsErrOf result MergeFault.Memory → (left.new ≡ left.old)

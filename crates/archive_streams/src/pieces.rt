@@ -1,6 +1,6 @@
 //! What a reader gave and was not yet used.
 
-ghost use Rattle.std.specs.Prelude.{◌≡◌, ◌≤◌, ◌<◌, ◌+◌, ◌++◌, [], length, drop, false};
+ghost use Rattle.std.specs.Prelude.{◌≡◌, ◌≤◌, ◌<◌, ◌+◌, ◌++◌, [], length, drop, take, false};
 ghost use Rattle.std.specs.Prelude.{IfOk, IsTrue, IsErrOf, vec_capacity, vec_len};
 ghost use Rattle.syslog_value.specs.declared.loops.TheConstants.{READ_MAX, READER_CALLS};
 
@@ -45,16 +45,6 @@ impl Pieces {
         ensures { result.now ≡ unused self.now }
     {
         &self.piece[self.start..self.end]
-    }
-
-    /// Uses octets.
-    pub fn skip(&mut self, used: usize)
-        requires { used ≤ length (unused self.old) }
-        ensures unused { unused self.new ≡ drop used (unused self.old) }
-        ensures calls { self.new.calls ≡ self.old.calls }
-        ensures ends { self.new.ends ≡ self.old.ends }
-    {
-        self.start += used;
     }
 
     /// Calls the reader where all octets are used, and says whether there are any then. At the end
@@ -121,11 +111,23 @@ impl Pieces {
         if !self.fill(reader)? {
             return Ok(false);
         }
-        let rest = self.rest();
-        let used = rest.len().min(most);
-        append(text, &rest[..used]);
-        self.skip(used);
+        let used = self.rest().len().min(most);
+        self.move_behind(text, used);
         Ok(true)
+    }
+
+    /// Moves so many octets behind a text.
+    pub fn move_behind(&mut self, text: &mut Vec<u8>, used: usize)
+        requires within { used ≤ length (unused self.old) }
+        requires room { vec_len text.old + used ≤ vec_capacity text.old }
+        ensures text { text.new.items ≡ text.old.items ++ take used (unused self.old) }
+        ensures unused { unused self.new ≡ drop used (unused self.old) }
+        ensures calls { self.new.calls ≡ self.old.calls }
+        ensures ends { self.new.ends ≡ self.old.ends }
+        ensures room { vec_capacity text.old ≤ vec_capacity text.new }
+    {
+        append(text, &self.rest()[..used]);
+        self.start += used;
     }
 }
 

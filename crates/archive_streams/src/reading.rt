@@ -6,7 +6,7 @@ ghost use Rattle.std.specs.Prelude.{vec_capacity, vec_len};
 ghost use Rattle.syslog_frame.specs.MsgLen.{MsgLen as Counts};
 ghost use Rattle.archive_streams.specs.Pieces.{ReadsOn, device, unused};
 ghost use Rattle.archive_streams.specs.Counting.{IsStep, IsUnfinished};
-ghost use Rattle.archive_streams.specs.EntryTexts.{HasCounted, HoldsEntry};
+ghost use Rattle.archive_streams.specs.EntryTexts.{HasCounted, HoldsEntry, IsCounted};
 ghost use Rattle.archive_streams.specs.Faults.{IsSideFault, SideFailures};
 
 use crate::entry::{COUNT_TEXT, EntryText, TEXT_MAX};
@@ -133,6 +133,88 @@ fn read_octets<R: Input>(
     Ok(())
 }
 
+/// Takes the text of an entry that lies whole in what the reader gave last, and answers where its
+/// octets begin.
+fn take_whole(pieces: &mut Pieces, text: &mut Vec<u8>) -> Option<usize>
+    requires empty { text.old.items ≡ [] }
+    requires room { TEXT_MAX ≤ vec_capacity text.old }
+    ensures kept { text.new.items ++ unused pieces.new ≡ unused pieces.old }
+    ensures calls { pieces.new.calls ≡ pieces.old.calls }
+    ensures ends { pieces.new.ends ≡ pieces.old.ends }
+    ensures room { vec_capacity text.old ≤ vec_capacity text.new }
+    ensures some { IfSome result (λ start. IsCounted start text.new.items) }
+    ensures none { IsNone result → text.new.items ≡ [] }
+{
+    let rest = pieces.rest();
+    let MsgLen::Whole { count, used } = msg_len(rest) else {
+        return None;
+    };
+    let size = used + count as usize;
+    if size > rest.len() {
+        return None;
+    }
+    pieces.move_behind(text, size);
+    Some(used)
+}
+
+/// Reads the text of an entry that is cut, piece by piece, or finds the end before it. Answers where
+/// its octets begin.
+fn read_cut<R: Input>(
+    pieces: &mut Pieces,
+    reader: &mut R,
+    text: &mut Vec<u8>,
+) -> Result<Option<usize>, SideFault>
+    requires empty { text.old.items ≡ [] }
+    requires room { TEXT_MAX ≤ vec_capacity text.old }
+    ensures reads { ReadsOn pieces.old pieces.new
+        (device (R.left reader.old) (R.calls reader.old) (R.ends reader.old))
+        (device (R.left reader.new) (R.calls reader.new) (R.ends reader.new))
+        (unused pieces.old) (text.new.items ++ unused pieces.new) }
+    ensures failures { SideFailures result (R.failures reader.old) (R.failures reader.new) }
+    ensures room { vec_capacity text.old ≤ vec_capacity text.new }
+    ensures counted { IfOk result (λ found. IfSome found (λ start. IsCounted start text.new.items)) }
+    ensures end { IfOk result (λ found. IsNone found →
+        (text.new.items ≡ []) × (unused pieces.new ≡ []) × (0 < pieces.new.ends)) }
+    ensures fault { IfErr result (λ fault.
+        IsSideFault fault (text.new.items ++ unused pieces.new) pieces.new) }
+{
+    let Some(count) = read_count(pieces, reader, text)? else {
+        return Ok(None);
+    };
+    if count > ENTRY_MAX as u64 {
+        return Err(SideFault::Archive(ArchiveFault::EntryTooLong { at: 0 }));
+    }
+    let start = text.len();
+    read_octets(pieces, reader, text, count as usize)?;
+    Ok(Some(start))
+}
+
+/// Reads the text of an entry, or finds the end before it. Answers where its octets begin.
+fn read_text<R: Input>(
+    pieces: &mut Pieces,
+    reader: &mut R,
+    text: &mut Vec<u8>,
+) -> Result<Option<usize>, SideFault>
+    requires empty { text.old.items ≡ [] }
+    requires room { TEXT_MAX ≤ vec_capacity text.old }
+    ensures reads { ReadsOn pieces.old pieces.new
+        (device (R.left reader.old) (R.calls reader.old) (R.ends reader.old))
+        (device (R.left reader.new) (R.calls reader.new) (R.ends reader.new))
+        (unused pieces.old) (text.new.items ++ unused pieces.new) }
+    ensures failures { SideFailures result (R.failures reader.old) (R.failures reader.new) }
+    ensures room { vec_capacity text.old ≤ vec_capacity text.new }
+    ensures counted { IfOk result (λ found. IfSome found (λ start. IsCounted start text.new.items)) }
+    ensures end { IfOk result (λ found. IsNone found →
+        (text.new.items ≡ []) × (unused pieces.new ≡ []) × (0 < pieces.new.ends)) }
+    ensures fault { IfErr result (λ fault.
+        IsSideFault fault (text.new.items ++ unused pieces.new) pieces.new) }
+{
+    match take_whole(pieces, text) {
+        Some(start) => Ok(Some(start)),
+        None => read_cut(pieces, reader, text),
+    }
+}
+
 /// Reads the next entry, or finds the end before it.
 pub fn read_entry<R: Input>(
     pieces: &mut Pieces,
@@ -153,15 +235,11 @@ pub fn read_entry<R: Input>(
         IsSideFault fault (entry.new.text.items ++ unused pieces.new) pieces.new) }
 {
     entry.text.clear();
-    let Some(count) = read_count(pieces, reader, &mut entry.text)? else {
+    let Some(start) = read_text(pieces, reader, &mut entry.text)? else {
         return Ok(false);
     };
-    if count > ENTRY_MAX as u64 {
-        return Err(SideFault::Archive(ArchiveFault::EntryTooLong { at: 0 }));
-    }
-    entry.start = entry.text.len();
-    read_octets(pieces, reader, &mut entry.text, count as usize)?;
-    let (_, octets) = entry.text.split_at(entry.start);
+    entry.start = start;
+    let (_, octets) = entry.text.split_at(start);
     match instant_of(octets) {
         Ok(instant) => {
             entry.instant = instant;

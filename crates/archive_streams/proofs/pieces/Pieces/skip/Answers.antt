@@ -1,5 +1,0 @@
-use Rattle.archive_streams.proofs.Giving.{used_of}
-use Rattle.archive_streams.proofs.pieces.Pieces.skip.Goals as goal
-
-pub returns-clause-unused : goal.returns-clause-unused
-returns-clause-unused c = used_of c.args.self.now.start c.args.self.now.end c.args.used c.args.self.now.piece c.requires
