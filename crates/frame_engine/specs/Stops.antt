@@ -33,6 +33,11 @@ abbrev pub ReadsUpTo : InputFraming → ℕ → ℕ → Option (List ℕ) → Op
 ReadsUpTo Datagram calls_old calls_new left_old left_new = ⊤
 ReadsUpTo (Stream kind) calls_old calls_new left_old left_new = StopsReading kind calls_old calls_new left_old left_new
 
+-- a stream's reader failed after octets that go on: each call may fail, so none comes after a bad count
+abbrev pub FailsBehind : InputFraming → Option (List ℕ) → Option (List ℕ) → Type 0
+FailsBehind Datagram left_old left_new = ⊤
+FailsBehind (Stream kind) left_old left_new = (given : List ℕ) × Consumes left_old left_new given × GoesOn kind given
+
 -- a stream was not read to its end: all whole frames that the reader gave were handled, and what
 -- comes of them was written, but for what is left to write
 pub record IsStopped (D : Handling) (kind : Framing)

@@ -8,7 +8,7 @@ ghost use Rattle.syslog_value.specs.Device.{AreSmall};
 ghost use Rattle.frame_engine.specs.Pending.{done_of};
 ghost use Rattle.frame_engine.specs.Handling.{HasOneOutput, nothing};
 ghost use Rattle.frame_engine.specs.Scans.{IsCause};
-ghost use Rattle.frame_engine.specs.Stops.{IsStopped, ReadsUpTo, StopsReading, StopsWith, WritesLast};
+ghost use Rattle.frame_engine.specs.Stops.{FailsBehind, IsStopped, ReadsUpTo, StopsReading, StopsWith, WritesLast};
 ghost use Rattle.frame_engine.specs.Streams.{AnswersWith, InputDone, IsAnswered, IsBegun, Moves};
 ghost use Rattle.frame_engine.specs.Streams.{StreamDone, WritesPrefixOf, status_of};
 ghost use Rattle.frame_engine.specs.declared.input_framing.InputFraming.TheVariants.{Datagram, Stream};
@@ -182,6 +182,8 @@ pub fn handle_stream<D: FrameHandler, R: Input, W: Output, N: Output>(
     ensures reads { AreSmall (R.calls reader.old) (R.failures reader.old) →
         StopsReading framing (R.calls reader.old) (R.calls reader.new)
         (R.left reader.old) (R.left reader.new) }
+    ensures good { R.failures reader.old < R.failures reader.new →
+        FailsBehind (Stream framing) (R.left reader.old) (R.left reader.new) }
 {
     let mut scanner = Scanner::new(alloc, framing)?;
     let mut number = 1;
@@ -343,6 +345,8 @@ fn scan_stream<D: FrameHandler, R: Input, W: Output, N: Output>(
     ensures reads { AreSmall (R.calls reader.old) (R.failures reader.old) →
         StopsReading framing (R.calls reader.old) (R.calls reader.new)
         (R.left reader.old) (R.left reader.new) }
+    ensures good { R.failures reader.old < R.failures reader.new →
+        FailsBehind (Stream framing) (R.left reader.old) (R.left reader.new) }
     ensures read_fault { W.failures writer.old < 2 ^ 63 → N.failures notes.old < 2 ^ 63 →
         R.failures reader.old < R.failures reader.new →
         W.failures writer.new ≡ W.failures writer.old →
@@ -500,6 +504,8 @@ pub fn scan_input<D: FrameHandler, R: Input, W: Output, N: Output>(
     ensures reads { AreSmall (R.calls reader.old) (R.failures reader.old) →
         ReadsUpTo input_framing (R.calls reader.old) (R.calls reader.new)
         (R.left reader.old) (R.left reader.new) }
+    ensures good { R.failures reader.old < R.failures reader.new →
+        FailsBehind input_framing (R.left reader.old) (R.left reader.new) }
     ensures read_fault { W.failures writer.old < 2 ^ 63 → N.failures notes.old < 2 ^ 63 →
         R.failures reader.old < R.failures reader.new →
         W.failures writer.new ≡ W.failures writer.old →

@@ -1,8 +1,10 @@
 -- How much of a piece an advance takes.
 use Rattle.std.proofs.Common.{◌≡◌, ℕ, ◌+◌, ◌<◌, List, [], ◌∷◌, ◌++◌, length, get_or, take, inl, inr, sym, ap, subst}
-use Rattle.std.proofs.Common.{arith}
+use Rattle.std.proofs.Common.{◌∙◌, arith}
+use Rattle.std.proofs.lemmas.List.{length-append}
 use Rattle.std.specs.Prelude.{◌⊎◌, Option, Some, None, Result, IfSome}
 use Rattle.syslog_frame.specs.Scan.{Scan, HasBadCount, HasReady, IsFailed, IsReading, Stands as scanner_Stands}
+use Rattle.syslog_frame.specs.Frames.{framed}
 use Rattle.syslog_frame.specs.Takes.{Takes}
 use Rattle.syslog_frame.specs.declared.framing.Framing.{Framing}
 use Rattle.syslog_frame.specs.declared.limits.TheConstants.{FRAME_MAX, POSITION_MAX}
@@ -17,10 +19,10 @@ use Rattle.syslog_collect.specs.declared.fault.CollectFault.{CollectFault}
 use Rattle.syslog_collect.specs.declared.outcome.Outcome.{Outcome}
 use Rattle.syslog_collect.specs.declared.outcome.Outcome.TheVariants.{New, Held, Refused, RefusedLegacy, TooLong}
 use Rattle.syslog_collect.specs.declared.outcome.Outcome.TheVariants.{BadCount}
-use Rattle.syslog_collect.specs.Answers.{ComesInTurn, IsTaken, IsWholeWith, StopsRight}
+use Rattle.syslog_collect.specs.Answers.{ComesInTurn, EndsFrameWith, IsTaken, IsWholeWith, StopsRight}
 use Rattle.syslog_collect.specs.History.{AcceptedEvent, Stream, history_of, stream_of}
 use Rattle.syslog_collect.specs.Logs.{ready_count, waiting}
-use Rattle.syslog_collect.specs.Outcomes.{HandlesFrame, HandlesReady}
+use Rattle.syslog_collect.specs.Outcomes.{HandlesFrame, HandlesReady, HasRecord}
 use Rattle.syslog_collect.specs.Standing.{IsAt, IsOpenAt, Stands}
 use Rattle.syslog_collect.proofs.Moving.{IsPushed, ended_or_not, open_unless_failed, position_of}
 use Rattle.syslog_collect.proofs.Places.{found_here, opening_at, place_from}
@@ -92,6 +94,22 @@ pub stops_right : (clock : Clock) (old : Connection) (mid : Scan) (a b : List En
     → ¬ (HasBadCount old.scanner) → Takes kind q piece n mid) → IsAt old s handled → StopsRight piece n o s
 stops_right clock old mid a b piece n o s handled p h takes at =
     stops_open clock old mid a b piece n s handled (open_unless_failed old s handled p.live at) p o h takes
+
+-- octets that were pushed are all of the frame that is ready
+pub ends_frame : (clock : Clock) (c : Connection) (mid : Scan) (s : Stream) (handled : List (List ℕ))
+    (piece : List ℕ) (n : ℕ) → IsPushed c.scanner mid piece n → HasRecord clock mid → IsAt c s handled
+    → EndsFrameWith (take n piece) s
+ends_frame clock c mid s handled piece n p record_ready at =
+    let here = open_unless_failed c s handled p.live at in
+    let on = (p.reads s.framing 0 s.octets handled here.rest here.reads here.good).reads in
+    let f = record_ready s.framing 0 (s.octets ++ take n piece) handled (here.rest ++ take n piece) on in
+    let all : length here.rest + length (take n piece) ≡ length (framed s.framing f.0) =
+    sym (length-append here.rest (take n piece)) ∙ ap (λ (u : List ℕ). length u) f.1.1 in (
+      handled,
+      f.0,
+      frames_with FRAME_MAX mid s.framing 0 (s.octets ++ take n piece) handled (here.rest ++ take n piece) f.0 on f.1,
+      omega (arith, all),
+    )
 
 -- what is taken at the connection that was found
 pub taken_found : (clock : Clock) (c n : ℕ) (x : Connection) (ls : List Connection) (kept first : List Entry)

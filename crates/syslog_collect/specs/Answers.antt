@@ -1,7 +1,7 @@
 -- What the collector's calls accept, by their answers.
 use Rattle.std.specs.Prelude.{◌≡◌, ◌⊎◌, ℕ, ◌+◌, ◌<◌, ◌≤◌, List, [], ◌∷◌, ◌++◌, length, take}
 use Rattle.std.specs.Prelude.{Option, Some, None, Result, Ok, Err, IsSome, IsSomeAnd}
-use Rattle.syslog_frame.specs.Frames.{Frames, IsBadAt}
+use Rattle.syslog_frame.specs.Frames.{Frames, IsBadAt, framed}
 use Rattle.syslog_frame.specs.declared.framing.Framing.{Framing}
 use Rattle.syslog_frame.specs.declared.limits.TheConstants.{POSITION_MAX}
 use Rattle.archive_text.specs.Entries.{Entry}
@@ -138,6 +138,11 @@ ComesInTurn piece waits n s = ((waits ≡ 1) × (n ≡ 0)) ⊎ ((waits ≡ 0) ×
 abbrev pub IsWholeWith : List ℕ → Stream → Type 0
 IsWholeWith o s = (frames : List (List ℕ)) × Frames s.framing (s.octets ++ o) frames []
 
+-- with octets more, all of them of one frame, an opening is whole frames
+abbrev pub EndsFrameWith : List ℕ → Stream → Type 0
+EndsFrameWith o s = (frames : List (List ℕ)) × (f : List ℕ)
+    × Frames s.framing (s.octets ++ o) (frames ++ f ∷ []) [] × (length o ≤ length (framed s.framing f))
+
 -- where n octets of a piece stop at an opening, by what became of them: at the end of a frame; before a bad octet,
 -- which is
 -- at this offset; else at the end of the piece
@@ -153,7 +158,7 @@ StopsRight piece n (Some (BadCount at)) s = at ≡ length s.octets + n
 -- how much of a piece an advance takes at an opening where so many frames wait
 abbrev pub IsTaken : List ℕ → ℕ → Result Advance CollectFault → Stream → Type 0
 IsTaken piece waits (Ok a) s = ComesInTurn piece waits a.used s × StopsRight piece a.used a.outcome s
-IsTaken piece waits (Err (Memory n)) s = ComesInTurn piece waits n s
+IsTaken piece waits (Err (Memory n)) s = ComesInTurn piece waits n s × EndsFrameWith (take n piece) s
 IsTaken piece waits (Err StreamTooLong) s = waits ≡ 0
 IsTaken piece waits (Err ConnFailed) s = Unit {0}
 IsTaken piece waits (Err NotOpen) s = Unit {0}

@@ -1,6 +1,7 @@
 //! The collector: streams in pieces, and datagrams, into a set of records.
 
-ghost use Rattle.std.specs.Prelude.{◌≡◌, ◌⊎◌, ◌↔◌, ◌++◌, ◌==◌, ℕ, List, [], IfErr, IfOk, IfSome, OnErr, OnOk};
+ghost use Rattle.std.specs.Prelude.{◌≡◌, ◌≤◌, ◌⊎◌, ◌↔◌, ◌++◌, ◌==◌, ℕ, List, [], IfErr, IfOk, IfSome, OnErr, OnOk};
+ghost use Rattle.std.specs.Prelude.{vec_capacity};
 ghost use Rattle.std.specs.List.{position_from};
 ghost use Rattle.archive_text.specs.Entries.{Entry, Has};
 ghost use Rattle.archive_text.specs.Text.{IsArchive, text_of};
@@ -54,6 +55,7 @@ impl<S: Store> Collector<S> {
         ensures settled { IfOk result (λ c. IsSettled c.connections.items) }
         ensures clock { IfOk result (λ c. c.clock ≡ clock) }
         ensures back { IfErr result (λ s. s ≡ store) }
+        ensures room { IfOk result (λ c. CONNECTIONS_MAX ≤ vec_capacity c.connections) }
     {
         match Vec::with_capacity(alloc, CONNECTIONS_MAX) {
             Ok(connections) => Ok(Collector {
@@ -91,6 +93,7 @@ impl<S: Store> Collector<S> {
         ensures err { OnErr result (self.new.connections.items ≡ self.old.connections.items) }
         ensures store { self.new.store ≡ self.old.store }
         ensures clock { self.new.clock ≡ self.old.clock }
+        ensures room { vec_capacity self.old.connections ≤ vec_capacity self.new.connections }
     {
         if place(&self.connections, conn).is_some() {
             return Err(CollectFault::AlreadyOpen);
@@ -127,7 +130,8 @@ impl<S: Store> Collector<S> {
     ) -> Result<Advance, CollectFault>
         ensures within { IsUsedWithin piece.now result }
         // How much is taken: nothing while a frame waits, which is handled first; else all up to the
-        // end of a frame, or up to a bad octet, or the whole piece.
+        // end of a frame, or up to a bad octet, or the whole piece. Where memory was refused, all of
+        // it is of the frame that waits.
         ensures taken { (first : List Entry) (events : List AcceptedEvent)
             → Stands self.old.clock self.old.connections.items (S.entries self.old.store) first events
             → IfSome (stream_of conn (history_of events).streams)
@@ -161,6 +165,7 @@ impl<S: Store> Collector<S> {
             × (self.new.store ≡ self.old.store)) }
         ensures err { OnErr result (S.entries self.new.store ≡ S.entries self.old.store) }
         ensures clock { self.new.clock ≡ self.old.clock }
+        ensures room { vec_capacity self.old.connections ≤ vec_capacity self.new.connections }
         // After Ok no frame of the connection is left ready.
         ensures settled { OnOk result (IsSettled self.old.connections.items
             → IsSettled self.new.connections.items) }
@@ -189,6 +194,7 @@ impl<S: Store> Collector<S> {
         ensures err { OnErr result (S.entries self.new.store ≡ S.entries self.old.store) }
         ensures connections { self.new.connections.items ≡ self.old.connections.items }
         ensures clock { self.new.clock ≡ self.old.clock }
+        ensures room { vec_capacity self.old.connections ≤ vec_capacity self.new.connections }
         ensures spelled { OnErr result (IsRecordFrame self.old.clock octets.now) }
     {
         handle(alloc, self.clock, &mut self.store, octets)
@@ -224,6 +230,7 @@ impl<S: Store> Collector<S> {
             ≡ waiting self.old.connections.items d }
         ensures store { self.new.store ≡ self.old.store }
         ensures clock { self.new.clock ≡ self.old.clock }
+        ensures room { vec_capacity self.old.connections ≤ vec_capacity self.new.connections }
     {
         let at = match place(&self.connections, conn) {
             None => return Err(CollectFault::NotOpen),

@@ -41,6 +41,7 @@ impl<S: Store> Collector<S> {
         ensures settled { IfDone result (IsSettled self.old.connections.items
             → IsSettled self.new.connections.items) }
         ensures clock { self.new.clock ≡ self.old.clock }
+        ensures room { vec_capacity self.old.connections ≤ vec_capacity self.new.connections }
         ensures logged { (first : List Entry) (events : List AcceptedEvent)
             → Stands self.old.clock self.old.connections.items (S.entries self.old.store) first events
             → Grows (LogsPiece self.old.clock (history_of events) (waiting self.old.connections.items)
@@ -78,6 +79,7 @@ impl<S: Store> Collector<S> {
             (events ++ accepted_datagram_end octets.now result) }
         ensures connections { self.new.connections.items ≡ self.old.connections.items }
         ensures clock { self.new.clock ≡ self.old.clock }
+        ensures room { vec_capacity self.old.connections ≤ vec_capacity self.new.connections }
         ensures logged { Grows (LogsDatagram self.old.clock octets.now result (S.entries self.old.store)
             (S.entries self.new.store)) log.old.items log.new.items }
         ensures cause { IfStopped result (λ taken fault. (taken ≡ 0) × (fault ≡ Memory 0)
@@ -104,6 +106,7 @@ impl<S: Store> Collector<S> {
         ensures settled { IfDone result (IsSettled self.old.connections.items
             → IsSettled self.new.connections.items) }
         ensures clock { self.new.clock ≡ self.old.clock }
+        ensures room { vec_capacity self.old.connections ≤ vec_capacity self.new.connections }
         ensures logged { (first : List Entry) (events : List AcceptedEvent)
             → Stands self.old.clock self.old.connections.items (S.entries self.old.store) first events
             → Grows (LogsEventEnd self.old.clock (history_of events) (waiting self.old.connections.items)
@@ -157,6 +160,7 @@ impl<S: Store> Collector<S> {
         ensures settled { IfAllDone result (IsSettled self.old.connections.items
             → IsSettled self.new.connections.items) }
         ensures clock { self.new.clock ≡ self.old.clock }
+        ensures room { vec_capacity self.old.connections ≤ vec_capacity self.new.connections }
         // The log has the outcomes in the order in which the frames' last octets came: of a run
         // that stops too, where a frame for which memory was refused waits for the next call.
         ensures logged { (first : List Entry) (before : List AcceptedEvent)

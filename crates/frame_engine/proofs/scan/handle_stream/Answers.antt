@@ -7,7 +7,7 @@ use Rattle.frame_engine.specs.Streams.{written_out}
 use Rattle.frame_engine.proofs.ScanLemmas.{streaming_more, streaming_moved, streaming_still, answered_end, answered_bad}
 use Rattle.frame_engine.proofs.ScanLemmas.{begun_streaming, begun_same, begun_flush, begun_piece, begun_bad}
 use Rattle.frame_engine.proofs.ScanLemmas.{begun_nothing}
-use Rattle.frame_engine.proofs.StopLemmas.{call_more, nothing_goes_on, stops_at, streaming_stopped}
+use Rattle.frame_engine.proofs.StopLemmas.{call_more, nothing_goes_on, stops_at, streaming_goes_on, streaming_stopped}
 use Rattle.frame_engine.proofs.scan.handle_stream.Goals as goal
 
 pub returns-in_err-scanner-clause-err : goal.returns-in_err-scanner-clause-err
@@ -170,6 +170,14 @@ returns-in_err-flush_due-clause-reads g c = λ small.
     (call_more _ _ _ _ (i.calls small) c.read.ensures.calls) c.in-Ok.ensures.octets.0 (grind (arith, common_steps))
 
 -- ---- the reader failed, or gave no end
+
+pub returns-in_default-clause-good : goal.returns-in_default-clause-good
+returns-in_default-clause-good g c = λ _.
+    let i = c.loop-turn.invariant in (
+      i.streaming.given,
+      Consumes-kept _ _ _ _ i.streaming.consumed c.in_default.ensures.octets,
+      streaming_goes_on _ _ c.loop-turn.scanner _ _ _ _ _ _ _ (done_of c.loop-turn.done) i.streaming i.reading,
+    )
 
 pub returns-in_default-clause-stopped : goal.returns-in_default-clause-stopped
 returns-in_default-clause-stopped g c = λ _.

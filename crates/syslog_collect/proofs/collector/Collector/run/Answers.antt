@@ -55,6 +55,7 @@ pub loop-at-init : goal.loop-at-init
 loop-at-init g c = record {
   stands = λ first before was. rw append-nil was;
   clock = refl;
+  room = omega arith;
   log = λ first before was. grows_none c.args.self.now.clock (history_of before) _ _ _;
   ends = λ first before was. tt;
   settled = λ h. h;
@@ -101,6 +102,7 @@ loop-at-preserved g c = record {
       end_well-next (history_of before) es n (Opened 0 Counted) here (c.loop-at.invariant.ends first before was)
       (subst (λ (h : History). EndsWell h e) (history_after-append initial before so_far)
       (c.in_default.ensures.ends first (before ++ so_far) (c.loop-at.invariant.stands first before was)));
+  room = omega (arith, c.loop-at.invariant.room, c.in_default.ensures.room);
   clock = c.run_event.ensures.clock ∙ c.loop-at.invariant.clock;
   settled = λ h. c.in_default.ensures.settled (c.loop-at.invariant.settled h);
 }

@@ -1,4 +1,5 @@
-use Rattle.std.proofs.Common.{◌≡◌, List, ◌++◌, take}
+use Rattle.std.proofs.Common.{◌≡◌, ◌≤◌, List, ◌++◌, take}
+use Rattle.std.specs.Prelude.{vec_capacity}
 use Rattle.archive_text.specs.Entries.{Entry}
 use Rattle.syslog_collect.specs.Headline.{IsSettled}
 use Rattle.syslog_collect.specs.History.{AcceptedEvent, history_of}
@@ -24,5 +25,6 @@ invariant-loop-at g l = record {
       Stands l.fn.self.clock l.fn.self.connections.items (g.S.Store.entries l.fn.self.store) first before
       → EndWell (history_of before) (take l.at l.events);
   clock : l.self.clock ≡ l.fn.self.clock;
+  room : vec_capacity l.fn.self.connections ≤ vec_capacity l.self.connections;
   settled : IsSettled l.fn.self.connections.items → IsSettled l.self.connections.items;
 }
