@@ -1,5 +1,5 @@
 -- The lines on what is refused.
-use Rattle.std.specs.Prelude.{ℕ, List, [], ◌∷◌, ◌++◌, Bool, true, false}
+use Rattle.std.specs.Prelude.{◌≡◌, ℕ, ◌<◌, List, [], ◌∷◌, ◌++◌, length, take, Bool, true, false, Result, Ok, Err}
 use Rattle.syslog_value.specs.Device.{count_on}
 use Rattle.syslog_collect.specs.declared.outcome.Outcome.{Outcome}
 use Rattle.syslog_collect.specs.declared.outcome.Outcome.TheVariants.{New, Held, Refused, RefusedLegacy, TooLong}
@@ -7,6 +7,8 @@ use Rattle.syslog_collect.specs.declared.outcome.Outcome.TheVariants.{BadCount}
 use Rattle.frame_engine.specs.Line.{line_text}
 use Rattle.frame_engine.specs.declared.line.Line.TheVariants as line
 use Rattle.collect_engine.specs.declared.receiving.Received.{Received}
+use Rattle.collect_engine.specs.declared.serve_end.Stopped.{Stopped}
+use Rattle.collect_engine.specs.declared.serve_end.Stopped.TheVariants as stopped
 use Rattle.collect_engine.specs.declared.receiving.Received.TheVariants as received
 
 -- the line on an outcome with this number: none, where it is a record
@@ -43,3 +45,12 @@ lines_on n os r = outcome_lines n os ++ end_line r
 abbrev pub has_some : List ℕ → Bool
 has_some [] = false
 has_some (x ∷ xs) = true
+
+-- these of the octets were noted: all; or only the first, where the notes could not be written; or none, where memory
+-- ran out
+abbrev pub NotesAs : {U : Type 0} → Result U Stopped → List ℕ → List ℕ → Type 0
+NotesAs (Ok u) octets told = told ≡ octets
+NotesAs (Err stopped.Notes) octets told = (k : ℕ) × (k < length octets) × (told ≡ take k octets)
+NotesAs (Err stopped.Memory) octets told = told ≡ []
+NotesAs (Err stopped.Step) octets told = ⊥
+NotesAs (Err stopped.Endless) octets told = ⊥

@@ -1,7 +1,12 @@
 //! `collect`: records from a source, as an archive.
-ghost use Rattle.std.specs.Prelude.{◌≡◌, ◌≢◌, ◌≤◌, ◌<◌, ◌^◌, if◌then◌else◌};
+ghost use Rattle.std.specs.Prelude.{◌≡◌, ◌≢◌, ◌≤◌, ◌<◌, ◌^◌, ℕ, List, [], if◌then◌else◌};
 ghost use Rattle.std.specs.Io.KnownBytes.{Appends};
+ghost use Rattle.archive_text.specs.Entries.{Entry};
 ghost use Rattle.archive_text.specs.Text.{text_of};
+ghost use Rattle.syslog_collect.specs.History.{AcceptedEvent};
+ghost use Rattle.collect_engine.specs.Collecting.{Collects, IsArchiveOf};
+ghost use Rattle.collect_engine.specs.Serving.{Come};
+ghost use Rattle.collect_engine.specs.Steps.{Given};
 
 use crate::collect_words::CollectWords;
 use crate::serve_end::Stopped;
@@ -29,6 +34,8 @@ fn write_archive<S: Store, W: Output, N: Output>(
         (text_of (S.entries store.now)) }
     ensures quiet { W.failures writer.old < 2 ^ 63 → W.failures writer.new ≡ W.failures writer.old
         → N.failures notes.new ≡ N.failures notes.old }
+    ensures untold { W.failures writer.old < 2 ^ 63 → W.failures writer.new ≡ W.failures writer.old
+        → N.taken notes.new ≡ N.taken notes.old }
 {
     match store.write(writer) {
         Ok(()) => status,
@@ -91,6 +98,13 @@ fn collect_into<S: Store + Drop, R: Source, W: Output, N: Output>(
 ) -> u8
     ensures known { result ≤ 3 }
     ensures nothing { result ≡ NO_MEMORY → W.taken writer.new ≡ W.taken writer.old }
+    ensures collected { S.entries store ≡ [] → W.failures writer.old < 2 ^ 63
+        → W.failures writer.new ≡ W.failures writer.old → result ≢ NO_MEMORY
+        → (given : List Given) × (accepted : List AcceptedEvent) × (told : List ℕ) × (kept : List Entry)
+        × (R.steps source.old < 2 ^ 63 → Come (R.coming source.old) (R.coming source.new) given)
+        × Collects clock result given accepted told × IsArchiveOf clock accepted kept
+        × Appends (W.taken writer.old) (W.taken writer.new) (text_of kept)
+        × (result ≢ FAULT → Appends (N.taken notes.old) (N.taken notes.new) told) }
 {
     let Ok(mut collector) = Collector::new(alloc, store, clock) else {
         let _ = note(notes, b"want of memory\n", NO_MEMORY);
@@ -117,6 +131,15 @@ pub fn run_collect<R: Source, W: Output, N: Output>(
 ) -> u8
     ensures known { result ≤ 3 }
     ensures nothing { result ≡ NO_MEMORY → W.taken writer.new ≡ W.taken writer.old }
+    // Unless the writer fails or memory runs out, what came is written: the archive of just the records that were
+    // received, in the events that the steps were accepted as.
+    ensures collected { W.failures writer.old < 2 ^ 63
+        → W.failures writer.new ≡ W.failures writer.old → result ≢ NO_MEMORY
+        → (given : List Given) × (accepted : List AcceptedEvent) × (told : List ℕ) × (kept : List Entry)
+        × (R.steps source.old < 2 ^ 63 → Come (R.coming source.old) (R.coming source.new) given)
+        × Collects words.now.clock result given accepted told × IsArchiveOf words.now.clock accepted kept
+        × Appends (W.taken writer.old) (W.taken writer.new) (text_of kept)
+        × (result ≢ FAULT → Appends (N.taken notes.old) (N.taken notes.new) told) }
 {
     let store = PagedArchive::new(alloc);
     collect_into(alloc, store, words.clock, source, writer, notes)

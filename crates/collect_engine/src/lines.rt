@@ -1,8 +1,7 @@
 //! The lines on what is refused.
-ghost use Rattle.std.specs.Prelude.{◌≡◌, ◌++◌, IsErrOf, OnOk, false};
+ghost use Rattle.std.specs.Prelude.{◌≡◌, ◌++◌, ◌<◌, ◌^◌, ◌||◌, ℕ, List, IfErr, IsErrOf, OnOk, false};
 ghost use Rattle.std.specs.Io.KnownBytes.{Appends};
-ghost use Rattle.collect_engine.specs.Lines.{counted, lines_on, outcome_line};
-ghost use Rattle.collect_engine.specs.Lines.{outcome_lines};
+ghost use Rattle.collect_engine.specs.Lines.{NotesAs, counted, has_some, lines_on, outcome_line, outcome_lines};
 
 use crate::receiving::Received;
 use crate::serve_end::Stopped;
@@ -46,7 +45,9 @@ fn put_outcomes(
 }
 
 // Whether there is a line now, or was one before.
-fn has_line(before: bool, lines: &Vec<u8>) -> bool {
+fn has_line(before: bool, lines: &Vec<u8>) -> bool
+    ensures { result ≡ (before || has_some lines.now.items) }
+{
     before || !lines.is_empty()
 }
 
@@ -99,10 +100,14 @@ impl EventLines {
         received: Received,
         notes: &mut N,
     ) -> Result<(), Stopped>
-        ensures noted { OnOk result (Appends (N.taken notes.old) (N.taken notes.new)
-            (lines_on self.old.number self.old.outcomes.items received)) }
+        ensures noted { (told : List ℕ) × Appends (N.taken notes.old) (N.taken notes.new) told
+            × NotesAs result (lines_on self.old.number self.old.outcomes.items received) told }
         ensures number { OnOk result
             (self.new.number ≡ counted self.old.number self.old.outcomes.items) }
+        ensures refused { OnOk result (self.new.refused
+            ≡ (self.old.refused || has_some (lines_on self.old.number self.old.outcomes.items received))) }
+        ensures cause { N.failures notes.old < 2 ^ 63 → IsErrOf result Stopped.Notes
+            → N.failures notes.old < N.failures notes.new }
         ensures no_failure { OnOk result (N.failures notes.new ≡ N.failures notes.old) }
         ensures going { ¬ (IsErrOf result Stopped.Endless) }
     {

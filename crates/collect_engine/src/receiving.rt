@@ -1,5 +1,12 @@
 //! What a collector makes of an event.
-ghost use Rattle.std.specs.Prelude.{◌≡◌};
+ghost use Rattle.std.specs.Prelude.{◌≡◌, ◌++◌, List};
+ghost use Rattle.archive_text.specs.Entries.{Entry};
+ghost use Rattle.syslog_collect.specs.Headline.{IsSettled};
+ghost use Rattle.syslog_collect.specs.History.{AcceptedEvent, history_of};
+ghost use Rattle.syslog_collect.specs.Logs.{waiting};
+ghost use Rattle.syslog_collect.specs.Runs.{accepted_event};
+ghost use Rattle.syslog_collect.specs.Standing.{Stands};
+ghost use Rattle.collect_engine.specs.Receiving.{IfNotMemory, ReceivesAs, received_as};
 
 use archive_text::Store;
 use std::alloc::Global;
@@ -18,44 +25,14 @@ pub(crate) enum Received {
     Memory,
 }
 
-fn received_of(fault: CollectFault) -> Received {
+fn received_of(fault: CollectFault) -> Received
+    ensures { result ≡ received_as fault }
+{
     match fault {
         CollectFault::ConnFailed => Received::Accepted,
         CollectFault::Memory { .. } => Received::Memory,
         CollectFault::Unterminated { start } => Received::Unterminated { start },
         _ => Received::Refused,
-    }
-}
-
-// Runs the collector over an event, and keeps its outcomes alone.
-fn run_event<S: Store>(
-    alloc: Global,
-    collector: &mut Collector<S>,
-    event: Event<'_>,
-    outcomes: &mut Vec<Outcome>,
-) -> Received
-    ensures clock { collector.new.clock ≡ collector.old.clock }
-{
-    outcomes.clear();
-    let RunEnd::Stopped { fault, .. } = collector.run(alloc, &[event], outcomes) else {
-        return Received::Accepted;
-    };
-    let received = received_of(fault);
-    if received == Received::Memory {
-        return Received::Memory;
-    }
-    outcomes.clear();
-    received
-}
-
-// Ends a connection.
-fn end<S: Store>(collector: &mut Collector<S>, conn: u32) -> Received
-    ensures clock { collector.new.clock ≡ collector.old.clock }
-{
-    match collector.end_conn(conn) {
-        Ok(()) => Received::Accepted,
-        Err(CollectFault::Unterminated { start }) => Received::Unterminated { start },
-        Err(_) => Received::Refused,
     }
 }
 
@@ -66,11 +43,30 @@ pub(crate) fn receive<S: Store>(
     event: Event<'_>,
     outcomes: &mut Vec<Outcome>,
 ) -> Received
+    ensures received { (first : List Entry) (before : List AcceptedEvent)
+        → Stands collector.old.clock collector.old.connections.items (S.entries collector.old.store) first before
+        → (accepted : List AcceptedEvent)
+        × Stands collector.new.clock collector.new.connections.items (S.entries collector.new.store) first
+        (before ++ accepted)
+        × ReceivesAs collector.old.clock (history_of before) (waiting collector.old.connections.items)
+        (waiting collector.new.connections.items) (accepted_event event.entry) result outcomes.new.items
+        accepted }
+    ensures settled { (first : List Entry) (before : List AcceptedEvent)
+        → Stands collector.old.clock collector.old.connections.items (S.entries collector.old.store) first before
+        → IsSettled collector.old.connections.items
+        → IfNotMemory result (IsSettled collector.new.connections.items) }
     ensures clock { collector.new.clock ≡ collector.old.clock }
 {
-    if let Event::Ended { conn } = event {
-        outcomes.clear();
-        return end(collector, conn);
+    outcomes.clear();
+    match collector.run(alloc, &[event], outcomes) {
+        RunEnd::Done => Received::Accepted,
+        RunEnd::Stopped {
+            fault: CollectFault::Memory { .. },
+            ..
+        } => Received::Memory,
+        RunEnd::Stopped { fault, .. } => {
+            outcomes.clear();
+            received_of(fault)
+        }
     }
-    run_event(alloc, collector, event, outcomes)
 }

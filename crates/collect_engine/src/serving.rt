@@ -1,8 +1,20 @@
 //! A source is served: its steps go into a collector.
-ghost use Rattle.std.specs.Prelude.{◌≡◌, ◌+◌, ◌<◌, ◌^◌, IfOk, IsErrOf, OnOk, length, vec_len};
+ghost use Rattle.std.specs.Prelude.{◌≡◌, ◌+◌, ◌-◌, ◌<◌, ◌^◌, ◌++◌, ◌||◌, ℕ, List, Some};
+ghost use Rattle.std.specs.Prelude.{IfOk, IsErrOf, OnOk, length, vec_len};
+ghost use Rattle.std.specs.Io.KnownBytes.{Appends};
+ghost use Rattle.archive_text.specs.Entries.{Entry};
+ghost use Rattle.syslog_frame.specs.declared.limits.TheConstants.{FRAME_MAX};
+ghost use Rattle.syslog_collect.specs.Headline.{IsSettled};
+ghost use Rattle.syslog_collect.specs.History.{AcceptedEvent, history_of};
+ghost use Rattle.syslog_collect.specs.Logs.{waiting};
+ghost use Rattle.syslog_collect.specs.Runs.{accepted_event};
+ghost use Rattle.syslog_collect.specs.Standing.{Stands};
 ghost use Rattle.syslog_value.specs.Device.{count_on};
 ghost use Rattle.collect_engine.specs.Ends.{FinishesBy, IfEndDone, IsEventStep};
-ghost use Rattle.collect_engine.specs.Steps.{IsWithin};
+ghost use Rattle.collect_engine.specs.Lines.{has_some};
+ghost use Rattle.collect_engine.specs.Serving.{Come, EventServed, IfEnough, ServesTo, StepServed, StepsServed};
+ghost use Rattle.collect_engine.specs.Serving.{UnlessMemory, event_of};
+ghost use Rattle.collect_engine.specs.Steps.{Comes, Given, IsWithin, given_of};
 
 use crate::lines::EventLines;
 use crate::receiving::{Received, receive};
@@ -29,15 +41,55 @@ fn serve_event<S: Store, N: Output>(
     notes: &mut N,
     lines: &mut EventLines,
 ) -> Result<(), Stopped>
+    ensures served { (first : List Entry) (before : List AcceptedEvent)
+        → Stands collector.old.clock collector.old.connections.items (S.entries collector.old.store) first before
+        → (accepted : List AcceptedEvent) × (told : List ℕ)
+        × Stands collector.new.clock collector.new.connections.items (S.entries collector.new.store) first
+        (before ++ accepted)
+        × Appends (N.taken notes.old) (N.taken notes.new) told
+        × EventServed collector.old.clock (history_of before) (waiting collector.old.connections.items)
+        (waiting collector.new.connections.items) lines.old.number lines.new.number result
+        (accepted_event event.entry) accepted told
+        × OnOk result (lines.new.refused ≡ (lines.old.refused || has_some told)) }
+    ensures settled { (first : List Entry) (before : List AcceptedEvent)
+        → Stands collector.old.clock collector.old.connections.items (S.entries collector.old.store) first before
+        → IsSettled collector.old.connections.items
+        → UnlessMemory result (IsSettled collector.new.connections.items) }
+    ensures cause { N.failures notes.old < 2 ^ 63 → IsErrOf result Stopped.Notes
+        → N.failures notes.old < N.failures notes.new }
+    ensures no_failure { OnOk result (N.failures notes.new ≡ N.failures notes.old) }
     ensures going { ¬ (IsErrOf result Stopped.Endless) }
     ensures clock { collector.new.clock ≡ collector.old.clock }
 {
     let received = receive(alloc, collector, event, &mut lines.outcomes);
-    let written = lines.write(received, notes);
     match received {
-        Received::Accepted | Received::Unterminated { .. } => written,
+        Received::Accepted | Received::Unterminated { .. } => lines.write(received, notes),
         Received::Refused => Err(Stopped::Step),
-        Received::Memory => Err(Stopped::Memory),
+        Received::Memory => {
+            let _ = lines.write(received, notes);
+            Err(Stopped::Memory)
+        }
+    }
+}
+
+// The event of a step.
+fn event_of_step(step: Step, buf: &[u8]) -> Event<'_>
+    requires within { IsWithin (length buf.now) step }
+    requires event { IsEventStep step }
+    ensures { event_of (given_of step buf.now) ≡ Some (accepted_event result) }
+{
+    match step {
+        Step::Opened(framing) => Event::Opened {
+            conn: CONN,
+            framing,
+        },
+        Step::Piece(n) => Event::Piece {
+            conn: CONN,
+            octets: &buf[..n],
+        },
+        Step::Ended => Event::Ended { conn: CONN },
+        Step::Datagram(n) => Event::Datagram { octets: &buf[..n] },
+        Step::Finished | Step::Failed => unreachable!(),
     }
 }
 
@@ -52,22 +104,27 @@ fn serve_step<S: Store, N: Output>(
 ) -> Result<(), Stopped>
     requires within { IsWithin (length buf.now) step }
     requires event { IsEventStep step }
+    ensures served { (first : List Entry) (before : List AcceptedEvent)
+        → Stands collector.old.clock collector.old.connections.items (S.entries collector.old.store) first before
+        → (event : AcceptedEvent) × (accepted : List AcceptedEvent) × (told : List ℕ)
+        × (event_of (given_of step buf.now) ≡ Some event)
+        × Stands collector.new.clock collector.new.connections.items (S.entries collector.new.store) first
+        (before ++ accepted)
+        × Appends (N.taken notes.old) (N.taken notes.new) told
+        × EventServed collector.old.clock (history_of before) (waiting collector.old.connections.items)
+        (waiting collector.new.connections.items) lines.old.number lines.new.number result event accepted told
+        × OnOk result (lines.new.refused ≡ (lines.old.refused || has_some told)) }
+    ensures settled { (first : List Entry) (before : List AcceptedEvent)
+        → Stands collector.old.clock collector.old.connections.items (S.entries collector.old.store) first before
+        → IsSettled collector.old.connections.items
+        → UnlessMemory result (IsSettled collector.new.connections.items) }
+    ensures cause { N.failures notes.old < 2 ^ 63 → IsErrOf result Stopped.Notes
+        → N.failures notes.old < N.failures notes.new }
+    ensures no_failure { OnOk result (N.failures notes.new ≡ N.failures notes.old) }
     ensures going { ¬ (IsErrOf result Stopped.Endless) }
     ensures clock { collector.new.clock ≡ collector.old.clock }
 {
-    let event = match step {
-        Step::Opened(framing) => Event::Opened {
-            conn: CONN,
-            framing,
-        },
-        Step::Piece(n) => Event::Piece {
-            conn: CONN,
-            octets: &buf[..n],
-        },
-        Step::Ended => Event::Ended { conn: CONN },
-        Step::Datagram(n) => Event::Datagram { octets: &buf[..n] },
-        Step::Finished | Step::Failed => unreachable!(),
-    };
+    let event = event_of_step(step, buf);
     serve_event(alloc, collector, event, notes, lines)
 }
 
@@ -87,6 +144,24 @@ fn serve_next<S: Store, R: Source, N: Output>(
     notes: &mut N,
     lines: &mut EventLines,
 ) -> Result<bool, Stopped>
+    ensures served { (first : List Entry) (before : List AcceptedEvent)
+        → Stands collector.old.clock collector.old.connections.items (S.entries collector.old.store) first before
+        → (given : Given) × (accepted : List AcceptedEvent) × (told : List ℕ)
+        × (R.steps source.old < 2 ^ 64 - 1 → FRAME_MAX < length buf.new
+        → Comes (R.coming source.old) (R.coming source.new) given)
+        × Stands collector.new.clock collector.new.connections.items (S.entries collector.new.store) first
+        (before ++ accepted)
+        × Appends (N.taken notes.old) (N.taken notes.new) told
+        × StepServed collector.old.clock (history_of before) (waiting collector.old.connections.items)
+        (waiting collector.new.connections.items) lines.old.number lines.new.number result given accepted told
+        × OnOk result (lines.new.refused ≡ (lines.old.refused || has_some told)) }
+    ensures settled { (first : List Entry) (before : List AcceptedEvent)
+        → Stands collector.old.clock collector.old.connections.items (S.entries collector.old.store) first before
+        → IsSettled collector.old.connections.items
+        → UnlessMemory result (IsSettled collector.new.connections.items) }
+    ensures cause { N.failures notes.old < 2 ^ 63 → IsErrOf result Stopped.Notes
+        → N.failures notes.old < N.failures notes.new }
+    ensures no_failure { OnOk result (N.failures notes.new ≡ N.failures notes.old) }
     ensures steps { R.steps source.new ≡ count_on (R.steps source.old) }
     ensures finishes { FinishesBy result (R.finishes source.old) (R.finishes source.new) }
     ensures going { ¬ (IsErrOf result Stopped.Endless) }
@@ -112,6 +187,21 @@ pub(crate) fn serve_steps<S: Store, R: Source, N: Output>(
     source: &mut R,
     notes: &mut N,
 ) -> Result<bool, Stopped>
+    ensures served { (first : List Entry) (before : List AcceptedEvent)
+        → Stands collector.old.clock collector.old.connections.items (S.entries collector.old.store) first before
+        → (given : List Given) × (accepted : List AcceptedEvent) × (told : List ℕ)
+        × (R.steps source.old < 2 ^ 63 → Come (R.coming source.old) (R.coming source.new) given)
+        × Stands collector.new.clock collector.new.connections.items (S.entries collector.new.store) first
+        (before ++ accepted)
+        × Appends (N.taken notes.old) (N.taken notes.new) told
+        × StepsServed collector.old.clock (history_of before) (waiting collector.old.connections.items)
+        (waiting collector.new.connections.items) result given accepted told }
+    ensures settled { (first : List Entry) (before : List AcceptedEvent)
+        → Stands collector.old.clock collector.old.connections.items (S.entries collector.old.store) first before
+        → IsSettled collector.old.connections.items
+        → UnlessMemory result (IsSettled collector.new.connections.items) }
+    ensures cause { N.failures notes.old < 2 ^ 63 → IsErrOf result Stopped.Notes
+        → N.failures notes.old < N.failures notes.new }
     ensures endless { R.steps source.old < 2 ^ 63 → IsErrOf result Stopped.Endless
         → (R.steps source.new ≡ R.steps source.old + SERVE_TURNS)
         × (R.finishes source.new ≡ R.finishes source.old) }
@@ -119,12 +209,16 @@ pub(crate) fn serve_steps<S: Store, R: Source, N: Output>(
         → OnOk result (R.finishes source.old < R.finishes source.new) }
     ensures clock { collector.new.clock ≡ collector.old.clock }
 {
-    let mut buf = make_room(alloc)?;
+    let Ok(mut buf) = make_room(alloc) else {
+        return Err(Stopped::Memory);
+    };
     let mut lines = EventLines::new(alloc);
     for _turn in 0..SERVE_TURNS {
         let room = buf.as_mut_slice();
-        if serve_next(alloc, collector, source, room, notes, &mut lines)? {
-            return Ok(lines.refused);
+        match serve_next(alloc, collector, source, room, notes, &mut lines) {
+            Ok(false) => {}
+            Ok(true) => return Ok(lines.refused),
+            Err(stopped) => return Err(stopped),
         }
     }
     Err(Stopped::Endless)
@@ -142,6 +236,21 @@ pub fn serve<S: Store, R: Source, N: Output>(
     source: &mut R,
     notes: &mut N,
 ) -> ServeEnd
+    // Which steps came, which events they were accepted as, and which lines were noted.
+    ensures served { (first : List Entry) (before : List AcceptedEvent)
+        → Stands collector.old.clock collector.old.connections.items (S.entries collector.old.store) first before
+        → (given : List Given) × (accepted : List AcceptedEvent) × (told : List ℕ)
+        × (R.steps source.old < 2 ^ 63 → Come (R.coming source.old) (R.coming source.new) given)
+        × Stands collector.new.clock collector.new.connections.items (S.entries collector.new.store) first
+        (before ++ accepted)
+        × Appends (N.taken notes.old) (N.taken notes.new) told
+        × ServesTo collector.old.clock (history_of before) (waiting collector.old.connections.items)
+        (waiting collector.new.connections.items) result given accepted told }
+    // No frame is left ready, unless memory ran out.
+    ensures settled { (first : List Entry) (before : List AcceptedEvent)
+        → Stands collector.old.clock collector.old.connections.items (S.entries collector.old.store) first before
+        → IsSettled collector.old.connections.items
+        → IfEnough result (IsSettled collector.new.connections.items) }
     ensures endless { R.steps source.old < 2 ^ 63 → result ≡ ServeEnd.Endless
         → (R.steps source.new ≡ R.steps source.old + SERVE_TURNS)
         × (R.finishes source.new ≡ R.finishes source.old) }

@@ -1,9 +1,36 @@
-use Rattle.std.proofs.Common.{◌≡◌, ◌+◌, ◌<◌, ◌^◌}
+use Rattle.std.proofs.Common.{◌≡◌, ℕ, ◌+◌, ◌<◌, ◌^◌, List, ◌++◌, length}
+use Rattle.std.specs.Prelude.{vec_len}
+use Rattle.std.specs.Io.KnownBytes.{Appends}
+use Rattle.archive_text.specs.Entries.{Entry}
+use Rattle.syslog_frame.specs.declared.limits.TheConstants.{FRAME_MAX}
+use Rattle.syslog_collect.specs.Headline.{IsSettled}
+use Rattle.syslog_collect.specs.History.{AcceptedEvent, history_of}
+use Rattle.syslog_collect.specs.Logs.{waiting}
+use Rattle.syslog_collect.specs.Standing.{Stands}
+use Rattle.collect_engine.specs.Lines.{has_some}
+use Rattle.collect_engine.specs.Serving.{Come, ServesAll}
+use Rattle.collect_engine.specs.Steps.{Given}
 use Rattle.collect_engine.proofs.serving.serve_steps.Given as goal
 
+-- so far each step was served
 abbrev pub invariant-loop-turn : goal.invariant-loop-turn
 invariant-loop-turn g l = record {
   steps : g.R.Source.steps l.fn.source < 2 ^ 63 → g.R.Source.steps l.source ≡ g.R.Source.steps l.fn.source + l._turn;
   finishes : g.R.Source.finishes l.source ≡ g.R.Source.finishes l.fn.source;
   clock : l.collector.clock ≡ l.fn.collector.clock;
+  room : FRAME_MAX < vec_len l.buf;
+  failures : g.N.Output.failures l.notes ≡ g.N.Output.failures l.fn.notes;
+  settled : (first : List Entry) (before : List AcceptedEvent)
+      → Stands l.fn.collector.clock l.fn.collector.connections.items (g.S.Store.entries l.fn.collector.store) first before
+      → IsSettled l.fn.collector.connections.items → IsSettled l.collector.connections.items;
+  served : (first : List Entry) (before : List AcceptedEvent)
+      → Stands l.fn.collector.clock l.fn.collector.connections.items (g.S.Store.entries l.fn.collector.store) first before
+      → (given : List Given) × (accepted : List AcceptedEvent) × (told : List ℕ)
+      × (g.R.Source.steps l.fn.source < 2 ^ 63 → Come (g.R.Source.coming l.fn.source) (g.R.Source.coming l.source) given)
+      × Stands l.collector.clock l.collector.connections.items (g.S.Store.entries l.collector.store) first
+      (before ++ accepted)
+      × Appends (g.N.Output.taken l.fn.notes) (g.N.Output.taken l.notes) told
+      × ServesAll l.fn.collector.clock (history_of before) (waiting l.fn.collector.connections.items)
+      (waiting l.collector.connections.items) 1 l.lines.number given accepted told
+      × (length given ≡ l._turn) × (l.lines.refused ≡ has_some told);
 }

@@ -1,0 +1,208 @@
+-- Steps that are served, one after the other.
+use Rattle.std.proofs.Common.{◌≡◌, ◌⊎◌, ℕ, ◌+◌, suc, List, [], ◌∷◌, ◌++◌, length, refl, sym, ◌∙◌}
+use Rattle.std.proofs.Common.{append_assoc, ap, subst, inl, inr, arith, Bool, true, false}
+use Rattle.std.specs.Prelude.{◌||◌, Option, Some, None, Result, Ok, Err, OnOk}
+use Rattle.std.specs.Io.KnownBytes.{Appends}
+use Rattle.std.proofs.lemmas.List.{append-nil, length-append}
+use Rattle.syslog_legacy.specs.FrameReadings.{Clock}
+use Rattle.syslog_collect.specs.History.{AcceptedEvent, History, accept, history_after, history_of, initial}
+use Rattle.syslog_collect.specs.declared.outcome.Outcome.{Outcome}
+use Rattle.collect_engine.specs.Lines.{NotesAs, counted, has_some, lines_on}
+use Rattle.collect_engine.specs.Receiving.{IfNotMemory, ReceivesAs}
+use Rattle.collect_engine.specs.Serving.{AreFirst, Come, EventServed, GoesOn, ServesAll, ServesStep, ServesToEnd}
+use Rattle.collect_engine.specs.Serving.{StepServed, StepsServed, StopsAtStep, UnlessMemory}
+use Rattle.collect_engine.specs.Steps.{Comes, Given}
+use Rattle.collect_engine.specs.declared.receiving.Received.{Received}
+use Rattle.collect_engine.specs.declared.receiving.Received.TheVariants as received
+use Rattle.collect_engine.specs.declared.serve_end.Stopped.{Stopped}
+use Rattle.collect_engine.specs.declared.serve_end.Stopped.TheVariants as stopped
+
+pub appends_none : (a : Option (List ℕ)) → Appends a a []
+appends_none None = tt
+appends_none (Some xs) = sym (append-nil xs)
+
+-- the lines on an event that was received are written
+pub event_served : (clock : Clock) (h : History) (w v : ℕ → ℕ) (n m : ℕ) (e : AcceptedEvent) (r : Received)
+    (os : List Outcome) (es : List AcceptedEvent) (told : List ℕ) (result : Result (Unit {0}) Stopped) → GoesOn r
+    → ReceivesAs clock h w v e r os es → NotesAs result (lines_on n os r) told → OnOk result (m ≡ counted n os)
+    → EventServed clock h w v n m result e es told
+event_served clock h w v n m e r os es told (Ok u) goes is noted number = (r, os, goes, is, noted, number)
+event_served clock h w v n m e r os es told (Err stopped.Notes) goes is (k, less, first) number =
+    (counted n os, lines_on n os r, k, (r, os, goes, is, refl, refl), less, first)
+event_served clock h w v n m e r os es told (Err stopped.Memory) goes is noted number =
+    inr (counted n os, lines_on n os r, (r, os, goes, is, refl, refl))
+event_served clock h w v n m e r os es told (Err stopped.Step) goes is noted number = absurd noted
+event_served clock h w v n m e r os es told (Err stopped.Endless) goes is noted number = absurd noted
+
+pub same_flag : (b : Bool) → b ≡ (b || false)
+same_flag true = refl
+same_flag false = refl
+
+-- whether a line was noted
+pub refused_told : (result : Result (Unit {0}) Stopped) (octets told : List ℕ) (a b : Bool) → NotesAs result octets told
+    → OnOk result (a ≡ (b || has_some octets)) → OnOk result (a ≡ (b || has_some told))
+refused_told (Ok u) octets told a b noted is = is ∙ ap (λ (xs : List ℕ). b || has_some xs) (sym noted)
+refused_told (Err _) octets told a b noted is = tt
+
+pub going : (r : Received) → (r ≡ received.Accepted) ⊎ ((start : ℕ) × (r ≡ received.Unterminated start)) → GoesOn r
+going r (inl is) = subst GoesOn (sym is) tt
+going r (inr (start, is)) = subst GoesOn (sym is) tt
+
+pub still_settled : (r : Received) (P : Type 0) → GoesOn r → IfNotMemory r P → P
+still_settled received.Accepted P goes h = h
+still_settled (received.Unterminated start) P goes h = h
+still_settled received.Refused P goes h = absurd goes
+still_settled received.Memory P goes h = absurd goes
+
+pub unless_memory : {A : Type 0} (result : Result A Stopped) (P : Type 0) → P → UnlessMemory result P
+unless_memory (Ok a) P h = h
+unless_memory (Err stopped.Step) P h = h
+unless_memory (Err stopped.Notes) P h = h
+unless_memory (Err stopped.Endless) P h = h
+unless_memory (Err stopped.Memory) P h = tt
+
+-- ---- steps, one after the other
+
+next_place : (n : ℕ) → n + 1 ≡ suc n
+next_place n = omega arith
+
+no_more : (k : ℕ) → k ≡ k + 0
+no_more k = omega arith
+
+zero_plus : (n : ℕ) → 0 + n ≡ n
+zero_plus n = omega arith
+
+place : (k a b : ℕ) → b ≡ a + 1 → (k + 1) + a ≡ k + b
+place k a b e = omega arith
+
+first_push : (coming : ℕ → Given) (gs : List Given) (g : Given) → AreFirst coming gs → coming (length gs) ≡ g
+    → AreFirst coming (gs ++ g ∷ [])
+first_push coming [] g are is = (is, tt)
+first_push coming (x ∷ gs) g are is =
+    (are.0, first_push (λ (k : ℕ). coming (k + 1)) gs g are.1 (ap coming (next_place (length gs)) ∙ is))
+
+-- one step more came
+pub come_push : (a b c : Option (ℕ → Given)) (gs : List Given) (g : Given) → Come a b gs → Comes b c g
+    → Come a c (gs ++ g ∷ [])
+come_push None b c gs g come comes = tt
+come_push (Some old) None c gs g come comes = absurd come
+come_push (Some old) (Some mid) None gs g come comes = absurd comes
+come_push (Some old) (Some mid) (Some new) gs g (are, later) (is, next) = (
+  first_push old gs g are (ap old (sym (zero_plus (length gs))) ∙ sym (later 0) ∙ is),
+  λ k. next k ∙ later (k + 1) ∙ ap old (place k (length gs) (length (gs ++ g ∷ [])) (length-append gs (g ∷ []))),
+)
+
+pub come_none : (a : Option (ℕ → Given)) → Come a a []
+come_none None = tt
+come_none (Some old) = (tt, λ k. ap old (no_more k))
+
+pub history_push : (h : History) (es fs : List AcceptedEvent)
+    → history_after h (es ++ fs) ≡ history_after (history_after h es) fs
+history_push h [] fs = refl
+history_push h (e ∷ es) fs = history_push (accept h e) es fs
+
+-- a step more is served
+pub serves_push : (clock : Clock) (h : History) (w v z : ℕ → ℕ) (n m l : ℕ) (gs : List Given) (g : Given)
+    (es fs : List AcceptedEvent) (xs ys : List ℕ) → ServesAll clock h w v n m gs es xs
+    → ServesStep clock (history_after h es) v z m l g fs ys
+    → ServesAll clock h w z n l (gs ++ g ∷ []) (es ++ fs) (xs ++ ys)
+serves_push clock h w v z n m l [] g es fs xs ys (waits, number, events, lines) step =
+    let all : v ≡ w = λ i d. waits d i in
+    let there : History = history_after h es in
+    let one = subst (λ (k : ℕ). ServesStep clock h w z k l g fs ys) number
+    (subst (λ (f : ℕ → ℕ). ServesStep clock h f z m l g fs ys) all
+    (subst (λ (t : List AcceptedEvent). ServesStep clock (history_after h t) v z m l g fs ys) events step)) in (
+      z,
+      l,
+      fs,
+      [],
+      ys,
+      [],
+      ap (λ (t : List AcceptedEvent). t ++ fs) events ∙ sym (append-nil fs),
+      ap (λ (t : List ℕ). t ++ ys) lines ∙ sym (append-nil ys),
+      one,
+      (λ d. refl, refl, refl, refl),
+    )
+serves_push clock h w v z n m l (x ∷ gs) g es fs xs ys (u, k, here, later, first, rest, events, lines, one, more) step = (
+  u,
+  k,
+  here,
+  later ++ fs,
+  first,
+  rest ++ ys,
+  ap (λ (t : List AcceptedEvent). t ++ fs) events ∙ append_assoc here later fs,
+  ap (λ (t : List ℕ). t ++ ys) lines ∙ append_assoc first rest ys,
+  one,
+  serves_push clock (history_after h here) u v z k m l gs g later fs rest ys more
+      (subst (λ (t : History). ServesStep clock t v z m l g fs ys) (ap (λ (t : List AcceptedEvent). history_after h t)
+      events ∙ history_push h here later) step),
+)
+
+pub serves_one_more : (clock : Clock) (h : History) (w v z : ℕ → ℕ) (m l : ℕ) (gs : List Given) (g : Given)
+    (es fs : List AcceptedEvent) (xs ys : List ℕ) (last : Bool) → last ≡ false → ServesAll clock h w v 1 m gs es xs
+    → StepServed clock (history_after h es) v z m l (Ok last) g fs ys
+    → ServesAll clock h w z 1 l (gs ++ g ∷ []) (es ++ fs) (xs ++ ys)
+serves_one_more clock h w v z m l gs g es fs xs ys last is_false all one =
+    serves_push clock h w v z 1 m l gs g es fs xs ys all
+    (subst (λ (b : Bool). StepServed clock (history_after h es) v z m l (Ok b) g fs ys) is_false one)
+
+pub has_some_append : (xs ys : List ℕ) → has_some (xs ++ ys) ≡ (has_some xs || has_some ys)
+has_some_append [] ys = refl
+has_some_append (x ∷ xs) ys = refl
+
+-- ---- where serving ends
+
+-- a step after events, as one after their history
+pub step_here : (clock now : Clock) (before es : List AcceptedEvent) (u v : ℕ → ℕ) (n m : ℕ) (result : Result Bool Stopped)
+    (g : Given) (fs : List AcceptedEvent) (ys : List ℕ) → now ≡ clock
+    → StepServed now (history_of (before ++ es)) u v n m result g fs ys
+    → StepServed clock (history_after (history_of before) es) u v n m result g fs ys
+step_here clock now before es u v n m result g fs ys same served =
+    subst (λ (k : Clock). StepServed k (history_after (history_of before) es) u v n m result g fs ys) same
+    (subst (λ (h : History). StepServed now h u v n m result g fs ys) (history_push initial before es) served)
+
+-- the end of the source
+pub serves_end : (clock : Clock) (h : History) (w u v : ℕ → ℕ) (n m : ℕ) (gs : List Given) (g : Given)
+    (es fs : List AcceptedEvent) (xs ys : List ℕ) (refused was last : Bool) → last ≡ true → ServesAll clock h w u 1 n gs es xs
+    → StepServed clock (history_after h es) u v n m (Ok last) g fs ys → was ≡ has_some xs
+    → refused ≡ (was || has_some ys) → ServesToEnd clock h w v refused (gs ++ g ∷ []) (es ++ fs) (xs ++ ys)
+serves_end clock h w u v n m gs g es fs xs ys refused was last is_last all one before is =
+    let (finished, waits, number, events, lines) =
+    subst (λ (b : Bool). StepServed clock (history_after h es) u v n m (Ok b) g fs ys) is_last one in
+    let same : v ≡ u = λ i d. waits d i in
+    let none : es ≡ es ++ fs = sym (ap (λ (t : List AcceptedEvent). es ++ t) events ∙ append-nil es) in
+    let quiet : xs ≡ xs ++ ys = sym (ap (λ (t : List ℕ). xs ++ t) lines ∙ append-nil xs) in (
+      gs,
+      n,
+      ap (λ (t : Given). gs ++ t ∷ []) finished,
+      subst (λ (t : List ℕ). ServesAll clock h w v 1 n gs (es ++ fs) t) quiet
+          (subst (λ (t : List AcceptedEvent). ServesAll clock h w v 1 n gs t xs) none
+          (subst (λ (f : ℕ → ℕ). ServesAll clock h w f 1 n gs es xs) (sym same) all)),
+      is ∙ ap (λ (b : Bool). b || has_some ys) before ∙ sym (has_some_append xs ys),
+    )
+
+pub serves_stop : (clock : Clock) (h : History) (w u v : ℕ → ℕ) (n : ℕ) (gs : List Given) (g : Given)
+    (es fs : List AcceptedEvent) (xs ys : List ℕ) (stop : Stopped) → ServesAll clock h w u 1 n gs es xs
+    → StopsAtStep clock (history_after h es) u v n stop g fs ys
+    → StepsServed clock h w v (Err stop) (gs ++ g ∷ []) (es ++ fs) (xs ++ ys)
+serves_stop clock h w u v n gs g es fs xs ys stopped.Step all last =
+    (gs, g, u, n, es, fs, xs, ys, refl, refl, refl, all, last)
+serves_stop clock h w u v n gs g es fs xs ys stopped.Notes all last =
+    (gs, g, u, n, es, fs, xs, ys, refl, refl, refl, all, last)
+serves_stop clock h w u v n gs g es fs xs ys stopped.Memory all last =
+    inr (gs, g, u, n, es, fs, xs, ys, refl, refl, refl, all, last)
+serves_stop clock h w u v n gs g es fs xs ys stopped.Endless all (inl last) = let e = last.0 in absurd (cc)
+serves_stop clock h w u v n gs g es fs xs ys stopped.Endless all (inr last) = absurd last.2
+
+pub one_more : {A : Type 0} (xs : List A) (x : A) (n : ℕ) → length xs ≡ n → length (xs ++ x ∷ []) ≡ n + 1
+one_more xs x n is = length-append xs (x ∷ []) ∙ ap (λ (m : ℕ). m + 1) is
+
+pub stopped_as : (clock : Clock) (h : History) (w v : ℕ → ℕ) (was why : Stopped) (gs : List Given)
+    (es : List AcceptedEvent) (xs : List ℕ) → was ≡ why → StepsServed clock h w v (Err was) gs es xs
+    → StepsServed clock h w v (Err why) gs es xs
+stopped_as clock h w v was why gs es xs is served =
+    subst (λ (k : Stopped). StepsServed clock h w v (Err k) gs es xs) is served
+
+pub stopped_settled : (was why : Stopped) (P : Type 0) → was ≡ why → UnlessMemory {A = Bool} (Err was) P
+    → UnlessMemory {A = Bool} (Err why) P
+stopped_settled was why P is h = subst (λ (k : Stopped). UnlessMemory {A = Bool} (Err k) P) is h

@@ -1,0 +1,115 @@
+-- No frame is left ready exactly where none waits.
+use Rattle.std.proofs.Common.{◌≡◌, ℕ, ◌+◌, ◌≤◌, true, false, cond, List, [], ◌∷◌, ◌++◌, length, eqb, refl, sym, ◌∙◌, ap, subst}
+use Rattle.std.proofs.Common.{inl, inr, arith}
+use Rattle.std.specs.Prelude.{IsSomeAnd, Some, None, Option}
+use Rattle.std.proofs.lemmas.Bool.{eq-eqb}
+use Rattle.std.proofs.lemmas.List.{append-nil, length-append}
+use Rattle.archive_text.specs.Entries.{Entry}
+use Rattle.syslog_frame.specs.Frames.{Frames}
+use Rattle.syslog_frame.proofs.FrameLaws.{unique_frames}
+use Rattle.syslog_legacy.specs.FrameReadings.{Clock}
+use Rattle.syslog_collect.specs.Headline.{IsSettled}
+use Rattle.syslog_collect.specs.History.{AcceptedEvent, Ended, History, HoldsBadCount, Stream, history_of, stream_of}
+use Rattle.syslog_collect.specs.Logs.{LogsOctets, LogsPart, ready_count, waiting}
+use Rattle.syslog_collect.specs.Standing.{AreAt, IsAt, Stands}
+use Rattle.syslog_collect.specs.declared.connection.Connection.{Connection}
+use Rattle.syslog_collect.specs.declared.outcome.Outcome.{Outcome}
+use Rattle.syslog_collect.proofs.Headline.{one_settled}
+use Rattle.syslog_collect.proofs.Moving.{good_open}
+use Rattle.syslog_collect.proofs.Places.{IsHandled, place_from}
+use Rattle.syslog_collect.proofs.Steps.{close_found}
+use Rattle.syslog_collect.proofs.Waiting.{ready_none, ready_some, waiting_closed}
+
+pub settled_quiet : (cs : List Connection) → IsSettled cs → (d : ℕ) → waiting cs d ≡ 0
+settled_quiet [] h d = refl
+settled_quiet (x ∷ xs) h d =
+    elim (eqb x.number d) as (λ b. cond b (ready_count x.scanner.phase) (waiting xs d) ≡ 0) [
+      | true ↦ ready_none x.scanner.phase h.0
+      | false ↦ settled_quiet xs h.1 d
+    ]
+
+one_no : (n : ℕ) → n ≡ 1 → n ≡ 0 → ⊥
+one_no n a b = omega arith
+
+here_count : (x : Connection) (xs : List Connection) → waiting (x ∷ xs) x.number ≡ 0 → ready_count x.scanner.phase ≡ 0
+here_count x xs h =
+    subst (λ b. cond b (ready_count x.scanner.phase) (waiting xs x.number) ≡ 0) (eq-eqb x.number x.number refl) h
+
+first_place : (x : Connection) (xs : List Connection) → place_from x.number 0 (x ∷ xs) ≡ Some 0
+first_place x xs = rw (eq-eqb x.number x.number refl) refl
+
+pub quiet_settled : (clock : Clock) (cs : List Connection) (kept first : List Entry) (es : List AcceptedEvent)
+    → Stands clock cs kept first es → ((d : ℕ) → waiting cs d ≡ 0) → IsSettled cs
+quiet_settled clock [] kept first es was none = tt
+quiet_settled clock (x ∷ xs) kept first es was none =
+    let ready = here_count x xs (none x.number) in
+    let not_frame : ¬ (x.scanner.phase ≡ _) = λ f. one_no (ready_count x.scanner.phase) (ready_some x.scanner.phase f)
+    ready in
+    let handled : IsHandled x = λ s d at. one_settled x s d at not_frame in
+    let is = first_place x xs in
+    let later : (d : ℕ) → waiting xs d ≡ 0 = λ d. waiting_closed clock x.number 0 x (x ∷ xs) kept first es is refl ready
+    handled was d ∙ none d in
+    let stands = close_found clock x.number 0 x (x ∷ xs) kept first es is refl handled was in
+    (not_frame, quiet_settled clock xs kept first (es ++ Ended x.number ∷ []) stands later)
+
+-- ---- a connection whose octets hold a bad count has no frame that waits
+
+broken_one : (x : Connection) (s : Stream) (d : List (List ℕ)) → IsAt x s d → HoldsBadCount s
+    → ready_count x.scanner.phase ≡ 0
+broken_one x s d at bad = elim at.scanner [
+  | inl good ↦ absurd (good_open x.scanner s d good bad)
+  | inr broken ↦ rw broken.failed refl
+]
+
+broken_at : (c : ℕ) (cs : List Connection) (ss : List Stream) (ds : List (List (List ℕ))) → AreAt cs ss ds
+    → IsSomeAnd (stream_of c ss) HoldsBadCount → waiting cs c ≡ 0
+broken_at c [] [] [] f h = absurd h
+broken_at c [] [] (d ∷ ds) f h = absurd f
+broken_at c [] (s ∷ ss) [] f h = absurd f
+broken_at c [] (s ∷ ss) (d ∷ ds) f h = absurd f
+broken_at c (x ∷ xs) [] [] f h = absurd f
+broken_at c (x ∷ xs) [] (d ∷ ds) f h = absurd f
+broken_at c (x ∷ xs) (s ∷ ss) [] f h = absurd f
+broken_at c (x ∷ xs) (s ∷ ss) (d ∷ ds) f h =
+    subst (λ (n : ℕ). cond (eqb n c) (ready_count x.scanner.phase) (waiting xs c) ≡ 0) (sym f.0.number)
+    (elim (eqb s.number c) as (λ b. IsSomeAnd (cond b (Some s) (stream_of c ss)) HoldsBadCount
+    → cond b (ready_count x.scanner.phase) (waiting xs c) ≡ 0) [
+      | true ↦ λ bad. broken_one x s d f.0 bad
+      | false ↦ λ bad. broken_at c xs ss ds f.1 bad
+    ] h)
+
+pub broken_quiet : (clock : Clock) (c : ℕ) (cs : List Connection) (kept first : List Entry) (es : List AcceptedEvent)
+    → Stands clock cs kept first es → IsSomeAnd (stream_of c (history_of es).streams) HoldsBadCount → waiting cs c ≡ 0
+broken_quiet clock c cs kept first es was bad =
+    broken_at c cs (history_of es).streams was.stands_at.handled was.stands_at.follow bad
+
+-- ---- where no octets came, no more frames wait than before
+
+counts : (a b c d : List (List ℕ)) → a ++ b ≡ a ++ (c ++ d) → length d ≤ length b
+counts a b c d e =
+    let lengths : length a + length b ≡ length a + (length c + length d) =
+    sym (length-append a b) ∙ ap length e ∙ length-append a (c ++ d) ∙ ap (λ n. length a + n) (length-append c d) in
+    omega (arith, lengths)
+
+no_octets : (clock : Clock) (s : Stream) (waited waits : ℕ) (a b : List Entry) (os : List Outcome)
+    → LogsOctets clock s [] waited waits a b os → waits ≤ waited
+no_octets clock s waited waits a b os l =
+    let now = subst (λ o. Frames s.framing o (l.handled ++ (l.logged ++ l.waiting_now)) l.now.0) (append-nil s.octets)
+    l.now.1 in
+    let same = (unique_frames s.framing s.octets (l.handled ++ l.waiting_before)
+    (l.handled ++ (l.logged ++ l.waiting_now)) l.before.0 l.now.0 l.before.1 now).0 in
+    omega (arith, counts l.handled l.waiting_before l.logged l.waiting_now same, l.count_before, l.count_now)
+
+some_fact : {A : Type 0} (o : Option A) (P : A → Type 0) (C : Type 0) → ((x : A) → P x → C) → IsSomeAnd o P → C
+some_fact None P C f h = absurd h
+some_fact (Some x) P C f h = f x h
+
+-- of a piece without octets
+pub part_quiet : (clock : Clock) (h : History) (w v : ℕ → ℕ) (c : ℕ) (a b : List Entry) (os : List Outcome)
+    → LogsPart clock h w v c [] a b os → (v c ≤ w c) × ((d : ℕ) → ¬ (c ≡ d) → v d ≡ w d)
+part_quiet clock h w v c a b os (inl (none, (still, same, is))) = (omega (arith, is c), λ d other. is d)
+part_quiet clock h w v c a b os (inr (some, others)) = (
+  some_fact (stream_of c h.streams) (λ s. LogsOctets clock s [] (w c) (v c) a b os) (v c ≤ w c)
+      (λ s l. no_octets clock s (w c) (v c) a b os l) some,
+  others,
+)

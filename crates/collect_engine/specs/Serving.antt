@@ -1,0 +1,156 @@
+-- Which events the steps of a source are served as, and which lines are noted.
+use Rattle.std.specs.Prelude.{◌≡◌, ◌⊎◌, ℕ, ◌+◌, ◌<◌, List, [], ◌∷◌, ◌++◌, length, take, Bool, true, false}
+use Rattle.std.specs.Prelude.{Option, Some, None, Result, Ok, Err, ⊤}
+use Rattle.syslog_legacy.specs.FrameReadings.{Clock}
+use Rattle.syslog_collect.specs.History.{AcceptedEvent, Opened as event_Opened, Piece as event_Piece}
+use Rattle.syslog_collect.specs.History.{Ended as event_Ended, Datagram as event_Datagram, History, history_after}
+use Rattle.syslog_collect.specs.declared.outcome.Outcome.{Outcome}
+use Rattle.collect_engine.specs.Lines.{counted, has_some, lines_on}
+use Rattle.collect_engine.specs.Receiving.{IsPartOf, MayNotCome, ReceivesAs}
+use Rattle.collect_engine.specs.Steps.{Given, Opened, Piece, Ended, Datagram, Finished, Failed}
+use Rattle.collect_engine.specs.declared.serving.TheConstants.{SERVE_TURNS}
+use Rattle.collect_engine.specs.declared.receiving.Received.{Received}
+use Rattle.collect_engine.specs.declared.receiving.Received.TheVariants as received
+use Rattle.collect_engine.specs.declared.serve_end.ServeEnd.{ServeEnd}
+use Rattle.collect_engine.specs.declared.serve_end.ServeEnd.TheVariants as end
+use Rattle.collect_engine.specs.declared.serve_end.Stopped.{Stopped}
+use Rattle.collect_engine.specs.declared.serve_end.Stopped.TheVariants as stopped
+
+-- the event of a step, on connection 0
+abbrev pub event_of : Given → Option AcceptedEvent
+event_of (Opened framing) = Some (event_Opened 0 framing)
+event_of (Piece octets) = Some (event_Piece 0 octets)
+event_of Ended = Some (event_Ended 0)
+event_of (Datagram octets) = Some (event_Datagram octets)
+event_of Finished = None
+event_of Failed = None
+
+-- ---- one event
+
+-- serving goes on behind the event
+abbrev pub GoesOn : Received → Type 0
+GoesOn received.Accepted = Unit {0}
+GoesOn (received.Unterminated start) = Unit {0}
+GoesOn received.Refused = ⊥
+GoesOn received.Memory = ⊥
+
+-- an event after a history is accepted as these events, and these are its lines; the number of the next outcome was n,
+-- and is m then
+abbrev pub ServesEvent : Clock → History → (ℕ → ℕ) → (ℕ → ℕ) → ℕ → ℕ → AcceptedEvent → List AcceptedEvent → List ℕ
+    → Type 0
+ServesEvent clock h w v n m e es lines = (r : Received) × (os : List Outcome) × GoesOn r × ReceivesAs clock h w v e r os es
+    × (lines ≡ lines_on n os r) × (m ≡ counted n os)
+
+-- serving stops at an event: the collector refuses it; or only the first of its lines are noted; or memory runs out
+abbrev pub StopsAtEvent : Clock → History → (ℕ → ℕ) → (ℕ → ℕ) → ℕ → Stopped → AcceptedEvent → List AcceptedEvent
+    → List ℕ → Type 0
+StopsAtEvent clock h w v n stopped.Step e es lines = (es ≡ []) × (lines ≡ []) × MayNotCome h v e
+StopsAtEvent clock h w v n stopped.Notes e es lines = (m : ℕ) × (whole : List ℕ) × (k : ℕ)
+    × ServesEvent clock h w v n m e es whole × (k < length whole) × (lines ≡ take k whole)
+StopsAtEvent clock h w v n stopped.Memory e es lines = IsPartOf e es ⊎ ((m : ℕ) × (whole : List ℕ)
+    × ServesEvent clock h w v n m e es whole)
+StopsAtEvent clock h w v n stopped.Endless e es lines = ⊥
+
+-- by the answer
+abbrev pub EventServed : {U : Type 0} → Clock → History → (ℕ → ℕ) → (ℕ → ℕ) → ℕ → ℕ → Result U Stopped → AcceptedEvent
+    → List AcceptedEvent → List ℕ → Type 0
+EventServed clock h w v n m (Ok u) e es lines = ServesEvent clock h w v n m e es lines
+EventServed clock h w v n m (Err why) e es lines = StopsAtEvent clock h w v n why e es lines
+
+-- where memory did not run out
+abbrev pub UnlessMemory : {A : Type 0} → Result A Stopped → Type 0 → Type 0
+UnlessMemory (Ok a) P = P
+UnlessMemory (Err stopped.Step) P = P
+UnlessMemory (Err stopped.Notes) P = P
+UnlessMemory (Err stopped.Endless) P = P
+UnlessMemory (Err stopped.Memory) P = Unit {0}
+
+-- ---- one step
+
+-- serving stops at a step: the source has failed; or it stops at the step's event
+abbrev pub StopsAtStep : Clock → History → (ℕ → ℕ) → (ℕ → ℕ) → ℕ → Stopped → Given → List AcceptedEvent → List ℕ
+    → Type 0
+StopsAtStep clock h w v n why g es lines = ((why ≡ stopped.Step) × (g ≡ Failed) × (es ≡ []) × (lines ≡ []))
+    ⊎ ((e : AcceptedEvent) × (event_of g ≡ Some e) × StopsAtEvent clock h w v n why e es lines)
+
+-- a step is served as its event
+abbrev pub ServesStep : Clock → History → (ℕ → ℕ) → (ℕ → ℕ) → ℕ → ℕ → Given → List AcceptedEvent → List ℕ → Type 0
+ServesStep clock h w v n m g es lines =
+    (e : AcceptedEvent) × (event_of g ≡ Some e) × ServesEvent clock h w v n m e es lines
+
+-- by the answer: whether the step was the end of the source
+abbrev pub StepServed : Clock → History → (ℕ → ℕ) → (ℕ → ℕ) → ℕ → ℕ → Result Bool Stopped → Given → List AcceptedEvent
+    → List ℕ → Type 0
+StepServed clock h w v n m (Ok true) g es lines =
+    (g ≡ Finished) × ((d : ℕ) → v d ≡ w d) × (m ≡ n) × (es ≡ []) × (lines ≡ [])
+StepServed clock h w v n m (Ok false) g es lines = ServesStep clock h w v n m g es lines
+StepServed clock h w v n m (Err why) g es lines = StopsAtStep clock h w v n why g es lines
+
+-- ---- the steps of a source
+
+-- steps are served, one after the other
+abbrev pub ServesAll : Clock → History → (ℕ → ℕ) → (ℕ → ℕ) → ℕ → ℕ → List Given → List AcceptedEvent → List ℕ → Type 0
+ServesAll clock h w v n m [] es lines = ((d : ℕ) → v d ≡ w d) × (m ≡ n) × (es ≡ []) × (lines ≡ [])
+ServesAll clock h w v n m (g ∷ gs) es lines = (u : ℕ → ℕ) × (k : ℕ) × (here : List AcceptedEvent)
+    × (later : List AcceptedEvent) × (first : List ℕ) × (rest : List ℕ) × (es ≡ here ++ later) × (lines ≡ first ++ rest)
+    × ServesStep clock h w u n k g here first × ServesAll clock (history_after h here) u v k m gs later rest
+
+-- the first steps of those to come
+abbrev pub AreFirst : (ℕ → Given) → List Given → Type 0
+AreFirst coming [] = Unit {0}
+AreFirst coming (g ∷ gs) = (coming 0 ≡ g) × AreFirst (λ k. coming (k + 1)) gs
+
+-- of known steps to come these are the first, and the others are still to come
+abbrev pub Come : Option (ℕ → Given) → Option (ℕ → Given) → List Given → Type 0
+Come None new gs = ⊤
+Come (Some old) None gs = ⊥
+Come (Some old) (Some new) gs = AreFirst old gs × ((k : ℕ) → new k ≡ old (k + length gs))
+
+-- ---- how serving ends, after these steps
+
+-- all were served up to the end of the source; refused tells whether a line was noted
+abbrev pub ServesToEnd : Clock → History → (ℕ → ℕ) → (ℕ → ℕ) → Bool → List Given → List AcceptedEvent → List ℕ → Type 0
+ServesToEnd clock h w v refused gs es lines = (steps : List Given) × (m : ℕ) × (gs ≡ steps ++ Finished ∷ [])
+    × ServesAll clock h w v 1 m steps es lines × (refused ≡ has_some lines)
+
+-- all were served, and they are as many as are asked for
+abbrev pub ServesTurns : Clock → History → (ℕ → ℕ) → (ℕ → ℕ) → List Given → List AcceptedEvent → List ℕ → Type 0
+ServesTurns clock h w v gs es lines =
+    (m : ℕ) × (length gs ≡ SERVE_TURNS) × ServesAll clock h w v 1 m gs es lines
+
+-- serving stops at the last of them
+abbrev pub StopsAfter : Clock → History → (ℕ → ℕ) → (ℕ → ℕ) → Stopped → List Given → List AcceptedEvent → List ℕ
+    → Type 0
+StopsAfter clock h w v why gs es lines = (steps : List Given) × (g : Given) × (u : ℕ → ℕ) × (k : ℕ)
+    × (here : List AcceptedEvent) × (later : List AcceptedEvent) × (first : List ℕ) × (rest : List ℕ)
+    × (gs ≡ steps ++ g ∷ []) × (es ≡ here ++ later) × (lines ≡ first ++ rest)
+    × ServesAll clock h w u 1 k steps here first × StopsAtStep clock (history_after h here) u v k why g later rest
+
+-- memory runs out before the first step, or at the last
+abbrev pub EndsInMemory : Clock → History → (ℕ → ℕ) → (ℕ → ℕ) → List Given → List AcceptedEvent → List ℕ → Type 0
+EndsInMemory clock h w v gs es lines = ((gs ≡ []) × (es ≡ []) × (lines ≡ []))
+    ⊎ StopsAfter clock h w v stopped.Memory gs es lines
+
+abbrev pub StepsServed : Clock → History → (ℕ → ℕ) → (ℕ → ℕ) → Result Bool Stopped → List Given → List AcceptedEvent
+    → List ℕ → Type 0
+StepsServed clock h w v (Ok refused) gs es lines = ServesToEnd clock h w v refused gs es lines
+StepsServed clock h w v (Err stopped.Step) gs es lines = StopsAfter clock h w v stopped.Step gs es lines
+StepsServed clock h w v (Err stopped.Notes) gs es lines = StopsAfter clock h w v stopped.Notes gs es lines
+StepsServed clock h w v (Err stopped.Endless) gs es lines = ServesTurns clock h w v gs es lines
+StepsServed clock h w v (Err stopped.Memory) gs es lines = EndsInMemory clock h w v gs es lines
+
+-- the same, as serving answers
+abbrev pub ServesTo : Clock → History → (ℕ → ℕ) → (ℕ → ℕ) → ServeEnd → List Given → List AcceptedEvent → List ℕ
+    → Type 0
+ServesTo clock h w v (end.Done refused) gs es lines = ServesToEnd clock h w v refused gs es lines
+ServesTo clock h w v end.Failed gs es lines = StopsAfter clock h w v stopped.Step gs es lines
+    ⊎ StopsAfter clock h w v stopped.Notes gs es lines
+ServesTo clock h w v end.Endless gs es lines = ServesTurns clock h w v gs es lines
+ServesTo clock h w v end.Memory gs es lines = EndsInMemory clock h w v gs es lines
+
+-- where memory did not run out
+abbrev pub IfEnough : ServeEnd → Type 0 → Type 0
+IfEnough (end.Done refused) P = P
+IfEnough end.Failed P = P
+IfEnough end.Endless P = P
+IfEnough end.Memory P = Unit {0}
