@@ -99,7 +99,7 @@ def collected(program, transport, sent, words=(), environment=None, **streams):
     return run.answer()
 
 
-LONG = b"<0>1 - - - - - - " + b"a" * 65_518  # 65,535 octets
+LONG = b"<0>1 - - - - - - " + b"a" * 262_127  # 262,144 octets
 BOTH = entries(A, Y)
 
 # transport, datagrams or connections, other words, status, archive, lines
@@ -113,13 +113,13 @@ COLLECTED = [
     ("counted", [entries(Y) + b"0 " + entries(Z), entries(A), b"1x"], [], 1, BOTH, b"2 bad-count 48\n4 bad-count 1\n"),
     ("counted", [entries(A, Y), b"", entries(Z)], [], 0, entries(A, Z, Y), b""),
     ("counted", [[b"1", b"9 " + A[:7], A[7:], b"45 " + Y], [b"45", b" " + Z]], [], 0, entries(A, Z, Y), b""),
-    ("counted", [b"65536 " + b"a" * 65_536 + entries(A)], [], 1, entries(A), b"1 too-long\n"),
-    ("counted", [b"65535 " + LONG], [], 0, b"65535 " + LONG, b""),
+    ("counted", [b"262145 " + b"a" * 262_145 + entries(A)], [], 1, entries(A), b"1 too-long\n"),
+    ("counted", [b"262144 " + LONG], [], 0, b"262144 " + LONG, b""),
     ("lf", [A + b"\n", Y + b"\n"], [], 0, BOTH, b""),
     ("lf", [A + b"\n" + Y, Y + b"\n"], [], 1, BOTH, b"unterminated 20\n"),
     ("lf", [b"\nx\n" + A + b"\n", b"y\n" + Y + b"\n"], [], 1, BOTH,
      b"1 syntax priority 0\n2 syntax priority 0\n4 syntax priority 0\n"),
-    ("lf", [b"a" * 65_536 + b"\n" + A + b"\n"], [], 1, entries(A), b"1 too-long\n"),
+    ("lf", [b"a" * 262_145 + b"\n" + A + b"\n"], [], 1, entries(A), b"1 too-long\n"),
     ("lf", [b"", b""], [], 0, b"", b""),
     ("lf", [A + b"\n"] * 150, [], 0, entries(A), b""),
     ("udp", [b"<13>Feb  5 17:32:18 10.0.0.99 cron[42]: x", A, b"<13>1 x", MARK + b"A\xff"], [*LEGACY_2001, "--zone", "W0500"], 1,

@@ -371,7 +371,7 @@ def legacy(octets, year, ahead):
 
 # ---------------------------------------------------------------- streams
 
-FRAME_MAX = 65_535
+FRAME_MAX = 262_144
 COUNT = re.compile(rb"([1-9]\d{0,9}) ")
 COUNT_PREFIX = re.compile(rb"(?:[1-9]\d{0,9})?")
 

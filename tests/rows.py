@@ -7,7 +7,7 @@ MARK = b"\xef\xbb\xbf"
 ELEMENTS = (b'<34>1 2003-10-11T22:14:15.003Z mymachine.example.com su - ID47 [exampleSDID@32473 iut="3" eventSource='
             b'"a\\]b\\\\c\\"d"][class@32473 high="1"] ' + MARK + "größe".encode())
 NIL = b"<0>1 - - - - - "  # all up to the structured data
-LARGEST = NIL + b'[a k="' + b"\\n" * 32_756 + b'"]'  # 65,535 octets, canonical 98,291
+LARGEST = NIL + b'[a k="' + b"\\n" * 131_060 + b'"]'  # 262,143 octets, canonical 393,203
 B = b"<14>1 2024-02-29T23:30:00.000000Z h a - - -"
 
 # a record, and its canonical form
@@ -38,8 +38,8 @@ RECORDS = [
     ("a host of 255 octets", b"<0>1 - " + b"a" * 255 + b" - - - -", b"<0>1 - " + b"a" * 255 + b" - - - -"),
     ("words of the greatest lengths", b"<0>1 - " + b"h" * 255 + b" " + b"a" * 48 + b" " + b"p" * 128 + b" " + b"m" * 32 + b" -",
      b"<0>1 - " + b"h" * 255 + b" " + b"a" * 48 + b" " + b"p" * 128 + b" " + b"m" * 32 + b" -"),
-    ("the longest record", HELLO + b"x" * (65_535 - 24), HELLO + b"x" * (65_535 - 24)),
-    ("the longest canonical form", LARGEST, NIL + b'[a k="' + b"\\\\n" * 32_756 + b'"]'),
+    ("the longest record", HELLO + b"x" * (262_144 - 24), HELLO + b"x" * (262_144 - 24)),
+    ("the longest canonical form", LARGEST, NIL + b'[a k="' + b"\\\\n" * 131_060 + b'"]'),
 ]
 
 # octets that are no record, and what follows the number on the line
@@ -78,11 +78,11 @@ REFUSED = [
     ("a fault comes before a repeated id", NIL + b"[a][a]x", b"syntax structured-data 21"),
     ("a text that is no UTF-8", NIL + b"- " + MARK + b"\xff", b"syntax message 20"),
     ("a text that ends inside a character", NIL + b"- " + MARK + b"\xe2\x82", b"syntax message 22"),
-    ("one octet too many", HELLO + b"x" * (65_536 - 24), b"too-long"),
+    ("one octet too many", HELLO + b"x" * (262_145 - 24), b"too-long"),
     ("a long input", HELLO + b"x" * 1_000_000, b"too-long"),
 ]
 
-LINES = b"\nx\n" + b"a" * 65_536 + b"\n<0>1 - - - - - -"
+LINES = b"\nx\n" + b"a" * 262_145 + b"\n<0>1 - - - - - -"
 REPORTED = b"1 syntax priority 0\n2 syntax priority 0\n3 too-long\n"
 
 # words, standard input, status, standard output, standard error (None: any text, but some)
@@ -96,7 +96,9 @@ WORDS = [
     ("an unfinished frame", ["check", "--framing", "counted"], b"16 <0>", 1, b"unterminated 0\n", b""),
     ("an unfinished count", ["check", "--framing", "counted"], b"16 <0>1 - - - - - -16", 1, b"1 ok\nunterminated 19\n", b""),
     ("lines", ["check", "--framing", "lf"], LINES + b"\n", 1, REPORTED + b"4 ok\n", b""),
-    ("an unfinished line", ["check", "--framing", "lf"], LINES, 1, REPORTED + b"unterminated 65540\n", b""),
+    ("an unfinished line", ["check", "--framing", "lf"], LINES, 1, REPORTED + b"unterminated 262149\n", b""),
+    ("a long line", ["check", "--framing", "lf"], LINES.replace(b"a" * 262_145, b"a" * 65_536) + b"\n", 1,
+     REPORTED.replace(b"too-long", b"syntax priority 0") + b"4 ok\n", b""),
     ("no lines", ["check", "--framing", "lf"], b"", 0, b"", b""),
     ("no counted frames", ["check", "--framing", "counted"], b"", 0, b"", b""),
     ("the framing of datagrams", ["check", "--framing", "datagram"], b"", 1, b"1 syntax priority 0\n", b""),
@@ -159,7 +161,7 @@ STREAMS = [
     ("a stream whose canonical form is too long", ["convert", *LF], LARGEST + b"\n" + HELLO + b"\n", 1, HELLO + b"\n",
      b"1 canonical-too-long\n"),
     ("what is refused is reported and passed over", ["convert", *LF], LINES + b"\n", 1, NIL + b"-\n", REPORTED),
-    ("an unfinished line is not converted", ["convert", *LF], LINES, 1, b"", REPORTED + b"unterminated 65540\n"),
+    ("an unfinished line is not converted", ["convert", *LF], LINES, 1, b"", REPORTED + b"unterminated 262149\n"),
     ("nothing is read after a bad count", ["convert", *COUNTED], b"16 <0>1 - - - - - -x16 <0>1 - - - - - -", 1,
      b"16 <0>1 - - - - - -", b"2 bad-count 19\n"),
     ("no lines to convert", ["convert", *LF], b"", 0, b"", b""),
@@ -195,10 +197,10 @@ ARCHIVED = [
     ("no frames", ["archive", *COUNTED], b"", 0, b"", b""),
     ("frames that are no records", ["archive", *LF], b"x\n" + A + b"\n\n", 1, entries(A), b"1 syntax priority 0\n3 syntax priority 0\n"),
     ("lines", ["archive", *LF], LINES + b"\n", 1, entries(NIL + b"-"), REPORTED),
-    ("an unfinished line", ["archive", *LF], LINES, 1, b"", REPORTED + b"unterminated 65540\n"),
+    ("an unfinished line", ["archive", *LF], LINES, 1, b"", REPORTED + b"unterminated 262149\n"),
     ("a bad count", ["archive", *COUNTED], entries(A) + b"x" + entries(Y), 1, entries(A), b"2 bad-count 22\n"),
     ("an unfinished frame", ["archive", *COUNTED], entries(A) + b"45 <14>1", 1, entries(A), b"unterminated 22\n"),
-    ("the longest canonical form", ["archive"], LARGEST, 0, entries(NIL + b'[a k="' + b"\\\\n" * 32_756 + b'"]'), b""),
+    ("the longest canonical form", ["archive"], LARGEST, 0, entries(NIL + b'[a k="' + b"\\\\n" * 131_060 + b'"]'), b""),
     ("archive writes in no framing", ["archive", "--to", "lf"], HELLO, 2, b"", None),
     ("a file too few", ["merge", "a"], b"", 2, b"", None),
     ("a file too many", ["merge", "a", "b", "c"], b"", 2, b"", None),
@@ -218,7 +220,8 @@ MERGED = [
     ("the first fault that is met", entries(A) + b"x", b"x", 1, b"", b"right bad-frame 0\n"),
     ("an entry that is no record", b"4 <0>1", b"", 1, b"", b"left bad-entry 0 syntax version 4\n"),
     ("an entry that is not canonical", entries(NIL + b"- "), b"", 1, b"", b"left not-canonical 0\n"),
-    ("an entry that is too long", b"131078 ", b"", 1, b"", b"left entry-too-long 0\n"),
+    ("an entry that is too long", b"524296 ", b"", 1, b"", b"left entry-too-long 0\n"),
+    ("the longest entry, which is missing", b"524295 ", b"", 1, b"", b"left bad-frame 7\n"),
 ]
 
 # a file, status, standard output, standard error
@@ -269,10 +272,10 @@ LEGACY_FORMS = [
     # with the front of RFC 5424 a record is read as one
     (LEGACY_2001, EXAMPLE, b"<165>1 2003-08-24T12:14:15.000003Z 192.0.2.1 myproc 8710 - - %% It's time to make the do-nuts."),
     # the longest packet, as bare octets
-    (LEGACY_2001, b"a" * 65_535, NIL_13 + b" " + b"a" * 65_535),
+    (LEGACY_2001, b"a" * 262_144, NIL_13 + b" " + b"a" * 262_144),
 ]
 
-PACKETS = STAMP + b"h t: m\n" + A + b"\n<13>1 x\n" + MARK + b"\xff\n" + b"a" * 65_536 + b"\n<13>z\n"
+PACKETS = STAMP + b"h t: m\n" + A + b"\n<13>1 x\n" + MARK + b"\xff\n" + b"a" * 262_145 + b"\n<13>z\n"
 PACKET_LINES = b"3 syntax timestamp 6\n4 legacy-not-utf8 3\n5 too-long\n"
 T = IN_2001 + b"h t - - - m"
 
@@ -287,8 +290,8 @@ LEGACY = [
     ("a text that is no UTF-8", ["archive", *LEGACY_2001], MARK + b"A\xff", 1, b"", b"1 legacy-not-utf8 4\n"),
     ("a text that ends inside a character", ["check", *LEGACY_2001], b"<13>" + MARK + b"\xe2\x82", 1, b"1 legacy-not-utf8 9\n", b""),
     ("a faulty record of RFC 5424", ["check", *LEGACY_2001], b"<13>1 x", 1, b"1 syntax timestamp 6\n", b""),
-    ("a packet above the limit", ["check", *LEGACY_2001], b"a" * 65_536, 1, b"1 too-long\n", b""),
-    ("a canonical form too long for a line", ["convert", *LEGACY_2001, "--to", "lf"], b"a" * 65_535, 1, b"", b"1 canonical-too-long\n"),
+    ("a packet above the limit", ["check", *LEGACY_2001], b"a" * 262_145, 1, b"1 too-long\n", b""),
+    ("a canonical form too long for a line", ["convert", *LEGACY_2001, "--to", "lf"], b"a" * 262_144, 1, b"", b"1 canonical-too-long\n"),
     ("lines of both kinds are checked", ["check", *LF, *LEGACY_2001], PACKETS, 1, b"1 ok\n2 ok\n" + PACKET_LINES + b"6 ok\n", b""),
     ("lines of both kinds are converted", ["convert", *LEGACY_2001, *LF], PACKETS, 1,
      T + b"\n" + A + b"\n<13>1 - - - - - - z\n", PACKET_LINES),

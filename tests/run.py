@@ -63,7 +63,7 @@ def rows(program, results):
     for name, octets, canonical in RECORDS:
         row(program, results, name, ["check"], octets, 0, b"1 ok\n", b"")
         row(program, results, name, ["convert"], octets, 0, canonical, b"")
-        if len(canonical) <= 65_535:
+        if len(canonical) <= 262_144:
             row(program, results, f"canonical: {name}", ["convert"], canonical, 0, canonical, b"")
         row(program, results, name, ["show"], octets, 0, reference.show(1, reference.read(octets)), b"")
     for name, octets, line in REFUSED:
@@ -184,14 +184,17 @@ def pieces(program, results, shim, where):
         results.check(f"{command} writes large pieces", made <= 1 + len(output) // 32_768, f"{made} of {len(output)} octets")
 
 
+LETTERS = b"0123456789ABCDEFGHIJKLMNOPQRSTUVWXYZabcdefghijklmnopqrstuvwxyz"
+
+
 def name_of(n):
-    """Three octets, another for each number below 13,824."""
-    return bytes([65 + n // 576, 65 + n // 24 % 24, 65 + n % 24])
+    """Three octets, another for each number below 238,328, in ascending order."""
+    return bytes([LETTERS[n // 3_844], LETTERS[n // 62 % 62], LETTERS[n % 62]])
 
 
 def many_ids(program, results):
-    """A record of 64 KiB with some 13,000 ids, in any order, costs milliseconds."""
-    prefix, count = b"<0>1 - - - - - ", 13_000
+    """A record of 260,000 octets with 52,000 ids, in any order, costs milliseconds."""
+    prefix, count = b"<0>1 - - - - - ", 52_000
     orders = {"ascending": range(count), "descending": range(count - 1, -1, -1),
               "scattered": [n * 7_919 % count for n in range(count)]}
     for name, order in orders.items():
@@ -203,9 +206,9 @@ def many_ids(program, results):
             seen = run(program, ["check", "--framing", "lf"], (octets + b"\n") * 20)
             after = os.times()
             lines = b"".join(b"%d %b\n" % (n, line) for n in range(1, 21))
-            results.check(f"13,000 ids {name}, {line}", seen[1:] == (lines, b""), f"{seen[0]} {seen[1][:60]!r}")
+            results.check(f"52,000 ids {name}, {line}", seen[1:] == (lines, b""), f"{seen[0]} {seen[1][:60]!r}")
             took = (after.children_user + after.children_system - before.children_user - before.children_system) / 20
-            results.check(f"the time of 13,000 ids {name}, {line}", took < 0.15, f"{took:.3f} s a record")
+            results.check(f"the time of 52,000 ids {name}, {line}", took < 0.15, f"{took:.3f} s a record")
 
 
 def calls(program, results, shim, where):

@@ -212,7 +212,7 @@ all_stopped a b h all sent new s fits = StopsWithin-take a b all sent (s a [] (C
 
 -- ---- how long a text is
 
-entry_short : (e : Entry) → length e.octets ≤ ENTRY_MAX → length (entry_text e) ≤ 131_098
+entry_short : (e : Entry) → length e.octets ≤ ENTRY_MAX → length (entry_text e) ≤ 524_316
 entry_short e h =
     let n = length e.octets in
     omega (
@@ -223,7 +223,7 @@ entry_short e h =
     )
 
 pub text_short : (es : List Entry) → AllByRecursion (λ e. length e.octets ≤ ENTRY_MAX) es
-    → length (text_of es) ≤ length es * 131_098
+    → length (text_of es) ≤ length es * 524_316
 text_short [] h = omega arith
 text_short (e ∷ es) h = omega (arith, length-append (entry_text e) (text_of es), entry_short e h.0, text_short es h.1)
 

@@ -113,7 +113,7 @@ fn a_record_above_the_limit_is_refused(rt: HostRuntime) -> Result<(), Fail> {
     let alloc = rt.alloc();
     let mut set = PagedArchive::new(alloc);
     let mut text = Vec::from_slice(alloc, b"<0>1 - - - - - - ")?;
-    for _ in 0..131_060 {
+    for _ in 0..524_278 {
         text.push(120)?;
     }
     assert!(rt; set.add_view(alloc, &view(&text).ok().ok_or("a fault")?) == Ok(Added::New));

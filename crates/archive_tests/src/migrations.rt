@@ -1,5 +1,6 @@
 //! Archives whose elements were kept in the order of the octets.
 
+use crate::support::ARCHIVE;
 use archive_migration::{MigrateFault, migrate};
 use archive_text::ArchiveFault;
 use std::test::Fail;
@@ -15,6 +16,7 @@ fn an_old_archive_gives_its_records_by_id(rt: HostRuntime) -> Result<(), Fail> {
             b"21 <0>1 - - - - - [b][c]21 <0>1 - - - - - [c][a]",
             b"21 <0>1 - - - - - [a][c]21 <0>1 - - - - - [b][c]",
         ),
+        (ARCHIVE, ARCHIVE),
         (b"", b""),
     ] {
         let text = migrate(rt.alloc(), old).ok().ok_or("a fault")?;

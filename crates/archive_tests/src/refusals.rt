@@ -76,7 +76,7 @@ fn a_bad_count_closes_its_connection_alone(rt: HostRuntime) -> Result<(), Fail> 
 
 /// A line of no octets, one of one octet, one that is longer than a frame may be, and a record.
 fn lines(alloc: Global) -> Result<Vec<u8>, Fail> {
-    let long = vec![in alloc; b'a'; 65_536]?;
+    let long = vec![in alloc; b'a'; 262_145]?;
     let mut stream = b"\nx\n".to_vec(alloc)?;
     stream.extend_from_slice(&long)?;
     stream.extend_from_slice(b"\n<0>1 - - - - - -\n")?;
@@ -113,9 +113,9 @@ fn no_priority() -> Outcome {
 #[test]
 fn lines_are_refused_where_they_are_no_records(rt: HostRuntime) -> Result<(), Fail> {
     let stream = lines(rt.alloc())?;
-    assert_eq!(rt; stream.len(), 65_557);
+    assert_eq!(rt; stream.len(), 262_166);
     let logged = [no_priority(), no_priority(), Outcome::TooLong, Outcome::New];
-    for (from, to) in [(0, 6), (65_536, 65_543), (65_553, 65_558)] {
+    for (from, to) in [(0, 6), (262_145, 262_152), (262_162, 262_167)] {
         for cut in from..to {
             let pieces = stream.split_at_checked(cut).ok_or("too short")?;
             let (end, log, text) = run_of_lines(rt.alloc(), pieces)?;
@@ -130,12 +130,12 @@ fn lines_are_refused_where_they_are_no_records(rt: HostRuntime) -> Result<(), Fa
 #[test]
 fn a_line_without_its_end_is_no_record(rt: HostRuntime) -> Result<(), Fail> {
     let stream = lines(rt.alloc())?;
-    let whole = stream.split_at_checked(65_556).ok_or("too short")?;
+    let whole = stream.split_at_checked(262_165).ok_or("too short")?;
     let (end, log, text) = run_of_lines(rt.alloc(), (whole.0, b""))?;
     let stopped = RunEnd::Stopped {
         at: 3,
         taken: 0,
-        fault: CollectFault::Unterminated { start: 65_540 },
+        fault: CollectFault::Unterminated { start: 262_149 },
     };
     assert_eq!(rt; end, stopped);
     let logged = [no_priority(), no_priority(), Outcome::TooLong];

@@ -43,8 +43,8 @@ fn what_is_no_entry_is_refused(rt: HostRuntime) {
     assert!(rt; fault_of(b"x") == Some(ArchiveFault::BadFrame { at: 0 }));
     assert!(rt; fault_of(b"16") == Some(ArchiveFault::BadFrame { at: 2 }));
     assert!(rt; fault_of(b"17 <0>1 - - - - - -") == Some(ArchiveFault::BadFrame { at: 19 }));
-    assert!(rt; fault_of(b"131078 ") == Some(ArchiveFault::EntryTooLong { at: 0 }));
-    assert!(rt; fault_of(b"131077 ") == Some(ArchiveFault::BadFrame { at: 7 }));
+    assert!(rt; fault_of(b"524296 ") == Some(ArchiveFault::EntryTooLong { at: 0 }));
+    assert!(rt; fault_of(b"524295 ") == Some(ArchiveFault::BadFrame { at: 7 }));
     assert!(rt; fault_of(b"4 <0>1") == Some(ArchiveFault::BadEntry { at: 0, fault }));
     assert!(rt; fault_of(b"17 <0>1 - - - - - - ") == Some(ArchiveFault::NotCanonical { at: 0 }));
 }

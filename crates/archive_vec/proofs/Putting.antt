@@ -88,13 +88,13 @@ text_take es e i at = ap (λ (n : ℕ). text_of (take n es)) (add-one i) ∙ ap 
 
 -- ---- the length of a text
 
-entry_bound : (e : Entry) → length e.octets ≤ ENTRY_MAX → length (entry_text e) ≤ 2 ^ 18
+entry_bound : (e : Entry) → length e.octets ≤ ENTRY_MAX → length (entry_text e) ≤ 3 * 2 ^ 18
 entry_bound e fits =
     let digits = length-decimal-le 6 (length e.octets) (omega arith) (omega arith) (omega arith) in
     omega (arith, length-append (decimal (length e.octets)) (32 ∷ e.octets), digits)
 
 text_bound : (es : List Entry) → AllByRecursion (λ e. length e.octets ≤ ENTRY_MAX) es
-    → length (text_of es) ≤ 2 ^ 18 * length es
+    → length (text_of es) ≤ 3 * 2 ^ 18 * length es
 text_bound [] h = omega arith
 text_bound (e ∷ es) h = omega (arith, entry_bound e h.0, text_bound es h.1, length-append (entry_text e) (text_of es))
 

@@ -1,7 +1,7 @@
 //! The limits of frames and streams.
 
 /// The most octets of a record in every framing.
-pub const FRAME_MAX: usize = 65_535;
+pub const FRAME_MAX: usize = 262_144;
 
 /// The greatest count that MSG-LEN writes: one of ten digits.
 pub const COUNT_MAX: u64 = 9_999_999_999;

@@ -124,11 +124,11 @@ fn a_line_above_the_limit_is_told_once(rt: HostRuntime) -> Result<(), Fail> {
     assert_eq!(rt; scanner.push(b"\n<0>1 - - - - - -"), Ok(1));
     assert_eq!(rt; scanner.ready(), Some(Ready::TooLong));
     assert!(rt; scanner.release());
-    assert_eq!(rt; scanner.position(), 65_540);
+    assert_eq!(rt; scanner.position(), 262_149);
     assert_eq!(rt; scanner.push(RECORD), Ok(16));
     assert_eq!(rt;
         scanner.end(),
-        Err(EndFault::Unterminated { start: 65_540 })
+        Err(EndFault::Unterminated { start: 262_149 })
     );
     assert_eq!(rt; scanner.push(b"\n"), Ok(1));
     assert_eq!(rt; scanner.ready(), Some(Ready::Frame(RECORD)));
@@ -178,14 +178,14 @@ fn frames_are_written(rt: HostRuntime) -> Result<(), Fail> {
 fn the_largest_record_is_written_and_a_longer_one_is_not(rt: HostRuntime) -> Result<(), Fail> {
     let mut record = b"<0>1 - - - - - [a k=\"".as_slice().to_vec(rt.alloc())?;
     let mut canonical = b"<0>1 - - - - - [a k=\"".as_slice().to_vec(rt.alloc())?;
-    for _ in 0..32_756 {
+    for _ in 0..131_060 {
         record.extend_from_slice(b"\\n")?;
         canonical.extend_from_slice(b"\\\\n")?;
     }
     record.extend_from_slice(b"\"]")?;
     canonical.extend_from_slice(b"\"]")?;
-    assert_eq!(rt; record.len(), 65_535);
-    assert_eq!(rt; canonical.len(), 98_291);
+    assert_eq!(rt; record.len(), 262_143);
+    assert_eq!(rt; canonical.len(), 393_203);
     let mut out = Vec::new(rt.alloc());
     assert_eq!(rt;
         put_frame(Framing::Counted, &canonical, &mut out),
@@ -196,10 +196,14 @@ fn the_largest_record_is_written_and_a_longer_one_is_not(rt: HostRuntime) -> Res
         Err(PutFault::TooLong)
     );
     assert!(rt; out.is_empty());
+    canonical.truncate(98_291);
+    assert_eq!(rt; put_frame(Framing::Lf, &canonical, &mut out), Ok(()));
+    assert_eq!(rt; out.len(), 98_292);
+    out.clear();
     assert_eq!(rt; put_frame(Framing::Counted, &record, &mut out), Ok(()));
-    assert_eq!(rt; out.len(), 65_541);
+    assert_eq!(rt; out.len(), 262_150);
     let mut scanner = Scanner::new(rt.alloc(), Framing::Counted)?;
-    assert_eq!(rt; scanner.push(&out), Ok(65_541));
+    assert_eq!(rt; scanner.push(&out), Ok(262_150));
     assert_eq!(rt; scanner.ready(), Some(Ready::Frame(record.as_slice())));
     Ok(())
 }

@@ -62,9 +62,9 @@ fn run_with(
 }
 
 #[test]
-fn a_datagram_may_have_65_535_octets(rt: HostRuntime) -> Result<(), Fail> {
+fn a_datagram_may_have_262_144_octets(rt: HostRuntime) -> Result<(), Fail> {
     let mut octets = Vec::from_slice(rt.alloc(), HELLO)?;
-    for _ in HELLO.len()..65_535 {
+    for _ in HELLO.len()..262_144 {
         octets.push(b'x')?;
     }
     let longest = run_over(&rt, &["convert"], octets.as_slice())?;

@@ -11,7 +11,7 @@ pub const PIECE: usize = 4_096;
 const ROUND: usize = 4_096 * PIECE;
 
 /// The greatest size of a frame.
-const SIZE_MAX: usize = 65_535;
+const SIZE_MAX: usize = 262_144;
 
 /// The greatest number of rounds.
 const ROUNDS_MAX: u32 = 10_000_000;

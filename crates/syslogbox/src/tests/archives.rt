@@ -104,13 +104,13 @@ fn the_records_of_an_input_are_archived(rt: HostRuntime) -> Result<(), Fail> {
 #[test]
 fn a_line_that_is_too_long_costs_no_record(rt: HostRuntime) -> Result<(), Fail> {
     let mut input = Vec::from_slice(rt.alloc(), b"\nx\n")?;
-    for _ in 0..65_536 {
+    for _ in 0..262_145 {
         input.push(b'a')?;
     }
     input.extend_from_slice(b"\n<0>1 - - - - - -")?;
     let words = ["archive", "--framing", "lf"];
     let ran = run_over(&rt, &words, input.as_slice())?;
-    let lines = b"1 syntax priority 0\n2 syntax priority 0\n3 too-long\nunterminated 65540\n";
+    let lines = b"1 syntax priority 0\n2 syntax priority 0\n3 too-long\nunterminated 262149\n";
     assert_eq!(rt; ran.status, REFUSED);
     assert!(rt; ran.output.is_empty());
     assert_eq!(rt; ran.notes.as_slice(), lines.as_slice());
@@ -163,7 +163,7 @@ fn two_archives_are_joined(rt: HostRuntime) -> Result<(), Fail> {
             b"",
             b"left bad-entry 0 syntax version 4\n",
         ),
-        (b"131078 ", b"", REFUSED, b"", b"left entry-too-long 0\n"),
+        (b"524296 ", b"", REFUSED, b"", b"left entry-too-long 0\n"),
         (
             b"17 <0>1 - - - - - -",
             b"",

@@ -115,13 +115,13 @@ fn each_frame_of_a_stream_is_handled(rt: HostRuntime) -> Result<(), Fail> {
 #[test]
 fn a_line_that_is_too_long_costs_no_other(rt: HostRuntime) -> Result<(), Fail> {
     let mut input = Vec::from_slice(rt.alloc(), b"\nx\n")?;
-    for _ in 0..65_536 {
+    for _ in 0..262_145 {
         input.push(b'a')?;
     }
     input.extend_from_slice(b"\n<0>1 - - - - - -")?;
     let words = ["check", "--framing", "lf"];
     let ran = run_over(&rt, &words, input.as_slice())?;
-    let lines = b"1 syntax priority 0\n2 syntax priority 0\n3 too-long\nunterminated 65540\n";
+    let lines = b"1 syntax priority 0\n2 syntax priority 0\n3 too-long\nunterminated 262149\n";
     assert_eq!(rt; ran.status, REFUSED);
     assert_eq!(rt; ran.output.as_slice(), lines.as_slice());
     input.push(b'\n')?;
@@ -135,17 +135,17 @@ fn a_line_that_is_too_long_costs_no_other(rt: HostRuntime) -> Result<(), Fail> {
 #[test]
 fn a_canonical_record_may_be_too_long_for_a_frame(rt: HostRuntime) -> Result<(), Fail> {
     let mut input = Vec::from_slice(rt.alloc(), b"<0>1 - - - - - [a k=\"")?;
-    for _ in 0..32_756 {
+    for _ in 0..131_060 {
         input.extend_from_slice(b"\\n")?;
     }
     input.extend_from_slice(b"\"]")?;
-    assert_eq!(rt; input.len(), 65_535);
+    assert_eq!(rt; input.len(), 262_143);
     let ran = run_over(&rt, &["convert", "--to", "counted"], input.as_slice())?;
     assert_eq!(rt; ran.status, REFUSED);
     assert!(rt; ran.output.is_empty());
     assert_eq!(rt; ran.notes.as_slice(), b"1 canonical-too-long\n".as_slice());
     let ran = run_over(&rt, &["convert"], input.as_slice())?;
     assert_eq!(rt; ran.status, DONE);
-    assert_eq!(rt; ran.output.len(), 98_291);
+    assert_eq!(rt; ran.output.len(), 393_203);
     Ok(())
 }

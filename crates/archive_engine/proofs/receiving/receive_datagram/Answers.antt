@@ -6,7 +6,7 @@ pub returns-clause-received : goal.returns-clause-received
 returns-clause-received g c =
     let logs = c.in_ok-datagram.ensures.logs in
     let is =
-    subst (λ (t : List ℕ). IfSome (g.R.Input.left c.args.reader.now) (λ stream. t ≡ take 65536 stream))
+    subst (λ (t : List ℕ). IfSome (g.R.Input.left c.args.reader.now) (λ stream. t ≡ take 262145 stream))
     (sym c.as_slice.ensures.value) c.in-Ok.ensures.kept
     in
     every (g.R.Input.left c.args.reader.now) _
