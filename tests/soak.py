@@ -15,7 +15,6 @@ hard to read is measured beside that of plain records. The last line is `N passe
 import argparse
 import itertools
 import os
-import resource
 import subprocess
 import sys
 import tempfile
@@ -52,18 +51,14 @@ class Program:
                 path.write_bytes(octets)
                 command.append(str(path))
         room = ROOM + (4 * sum(map(len, inputs)) if words[0] in ("archive", "migrate") else 0)
-
-        def limits():
-            resource.setrlimit(resource.RLIMIT_AS, (room, room))
-            resource.setrlimit(resource.RLIMIT_CPU, (SECONDS, SECONDS))
-
-        done = subprocess.run(command, input=stdin, capture_output=True, preexec_fn=limits)
+        limited = ["sh", "-c", 'ulimit -v "$1"; ulimit -t "$2"; shift 2; exec "$@"', "sh", str(room // 1024), str(SECONDS)]
+        done = subprocess.run(limited + command, input=stdin, capture_output=True)
         return done.returncode, done.stdout, done.stderr
 
 
 # ---------------------------------------------------------------- what the rules give
 
-@lru_cache(maxsize=8_192)
+@lru_cache(maxsize=32_768)
 def outcome(frame):
     return reference.read(frame)
 
@@ -200,11 +195,11 @@ class Round:
         self.count("large entries", count)
 
 
-def play(path, seed, number):
-    """One round: its cases by kind, and what differed."""
+def play(path, seed, number, count):
+    """One round, with so many records: its cases by kind, and what differed."""
     with tempfile.TemporaryDirectory() as folder:
         played = Round(Program(path, folder), seed, number)
-        frames = played.records(4_000)
+        frames = played.records(count)
         large = played.large(6)
         played.streams(40, frames[:500], large)
         played.archives(40, frames)
@@ -216,12 +211,13 @@ def rounds(path, seed, cases, seconds, jobs):
     """Rounds, until there were so many cases or seconds."""
     totals, wrong, begun = {}, [], time.monotonic()
     numbers = itertools.count()
+    count = 20_000 if cases >= 1_000_000 else 4_000
 
     def enough():
         return wrong or (time.monotonic() - begun >= seconds if seconds else sum(totals.values()) >= cases)
 
     with ProcessPoolExecutor(jobs) as pool:
-        running = {pool.submit(play, path, seed, next(numbers)) for _ in range(jobs)}
+        running = {pool.submit(play, path, seed, next(numbers), count) for _ in range(jobs)}
         while running:
             done, running = wait(running, return_when=FIRST_COMPLETED)
             for one in done:
@@ -230,7 +226,7 @@ def rounds(path, seed, cases, seconds, jobs):
                     totals[kind] = totals.get(kind, 0) + count
                 wrong += differed
                 if not enough():
-                    running.add(pool.submit(play, path, seed, next(numbers)))
+                    running.add(pool.submit(play, path, seed, next(numbers), count))
     return totals, wrong
 
 
