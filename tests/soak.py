@@ -211,13 +211,13 @@ def rounds(path, seed, cases, seconds, jobs):
     """Rounds, until there were so many cases or seconds."""
     totals, wrong, begun = {}, [], time.monotonic()
     numbers = itertools.count()
-    count = 20_000 if cases >= 1_000_000 else 4_000
+    records = 20_000 if cases >= 1_000_000 else 4_000
 
     def enough():
         return wrong or (time.monotonic() - begun >= seconds if seconds else sum(totals.values()) >= cases)
 
     with ProcessPoolExecutor(jobs) as pool:
-        running = {pool.submit(play, path, seed, next(numbers), count) for _ in range(jobs)}
+        running = {pool.submit(play, path, seed, next(numbers), records) for _ in range(jobs)}
         while running:
             done, running = wait(running, return_when=FIRST_COMPLETED)
             for one in done:
@@ -226,7 +226,7 @@ def rounds(path, seed, cases, seconds, jobs):
                     totals[kind] = totals.get(kind, 0) + count
                 wrong += differed
                 if not enough():
-                    running.add(pool.submit(play, path, seed, next(numbers), count))
+                    running.add(pool.submit(play, path, seed, next(numbers), records))
     return totals, wrong
 
 
