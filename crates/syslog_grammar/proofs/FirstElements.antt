@@ -7,13 +7,14 @@ use Rattle.std.proofs.lemmas.Bool.{cases_eq}
 use Rattle.std.proofs.lemmas.Bool.Decides.{nat_tests}
 use Rattle.std.proofs.lemmas.List.{append-nil, length-append, take-append-drop, take_at}
 use Rattle.memchr.specs.Find.{IsFirstByte, Nowhere, is_byte, is_byte2}
-use Rattle.octet_language.specs.Language.{Each}
+use Rattle.octet_language.specs.Language.{AnyOf, Each}
+use Rattle.octet_language.specs.Reading.{Follows}
 use Rattle.octet_language.proofs.Lists.{heads, tails}
 use Rattle.syslog_value.specs.Parts.{ParamParts, IsNameOctet}
 use Rattle.syslog_grammar.specs.Canonical.{needs_escape}
 use Rattle.syslog_grammar.specs.FirstElements.{IsIdLength, IsNameLength, IsMarkedLength, IsPaired, SplitsElement}
-use Rattle.syslog_grammar.specs.FirstElements.{SplitsParam}
-use Rattle.syslog_grammar.specs.Grammar.{Param}
+use Rattle.syslog_grammar.specs.FirstElements.{SplitsParam, SplitsWhole}
+use Rattle.syslog_grammar.specs.Grammar.{Element, Param}
 use Rattle.syslog_grammar.specs.Spans.{SpannedElement, SpannedParam}
 use Rattle.syslog_grammar.specs.Values.{IsSpecial, Piece}
 use Rattle.syslog_grammar.proofs.Characters.{character_some}
@@ -328,12 +329,13 @@ param_split octets behind name rest marked value raw end next n m b namelen i r 
 
 -- ---- the element
 
--- the parts of an element as they are found by their lengths
-pub element_split : (octets behind id rest params end next : List ℕ) (n m : ℕ) → behind ≡ drop 1 octets
+-- the parts of an element as they are found by their lengths, where its parameters and then a bracket come first
+element_at : (octets behind id rest params end next : List ℕ) (n m : ℕ) (after : List ℕ) → behind ≡ drop 1 octets
     → IsIdLength behind n → id ≡ take n behind → rest ≡ drop n behind
-    → IsMarkedLength 93 rest m → params ≡ take m rest → end ≡ drop m rest → next ≡ drop 1 end
-    → SplitsElement octets (record { id = id; params = params }) next
-element_split octets behind id rest params end next n m b idlen i r paramlen p f g after
+    → ((u : List ℕ) → IsPaired 93 u → rest ≡ u ++ 93 ∷ after → m ≡ length u) → params ≡ take m rest
+    → end ≡ drop m rest → next ≡ drop 1 end → Follows (AnyOf Element) octets after
+    → Follows (SpannedElement (record { id = id; params = params })) octets next
+element_at octets behind id rest params end next n m after b idlen i r paramlen p f g
     (text, parts, (e, (x, y, e1, h, (w, z, e2, (valid, name), (u, v, e3, each, close))))) =
     let inside : octets ≡ 91 ∷ (w ++ (u ++ 93 ∷ after)) =
     parts ∙ rw (e1, e2, e3, h, close) (ap (λ (s : List ℕ). 91 ∷ s)
@@ -343,7 +345,7 @@ element_split octets behind id rest params end next n m b idlen i r paramlen p f
     let n_is : n ≡ length w = id_ends e.params u after w behind behind_is octets_of each n idlen in
     let id_is : id ≡ w = i ∙ rw (n_is, behind_is) (take_at w (u ++ 93 ∷ after) (length w) refl) in
     let rest_is : rest ≡ u ++ 93 ∷ after = r ∙ rw (n_is, behind_is) (drop_at w (u ++ 93 ∷ after)) in
-    let m_is : m ≡ length u = paramlen u after (paired_params e.params u each) rest_is in
+    let m_is : m ≡ length u = paramlen u (paired_params e.params u each) rest_is in
     let params_is : params ≡ u = p ∙ rw (m_is, rest_is) (take_at u (93 ∷ after) (length u) refl) in
     let end_is : end ≡ 93 ∷ after = f ∙ rw (m_is, rest_is) (drop_at u (93 ∷ after)) in
     let next_is : next ≡ after = g ∙ ap (drop 1) end_is in
@@ -365,6 +367,25 @@ element_split octets behind id rest params end next n m b idlen i r paramlen p f
         len w (t.0 ++ (c ++ 93 ∷ after)) 32 o (inl refl)
         (e ∙ ap (λ (s : List ℕ). w ++ (s ++ 93 ∷ after)) (j ∙ ap (λ (s : List ℕ). s ++ c) t.1)
         ∙ ap (λ (s : List ℕ). w ++ 32 ∷ s) (append_assoc t.0 c (93 ∷ after)))
+
+-- the first of elements
+pub element_split : (octets behind id rest params end next : List ℕ) (n m : ℕ) → behind ≡ drop 1 octets
+    → IsIdLength behind n → id ≡ take n behind → rest ≡ drop n behind
+    → IsMarkedLength 93 rest m → params ≡ take m rest → end ≡ drop m rest → next ≡ drop 1 end
+    → SplitsElement octets (record { id = id; params = params }) next
+element_split octets behind id rest params end next n m b idlen i r paramlen p f g after h =
+    element_at octets behind id rest params end next n m after b idlen i r (λ u q e. paramlen u after q e) p f g h
+
+-- an element and nothing else
+pub element_whole : (octets behind id rest params : List ℕ) (n m : ℕ) → behind ≡ drop 1 octets
+    → IsIdLength behind n → id ≡ take n behind → rest ≡ drop n behind → m ≡ length rest - 1 → params ≡ take m rest
+    → SplitsWhole octets (record { id = id; params = params })
+element_whole octets behind id rest params n m b idlen i r size p h = (
+  drop 1 (drop m rest),
+  element_at octets behind id rest params (drop m rest) (drop 1 (drop m rest)) n m [] b idlen i r
+      (λ u q e. size ∙ omega (arith, ap length e, length-append u (93 ∷ []))) p refl refl
+      (octets, sym (append-nil octets), h),
+)
 
 suffix_then : (a b c : List ℕ) (k : ℕ) → (p : List ℕ) × (a ≡ p ++ b) → c ≡ drop k b → (p : List ℕ) × (a ≡ p ++ c)
 suffix_then a b c k (p, e) d = (

@@ -1,33 +1,34 @@
 -- Structured data that is written from its octets.
 use Rattle.std.proofs.Common.{◌≡◌, ℕ, List, [], ◌∷◌, ◌++◌, take, drop, refl, sym, ap, subst, ◌∙◌, append_assoc, inl}
-use Rattle.std.proofs.Common.{inr}
+use Rattle.std.proofs.Common.{inr, ◌-◌, length}
 use Rattle.std.specs.Prelude.{ℤ, Bool, IsTrue, Option, Some, None, Result, Ok, Err}
 use Rattle.std.specs.List.{flat_map}
 use Rattle.std.proofs.lemmas.List.{append-nil}
 use Rattle.std.proofs.lemmas.List.Sorted.{IsPermutation-refl}
 use Rattle.memchr.specs.Find.{IsFirstByte, is_byte}
-use Rattle.octet_language.specs.Language.{Language, Only, ◌⋅◌, Each}
-use Rattle.octet_language.proofs.Lists.{tails}
+use Rattle.octet_language.specs.Language.{Language, Only, ◌⋅◌, Each, IfFirst}
 use Rattle.syslog_value.specs.Parts.{ParamParts, ElementParts, Parts, IsById}
 use Rattle.syslog_grammar.specs.Appending.{Anything, Adds, Puts}
 use Rattle.syslog_grammar.specs.Canonical.{escaped, param_form, element_form, message_form, HeaderForm, SpacedWord}
-use Rattle.syslog_grammar.specs.Escapes.{MeansFirst}
+use Rattle.syslog_grammar.specs.Escapes.{BeginsSpecial}
 use Rattle.syslog_grammar.specs.Grammar.{Param, Element, StructuredDataText, WordFields}
 use Rattle.syslog_grammar.specs.Verbatim.{HasOneMessageForm, VerbatimForm}
-use Rattle.syslog_grammar.specs.Reescaped.{ValueOf, ParamOf, ParamsOf, ElementOf, ElementsOf, StructuredDataOf}
+use Rattle.syslog_grammar.specs.Reescaped.{EndsLone, IsOwnForm, ValueOf, ParamOf, ParamsOf, ElementOf, ElementsOf}
+use Rattle.syslog_grammar.specs.Reescaped.{StructuredDataOf}
 use Rattle.syslog_grammar.specs.ViewParts.{ViewParts, HasParts, IsViewOf}
 use Rattle.syslog_grammar.specs.FirstElements.{SplitsElement, SplitsParam}
 use Rattle.syslog_grammar.specs.Sorting.{SortedDataOf}
 use Rattle.syslog_grammar.specs.Spans.{ParamSpan, SpannedParam, ElementSpan}
 use Rattle.syslog_grammar.specs.Time.{CivilTime}
-use Rattle.syslog_grammar.specs.Values.{Piece, Spells}
+use Rattle.syslog_grammar.specs.Values.{IsSpecial, Piece, Spells}
 use Rattle.syslog_grammar.specs.WellFormed.{IsMeaning, AddsCanonical}
 use Rattle.syslog_grammar.proofs.Appends.{adds_some}
 use Rattle.syslog_grammar.proofs.CanonicalForms.{word_formed}
 use Rattle.syslog_grammar.proofs.DataForms.{item, form_raw, form_text, first_item}
 use Rattle.syslog_grammar.proofs.OwnedParts.{param_same, element_same}
 use Rattle.syslog_grammar.proofs.ParamTexts.{IsPrefixFree-param, spanned_param, param_prefix, element_prefix}
-use Rattle.syslog_grammar.proofs.ValueForms.{joined, runs, escape, lone_more, marked_at, at_mark, all_plain}
+use Rattle.syslog_grammar.proofs.ValueForms.{joined, runs, escape, lone_more, marked_at, all_plain}
+use Rattle.syslog_grammar.proofs.Repeating.{prefix_is}
 use Rattle.syslog_grammar.proofs.ValueForms.{escaped_join, escaped_special, free_rest}
 
 -- ---- values
@@ -45,64 +46,93 @@ written_all raw old = record { done = []; parts = sym (append-nil old); is = λ 
 pub written_begun : (raw rest old out : List ℕ) → Written raw rest old out → Adds Anything old out
 written_begun raw rest old out w = (w.done, tt, w.parts)
 
--- the pieces after a backslash and what it means with the octet after it
-mark_next : (ms : List (List ℕ)) (t first behind : List ℕ) → MeansFirst (92 ∷ t) first behind → Each Piece ms (92 ∷ t)
-    → (ks : List (List ℕ)) × Each Piece ks behind × (escaped (joined ms) ≡ 92 ∷ (first ++ escaped (joined ks)))
-mark_next ms t first behind (inl (x, s, e, f)) h =
-    let same : t ≡ x ∷ behind = tails 92 92 t (x ∷ behind) e in
-    let q = escape ms x behind (subst (λ (u : List ℕ). Each Piece ms (92 ∷ u)) same h) s in (
-      q.behind,
-      q.each,
-      ap escaped q.means ∙ escaped_special x (joined q.behind) s
-          ∙ ap (λ (u : List ℕ). 92 ∷ (u ++ escaped (joined q.behind))) (sym f),
-    )
-mark_next ms t first behind (inr (e, none, f)) h =
-    let same : t ≡ behind = tails 92 92 t behind e in
-    let q = lone_more ms behind (subst (λ (u : List ℕ). Each Piece ms (92 ∷ u)) same h) none in (
-      q.0,
-      q.1,
-      ap escaped q.2 ∙ escaped_special 92 (joined q.0) (inr (inl refl))
-          ∙ ap (λ (u : List ℕ). 92 ∷ (u ++ escaped (joined q.0))) (sym f),
-    )
+-- what was read of a spelling and means itself in the canonical form, and what is left
+pub record Kept (raw rest : List ℕ) : Type 0 where
+  pub run : List ℕ
+  pub parts : raw ≡ run ++ rest
+  pub is : (ms : List (List ℕ)) → Each Piece ms raw
+      → (ks : List (List ℕ)) × Each Piece ks rest × (escaped (joined ms) ≡ run ++ escaped (joined ks))
 
-pub written_more : (raw rest old out m1 m2 m3 plain escaped_rest first behind : List ℕ) (k : ℕ)
-    → Written raw rest old out → IsFirstByte (is_byte 92) rest (Some k)
-    → plain ≡ take k rest → escaped_rest ≡ drop k rest → MeansFirst escaped_rest first behind
-    → Adds (Only plain) out m1 → Adds (Only (92 ∷ [])) m1 m2 → Adds (Only first) m2 m3 → Written raw behind old m3
-written_more raw rest old out m1 m2 m3 plain escaped_rest first behind k w f p m b (x, xs, xe) (y, ys, ye) (z, zs, ze) =
-    let t = drop 1 escaped_rest in
-    let at = marked_at rest escaped_rest t k f m refl in
-    let backslash : escaped_rest ≡ 92 ∷ t = m ∙ at_mark k rest f.0.high f.1 ∙ ap (λ (u : List ℕ). 92 ∷ drop 1 u) (sym m)
-    in
+pub kept_none : (raw : List ℕ) → Kept raw raw
+kept_none raw = record { run = []; parts = refl; is = λ ms h. (ms, h, refl) }
+
+-- an escape is kept with the run before it
+pub kept_more : (raw rest marked behind after : List ℕ) (k : ℕ) → IsFirstByte (is_byte 92) rest (Some k)
+    → marked ≡ drop k rest → behind ≡ drop 1 marked → BeginsSpecial behind → after ≡ drop 1 behind
+    → Kept raw rest → Kept raw after
+kept_more raw rest marked behind after k f m b (x, t, e, s) a w =
+    let at = marked_at rest marked behind k f m b in
+    let special : behind ≡ x ∷ after = e ∙ ap (λ (u : List ℕ). x ∷ u) (sym (a ∙ ap (drop 1) e)) in
     record {
-      done = w.done ++ plain ++ 92 ∷ [] ++ first;
-      parts = ze ∙ ap (λ (u : List ℕ). u ++ z)
-          (ye ∙ ap (λ (u : List ℕ). u ++ y) (xe ∙ ap (λ (u : List ℕ). u ++ x) w.parts))
-          ∙ rw (xs, ys, zs) (simp append_assoc);
-      is = λ text h.
-          let l = w.is text h in
-          let r = runs l.0 rest (take k rest) t l.1 at.parts at.free in
-          let q = mark_next r.behind t first behind (subst (λ (u : List ℕ). MeansFirst u first behind) backslash b)
-          r.each in (
-            q.0,
-            q.1,
-            l.2 ∙ ap (λ (u : List ℕ). w.done ++ escaped u) r.means
-                ∙ ap (λ (u : List ℕ). w.done ++ u) (escaped_join (take k rest) (joined r.behind)
-                ∙ ap (λ (u : List ℕ). u ++ escaped (joined r.behind)) (r.same ∙ sym p)
-                ∙ ap (λ (u : List ℕ). plain ++ u) q.2)
+      run = w.run ++ take k rest ++ 92 ∷ x ∷ [];
+      parts = w.parts
+          ∙ ap (λ (u : List ℕ). w.run ++ u) (at.parts ∙ ap (λ (u : List ℕ). take k rest ++ 92 ∷ u) special)
+          ∙ simp append_assoc;
+      is = λ ms h.
+          let l = w.is ms h in
+          let r = runs l.0 rest (take k rest) behind l.1 at.parts at.free in
+          let q = escape r.behind x after (subst (λ (u : List ℕ). Each Piece r.behind (92 ∷ u)) special r.each) s in (
+            q.behind,
+            q.each,
+            l.2 ∙ ap (λ (u : List ℕ). w.run ++ u) (ap escaped r.means ∙ escaped_join (take k rest) (joined r.behind)
+                ∙ ap (λ (u : List ℕ). u ++ escaped (joined r.behind)) r.same
+                ∙ ap (λ (u : List ℕ). take k rest ++ u) (ap escaped q.means ∙ escaped_special x (joined q.behind) s))
                 ∙ simp append_assoc,
           );
     }
 
+-- a backslash that is no escape ends what is kept
+pub kept_lone : (raw rest marked behind : List ℕ) (k : ℕ) → IsFirstByte (is_byte 92) rest (Some k)
+    → marked ≡ drop k rest → behind ≡ drop 1 marked → IfFirst (λ x. ¬ (IsSpecial x)) behind → Kept raw rest
+    → EndsLone raw behind
+kept_lone raw rest marked behind k f m b none w =
+    let at = marked_at rest marked behind k f m b in
+    record {
+      run = w.run ++ take k rest ++ 92 ∷ [];
+      parts = w.parts ∙ ap (λ (u : List ℕ). w.run ++ u) at.parts ∙ simp append_assoc;
+      form = λ ms h.
+          let l = w.is ms h in
+          let r = runs l.0 rest (take k rest) behind l.1 at.parts at.free in
+          let q = lone_more r.behind behind r.each none in (
+            q.0,
+            q.1,
+            l.2 ∙ ap (λ (u : List ℕ). w.run ++ u) (ap escaped r.means ∙ escaped_join (take k rest) (joined r.behind)
+                ∙ ap (λ (u : List ℕ). u ++ escaped (joined r.behind)) r.same
+                ∙ ap (λ (u : List ℕ). take k rest ++ u)
+                (ap escaped q.2 ∙ escaped_special 92 (joined q.0) (inr (inl refl))))
+                ∙ simp append_assoc,
+          );
+    }
+
+-- no backslash is left
+pub kept_end : (raw rest : List ℕ) → IsFirstByte (is_byte 92) rest None → Kept raw rest → IsOwnForm raw
+kept_end raw rest f w ms h =
+    let l = w.is ms h in
+    l.2 ∙ ap (λ (u : List ℕ). w.run ++ u) (sym (all_plain l.0 rest l.1 (free_rest rest f))) ∙ sym w.parts
+
+pub written_more : (raw rest old out m1 m2 run behind : List ℕ) → Written raw rest old out → EndsLone rest behind
+    → run ≡ take (length rest - length behind) rest → Adds (Only run) out m1 → Adds (Only (92 ∷ [])) m1 m2
+    → Written raw behind old m2
+written_more raw rest old out m1 m2 run behind w lone t (x, xs, xe) (y, ys, ye) =
+    let run_is : run ≡ lone.run = t ∙ prefix_is rest lone.run behind lone.parts in
+    record {
+      done = w.done ++ lone.run ++ 92 ∷ [];
+      parts = ye ∙ ap (λ (u : List ℕ). u ++ y) (xe ∙ ap (λ (u : List ℕ). u ++ x) w.parts)
+          ∙ rw (xs, ys, run_is) (simp append_assoc);
+      is = λ text h.
+          let l = w.is text h in
+          let q = lone.form l.0 l.1 in
+          (q.0, q.1, l.2 ∙ ap (λ (u : List ℕ). w.done ++ u) q.2 ∙ simp append_assoc);
+    }
+
 pub written_end : {X E : Type 0} (raw rest old out new : List ℕ) (r : Result X E) → Written raw rest old out
-    → IsFirstByte (is_byte 92) rest None → Puts (Only rest) out new r → Puts (ValueOf raw) old new r
-written_end raw rest old out new (Ok x) w f (t, ts, te) = (
+    → IsOwnForm rest → Puts (Only rest) out new r → Puts (ValueOf raw) old new r
+written_end raw rest old out new (Ok x) w own (t, ts, te) = (
   w.done ++ rest,
-  λ text h. let l = w.is text h in sym (l.2 ∙ ap (λ (u : List ℕ). w.done ++ u)
-      (sym (all_plain l.0 rest l.1 (free_rest rest f)))),
+  λ text h. let l = w.is text h in sym (l.2 ∙ ap (λ (u : List ℕ). w.done ++ u) (own l.0 l.1)),
   te ∙ ap (λ (s : List ℕ). s ++ t) w.parts ∙ append_assoc old w.done t ∙ ap (λ (s : List ℕ). old ++ (w.done ++ s)) ts,
 )
-written_end raw rest old out new (Err x) w f a =
+written_end raw rest old out new (Err x) w own a =
     adds_some Anything Anything old out new (written_begun raw rest old out w) a
 
 -- ---- parameters

@@ -12,7 +12,7 @@ use Rattle.octet_language.proofs.Lists.{heads}
 use Rattle.syslog_value.specs.Parts.{ElementParts, IsById}
 use Rattle.syslog_grammar.specs.Appending.{Adds, Anything}
 use Rattle.syslog_grammar.specs.Canonical.{element_form, structured_data_form}
-use Rattle.syslog_grammar.specs.FirstElements.{SplitsElement}
+use Rattle.syslog_grammar.specs.FirstElements.{SplitsElement, SplitsWhole}
 use Rattle.syslog_grammar.specs.Grammar.{Element, Param}
 use Rattle.syslog_grammar.specs.Ids.{IsAbove, IsRisingFrom, ids_of}
 use Rattle.syslog_grammar.specs.Reescaped.{PutsUnless}
@@ -177,12 +177,12 @@ text_written : (a : Bool) (text : List ℕ) (v : ElementSpan) (d : ElementParts)
 text_written true text v d b n s form h = h ∙ form refl
 text_written false text v d b n s form h = element_written d v b n s h
 
-pub written_more : (a : Bool) (all rest others : List Lent) (text behind old out mid : List ℕ) (v : ElementSpan)
-    (met : Option (List ℕ)) → texts rest ≡ text ∷ texts others → SplitsElement text v behind → IsAbove v.id met
+pub written_more : (a : Bool) (all rest others : List Lent) (text old out mid : List ℕ) (v : ElementSpan)
+    (met : Option (List ℕ)) → texts rest ≡ text ∷ texts others → SplitsWhole text v → IsAbove v.id met
     → Adds (TextForm a text v) out mid
     → TextsWritten a all rest met old out → TextsWritten a all others (Some v.id) old mid
 unfolding AreTextsOf
-written_more a all rest others text behind old out mid v met e f above (z, zs, ze) w = record {
+written_more a all rest others text old out mid v met e f above (z, zs, ze) w = record {
   done = w.done ++ z;
   parts = ze ∙ ap (λ (u : List ℕ). u ++ z) w.parts ∙ append_assoc old w.done z;
   is = λ es h. go es (w.is es h);
@@ -198,7 +198,8 @@ written_more a all rest others text behind old out mid v met e f above (z, zs, z
     go es (d ∷ todo, k, g, rising) =
         let both : IsTextOf a d text × AreTextsOf a todo (texts others) = subst (AreTextsOf a (d ∷ todo)) e k in
         let p = element_prefix text (d, both.0.0) in
-        let i = first_item text behind p.0 91 v (d ∷ []) p.1 f (text, [], sym (append-nil text), both.0.0, refl) in
+        let whole = f (d, both.0.0) in
+        let i = first_item text whole.0 p.0 91 v (d ∷ []) p.1 (λ after h. whole.1) (text, [], sym (append-nil text), both.0.0, refl) in
         let d_is : d ≡ i.element = cc in
         let same = element_same i.element v i.text i.parse i.spanned in (
           todo,

@@ -36,3 +36,7 @@ SplitsElement octets v rest = (after : List ℕ) → Follows (AnyOf Element) oct
 -- where a parameter comes first, this is it, and the rest follows it
 abbrev pub SplitsParam : List ℕ → ParamSpan → List ℕ → Type 0
 SplitsParam octets v rest = (after : List ℕ) → Follows (AnyOf Param) octets after → Follows (SpannedParam v) octets rest
+
+-- where the octets are an element, this is it
+abbrev pub SplitsWhole : List ℕ → ElementSpan → Type 0
+SplitsWhole octets v = AnyOf Element octets → (rest : List ℕ) × Follows (SpannedElement v) octets rest

@@ -1,5 +1,5 @@
 -- The canonical form of structured data by any spelling of it.
-use Rattle.std.specs.Prelude.{◌≡◌, ℕ, List, [], ◌∷◌, Bool, true, false, Result, Ok, Err}
+use Rattle.std.specs.Prelude.{◌≡◌, ℕ, List, [], ◌∷◌, ◌++◌, Bool, true, false, Result, Ok, Err}
 use Rattle.std.specs.List.{flat_map}
 use Rattle.octet_language.specs.Language.{Language, Only, ◌⋅◌, Each}
 use Rattle.syslog_value.specs.Parts.{ParamParts, ElementParts, IsById}
@@ -7,7 +7,7 @@ use Rattle.syslog_grammar.specs.Appending.{Anything, Adds}
 use Rattle.syslog_grammar.specs.Canonical.{escaped, param_form, element_form, structured_data_form}
 use Rattle.syslog_grammar.specs.Grammar.{Param, Element, StructuredDataText}
 use Rattle.syslog_grammar.specs.Spans.{ParamSpan, ElementSpan}
-use Rattle.syslog_grammar.specs.Values.{Spells}
+use Rattle.syslog_grammar.specs.Values.{Piece, Spells}
 
 -- of the value of a spelling
 abbrev pub ValueOf : List ℕ → Language
@@ -43,3 +43,15 @@ abbrev pub PutsUnless : {E : Type 0} → Language → Type 0 → List ℕ → Li
 PutsUnless L Cause old new (Ok true) = Adds L old new
 PutsUnless L Cause old new (Ok false) = Adds Anything old new × Cause
 PutsUnless L Cause old new (Err e) = Adds Anything old new
+
+-- the spelling is its own canonical form
+abbrev pub IsOwnForm : List ℕ → Type 0
+IsOwnForm raw = (ms : List (List ℕ)) → Each Piece ms raw → escaped (flat_map (λ m. m) ms) ≡ raw
+
+-- up to the rest, which follows a backslash that is no escape, the canonical form is the spelling and one backslash more
+pub record EndsLone (raw rest : List ℕ) : Type 0 where
+  pub run : List ℕ
+  pub parts : raw ≡ run ++ rest
+  pub form : (ms : List (List ℕ)) → Each Piece ms raw
+      → (ks : List (List ℕ)) × Each Piece ks rest
+      × (escaped (flat_map (λ m. m) ms) ≡ run ++ 92 ∷ escaped (flat_map (λ m. m) ks))

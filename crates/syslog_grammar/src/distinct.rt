@@ -111,8 +111,19 @@ fn most_differ(elements: &[u8]) -> bool
     differ_in(elements, &mut offsets)
 }
 
-/// Whether elements have distinct ids. Where there are more than 65,536 it is not reported. Each has
-/// three octets at least.
+/// Whether at most 131,072 elements have distinct ids.
+#[inline(never)]
+fn all_differ(elements: &[u8]) -> bool
+    ensures { IsTrue result → (es : List ElementParts) → Each Element es elements.now
+        → AreDistinct es }
+{
+    let (none, _) = elements.split_at(0);
+    let mut offsets = [none; 131_072];
+    differ_in(elements, &mut offsets)
+}
+
+/// Whether elements have distinct ids. Where there are more than 131,072 it is not reported: no entry
+/// of an archive has room for so many ids that differ. Each element has three octets at least.
 pub fn differ(elements: &[u8]) -> bool
     ensures { IsTrue result → (es : List ElementParts) → Each Element es elements.now
         → AreDistinct es }
@@ -121,7 +132,9 @@ pub fn differ(elements: &[u8]) -> bool
         few_differ(elements)
     } else if elements.len() <= 16_384 {
         many_differ(elements)
-    } else {
+    } else if elements.len() <= 196_608 {
         most_differ(elements)
+    } else {
+        all_differ(elements)
     }
 }

@@ -2,47 +2,23 @@
 //! and no test.
 
 ghost use Rattle.std.specs.Prelude.{◌≡◌, ◌≢◌, ◌≤◌, ◌<◌, ◌++◌, ℕ, List, drop, length};
-ghost use Rattle.memchr.specs.Find.{IsFirstByte, is_byte2};
 ghost use Rattle.syslog_grammar.specs.FirstElements.{IsIdLength, IsMarkedLength, IsNameLength};
-ghost use Rattle.syslog_grammar.specs.FirstElements.{SplitsElement, SplitsParam};
+ghost use Rattle.syslog_grammar.specs.FirstElements.{SplitsElement, SplitsParam, SplitsWhole};
 ghost use Rattle.syslog_grammar.specs.Views.{element_span, param_span};
 
 use crate::element::{ElementView, ParamView};
+use crate::near::{near_either, near_octet};
 use crate::reading::next;
-use memchr::{memchr, memchr2};
 
 /// What follows the first octet, if there is one.
 #[inline(always)]
-fn behind_first(octets: &[u8]) -> &[u8]
+pub fn behind_first(octets: &[u8]) -> &[u8]
     ensures { result.now ≡ drop 1 octets.now }
 {
     match octets {
         [] => octets,
         [_first, rest @ ..] => rest,
     }
-}
-
-/// So many octets are tried one by one, since a search of whole lanes takes longer to begin.
-const NEAR: usize = 8;
-
-#[inline(always)]
-fn is_either(first: u8, second: u8, octet: u8) -> bool
-    ensures { result ≡ is_byte2 first second octet }
-{
-    octet == first || octet == second
-}
-
-/// The first offset of either octet, which is mostly near.
-#[inline(always)]
-fn near_either(first: u8, second: u8, octets: &[u8]) -> Option<usize>
-    ensures { IsFirstByte (is_byte2 first second) octets.now result }
-{
-    for i in 0..octets.len().min(NEAR) {
-        if is_either(first, second, octets[i]) {
-            return Some(i);
-        }
-    }
-    memchr2(first, second, octets)
 }
 
 /// How many octets an id has, which a space or a bracket follows.
@@ -63,7 +39,7 @@ fn name_len(octets: &[u8]) -> usize
     ensures within { result ≤ length octets.now }
     ensures name { IsNameLength octets.now result }
 {
-    match memchr(b'=', octets) {
+    match near_octet(b'=', octets) {
         Some(offset) => offset,
         None => octets.len(),
     }
@@ -115,4 +91,15 @@ pub fn first_element(octets: &[u8]) -> (ElementView<'_>, &[u8])
     let (id, rest) = behind.split_at(id_len(behind));
     let (params, end) = rest.split_at(marked_len(b']', rest));
     (ElementView { id, params }, behind_first(end))
+}
+
+/// The element that octets are which are known to be one, and nothing else.
+#[inline]
+pub fn whole_element(octets: &[u8]) -> ElementView<'_>
+    ensures { SplitsWhole octets.now (element_span result) }
+{
+    let behind = behind_first(octets);
+    let (id, rest) = behind.split_at(id_len(behind));
+    let (params, _bracket) = rest.split_at(rest.len().saturating_sub(1));
+    ElementView { id, params }
 }

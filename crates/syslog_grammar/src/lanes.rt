@@ -1,7 +1,9 @@
 //! Sixteen octets at a time.
 
 ghost use Rattle.std.specs.Prelude.{◌≡◌, ◌+◌, ◌≤◌, length};
-ghost use Rattle.syslog_grammar.specs.Lanes.{IsPrintableRun, first_set};
+ghost use Rattle.syslog_value.specs.Parts.{IsNameOctet, IsPrintable};
+ghost use Rattle.syslog_grammar.specs.Lanes.{IsNeither, IsRunOf, first_set};
+ghost use Rattle.syslog_grammar.specs.Values.{IsPlainOctet};
 
 use std::simd::prelude::*;
 
@@ -24,8 +26,46 @@ fn lanes_before(mask: u64) -> usize
 #[inline(always)]
 pub fn printable_run(octets: &[u8], at: usize) -> usize
     requires { at + LANES ≤ length octets.now }
-    ensures { IsPrintableRun octets.now at result }
+    ensures { IsRunOf IsPrintable octets.now at result }
 {
     let above_space = u8x16::from_slice(&octets[at..]) - u8x16::splat(33);
     lanes_before(above_space.simd_ge(u8x16::splat(94)).to_bitmask())
+}
+
+/// How many of the sixteen octets at an offset, from the first on, may be part of a name.
+#[inline(always)]
+pub fn name_run(octets: &[u8], at: usize) -> usize
+    requires { at + LANES ≤ length octets.now }
+    ensures { IsRunOf IsNameOctet octets.now at result }
+{
+    let lanes = u8x16::from_slice(&octets[at..]);
+    let outside = (lanes - u8x16::splat(33)).simd_ge(u8x16::splat(94));
+    let brackets = lanes.simd_eq(u8x16::splat(b']')) | lanes.simd_eq(u8x16::splat(b'"'));
+    let marks = brackets | lanes.simd_eq(u8x16::splat(b'='));
+    lanes_before((outside | marks).to_bitmask())
+}
+
+/// How many of the sixteen octets at an offset, from the first on, are pieces of a value that mean
+/// themselves.
+#[inline(always)]
+pub fn plain_run(octets: &[u8], at: usize) -> usize
+    requires { at + LANES ≤ length octets.now }
+    ensures { IsRunOf IsPlainOctet octets.now at result }
+{
+    let lanes = u8x16::from_slice(&octets[at..]);
+    let high = lanes.simd_ge(u8x16::splat(128));
+    let marks = lanes.simd_eq(u8x16::splat(b'"')) | lanes.simd_eq(u8x16::splat(b'\\'));
+    let special = marks | lanes.simd_eq(u8x16::splat(b']'));
+    lanes_before((high | special).to_bitmask())
+}
+
+/// How many of the sixteen octets at an offset come before the first that is one of two.
+#[inline(always)]
+pub fn run_before_either(first: u8, second: u8, octets: &[u8], at: usize) -> usize
+    requires { at + LANES ≤ length octets.now }
+    ensures { IsRunOf (IsNeither first second) octets.now at result }
+{
+    let lanes = u8x16::from_slice(&octets[at..]);
+    let marks = lanes.simd_eq(u8x16::splat(first)) | lanes.simd_eq(u8x16::splat(second));
+    lanes_before(marks.to_bitmask())
 }

@@ -23,6 +23,7 @@ mod law;
 mod lent;
 mod message;
 mod name;
+mod near;
 mod owned;
 mod parts;
 mod priority;

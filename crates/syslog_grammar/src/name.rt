@@ -8,6 +8,7 @@ ghost use Rattle.syslog_value.specs.Parts.{IsNameOctet};
 ghost use Rattle.syslog_grammar.specs.Grammar.{Name};
 ghost use Rattle.syslog_grammar.specs.Spans.{StopsInRun};
 
+use crate::lanes::{LANES, name_run};
 use crate::reading::Stop;
 
 /// The most octets of a name.
@@ -20,6 +21,24 @@ fn is_name_octet(octet: u8) -> bool
     octet >= 33 && octet <= 126 && octet != b'=' && octet != b']' && octet != b'"'
 }
 
+/// How many octets at the start may be part of a name, up to a limit, where so many are known to be.
+#[inline(always)]
+fn name_len_from(limit: usize, octets: &[u8], from: usize) -> usize
+    requires limit { limit ≤ length octets.now }
+    requires known { from ≤ limit }
+    requires octets { AllByRecursion IsNameOctet (take from octets.now) }
+    ensures most { result ≤ limit }
+    ensures octets { AllByRecursion IsNameOctet (take result octets.now) }
+    ensures ends { result < limit → IfFirst (λ x. IsNameOctet x → ⊥) (drop result octets.now) }
+{
+    for i in from..limit {
+        if !is_name_octet(octets[i]) {
+            return i;
+        }
+    }
+    limit
+}
+
 /// How many octets at the start may be part of a name, up to the most that a name has.
 #[inline(always)]
 fn name_len(octets: &[u8]) -> usize
@@ -29,12 +48,15 @@ fn name_len(octets: &[u8]) -> usize
     ensures ends { result < 32 → IfFirst (λ x. IsNameOctet x → ⊥) (drop result octets.now) }
 {
     let most = octets.len().min(NAME_MAX);
-    for i in 0..most {
-        if !is_name_octet(octets[i]) {
-            return i;
+    let mut at = 0;
+    while most - at >= LANES {
+        let run = name_run(octets, at);
+        at += run;
+        if run < LANES {
+            return at;
         }
     }
-    most
+    name_len_from(most, octets, at)
 }
 
 /// Whether the first octet, if there is one, may be part of a name.

@@ -1,29 +1,46 @@
 //! The canonical octets of structured data, from any octets that spell it.
 
+ghost use Rattle.std.specs.Prelude.{◌<◌, IfSome, MatchOption, length};
 ghost use Rattle.syslog_grammar.specs.Appending.{Puts};
 ghost use Rattle.syslog_grammar.specs.Reescaped.{ElementOf, ElementsOf, ParamOf, ParamsOf};
-ghost use Rattle.syslog_grammar.specs.Reescaped.{ValueOf};
+ghost use Rattle.syslog_grammar.specs.Reescaped.{EndsLone, IsOwnForm, ValueOf};
 ghost use Rattle.syslog_grammar.specs.Views.{element_span, param_span};
 
 use crate::appending::put;
 use crate::element::{ElementView, ParamView};
-use crate::first_element::{first_element, first_param};
+use crate::first_element::{behind_first, first_element, first_param};
+use crate::near::near_octet;
 use crate::reading::next;
-use crate::unescape::split_meaning;
-use memchr::memchr;
+use crate::unescape::begins_special;
 use std::alloc::AllocError;
+
+/// What follows the first backslash that is no escape.
+#[inline(always)]
+fn behind_lone(raw: &[u8]) -> Option<&[u8]>
+    ensures lone { MatchOption result (IsOwnForm raw.now) (λ rest. EndsLone raw.now rest.now) }
+    ensures less { IfSome result (λ rest. length rest.now < length raw.now) }
+{
+    let mut rest = raw;
+    while let Some(offset) = near_octet(b'\\', rest) {
+        let (_plain, marked) = rest.split_at(offset);
+        let behind = behind_first(marked);
+        if !begins_special(behind) {
+            return Some(behind);
+        }
+        rest = behind_first(behind);
+    }
+    None
+}
 
 /// Appends the canonical spelling of a value: a backslash that is no escape is written twice.
 fn put_value(raw: &[u8], out: &mut Vec<u8>) -> Result<(), AllocError>
     ensures { Puts (ValueOf raw.now) out.old.items out.new.items result }
 {
     let mut rest = raw;
-    while let Some(offset) = memchr(b'\\', rest) {
-        let (plain, escaped_rest) = rest.split_at(offset);
-        let (octet, behind) = split_meaning(escaped_rest);
-        put(plain, out)?;
+    while let Some(behind) = behind_lone(rest) {
+        let (run, _) = rest.split_at(rest.len() - behind.len());
+        put(run, out)?;
         put(b"\\", out)?;
-        put(octet, out)?;
         rest = behind;
     }
     put(rest, out)

@@ -75,7 +75,7 @@ fn count(elements: &[u8]) -> usize {
 }
 
 /// What follows elements at the start whose ids differ, by sorting: all of the longest such prefix,
-/// where it has at most 65,536 elements.
+/// where it has at most 131,072 elements.
 fn behind_sorted<'a>(structured_data: &'a [u8], known: &'a [u8]) -> &'a [u8]
     requires { Known structured_data.now known.now }
     ensures known { Known structured_data.now result.now }

@@ -11,7 +11,7 @@ ghost use Rattle.syslog_grammar.specs.Views.{element_span};
 
 use crate::appending::put;
 use crate::element::ElementView;
-use crate::first_element::first_element;
+use crate::first_element::{first_element, whole_element};
 use crate::reading::next;
 use crate::reescaped::put_element;
 use crate::repeated::is_above;
@@ -61,7 +61,7 @@ fn put_rising<'a>(texts: &[&'a [u8]], is_form: bool, out: &mut Vec<u8>) -> Resul
 {
     let mut greatest: Option<&'a [u8]> = None;
     for i in 0..texts.len() {
-        let (found, _behind) = first_element(texts[i]);
+        let found = whole_element(texts[i]);
         let id = found.id();
         if !is_above(id, greatest) {
             return Ok(false);

@@ -10,6 +10,7 @@ ghost use Rattle.syslog_grammar.specs.Stops.{remaining_of};
 ghost use Rattle.syslog_grammar.specs.Values.{IsEscape, IsPlainOctet, PassesPlain, Piece};
 
 use crate::character::behind_character;
+use crate::lanes::{LANES, plain_run};
 use crate::reading::{Stop, both, next};
 use crate::unescape::begins_special;
 
@@ -47,13 +48,44 @@ fn is_plain(octet: u8) -> bool
     octet < 0x80 && octet != b'"' && octet != b'\\' && octet != b']'
 }
 
-/// How many octets at the start are pieces of a value that mean themselves.
+/// Whether the first octet is a piece of a value that means itself.
+#[inline(always)]
+fn begins_plain(octets: &[u8]) -> bool {
+    match octets {
+        [] => false,
+        [octet, ..] => is_plain(*octet),
+    }
+}
+
+/// An offset up to which octets are pieces of a value that mean themselves, sixteen of them at a
+/// time.
+#[inline(always)]
+fn plain_blocks(octets: &[u8]) -> usize
+    ensures within { result ≤ length octets.now }
+    ensures plain { AllByRecursion IsPlainOctet (take result octets.now) }
+{
+    let mut at = 0;
+    while octets.len() - at >= LANES {
+        let run = plain_run(octets, at);
+        at += run;
+        if run < LANES {
+            return at;
+        }
+    }
+    at
+}
+
+/// How many octets at the start are pieces of a value that mean themselves: often none, behind an
+/// escape.
 #[inline(always)]
 fn plain_len(octets: &[u8]) -> usize
     ensures within { result ≤ length octets.now }
     ensures plain { AllByRecursion IsPlainOctet (take result octets.now) }
 {
-    for i in 0..octets.len() {
+    if !begins_plain(octets) {
+        return 0;
+    }
+    for i in plain_blocks(octets)..octets.len() {
         if !is_plain(octets[i]) {
             return i;
         }

@@ -29,13 +29,13 @@ returns-in_err-put_text c =
 
 pub loop-i-preserved : goal.loop-i-preserved
 loop-i-preserved c =
-    let v : ElementSpan = element_span c.first_element.result.0 in
+    let v : ElementSpan = element_span c.whole_element-found.result in
     let above : IsAbove c.id-id.result.now (option_map (λ s. s.now) c.loop-i.greatest) =
     c.is_above.ensures.above (search rules) in
     rw c.id-id.ensures (written_more c.args.is_form c.args.texts.now (drop c.loop-i.i c.args.texts.now)
-    (drop (c.loop-i.i + 1) c.args.texts.now) _ c.first_element.result.1.now c.args.out.now.items c.loop-i.out.items
+    (drop (c.loop-i.i + 1) c.args.texts.now) _ c.args.out.now.items c.loop-i.out.items
     c.put_text.new.out.items v (option_map (λ s. s.now) c.loop-i.greatest)
-    (text_left c.args.texts.now c.loop-i.i _ c.loop-i-test.true) c.first_element.ensures.element
+    (text_left c.args.texts.now c.loop-i.i _ c.loop-i-test.true) c.whole_element-found.ensures
     (rw c.id-id.ensures at above) c.in_ok-put_text.ensures c.loop-i.invariant)
 
 pub returns : goal.returns
