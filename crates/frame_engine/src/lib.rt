@@ -7,6 +7,7 @@
 
 mod check;
 mod convert;
+mod datagram;
 mod frame_handler;
 mod input_framing;
 mod line;

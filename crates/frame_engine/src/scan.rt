@@ -2,7 +2,6 @@
 
 ghost use Rattle.std.specs.Prelude.{◌≡◌, ◌≢◌, ◌≤◌, ◌<◌, ◌+◌, ◌^◌, ◌++◌, ◌⊎◌, ℕ, List, [], codes, length, take};
 ghost use Rattle.std.specs.Prelude.{OnErr, OnOk, IfErr, IfSome, IsErrOf, IsOk, if◌then◌else◌};
-ghost use Rattle.syslog_frame.specs.declared.framing.Framing.{Framing as Kind};
 ghost use Rattle.std.specs.Io.KnownBytes.{Appends};
 ghost use Rattle.syslog_value.specs.Device.{AreSmall};
 ghost use Rattle.frame_engine.specs.Pending.{done_of};
@@ -13,6 +12,7 @@ ghost use Rattle.frame_engine.specs.Streams.{AnswersWith, InputDone, IsAnswered,
 ghost use Rattle.frame_engine.specs.Streams.{StreamDone, WritesPrefixOf, status_of};
 ghost use Rattle.frame_engine.specs.declared.input_framing.InputFraming.TheVariants.{Datagram, Stream};
 
+use crate::datagram::read_datagram;
 use crate::frame_handler::FrameHandler;
 use crate::input_framing::InputFraming;
 use crate::line::Line;
@@ -22,7 +22,7 @@ use crate::status::{DONE, FAULT, NO_MEMORY, REFUSED};
 use crate::stream::{end_stream, feed};
 use std::alloc::{AllocError, Global};
 use syslog_frame::{FRAME_MAX, Framing, Scanner};
-use syslog_value::{Input, Output, READ_MAX, READER_CALLS, ReadAllFault, read_all, write_all};
+use syslog_value::{Input, Output, READ_MAX, READER_CALLS, write_all};
 
 // the octets held back before they are written
 const LARGE: usize = 65_536;
@@ -398,13 +398,10 @@ fn handle_datagram<D: FrameHandler, R: Input>(
     ensures calls { AreSmall (R.calls reader.old) (R.failures reader.old) →
         R.calls reader.new ≤ R.calls reader.old + READER_CALLS }
     ensures ends { R.ends reader.new ≤ R.ends reader.old + 1 }
+    ensures ended { R.ends reader.old < R.ends reader.new →
+        R.failures reader.new ≡ R.failures reader.old }
 {
-    let datagram = match read_all(alloc, reader, FRAME_MAX + 1) {
-        Ok(datagram) => datagram,
-        Err(ReadAllFault::Device) => return Err(Stopped::Read),
-        Err(ReadAllFault::Endless) => return Err(Stopped::Endless),
-        Err(ReadAllFault::Memory) => return Err(Stopped::Memory),
-    };
+    let datagram = read_datagram(alloc, reader)?;
     if datagram.len() > FRAME_MAX {
         handler.report(Line::TooLong { number: 1 }, done)?;
         return Ok(());
@@ -439,6 +436,8 @@ fn scan_datagram<D: FrameHandler, R: Input, W: Output, N: Output>(
     ensures read_failed { R.failures reader.old < R.failures reader.new → result ≡ FAULT }
     ensures write_failed { W.failures writer.old < W.failures writer.new → result ≡ FAULT }
     ensures ends { R.ends reader.new ≤ R.ends reader.old + 1 }
+    ensures ended { R.ends reader.old < R.ends reader.new →
+        R.failures reader.new ≡ R.failures reader.old }
     ensures read_fault { W.failures writer.old < 2 ^ 63 → N.failures notes.old < 2 ^ 63 →
         R.failures reader.old < R.failures reader.new →
         W.failures writer.new ≡ W.failures writer.old →
@@ -499,8 +498,8 @@ pub fn scan_input<D: FrameHandler, R: Input, W: Output, N: Output>(
     ensures read_failed { R.failures reader.old < R.failures reader.new → result ≡ FAULT }
     ensures write_failed { W.failures writer.old < W.failures writer.new → result ≡ FAULT }
     ensures ends { R.ends reader.new ≤ R.ends reader.old + 1 }
-    ensures ended { (kind : Kind) → input_framing ≡ Stream kind →
-        R.ends reader.old < R.ends reader.new → R.failures reader.new ≡ R.failures reader.old }
+    ensures ended { R.ends reader.old < R.ends reader.new →
+        R.failures reader.new ≡ R.failures reader.old }
     ensures reads { AreSmall (R.calls reader.old) (R.failures reader.old) →
         ReadsUpTo input_framing (R.calls reader.old) (R.calls reader.new)
         (R.left reader.old) (R.left reader.new) }

@@ -1,5 +1,5 @@
 -- What the words ask for is what the request says.
-use Rattle.std.proofs.Common.{◌≡◌, ◌∙◌, sym, ap, Option, Some}
+use Rattle.std.proofs.Common.{◌≡◌, ◌∙◌, sym, ap, subst, Option, Some}
 use Rattle.syslog_frame.specs.declared.framing.Framing.{Framing}
 use Rattle.syslog_legacy.specs.FrameReadings.{Clock}
 use Rattle.frame_engine.specs.declared.input_framing.InputFraming.{InputFraming}
@@ -43,3 +43,11 @@ same_send o t asked parses is f g =
     let same : Some (Send (texts_of o)) ≡ Some (Send t) =
     same_asked asked (Send (texts_of o)) (Send t) parses (ap asked_by is) f g in
     cc
+
+-- what holds of what the request asks for holds of what the words ask for
+pub of_asked : (P : Asked → Type 0) (asked : Request) (one other : Asked) (parses : Option Asked) → asked_by asked ≡ one
+    → parses ≡ Some (asked_by asked) → parses ≡ Some other → P one → P other
+of_asked P asked one other parses is f g h =
+    let same : Some one ≡ Some other = same_asked asked one other parses is f g in
+    let e : one ≡ other = cc in
+    subst P e h

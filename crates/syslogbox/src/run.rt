@@ -1,13 +1,14 @@
 //! The program over any devices and files.
 
 ghost use Rattle.std.specs.Prelude.{◌≡◌, ◌≢◌, ◌≤◌, ◌<◌, ◌+◌, ◌^◌, ◌⊎◌, List, ℕ, Option, Some, None, IfSome, map};
-ghost use Rattle.std.specs.Prelude.{string_bytes, take};
+ghost use Rattle.std.specs.Prelude.{IsSome, codes, string_bytes, take};
 ghost use Rattle.syslog_value.specs.Device.{AreSmall};
 ghost use Rattle.syslog_frame.specs.declared.framing.Framing.{Framing};
 ghost use Rattle.syslog_legacy.specs.FrameReadings.{Clock};
 ghost use Rattle.frame_engine.specs.Checked.{check_handling, refused_line};
 ghost use Rattle.frame_engine.specs.Converted.{convert_handling, noted_line};
 ghost use Rattle.frame_engine.specs.Showing.{show_handling};
+ghost use Rattle.frame_engine.specs.Stops.{WritesLast};
 ghost use Rattle.frame_engine.specs.Streams.{AnswersWith, InputDone, WritesPrefixOf};
 ghost use Rattle.frame_engine.specs.declared.input_framing.InputFraming.{InputFraming};
 ghost use Rattle.archive_engine.specs.Archived.{ArchiveDone};
@@ -23,7 +24,8 @@ ghost use Rattle.frame_engine.specs.Streams.{status_of};
 ghost use Rattle.send_engine.specs.Options.{NameNothing, OptionTexts};
 ghost use Rattle.send_engine.specs.Sending.{SendDone};
 ghost use Rattle.std.specs.Io.KnownBytes.{Appends};
-ghost use Rattle.syslogbox.specs.Inputs.{ReadsInput};
+ghost use Rattle.syslogbox.specs.Files.{IsToldBy};
+ghost use Rattle.syslogbox.specs.Inputs.{ReadsFrames, ReadsInput, StopsRequest};
 
 use crate::files::Files;
 use archive_engine::{archive_input, merge_archives, migrate_archive};
@@ -52,6 +54,13 @@ fn merge_files<W: Output, N: Output, F: Files>(
     ensures unknown { IfSome (F.stored files.old) (λ octets.
         (octets left.now ≡ None) ⊎ (octets right.now ≡ None) →
         (2 ≤ result) × (W.taken writer.new ≡ W.taken writer.old)) }
+    ensures no_left { IfSome (F.stored files.old) (λ octets. octets left.now ≡ None →
+        IsToldBy (codes "left no file\n")
+        (N.failures notes.old) (N.failures notes.new) (N.taken notes.old) (N.taken notes.new)) }
+    ensures no_right { IfSome (F.stored files.old) (λ octets. IsSome (octets left.now) →
+        octets right.now ≡ None →
+        IsToldBy (codes "right no file\n")
+        (N.failures notes.old) (N.failures notes.new) (N.taken notes.old) (N.taken notes.new)) }
     ensures failed { N.failures notes.old < N.failures notes.new → result ≡ FAULT }
     ensures write_failed { W.failures writer.old < W.failures writer.new → result ≡ FAULT }
 {
@@ -80,6 +89,9 @@ fn migrate_file<W: Output, N: Output, F: Files>(
         (octets file.now) (W.taken writer.old) (W.taken writer.new)) }
     ensures unknown { IfSome (F.stored files.old) (λ octets. octets file.now ≡ None →
         (2 ≤ result) × (W.taken writer.new ≡ W.taken writer.old)) }
+    ensures no_file { IfSome (F.stored files.old) (λ octets. octets file.now ≡ None →
+        IsToldBy (codes "old no file\n")
+        (N.failures notes.old) (N.failures notes.new) (N.taken notes.old) (N.taken notes.new)) }
     ensures failed { N.failures notes.old < N.failures notes.new → result ≡ FAULT }
     ensures write_failed { W.failures writer.old < W.failures writer.new → result ≡ FAULT }
 {
@@ -203,6 +215,23 @@ pub fn run<R: Input, W: Output, N: Output, F: Files>(
         → IfSome (F.stored files.old) (λ octets. octets file ≡ None →
         (2 ≤ result) × (W.taken writer.new ≡ W.taken writer.old)) }
 
+    // and the one line says which name that is, unless memory ran out
+    ensures no_left { (left right : List ℕ)
+        → parsed (map string_bytes words.now) ≡ Some (merge left right) → result ≡ FAULT
+        → IfSome (F.stored files.old) (λ octets. octets left ≡ None →
+        IsToldBy (codes "left no file\n")
+        (N.failures notes.old) (N.failures notes.new) (N.taken notes.old) (N.taken notes.new)) }
+    ensures no_right { (left right : List ℕ)
+        → parsed (map string_bytes words.now) ≡ Some (merge left right) → result ≡ FAULT
+        → IfSome (F.stored files.old) (λ octets. IsSome (octets left) → octets right ≡ None →
+        IsToldBy (codes "right no file\n")
+        (N.failures notes.old) (N.failures notes.new) (N.taken notes.old) (N.taken notes.new)) }
+    ensures no_file { (file : List ℕ)
+        → parsed (map string_bytes words.now) ≡ Some (migrate file) → result ≡ FAULT
+        → IfSome (F.stored files.old) (λ octets. octets file ≡ None →
+        IsToldBy (codes "old no file\n")
+        (N.failures notes.old) (N.failures notes.new) (N.taken notes.old) (N.taken notes.new)) }
+
     // status 2 only where a device failed or the input has no end
     ensures cause { (asked : Asked) → parsed (map string_bytes words.now) ≡ Some asked →
         ReadsInput asked → AreSmall (R.calls reader.old) (R.failures reader.old) →
@@ -213,10 +242,55 @@ pub fn run<R: Input, W: Output, N: Output, F: Files>(
         ⊎ ((R.calls reader.new ≡ R.calls reader.old + READER_CALLS)
         × (R.ends reader.new ≡ R.ends reader.old)) }
 
+    // `send`: status 2 only where the options name no record, or a device failed
+    ensures send_cause { (texts : OptionTexts)
+        → parsed (map string_bytes words.now) ≡ Some (send texts) →
+        W.failures writer.old < 2 ^ 63 → N.failures notes.old < 2 ^ 63 → result ≡ FAULT →
+        NameNothing texts ⊎ (W.failures writer.old < W.failures writer.new)
+        ⊎ (N.failures notes.old < N.failures notes.new) }
+
+    // the reader of `check`, `show` and `convert` is called at most so often, and not after its end
+    ensures calls { (asked : Asked) → parsed (map string_bytes words.now) ≡ Some asked →
+        ReadsFrames asked → AreSmall (R.calls reader.old) (R.failures reader.old) →
+        R.calls reader.new ≤ R.calls reader.old + READER_CALLS }
+    ensures ends { (asked : Asked) → parsed (map string_bytes words.now) ≡ Some asked →
+        ReadsFrames asked → R.ends reader.new ≤ R.ends reader.old + 1 }
+    ensures ended { (asked : Asked) → parsed (map string_bytes words.now) ≡ Some asked →
+        ReadsFrames asked → R.ends reader.old < R.ends reader.new →
+        R.failures reader.new ≡ R.failures reader.old }
+
+    // which fault their last line names; before it is what comes of all frames that were read
+    ensures read_fault { (asked : Asked) → parsed (map string_bytes words.now) ≡ Some asked →
+        ReadsFrames asked → W.failures writer.old < 2 ^ 63 → N.failures notes.old < 2 ^ 63 →
+        R.failures reader.old < R.failures reader.new →
+        W.failures writer.new ≡ W.failures writer.old →
+        N.failures notes.new ≡ N.failures notes.old →
+        StopsRequest asked (codes "read fault\n") (R.left reader.old) (R.left reader.new)
+        (W.taken writer.old) (W.taken writer.new) (N.taken notes.old) (N.taken notes.new) }
+    ensures endless_input { (asked : Asked) → parsed (map string_bytes words.now) ≡ Some asked →
+        ReadsFrames asked → AreSmall (R.calls reader.old) (R.failures reader.old) →
+        W.failures writer.old < 2 ^ 63 → N.failures notes.old < 2 ^ 63 → result ≡ FAULT →
+        R.failures reader.new ≡ R.failures reader.old →
+        W.failures writer.new ≡ W.failures writer.old →
+        N.failures notes.new ≡ N.failures notes.old →
+        StopsRequest asked (codes "endless input\n") (R.left reader.old) (R.left reader.new)
+        (W.taken writer.old) (W.taken writer.new) (N.taken notes.old) (N.taken notes.new) }
+    ensures write_fault { (asked : Asked) → parsed (map string_bytes words.now) ≡ Some asked →
+        ReadsFrames asked → N.failures notes.old < 2 ^ 63 →
+        W.failures writer.old < W.failures writer.new →
+        N.failures notes.new ≡ N.failures notes.old →
+        WritesLast (codes "write fault\n") (N.taken notes.old) (N.taken notes.new) }
+    ensures no_memory { (asked : Asked) → parsed (map string_bytes words.now) ≡ Some asked →
+        ReadsFrames asked → result ≡ NO_MEMORY →
+        WritesLast (codes "want of memory\n") (N.taken notes.old) (N.taken notes.new) }
+
+    // commands that do not read the standard input leave it as it is
+    ensures unread { (asked : Asked) → parsed (map string_bytes words.now) ≡ Some asked →
+        ¬ (ReadsInput asked) → reader.new ≡ reader.old }
+
     // words that are no request: no device but `notes` is touched
     ensures usage { parsed (map string_bytes words.now) ≡ None → (2 ≤ result)
-        × (W.taken writer.new ≡ W.taken writer.old) × (R.left reader.new ≡ R.left reader.old)
-        × (F.stored files.new ≡ F.stored files.old) }
+        × (writer.new ≡ writer.old) × (reader.new ≡ reader.old) × (files.new ≡ files.old) }
 
     // a device that fails gives status 2
     ensures failed { N.failures notes.old < N.failures notes.new → result ≡ FAULT }

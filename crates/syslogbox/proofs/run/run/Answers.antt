@@ -4,7 +4,10 @@ use Rattle.send_engine.specs.Sending.{SendDone}
 use Rattle.frame_engine.proofs.ConvertLemmas.{convert_output}
 use Rattle.frame_engine.proofs.OutputLemmas.{check_output, show_output}
 use Rattle.syslogbox.proofs.FileLemmas.{nothing_written}
-use Rattle.syslogbox.proofs.RequestLemmas.{same_check, same_convert, same_send, same_show}
+use Rattle.syslogbox.proofs.RequestLemmas.{of_asked, same_check, same_convert, same_send, same_show}
+use Rattle.syslogbox.specs.Inputs.{StopsRequest}
+use Rattle.command_line.specs.Requests.{Asked, Check, Convert, Show, asked_by}
+use Rattle.std.specs.Prelude.{codes}
 use Rattle.syslogbox.proofs.run.run.Goals as goal
 
 pub returns-in-Ok-Check-clause-checked : goal.returns-in-Ok-Check-clause-checked
@@ -69,3 +72,69 @@ returns-in-Ok-Send-clause-send_refused g c = λ texts h none.
 pub returns-in-Err-Memory-clause-merge_prefix : goal.returns-in-Err-Memory-clause-merge_prefix
 returns-in-Err-Memory-clause-merge_prefix g c = λ left right h.
     nothing_written (g.F.Files.stored c.args.files.now) left right (g.W.Output.taken c.args.writer.now)
+
+pub returns-in-Ok-Send-clause-send_cause : goal.returns-in-Ok-Send-clause-send_cause
+returns-in-Ok-Send-clause-send_cause g c = λ texts h w n fault.
+    let same = same_send c.in-Ok-Send.options texts c.in-Ok-Send.field-0 _ c.in-Ok-Send.field-0-is
+    c.in-Ok-Send.ensures.ok h in
+    rw same at (c.send_text.ensures.cause w n fault)
+
+pub returns-in-Ok-Check-clause-read_fault : goal.returns-in-Ok-Check-clause-read_fault
+returns-in-Ok-Check-clause-read_fault g c = λ asked h frames w n f a b.
+    of_asked (λ (a : Asked). StopsRequest a (codes "read fault\n") (g.R.Input.left c.args.reader.now)
+    (g.R.Input.left c.scan_input.new.reader) (g.W.Output.taken c.args.writer.now)
+    (g.W.Output.taken c.scan_input.new.writer)
+    (g.N.Output.taken c.args.notes.now) (g.N.Output.taken c.scan_input.new.notes)) c.in-Ok-Check.field-0
+    (Check c.in-Ok-Check.clock c.in-Ok-Check.input_framing) asked _
+    (ap asked_by c.in-Ok-Check.field-0-is) c.in-Ok-Check.ensures.ok h
+    (c.scan_input.ensures.read_fault w n f a b)
+
+pub returns-in-Ok-Check-clause-endless_input : goal.returns-in-Ok-Check-clause-endless_input
+returns-in-Ok-Check-clause-endless_input g c = λ asked h frames small w n fault r a b.
+    of_asked (λ (a : Asked). StopsRequest a (codes "endless input\n") (g.R.Input.left c.args.reader.now)
+    (g.R.Input.left c.scan_input.new.reader) (g.W.Output.taken c.args.writer.now)
+    (g.W.Output.taken c.scan_input.new.writer)
+    (g.N.Output.taken c.args.notes.now) (g.N.Output.taken c.scan_input.new.notes)) c.in-Ok-Check.field-0
+    (Check c.in-Ok-Check.clock c.in-Ok-Check.input_framing) asked _
+    (ap asked_by c.in-Ok-Check.field-0-is) c.in-Ok-Check.ensures.ok h
+    (c.scan_input.ensures.endless_input small w n fault r a b)
+
+pub returns-in-Ok-Show-clause-read_fault : goal.returns-in-Ok-Show-clause-read_fault
+returns-in-Ok-Show-clause-read_fault g c = λ asked h frames w n f a b.
+    of_asked (λ (a : Asked). StopsRequest a (codes "read fault\n") (g.R.Input.left c.args.reader.now)
+    (g.R.Input.left c.scan_input-in-Ok-Show.new.reader) (g.W.Output.taken c.args.writer.now)
+    (g.W.Output.taken c.scan_input-in-Ok-Show.new.writer)
+    (g.N.Output.taken c.args.notes.now) (g.N.Output.taken c.scan_input-in-Ok-Show.new.notes)) c.in-Ok-Show.field-0
+    (Show c.in-Ok-Show.clock c.in-Ok-Show.input_framing) asked _
+    (ap asked_by c.in-Ok-Show.field-0-is) c.in-Ok-Show.ensures.ok h
+    (c.scan_input-in-Ok-Show.ensures.read_fault w n f a b)
+
+pub returns-in-Ok-Show-clause-endless_input : goal.returns-in-Ok-Show-clause-endless_input
+returns-in-Ok-Show-clause-endless_input g c = λ asked h frames small w n fault r a b.
+    of_asked (λ (a : Asked). StopsRequest a (codes "endless input\n") (g.R.Input.left c.args.reader.now)
+    (g.R.Input.left c.scan_input-in-Ok-Show.new.reader) (g.W.Output.taken c.args.writer.now)
+    (g.W.Output.taken c.scan_input-in-Ok-Show.new.writer)
+    (g.N.Output.taken c.args.notes.now) (g.N.Output.taken c.scan_input-in-Ok-Show.new.notes)) c.in-Ok-Show.field-0
+    (Show c.in-Ok-Show.clock c.in-Ok-Show.input_framing) asked _
+    (ap asked_by c.in-Ok-Show.field-0-is) c.in-Ok-Show.ensures.ok h
+    (c.scan_input-in-Ok-Show.ensures.endless_input small w n fault r a b)
+
+pub returns-in-Ok-Convert-clause-read_fault : goal.returns-in-Ok-Convert-clause-read_fault
+returns-in-Ok-Convert-clause-read_fault g c = λ asked h frames w n f a b.
+    of_asked (λ (a : Asked). StopsRequest a (codes "read fault\n") (g.R.Input.left c.args.reader.now)
+    (g.R.Input.left c.scan_input-in-Ok-Convert.new.reader) (g.W.Output.taken c.args.writer.now)
+    (g.W.Output.taken c.scan_input-in-Ok-Convert.new.writer)
+    (g.N.Output.taken c.args.notes.now) (g.N.Output.taken c.scan_input-in-Ok-Convert.new.notes)) c.in-Ok-Convert.field-0
+    (Convert c.in-Ok-Convert.clock c.in-Ok-Convert.input_framing c.in-Ok-Convert.to) asked _
+    (ap asked_by c.in-Ok-Convert.field-0-is) c.in-Ok-Convert.ensures.ok h
+    (c.scan_input-in-Ok-Convert.ensures.read_fault w n f a b)
+
+pub returns-in-Ok-Convert-clause-endless_input : goal.returns-in-Ok-Convert-clause-endless_input
+returns-in-Ok-Convert-clause-endless_input g c = λ asked h frames small w n fault r a b.
+    of_asked (λ (a : Asked). StopsRequest a (codes "endless input\n") (g.R.Input.left c.args.reader.now)
+    (g.R.Input.left c.scan_input-in-Ok-Convert.new.reader) (g.W.Output.taken c.args.writer.now)
+    (g.W.Output.taken c.scan_input-in-Ok-Convert.new.writer)
+    (g.N.Output.taken c.args.notes.now) (g.N.Output.taken c.scan_input-in-Ok-Convert.new.notes)) c.in-Ok-Convert.field-0
+    (Convert c.in-Ok-Convert.clock c.in-Ok-Convert.input_framing c.in-Ok-Convert.to) asked _
+    (ap asked_by c.in-Ok-Convert.field-0-is) c.in-Ok-Convert.ensures.ok h
+    (c.scan_input-in-Ok-Convert.ensures.endless_input small w n fault r a b)
