@@ -1,6 +1,12 @@
--- What was collected when serving ends.
-use Rattle.std.proofs.Common.{◌≡◌, ℕ, List, [], Bool, refl, subst, inl, inr}
-use Rattle.std.specs.Prelude.{Result, Ok, Err, if◌then◌else◌}
+-- What was collected and written when serving ends.
+use Rattle.std.proofs.Common.{◌≡◌, ℕ, ◌<◌, List, [], ◌++◌, ◌+◌, length, take, refl, sym, ◌∙◌}
+use Rattle.std.proofs.Common.{◌≤◌, true, false, ap, subst, inl, inr, arith}
+use Rattle.std.specs.Prelude.{◌^◌, Option, Result, Ok, Err, OnOk, OnErr, IfErr}
+use Rattle.std.specs.Io.KnownBytes.{Appends}
+use Rattle.std.proofs.KnownBytes.{Appends-trans}
+use Rattle.std.proofs.Math.Seq.{take-append-add}
+use Rattle.std.proofs.lemmas.List.{append-nil, take-append-le}
+use Rattle.syslog_value.specs.declared.loops.WriteFault.{WriteFault}
 use Rattle.archive_text.specs.Entries.{Entry}
 use Rattle.archive_text.specs.Text.{IsArchive}
 use Rattle.archive_text.specs.declared.limits.TheConstants.{ENTRY_MAX}
@@ -11,14 +17,16 @@ use Rattle.syslog_collect.specs.Logs.{waiting}
 use Rattle.syslog_collect.specs.Standing.{Stands}
 use Rattle.syslog_collect.specs.declared.connection.Connection.{Connection}
 use Rattle.syslog_collect.proofs.Headline.{holds_just}
-use Rattle.collect_engine.specs.Collecting.{Collects, IsArchiveOf}
+use Rattle.collect_engine.specs.Collecting.{Collects, IfArchived, IsArchiveOf, NotesBehind, NotesOut, NotesThen, Served}
+use Rattle.collect_engine.specs.Collecting.{Takes, WritesOut, WritesText}
+use Rattle.collect_engine.specs.Lines.{NotesFail, Rises}
 use Rattle.collect_engine.specs.Serving.{StepsServed, UnlessMemory}
 use Rattle.collect_engine.specs.Steps.{Given}
 use Rattle.collect_engine.specs.declared.serve_end.Stopped.{Stopped}
 use Rattle.collect_engine.specs.declared.serve_end.Stopped.TheVariants as stopped
 use Rattle.collect_engine.proofs.Settled.{settled_quiet}
 
-pub archive_of : (clock k : Clock) (ds : List Connection) (now first : List Entry) (es : List AcceptedEvent) → k ≡ clock
+archive_of : (clock k : Clock) (ds : List Connection) (now first : List Entry) (es : List AcceptedEvent) → k ≡ clock
     → first ≡ [] → IsArchive ENTRY_MAX now → Stands k ds now first es → IsSettled ds → IsArchiveOf clock es now
 archive_of clock k ds now first es same empty archive stands settled = record {
   archive = archive;
@@ -26,35 +34,173 @@ archive_of clock k ds now first es same empty archive stands settled = record {
       (subst (λ (t : Clock). Stands t ds now first es) same stands)) settled;
 }
 
-from_nothing : (clock k : Clock) (cs : List Connection) (v : ℕ → ℕ) (result : Result Bool Stopped) (gs : List Given)
+if_archived : (end : Served) (P Q : Type 0) → (P → Q) → UnlessMemory end P → IfArchived end Q
+if_archived (Ok refused) P Q f h = f h
+if_archived (Err stopped.Step) P Q f h = f h
+if_archived (Err stopped.Notes) P Q f h = f h
+if_archived (Err stopped.Endless) P Q f h = f h
+if_archived (Err stopped.Memory) P Q f h = tt
+if_archived (Err stopped.MemoryAndNotes) P Q f h = tt
+
+-- what a store keeps that began empty, unless memory ran out
+pub archived : (end : Served) (clock k : Clock) (ds : List Connection) (now first : List Entry)
+    (es : List AcceptedEvent)
+    → k ≡ clock → first ≡ [] → IsArchive ENTRY_MAX now → Stands k ds now first es → UnlessMemory end (IsSettled ds)
+    → IfArchived end (IsArchiveOf clock es now)
+archived end clock k ds now first es same empty archive stands settled =
+    if_archived end (IsSettled ds) (IsArchiveOf clock es now)
+    (λ quiet. archive_of clock k ds now first es same empty archive stands quiet) settled
+
+pub from_nothing : (clock k : Clock) (cs : List Connection) (v : ℕ → ℕ) (end : Served) (gs : List Given)
     (es : List AcceptedEvent) (lines : List ℕ) → k ≡ clock → IsSettled cs
-    → StepsServed k initial (waiting cs) v result gs es lines
-    → StepsServed clock initial (λ d. 0) v result gs es lines
-from_nothing clock k cs v result gs es lines same settled served =
-    let quiet : waiting cs ≡ (λ (d : ℕ). 0) = λ i d. settled_quiet cs settled d i in
-    subst (λ (w : ℕ → ℕ). StepsServed clock initial w v result gs es lines) quiet
-    (subst (λ (t : Clock). StepsServed t initial (waiting cs) v result gs es lines) same served)
+    → StepsServed k initial (waiting cs) v end gs es lines → Collects clock end gs es lines
+from_nothing clock k cs v end gs es lines same settled served =
+    let quiet : waiting cs ≡ (λ (d : ℕ). 0) = λ i d. settled_quiet cs settled d i in (
+      v,
+      subst (λ (w : ℕ → ℕ). StepsServed clock initial w v end gs es lines) quiet
+          (subst (λ (t : Clock). StepsServed t initial (waiting cs) v end gs es lines) same served),
+    )
 
-pub collects_done : (clock k : Clock) (cs : List Connection) (v : ℕ → ℕ) (refused : Bool) (status : ℕ) (gs : List Given)
-    (es : List AcceptedEvent) (lines : List ℕ) → k ≡ clock → IsSettled cs
-    → StepsServed k initial (waiting cs) v (Ok refused) gs es lines → status ≡ (if refused then 1 else 0)
-    → Collects clock status gs es lines
-collects_done clock k cs v refused status gs es lines same settled served is =
-    (v, inl (refused, from_nothing clock k cs v (Ok refused) gs es lines same settled served, is))
+-- memory ran out before the first step
+pub nothing_served : (clock : Clock) → Collects clock (Err stopped.Memory) [] [] []
+nothing_served clock = (λ d. 0, inl (refl, refl, refl))
 
-pub collects_stop : (clock k : Clock) (cs : List Connection) (v : ℕ → ℕ) (stop : Stopped) (status : ℕ) (gs : List Given)
-    (es : List AcceptedEvent) (lines : List ℕ) → k ≡ clock → IsSettled cs → ¬ (stop ≡ stopped.Memory)
-    → StepsServed k initial (waiting cs) v (Err stop) gs es lines → status ≡ 2 → Collects clock status gs es lines
-collects_stop clock k cs v stopped.Step status gs es lines same settled enough served is =
-    (v, inr (is, inl (from_nothing clock k cs v (Err stopped.Step) gs es lines same settled served)))
-collects_stop clock k cs v stopped.Notes status gs es lines same settled enough served is =
-    (v, inr (is, inr (inl (from_nothing clock k cs v (Err stopped.Notes) gs es lines same settled served))))
-collects_stop clock k cs v stopped.Endless status gs es lines same settled enough served is =
-    (v, inr (is, inr (inr (from_nothing clock k cs v (Err stopped.Endless) gs es lines same settled served))))
-collects_stop clock k cs v stopped.Memory status gs es lines same settled enough served is = absurd (enough refl)
+-- ---- the notes
 
-pub stop_settled : (stop : Stopped) (P : Type 0) → ¬ (stop ≡ stopped.Memory) → UnlessMemory {A = Bool} (Err stop) P → P
-stop_settled stopped.Step P enough h = h
-stop_settled stopped.Notes P enough h = h
-stop_settled stopped.Endless P enough h = h
-stop_settled stopped.Memory P enough h = absurd (enough refl)
+later_rises : (a b c : ℕ) → b ≡ a → Rises b c → Rises a c
+later_rises a b c same rises = subst (λ (n : ℕ). Rises n c) same rises
+
+earlier_rises : (a b c : ℕ) → c ≡ b → Rises a b → Rises a c
+earlier_rises a b c same rises = subst (λ (n : ℕ). Rises a n) (sym same) rises
+
+-- lines behind those that were noted
+behind : (a b c : ℕ) (t0 t1 t2 : Option (List ℕ)) (told lines : List ℕ) → b ≡ a → Appends t0 t1 told
+    → NotesBehind b c t1 t2 [] lines → NotesBehind a c t0 t2 told lines
+behind a b c t0 t1 t2 told lines same before (inl (quiet, more)) =
+    inl (quiet ∙ same, Appends-trans t0 t1 t2 told lines before more)
+behind a b c t0 t1 t2 told lines same before (inr (rises, n, more)) =
+    inr (later_rises a b c same rises, n, Appends-trans t0 t1 t2 told (take n lines) before more)
+
+nothing_more : (t0 t1 t2 : Option (List ℕ)) (told : List ℕ) → Appends t0 t1 told → Appends t1 t2 [] → Appends t0 t2 told
+nothing_more t0 t1 t2 told before more =
+    subst (Appends t0 t2) (append-nil told) (Appends-trans t0 t1 t2 told [] before more)
+
+pub notes_out : (end : Served) (a b c : ℕ) (t0 t1 t2 : Option (List ℕ)) (told lines : List ℕ) → NotesFail end a b
+    → Appends t0 t1 told → NotesThen end b c t1 t2 lines → NotesOut end a c t0 t2 told lines
+notes_out (Ok refused) a b c t0 t1 t2 told lines same before more =
+    behind a b c t0 t1 t2 told lines same before more
+notes_out (Err stopped.Step) a b c t0 t1 t2 told lines same before more =
+    behind a b c t0 t1 t2 told lines same before more
+notes_out (Err stopped.Endless) a b c t0 t1 t2 told lines same before more =
+    behind a b c t0 t1 t2 told lines same before more
+notes_out (Err stopped.Memory) a b c t0 t1 t2 told lines same before more =
+    behind a b c t0 t1 t2 told lines same before more
+notes_out (Err stopped.Notes) a b c t0 t1 t2 told lines rises before (quiet, more) =
+    (earlier_rises a b c quiet rises, nothing_more t0 t1 t2 told before more)
+notes_out (Err stopped.MemoryAndNotes) a b c t0 t1 t2 told lines rises before (quiet, more) =
+    (earlier_rises a b c quiet rises, nothing_more t0 t1 t2 told before more)
+
+-- of lines of which only the first were noted, the notes having failed
+pub first_lines : (a b : ℕ) (t0 t1 : Option (List ℕ)) (line rest : List ℕ) (n : ℕ) → Rises a b → n < length line
+    → Appends t0 t1 (take n line) → NotesBehind a b t0 t1 [] (line ++ rest)
+first_lines a b t0 t1 line rest n rises less taken =
+    let some : n ≤ length line = omega (arith, less) in
+    inr (rises, n, subst (Appends t0 t1) (sym (take-append-le n line rest some)) taken)
+
+-- a line, and then others
+pub then_lines : (a b c : ℕ) (t0 t1 t2 : Option (List ℕ)) (line lines : List ℕ) → b ≡ a → Appends t0 t1 line
+    → NotesBehind b c t1 t2 [] lines → NotesBehind a c t0 t2 [] (line ++ lines)
+then_lines a b c t0 t1 t2 line lines same before (inl (quiet, more)) =
+    inl (quiet ∙ same, Appends-trans t0 t1 t2 line lines before more)
+then_lines a b c t0 t1 t2 line lines same before (inr (rises, n, more)) =
+    inr (
+      later_rises a b c same rises,
+      length line + n,
+      subst (Appends t0 t2) (sym (take-append-add line lines n))
+          (Appends-trans t0 t1 t2 line (take n lines) before more),
+    )
+
+-- ---- the writer
+
+-- the lines behind a line
+pub writes_behind : (text line rest : List ℕ) (status a b : ℕ) (t0 t1 : Option (List ℕ)) (lines : List ℕ)
+    → WritesText text 2 [] rest status a b t0 t1 lines
+    → WritesText text 2 line (line ++ rest) status a b t0 t1 (line ++ lines)
+writes_behind text line rest status a b t0 t1 lines (inl (is, taken, none)) =
+    inl (is, taken, ap (λ (z : List ℕ). line ++ z) none ∙ append-nil line)
+writes_behind text line rest status a b t0 t1 lines (inr (is, taken, lines_are)) =
+    inr (is, taken, ap (λ (z : List ℕ). line ++ z) lines_are)
+
+-- ---- one call
+
+-- a text was written to a device
+pub took : (result : Result (Unit {0}) WriteFault) (a b : ℕ) (t0 t1 : Option (List ℕ)) (text : List ℕ)
+    → OnOk result (Appends t0 t1 text) → OnOk result (b ≡ a) → IfErr result (λ f. f.sent < length text)
+    → IfErr result (λ f. Appends t0 t1 (take f.sent text)) → (a < 2 ^ 63 → OnErr result (a < b))
+    → Takes a b t0 t1 text
+took (Ok u) a b t0 t1 text whole same less sent cause = inl (same, whole)
+took (Err f) a b t0 t1 text whole same less sent cause = inr (cause, f.sent, less, sent)
+
+pub noted : (a b : ℕ) (t0 t1 : Option (List ℕ)) (lines : List ℕ) → Takes a b t0 t1 lines
+    → NotesBehind a b t0 t1 [] lines
+noted a b t0 t1 lines (inl whole) = inl whole
+noted a b t0 t1 lines (inr (rises, n, less, taken)) = inr (rises, n, taken)
+
+-- no line is due
+pub written_unnoted : (text : List ℕ) (status a b : ℕ) (t0 t1 : Option (List ℕ)) → Takes a b t0 t1 text → status ≡ 2
+    → WritesText text 2 [] [] status a b t0 t1 []
+written_unnoted text status a b t0 t1 (inl taken) is = inl (is, taken, refl)
+written_unnoted text status a b t0 t1 (inr taken) is = inr (is, taken, refl)
+
+-- only the first octets of a line were noted, and then the archive was written
+pub written_behind_part : (text line rest : List ℕ) (status a b : ℕ) (t0 t1 : Option (List ℕ)) (c d n : ℕ)
+    (m0 m1 : Option (List ℕ)) → Takes a b t0 t1 text → status ≡ 2 → Rises c d → n < length line
+    → Appends m0 m1 (take n line)
+    → (lines : List ℕ) × WritesText text 2 line (line ++ rest) status a b t0 t1 lines × NotesBehind c d m0 m1 [] lines
+written_behind_part text line rest status a b t0 t1 c d n m0 m1 (inl taken) is rises less front =
+    (line, inl (is, taken, refl), inr (rises, n, front))
+written_behind_part text line rest status a b t0 t1 c d n m0 m1 (inr taken) is rises less front =
+    (line ++ rest, inr (is, taken, refl), first_lines c d m0 m1 line rest n rises less front)
+
+-- by why serving stopped
+pub stop_out : (why was : Stopped) (text : List ℕ) (status a b : ℕ) (t0 t1 : Option (List ℕ)) (c d : ℕ)
+    (m0 m1 : Option (List ℕ)) → was ≡ why
+    → ((lines : List ℕ) × WritesOut (Err why) text status a b t0 t1 lines × NotesThen (Err why) c d m0 m1 lines)
+    → (lines : List ℕ) × WritesOut (Err was) text status a b t0 t1 lines × NotesThen (Err was) c d m0 m1 lines
+stop_out why was text status a b t0 t1 c d m0 m1 is (lines, out, then) = (
+  lines,
+  subst (λ (k : Stopped). WritesOut (Err k) text status a b t0 t1 lines) (sym is) out,
+  subst (λ (k : Stopped). NotesThen (Err k) c d m0 m1 lines) (sym is) then,
+)
+
+-- ---- the status
+
+pub known_out : (end : Served) (text : List ℕ) (status a b : ℕ) (t0 t1 : Option (List ℕ)) (lines : List ℕ)
+    → WritesOut end text status a b t0 t1 lines → status ≤ 3
+known_out (Ok true) text status a b t0 t1 lines (inl out) = omega (arith, out.0)
+known_out (Ok true) text status a b t0 t1 lines (inr out) = omega (arith, out.0)
+known_out (Ok false) text status a b t0 t1 lines (inl out) = omega (arith, out.0)
+known_out (Ok false) text status a b t0 t1 lines (inr out) = omega (arith, out.0)
+known_out (Err stopped.Step) text status a b t0 t1 lines (inl out) = omega (arith, out.0)
+known_out (Err stopped.Step) text status a b t0 t1 lines (inr out) = omega (arith, out.0)
+known_out (Err stopped.Endless) text status a b t0 t1 lines (inl out) = omega (arith, out.0)
+known_out (Err stopped.Endless) text status a b t0 t1 lines (inr out) = omega (arith, out.0)
+known_out (Err stopped.Notes) text status a b t0 t1 lines (inl out) = omega (arith, out.0)
+known_out (Err stopped.Notes) text status a b t0 t1 lines (inr out) = omega (arith, out.0)
+known_out (Err stopped.Memory) text status a b t0 t1 lines out = omega (arith, out.0.0)
+known_out (Err stopped.MemoryAndNotes) text status a b t0 t1 lines out = omega (arith, out.0.0)
+
+pub nothing_out : (end : Served) (text : List ℕ) (status a b : ℕ) (t0 t1 : Option (List ℕ)) (lines : List ℕ)
+    → WritesOut end text status a b t0 t1 lines → status ≡ 3 → t1 ≡ t0
+nothing_out (Ok true) text status a b t0 t1 lines (inl out) is = absurd (omega (arith, out.0, is))
+nothing_out (Ok true) text status a b t0 t1 lines (inr out) is = absurd (omega (arith, out.0, is))
+nothing_out (Ok false) text status a b t0 t1 lines (inl out) is = absurd (omega (arith, out.0, is))
+nothing_out (Ok false) text status a b t0 t1 lines (inr out) is = absurd (omega (arith, out.0, is))
+nothing_out (Err stopped.Step) text status a b t0 t1 lines (inl out) is = absurd (omega (arith, out.0, is))
+nothing_out (Err stopped.Step) text status a b t0 t1 lines (inr out) is = absurd (omega (arith, out.0, is))
+nothing_out (Err stopped.Endless) text status a b t0 t1 lines (inl out) is = absurd (omega (arith, out.0, is))
+nothing_out (Err stopped.Endless) text status a b t0 t1 lines (inr out) is = absurd (omega (arith, out.0, is))
+nothing_out (Err stopped.Notes) text status a b t0 t1 lines (inl out) is = absurd (omega (arith, out.0, is))
+nothing_out (Err stopped.Notes) text status a b t0 t1 lines (inr out) is = absurd (omega (arith, out.0, is))
+nothing_out (Err stopped.Memory) text status a b t0 t1 lines out is = out.0.2
+nothing_out (Err stopped.MemoryAndNotes) text status a b t0 t1 lines out is = out.0.2

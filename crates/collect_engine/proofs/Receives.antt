@@ -1,6 +1,6 @@
 -- What a run over one event does.
 use denote.Bor.{Bor}
-use Rattle.std.proofs.Common.{◌≡◌, ◌⊎◌, ℕ, ◌+◌, ◌<◌, ◌≤◌, zero, suc, List, [], ◌∷◌, ◌++◌, length, take, refl, sym, ◌∙◌}
+use Rattle.std.proofs.Common.{◌≡◌, ℕ, ◌+◌, ◌<◌, ◌≤◌, zero, suc, List, [], ◌∷◌, ◌++◌, length, take, refl, sym, ◌∙◌}
 use Rattle.std.proofs.Common.{ap, subst, inl, inr, arith}
 use Rattle.std.specs.Prelude.{IsSomeAnd, Some, None, Option}
 use Rattle.std.proofs.lemmas.Bool.Decides.{eqb_tells}
@@ -27,7 +27,7 @@ use Rattle.syslog_collect.specs.declared.fault.CollectFault.TheVariants.{Already
 use Rattle.syslog_collect.specs.declared.fault.CollectFault.TheVariants.{StreamTooLong, Unreleased, Unterminated}
 use Rattle.syslog_collect.specs.declared.fault.CollectFault.TheVariants.{Memory}
 use Rattle.syslog_collect.specs.declared.outcome.Outcome.{Outcome}
-use Rattle.collect_engine.specs.Receiving.{IfNotMemory, IsPartOf, IsWholeEnd, ReceivesAs, received_as}
+use Rattle.collect_engine.specs.Receiving.{IfNotMemory, IsWholeEnd, ReceivesAs, TakesPartOf, kept_outcomes, received_as}
 use Rattle.collect_engine.specs.declared.receiving.Received.{Received}
 use Rattle.collect_engine.specs.declared.receiving.Received.TheVariants as received
 use Rattle.collect_engine.proofs.Settled.{broken_quiet, part_quiet, quiet_settled, settled_quiet}
@@ -70,9 +70,9 @@ stops_at_one clock h v e (suc at) n fault (less, stops) = absurd (omega (arith, 
 pub logs_of_one : (clock : Clock) (h : History) (w v : ℕ → ℕ) (e : Event) (at n : ℕ) (fault : CollectFault)
     (a b : List Entry) (os : List Outcome) → at < 1 → LogsRun clock h w v (e ∷ []) (Stopped at n fault) a b os
     → (u : ℕ → ℕ) × (between : List Entry) × (later : List Outcome) × ((d : ℕ) → u d ≡ w d)
-    × LogsRefused clock h u v e n between b later
+    × LogsRefused clock h u v e n between b later × (os ≡ later)
 logs_of_one clock h w v e zero n fault a b os less (u, here, later, mid, is, (none, same, waits), logs) =
-    (u, mid, later, waits, logs)
+    (u, mid, later, waits, logs, is ∙ ap (λ (z : List Outcome). z ++ later) none)
 logs_of_one clock h w v e (suc at) n fault a b os less logs = absurd (omega (arith, less))
 
 some_map : {A : Type 0} (o : Option A) (P Q : A → Type 0) → ((x : A) → P x → Q x) → IsSomeAnd o P → IsSomeAnd o Q
@@ -158,7 +158,8 @@ pub refused_settled : (clock : Clock) (cs ds : List Connection) (now first : Lis
     → Grows (LogsRun clock h (waiting cs) (waiting ds) (e ∷ []) (Stopped at n fault) a b) log os
     → IfNotMemory (received_as fault) (IsSettled ds)
 refused_settled clock cs ds now first es h e at n fault a b log os stands settled stops (grown, grows, logs) =
-    let (u, mid, later, same, one) = logs_of_one clock h (waiting cs) (waiting ds) e at n fault a b grown stops.0 logs in
+    let (u, mid, later, same, one, all) =
+    logs_of_one clock h (waiting cs) (waiting ds) e at n fault a b grown stops.0 logs in
     if_not_memory (received_as fault) ((d : ℕ) → waiting ds d ≤ u d) (IsSettled ds)
     (λ less. quiet_settled clock ds now first es stands
     (λ d. none_left (waiting ds d) (u d) (waiting cs d) (less d) (same d) (settled_quiet cs settled d)))
@@ -167,15 +168,15 @@ refused_settled clock cs ds now first es h e at n fault a b log os stands settle
 
 -- ---- what is made of a refusal
 
-pub memory_part : (e : Event) (n m : ℕ) → IsPartOf (accepted_event e) (accepted_part e n (Memory m))
-memory_part (event_Opened c k) n m = refl
-memory_part (event_Piece c o) n m = elim (take n o.now) as (λ t. take n o.now ≡ t
-    → (nonempty_piece c t ≡ []) ⊎ ((k : ℕ) × (nonempty_piece c t ≡ Piece c (take k o.now) ∷ []))) [
-      | [] ↦ λ e. inl refl
-      | (x ∷ xs) ↦ λ e. inr (n, ap (λ (z : List ℕ). Piece c z ∷ []) (sym e))
-    ] refl
-memory_part (event_Ended c) n m = refl
-memory_part (event_Datagram o) n m = refl
+pub memory_part : (clock : Clock) (h : History) (w u v : ℕ → ℕ) (e : Event) (n m : ℕ) (a b : List Entry)
+    (os : List Outcome) → ((d : ℕ) → u d ≡ w d) → LogsRefused clock h u v e n a b os
+    → TakesPartOf clock h w v (accepted_event e) os (accepted_part e n (Memory m))
+memory_part clock h w u v (event_Opened c k) n m a b os same logs = (refl, logs.0)
+memory_part clock h w u v (event_Piece c o) n m a b os same logs =
+    let all : u ≡ w = λ i d. same d i in
+    (n, a, b, refl, subst (λ (f : ℕ → ℕ). LogsPart clock h f v c (take n o.now) a b os) all logs)
+memory_part clock h w u v (event_Ended c) n m a b os same logs = (refl, logs.0)
+memory_part clock h w u v (event_Datagram o) n m a b os same logs = (refl, logs.0)
 
 nothing_of : (c n : ℕ) (o : Bor (List ℕ)) → n ≡ 0 → nonempty_piece c (take n o.now) ≡ []
 nothing_of c n o none = ap (λ (k : ℕ). nonempty_piece c (take k o.now)) none
@@ -184,14 +185,17 @@ piece_as : (clock : Clock) (h : History) (w u v : ℕ → ℕ) (c n : ℕ) (o : 
     (a b : List Entry) (os : List Outcome) → ((d : ℕ) → u d ≡ w d)
     → LogsPart clock h u v c (take n o.now) a b os → StopsAt clock h v (event_Piece c o) n fault
     → (IsSomeAnd (stream_of c h.streams) HoldsBadCount → w c ≡ 0)
-    → ReceivesAs clock h w v (Piece c o.now) (received_as fault) [] (nonempty_piece c (take n o.now))
-piece_as clock h w u v c n o (Memory m) a b os same logs stops quiet = memory_part (event_Piece c o) n m
+    → ReceivesAs clock h w v (Piece c o.now) (received_as fault) (kept_outcomes fault os)
+    (nonempty_piece c (take n o.now))
+piece_as clock h w u v c n o (Memory m) a b os same logs stops quiet =
+    memory_part clock h w u v (event_Piece c o) n m a b os same logs
 piece_as clock h w u v c n o NotOpen a b os same logs (few, inl e) quiet = absurd (cc)
 piece_as clock h w u v c n o NotOpen a b os same logs (few, inr is) quiet =
     (nothing_of c n o is.1, refl, inl is.0)
 piece_as clock h w u v c n o ConnFailed a b os same logs (few, inl e) quiet = absurd (cc)
 piece_as clock h w u v c n o ConnFailed a b os same logs (few, inr is) quiet =
-    let none = some_fact (stream_of c h.streams) (IsPieceCause clock o.now n (v c) ConnFailed) (n ≡ 0) (λ s k. k.1) is in
+    let none =
+    some_fact (stream_of c h.streams) (IsPieceCause clock o.now n (v c) ConnFailed) (n ≡ 0) (λ s k. k.1) is in
     let bad = some_map (stream_of c h.streams) (IsPieceCause clock o.now n (v c) ConnFailed) HoldsBadCount (λ s k. k.0)
     is in
     inr (
@@ -219,90 +223,89 @@ piece_as clock h w u v c n o (Unterminated start) a b os same logs (few, inl e) 
 piece_as clock h w u v c n o (Unterminated start) a b os same logs (few, inr is) quiet = absurd is
 
 opened_as : (clock : Clock) (h : History) (w v : ℕ → ℕ) (c n : ℕ) (k : Framing) (fault : CollectFault)
-    → StopsAt clock h v (event_Opened c k) n fault
-    → ReceivesAs clock h w v (Opened c k) (received_as fault) [] []
-opened_as clock h w v c n k (Memory m) stops = refl
-opened_as clock h w v c n k AlreadyOpen (few, inl e) = absurd (cc)
-opened_as clock h w v c n k AlreadyOpen (few, inr is) = (refl, refl, inl is)
-opened_as clock h w v c n k TooManyOpen (few, inl e) = absurd (cc)
-opened_as clock h w v c n k TooManyOpen (few, inr is) = (refl, refl, inr is.1)
-opened_as clock h w v c n k NotOpen (few, inl e) = absurd (cc)
-opened_as clock h w v c n k NotOpen (few, inr is) = absurd is
-opened_as clock h w v c n k ConnFailed (few, inl e) = absurd (cc)
-opened_as clock h w v c n k ConnFailed (few, inr is) = absurd is
-opened_as clock h w v c n k StreamTooLong (few, inl e) = absurd (cc)
-opened_as clock h w v c n k StreamTooLong (few, inr is) = absurd is
-opened_as clock h w v c n k Unreleased (few, inl e) = absurd (cc)
-opened_as clock h w v c n k Unreleased (few, inr is) = absurd is
-opened_as clock h w v c n k (Unterminated start) (few, inl e) = absurd (cc)
-opened_as clock h w v c n k (Unterminated start) (few, inr is) = absurd is
+    (os : List Outcome) → os ≡ [] → StopsAt clock h v (event_Opened c k) n fault
+    → ReceivesAs clock h w v (Opened c k) (received_as fault) (kept_outcomes fault os) []
+opened_as clock h w v c n k (Memory m) os none stops = (refl, none)
+opened_as clock h w v c n k AlreadyOpen os none (few, inl e) = absurd (cc)
+opened_as clock h w v c n k AlreadyOpen os none (few, inr is) = (refl, refl, inl is)
+opened_as clock h w v c n k TooManyOpen os none (few, inl e) = absurd (cc)
+opened_as clock h w v c n k TooManyOpen os none (few, inr is) = (refl, refl, inr is.1)
+opened_as clock h w v c n k NotOpen os none (few, inl e) = absurd (cc)
+opened_as clock h w v c n k NotOpen os none (few, inr is) = absurd is
+opened_as clock h w v c n k ConnFailed os none (few, inl e) = absurd (cc)
+opened_as clock h w v c n k ConnFailed os none (few, inr is) = absurd is
+opened_as clock h w v c n k StreamTooLong os none (few, inl e) = absurd (cc)
+opened_as clock h w v c n k StreamTooLong os none (few, inr is) = absurd is
+opened_as clock h w v c n k Unreleased os none (few, inl e) = absurd (cc)
+opened_as clock h w v c n k Unreleased os none (few, inr is) = absurd is
+opened_as clock h w v c n k (Unterminated start) os none (few, inl e) = absurd (cc)
+opened_as clock h w v c n k (Unterminated start) os none (few, inr is) = absurd is
 
-ended_as : (clock : Clock) (h : History) (w v : ℕ → ℕ) (c n : ℕ) (fault : CollectFault) → ((d : ℕ) → v d ≡ w d)
-    → StopsAt clock h v (event_Ended c) n fault
-    → ReceivesAs clock h w v (Ended c) (received_as fault) [] (accepted_refused_end c fault)
-ended_as clock h w v c n (Memory m) same stops = refl
-ended_as clock h w v c n (Unterminated start) same (few, inl e) = absurd (cc)
-ended_as clock h w v c n (Unterminated start) same (few, inr is) = (refl, refl, same, is.0)
-ended_as clock h w v c n NotOpen same (few, inl e) = absurd (cc)
-ended_as clock h w v c n NotOpen same (few, inr is) = (refl, refl, inl is.0)
-ended_as clock h w v c n Unreleased same (few, inl e) = absurd (cc)
-ended_as clock h w v c n Unreleased same (few, inr is) = (refl, refl, inr is.1)
-ended_as clock h w v c n AlreadyOpen same (few, inl e) = absurd (cc)
-ended_as clock h w v c n AlreadyOpen same (few, inr is) = absurd is.0
-ended_as clock h w v c n TooManyOpen same (few, inl e) = absurd (cc)
-ended_as clock h w v c n TooManyOpen same (few, inr is) = absurd is.0
-ended_as clock h w v c n ConnFailed same (few, inl e) = absurd (cc)
-ended_as clock h w v c n ConnFailed same (few, inr is) = absurd is.0
-ended_as clock h w v c n StreamTooLong same (few, inl e) = absurd (cc)
-ended_as clock h w v c n StreamTooLong same (few, inr is) = absurd is.0
+ended_as : (clock : Clock) (h : History) (w v : ℕ → ℕ) (c n : ℕ) (fault : CollectFault) (os : List Outcome) → os ≡ []
+    → ((d : ℕ) → v d ≡ w d) → StopsAt clock h v (event_Ended c) n fault
+    → ReceivesAs clock h w v (Ended c) (received_as fault) (kept_outcomes fault os) (accepted_refused_end c fault)
+ended_as clock h w v c n (Memory m) os none same stops = (refl, none)
+ended_as clock h w v c n (Unterminated start) os none same (few, inl e) = absurd (cc)
+ended_as clock h w v c n (Unterminated start) os none same (few, inr is) = (refl, refl, same, is.0)
+ended_as clock h w v c n NotOpen os none same (few, inl e) = absurd (cc)
+ended_as clock h w v c n NotOpen os none same (few, inr is) = (refl, refl, inl is.0)
+ended_as clock h w v c n Unreleased os none same (few, inl e) = absurd (cc)
+ended_as clock h w v c n Unreleased os none same (few, inr is) = (refl, refl, inr is.1)
+ended_as clock h w v c n AlreadyOpen os none same (few, inl e) = absurd (cc)
+ended_as clock h w v c n AlreadyOpen os none same (few, inr is) = absurd is.0
+ended_as clock h w v c n TooManyOpen os none same (few, inl e) = absurd (cc)
+ended_as clock h w v c n TooManyOpen os none same (few, inr is) = absurd is.0
+ended_as clock h w v c n ConnFailed os none same (few, inl e) = absurd (cc)
+ended_as clock h w v c n ConnFailed os none same (few, inr is) = absurd is.0
+ended_as clock h w v c n StreamTooLong os none same (few, inl e) = absurd (cc)
+ended_as clock h w v c n StreamTooLong os none same (few, inr is) = absurd is.0
 
 datagram_as : (clock : Clock) (h : History) (w v : ℕ → ℕ) (n : ℕ) (o : Bor (List ℕ)) (fault : CollectFault)
-    → StopsAt clock h v (event_Datagram o) n fault
-    → ReceivesAs clock h w v (Datagram o.now) (received_as fault) [] []
-datagram_as clock h w v n o (Memory m) stops = refl
-datagram_as clock h w v n o AlreadyOpen (few, inl e) = absurd (cc)
-datagram_as clock h w v n o AlreadyOpen (few, inr is) = let e = is.0 in absurd (cc)
-datagram_as clock h w v n o TooManyOpen (few, inl e) = absurd (cc)
-datagram_as clock h w v n o TooManyOpen (few, inr is) = let e = is.0 in absurd (cc)
-datagram_as clock h w v n o NotOpen (few, inl e) = absurd (cc)
-datagram_as clock h w v n o NotOpen (few, inr is) = let e = is.0 in absurd (cc)
-datagram_as clock h w v n o ConnFailed (few, inl e) = absurd (cc)
-datagram_as clock h w v n o ConnFailed (few, inr is) = let e = is.0 in absurd (cc)
-datagram_as clock h w v n o StreamTooLong (few, inl e) = absurd (cc)
-datagram_as clock h w v n o StreamTooLong (few, inr is) = let e = is.0 in absurd (cc)
-datagram_as clock h w v n o Unreleased (few, inl e) = absurd (cc)
-datagram_as clock h w v n o Unreleased (few, inr is) = let e = is.0 in absurd (cc)
-datagram_as clock h w v n o (Unterminated start) (few, inl e) = absurd (cc)
-datagram_as clock h w v n o (Unterminated start) (few, inr is) = let e = is.0 in absurd (cc)
+    (os : List Outcome) → os ≡ [] → StopsAt clock h v (event_Datagram o) n fault
+    → ReceivesAs clock h w v (Datagram o.now) (received_as fault) (kept_outcomes fault os) []
+datagram_as clock h w v n o (Memory m) os none stops = (refl, none)
+datagram_as clock h w v n o AlreadyOpen os none (few, inl e) = absurd (cc)
+datagram_as clock h w v n o AlreadyOpen os none (few, inr is) = let e = is.0 in absurd (cc)
+datagram_as clock h w v n o TooManyOpen os none (few, inl e) = absurd (cc)
+datagram_as clock h w v n o TooManyOpen os none (few, inr is) = let e = is.0 in absurd (cc)
+datagram_as clock h w v n o NotOpen os none (few, inl e) = absurd (cc)
+datagram_as clock h w v n o NotOpen os none (few, inr is) = let e = is.0 in absurd (cc)
+datagram_as clock h w v n o ConnFailed os none (few, inl e) = absurd (cc)
+datagram_as clock h w v n o ConnFailed os none (few, inr is) = let e = is.0 in absurd (cc)
+datagram_as clock h w v n o StreamTooLong os none (few, inl e) = absurd (cc)
+datagram_as clock h w v n o StreamTooLong os none (few, inr is) = let e = is.0 in absurd (cc)
+datagram_as clock h w v n o Unreleased os none (few, inl e) = absurd (cc)
+datagram_as clock h w v n o Unreleased os none (few, inr is) = let e = is.0 in absurd (cc)
+datagram_as clock h w v n o (Unterminated start) os none (few, inl e) = absurd (cc)
+datagram_as clock h w v n o (Unterminated start) os none (few, inr is) = let e = is.0 in absurd (cc)
 
 event_as : (clock : Clock) (h : History) (w u v : ℕ → ℕ) (e : Event) (n : ℕ) (fault : CollectFault) (a b : List Entry)
     (os : List Outcome) → ((d : ℕ) → u d ≡ w d) → LogsRefused clock h u v e n a b os → StopsAt clock h v e n fault
     → ((c : ℕ) → IsSomeAnd (stream_of c h.streams) HoldsBadCount → w c ≡ 0)
-    → ReceivesAs clock h w v (accepted_event e) (received_as fault) [] (accepted_part e n fault)
-event_as clock h w u v (event_Opened c k) n fault a b os same logs stops quiet = opened_as clock h w v c n k fault stops
+    → ReceivesAs clock h w v (accepted_event e) (received_as fault) (kept_outcomes fault os) (accepted_part e n fault)
+event_as clock h w u v (event_Opened c k) n fault a b os same logs stops quiet =
+    opened_as clock h w v c n k fault os logs.0 stops
 event_as clock h w u v (event_Piece c o) n fault a b os same logs stops quiet =
     piece_as clock h w u v c n o fault a b os same logs stops (quiet c)
 event_as clock h w u v (event_Ended c) n fault a b os same (none, kept, is) stops quiet =
-    ended_as clock h w v c n fault (λ d. is d ∙ same d) stops
-event_as clock h w u v (event_Datagram o) n fault a b os same logs stops quiet = datagram_as clock h w v n o fault stops
+    ended_as clock h w v c n fault os none (λ d. is d ∙ same d) stops
+event_as clock h w u v (event_Datagram o) n fault a b os same logs stops quiet =
+    datagram_as clock h w v n o fault os logs.0 stops
 
 pub stopped_as : (clock : Clock) (cs : List Connection) (v : ℕ → ℕ) (kept first : List Entry) (es : List AcceptedEvent)
     (e : Event) (at n : ℕ) (fault : CollectFault) (a b : List Entry) (log os : List Outcome)
     → Stands clock cs kept first es → StopsAs clock (history_of es) v (e ∷ []) (Stopped at n fault)
-    → Grows (LogsRun clock (history_of es) (waiting cs) v (e ∷ []) (Stopped at n fault) a b) log os
-    → ReceivesAs clock (history_of es) (waiting cs) v (accepted_event e) (received_as fault) []
+    → Grows (LogsRun clock (history_of es) (waiting cs) v (e ∷ []) (Stopped at n fault) a b) log os → log ≡ []
+    → ReceivesAs clock (history_of es) (waiting cs) v (accepted_event e) (received_as fault) (kept_outcomes fault os)
     (accepted_run (e ∷ []) (Stopped at n fault))
-stopped_as clock cs v kept first es e at n fault a b log os was stops (grown, grows, logs) =
-    let (u, mid, later, same, one) = logs_of_one clock (history_of es) (waiting cs) v e at n fault a b grown stops.0 logs
-    in
-    subst (λ (fs : List AcceptedEvent). ReceivesAs clock (history_of es) (waiting cs) v (accepted_event e)
-    (received_as fault) [] fs) (sym (part_of_one e at n fault stops.0))
-    (event_as clock (history_of es) (waiting cs) u v e n fault mid b later same one
-    (stops_at_one clock (history_of es) v e at n fault stops)
-    (λ c bad. broken_quiet clock c cs kept first es was bad))
-
-pub memory_of_one : (e : Event) (at n m : ℕ) (fault : CollectFault) → fault ≡ Memory m → at < 1
-    → IsPartOf (accepted_event e) (accepted_run (e ∷ []) (Stopped at n fault))
-memory_of_one e at n m fault is less =
-    subst (λ (fs : List AcceptedEvent). IsPartOf (accepted_event e) fs) (sym (part_of_one e at n fault less))
-    (subst (λ (k : CollectFault). IsPartOf (accepted_event e) (accepted_part e n k)) (sym is) (memory_part e n m))
+stopped_as clock cs v kept first es e at n fault a b log os was stops (grown, grows, logs) empty =
+    let h = history_of es in
+    let (u, mid, later, same, one, all) = logs_of_one clock h (waiting cs) v e at n fault a b grown stops.0 logs in
+    let whole : later ≡ os = sym (grows ∙ ap (λ (z : List Outcome). z ++ grown) empty ∙ all) in
+    subst (λ (fs : List AcceptedEvent). ReceivesAs clock h (waiting cs) v (accepted_event e)
+    (received_as fault) (kept_outcomes fault os) fs) (sym (part_of_one e at n fault stops.0))
+    (subst (λ (z : List Outcome). ReceivesAs clock h (waiting cs) v (accepted_event e) (received_as fault)
+    (kept_outcomes fault z) (accepted_part e n fault)) whole
+    (event_as clock h (waiting cs) u v e n fault mid b later same one
+    (stops_at_one clock h v e at n fault stops)
+    (λ c bad. broken_quiet clock c cs kept first es was bad)))

@@ -7,8 +7,8 @@ use Rattle.std.proofs.lemmas.List.{append-nil, length-append}
 use Rattle.syslog_legacy.specs.FrameReadings.{Clock}
 use Rattle.syslog_collect.specs.History.{AcceptedEvent, History, accept, history_after, history_of, initial}
 use Rattle.syslog_collect.specs.declared.outcome.Outcome.{Outcome}
-use Rattle.collect_engine.specs.Lines.{NotesAs, counted, has_some, lines_on}
-use Rattle.collect_engine.specs.Receiving.{IfNotMemory, ReceivesAs}
+use Rattle.collect_engine.specs.Lines.{NotesAs, NotesFail, counted, has_some, lines_on, memory_after}
+use Rattle.collect_engine.specs.Receiving.{IfNotMemory, ReceivesAs, TakesPartOf}
 use Rattle.collect_engine.specs.Serving.{AreFirst, Come, EventServed, GoesOn, ServesAll, ServesStep, ServesToEnd}
 use Rattle.collect_engine.specs.Serving.{StepServed, StepsServed, StopsAtStep, UnlessMemory}
 use Rattle.collect_engine.specs.Steps.{Comes, Given}
@@ -30,9 +30,63 @@ event_served clock h w v n m e r os es told (Ok u) goes is noted number = (r, os
 event_served clock h w v n m e r os es told (Err stopped.Notes) goes is (k, less, first) number =
     (counted n os, lines_on n os r, k, (r, os, goes, is, refl, refl), less, first)
 event_served clock h w v n m e r os es told (Err stopped.Memory) goes is noted number =
-    inr (counted n os, lines_on n os r, (r, os, goes, is, refl, refl))
+    inr (counted n os, lines_on n os r, (r, os, goes, is, refl, refl), noted)
 event_served clock h w v n m e r os es told (Err stopped.Step) goes is noted number = absurd noted
 event_served clock h w v n m e r os es told (Err stopped.Endless) goes is noted number = absurd noted
+event_served clock h w v n m e r os es told (Err stopped.MemoryAndNotes) goes is noted number = absurd noted
+
+-- memory ran out at an event; the lines on what was taken of it were written, or could not be
+memory_served : (clock : Clock) (h : History) (w v : ℕ → ℕ) (n m : ℕ) (e : AcceptedEvent) (os : List Outcome)
+    (es : List AcceptedEvent) (told : List ℕ) (result : Result (Unit {0}) Stopped) → TakesPartOf clock h w v e os es
+    → NotesAs result (lines_on n os received.Memory) told
+    → EventServed {U = Unit {0}} clock h w v n m (Err (memory_after result)) e es told
+memory_served clock h w v n m e os es told (Ok u) is noted = inl (os, is, inl noted)
+memory_served clock h w v n m e os es told (Err stopped.Notes) is (k, less, first) = (os, k, is, less, first)
+memory_served clock h w v n m e os es told (Err stopped.Memory) is noted = inl (os, is, inr noted)
+memory_served clock h w v n m e os es told (Err stopped.Step) is noted = absurd noted
+memory_served clock h w v n m e os es told (Err stopped.Endless) is noted = absurd noted
+memory_served clock h w v n m e os es told (Err stopped.MemoryAndNotes) is noted = absurd noted
+
+pub out_of_memory_served : (clock : Clock) (h : History) (w v : ℕ → ℕ) (n m : ℕ) (e : AcceptedEvent)
+    (os : List Outcome) (es : List AcceptedEvent) (told : List ℕ) (result : Result (Unit {0}) Stopped) (why : Stopped)
+    → why ≡ memory_after result → TakesPartOf clock h w v e os es → NotesAs result (lines_on n os received.Memory) told
+    → EventServed {U = Unit {0}} clock h w v n m (Err why) e es told
+out_of_memory_served clock h w v n m e os es told result why is part noted =
+    subst (λ (k : Stopped). EventServed {U = Unit {0}} clock h w v n m (Err k) e es told) (sym is)
+    (memory_served clock h w v n m e os es told result part noted)
+
+memory_settled : (result : Result (Unit {0}) Stopped) (P : Type 0)
+    → UnlessMemory {A = Unit {0}} (Err (memory_after result)) P
+memory_settled (Ok u) P = tt
+memory_settled (Err stopped.Notes) P = tt
+memory_settled (Err stopped.Memory) P = tt
+memory_settled (Err stopped.Step) P = tt
+memory_settled (Err stopped.Endless) P = tt
+memory_settled (Err stopped.MemoryAndNotes) P = tt
+
+pub out_of_memory_settled : (result : Result (Unit {0}) Stopped) (why : Stopped) (P : Type 0)
+    → why ≡ memory_after result → UnlessMemory {A = Unit {0}} (Err why) P
+out_of_memory_settled result why P is =
+    subst (λ (k : Stopped). UnlessMemory {A = Unit {0}} (Err k) P) (sym is) (memory_settled result P)
+
+memory_fails : (result : Result (Unit {0}) Stopped) (was now : ℕ) → NotesFail result was now
+    → NotesFail {A = Unit {0}} (Err (memory_after result)) was now
+memory_fails (Ok u) was now fails = fails
+memory_fails (Err stopped.Notes) was now fails = fails
+memory_fails (Err stopped.Memory) was now fails = fails
+memory_fails (Err stopped.Step) was now fails = fails
+memory_fails (Err stopped.Endless) was now fails = fails
+memory_fails (Err stopped.MemoryAndNotes) was now fails = fails
+
+pub out_of_memory_fails : (result : Result (Unit {0}) Stopped) (why : Stopped) (was now : ℕ)
+    → why ≡ memory_after result → NotesFail result was now → NotesFail {A = Unit {0}} (Err why) was now
+out_of_memory_fails result why was now is fails =
+    subst (λ (k : Stopped). NotesFail {A = Unit {0}} (Err k) was now) (sym is) (memory_fails result was now fails)
+
+-- after calls that did not fail
+pub fails_later : {A : Type 0} (result : Result A Stopped) (was mid now : ℕ) → mid ≡ was → NotesFail result mid now
+    → NotesFail result was now
+fails_later result was mid now same fails = subst (λ (k : ℕ). NotesFail result k now) same fails
 
 pub same_flag : (b : Bool) → b ≡ (b || false)
 same_flag true = refl
@@ -60,6 +114,7 @@ unless_memory (Err stopped.Step) P h = h
 unless_memory (Err stopped.Notes) P h = h
 unless_memory (Err stopped.Endless) P h = h
 unless_memory (Err stopped.Memory) P h = tt
+unless_memory (Err stopped.MemoryAndNotes) P h = tt
 
 -- ---- steps, one after the other
 
@@ -123,20 +178,21 @@ serves_push clock h w v z n m l [] g es fs xs ys (waits, number, events, lines) 
       one,
       (λ d. refl, refl, refl, refl),
     )
-serves_push clock h w v z n m l (x ∷ gs) g es fs xs ys (u, k, here, later, first, rest, events, lines, one, more) step = (
-  u,
-  k,
-  here,
-  later ++ fs,
-  first,
-  rest ++ ys,
-  ap (λ (t : List AcceptedEvent). t ++ fs) events ∙ append_assoc here later fs,
-  ap (λ (t : List ℕ). t ++ ys) lines ∙ append_assoc first rest ys,
-  one,
-  serves_push clock (history_after h here) u v z k m l gs g later fs rest ys more
-      (subst (λ (t : History). ServesStep clock t v z m l g fs ys) (ap (λ (t : List AcceptedEvent). history_after h t)
-      events ∙ history_push h here later) step),
-)
+serves_push clock h w v z n m l (x ∷ gs) g es fs xs ys (u, k, here, later, first, rest, events, lines, one, more)
+    step = (
+      u,
+      k,
+      here,
+      later ++ fs,
+      first,
+      rest ++ ys,
+      ap (λ (t : List AcceptedEvent). t ++ fs) events ∙ append_assoc here later fs,
+      ap (λ (t : List ℕ). t ++ ys) lines ∙ append_assoc first rest ys,
+      one,
+      serves_push clock (history_after h here) u v z k m l gs g later fs rest ys more
+          (subst (λ (t : History). ServesStep clock t v z m l g fs ys)
+          (ap (λ (t : List AcceptedEvent). history_after h t) events ∙ history_push h here later) step),
+    )
 
 pub serves_one_more : (clock : Clock) (h : History) (w v z : ℕ → ℕ) (m l : ℕ) (gs : List Given) (g : Given)
     (es fs : List AcceptedEvent) (xs ys : List ℕ) (last : Bool) → last ≡ false → ServesAll clock h w v 1 m gs es xs
@@ -153,8 +209,8 @@ has_some_append (x ∷ xs) ys = refl
 -- ---- where serving ends
 
 -- a step after events, as one after their history
-pub step_here : (clock now : Clock) (before es : List AcceptedEvent) (u v : ℕ → ℕ) (n m : ℕ) (result : Result Bool Stopped)
-    (g : Given) (fs : List AcceptedEvent) (ys : List ℕ) → now ≡ clock
+pub step_here : (clock now : Clock) (before es : List AcceptedEvent) (u v : ℕ → ℕ) (n m : ℕ)
+    (result : Result Bool Stopped) (g : Given) (fs : List AcceptedEvent) (ys : List ℕ) → now ≡ clock
     → StepServed now (history_of (before ++ es)) u v n m result g fs ys
     → StepServed clock (history_after (history_of before) es) u v n m result g fs ys
 step_here clock now before es u v n m result g fs ys same served =
@@ -163,9 +219,10 @@ step_here clock now before es u v n m result g fs ys same served =
 
 -- the end of the source
 pub serves_end : (clock : Clock) (h : History) (w u v : ℕ → ℕ) (n m : ℕ) (gs : List Given) (g : Given)
-    (es fs : List AcceptedEvent) (xs ys : List ℕ) (refused was last : Bool) → last ≡ true → ServesAll clock h w u 1 n gs es xs
-    → StepServed clock (history_after h es) u v n m (Ok last) g fs ys → was ≡ has_some xs
-    → refused ≡ (was || has_some ys) → ServesToEnd clock h w v refused (gs ++ g ∷ []) (es ++ fs) (xs ++ ys)
+    (es fs : List AcceptedEvent) (xs ys : List ℕ) (refused was last : Bool) → last ≡ true
+    → ServesAll clock h w u 1 n gs es xs → StepServed clock (history_after h es) u v n m (Ok last) g fs ys
+    → was ≡ has_some xs → refused ≡ (was || has_some ys)
+    → ServesToEnd clock h w v refused (gs ++ g ∷ []) (es ++ fs) (xs ++ ys)
 serves_end clock h w u v n m gs g es fs xs ys refused was last is_last all one before is =
     let (finished, waits, number, events, lines) =
     subst (λ (b : Bool). StepServed clock (history_after h es) u v n m (Ok b) g fs ys) is_last one in
@@ -191,6 +248,8 @@ serves_stop clock h w u v n gs g es fs xs ys stopped.Notes all last =
     (gs, g, u, n, es, fs, xs, ys, refl, refl, refl, all, last)
 serves_stop clock h w u v n gs g es fs xs ys stopped.Memory all last =
     inr (gs, g, u, n, es, fs, xs, ys, refl, refl, refl, all, last)
+serves_stop clock h w u v n gs g es fs xs ys stopped.MemoryAndNotes all last =
+    (gs, g, u, n, es, fs, xs, ys, refl, refl, refl, all, last)
 serves_stop clock h w u v n gs g es fs xs ys stopped.Endless all (inl last) = let e = last.0 in absurd (cc)
 serves_stop clock h w u v n gs g es fs xs ys stopped.Endless all (inr last) = absurd last.2
 
@@ -202,6 +261,10 @@ pub stopped_as : (clock : Clock) (h : History) (w v : ℕ → ℕ) (was why : St
     → StepsServed clock h w v (Err why) gs es xs
 stopped_as clock h w v was why gs es xs is served =
     subst (λ (k : Stopped). StepsServed clock h w v (Err k) gs es xs) is served
+
+pub stopped_fails : (was why : Stopped) (before now : ℕ) → was ≡ why → NotesFail {A = Bool} (Err was) before now
+    → NotesFail {A = Bool} (Err why) before now
+stopped_fails was why before now is fails = subst (λ (k : Stopped). NotesFail {A = Bool} (Err k) before now) is fails
 
 pub stopped_settled : (was why : Stopped) (P : Type 0) → was ≡ why → UnlessMemory {A = Bool} (Err was) P
     → UnlessMemory {A = Bool} (Err why) P

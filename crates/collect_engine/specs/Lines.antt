@@ -1,5 +1,5 @@
 -- The lines on what is refused.
-use Rattle.std.specs.Prelude.{◌≡◌, ℕ, ◌<◌, List, [], ◌∷◌, ◌++◌, length, take, Bool, true, false, Result, Ok, Err}
+use Rattle.std.specs.Prelude.{◌≡◌, ℕ, ◌<◌, ◌^◌, List, [], ◌∷◌, ◌++◌, length, take, Bool, true, false, Result, Ok, Err}
 use Rattle.syslog_value.specs.Device.{count_on}
 use Rattle.syslog_collect.specs.declared.outcome.Outcome.{Outcome}
 use Rattle.syslog_collect.specs.declared.outcome.Outcome.TheVariants.{New, Held, Refused, RefusedLegacy, TooLong}
@@ -54,3 +54,26 @@ NotesAs (Err stopped.Notes) octets told = (k : ℕ) × (k < length octets) × (t
 NotesAs (Err stopped.Memory) octets told = told ≡ []
 NotesAs (Err stopped.Step) octets told = ⊥
 NotesAs (Err stopped.Endless) octets told = ⊥
+NotesAs (Err stopped.MemoryAndNotes) octets told = ⊥
+
+-- a device has failed, where its failures are few enough to be counted
+abbrev pub Rises : ℕ → ℕ → Type 0
+Rises was now = was < 2 ^ 63 → was < now
+
+-- the failures of the notes, before and after: more, where these stopped serving, else as many
+abbrev pub NotesFail : {A : Type 0} → Result A Stopped → ℕ → ℕ → Type 0
+NotesFail (Ok a) was now = now ≡ was
+NotesFail (Err stopped.Step) was now = now ≡ was
+NotesFail (Err stopped.Notes) was now = Rises was now
+NotesFail (Err stopped.Endless) was now = now ≡ was
+NotesFail (Err stopped.Memory) was now = now ≡ was
+NotesFail (Err stopped.MemoryAndNotes) was now = Rises was now
+
+-- why serving stops where memory ran out, by how the lines on what was met were noted
+abbrev pub memory_after : {A : Type 0} → Result A Stopped → Stopped
+memory_after (Ok a) = stopped.Memory
+memory_after (Err stopped.Step) = stopped.Memory
+memory_after (Err stopped.Notes) = stopped.MemoryAndNotes
+memory_after (Err stopped.Endless) = stopped.Memory
+memory_after (Err stopped.Memory) = stopped.Memory
+memory_after (Err stopped.MemoryAndNotes) = stopped.MemoryAndNotes

@@ -5,8 +5,10 @@ use Rattle.archive_text.specs.Entries.{Entry}
 use Rattle.syslog_frame.specs.declared.limits.TheConstants.{POSITION_MAX}
 use Rattle.syslog_legacy.specs.FrameReadings.{Clock}
 use Rattle.syslog_collect.specs.Answers.{EndsWhole, IsUnfinished}
-use Rattle.syslog_collect.specs.History.{AcceptedEvent, Opened, Piece, Ended, Datagram, History, HoldsBadCount, stream_of}
-use Rattle.syslog_collect.specs.Logs.{LogsEvent, waiting_after}
+use Rattle.syslog_collect.specs.History.{AcceptedEvent, Opened, Piece, Ended, Datagram, History, HoldsBadCount}
+use Rattle.syslog_collect.specs.History.{stream_of}
+use Rattle.syslog_collect.specs.Logs.{LogsEvent, LogsPart, waiting_after}
+use Rattle.syslog_collect.specs.Runs.{nonempty_piece}
 use Rattle.syslog_collect.specs.declared.fault.CollectFault.{CollectFault}
 use Rattle.syslog_collect.specs.declared.fault.CollectFault.TheVariants.{AlreadyOpen, TooManyOpen, NotOpen, ConnFailed}
 use Rattle.syslog_collect.specs.declared.fault.CollectFault.TheVariants.{StreamTooLong, Unreleased, Unterminated}
@@ -26,6 +28,17 @@ received_as TooManyOpen = received.Refused
 received_as NotOpen = received.Refused
 received_as StreamTooLong = received.Refused
 received_as Unreleased = received.Refused
+
+-- the outcomes that are kept of a refusal: those of what was taken before memory ran out
+abbrev pub kept_outcomes : CollectFault → List Outcome → List Outcome
+kept_outcomes (Memory n) os = os
+kept_outcomes ConnFailed os = []
+kept_outcomes (Unterminated start) os = []
+kept_outcomes AlreadyOpen os = []
+kept_outcomes TooManyOpen os = []
+kept_outcomes NotOpen os = []
+kept_outcomes StreamTooLong os = []
+kept_outcomes Unreleased os = []
 
 -- the outcomes of an event that was accepted, over some entries
 abbrev pub Logged : Clock → History → (ℕ → ℕ) → AcceptedEvent → List Outcome → Type 0
@@ -60,12 +73,15 @@ MayNotCome h w (Piece c o) = (stream_of c h.streams ≡ None)
 MayNotCome h w (Ended c) = (stream_of c h.streams ≡ None) ⊎ (w c ≡ 1)
 MayNotCome h w (Datagram o) = ⊥
 
--- the octets of an event that were taken: none of it, or some of a piece
-abbrev pub IsPartOf : AcceptedEvent → List AcceptedEvent → Type 0
-IsPartOf (Opened c k) es = es ≡ []
-IsPartOf (Piece c o) es = (es ≡ []) ⊎ ((n : ℕ) × (es ≡ Piece c (take n o) ∷ []))
-IsPartOf (Ended c) es = es ≡ []
-IsPartOf (Datagram o) es = es ≡ []
+-- what was taken of an event before memory ran out, and its outcomes: nothing; or the first octets of a piece, and the
+-- outcomes of the frames that they complete, but for one that waits
+abbrev pub TakesPartOf : Clock → History → (ℕ → ℕ) → (ℕ → ℕ) → AcceptedEvent → List Outcome → List AcceptedEvent
+    → Type 0
+TakesPartOf clock h w v (Opened c k) os es = (es ≡ []) × (os ≡ [])
+TakesPartOf clock h w v (Piece c o) os es = (n : ℕ) × (old : List Entry) × (new : List Entry)
+    × (es ≡ nonempty_piece c (take n o)) × LogsPart clock h w v c (take n o) old new os
+TakesPartOf clock h w v (Ended c) os es = (es ≡ []) × (os ≡ [])
+TakesPartOf clock h w v (Datagram o) os es = (es ≡ []) × (os ≡ [])
 
 -- an event after a history is accepted as these events, and has these outcomes: w tells how many frames of each number
 -- waited, and v how many wait then
@@ -77,7 +93,7 @@ ReceivesAs clock h w v e received.Accepted os es =
 ReceivesAs clock h w v e (received.Unterminated start) os es =
     (es ≡ e ∷ []) × (os ≡ []) × ((d : ℕ) → v d ≡ w d) × IsEndInside start h e
 ReceivesAs clock h w v e received.Refused os es = (es ≡ []) × (os ≡ []) × MayNotCome h v e
-ReceivesAs clock h w v e received.Memory os es = IsPartOf e es
+ReceivesAs clock h w v e received.Memory os es = TakesPartOf clock h w v e os es
 
 -- where memory did not run out
 abbrev pub IfNotMemory : Received → Type 0 → Type 0

@@ -5,8 +5,8 @@ use Rattle.syslog_legacy.specs.FrameReadings.{Clock}
 use Rattle.syslog_collect.specs.History.{AcceptedEvent, Opened as event_Opened, Piece as event_Piece}
 use Rattle.syslog_collect.specs.History.{Ended as event_Ended, Datagram as event_Datagram, History, history_after}
 use Rattle.syslog_collect.specs.declared.outcome.Outcome.{Outcome}
-use Rattle.collect_engine.specs.Lines.{counted, has_some, lines_on}
-use Rattle.collect_engine.specs.Receiving.{IsPartOf, MayNotCome, ReceivesAs}
+use Rattle.collect_engine.specs.Lines.{Rises, counted, has_some, lines_on}
+use Rattle.collect_engine.specs.Receiving.{MayNotCome, ReceivesAs, TakesPartOf}
 use Rattle.collect_engine.specs.Steps.{Given, Opened, Piece, Ended, Datagram, Finished, Failed}
 use Rattle.collect_engine.specs.declared.serving.TheConstants.{SERVE_TURNS}
 use Rattle.collect_engine.specs.declared.receiving.Received.{Received}
@@ -38,17 +38,22 @@ GoesOn received.Memory = ⊥
 -- and is m then
 abbrev pub ServesEvent : Clock → History → (ℕ → ℕ) → (ℕ → ℕ) → ℕ → ℕ → AcceptedEvent → List AcceptedEvent → List ℕ
     → Type 0
-ServesEvent clock h w v n m e es lines = (r : Received) × (os : List Outcome) × GoesOn r × ReceivesAs clock h w v e r os es
-    × (lines ≡ lines_on n os r) × (m ≡ counted n os)
+ServesEvent clock h w v n m e es lines = (r : Received) × (os : List Outcome) × GoesOn r
+    × ReceivesAs clock h w v e r os es × (lines ≡ lines_on n os r) × (m ≡ counted n os)
 
--- serving stops at an event: the collector refuses it; or only the first of its lines are noted; or memory runs out
+-- serving stops at an event: the collector refuses it; or only the first of its lines are noted; or memory runs out in
+-- the collector, behind the lines on what was taken, or for lines, and then none are noted
 abbrev pub StopsAtEvent : Clock → History → (ℕ → ℕ) → (ℕ → ℕ) → ℕ → Stopped → AcceptedEvent → List AcceptedEvent
     → List ℕ → Type 0
 StopsAtEvent clock h w v n stopped.Step e es lines = (es ≡ []) × (lines ≡ []) × MayNotCome h v e
 StopsAtEvent clock h w v n stopped.Notes e es lines = (m : ℕ) × (whole : List ℕ) × (k : ℕ)
     × ServesEvent clock h w v n m e es whole × (k < length whole) × (lines ≡ take k whole)
-StopsAtEvent clock h w v n stopped.Memory e es lines = IsPartOf e es ⊎ ((m : ℕ) × (whole : List ℕ)
-    × ServesEvent clock h w v n m e es whole)
+StopsAtEvent clock h w v n stopped.Memory e es lines = ((os : List Outcome) × TakesPartOf clock h w v e os es
+    × ((lines ≡ lines_on n os received.Memory) ⊎ (lines ≡ [])))
+    ⊎ ((m : ℕ) × (whole : List ℕ) × ServesEvent clock h w v n m e es whole × (lines ≡ []))
+StopsAtEvent clock h w v n stopped.MemoryAndNotes e es lines = (os : List Outcome) × (k : ℕ)
+    × TakesPartOf clock h w v e os es × (k < length (lines_on n os received.Memory))
+    × (lines ≡ take k (lines_on n os received.Memory))
 StopsAtEvent clock h w v n stopped.Endless e es lines = ⊥
 
 -- by the answer
@@ -64,6 +69,7 @@ UnlessMemory (Err stopped.Step) P = P
 UnlessMemory (Err stopped.Notes) P = P
 UnlessMemory (Err stopped.Endless) P = P
 UnlessMemory (Err stopped.Memory) P = Unit {0}
+UnlessMemory (Err stopped.MemoryAndNotes) P = Unit {0}
 
 -- ---- one step
 
@@ -138,15 +144,19 @@ StepsServed clock h w v (Err stopped.Step) gs es lines = StopsAfter clock h w v 
 StepsServed clock h w v (Err stopped.Notes) gs es lines = StopsAfter clock h w v stopped.Notes gs es lines
 StepsServed clock h w v (Err stopped.Endless) gs es lines = ServesTurns clock h w v gs es lines
 StepsServed clock h w v (Err stopped.Memory) gs es lines = EndsInMemory clock h w v gs es lines
+StepsServed clock h w v (Err stopped.MemoryAndNotes) gs es lines =
+    StopsAfter clock h w v stopped.MemoryAndNotes gs es lines
 
--- the same, as serving answers
-abbrev pub ServesTo : Clock → History → (ℕ → ℕ) → (ℕ → ℕ) → ServeEnd → List Given → List AcceptedEvent → List ℕ
+-- the same, as serving answers, with the failures of the notes before and after
+abbrev pub ServesTo : Clock → History → (ℕ → ℕ) → (ℕ → ℕ) → ServeEnd → ℕ → ℕ → List Given → List AcceptedEvent → List ℕ
     → Type 0
-ServesTo clock h w v (end.Done refused) gs es lines = ServesToEnd clock h w v refused gs es lines
-ServesTo clock h w v end.Failed gs es lines = StopsAfter clock h w v stopped.Step gs es lines
-    ⊎ StopsAfter clock h w v stopped.Notes gs es lines
-ServesTo clock h w v end.Endless gs es lines = ServesTurns clock h w v gs es lines
-ServesTo clock h w v end.Memory gs es lines = EndsInMemory clock h w v gs es lines
+ServesTo clock h w v (end.Done refused) was now gs es lines =
+    ServesToEnd clock h w v refused gs es lines × (now ≡ was)
+ServesTo clock h w v end.Failed was now gs es lines = (StopsAfter clock h w v stopped.Step gs es lines × (now ≡ was))
+    ⊎ (StopsAfter clock h w v stopped.Notes gs es lines × Rises was now)
+ServesTo clock h w v end.Endless was now gs es lines = ServesTurns clock h w v gs es lines × (now ≡ was)
+ServesTo clock h w v end.Memory was now gs es lines = (EndsInMemory clock h w v gs es lines × (now ≡ was))
+    ⊎ (StopsAfter clock h w v stopped.MemoryAndNotes gs es lines × Rises was now)
 
 -- where memory did not run out
 abbrev pub IfEnough : ServeEnd → Type 0 → Type 0

@@ -1,10 +1,10 @@
 //! `collect`: records from a source, as an archive.
-ghost use Rattle.std.specs.Prelude.{◌≡◌, ◌≢◌, ◌≤◌, ◌<◌, ◌^◌, ℕ, List, [], if◌then◌else◌};
-ghost use Rattle.std.specs.Io.KnownBytes.{Appends};
+ghost use Rattle.std.specs.Prelude.{◌≡◌, ◌≤◌, ◌<◌, ◌^◌, ◌++◌, ℕ, List, [], codes, if◌then◌else◌};
 ghost use Rattle.archive_text.specs.Entries.{Entry};
 ghost use Rattle.archive_text.specs.Text.{text_of};
 ghost use Rattle.syslog_collect.specs.History.{AcceptedEvent};
-ghost use Rattle.collect_engine.specs.Collecting.{Collects, IsArchiveOf};
+ghost use Rattle.collect_engine.specs.Collecting.{Collects, IfArchived, IsArchiveOf, NotesBehind, NotesOut, NotesThen};
+ghost use Rattle.collect_engine.specs.Collecting.{Served, Takes, WritesOut, WritesText};
 ghost use Rattle.collect_engine.specs.Serving.{Come};
 ghost use Rattle.collect_engine.specs.Steps.{Given};
 
@@ -14,11 +14,11 @@ use crate::serving::serve_steps;
 use crate::source::Source;
 use archive_pages::PagedArchive;
 use archive_text::Store;
-use frame_engine::{DONE, FAULT, NO_MEMORY, REFUSED, note};
+use frame_engine::{DONE, FAULT, NO_MEMORY, REFUSED};
 use std::alloc::Global;
 use syslog_collect::Collector;
 use syslog_legacy::LegacyClock;
-use syslog_value::Output;
+use syslog_value::{Output, write_all};
 
 // Writes the archive, and returns the exit status: this one, unless it cannot be written.
 fn write_archive<S: Store, W: Output, N: Output>(
@@ -27,19 +27,60 @@ fn write_archive<S: Store, W: Output, N: Output>(
     writer: &mut W,
     notes: &mut N,
 ) -> u8
-    requires { status ≤ 2 }
-    ensures known { result ≤ 2 }
-    ensures written { W.failures writer.old < 2 ^ 63 → W.failures writer.new ≡ W.failures writer.old
-        → (result ≡ status) × Appends (W.taken writer.old) (W.taken writer.new)
-        (text_of (S.entries store.now)) }
-    ensures quiet { W.failures writer.old < 2 ^ 63 → W.failures writer.new ≡ W.failures writer.old
-        → N.failures notes.new ≡ N.failures notes.old }
-    ensures untold { W.failures writer.old < 2 ^ 63 → W.failures writer.new ≡ W.failures writer.old
-        → N.taken notes.new ≡ N.taken notes.old }
+    ensures { (lines : List ℕ) × WritesText (text_of (S.entries store.now)) status [] (codes "write fault\n") result
+        (W.failures writer.old) (W.failures writer.new) (W.taken writer.old) (W.taken writer.new) lines
+        × NotesBehind (N.failures notes.old) (N.failures notes.new) (N.taken notes.old) (N.taken notes.new)
+        [] lines }
 {
     match store.write(writer) {
         Ok(()) => status,
-        Err(_) => note(notes, b"write fault\n", FAULT),
+        Err(_) => {
+            let _noted = write_all(notes, b"write fault\n");
+            FAULT
+        }
+    }
+}
+
+// Writes the archive where nothing more can be noted.
+fn write_unnoted<S: Store, W: Output>(store: &S, writer: &mut W) -> u8
+    ensures status { result ≡ FAULT }
+    ensures written { Takes (W.failures writer.old) (W.failures writer.new) (W.taken writer.old) (W.taken writer.new)
+        (text_of (S.entries store.now)) }
+{
+    match store.write(writer) {
+        Ok(()) => FAULT,
+        Err(_) => FAULT,
+    }
+}
+
+// Notes why a source was not served to its end, and then writes the archive of what came.
+fn write_behind<S: Store, W: Output, N: Output>(
+    line: &[u8],
+    store: &S,
+    writer: &mut W,
+    notes: &mut N,
+) -> u8
+    ensures { (lines : List ℕ) × WritesText (text_of (S.entries store.now)) 2 line.now
+        (line.now ++ codes "write fault\n") result
+        (W.failures writer.old) (W.failures writer.new) (W.taken writer.old) (W.taken writer.new) lines
+        × NotesBehind (N.failures notes.old) (N.failures notes.new) (N.taken notes.old) (N.taken notes.new)
+        [] lines }
+{
+    match write_all(notes, line) {
+        Ok(()) => write_archive(store, FAULT, writer, notes),
+        Err(_) => write_unnoted(store, writer),
+    }
+}
+
+// Notes that memory ran out. Nothing is written.
+fn tell_memory<N: Output>(notes: &mut N) -> u8
+    ensures status { result ≡ NO_MEMORY }
+    ensures noted { NotesBehind (N.failures notes.old) (N.failures notes.new) (N.taken notes.old) (N.taken notes.new)
+        [] (codes "want of memory\n") }
+{
+    match write_all(notes, b"want of memory\n") {
+        Ok(()) => NO_MEMORY,
+        Err(_) => NO_MEMORY,
     }
 }
 
@@ -51,32 +92,17 @@ fn stop<S: Store, W: Output, N: Output>(
     writer: &mut W,
     notes: &mut N,
 ) -> u8
-    ensures known { result ≤ 3 }
-    ensures memory { stopped ≡ Stopped.Memory →
-        (result ≡ NO_MEMORY) × (W.taken writer.new ≡ W.taken writer.old) }
-    ensures nothing { result ≡ NO_MEMORY → W.taken writer.new ≡ W.taken writer.old }
-    ensures written { result ≢ NO_MEMORY → W.failures writer.old < 2 ^ 63
-        → W.failures writer.new ≡ W.failures writer.old
-        → (result ≡ FAULT) × Appends (W.taken writer.old) (W.taken writer.new)
-        (text_of (S.entries store.now)) }
-    ensures quiet { stopped ≡ Stopped.Notes → W.failures writer.old < 2 ^ 63
-        → W.failures writer.new ≡ W.failures writer.old
-        → N.failures notes.new ≡ N.failures notes.old }
+    ensures { (lines : List ℕ) × WritesOut (Err stopped) (text_of (S.entries store.now)) result
+        (W.failures writer.old) (W.failures writer.new) (W.taken writer.old) (W.taken writer.new) lines
+        × NotesThen (Err stopped) (N.failures notes.old) (N.failures notes.new) (N.taken notes.old) (N.taken notes.new)
+        lines }
 {
     match stopped {
-        Stopped::Step => {
-            let _ = note(notes, b"socket fault\n", FAULT);
-            write_archive(store, FAULT, writer, notes)
-        }
-        Stopped::Endless => {
-            let _ = note(notes, b"endless input\n", FAULT);
-            write_archive(store, FAULT, writer, notes)
-        }
-        Stopped::Notes => write_archive(store, FAULT, writer, notes),
-        Stopped::Memory => {
-            let _ = note(notes, b"want of memory\n", NO_MEMORY);
-            NO_MEMORY
-        }
+        Stopped::Step => write_behind(b"socket fault\n", store, writer, notes),
+        Stopped::Endless => write_behind(b"endless input\n", store, writer, notes),
+        Stopped::Notes => write_unnoted(store, writer),
+        Stopped::Memory => tell_memory(notes),
+        Stopped::MemoryAndNotes => NO_MEMORY,
     }
 }
 
@@ -96,19 +122,18 @@ fn collect_into<S: Store + Drop, R: Source, W: Output, N: Output>(
     writer: &mut W,
     notes: &mut N,
 ) -> u8
-    ensures known { result ≤ 3 }
-    ensures nothing { result ≡ NO_MEMORY → W.taken writer.new ≡ W.taken writer.old }
-    ensures collected { S.entries store ≡ [] → W.failures writer.old < 2 ^ 63
-        → W.failures writer.new ≡ W.failures writer.old → result ≢ NO_MEMORY
-        → (given : List Given) × (accepted : List AcceptedEvent) × (told : List ℕ) × (kept : List Entry)
+    requires { S.entries store ≡ [] }
+    ensures { (end : Served) × (given : List Given) × (accepted : List AcceptedEvent) × (told : List ℕ)
+        × (kept : List Entry) × (lines : List ℕ)
         × (R.steps source.old < 2 ^ 63 → Come (R.coming source.old) (R.coming source.new) given)
-        × Collects clock result given accepted told × IsArchiveOf clock accepted kept
-        × Appends (W.taken writer.old) (W.taken writer.new) (text_of kept)
-        × (result ≢ FAULT → Appends (N.taken notes.old) (N.taken notes.new) told) }
+        × Collects clock end given accepted told × IfArchived end (IsArchiveOf clock accepted kept)
+        × WritesOut end (text_of kept) result
+        (W.failures writer.old) (W.failures writer.new) (W.taken writer.old) (W.taken writer.new) lines
+        × NotesOut end (N.failures notes.old) (N.failures notes.new) (N.taken notes.old) (N.taken notes.new)
+        told lines }
 {
     let Ok(mut collector) = Collector::new(alloc, store, clock) else {
-        let _ = note(notes, b"want of memory\n", NO_MEMORY);
-        return NO_MEMORY;
+        return tell_memory(notes);
     };
     match serve_steps(alloc, &mut collector, source, notes) {
         Ok(refused) => write_archive(collector.store(), end_status(refused), writer, notes),
@@ -117,7 +142,9 @@ fn collect_into<S: Store + Drop, R: Source, W: Output, N: Output>(
 }
 
 /// Collects what a source gives, and writes the records as an archive: each once, in its canonical
-/// form, in the one order of archives. Lines go to `notes`, as those of [`serve`](crate::serve) do.
+/// form, in the one order of archives. Lines go to `notes`, as those of [`serve`](crate::serve) do;
+/// where serving stops, one on why is the last of them, but for one on a writer that fails. Where
+/// the notes fail nothing more goes to them.
 ///
 /// Returns the exit status: `DONE` where nothing was refused, else `REFUSED`; `FAULT` where the
 /// source or a device failed, or the source has no end, and then too the archive of what came is
@@ -131,15 +158,17 @@ pub fn run_collect<R: Source, W: Output, N: Output>(
 ) -> u8
     ensures known { result ≤ 3 }
     ensures nothing { result ≡ NO_MEMORY → W.taken writer.new ≡ W.taken writer.old }
-    // Unless the writer fails or memory runs out, what came is written: the archive of just the records that were
-    // received, in the events that the steps were accepted as.
-    ensures collected { W.failures writer.old < 2 ^ 63
-        → W.failures writer.new ≡ W.failures writer.old → result ≢ NO_MEMORY
-        → (given : List Given) × (accepted : List AcceptedEvent) × (told : List ℕ) × (kept : List Entry)
+    // How serving ended, after which steps, which events they were accepted as and which lines were noted of them;
+    // unless memory ran out, the archive of just the records that were received in these events, which was written, or
+    // its first octets where the writer failed; and by all this the status and the lines that were noted then.
+    ensures collected { (end : Served) × (given : List Given) × (accepted : List AcceptedEvent) × (told : List ℕ)
+        × (kept : List Entry) × (lines : List ℕ)
         × (R.steps source.old < 2 ^ 63 → Come (R.coming source.old) (R.coming source.new) given)
-        × Collects words.now.clock result given accepted told × IsArchiveOf words.now.clock accepted kept
-        × Appends (W.taken writer.old) (W.taken writer.new) (text_of kept)
-        × (result ≢ FAULT → Appends (N.taken notes.old) (N.taken notes.new) told) }
+        × Collects words.now.clock end given accepted told × IfArchived end (IsArchiveOf words.now.clock accepted kept)
+        × WritesOut end (text_of kept) result
+        (W.failures writer.old) (W.failures writer.new) (W.taken writer.old) (W.taken writer.new) lines
+        × NotesOut end (N.failures notes.old) (N.failures notes.new) (N.taken notes.old) (N.taken notes.new)
+        told lines }
 {
     let store = PagedArchive::new(alloc);
     collect_into(alloc, store, words.clock, source, writer, notes)

@@ -1,7 +1,8 @@
 //! The lines on what is refused.
-ghost use Rattle.std.specs.Prelude.{◌≡◌, ◌++◌, ◌<◌, ◌^◌, ◌||◌, ℕ, List, IfErr, IsErrOf, OnOk, false};
+ghost use Rattle.std.specs.Prelude.{◌≡◌, ◌++◌, ◌||◌, ℕ, List, IfErr, IsErrOf, OnOk, false};
 ghost use Rattle.std.specs.Io.KnownBytes.{Appends};
-ghost use Rattle.collect_engine.specs.Lines.{NotesAs, counted, has_some, lines_on, outcome_line, outcome_lines};
+ghost use Rattle.collect_engine.specs.Lines.{NotesAs, NotesFail, counted, has_some, lines_on};
+ghost use Rattle.collect_engine.specs.Lines.{outcome_line, outcome_lines};
 
 use crate::receiving::Received;
 use crate::serve_end::Stopped;
@@ -106,9 +107,7 @@ impl EventLines {
             (self.new.number ≡ counted self.old.number self.old.outcomes.items) }
         ensures refused { OnOk result (self.new.refused
             ≡ (self.old.refused || has_some (lines_on self.old.number self.old.outcomes.items received))) }
-        ensures cause { N.failures notes.old < 2 ^ 63 → IsErrOf result Stopped.Notes
-            → N.failures notes.old < N.failures notes.new }
-        ensures no_failure { OnOk result (N.failures notes.new ≡ N.failures notes.old) }
+        ensures failures { NotesFail result (N.failures notes.old) (N.failures notes.new) }
         ensures going { ¬ (IsErrOf result Stopped.Endless) }
     {
         if self.make(received).is_err() {

@@ -6,7 +6,7 @@ ghost use Rattle.syslog_collect.specs.History.{AcceptedEvent, history_of};
 ghost use Rattle.syslog_collect.specs.Logs.{waiting};
 ghost use Rattle.syslog_collect.specs.Runs.{accepted_event};
 ghost use Rattle.syslog_collect.specs.Standing.{Stands};
-ghost use Rattle.collect_engine.specs.Receiving.{IfNotMemory, ReceivesAs, received_as};
+ghost use Rattle.collect_engine.specs.Receiving.{IfNotMemory, ReceivesAs, kept_outcomes, received_as};
 
 use archive_text::Store;
 use std::alloc::Global;
@@ -36,6 +36,16 @@ fn received_of(fault: CollectFault) -> Received
     }
 }
 
+// Keeps the outcomes of an event that was refused only where memory ran out.
+fn keep_outcomes(fault: CollectFault, outcomes: &mut Vec<Outcome>)
+    ensures { outcomes.new.items ≡ kept_outcomes fault outcomes.old.items }
+{
+    match fault {
+        CollectFault::Memory { .. } => {}
+        _ => outcomes.clear(),
+    }
+}
+
 /// Gives an event to the collector, and keeps its outcomes alone.
 pub(crate) fn receive<S: Store>(
     alloc: Global,
@@ -60,12 +70,8 @@ pub(crate) fn receive<S: Store>(
     outcomes.clear();
     match collector.run(alloc, &[event], outcomes) {
         RunEnd::Done => Received::Accepted,
-        RunEnd::Stopped {
-            fault: CollectFault::Memory { .. },
-            ..
-        } => Received::Memory,
         RunEnd::Stopped { fault, .. } => {
-            outcomes.clear();
+            keep_outcomes(fault, outcomes);
             received_of(fault)
         }
     }

@@ -1,7 +1,5 @@
 //! How serving ends.
 
-use std::alloc::AllocError;
-
 /// How serving ended.
 #[derive(Clone, Copy, Debug, PartialEq, Eq)]
 pub enum ServeEnd {
@@ -26,15 +24,6 @@ pub(crate) enum Stopped {
     Endless,
     /// Out of memory.
     Memory,
-}
-
-impl From<AllocError> for Stopped {
-    ghost use Rattle.std.specs.Prelude.{◌≡◌};
-    ghost use Rattle.collect_engine.specs.declared.serve_end.Stopped.TheVariants.{Memory};
-
-    ghost from_gives = { λ _ stopped. stopped ≡ Memory };
-
-    fn from(_: AllocError) -> Stopped {
-        Stopped::Memory
-    }
+    /// Out of memory, and the lines on what was met could not be written.
+    MemoryAndNotes,
 }

@@ -11,7 +11,7 @@ ghost use Rattle.syslog_collect.specs.Runs.{accepted_event};
 ghost use Rattle.syslog_collect.specs.Standing.{Stands};
 ghost use Rattle.syslog_value.specs.Device.{count_on};
 ghost use Rattle.collect_engine.specs.Ends.{FinishesBy, IfEndDone, IsEventStep};
-ghost use Rattle.collect_engine.specs.Lines.{has_some};
+ghost use Rattle.collect_engine.specs.Lines.{NotesFail, has_some, memory_after};
 ghost use Rattle.collect_engine.specs.Serving.{Come, EventServed, IfEnough, ServesTo, StepServed, StepsServed};
 ghost use Rattle.collect_engine.specs.Serving.{UnlessMemory, event_of};
 ghost use Rattle.collect_engine.specs.Steps.{Comes, Given, IsWithin, given_of};
@@ -32,6 +32,17 @@ pub const SERVE_TURNS: u64 = 1_048_576;
 
 // the number of the one connection
 const CONN: u32 = 0;
+
+// Why serving stops where memory ran out, by how the lines on what was met were written.
+fn out_of_memory(noted: Result<(), Stopped>) -> Stopped
+    ensures { result ≡ memory_after noted }
+{
+    match noted {
+        Ok(()) => Stopped::Memory,
+        Err(Stopped::Notes | Stopped::MemoryAndNotes) => Stopped::MemoryAndNotes,
+        Err(Stopped::Step | Stopped::Endless | Stopped::Memory) => Stopped::Memory,
+    }
+}
 
 // Gives an event to the collector, and writes the lines on what is refused.
 fn serve_event<S: Store, N: Output>(
@@ -55,9 +66,7 @@ fn serve_event<S: Store, N: Output>(
         → Stands collector.old.clock collector.old.connections.items (S.entries collector.old.store) first before
         → IsSettled collector.old.connections.items
         → UnlessMemory result (IsSettled collector.new.connections.items) }
-    ensures cause { N.failures notes.old < 2 ^ 63 → IsErrOf result Stopped.Notes
-        → N.failures notes.old < N.failures notes.new }
-    ensures no_failure { OnOk result (N.failures notes.new ≡ N.failures notes.old) }
+    ensures failures { NotesFail result (N.failures notes.old) (N.failures notes.new) }
     ensures going { ¬ (IsErrOf result Stopped.Endless) }
     ensures clock { collector.new.clock ≡ collector.old.clock }
 {
@@ -66,8 +75,8 @@ fn serve_event<S: Store, N: Output>(
         Received::Accepted | Received::Unterminated { .. } => lines.write(received, notes),
         Received::Refused => Err(Stopped::Step),
         Received::Memory => {
-            let _ = lines.write(received, notes);
-            Err(Stopped::Memory)
+            let noted = lines.write(received, notes);
+            Err(out_of_memory(noted))
         }
     }
 }
@@ -118,9 +127,7 @@ fn serve_step<S: Store, N: Output>(
         → Stands collector.old.clock collector.old.connections.items (S.entries collector.old.store) first before
         → IsSettled collector.old.connections.items
         → UnlessMemory result (IsSettled collector.new.connections.items) }
-    ensures cause { N.failures notes.old < 2 ^ 63 → IsErrOf result Stopped.Notes
-        → N.failures notes.old < N.failures notes.new }
-    ensures no_failure { OnOk result (N.failures notes.new ≡ N.failures notes.old) }
+    ensures failures { NotesFail result (N.failures notes.old) (N.failures notes.new) }
     ensures going { ¬ (IsErrOf result Stopped.Endless) }
     ensures clock { collector.new.clock ≡ collector.old.clock }
 {
@@ -159,9 +166,7 @@ fn serve_next<S: Store, R: Source, N: Output>(
         → Stands collector.old.clock collector.old.connections.items (S.entries collector.old.store) first before
         → IsSettled collector.old.connections.items
         → UnlessMemory result (IsSettled collector.new.connections.items) }
-    ensures cause { N.failures notes.old < 2 ^ 63 → IsErrOf result Stopped.Notes
-        → N.failures notes.old < N.failures notes.new }
-    ensures no_failure { OnOk result (N.failures notes.new ≡ N.failures notes.old) }
+    ensures failures { NotesFail result (N.failures notes.old) (N.failures notes.new) }
     ensures steps { R.steps source.new ≡ count_on (R.steps source.old) }
     ensures finishes { FinishesBy result (R.finishes source.old) (R.finishes source.new) }
     ensures going { ¬ (IsErrOf result Stopped.Endless) }
@@ -200,8 +205,7 @@ pub(crate) fn serve_steps<S: Store, R: Source, N: Output>(
         → Stands collector.old.clock collector.old.connections.items (S.entries collector.old.store) first before
         → IsSettled collector.old.connections.items
         → UnlessMemory result (IsSettled collector.new.connections.items) }
-    ensures cause { N.failures notes.old < 2 ^ 63 → IsErrOf result Stopped.Notes
-        → N.failures notes.old < N.failures notes.new }
+    ensures failures { NotesFail result (N.failures notes.old) (N.failures notes.new) }
     ensures endless { R.steps source.old < 2 ^ 63 → IsErrOf result Stopped.Endless
         → (R.steps source.new ≡ R.steps source.old + SERVE_TURNS)
         × (R.finishes source.new ≡ R.finishes source.old) }
@@ -236,7 +240,8 @@ pub fn serve<S: Store, R: Source, N: Output>(
     source: &mut R,
     notes: &mut N,
 ) -> ServeEnd
-    // Which steps came, which events they were accepted as, and which lines were noted.
+    // Which steps came, which events they were accepted as, and which lines were noted: all that the steps ask for,
+    // unless the notes failed or memory ran out.
     ensures served { (first : List Entry) (before : List AcceptedEvent)
         → Stands collector.old.clock collector.old.connections.items (S.entries collector.old.store) first before
         → (given : List Given) × (accepted : List AcceptedEvent) × (told : List ℕ)
@@ -245,7 +250,8 @@ pub fn serve<S: Store, R: Source, N: Output>(
         (before ++ accepted)
         × Appends (N.taken notes.old) (N.taken notes.new) told
         × ServesTo collector.old.clock (history_of before) (waiting collector.old.connections.items)
-        (waiting collector.new.connections.items) result given accepted told }
+        (waiting collector.new.connections.items) result (N.failures notes.old) (N.failures notes.new) given
+        accepted told }
     // No frame is left ready, unless memory ran out.
     ensures settled { (first : List Entry) (before : List AcceptedEvent)
         → Stands collector.old.clock collector.old.connections.items (S.entries collector.old.store) first before
@@ -264,5 +270,6 @@ pub fn serve<S: Store, R: Source, N: Output>(
         Err(Stopped::Notes) => ServeEnd::Failed,
         Err(Stopped::Endless) => ServeEnd::Endless,
         Err(Stopped::Memory) => ServeEnd::Memory,
+        Err(Stopped::MemoryAndNotes) => ServeEnd::Memory,
     }
 }

@@ -6,9 +6,9 @@ use Rattle.syslog_collect.specs.Runs.{accepted_event, accepted_run}
 use Rattle.syslog_collect.specs.Standing.{Stands}
 use Rattle.syslog_collect.specs.declared.event.RunEnd.TheVariants.{Stopped}
 use Rattle.syslog_collect.specs.declared.outcome.Outcome.{Outcome}
-use Rattle.collect_engine.specs.Receiving.{IfNotMemory, ReceivesAs}
+use Rattle.collect_engine.specs.Receiving.{IfNotMemory, ReceivesAs, kept_outcomes}
 use Rattle.collect_engine.specs.declared.receiving.Received.{Received}
-use Rattle.collect_engine.proofs.Receives.{done_as, memory_of_one, refused_settled, stopped_as}
+use Rattle.collect_engine.proofs.Receives.{done_as, refused_settled, stopped_as}
 use Rattle.collect_engine.proofs.receiving.receive.Goals as goal
 
 pub returns-in-Done-clause-received : goal.returns-in-Done-clause-received
@@ -20,26 +20,17 @@ returns-in-Done-clause-received g c first before was = (
       (c.in-Done.ensures.logged first before was) c.clear.ensures.items (c.in-Done.ensures.ends first before was).0,
 )
 
-pub returns-in-Stopped-default-default-Memory-clause-received :
-    goal.returns-in-Stopped-default-default-Memory-clause-received
-returns-in-Stopped-default-default-Memory-clause-received g c first before was =
-    let here = c.in-Stopped-default-default-Memory in (
-      accepted_run (c.args.event ∷ []) (Stopped here.at here.taken here.fault),
-      here.ensures.stands first before was,
-      memory_of_one c.args.event here.at here.taken here.fault-0 here.fault here.fault-is
-          (here.ensures.cause first before was).0,
-    )
-
 pub returns-in-Stopped-clause-received : goal.returns-in-Stopped-clause-received
 returns-in-Stopped-clause-received g c first before was =
     let here = c.in-Stopped in
     let made = stopped_as c.args.collector.now.clock c.args.collector.now.connections.items
     (waiting c.run.new.self.connections.items) _ first before c.args.event here.at here.taken here.fault _ _
     c.clear.new.self.items c.run.new.log.items was (here.ensures.cause first before was)
-    (here.ensures.logged first before was) in
+    (here.ensures.logged first before was) c.clear.ensures.items in
     let as_made = subst (λ (r : Received). ReceivesAs c.args.collector.now.clock (history_of before)
     (waiting c.args.collector.now.connections.items) (waiting c.run.new.self.connections.items)
-    (accepted_event c.args.event) r [] (accepted_run (c.args.event ∷ []) (Stopped here.at here.taken here.fault)))
+    (accepted_event c.args.event) r (kept_outcomes here.fault c.run.new.log.items)
+    (accepted_run (c.args.event ∷ []) (Stopped here.at here.taken here.fault)))
     (sym c.received_of.ensures) made in (
       accepted_run (c.args.event ∷ []) (Stopped here.at here.taken here.fault),
       here.ensures.stands first before was,
@@ -47,7 +38,7 @@ returns-in-Stopped-clause-received g c first before was =
           (waiting c.args.collector.now.connections.items) (waiting c.run.new.self.connections.items)
           (accepted_event c.args.event) c.received_of.result os
           (accepted_run (c.args.event ∷ []) (Stopped here.at here.taken here.fault)))
-          (sym c.clear-in-Stopped.ensures.items) as_made,
+          (sym c.keep_outcomes.ensures) as_made,
     )
 
 pub returns-in-Stopped-clause-settled : goal.returns-in-Stopped-clause-settled

@@ -1,10 +1,12 @@
-use Rattle.std.proofs.Common.{[], refl, inl}
+use Rattle.std.proofs.Common.{[], refl, subst}
 use Rattle.syslog_collect.specs.History.{history_of}
 use Rattle.syslog_collect.specs.Logs.{waiting}
 use Rattle.syslog_collect.specs.Headline.{IsSettled}
 use Rattle.syslog_collect.specs.Runs.{accepted_event}
-use Rattle.collect_engine.specs.Lines.{lines_on}
-use Rattle.collect_engine.proofs.Serves.{appends_none, event_served, going, refused_told, still_settled, unless_memory}
+use Rattle.collect_engine.specs.Lines.{NotesAs, lines_on}
+use Rattle.collect_engine.specs.declared.receiving.Received.{Received}
+use Rattle.collect_engine.proofs.Serves.{appends_none, event_served, going, out_of_memory_fails, out_of_memory_served}
+use Rattle.collect_engine.proofs.Serves.{out_of_memory_settled, refused_told, still_settled, unless_memory}
 use Rattle.collect_engine.proofs.serving.serve_event.Goals as goal
 
 pub returns-in-Refused-clause-served : goal.returns-in-Refused-clause-served
@@ -15,8 +17,32 @@ returns-in-Refused-clause-served g c first before was =
 pub returns-in-Memory-clause-served : goal.returns-in-Memory-clause-served
 returns-in-Memory-clause-served g c first before was =
     let made = c.in-Memory.ensures.received first before was in
-    let noted = c.write-in-Memory.ensures.noted in
-    (made.0, noted.0, made.1, noted.1, inl made.2, tt)
+    let noted = c.write-noted.ensures.noted in
+    let r = c.receive-received.result in
+    let n = c.args.lines.now.number in
+    let os = c.receive-received.new.outcomes.items in
+    let v = waiting c.receive-received.new.collector.connections.items in
+    let e = accepted_event c.args.event in
+    let lines =
+    subst (λ (k : Received). NotesAs c.write-noted.result (lines_on n os k) noted.0) c.in-Memory.is noted.2 in (
+      made.0,
+      noted.0,
+      made.1,
+      noted.1,
+      out_of_memory_served c.args.collector.now.clock (history_of before)
+          (waiting c.args.collector.now.connections.items) v n c.write-noted.new.self.number e os made.0 noted.0
+          c.write-noted.result c.out_of_memory.result c.out_of_memory.ensures made.2 lines,
+      tt,
+    )
+
+pub returns-in-Memory-clause-settled : goal.returns-in-Memory-clause-settled
+returns-in-Memory-clause-settled g c first before was settled =
+    out_of_memory_settled c.write-noted.result c.out_of_memory.result _ c.out_of_memory.ensures
+
+pub returns-in-Memory-clause-failures : goal.returns-in-Memory-clause-failures
+returns-in-Memory-clause-failures g c =
+    out_of_memory_fails c.write-noted.result c.out_of_memory.result _ _ c.out_of_memory.ensures
+    c.write-noted.ensures.failures
 
 pub returns-in-Accepted-clause-served : goal.returns-in-Accepted-clause-served
 returns-in-Accepted-clause-served g c first before was =

@@ -8,8 +8,8 @@ use Rattle.syslog_collect.specs.History.{AcceptedEvent, history_of}
 use Rattle.syslog_collect.specs.Logs.{waiting}
 use Rattle.syslog_collect.specs.Standing.{Stands}
 use Rattle.collect_engine.specs.Lines.{has_some}
-use Rattle.collect_engine.proofs.Serves.{appends_none, come_none, come_push, has_some_append, one_more, serves_end}
-use Rattle.collect_engine.proofs.Serves.{serves_one_more, serves_stop, step_here}
+use Rattle.collect_engine.proofs.Serves.{appends_none, come_none, come_push, fails_later, has_some_append, one_more}
+use Rattle.collect_engine.proofs.Serves.{serves_end, serves_one_more, serves_stop, step_here}
 use Rattle.collect_engine.proofs.serving.serve_steps.Goals as goal
 
 pub returns-in-Err-clause-served : goal.returns-in-Err-clause-served
@@ -37,6 +37,10 @@ returns-in-Err-clause-served g c first before was =
           c.loop-turn.invariant.clock made.6),
     )
 
+pub returns-in-Err-clause-failures : goal.returns-in-Err-clause-failures
+returns-in-Err-clause-failures g c =
+    fails_later {A = Bool} (Err c.in-Err.stopped) _ _ _ c.loop-turn.invariant.failures c.in-Err.ensures.failures
+
 pub returns-in-Err-clause-settled : goal.returns-in-Err-clause-settled
 returns-in-Err-clause-settled g c first before was settled =
     let so_far = c.loop-turn.invariant.served first before was in
@@ -62,7 +66,8 @@ returns-in-Ok-true-clause-served g c first before was =
       serves_end c.args.collector.now.clock (history_of before) (waiting c.args.collector.now.connections.items)
           (waiting c.loop-turn.collector.connections.items) (waiting c.serve_next.new.collector.connections.items)
           c.loop-turn.lines.number c.serve_next.new.lines.number so_far.0 made.0 es made.1 so_far.2 made.2
-          c.serve_next.new.lines.refused c.loop-turn.lines.refused c.in-Ok-true.field-0 c.in-Ok-true.field-0-test so_far.6
+          c.serve_next.new.lines.refused c.loop-turn.lines.refused c.in-Ok-true.field-0 c.in-Ok-true.field-0-test
+          so_far.6
           (step_here c.args.collector.now.clock c.loop-turn.collector.clock before es
           (waiting c.loop-turn.collector.connections.items) (waiting c.serve_next.new.collector.connections.items)
           c.loop-turn.lines.number c.serve_next.new.lines.number (Ok c.in-Ok-true.field-0) made.0 made.1 made.2

@@ -21,12 +21,15 @@ invariant-loop-turn g l = record {
   room : FRAME_MAX < vec_len l.buf;
   failures : g.N.Output.failures l.notes ≡ g.N.Output.failures l.fn.notes;
   settled : (first : List Entry) (before : List AcceptedEvent)
-      → Stands l.fn.collector.clock l.fn.collector.connections.items (g.S.Store.entries l.fn.collector.store) first before
+      → Stands l.fn.collector.clock l.fn.collector.connections.items (g.S.Store.entries l.fn.collector.store) first
+      before
       → IsSettled l.fn.collector.connections.items → IsSettled l.collector.connections.items;
   served : (first : List Entry) (before : List AcceptedEvent)
-      → Stands l.fn.collector.clock l.fn.collector.connections.items (g.S.Store.entries l.fn.collector.store) first before
+      → Stands l.fn.collector.clock l.fn.collector.connections.items (g.S.Store.entries l.fn.collector.store) first
+      before
       → (given : List Given) × (accepted : List AcceptedEvent) × (told : List ℕ)
-      × (g.R.Source.steps l.fn.source < 2 ^ 63 → Come (g.R.Source.coming l.fn.source) (g.R.Source.coming l.source) given)
+      × (g.R.Source.steps l.fn.source < 2 ^ 63 → Come (g.R.Source.coming l.fn.source)
+      (g.R.Source.coming l.source) given)
       × Stands l.collector.clock l.collector.connections.items (g.S.Store.entries l.collector.store) first
       (before ++ accepted)
       × Appends (g.N.Output.taken l.fn.notes) (g.N.Output.taken l.notes) told
