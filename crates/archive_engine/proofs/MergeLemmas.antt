@@ -243,14 +243,14 @@ merge_cause (Endless side_Left) dl el dr er t0 t1 n0 n1 f0 f1 h0 h1 w0 w1 m0 m1 
     elim (told tt m) [
       | inl rises ↦ inl rises
       | inr line ↦
-          inr (codes "left endless input\n", line, inr (inr (inr (inl (s.input.calls cl, s.input.ends cl, refl)))))
+          inr (codes "left endless input\n", line, inr (inr (inr (inl (s.input.0.calls cl, s.input.0.ends cl, refl)))))
     ]
 merge_cause (Endless side_Right) dl el dr er t0 t1 n0 n1 f0 f1 h0 h1 w0 w1 m0 m1 cl cr w m s left right writer device
     told =
     elim (told tt m) [
       | inl rises ↦ inl rises
       | inr line ↦
-          inr (codes "right endless input\n", line, inr (inr (inr (inr (s.input.calls cr, s.input.ends cr, refl)))))
+          inr (codes "right endless input\n", line, inr (inr (inr (inr (s.input.0.calls cr, s.input.0.ends cr, refl)))))
     ]
 merge_cause (Write sent) dl el dr er t0 t1 n0 n1 f0 f1 h0 h1 w0 w1 m0 m1 cl cr w m s left right writer device told =
     elim (told tt m) [

@@ -29,6 +29,17 @@ Taken = Option (List ℕ)
 pub puts_none : (a : Taken) (h : Held) → Puts a a h h []
 puts_none a h = λ start text c. subst (Carries start a h) (sym (append-nil text)) c
 
+-- what is held back is written
+pub puts_nothing : (a b : Taken) (h k : Held)
+    → ((start : Option (List ℕ)) (text : List ℕ) → Carries start a h text → Carries start b k text) → Puts a b h k []
+puts_nothing a b h k on = λ start text c. subst (Carries start b k) (sym (append-nil text)) (on start text c)
+
+pub stops_nothing : (a b : Taken) (h : Held) (sent : ℕ)
+    → ((start : Option (List ℕ)) (text : List ℕ) → Carries start a h text → StopsWithin start b text sent)
+    → StopsPutting a b h [] sent
+stops_nothing a b h sent on = λ start text c.
+    subst (λ (t : List ℕ). StopsWithin start b t sent) (sym (append-nil text)) (on start text c)
+
 pub puts_then : (a b c : Taken) (h k l : Held) (xs ys : List ℕ) → Puts a b h k xs → Puts b c k l ys
     → Puts a c h l (xs ++ ys)
 puts_then a b c h k l xs ys p q = λ start text w.

@@ -11,6 +11,8 @@ ghost use Rattle.archive_text.specs.declared.store.Added.TheVariants.{New};
 
 use crate::arena::{Arena, Span};
 use crate::page::{insert_span, page_of};
+use crate::rank::rank_of;
+use crate::ranks::Ranks;
 use crate::search::place_of;
 use archive_text::{Added, ENTRY_MAX, EntryView};
 use std::alloc::{AllocError, Global};
@@ -73,12 +75,13 @@ fn add_at(
     insert_span(alloc, pages, page, index, span)
 }
 
-/// Adds an entry. All growths come before a change of a page or of the index, and a refused one
-/// leaves the entries as they were.
+/// Adds an entry, and notes how pages begin then. All growths come before a change of a page or of
+/// the index, and a refused one leaves the entries as they were.
 pub fn add_entry(
     alloc: Global,
     arena: &mut Arena,
     pages: &mut Vec<Vec<Span>>,
+    ranks: &mut Ranks,
     entry: &EntryView<'_>,
 ) -> Result<Added, AllocError>
     requires paged { ArePaged (blocks_of arena.old) (lists_of pages.old.items) }
@@ -93,19 +96,22 @@ pub fn add_entry(
 {
     if pages.len() == 0 {
         add_first(alloc, arena, pages, entry)?;
+        ranks.note(pages, 0, 0);
         return Ok(Added::New);
     }
-    match place_of(arena, pages, entry) {
+    let guess = ranks.guess(rank_of(entry.instant));
+    match place_of(arena, pages, guess, entry) {
         None => Ok(Added::Held),
         Some((page, index)) => {
             add_at(alloc, arena, pages, entry, page, index)?;
+            ranks.note(pages, page, index);
             Ok(Added::New)
         }
     }
 }
 
 /// Whether pages hold an entry.
-pub fn holds_entry(arena: &Arena, pages: &[Vec<Span>], entry: &EntryView<'_>) -> bool
+pub fn holds_entry(arena: &Arena, pages: &[Vec<Span>], ranks: &Ranks, entry: &EntryView<'_>) -> bool
     requires { ArePaged (blocks_of arena.now) (lists_of pages.now) }
     ensures { IsTrue result
         ↔ Has (entries_of (blocks_of arena.now) (lists_of pages.now)) (entry_of entry.now) }
@@ -113,6 +119,7 @@ pub fn holds_entry(arena: &Arena, pages: &[Vec<Span>], entry: &EntryView<'_>) ->
     if pages.len() == 0 {
         return false;
     }
-    let place = place_of(arena, pages, entry);
+    let guess = ranks.guess(rank_of(entry.instant));
+    let place = place_of(arena, pages, guess, entry);
     place.is_none()
 }

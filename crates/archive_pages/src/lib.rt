@@ -8,6 +8,7 @@ mod index;
 mod page;
 mod paged;
 mod rank;
+mod ranks;
 mod search;
 mod writing;
 

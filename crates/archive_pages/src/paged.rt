@@ -11,6 +11,7 @@ ghost use Rattle.archive_pages.specs.declared.paged.TheConstants.{RECORDS_MAX};
 
 use crate::arena::{Arena, Span};
 use crate::index::{add_entry, holds_entry};
+use crate::ranks::Ranks;
 use crate::writing::write_pages;
 use archive_text::{AddFault, Added, ENTRY_MAX, EntryView, Store};
 use std::alloc::{AllocError, Global};
@@ -31,6 +32,7 @@ const RECORDS_MAX: usize = 1_099_511_627_776;
 pub struct PagedArchive {
     arena: Arena,
     pages: Vec<Vec<Span>>,
+    ranks: Ranks,
     count: usize,
     // the canonical octets of the view that is added
     scratch: Vec<u8>,
@@ -47,6 +49,7 @@ impl PagedArchive {
         PagedArchive {
             arena: Arena::new(alloc),
             pages: Vec::new(alloc),
+            ranks: Ranks::new(alloc),
             count: 0,
             scratch: Vec::new(alloc),
         }
@@ -58,6 +61,7 @@ fn add_counted(
     alloc: Global,
     arena: &mut Arena,
     pages: &mut Vec<Vec<Span>>,
+    ranks: &mut Ranks,
     count: &mut usize,
     entry: &EntryView<'_>,
 ) -> Result<Added, AddFault>
@@ -81,7 +85,7 @@ fn add_counted(
     if *count >= RECORDS_MAX {
         return Err(AddFault::Memory);
     }
-    match add_entry(alloc, arena, pages, entry) {
+    match add_entry(alloc, arena, pages, ranks, entry) {
         Ok(Added::New) => {
             *count += 1;
             Ok(Added::New)
@@ -110,6 +114,7 @@ impl Store for PagedArchive {
             alloc,
             &mut self.arena,
             &mut self.pages,
+            &mut self.ranks,
             &mut self.count,
             &entry,
         )
@@ -128,6 +133,7 @@ impl Store for PagedArchive {
             alloc,
             &mut self.arena,
             &mut self.pages,
+            &mut self.ranks,
             &mut self.count,
             &entry,
         )
@@ -139,7 +145,7 @@ impl Store for PagedArchive {
             instant: record.instant(),
             octets: octets.as_slice(),
         };
-        Ok(holds_entry(&self.arena, &self.pages, &entry))
+        Ok(holds_entry(&self.arena, &self.pages, &self.ranks, &entry))
     }
 
     fn len(&self) -> usize {

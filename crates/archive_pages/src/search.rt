@@ -76,8 +76,26 @@ fn compare_last(arena: &Arena, page: &[Span], entry: &EntryView<'_>) -> Ordering
     compare_span(arena, page[last], entry)
 }
 
+// The page to compare next, of those from `low` to below `high`: the one that was guessed, then the one
+// behind it, then the middle one.
+#[inline(always)]
+fn next_page(low: usize, high: usize, guess: usize) -> usize
+    requires { low < high }
+    ensures low { low ≤ result }
+    ensures high { result < high }
+{
+    if low <= guess && guess < high {
+        return guess;
+    }
+    if guess < low && low - guess == 1 {
+        return low;
+    }
+    low + (high - low) / 2
+}
+
 // The page for an entry: all entries of earlier pages are below it, all of later ones above it.
-fn page_for(arena: &Arena, pages: &[Vec<Span>], entry: &EntryView<'_>) -> usize
+// The search begins at the page that is guessed.
+fn page_for(arena: &Arena, pages: &[Vec<Span>], guess: usize, entry: &EntryView<'_>) -> usize
     requires some { 0 < length pages.now }
     requires pages { AreSearchable (blocks_of arena.now) (lists_of pages.now) }
     ensures { IsPage (blocks_of arena.now) (lists_of pages.now) (entry_of entry.now) result }
@@ -85,19 +103,25 @@ fn page_for(arena: &Arena, pages: &[Vec<Span>], entry: &EntryView<'_>) -> usize
     let mut low = 0;
     let mut high = pages.len();
     while low < high {
-        let middle = low + (high - low) / 2;
-        if begins_above(arena, &pages[middle], entry) {
-            high = middle;
+        let page = next_page(low, high, guess);
+        if begins_above(arena, &pages[page], entry) {
+            high = page;
         } else {
-            low = middle + 1;
+            low = page + 1;
         }
     }
     low.saturating_sub(1)
 }
 
 /// Where an entry goes among pages: into this page, before the span of this index. None where
-/// it is held. An entry above all others takes one comparison.
-pub fn place_of(arena: &Arena, pages: &[Vec<Span>], entry: &EntryView<'_>) -> Option<(usize, usize)>
+/// it is held. An entry above all others takes one comparison; else the search begins at the page
+/// that is guessed.
+pub fn place_of(
+    arena: &Arena,
+    pages: &[Vec<Span>],
+    guess: usize,
+    entry: &EntryView<'_>,
+) -> Option<(usize, usize)>
     requires some { 0 < length pages.now }
     requires pages { AreSearchable (blocks_of arena.now) (lists_of pages.now) }
     ensures { IsPlace (blocks_of arena.now) (lists_of pages.now) (entry_of entry.now) result }
@@ -108,7 +132,7 @@ pub fn place_of(arena: &Arena, pages: &[Vec<Span>], entry: &EntryView<'_>) -> Op
         Ordering::Equal => return None,
         Ordering::Greater => {}
     }
-    let page = page_for(arena, pages, entry);
+    let page = page_for(arena, pages, guess, entry);
     let index = search_page(arena, &pages[page], entry)?;
     Some((page, index))
 }

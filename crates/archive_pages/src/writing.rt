@@ -1,6 +1,6 @@
 //! The text of pages.
 
-ghost use Rattle.std.specs.Prelude.{◌≡◌, ◌<◌, ◌^◌, length, take, IfErr, OnErr, OnOk};
+ghost use Rattle.std.specs.Prelude.{◌≡◌, ◌<◌, ◌^◌, [], length, take, IfErr, OnErr, OnOk};
 ghost use Rattle.std.specs.Io.KnownBytes.{Appends};
 ghost use Rattle.std.specs.List.{AllByRecursion};
 ghost use Rattle.syslog_frame.specs.Frames.{framed};
@@ -14,6 +14,9 @@ use crate::arena::{Arena, Span};
 use held_output::HeldOutput;
 use itoa::Buffer;
 use syslog_value::{Output, WriteFault};
+
+// a page of so many octets is begun by a write of what is held back
+const MANY: usize = 16_384;
 
 // Puts the text of an entry of these octets: their length, a space and the octets.
 fn put_entry<W: Output>(
@@ -35,6 +38,39 @@ fn put_entry<W: Output>(
     held.put(writer, octets)
 }
 
+// How many octets the entries of a page have. Their lengths are asked for side by side here, and not
+// each behind the copy of the entry before it, since they lie far from each other.
+fn octets_in(arena: &Arena, page: &[Span]) -> usize
+    requires { AllByRecursion (IsWithin (blocks_of arena.now)) page.now }
+{
+    let mut count: usize = 0;
+    for span in page {
+        count = count.saturating_add(arena.octets(*span).len());
+    }
+    count
+}
+
+// Writes what is held back before a page of many octets.
+fn begin_page<W: Output>(
+    held: &mut HeldOutput,
+    writer: &mut W,
+    arena: &Arena,
+    page: &[Span],
+) -> Result<(), WriteFault>
+    requires { AllByRecursion (IsWithin (blocks_of arena.now)) page.now }
+    ensures ok { OnOk result (Puts (W.taken writer.old) (W.taken writer.new) held.old held.new []) }
+    ensures no_failure { OnOk result (W.failures writer.new ≡ W.failures writer.old) }
+    ensures err { IfErr result (λ fault. StopsPutting (W.taken writer.old) (W.taken writer.new)
+        held.old [] fault.sent) }
+    ensures cause { W.failures writer.old < 2 ^ 63 →
+        OnErr result (W.failures writer.old < W.failures writer.new) }
+{
+    if octets_in(arena, page) < MANY {
+        return Ok(());
+    }
+    held.finish(writer)
+}
+
 // Puts the text of a page's entries.
 fn put_page<W: Output>(
     held: &mut HeldOutput,
@@ -51,6 +87,7 @@ fn put_page<W: Output>(
     ensures cause { W.failures writer.old < 2 ^ 63 →
         OnErr result (W.failures writer.old < W.failures writer.new) }
 {
+    begin_page(held, writer, arena, page)?;
     for span in page {
         put_entry(held, writer, arena.octets(*span))?;
     }

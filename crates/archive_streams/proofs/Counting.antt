@@ -1,6 +1,7 @@
 -- The length before an entry, as its octets come.
 use Rattle.std.proofs.Common.{◌≡◌, ℕ, ◌+◌, ◌<◌, ◌≤◌, List, [], ◌∷◌, ◌++◌, length, take, drop, refl, sym, ap, subst, ◌∙◌}
 use Rattle.std.proofs.Common.{append_assoc, arith, inl, inr}
+use Rattle.std.specs.Prelude.{Bool, Err, IsErrOf}
 use Rattle.std.specs.Fmt.{decimal}
 use Rattle.std.proofs.lemmas.Fmt.{length-decimal-le}
 use Rattle.std.proofs.lemmas.Bool.{cases_lt}
@@ -18,6 +19,12 @@ use Rattle.archive_text.specs.Faults.{BeginsWithOctets, IsBadFrame, IsTooLong}
 use Rattle.archive_text.specs.declared.limits.TheConstants.{ENTRY_MAX}
 use Rattle.archive_streams.specs.Counting.{IsUnfinished}
 use Rattle.archive_streams.specs.EntryTexts.{HasCounted, IsCounted}
+use Rattle.archive_streams.specs.Faults.{IsCut, IsSideFault}
+use Rattle.archive_streams.specs.declared.fault.InputFault.{InputFault}
+use Rattle.archive_streams.specs.declared.fault.InputFault.TheVariants.{Device, Endless}
+use Rattle.archive_streams.specs.declared.fault.SideFault.TheVariants.{Input}
+use Rattle.archive_streams.specs.declared.pieces.Pieces.{Pieces}
+use Rattle.syslog_value.specs.declared.loops.TheConstants.{READER_CALLS}
 
 -- nothing is unfinished
 pub unfinished_nil : IsUnfinished []
@@ -123,6 +130,20 @@ cut_entry most count head octets text rest h e fits less none =
     let all : text ++ rest ≡ text = ap (λ (s : List ℕ). text ++ s) none ∙ append-nil text in
     subst (λ (s : List ℕ). IsBadFrame most s (length text)) (sym all)
     (inr (count, octets, (head, e, h), fits, less, refl))
+
+-- where nothing more is given
+pub cut_here : (most : ℕ) (text rest : List ℕ) → rest ≡ [] → IsBadFrame most (text ++ rest) (length text)
+    → IsBadFrame most (text ++ rest) (length (text ++ rest))
+cut_here most text rest none cut =
+    let all : text ++ rest ≡ text = ap (λ (s : List ℕ). text ++ s) none ∙ append-nil text in
+    subst (IsBadFrame most (text ++ rest)) (sym (ap length all)) cut
+
+-- no more is given, since the reader failed or was called as often as it may be
+pub input_fault : (fault : InputFault) (rest : List ℕ) (p : Pieces) → IsCut rest
+    → (IsErrOf {T = Bool} (Err fault) Endless → (p.calls ≡ READER_CALLS) × (p.ends ≡ 0))
+    → IsSideFault (Input fault) rest p
+input_fault Device rest p cut endless = cut
+input_fault Endless rest p cut endless = let counts = endless refl in (cut, counts.0, counts.1)
 
 -- a length above the limit
 pub too_long : (most count : ℕ) (text rest : List ℕ) → MsgLen count text → most < count → IsTooLong most (text ++ rest)

@@ -4,7 +4,9 @@ use Rattle.std.proofs.Common.{sym, ap, subst, ◌∙◌, arith, inl, inr}
 use Rattle.std.specs.Prelude.{◌≢◌, ◌⊎◌}
 use Rattle.std.specs.Io.KnownBytes.{Consumes}
 use Rattle.archive_text.specs.Entries.{Entry, Has, IsAscending, IsBelow}
-use Rattle.archive_text.specs.Text.{text_of}
+use Rattle.archive_text.specs.Faults.{IsFaultBehind}
+use Rattle.archive_text.specs.Text.{IsArchive, text_of}
+use Rattle.archive_text.specs.declared.fault.ArchiveFault.TheVariants.{BadFrame}
 use Rattle.archive_text.specs.declared.limits.TheConstants.{ENTRY_MAX}
 use Rattle.archive_text.proofs.Members.{has_either, has_right}
 use Rattle.archive_text.proofs.Prefixes.{archive_fault}
@@ -18,7 +20,8 @@ use Rattle.archive_streams.specs.Joins.{BothDue, Joins, LeftDue, Merging, RightD
 use Rattle.archive_streams.specs.Merging.{HasRoom}
 use Rattle.archive_streams.specs.Pieces.{HasFewCalls, Reader, unused}
 use Rattle.archive_streams.specs.Sides.{Due, EndsWith, IsNear, IsNextOrEnd, IsSideStop, Ready}
-use Rattle.archive_streams.specs.Stopped.{HasEnded, IsInputFault}
+use Rattle.archive_streams.specs.Faults.{IsCut}
+use Rattle.archive_streams.specs.Stopped.{HasEnded, IsInputFault, IsLeftFirst, IsRightFirst}
 use Rattle.archive_streams.specs.declared.entry.EntryText.{EntryText}
 use Rattle.archive_streams.specs.declared.fault.InputFault.TheVariants.{Device, Endless as input_Endless}
 use Rattle.archive_streams.specs.declared.fault.MergeFault.{MergeFault}
@@ -117,6 +120,29 @@ right_under_way (Archive fault) held start now text c = c
 right_under_way (Input Device) held start now text c = c
 right_under_way (Input input_Endless) held start now text c = c
 
+-- a side that stops inside an entry or before one ends its front there
+cut_behind : (es : List Entry) (rest : List ℕ) → IsCut rest
+    → IsFaultBehind ENTRY_MAX es rest (BadFrame (length (text_of es) + length rest))
+cut_behind es rest cut = (length rest, cut, refl)
+
+left_first : (x y : List ℕ) (ls rs ws : List Entry) (rest : List ℕ) → IsArchive ENTRY_MAX ls
+    → x ≡ text_of ls ++ rest → IsCut rest → SideAt x ls ws → SideAt y rs ws → IsUnion ls rs ws
+    → AllWithin ls ws → IsLeftFirst x y (text_of ws)
+left_first x y ls rs ws rest archive parts cut a b u all =
+    let fault = BadFrame (length (text_of ls) + length rest) in (
+      up_to_first x y ls rs ws rest fault archive parts (cut_behind ls rest cut) a b u all,
+      λ other too. first_within x y ls rs ws rest fault other archive parts (cut_behind ls rest cut) b u too,
+    )
+
+right_first : (x y : List ℕ) (ls rs ws : List Entry) (rest : List ℕ) → IsArchive ENTRY_MAX rs
+    → y ≡ text_of rs ++ rest → IsCut rest → (a : SideAt x ls ws) → IsAhead a.es ls ws a.rest → SideAt y rs ws
+    → IsUnion ls rs ws → AllWithin rs ws → IsRightFirst x y (text_of ws)
+right_first x y ls rs ws rest archive parts cut a ahead b u all =
+    let fault = BadFrame (length (text_of rs) + length rest) in (
+      up_to_first y x rs ls ws rest fault archive parts (cut_behind rs rest cut) b a (turned ls rs ws u) all,
+      λ other too. first_above x y ls rs ws rest fault other archive parts (cut_behind rs rest cut) a ahead u too,
+    )
+
 left_input : (fault : SideFault) (s : ArchiveReader) (dl el dr er : Reader) (ls rs ws : List Entry) (y : List ℕ)
     → (t : IsSideStop fault s dl el ls) → SideAt t.x ls ws → SideAt y rs ws → IsUnion ls rs ws
     → AllWithin ls ws → IsInputFault (left_fault fault) dl el dr er t.x y (text_of ws)
@@ -128,9 +154,12 @@ left_input (Archive fault) s dl el dr er ls rs ws y t a b u all = (
   },
   λ other too. first_within t.x y ls rs ws t.rest fault other t.archive t.parts t.cause.0 b u too,
 )
-left_input (Input Device) s dl el dr er ls rs ws y t a b u all = tt
-left_input (Input input_Endless) s dl el dr er ls rs ws y t a b u all =
-    record { calls = λ low. omega (arith, t.calls low, t.cause.0); ends = λ low. omega (arith, t.ends low, t.cause.1) }
+left_input (Input Device) s dl el dr er ls rs ws y t a b u all =
+    left_first t.x y ls rs ws t.rest t.archive t.parts t.cause a b u all
+left_input (Input input_Endless) s dl el dr er ls rs ws y t a b u all = (
+  record { calls = λ low. omega (arith, t.calls low, t.cause.1); ends = λ low. omega (arith, t.ends low, t.cause.2) },
+  left_first t.x y ls rs ws t.rest t.archive t.parts t.cause.0 a b u all,
+)
 
 right_input : (fault : SideFault) (s : ArchiveReader) (dl el dr er : Reader) (ls rs ws : List Entry) (x : List ℕ)
     → (t : IsSideStop fault s dr er rs) → (a : SideAt x ls ws) → IsAhead a.es ls ws a.rest → SideAt t.x rs ws
@@ -143,9 +172,12 @@ right_input (Archive fault) s dl el dr er ls rs ws x t a ahead b u all = (
   },
   λ other too. first_above x t.x ls rs ws t.rest fault other t.archive t.parts t.cause.0 a ahead u too,
 )
-right_input (Input Device) s dl el dr er ls rs ws x t a ahead b u all = tt
-right_input (Input input_Endless) s dl el dr er ls rs ws x t a ahead b u all =
-    record { calls = λ low. omega (arith, t.calls low, t.cause.0); ends = λ low. omega (arith, t.ends low, t.cause.1) }
+right_input (Input Device) s dl el dr er ls rs ws x t a ahead b u all =
+    right_first x t.x ls rs ws t.rest t.archive t.parts t.cause a ahead b u all
+right_input (Input input_Endless) s dl el dr er ls rs ws x t a ahead b u all = (
+  record { calls = λ low. omega (arith, t.calls low, t.cause.1); ends = λ low. omega (arith, t.ends low, t.cause.2) },
+  right_first x t.x ls rs ws t.rest t.archive t.parts t.cause.0 a ahead b u all,
+)
 
 -- the left stops
 left_stops : (fault : SideFault) (s : ArchiveReader) (m : Merge) (dl el dr er : Reader) (ls rs ws : List Entry)

@@ -146,7 +146,7 @@ stop_cause (Archive fault) s t x rest es last archive ends position parts wrong 
   λ at.
       wrong.2 (omega (arith, at, ap length parts, length-append (text_of es) rest, position)),
 )
-stop_cause (Input Device) s t x rest es last archive ends position parts wrong = tt
+stop_cause (Input Device) s t x rest es last archive ends position parts wrong = wrong
 stop_cause (Input Endless) s t x rest es last archive ends position parts wrong = wrong
 
 -- a side stops

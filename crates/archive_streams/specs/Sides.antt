@@ -7,6 +7,7 @@ use Rattle.archive_text.specs.Faults.{IsFaultBehind}
 use Rattle.archive_text.specs.Text.{IsArchive, text_of}
 use Rattle.archive_text.specs.declared.limits.TheConstants.{ENTRY_MAX}
 use Rattle.archive_streams.specs.EntryTexts.{entry_in, HoldsEntry}
+use Rattle.archive_streams.specs.Faults.{IsCut}
 use Rattle.archive_text.specs.Positions.{position_of}
 use Rattle.archive_streams.specs.Pieces.{Reader, unused}
 use Rattle.archive_streams.specs.declared.entry.EntryText.{EntryText}
@@ -31,8 +32,8 @@ IsNextFault (Archive fault) last position rest p =
     ((es : List Entry) → IsArchive ENTRY_MAX es → EndsWith es last → length (text_of es) ≡ position
     → IsFaultBehind ENTRY_MAX es rest fault)
     × (0 < length rest) × (position_of fault ≡ position + length rest → 0 < p.ends)
-IsNextFault (Input Device) last position rest p = Unit {0}
-IsNextFault (Input Endless) last position rest p = (p.calls ≡ READER_CALLS) × (p.ends ≡ 0)
+IsNextFault (Input Device) last position rest p = IsCut rest
+IsNextFault (Input Endless) last position rest p = IsCut rest × (p.calls ≡ READER_CALLS) × (p.ends ≡ 0)
 
 -- a reader that stood at `d` gave these octets, of which the entries are read
 pub record ReadTo (s : ArchiveReader) (d e : Reader) (x : List ℕ) (es : List Entry) : Type 0 where
@@ -68,8 +69,8 @@ pub record Ready (s : ArchiveReader) (d e : Reader) (ls ws : List Entry) : Type 
 abbrev pub IsStopCause : SideFault → ArchiveReader → List ℕ → List ℕ → List Entry → Type 0
 IsStopCause (Archive fault) s x rest es =
     IsFaultBehind ENTRY_MAX es rest fault × (0 < length rest) × (position_of fault ≡ length x → 0 < s.pieces.ends)
-IsStopCause (Input Device) s x rest es = Unit {0}
-IsStopCause (Input Endless) s x rest es = (s.pieces.calls ≡ READER_CALLS) × (s.pieces.ends ≡ 0)
+IsStopCause (Input Device) s x rest es = IsCut rest
+IsStopCause (Input Endless) s x rest es = IsCut rest × (s.pieces.calls ≡ READER_CALLS) × (s.pieces.ends ≡ 0)
 
 -- a side stops behind these entries
 pub record IsSideStop (fault : SideFault) (s : ArchiveReader) (d e : Reader) (es : List Entry) : Type 0 where

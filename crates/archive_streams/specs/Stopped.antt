@@ -29,6 +29,17 @@ pub record IsNoArchive (fault : ArchiveFault) (d e : Reader) (given other writte
   pub at_end : position_of fault ≡ length given → HasEnded d e
   pub up_to_front : IsUpToFirst given other written
 
+-- of both sides the entries up to the greatest of the left front were written; where the right is no archive, that is
+-- not above the greatest of the right front
+abbrev pub IsLeftFirst : List ℕ → List ℕ → List ℕ → Type 0
+IsLeftFirst x y written =
+    IsUpToFirst x y written × ((too : ArchiveFault) → IsArchiveFault ENTRY_MAX y too → IsFirstWithin x y)
+
+-- the same of the right front; where the left is no archive, its greatest is below that of the left front
+abbrev pub IsRightFirst : List ℕ → List ℕ → List ℕ → Type 0
+IsRightFirst x y written =
+    IsUpToFirst y x written × ((too : ArchiveFault) → IsArchiveFault ENTRY_MAX x too → IsFirstAbove x y)
+
 -- what is known of the two sides at a fault; where both are no archives, the left is told exactly where
 -- the greatest of its front is not above that of the right's
 abbrev pub IsInputFault : MergeFault → Reader → Reader → Reader → Reader → List ℕ → List ℕ → List ℕ → Type 0
@@ -36,9 +47,10 @@ IsInputFault (Left fault) dl el dr er x y written =
     IsNoArchive fault dl el x y written × ((too : ArchiveFault) → IsArchiveFault ENTRY_MAX y too → IsFirstWithin x y)
 IsInputFault (Right fault) dl el dr er x y written =
     IsNoArchive fault dr er y x written × ((too : ArchiveFault) → IsArchiveFault ENTRY_MAX x too → IsFirstAbove x y)
-IsInputFault (Endless side_Left) dl el dr er x y written = HasNoEnd dl el
-IsInputFault (Endless side_Right) dl el dr er x y written = HasNoEnd dr er
-IsInputFault (Read side) dl el dr er x y written = Unit {0}
+IsInputFault (Endless side_Left) dl el dr er x y written = HasNoEnd dl el × IsLeftFirst x y written
+IsInputFault (Endless side_Right) dl el dr er x y written = HasNoEnd dr er × IsRightFirst x y written
+IsInputFault (Read side_Left) dl el dr er x y written = IsLeftFirst x y written
+IsInputFault (Read side_Right) dl el dr er x y written = IsRightFirst x y written
 IsInputFault (Write sent) dl el dr er x y written = Unit {0}
 IsInputFault Memory dl el dr er x y written = Unit {0}
 

@@ -1,7 +1,7 @@
 //! What a reader gave and was not yet used.
 
 ghost use Rattle.std.specs.Prelude.{◌≡◌, ◌≤◌, ◌<◌, ◌+◌, ◌++◌, [], length, drop, take, false};
-ghost use Rattle.std.specs.Prelude.{IfOk, IsTrue, IsErrOf, vec_capacity, vec_len};
+ghost use Rattle.std.specs.Prelude.{IfOk, IsTrue, IsErrOf, OnErr, vec_capacity, vec_len};
 ghost use Rattle.syslog_value.specs.declared.loops.TheConstants.{READ_MAX, READER_CALLS};
 
 use crate::fault::InputFault;
@@ -58,6 +58,7 @@ impl Pieces {
         ensures some { IfOk result (λ some. IsTrue some → 0 < length (unused self.new)) }
         ensures end { IfOk result (λ some. some ≡ false →
             (unused self.new ≡ []) × (0 < self.new.ends)) }
+        ensures none { OnErr result (unused self.new ≡ []) }
         ensures endless { IsErrOf result InputFault.Endless →
             (self.new.calls ≡ READER_CALLS) × (self.new.ends ≡ 0) }
     {
@@ -105,6 +106,7 @@ impl Pieces {
             TakesMore most text.old.items text.new.items) }
         ensures end { IfOk result (λ some. some ≡ false → (unused self.new ≡ [])
             × (0 < self.new.ends) × (text.new.items ≡ text.old.items)) }
+        ensures none { OnErr result ((unused self.new ≡ []) × (text.new.items ≡ text.old.items)) }
         ensures endless { IsErrOf result InputFault.Endless →
             (self.new.calls ≡ READER_CALLS) × (self.new.ends ≡ 0) }
     {

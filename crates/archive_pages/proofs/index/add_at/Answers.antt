@@ -1,7 +1,7 @@
-use Rattle.std.proofs.Common.{◌∙◌, arith, ap, subst, sym}
+use Rattle.std.proofs.Common.{arith}
 use Rattle.std.proofs.lemmas.Result.{on_err_weaker, on_ok_weaker}
 use Rattle.archive_text.specs.EntryViews.{entry_of}
-use Rattle.archive_pages.specs.Spans.{IsWithin, blocks_of, entry_at, lists_of}
+use Rattle.archive_pages.specs.Spans.{blocks_of, lists_of}
 use Rattle.archive_pages.proofs.Adding.{adds_more, entries_same, gains_at, paged_more, paged_same, paged_stays}
 use Rattle.archive_pages.proofs.Adding.{same_entries}
 use Rattle.archive_pages.proofs.PageLists.{count_is, either_way, on_err}

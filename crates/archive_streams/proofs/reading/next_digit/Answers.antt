@@ -6,7 +6,8 @@ use Rattle.archive_text.specs.Faults.{IsBadFrame}
 use Rattle.archive_text.specs.declared.limits.TheConstants.{ENTRY_MAX}
 use Rattle.archive_streams.specs.Counting.{IsUnfinished}
 use Rattle.archive_streams.specs.Pieces.{unused}
-use Rattle.archive_streams.proofs.Counting.{bad_count, bad_within, cut_count, unfinished_short, whole_all}
+use Rattle.archive_streams.proofs.Counting.{bad_count, bad_within, cut_count, cut_here, input_fault, unfinished_short}
+use Rattle.archive_streams.proofs.Counting.{whole_all}
 use Rattle.archive_streams.proofs.reading.next_digit.Goals as goal
 
 pub take-requires-clause-room : goal.take-requires-clause-room
@@ -15,6 +16,15 @@ take-requires-clause-room g c = omega (
   unfinished_short c.args.text.now.items c.requires.unfinished,
   c.requires.room,
 )
+
+pub returns-in-Err-clause-fault : goal.returns-in-Err-clause-fault
+returns-in-Err-clause-fault g c =
+    let text = c.take.new.text.items in
+    let rest = unused c.take.new.self in
+    let none = c.in-Err.ensures.none in
+    let cut = cut_here ENTRY_MAX text rest none.0
+    (cut_count ENTRY_MAX text rest (subst IsUnfinished (sym none.1) c.requires.unfinished) none.0) in
+    input_fault c.in-Err.fault (text ++ rest) c.take.new.self cut c.in-Err.ensures.endless
 
 pub returns-then-not-some-clause-fault : goal.returns-then-not-some-clause-fault
 returns-then-not-some-clause-fault g c =

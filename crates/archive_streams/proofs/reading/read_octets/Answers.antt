@@ -5,9 +5,24 @@ use Rattle.std.proofs.lemmas.List.{length-append}
 use Rattle.archive_text.specs.Faults.{IsBadFrame}
 use Rattle.archive_text.specs.declared.limits.TheConstants.{ENTRY_MAX}
 use Rattle.archive_streams.specs.Pieces.{unused}
-use Rattle.archive_streams.proofs.Counting.{cut_entry}
+use Rattle.archive_streams.proofs.Counting.{cut_entry, cut_here, input_fault}
 use Rattle.archive_streams.proofs.Giving.{ReadsOn-then}
 use Rattle.archive_streams.proofs.reading.read_octets.Goals as goal
+
+pub returns-in-Err-clause-fault : goal.returns-in-Err-clause-fault
+returns-in-Err-clause-fault g c =
+    let head = c.args.text.now.items in
+    let text = c.take.new.text.items in
+    let rest = unused c.take.new.self in
+    let inv = c.octets.invariant in
+    let none = c.in-Err.ensures.none in
+    let size : length c.octets.text.items ≡ length head + length inv.some.octets =
+    omega (arith, ap length inv.some.parts, length-append head inv.some.octets) in
+    let less : length inv.some.octets < c.args.count = omega (arith, size, c.octets-test.true, inv.size) in
+    let cut = cut_here ENTRY_MAX text rest none.0
+    (cut_entry ENTRY_MAX c.args.count head inv.some.octets text rest c.requires.counted (none.1 ∙ inv.some.parts)
+    c.requires.fits less none.0) in
+    input_fault c.in-Err.fault (text ++ rest) c.take.new.self cut c.in-Err.ensures.endless
 
 pub returns-then-not-some-clause-fault : goal.returns-then-not-some-clause-fault
 returns-then-not-some-clause-fault g c =
@@ -52,3 +67,9 @@ octets-preserved g c =
       failures = c.in-Ok.ensures.failures ∙ inv.failures;
       reads = ReadsOn-then _ _ _ _ _ _ _ _ _ inv.reads c.take.ensures.reads;
     }
+
+pub returns-in-Err-clause-reads : goal.returns-in-Err-clause-reads
+returns-in-Err-clause-reads g c = ReadsOn-then _ _ _ _ _ _ _ _ _ c.octets.invariant.reads c.take.ensures.reads
+
+pub returns-then-not-some-clause-reads : goal.returns-then-not-some-clause-reads
+returns-then-not-some-clause-reads g c = ReadsOn-then _ _ _ _ _ _ _ _ _ c.octets.invariant.reads c.take.ensures.reads
