@@ -44,7 +44,8 @@ Refuses-later A B p q (x ∷ rest) one a r = λ (more, h).
     r (
       more,
       subst B (sym (one_more q x more))
-          (behind A B p (q ++ x ∷ more) one a (subst (A ⋅ B) (one_more (p ++ q) x more ∙ append_assoc p q (x ∷ more)) h)),
+          (behind A B p (q ++ x ∷ more) one a
+          (subst (A ⋅ B) (one_more (p ++ q) x more ∙ append_assoc p q (x ∷ more)) h)),
     )
 
 -- after a text of the first, the two stop where the second stops

@@ -13,7 +13,7 @@ use Rattle.octet_language.proofs.Lists.{heads, tails}
 use Rattle.syslog_value.specs.Parts.{ParamParts, IsNameOctet}
 use Rattle.syslog_grammar.specs.Canonical.{needs_escape}
 use Rattle.syslog_grammar.specs.FirstElements.{IsIdLength, IsNameLength, IsMarkedLength, IsPaired, SplitsElement}
-use Rattle.syslog_grammar.specs.FirstElements.{SplitsParam, SplitsWhole}
+use Rattle.syslog_grammar.specs.FirstElements.{SkipsPairs, SplitsParam}
 use Rattle.syslog_grammar.specs.Grammar.{Element, Param}
 use Rattle.syslog_grammar.specs.Spans.{SpannedElement, SpannedParam}
 use Rattle.syslog_grammar.specs.Values.{IsSpecial, Piece}
@@ -224,6 +224,47 @@ scanned_more m octets rest found behind next k x f d e other n s =
           ];
     }
 
+-- the mark comes first
+pub marked_at_once : (m : ℕ) (octets behind : List ℕ) → m ≢ 92 → octets ≡ m ∷ behind → IsMarkedLength m octets 0
+unfolding IsPaired
+marked_at_once m octets behind ne e [] after h g = refl
+marked_at_once m octets behind ne e (x ∷ []) after h g =
+    absurd (h.1 (sym (heads m x behind (m ∷ after) (sym e ∙ g))))
+marked_at_once m octets behind ne e (x ∷ y ∷ s) after (inl (f, p)) g =
+    absurd (ne (heads m x behind (y ∷ s ++ m ∷ after) (sym e ∙ g) ∙ f))
+marked_at_once m octets behind ne e (x ∷ y ∷ s) after (inr (a, (b, p))) g =
+    absurd (b (sym (heads m x behind (y ∷ s ++ m ∷ after) (sym e ∙ g))))
+
+pair_left : (m x : ℕ) (left after behind : List ℕ) → m ≢ 92 → 92 ∷ x ∷ behind ≡ left ++ m ∷ after → IsPaired m left
+    → (others : List ℕ) × (behind ≡ others ++ m ∷ after) × IsPaired m others
+unfolding IsPaired
+pair_left m x [] after behind ne e p = absurd (ne (sym (heads 92 m (x ∷ behind) after e)))
+pair_left m x (y ∷ []) after behind ne e p = absurd (p.0 (sym (heads 92 y (x ∷ behind) (m ∷ after) e)))
+pair_left m x (y ∷ z ∷ left) after behind ne e (inl (f, p)) = (
+  left,
+  tails x z behind (left ++ m ∷ after) (tails 92 y (x ∷ behind) (z ∷ left ++ m ∷ after) e),
+  p,
+)
+pair_left m x (y ∷ z ∷ left) after behind ne e (inr (a, p)) =
+    absurd (a (sym (heads 92 y (x ∷ behind) (z ∷ left ++ m ∷ after) e)))
+
+pub pairs_none : (octets : List ℕ) → SkipsPairs octets octets
+pairs_none octets m ne text after h e = (text, e, h)
+
+pub pairs_more : (octets rest behind : List ℕ) (x : ℕ) → rest ≡ 92 ∷ x ∷ behind → SkipsPairs octets rest
+    → SkipsPairs octets behind
+pairs_more octets rest behind x e skips m ne text after h g =
+    let c = skips m ne text after h g in
+    pair_left m x c.0 after behind ne (sym e ∙ c.1) c.2
+
+pub scanned_pairs : (m : ℕ) (octets rest next : List ℕ) → m ≢ 92 → SkipsPairs rest next
+    → (prefix : List ℕ) × (rest ≡ prefix ++ next) → Scanned m octets rest → Scanned m octets next
+scanned_pairs m octets rest next ne skips (z, ze) s = record {
+  done = s.done ++ z;
+  parts = s.parts ∙ ap (λ (u : List ℕ). s.done ++ u) ze ∙ sym (append_assoc s.done z next);
+  closes = λ text after h e. let c = s.closes text after h e in skips m ne c.0 after c.2 c.1;
+}
+
 pub scanned_end : (m : ℕ) (octets rest found behind : List ℕ) (k x n : ℕ) → m ≢ 92
     → IsFirstByte (is_byte2 92 m) rest (Some k) → found ≡ drop k rest → found ≡ x ∷ behind → x ≡ m
     → n ≡ length octets - length found → Scanned m octets rest → IsMarkedLength m octets n
@@ -375,17 +416,6 @@ pub element_split : (octets behind id rest params end next : List ℕ) (n m : �
     → SplitsElement octets (record { id = id; params = params }) next
 element_split octets behind id rest params end next n m b idlen i r paramlen p f g after h =
     element_at octets behind id rest params end next n m after b idlen i r (λ u q e. paramlen u after q e) p f g h
-
--- an element and nothing else
-pub element_whole : (octets behind id rest params : List ℕ) (n m : ℕ) → behind ≡ drop 1 octets
-    → IsIdLength behind n → id ≡ take n behind → rest ≡ drop n behind → m ≡ length rest - 1 → params ≡ take m rest
-    → SplitsWhole octets (record { id = id; params = params })
-element_whole octets behind id rest params n m b idlen i r size p h = (
-  drop 1 (drop m rest),
-  element_at octets behind id rest params (drop m rest) (drop 1 (drop m rest)) n m [] b idlen i r
-      (λ u q e. size ∙ omega (arith, ap length e, length-append u (93 ∷ []))) p refl refl
-      (octets, sym (append-nil octets), h),
-)
 
 suffix_then : (a b c : List ℕ) (k : ℕ) → (p : List ℕ) × (a ≡ p ++ b) → c ≡ drop k b → (p : List ℕ) × (a ≡ p ++ c)
 suffix_then a b c k (p, e) d = (

@@ -6,13 +6,13 @@ use Rattle.std.specs.List.{flat_map}
 use Rattle.std.proofs.lemmas.List.{append-nil}
 use Rattle.std.proofs.lemmas.List.Sorted.{IsPermutation-refl}
 use Rattle.memchr.specs.Find.{IsFirstByte, is_byte}
-use Rattle.octet_language.specs.Language.{Language, Only, ◌⋅◌, Each, IfFirst}
+use Rattle.octet_language.specs.Language.{Only, ◌⋅◌, Each, IfFirst}
 use Rattle.syslog_value.specs.Parts.{ParamParts, ElementParts, Parts, IsById}
 use Rattle.syslog_grammar.specs.Appending.{Anything, Adds, Puts}
 use Rattle.syslog_grammar.specs.Canonical.{escaped, param_form, element_form, message_form, HeaderForm, SpacedWord}
 use Rattle.syslog_grammar.specs.Escapes.{BeginsSpecial}
 use Rattle.syslog_grammar.specs.Grammar.{Param, Element, StructuredDataText, WordFields}
-use Rattle.syslog_grammar.specs.Verbatim.{HasOneMessageForm, VerbatimForm}
+use Rattle.syslog_grammar.specs.Verbatim.{HasOneMessageForm, ShownHeader, VerbatimForm}
 use Rattle.syslog_grammar.specs.Reescaped.{EndsLone, IsOwnForm, ValueOf, ParamOf, ParamsOf, ElementOf, ElementsOf}
 use Rattle.syslog_grammar.specs.Reescaped.{StructuredDataOf}
 use Rattle.syslog_grammar.specs.ViewParts.{ViewParts, HasParts, IsViewOf}
@@ -258,10 +258,6 @@ view_record s es = record {
   message = s.message;
 }
 
--- the header of what is shown
-abbrev pub ViewHeader : ViewParts → Language
-ViewHeader s = HeaderForm s.priority s.instant s.hostname s.app_name s.proc_id s.msg_id
-
 view_is : (b : List ℕ) (s : ViewParts) (p : Parts CivilTime) → HasParts b p s → IsById p.elements
     → IsMeaning p (view_record s p.elements)
 view_is b s p h by_id = record {
@@ -278,7 +274,7 @@ view_is b s p h by_id = record {
   message = h.message;
 }
 
-pub record_written : (s : ViewParts) (old m1 m2 new : List ℕ) → Adds (ViewHeader s) old m1
+pub record_written : (s : ViewParts) (old m1 m2 new : List ℕ) → Adds (ShownHeader s) old m1
     → Adds (StructuredDataOf s.elements) m1 m2 → IsOrdered s.elements → Adds (Only (message_form s.message)) m2 new
     → (b : List ℕ) → IsViewOf b s → AddsCanonical b old new
 record_written s old m1 m2 new (x, xh, xe) (y, yh, ye) ordered (z, zh, ze) b (p, parse, range, distinct, h) =
@@ -294,7 +290,7 @@ record_written s old m1 m2 new (x, xh, xe) (y, yh, ye) ordered (z, zh, ze) b (p,
       ),
     )
 
-pub record_sorted : (a : Bool) (s : ViewParts) (old m1 m2 new : List ℕ) → Adds (ViewHeader s) old m1
+pub record_sorted : (a : Bool) (s : ViewParts) (old m1 m2 new : List ℕ) → Adds (ShownHeader s) old m1
     → Adds (SortedDataOf a s.elements) m1 m2 → (IsTrue a → StructuredDataOf s.elements s.elements)
     → Adds (Only (message_form s.message)) m2 new → (b : List ℕ) → IsViewOf b s
     → AddsCanonical b old new

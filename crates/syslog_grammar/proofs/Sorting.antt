@@ -1,10 +1,10 @@
--- The texts of elements, sorted and written.
+-- The keys of elements, sorted, and the elements written.
 use Rattle.std.proofs.Common.{◌≡◌, ℕ, zero, suc, ◌+◌, ◌-◌, ◌<◌, List, [], ◌∷◌, ◌++◌, length, take, drop, set, get_or}
 use Rattle.std.proofs.Common.{refl, sym, ap, subst, ◌∙◌, append_assoc, add-one, arith}
 use Rattle.std.specs.Prelude.{Option, Some, None, Bool, true, false, IsTrue, Result, Ok, Err, ⊤}
 use Rattle.std.specs.List.{flat_map, swap}
 use Rattle.std.specs.List.Sorted.{IsPermutation}
-use Rattle.std.proofs.lemmas.List.{append-nil}
+use Rattle.std.proofs.lemmas.List.{append-nil, drop_at, length-append, take_more_set}
 use Rattle.std.proofs.lemmas.List.Sorted.{IsPermutation-keeps, IsPermutation-refl, IsPermutation-swap}
 use Rattle.std.proofs.lemmas.List.Sorted.{IsPermutation-trans, length_permutation}
 use Rattle.octet_language.specs.Language.{AnyOf, Each}
@@ -12,42 +12,41 @@ use Rattle.octet_language.proofs.Lists.{heads}
 use Rattle.syslog_value.specs.Parts.{ElementParts, IsById}
 use Rattle.syslog_grammar.specs.Appending.{Adds, Anything}
 use Rattle.syslog_grammar.specs.Canonical.{element_form, structured_data_form}
-use Rattle.syslog_grammar.specs.FirstElements.{SplitsElement, SplitsWhole}
+use Rattle.syslog_grammar.specs.FirstElements.{SplitsElement}
 use Rattle.syslog_grammar.specs.Grammar.{Element, Param}
 use Rattle.syslog_grammar.specs.Ids.{IsAbove, IsRisingFrom, ids_of}
 use Rattle.syslog_grammar.specs.Reescaped.{PutsUnless}
-use Rattle.syslog_grammar.specs.Sorting.{AreElementsOf, AreTextsOf, IsTextOf, TextForm, TextsForm, SortedElementsOf}
-use Rattle.syslog_grammar.specs.Sorting.{SortedDataOf}
-use Rattle.syslog_grammar.specs.Spans.{ElementSpan}
-use Rattle.syslog_grammar.proofs.DataForms.{first_item, of_rising}
+use Rattle.syslog_grammar.specs.Sorting.{AreElementsOf, AreKeysOf, KeysForm, SortedDataOf, SortedElementsOf, StandsAt}
+use Rattle.syslog_grammar.specs.Sorting.{TextForm, offset_of}
+use Rattle.syslog_grammar.specs.Spans.{ElementSpan, SpannedElement}
+use Rattle.syslog_grammar.proofs.DataForms.{item, of_rising}
 use Rattle.syslog_grammar.proofs.CanonicalParses.{element_parsed}
 use Rattle.syslog_grammar.proofs.OneMeaning.{by_prefix}
 use Rattle.syslog_grammar.proofs.OwnedParts.{element_same}
-use Rattle.syslog_grammar.proofs.ParamTexts.{IsPrefixFree-element, element_prefix}
+use Rattle.syslog_grammar.proofs.ParamTexts.{IsPrefixFree-element, element_prefix, spanned_element}
 use Rattle.syslog_grammar.proofs.Repeating.{prefix_is, split}
 use Rattle.syslog_grammar.proofs.Rewritten.{element_written}
 use Rattle.syslog_grammar.proofs.Valid.{valid_element}
-use Rattle.syslog_grammar.proofs.Rising.{Lent, put, texts}
 
--- ---- the texts
+-- ---- the keys
 
-texts_end : (a : Bool) (es : List ElementParts) (ts : List (List ℕ)) (e : ElementParts) (t : List ℕ)
-    → AreTextsOf a es ts → IsTextOf a e t → AreTextsOf a (es ++ e ∷ []) (ts ++ t ∷ [])
-unfolding AreTextsOf
-texts_end a [] [] e t h k = (k, tt)
-texts_end a [] (u ∷ ts) e t h k = absurd h
-texts_end a (d ∷ es) [] e t h k = absurd h
-texts_end a (d ∷ es) (u ∷ ts) e t h k = (h.0, texts_end a es ts e t h.1 k)
+keys_end : (a : Bool) (text : List ℕ) (es : List ElementParts) (ks : List ℕ) (e : ElementParts) (k : ℕ)
+    → AreKeysOf a text es ks → StandsAt a text e (offset_of k) → AreKeysOf a text (es ++ e ∷ []) (ks ++ k ∷ [])
+unfolding AreKeysOf
+keys_end a text [] [] e k h s = (s, tt)
+keys_end a text [] (l ∷ ks) e k h s = absurd h
+keys_end a text (d ∷ es) [] e k h s = absurd h
+keys_end a text (d ∷ es) (l ∷ ks) e k h s = (h.0, keys_end a text es ks e k h.1 s)
 
--- what the slice holds of the texts of elements
-abbrev pub FillsTexts : List ℕ → List ℕ → ℕ → List Lent → Type 0
-FillsTexts elements rest count slots = (a : Bool) (es : List ElementParts) → AreElementsOf a es elements
+-- the elements of which there are keys, and the others
+abbrev pub FillsKeys : List ℕ → List ℕ → ℕ → List ℕ → Type 0
+FillsKeys elements rest count keys = (a : Bool) (es : List ElementParts) → AreElementsOf a es elements
     → (done : List ElementParts) × (todo : List ElementParts) × (es ≡ done ++ todo)
-    × AreTextsOf a done (texts (take count slots)) × AreElementsOf a todo rest
+    × AreKeysOf a elements done (take count keys) × AreElementsOf a todo rest
 
-pub texts_none : (elements : List ℕ) (slots : List Lent) → FillsTexts elements elements 0 slots
-unfolding AreTextsOf
-texts_none elements slots a es h = ([], es, refl, tt, h)
+pub keys_none : (elements keys : List ℕ) → FillsKeys elements elements 0 keys
+unfolding AreKeysOf
+keys_none elements keys a es h = ([], es, refl, tt, h)
 
 -- the canonical text of elements is that of the first and that of the others
 form_parted : (a : Bool) (d : ElementParts) (todo : List ElementParts) (rest prefix behind : List ℕ)
@@ -57,39 +56,45 @@ form_parted a d todo rest prefix behind e h form u =
     by_prefix (AnyOf Element) prefix behind (element_form d) (flat_map element_form todo) IsPrefixFree-element (d, h)
     (d, element_parsed d (valid_element d prefix h)) (sym e ∙ form u)
 
-pub texts_more : (elements rest behind after : List ℕ) (x count : ℕ) (slots : List Lent) (v : ElementSpan) (text : Lent)
-    → rest ≡ x ∷ after → SplitsElement rest v behind → text.now ≡ take (length rest - length behind) rest
-    → count < length slots
-    → FillsTexts elements rest count slots → FillsTexts elements behind (count + 1) (set slots count text)
-texts_more elements rest behind after x count slots v text e f t room fills a es h = go (fills a es h)
+-- what is left of a text is what it has from the offset on where that begins
+pub left_at : (text prefix rest : List ℕ) → text ≡ prefix ++ rest → rest ≡ drop (length text - length rest) text
+left_at text prefix rest e =
+    let n : length text - length rest ≡ length prefix = omega (arith, ap length e, length-append prefix rest) in
+    rw (n, e) (sym (drop_at prefix rest (length prefix) refl))
+
+pub keys_more : (elements rest behind after prefix : List ℕ) (x count key : ℕ) (keys : List ℕ) (v : ElementSpan)
+    → rest ≡ x ∷ after → SplitsElement rest v behind → elements ≡ prefix ++ rest
+    → offset_of key ≡ length elements - length rest → count < length keys
+    → FillsKeys elements rest count keys → FillsKeys elements behind (count + 1) (set keys count key)
+keys_more elements rest behind after prefix x count key keys v e f parts offset room fills a es h = go (fills a es h)
   where
     go : (done : List ElementParts) × (todo : List ElementParts) × (es ≡ done ++ todo)
-        × AreTextsOf a done (texts (take count slots)) × AreElementsOf a todo rest
+        × AreKeysOf a elements done (take count keys) × AreElementsOf a todo rest
         → (done : List ElementParts) × (todo : List ElementParts) × (es ≡ done ++ todo)
-        × AreTextsOf a done (texts (take (count + 1) (set slots count text))) × AreElementsOf a todo behind
+        × AreKeysOf a elements done (take (count + 1) (set keys count key)) × AreElementsOf a todo behind
     go (done, [], g, k, l) = let i : ◌≡◌ {A = List ℕ} [] (x ∷ after) = sym l.0 ∙ e in absurd cc
     go (done, d ∷ todo, g, k, l) =
         let s = split d todo rest behind v l.0 f in
         let form = form_parted a d todo rest s.prefix behind s.parts s.text l.1 in
-        let same : text.now ≡ s.prefix = t ∙ prefix_is rest s.prefix behind s.parts in (
+        let here : rest ≡ drop (offset_of key) elements = left_at elements prefix rest parts
+        ∙ ap (λ (n : ℕ). drop n elements) (sym offset) in (
           done ++ d ∷ [],
           todo,
           g ∙ sym (append_assoc done (d ∷ []) todo),
-          subst (AreTextsOf a (done ++ d ∷ [])) (sym (put count text slots room))
-              (texts_end a done (texts (take count slots)) d text.now k
-              (subst (IsTextOf a d) (sym same) (s.text, λ u. (form u).0))),
+          subst (AreKeysOf a elements (done ++ d ∷ [])) (sym (take_more_set keys count key room))
+              (keys_end a elements done (take count keys) d key k (todo, subst (AreElementsOf a (d ∷ todo)) here l)),
           (s.others, λ u. (form u).1),
         )
 
-pub texts_whole : (elements rest : List ℕ) (count : ℕ) (slots : List Lent) → rest ≡ []
-    → FillsTexts elements rest count slots → (a : Bool) (es : List ElementParts) → AreElementsOf a es elements
-    → AreTextsOf a es (texts (take count slots))
-texts_whole elements rest count slots e fills a es h = go (fills a es h)
+pub keys_whole : (elements rest : List ℕ) (count : ℕ) (keys : List ℕ) → rest ≡ []
+    → FillsKeys elements rest count keys → (a : Bool) (es : List ElementParts) → AreElementsOf a es elements
+    → AreKeysOf a elements es (take count keys)
+keys_whole elements rest count keys e fills a es h = go (fills a es h)
   where
     go : (done : List ElementParts) × (todo : List ElementParts) × (es ≡ done ++ todo)
-        × AreTextsOf a done (texts (take count slots)) × AreElementsOf a todo rest
-        → AreTextsOf a es (texts (take count slots))
-    go (done, [], g, k, l) = subst (λ (u : List ElementParts). AreTextsOf a u (texts (take count slots)))
+        × AreKeysOf a elements done (take count keys) × AreElementsOf a todo rest
+        → AreKeysOf a elements es (take count keys)
+    go (done, [], g, k, l) = subst (λ (u : List ElementParts). AreKeysOf a elements u (take count keys))
         (sym (g ∙ append-nil done)) k
     go (done, d ∷ todo, g, k, ((y, b, i, l, m), form)) =
         let p = element_prefix y (d, l) in
@@ -97,158 +102,156 @@ texts_whole elements rest count slots e fills a es h = go (fills a es h)
 
 -- ---- their order
 
-same_count : (a : Bool) (es : List ElementParts) (ts : List Lent) → AreTextsOf a es (texts ts) → length ts ≡ length es
-unfolding AreTextsOf
-same_count a [] [] h = refl
-same_count a [] (t ∷ ts) h = absurd h
-same_count a (e ∷ es) [] h = absurd h
-same_count a (e ∷ es) (t ∷ ts) h = ap suc (same_count a es ts h.1)
+same_count : (a : Bool) (text : List ℕ) (es : List ElementParts) (ks : List ℕ) → AreKeysOf a text es ks
+    → length ks ≡ length es
+unfolding AreKeysOf
+same_count a text [] [] h = refl
+same_count a text [] (k ∷ ks) h = absurd h
+same_count a text (e ∷ es) [] h = absurd h
+same_count a text (e ∷ es) (k ∷ ks) h = ap suc (same_count a text es ks h.1)
 
-text_at : (a : Bool) (es : List ElementParts) (ts : List Lent) (i : ℕ) (d : ElementParts) (u : Lent)
-    → AreTextsOf a es (texts ts) → i < length ts → IsTextOf a (get_or es i d) (get_or ts i u).now
-unfolding AreTextsOf
-text_at a [] [] i d u h less = absurd (omega arith)
-text_at a [] (t ∷ ts) i d u h less = absurd h
-text_at a (e ∷ es) [] i d u h less = absurd h
-text_at a (e ∷ es) (t ∷ ts) zero d u h less = h.0
-text_at a (e ∷ es) (t ∷ ts) (suc i) d u h less = text_at a es ts i d u h.1 (omega arith)
+key_at : (a : Bool) (text : List ℕ) (es : List ElementParts) (ks : List ℕ) (i : ℕ) (d : ElementParts) (u : ℕ)
+    → AreKeysOf a text es ks → i < length ks → StandsAt a text (get_or es i d) (offset_of (get_or ks i u))
+unfolding AreKeysOf
+key_at a text [] [] i d u h less = absurd (omega arith)
+key_at a text [] (k ∷ ks) i d u h less = absurd h
+key_at a text (e ∷ es) [] i d u h less = absurd h
+key_at a text (e ∷ es) (k ∷ ks) zero d u h less = h.0
+key_at a text (e ∷ es) (k ∷ ks) (suc i) d u h less = key_at a text es ks i d u h.1 (omega arith)
 
-texts_set : (a : Bool) (es : List ElementParts) (ts : List Lent) (i : ℕ) (e : ElementParts) (t : Lent)
-    → AreTextsOf a es (texts ts) → IsTextOf a e t.now → AreTextsOf a (set es i e) (texts (set ts i t))
-unfolding AreTextsOf
-texts_set a [] [] i e t h k = h
-texts_set a [] (u ∷ ts) i e t h k = absurd h
-texts_set a (d ∷ es) [] i e t h k = absurd h
-texts_set a (d ∷ es) (u ∷ ts) zero e t h k = (k, h.1)
-texts_set a (d ∷ es) (u ∷ ts) (suc i) e t h k = (h.0, texts_set a es ts i e t h.1 k)
+keys_set : (a : Bool) (text : List ℕ) (es : List ElementParts) (ks : List ℕ) (i : ℕ) (e : ElementParts) (k : ℕ)
+    → AreKeysOf a text es ks → StandsAt a text e (offset_of k) → AreKeysOf a text (set es i e) (set ks i k)
+unfolding AreKeysOf
+keys_set a text [] [] i e k h s = h
+keys_set a text [] (l ∷ ks) i e k h s = absurd h
+keys_set a text (d ∷ es) [] i e k h s = absurd h
+keys_set a text (d ∷ es) (l ∷ ks) zero e k h s = (s, h.1)
+keys_set a text (d ∷ es) (l ∷ ks) (suc i) e k h s = (h.0, keys_set a text es ks i e k h.1 s)
 
--- the same elements in the order of the texts
-abbrev Reordered : Bool → List ElementParts → List Lent → Type 0
-Reordered a es ts = (fs : List ElementParts) × IsPermutation es fs × AreTextsOf a fs (texts ts)
+-- the same elements in the order of the keys
+abbrev Reordered : Bool → List ℕ → List ElementParts → List ℕ → Type 0
+Reordered a text es ks = (fs : List ElementParts) × IsPermutation es fs × AreKeysOf a text fs ks
 
-swapped : (a : Bool) (es : List ElementParts) (ts : List Lent) (i j : ℕ) → i < length ts → j < length ts
-    → Reordered a es ts → Reordered a es (swap ts i j)
-unfolding AreTextsOf
-swapped a es ts i j l m ([], p, h) = absurd (omega (arith, l, same_count a [] ts h))
-swapped a es [] i j l m (f ∷ fs, p, h) = absurd (omega (arith, l))
-swapped a es (t ∷ ts) i j l m (f ∷ fs, p, h) =
-    let n : length (t ∷ ts) ≡ length (f ∷ fs) = same_count a (f ∷ fs) (t ∷ ts) h in (
+swapped : (a : Bool) (text : List ℕ) (es : List ElementParts) (ks : List ℕ) (i j : ℕ) → i < length ks → j < length ks
+    → Reordered a text es ks → Reordered a text es (swap ks i j)
+unfolding AreKeysOf
+swapped a text es ks i j l m ([], p, h) = absurd (omega (arith, l, same_count a text [] ks h))
+swapped a text es [] i j l m (f ∷ fs, p, h) = absurd (omega (arith, l))
+swapped a text es (k ∷ ks) i j l m (f ∷ fs, p, h) =
+    let n : length (k ∷ ks) ≡ length (f ∷ fs) = same_count a text (f ∷ fs) (k ∷ ks) h in (
       swap (f ∷ fs) i j,
       IsPermutation-trans es (f ∷ fs) (swap (f ∷ fs) i j) p
-          (IsPermutation-swap (f ∷ fs) (swap (f ∷ fs) i j) i j (subst (λ (k : ℕ). i < k) n l)
-          (subst (λ (k : ℕ). j < k) n m) refl),
-      texts_set a (set (f ∷ fs) i (get_or (f ∷ fs) j f)) (set (t ∷ ts) i (get_or (t ∷ ts) j t)) j (get_or (f ∷ fs) i f)
-          (get_or (t ∷ ts) i t)
-          (texts_set a (f ∷ fs) (t ∷ ts) i (get_or (f ∷ fs) j f) (get_or (t ∷ ts) j t) h
-          (text_at a (f ∷ fs) (t ∷ ts) j f t h m))
-          (text_at a (f ∷ fs) (t ∷ ts) i f t h l),
+          (IsPermutation-swap (f ∷ fs) (swap (f ∷ fs) i j) i j (subst (λ (u : ℕ). i < u) n l)
+          (subst (λ (u : ℕ). j < u) n m) refl),
+      keys_set a text (set (f ∷ fs) i (get_or (f ∷ fs) j f)) (set (k ∷ ks) i (get_or (k ∷ ks) j k)) j
+          (get_or (f ∷ fs) i f) (get_or (k ∷ ks) i k)
+          (keys_set a text (f ∷ fs) (k ∷ ks) i (get_or (f ∷ fs) j f) (get_or (k ∷ ks) j k) h
+          (key_at a text (f ∷ fs) (k ∷ ks) j f k h m))
+          (key_at a text (f ∷ fs) (k ∷ ks) i f k h l),
     )
 
-reordered : (a : Bool) (es : List ElementParts) (before after : List Lent) → AreTextsOf a es (texts before)
-    → IsPermutation before after → Reordered a es after
-reordered a es before after h p = IsPermutation-keeps before (Reordered a es) (es, IsPermutation-refl es, h)
-    (swapped a es) after p
+reordered : (a : Bool) (text : List ℕ) (es : List ElementParts) (before after : List ℕ) → AreKeysOf a text es before
+    → IsPermutation before after → Reordered a text es after
+reordered a text es before after h p = IsPermutation-keeps before (Reordered a text es) (es, IsPermutation-refl es, h)
+    (swapped a text es) after p
 
 -- ---- their canonical form
 
--- what was written of the texts, and which are left
-pub record TextsWritten (a : Bool) (all rest : List Lent) (met : Option (List ℕ)) (old out : List ℕ) : Type 0 where
+-- what was written of the elements at the offsets of keys, and which keys are left
+pub record KeysWritten (a : Bool) (text all rest : List ℕ) (met : Option (List ℕ)) (old out : List ℕ) : Type 0 where
   pub done : List ℕ
   pub parts : out ≡ old ++ done
-  pub is : (es : List ElementParts) → AreTextsOf a es (texts all)
-      → (todo : List ElementParts) × AreTextsOf a todo (texts rest)
+  pub is : (es : List ElementParts) → AreKeysOf a text es all
+      → (todo : List ElementParts) × AreKeysOf a text todo rest
       × (flat_map element_form es ≡ done ++ flat_map element_form todo)
       × (IsRisingFrom met (ids_of todo) → IsById es)
 
-pub written_none : (a : Bool) (all : List Lent) (old : List ℕ) → TextsWritten a all all None old old
-written_none a all old = record {
+pub written_none : (a : Bool) (text all old : List ℕ) → KeysWritten a text all all None old old
+written_none a text all old = record {
   done = [];
   parts = sym (append-nil old);
   is =
       λ es h. (es, h, refl, λ k. (of_rising None es k).1);
 }
 
-pub written_begun : (a : Bool) (all rest : List Lent) (met : Option (List ℕ)) (old out : List ℕ)
-    → TextsWritten a all rest met old out → Adds Anything old out
-written_begun a all rest met old out w = (w.done, tt, w.parts)
+pub written_begun : (a : Bool) (text all rest : List ℕ) (met : Option (List ℕ)) (old out : List ℕ)
+    → KeysWritten a text all rest met old out → Adds Anything old out
+written_begun a text all rest met old out w = (w.done, tt, w.parts)
 
 text_written : (a : Bool) (text : List ℕ) (v : ElementSpan) (d : ElementParts) (b : List ℕ) → d.id ≡ v.id
     → Each Param d.params v.params → (IsTrue a → text ≡ element_form d) → TextForm a text v b → b ≡ element_form d
 text_written true text v d b n s form h = h ∙ form refl
 text_written false text v d b n s form h = element_written d v b n s h
 
-pub written_more : (a : Bool) (all rest others : List Lent) (text old out mid : List ℕ) (v : ElementSpan)
-    (met : Option (List ℕ)) → texts rest ≡ text ∷ texts others → SplitsWhole text v → IsAbove v.id met
-    → Adds (TextForm a text v) out mid
-    → TextsWritten a all rest met old out → TextsWritten a all others (Some v.id) old mid
-unfolding AreTextsOf
-written_more a all rest others text old out mid v met e f above (z, zs, ze) w = record {
+pub written_more : (a : Bool) (text all rest others tail behind piece : List ℕ) (key : ℕ) (old out mid : List ℕ)
+    (v : ElementSpan) (met : Option (List ℕ)) → rest ≡ key ∷ others → tail ≡ drop (offset_of key) text
+    → SplitsElement tail v behind → piece ≡ take (length tail - length behind) tail → IsAbove v.id met
+    → Adds (TextForm a piece v) out mid
+    → KeysWritten a text all rest met old out → KeysWritten a text all others (Some v.id) old mid
+unfolding AreKeysOf
+written_more a text all rest others tail behind piece key old out mid v met e at f cut above (z, zs, ze) w = record {
   done = w.done ++ z;
   parts = ze ∙ ap (λ (u : List ℕ). u ++ z) w.parts ∙ append_assoc old w.done z;
   is = λ es h. go es (w.is es h);
 }
   where
-    go : (es : List ElementParts) → (todo : List ElementParts) × AreTextsOf a todo (texts rest)
+    go : (es : List ElementParts) → (todo : List ElementParts) × AreKeysOf a text todo rest
         × (flat_map element_form es ≡ w.done ++ flat_map element_form todo)
         × (IsRisingFrom met (ids_of todo) → IsById es)
-        → (todo : List ElementParts) × AreTextsOf a todo (texts others)
+        → (todo : List ElementParts) × AreKeysOf a text todo others
         × (flat_map element_form es ≡ (w.done ++ z) ++ flat_map element_form todo)
         × (IsRisingFrom (Some v.id) (ids_of todo) → IsById es)
-    go es ([], k, g, rising) = absurd (subst (AreTextsOf a []) e k)
+    go es ([], k, g, rising) = absurd (subst (AreKeysOf a text []) e k)
     go es (d ∷ todo, k, g, rising) =
-        let both : IsTextOf a d text × AreTextsOf a todo (texts others) = subst (AreTextsOf a (d ∷ todo)) e k in
-        let p = element_prefix text (d, both.0.0) in
-        let whole = f (d, both.0.0) in
-        let i = first_item text whole.0 p.0 91 v (d ∷ []) p.1 (λ after h. whole.1) (text, [], sym (append-nil text), both.0.0, refl) in
-        let d_is : d ≡ i.element = cc in
-        let same = element_same i.element v i.text i.parse i.spanned in (
+        let both : StandsAt a text d (offset_of key) × AreKeysOf a text todo others =
+        subst (AreKeysOf a text (d ∷ todo)) e k in
+        let h : AreElementsOf a (d ∷ both.0.0) tail = subst (AreElementsOf a (d ∷ both.0.0)) (sym at) both.0.1 in
+        let i = item Element SpannedElement IsPrefixFree-element spanned_element d both.0.0 v tail behind h.0
+        (f h.0.1 (h.0.0, h.0.2, (d, h.0.3))) in
+        let same = element_same d v i.0 i.2 i.3 in
+        let piece_is : piece ≡ i.0 = cut ∙ prefix_is tail i.0 behind i.1 in
+        let form = form_parted a d both.0.0 tail i.0 behind i.1 i.2 h.1 in (
           todo,
           both.1,
-          g ∙ ap (λ (u : ElementParts). w.done ++ (element_form u ++ flat_map element_form todo)) d_is
-              ∙ ap (λ (u : List ℕ). w.done ++ (u ++ flat_map element_form todo))
-              (sym (text_written a text v i.element z same.0 same.1
-              (subst (λ (k : ElementParts). IsTrue a → text ≡ element_form k) d_is both.0.1) zs))
+          g ∙ ap (λ (u : List ℕ). w.done ++ (u ++ flat_map element_form todo))
+              (sym (text_written a piece v d z same.0 same.1 (λ u. piece_is ∙ (form u).0) zs))
               ∙ sym (append_assoc w.done z (flat_map element_form todo)),
-          λ others_rise.
-              let id_is : d.id ≡ v.id = ap (λ (u : ElementParts). u.id) d_is ∙ same.0 in
-              rising (
-                subst (λ (id : List ℕ). IsAbove id met) (sym id_is) above,
-                subst (λ (id : List ℕ). IsRisingFrom (Some id) (ids_of todo)) (sym id_is) others_rise,
-              ),
+          λ others_rise. rising (
+            subst (λ (id : List ℕ). IsAbove id met) (sym same.0) above,
+            subst (λ (id : List ℕ). IsRisingFrom (Some id) (ids_of todo)) (sym same.0) others_rise,
+          ),
         )
 
-pub written_end : (a : Bool) (all rest : List Lent) (met : Option (List ℕ)) (old out : List ℕ) → rest ≡ []
-    → TextsWritten a all rest met old out → Adds (TextsForm a (texts all)) old out
-unfolding AreTextsOf
-written_end a all rest met old out e w = (w.done, λ es h. go es (w.is es h), w.parts)
+pub written_end : (a : Bool) (text all rest : List ℕ) (met : Option (List ℕ)) (old out : List ℕ) → rest ≡ []
+    → KeysWritten a text all rest met old out → Adds (KeysForm a text all) old out
+unfolding AreKeysOf
+written_end a text all rest met old out e w = (w.done, λ es h. go es (w.is es h), w.parts)
   where
-    go : (es : List ElementParts) → (todo : List ElementParts) × AreTextsOf a todo (texts rest)
+    go : (es : List ElementParts) → (todo : List ElementParts) × AreKeysOf a text todo rest
         × (flat_map element_form es ≡ w.done ++ flat_map element_form todo)
         × (IsRisingFrom met (ids_of todo) → IsById es) → (w.done ≡ flat_map element_form es) × IsById es
     go es ([], k, g, rising) = (sym (g ∙ append-nil w.done), rising tt)
-    go es (d ∷ todo, k, g, rising) = absurd (subst (λ (u : List Lent). AreTextsOf a (d ∷ todo) (texts u)) e k)
+    go es (d ∷ todo, k, g, rising) = absurd (subst (AreKeysOf a text (d ∷ todo)) e k)
 
-text_left_suc : (ts : List Lent) (i : ℕ) (d : Lent) → i < length ts
-    → texts (drop i ts) ≡ (get_or ts i d).now ∷ texts (drop (suc i) ts)
-text_left_suc [] i d less = absurd (omega arith)
-text_left_suc (t ∷ ts) zero d less = refl
-text_left_suc (t ∷ ts) (suc i) d less = text_left_suc ts i d (omega arith)
+key_left_suc : (ks : List ℕ) (i d : ℕ) → i < length ks → drop i ks ≡ get_or ks i d ∷ drop (suc i) ks
+key_left_suc [] i d less = absurd (omega arith)
+key_left_suc (k ∷ ks) zero d less = refl
+key_left_suc (k ∷ ks) (suc i) d less = key_left_suc ks i d (omega arith)
 
--- the text at an index comes first in what is left from there on
-pub text_left : (ts : List Lent) (i : ℕ) (d : Lent) → i < length ts
-    → texts (drop i ts) ≡ (get_or ts i d).now ∷ texts (drop (i + 1) ts)
-text_left ts i d less = rw add-one (text_left_suc ts i d less)
+-- the key at an index comes first in what is left from there on
+pub key_left : (ks : List ℕ) (i d : ℕ) → i < length ks → drop i ks ≡ get_or ks i d ∷ drop (i + 1) ks
+key_left ks i d less = rw add-one (key_left_suc ks i d less)
 
-pub none_left : (ts : List Lent) → drop (length ts) ts ≡ []
+pub none_left : (ks : List ℕ) → drop (length ks) ks ≡ []
 none_left [] = refl
-none_left (t ∷ ts) = none_left ts
+none_left (k ∷ ks) = none_left ks
 
--- sorted texts are those of the elements in order
-pub sorted_form : (a : Bool) (elements : List ℕ) (before after : List Lent) (b : List ℕ)
-    → ((es : List ElementParts) → AreElementsOf a es elements → AreTextsOf a es (texts before))
-    → IsPermutation before after → TextsForm a (texts after) b → SortedElementsOf a elements b
+-- sorted keys are those of the elements in order
+pub sorted_form : (a : Bool) (elements before after b : List ℕ)
+    → ((es : List ElementParts) → AreElementsOf a es elements → AreKeysOf a elements es before)
+    → IsPermutation before after → KeysForm a elements after b → SortedElementsOf a elements b
 sorted_form a elements before after b holds p form es h =
-    let r = reordered a es before after (holds es h) p in
+    let r = reordered a elements es before after (holds es h) p in
     let k = form r.0 r.2 in
     (r.0, r.1, k.1, k.0)
 

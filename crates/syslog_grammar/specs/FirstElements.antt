@@ -28,6 +28,12 @@ abbrev pub IsMarkedLength : ℕ → List ℕ → ℕ → Type 0
 IsMarkedLength mark octets n = (text after : List ℕ) → IsPaired mark text → octets ≡ text ++ mark ∷ after
     → n ≡ length text
 
+-- where such octets come first, and then the mark, the rest has the last of them
+abbrev pub SkipsPairs : List ℕ → List ℕ → Type 0
+SkipsPairs octets rest = (mark : ℕ) → mark ≢ 92 → (text after : List ℕ) → IsPaired mark text
+    → octets ≡ text ++ mark ∷ after
+    → (left : List ℕ) × (rest ≡ left ++ mark ∷ after) × IsPaired mark left
+
 -- where an element comes first, this is it, and the rest follows it
 abbrev pub SplitsElement : List ℕ → ElementSpan → List ℕ → Type 0
 SplitsElement octets v rest = (after : List ℕ) → Follows (AnyOf Element) octets after
@@ -36,7 +42,3 @@ SplitsElement octets v rest = (after : List ℕ) → Follows (AnyOf Element) oct
 -- where a parameter comes first, this is it, and the rest follows it
 abbrev pub SplitsParam : List ℕ → ParamSpan → List ℕ → Type 0
 SplitsParam octets v rest = (after : List ℕ) → Follows (AnyOf Param) octets after → Follows (SpannedParam v) octets rest
-
--- where the octets are an element, this is it
-abbrev pub SplitsWhole : List ℕ → ElementSpan → Type 0
-SplitsWhole octets v = AnyOf Element octets → (rest : List ℕ) × Follows (SpannedElement v) octets rest

@@ -48,7 +48,8 @@ PutsUnless L Cause old new (Err e) = Adds Anything old new
 abbrev pub IsOwnForm : List ℕ → Type 0
 IsOwnForm raw = (ms : List (List ℕ)) → Each Piece ms raw → escaped (flat_map (λ m. m) ms) ≡ raw
 
--- up to the rest, which follows a backslash that is no escape, the canonical form is the spelling and one backslash more
+-- up to the rest, which follows a backslash that is no escape, the canonical form is the spelling and one backslash
+-- more
 pub record EndsLone (raw rest : List ℕ) : Type 0 where
   pub run : List ℕ
   pub parts : raw ≡ run ++ rest

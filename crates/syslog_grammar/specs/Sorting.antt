@@ -1,5 +1,5 @@
 -- Structured data with its elements put in the order of their ids.
-use Rattle.std.specs.Prelude.{◌≡◌, ℕ, List, [], ◌∷◌, ⊤, Bool, true, false, IsTrue}
+use Rattle.std.specs.Prelude.{◌≡◌, ℕ, ◌%◌, List, [], ◌∷◌, ⊤, Bool, true, false, IsTrue, drop}
 use Rattle.std.specs.List.{flat_map}
 use Rattle.std.specs.List.Sorted.{IsPermutation}
 use Rattle.octet_language.specs.Language.{Language, Each, Only}
@@ -8,17 +8,6 @@ use Rattle.syslog_grammar.specs.Canonical.{element_form, structured_data_form}
 use Rattle.syslog_grammar.specs.Grammar.{Element, StructuredDataText}
 use Rattle.syslog_grammar.specs.Reescaped.{ElementOf}
 use Rattle.syslog_grammar.specs.Spans.{ElementSpan}
-
--- the text is that of the element, and the canonical one where the answer is true
-abbrev pub IsTextOf : Bool → ElementParts → Language
-IsTextOf is_form e t = Element e t × (IsTrue is_form → t ≡ element_form e)
-
--- each text is that of its element
-unfoldable pub AreTextsOf : Bool → List ElementParts → List (List ℕ) → Type 0
-AreTextsOf is_form [] [] = ⊤
-AreTextsOf is_form [] (t ∷ ts) = ⊥
-AreTextsOf is_form (e ∷ es) [] = ⊥
-AreTextsOf is_form (e ∷ es) (t ∷ ts) = IsTextOf is_form e t × AreTextsOf is_form es ts
 
 -- an element is written as it lies where that is its canonical form
 abbrev pub TextForm : Bool → List ℕ → ElementSpan → Language
@@ -29,9 +18,24 @@ TextForm false text v = ElementOf v
 abbrev pub AreElementsOf : Bool → List ElementParts → Language
 AreElementsOf is_form es text = Each Element es text × (IsTrue is_form → text ≡ flat_map element_form es)
 
--- the canonical form of the elements of texts, which stand by id
-abbrev pub TextsForm : Bool → List (List ℕ) → Language
-TextsForm is_form ts b = (es : List ElementParts) → AreTextsOf is_form es ts
+-- the element is the first of those that the text has from an offset on
+abbrev pub StandsAt : Bool → List ℕ → ElementParts → ℕ → Type 0
+StandsAt is_form text e offset = (others : List ElementParts) × AreElementsOf is_form (e ∷ others) (drop offset text)
+
+-- the offset that a key has in its lower 24 bits
+unfoldable pub offset_of : ℕ → ℕ
+offset_of key = key % 16777216
+
+-- each key has the offset of its element
+unfoldable pub AreKeysOf : Bool → List ℕ → List ElementParts → List ℕ → Type 0
+AreKeysOf is_form text [] [] = ⊤
+AreKeysOf is_form text [] (k ∷ ks) = ⊥
+AreKeysOf is_form text (e ∷ es) [] = ⊥
+AreKeysOf is_form text (e ∷ es) (k ∷ ks) = StandsAt is_form text e (offset_of k) × AreKeysOf is_form text es ks
+
+-- the canonical form of the elements at the offsets of keys, which stand by id
+abbrev pub KeysForm : Bool → List ℕ → List ℕ → Language
+KeysForm is_form text ks b = (es : List ElementParts) → AreKeysOf is_form text es ks
     → (b ≡ flat_map element_form es) × IsById es
 
 -- the canonical form of elements in the order of their ids

@@ -2,7 +2,7 @@
 
 ghost use Rattle.std.specs.Prelude.{◌≡◌, ℕ, List, IfOk, IsTrue, OnOk, OnErr};
 ghost use Rattle.syslog_grammar.specs.Appending.{Adds, Anything, Puts};
-ghost use Rattle.syslog_grammar.specs.Verbatim.{HasOneMessageForm, VerbatimForm};
+ghost use Rattle.syslog_grammar.specs.Verbatim.{HasOneMessageForm, ShownHeader, VerbatimForm};
 ghost use Rattle.syslog_grammar.specs.Reescaped.{IsUnordered, StructuredDataOf};
 ghost use Rattle.syslog_grammar.specs.ViewParts.{IsViewOf, view_parts};
 ghost use Rattle.syslog_grammar.specs.ShownRecords.{AddsShown};
@@ -51,12 +51,9 @@ fn put_structured_data(view: &RecordView<'_>, out: &mut Vec<u8>) -> Result<(), A
     put_elements(view.structured_data, out)
 }
 
-/// Appends the canonical octets of the record that a view shows, whose ids ascend, part by part.
-fn put_parts(view: &RecordView<'_>, out: &mut Vec<u8>) -> Result<(), AllocError>
-    requires { IsTrue view.now.ascends }
-    ensures begun { Adds Anything out.old.items out.new.items }
-    ensures ok { (b : List ℕ) → IsViewOf b (view_parts view.now)
-        → OnOk result (AddsCanonical b out.old.items out.new.items) }
+/// Appends the canonical header of the record that a view shows, and the space that follows it.
+fn put_view_header(view: &RecordView<'_>, out: &mut Vec<u8>) -> Result<(), AllocError>
+    ensures { Puts (ShownHeader (view_parts view.now)) out.old.items out.new.items result }
 {
     let fields = HeaderValues {
         priority: view.priority(),
@@ -66,7 +63,17 @@ fn put_parts(view: &RecordView<'_>, out: &mut Vec<u8>) -> Result<(), AllocError>
         proc_id: view.proc_id,
         msg_id: view.msg_id,
     };
-    put_header(&fields, out)?;
+    put_header(&fields, out)
+}
+
+/// Appends the canonical octets of the record that a view shows, whose ids ascend, part by part.
+fn put_parts(view: &RecordView<'_>, out: &mut Vec<u8>) -> Result<(), AllocError>
+    requires { IsTrue view.now.ascends }
+    ensures begun { Adds Anything out.old.items out.new.items }
+    ensures ok { (b : List ℕ) → IsViewOf b (view_parts view.now)
+        → OnOk result (AddsCanonical b out.old.items out.new.items) }
+{
+    put_view_header(view, out)?;
     put_structured_data(view, out)?;
     put_message_part(view.message.octets, view.message.has_mark, out)?;
     Ok(())
@@ -115,15 +122,7 @@ fn put_resorted(view: &RecordView<'_>, out: &mut Vec<u8>) -> Result<bool, AllocE
     ensures ok { (b : List ℕ) → IsViewOf b (view_parts view.now)
         → IfOk result (λ all. IsTrue all → AddsCanonical b out.old.items out.new.items) }
 {
-    let fields = HeaderValues {
-        priority: view.priority(),
-        instant: view.instant(),
-        hostname: view.hostname,
-        app_name: view.app_name,
-        proc_id: view.proc_id,
-        msg_id: view.msg_id,
-    };
-    put_header(&fields, out)?;
+    put_view_header(view, out)?;
     if !put_sorted(view.structured_data, view.is_form, out)? {
         return Ok(false);
     }

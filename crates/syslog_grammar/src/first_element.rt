@@ -1,9 +1,9 @@
 //! The first of elements, and of parameters, that are known to be well-formed: where its parts end,
 //! and no test.
 
-ghost use Rattle.std.specs.Prelude.{◌≡◌, ◌≢◌, ◌≤◌, ◌<◌, ◌++◌, ℕ, List, drop, length};
+ghost use Rattle.std.specs.Prelude.{◌≡◌, ◌≢◌, ◌≤◌, ◌<◌, ◌++◌, ◌∷◌, ℕ, List, IfSome, IsTrue, drop, length};
 ghost use Rattle.syslog_grammar.specs.FirstElements.{IsIdLength, IsMarkedLength, IsNameLength};
-ghost use Rattle.syslog_grammar.specs.FirstElements.{SplitsElement, SplitsParam, SplitsWhole};
+ghost use Rattle.syslog_grammar.specs.FirstElements.{SkipsPairs, SplitsElement, SplitsParam};
 ghost use Rattle.syslog_grammar.specs.Views.{element_span, param_span};
 
 use crate::element::{ElementView, ParamView};
@@ -45,6 +45,43 @@ fn name_len(octets: &[u8]) -> usize
     }
 }
 
+/// What follows a backslash at the start and the octet that it takes.
+#[inline(always)]
+fn behind_pair(octets: &[u8]) -> Option<&[u8]>
+    ensures pair { IfSome result (λ rest. (x : ℕ) × (octets.now ≡ 92 ∷ x ∷ rest.now)) }
+    ensures less { IfSome result (λ rest. length rest.now < length octets.now) }
+{
+    match octets {
+        [b'\\', _, rest @ ..] => Some(rest),
+        _ => None,
+    }
+}
+
+/// What follows the backslashes at the start, each with the octet that it takes.
+#[inline(always)]
+fn behind_pairs(octets: &[u8]) -> &[u8]
+    ensures pairs { SkipsPairs octets.now result.now }
+    ensures suffix { (prefix : List ℕ) × (octets.now ≡ prefix ++ result.now) }
+    ensures within { length result.now ≤ length octets.now }
+{
+    let mut rest = octets;
+    while let Some(behind) = behind_pair(rest) {
+        rest = behind;
+    }
+    rest
+}
+
+/// Whether this octet comes first.
+#[inline(always)]
+fn begins_with(mark: u8, octets: &[u8]) -> bool
+    ensures { IsTrue result → (after : List ℕ) × (octets.now ≡ mark ∷ after) }
+{
+    match octets {
+        [] => false,
+        [first, ..] => *first == mark,
+    }
+}
+
 /// How many octets come before a mark: one that no backslash takes with it.
 #[inline(always)]
 fn marked_len(mark: u8, octets: &[u8]) -> usize
@@ -52,6 +89,9 @@ fn marked_len(mark: u8, octets: &[u8]) -> usize
     ensures within { result ≤ length octets.now }
     ensures marked { IsMarkedLength mark octets.now result }
 {
+    if begins_with(mark, octets) {
+        return 0;
+    }
     let mut rest = octets;
     while let Some(offset) = near_either(b'\\', mark, rest) {
         let (_, found) = rest.split_at(offset);
@@ -61,7 +101,8 @@ fn marked_len(mark: u8, octets: &[u8]) -> usize
         if first == mark {
             return octets.len() - found.len();
         }
-        rest = behind_first(behind);
+        let taken = behind_first(behind);
+        rest = behind_pairs(taken);
     }
     octets.len()
 }
@@ -81,7 +122,7 @@ pub fn first_param(octets: &[u8]) -> (ParamView<'_>, &[u8])
 }
 
 /// The element that comes first in octets that begin with one, and what follows it.
-#[inline]
+#[inline(always)]
 pub fn first_element(octets: &[u8]) -> (ElementView<'_>, &[u8])
     ensures element { SplitsElement octets.now (element_span result.0) result.1.now }
     ensures suffix { (prefix : List ℕ) × (octets.now ≡ prefix ++ result.1.now) }
@@ -91,15 +132,4 @@ pub fn first_element(octets: &[u8]) -> (ElementView<'_>, &[u8])
     let (id, rest) = behind.split_at(id_len(behind));
     let (params, end) = rest.split_at(marked_len(b']', rest));
     (ElementView { id, params }, behind_first(end))
-}
-
-/// The element that octets are which are known to be one, and nothing else.
-#[inline]
-pub fn whole_element(octets: &[u8]) -> ElementView<'_>
-    ensures { SplitsWhole octets.now (element_span result) }
-{
-    let behind = behind_first(octets);
-    let (id, rest) = behind.split_at(id_len(behind));
-    let (params, _bracket) = rest.split_at(rest.len().saturating_sub(1));
-    ElementView { id, params }
 }

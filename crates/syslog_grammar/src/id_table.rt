@@ -92,7 +92,8 @@ fn behind_new_in<const SLOTS: usize>(structured_data: &[u8], multiplier: u64) ->
 }
 
 /// What follows elements at the start whose ids differ: all up to one whose hash by an odd multiplier
-/// was met, or has no free slot near its place. The table has a slot for two octets, as an element has three at least.
+/// was met, or has no free slot near its place. The table has a slot for two octets, up to 262,144 of
+/// them, and an element has three at least; more octets have 131,200 slots.
 pub fn behind_hashed(structured_data: &[u8], multiplier: u64) -> &[u8]
     requires { AnyOf StructuredDataText structured_data.now }
     ensures { Known structured_data.now result.now }

@@ -1,6 +1,7 @@
 //! Laws of records and their octets, each the contract of a function that does nothing.
 
 ghost use Rattle.std.specs.Prelude.{◌≡◌, ◌↔◌, ◌+◌, ◌*◌, ◌≤◌, ℤ, IsUtf8, List, ℕ, length};
+ghost use Rattle.octet_language.specs.Language.{AnyOf};
 ghost use Rattle.syslog_value.specs.Parts.{IsRecord, Parts};
 ghost use Rattle.syslog_grammar.specs.Canonical.{Canonical};
 ghost use Rattle.syslog_grammar.specs.Faults.{FaultOf};
@@ -39,6 +40,11 @@ pub fn canonical_is_bounded()
 /// Octets have at most one fault.
 pub fn octets_have_one_fault()
     ensures { (b : List ℕ) (f : Fault) (g : Fault) → FaultOf b f → FaultOf b g → f ≡ g }
+{}
+
+/// Octets that have a fault are no record.
+pub fn faulty_octets_are_no_record()
+    ensures { (b : List ℕ) (f : Fault) → FaultOf b f → ¬ (AnyOf WellFormed b) }
 {}
 
 /// The octets that std takes for UTF-8 are those of the table of RFC 3629, section 4.

@@ -50,8 +50,9 @@ pub use decoding::{DecodeFault, decode};
 pub use element::{ElementView, ParamView};
 pub use fault::{Fault, Field};
 pub use law::{
-    canonical_is_bounded, canonical_is_injective, canonical_is_well_formed, octets_are_one_record,
-    octets_have_one_fault, std_utf8_is_that_of_the_table, well_formed_is_a_record,
+    canonical_is_bounded, canonical_is_injective, canonical_is_well_formed,
+    faulty_octets_are_no_record, octets_are_one_record, octets_have_one_fault,
+    std_utf8_is_that_of_the_table, well_formed_is_a_record,
 };
 pub use lent::{LentRecord, put_lent};
 pub use parts::{Elements, Params};

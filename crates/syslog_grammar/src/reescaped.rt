@@ -1,6 +1,7 @@
 //! The canonical octets of structured data, from any octets that spell it.
 
 ghost use Rattle.std.specs.Prelude.{◌<◌, IfSome, MatchOption, length};
+ghost use Rattle.octet_language.specs.Language.{Only};
 ghost use Rattle.syslog_grammar.specs.Appending.{Puts};
 ghost use Rattle.syslog_grammar.specs.Reescaped.{ElementOf, ElementsOf, ParamOf, ParamsOf};
 ghost use Rattle.syslog_grammar.specs.Reescaped.{EndsLone, IsOwnForm, ValueOf};
@@ -32,6 +33,22 @@ fn behind_lone(raw: &[u8]) -> Option<&[u8]>
     None
 }
 
+/// Appends octets that are mostly one or two.
+#[inline(always)]
+fn put_few(octets: &[u8], out: &mut Vec<u8>) -> Result<(), AllocError>
+    ensures { Puts (Only octets.now) out.old.items out.new.items result }
+{
+    match octets {
+        [first] => out.push(*first)?,
+        [first, second] => {
+            out.push(*first)?;
+            out.push(*second)?;
+        }
+        _ => put(octets, out)?,
+    }
+    Ok(())
+}
+
 /// Appends the canonical spelling of a value: a backslash that is no escape is written twice.
 fn put_value(raw: &[u8], out: &mut Vec<u8>) -> Result<(), AllocError>
     ensures { Puts (ValueOf raw.now) out.old.items out.new.items result }
@@ -39,8 +56,8 @@ fn put_value(raw: &[u8], out: &mut Vec<u8>) -> Result<(), AllocError>
     let mut rest = raw;
     while let Some(behind) = behind_lone(rest) {
         let (run, _) = rest.split_at(rest.len() - behind.len());
-        put(run, out)?;
-        put(b"\\", out)?;
+        put_few(run, out)?;
+        put_few(b"\\", out)?;
         rest = behind;
     }
     put(rest, out)

@@ -1,41 +1,101 @@
-//! The canonical octets of structured data whose ids do not ascend: the texts of its elements are
-//! sorted on the stack.
+//! The canonical octets of structured data whose ids do not ascend: numbers that hold the fronts of
+//! its ids and their offsets are sorted on the stack.
 
-ghost use Rattle.std.specs.Prelude.{◌≤◌, Bool, List, IfSome, length, map, take, ⊤};
+ghost use Rattle.std.specs.Prelude.{◌≡◌, ◌≤◌, ◌<◌, Bool, List, IfSome, length, take, ⊤};
+ghost use Rattle.std.specs.List.Sorted.{IsPermutation};
 ghost use Rattle.syslog_value.specs.Parts.{ElementParts};
 ghost use Rattle.syslog_grammar.specs.Appending.{Puts};
 ghost use Rattle.syslog_grammar.specs.Reescaped.{PutsUnless};
-ghost use Rattle.syslog_grammar.specs.Sorting.{AreElementsOf, AreTextsOf, SortedDataOf};
-ghost use Rattle.syslog_grammar.specs.Sorting.{SortedElementsOf, TextForm, TextsForm};
+ghost use Rattle.syslog_grammar.specs.Sorting.{AreElementsOf, AreKeysOf, KeysForm, SortedDataOf};
+ghost use Rattle.syslog_grammar.specs.Sorting.{SortedElementsOf, TextForm, offset_of};
 ghost use Rattle.syslog_grammar.specs.Views.{element_span};
 
 use crate::appending::put;
 use crate::element::ElementView;
-use crate::first_element::{first_element, whole_element};
+use crate::first_element::first_element;
 use crate::reading::next;
 use crate::reescaped::put_element;
 use crate::repeated::is_above;
 use std::alloc::AllocError;
 
-/// Puts the texts of elements into the slice, where it has room for them.
-fn fill_texts<'a>(elements: &'a [u8], texts: &mut [&'a [u8]]) -> Option<usize>
-    ensures { IfSome result (λ n. (n ≤ length texts.new)
+/// The offset that a key has in its lower 24 bits.
+#[inline(always)]
+fn offset_of(key: u64) -> usize
+    ensures { result ≡ offset_of key }
+{
+    (key % 0x100_0000) as usize
+}
+
+/// The first five octets of an id, and zeros for those that it has not.
+#[inline(always)]
+fn front_of(id: &[u8]) -> [u8; 8] {
+    match id {
+        [a, b, c, d, e, ..] => [*a, *b, *c, *d, *e, 0, 0, 0],
+        [a, b, c, d] => [*a, *b, *c, *d, 0, 0, 0, 0],
+        [a, b, c] => [*a, *b, *c, 0, 0, 0, 0, 0],
+        [a, b] => [*a, *b, 0, 0, 0, 0, 0, 0],
+        [a] => [*a, 0, 0, 0, 0, 0, 0, 0],
+        [] => [0; 8],
+    }
+}
+
+/// An id's first five octets and an offset, as one number.
+#[inline(always)]
+fn key_of(id: &[u8], offset: usize) -> u64
+    requires { offset < 16777216 }
+    ensures { offset_of result ≡ offset }
+{
+    u64::from_be_bytes(front_of(id)) / 0x100_0000 * 0x100_0000 + offset as u64
+}
+
+/// Puts a key for each element into the slice, where it has room for them.
+fn fill_keys(elements: &[u8], keys: &mut [u64]) -> Option<usize>
+    requires { length elements.now < 16777216 }
+    ensures { IfSome result (λ n. (n ≤ length keys.new)
         × ((a : Bool) (es : List ElementParts) → AreElementsOf a es elements.now
-        → AreTextsOf a es (map (λ s. s.now) (take n texts.new)))) }
+        → AreKeysOf a elements.now es (take n keys.new))) }
 {
     let mut rest = elements;
     let mut count = 0;
     while let Some((_first, _after)) = next(rest) {
-        let (_element, behind) = first_element(rest);
-        if count >= texts.len() {
+        let (found, behind) = first_element(rest);
+        if count >= keys.len() {
             return None;
         }
-        let (text, _) = rest.split_at(rest.len() - behind.len());
-        texts[count] = text;
+        keys[count] = key_of(found.id(), elements.len() - rest.len());
         count += 1;
         rest = behind;
     }
     Some(count)
+}
+
+/// Whether two keys have the same front.
+fn have_ties(keys: &[u64]) -> bool {
+    for i in 1..keys.len() {
+        if keys[i - 1] / 0x100_0000 == keys[i] / 0x100_0000 {
+            return true;
+        }
+    }
+    false
+}
+
+/// What begins at the offset of a key.
+#[inline(always)]
+fn text_at(elements: &[u8], key: u64) -> &[u8] {
+    let (_, text) = elements.split_at(offset_of(key).min(elements.len()));
+    text
+}
+
+/// Puts the keys of elements in the order of their ids.
+fn sort_keys(elements: &[u8], keys: &mut [u64])
+    ensures { IsPermutation keys.old keys.new }
+{
+    keys.sort_unstable();
+    if have_ties(keys) {
+        keys.sort_unstable_by(|left, right| {
+            text_at(elements, *left).cmp(text_at(elements, *right))
+        });
+    }
 }
 
 /// Appends an element, whose text is given: as it lies where that is canonical.
@@ -54,93 +114,79 @@ fn put_text(
     put_element(element, out)
 }
 
-/// Appends elements, up to one whose id is not above those before it.
-fn put_rising<'a>(texts: &[&'a [u8]], is_form: bool, out: &mut Vec<u8>) -> Result<bool, AllocError>
-    ensures { PutsUnless (TextsForm is_form (map (λ s. s.now) texts.now)) ⊤
+/// Appends the elements at the offsets of keys, up to one whose id is not above those before it.
+fn put_rising<'a>(
+    elements: &'a [u8],
+    keys: &[u64],
+    is_form: bool,
+    out: &mut Vec<u8>,
+) -> Result<bool, AllocError>
+    ensures { PutsUnless (KeysForm is_form elements.now keys.now) ⊤
         out.old.items out.new.items result }
 {
     let mut greatest: Option<&'a [u8]> = None;
-    for i in 0..texts.len() {
-        let found = whole_element(texts[i]);
+    for i in 0..keys.len() {
+        let Some((_before, rest)) = elements.split_at_checked(offset_of(keys[i])) else {
+            return Ok(false);
+        };
+        let (found, behind) = first_element(rest);
         let id = found.id();
         if !is_above(id, greatest) {
             return Ok(false);
         }
-        put_text(texts[i], &found, is_form, out)?;
+        let (text, _) = rest.split_at(rest.len() - behind.len());
+        put_text(text, &found, is_form, out)?;
         greatest = Some(id);
     }
     Ok(true)
 }
 
-/// Appends elements in the order of their ids, if the slice has room for their texts.
-fn put_sorted_in<'a>(
-    elements: &'a [u8],
-    texts: &mut [&'a [u8]],
+/// Appends elements in the order of their ids, if the slice has room for their keys.
+fn put_sorted_in(
+    elements: &[u8],
+    keys: &mut [u64],
     is_form: bool,
     out: &mut Vec<u8>,
 ) -> Result<bool, AllocError>
+    requires { length elements.now < 16777216 }
     ensures { PutsUnless (SortedElementsOf is_form elements.now) ⊤ out.old.items out.new.items result }
 {
-    let Some(count) = fill_texts(elements, texts) else {
+    let Some(count) = fill_keys(elements, keys) else {
         return Ok(false);
     };
-    let (found, _) = texts.split_at_mut(count);
-    found.sort_unstable();
-    put_rising(found, is_form, out)
+    let (found, _) = keys.split_at_mut(count);
+    sort_keys(elements, found);
+    put_rising(elements, found, is_form, out)
 }
 
-/// Appends at most 64 elements in the order of their ids.
+/// The same with room for so many keys on the stack.
 #[inline(never)]
-fn put_few(elements: &[u8], is_form: bool, out: &mut Vec<u8>) -> Result<bool, AllocError>
+fn put_sorted_in_room<const N: usize>(
+    elements: &[u8],
+    is_form: bool,
+    out: &mut Vec<u8>,
+) -> Result<bool, AllocError>
+    requires elements { length elements.now < 16777216 }
+    requires room { N ≤ 131072 }
     ensures { PutsUnless (SortedElementsOf is_form elements.now) ⊤ out.old.items out.new.items result }
 {
-    let (none, _) = elements.split_at(0);
-    let mut texts = [none; 64];
-    put_sorted_in(elements, &mut texts, is_form, out)
-}
-
-/// Appends at most 5,461 elements in the order of their ids.
-#[inline(never)]
-fn put_some(elements: &[u8], is_form: bool, out: &mut Vec<u8>) -> Result<bool, AllocError>
-    ensures { PutsUnless (SortedElementsOf is_form elements.now) ⊤ out.old.items out.new.items result }
-{
-    let (none, _) = elements.split_at(0);
-    let mut texts = [none; 5_461];
-    put_sorted_in(elements, &mut texts, is_form, out)
-}
-
-/// Appends at most 21,845 elements in the order of their ids.
-#[inline(never)]
-fn put_many(elements: &[u8], is_form: bool, out: &mut Vec<u8>) -> Result<bool, AllocError>
-    ensures { PutsUnless (SortedElementsOf is_form elements.now) ⊤ out.old.items out.new.items result }
-{
-    let (none, _) = elements.split_at(0);
-    let mut texts = [none; 21_845];
-    put_sorted_in(elements, &mut texts, is_form, out)
-}
-
-/// Appends at most 65,536 elements in the order of their ids.
-#[inline(never)]
-fn put_most(elements: &[u8], is_form: bool, out: &mut Vec<u8>) -> Result<bool, AllocError>
-    ensures { PutsUnless (SortedElementsOf is_form elements.now) ⊤ out.old.items out.new.items result }
-{
-    let (none, _) = elements.split_at(0);
-    let mut texts = [none; 65_536];
-    put_sorted_in(elements, &mut texts, is_form, out)
+    let mut keys = [0; N];
+    put_sorted_in(elements, &mut keys, is_form, out)
 }
 
 /// Appends elements in the order of their ids. Each has three octets at least.
 fn put_elements(elements: &[u8], is_form: bool, out: &mut Vec<u8>) -> Result<bool, AllocError>
     ensures { PutsUnless (SortedElementsOf is_form elements.now) ⊤ out.old.items out.new.items result }
 {
-    if elements.len() <= 1024 {
-        put_few(elements, is_form, out)
-    } else if elements.len() <= 16_384 {
-        put_some(elements, is_form, out)
-    } else if elements.len() <= 65_536 {
-        put_many(elements, is_form, out)
-    } else {
-        put_most(elements, is_form, out)
+    match elements.len() {
+        0..=192 => put_sorted_in_room::<64>(elements, is_form, out),
+        193..=768 => put_sorted_in_room::<256>(elements, is_form, out),
+        769..=3072 => put_sorted_in_room::<1024>(elements, is_form, out),
+        3073..=12_288 => put_sorted_in_room::<4096>(elements, is_form, out),
+        12_289..=49_152 => put_sorted_in_room::<16_384>(elements, is_form, out),
+        49_153..=196_608 => put_sorted_in_room::<65_536>(elements, is_form, out),
+        196_609..=16_777_215 => put_sorted_in_room::<131_072>(elements, is_form, out),
+        _ => Ok(false),
     }
 }
 
@@ -148,8 +194,8 @@ fn put_elements(elements: &[u8], is_form: bool, out: &mut Vec<u8>) -> Result<boo
 /// where the data is canonical but for their order.
 ///
 /// The answer is false, and a part may have been appended, where there are too many elements for
-/// the stack, or one without parameters whose id another one begins with: their texts may sort
-/// otherwise than their ids.
+/// the stack. It can also be where ids have the same first five octets: then texts are sorted, and
+/// that of an element without parameters may sort otherwise than its id, which another begins with.
 pub fn put_sorted(
     structured_data: &[u8],
     is_form: bool,

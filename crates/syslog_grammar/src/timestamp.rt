@@ -19,6 +19,15 @@ ghost use Rattle.syslog_grammar.specs.Time.{ZoneText};
 use crate::reading::{Stop, expect, next};
 use syslog_value::Civil;
 
+/// The octets of a date, as `2003-10-11`.
+const DATE_LEN: usize = 10;
+
+/// The octets of the time of a day, as `22:14:15`.
+const CLOCK_LEN: usize = 8;
+
+/// The most octets of a fraction and a zone, as `.003000-07:00`, and the octet after them.
+const ZONE_LEN: usize = 14;
+
 /// A civil time as it is spelled, and how many minutes it is ahead of UTC.
 #[derive(Clone, Copy, Debug, PartialEq, Eq)]
 pub struct Timestamp {
@@ -124,13 +133,34 @@ fn year_month(octets: &[u8]) -> Result<((u16, u8), &[u8]), Stop>
 
 /// Reads a date that the calendar has.
 #[inline(always)]
-fn date(octets: &[u8]) -> Result<((u16, u8, u8), &[u8]), Stop>
+fn read_date(octets: &[u8]) -> Result<((u16, u8, u8), &[u8]), Stop>
     ensures { Reads remaining_of Date (λ x. (x.0, x.1.now)) octets.now result }
 {
     let ((year, month), rest) = year_month(octets)?;
     let rest = expect(b'-', rest)?;
     let (day, rest) = two(1, last_day(year, month), rest)?;
     Ok(((year, month, day), rest))
+}
+
+/// The same where fewer octets are left.
+#[cold]
+#[inline(never)]
+fn last_date(octets: &[u8]) -> Result<((u16, u8, u8), &[u8]), Stop>
+    ensures { Reads remaining_of Date (λ x. (x.0, x.1.now)) octets.now result }
+{
+    read_date(octets)
+}
+
+/// Reads a date that the calendar has. Where there are octets enough, the compiler leaves out the
+/// tests for the end.
+#[inline(always)]
+fn date(octets: &[u8]) -> Result<((u16, u8, u8), &[u8]), Stop>
+    ensures { Reads remaining_of Date (λ x. (x.0, x.1.now)) octets.now result }
+{
+    if octets.len() < DATE_LEN {
+        return last_date(octets);
+    }
+    read_date(octets)
 }
 
 /// Reads an hour and a minute.
@@ -146,13 +176,33 @@ fn hour_minute(octets: &[u8]) -> Result<((u8, u8), &[u8]), Stop>
 
 /// Reads the time of a day.
 #[inline(always)]
-pub fn clock(octets: &[u8]) -> Result<((u8, u8, u8), &[u8]), Stop>
+fn read_clock(octets: &[u8]) -> Result<((u8, u8, u8), &[u8]), Stop>
     ensures { Reads remaining_of Clock (λ x. (x.0, x.1.now)) octets.now result }
 {
     let ((hour, minute), rest) = hour_minute(octets)?;
     let rest = expect(b':', rest)?;
     let (second, rest) = two(0, 59, rest)?;
     Ok(((hour, minute, second), rest))
+}
+
+/// The same where fewer octets are left.
+#[cold]
+#[inline(never)]
+fn last_clock(octets: &[u8]) -> Result<((u8, u8, u8), &[u8]), Stop>
+    ensures { Reads remaining_of Clock (λ x. (x.0, x.1.now)) octets.now result }
+{
+    read_clock(octets)
+}
+
+/// Reads the time of a day. It tests for the end as [`date`] does.
+#[inline(always)]
+pub fn clock(octets: &[u8]) -> Result<((u8, u8, u8), &[u8]), Stop>
+    ensures { Reads remaining_of Clock (λ x. (x.0, x.1.now)) octets.now result }
+{
+    if octets.len() < CLOCK_LEN {
+        return last_clock(octets);
+    }
+    read_clock(octets)
 }
 
 /// How many digits come first, up to six.
@@ -270,7 +320,7 @@ fn zone(octets: &[u8]) -> Result<(i16, &[u8]), Stop>
 
 /// Reads the fraction, if there is one, and the zone.
 #[inline(always)]
-fn fraction_and_zone(octets: &[u8]) -> Result<((u32, i16), &[u8]), Stop>
+fn read_fraction_and_zone(octets: &[u8]) -> Result<((u32, i16), &[u8]), Stop>
     ensures { Reads remaining_of FractionZone (λ x. (x.0, x.1.now)) octets.now result }
 {
     let Some((first, behind)) = next(octets) else {
@@ -285,6 +335,26 @@ fn fraction_and_zone(octets: &[u8]) -> Result<((u32, i16), &[u8]), Stop>
     }
     let (offset, rest) = zone(octets)?;
     Ok(((0, offset), rest))
+}
+
+/// The same where fewer octets are left.
+#[cold]
+#[inline(never)]
+fn last_fraction_and_zone(octets: &[u8]) -> Result<((u32, i16), &[u8]), Stop>
+    ensures { Reads remaining_of FractionZone (λ x. (x.0, x.1.now)) octets.now result }
+{
+    read_fraction_and_zone(octets)
+}
+
+/// Reads the fraction, if there is one, and the zone. It tests for the end as [`date`] does.
+#[inline(always)]
+fn fraction_and_zone(octets: &[u8]) -> Result<((u32, i16), &[u8]), Stop>
+    ensures { Reads remaining_of FractionZone (λ x. (x.0, x.1.now)) octets.now result }
+{
+    if octets.len() < ZONE_LEN {
+        return last_fraction_and_zone(octets);
+    }
+    read_fraction_and_zone(octets)
 }
 
 /// Reads a time.

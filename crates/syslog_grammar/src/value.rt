@@ -1,18 +1,33 @@
 //! Values of parameters (RFC 5424, 6.3.3).
 
-ghost use Rattle.std.specs.Prelude.{◌≡◌, ◌≤◌, ◌∷◌, ◌↔◌, [], IfOk, IsTrue, length, take};
+ghost use Rattle.std.specs.Prelude.{◌≡◌, ◌≤◌, ◌<◌, ◌∷◌, ◌↔◌, [], ℕ, IfOk, IfSome, IsTrue, length, take};
 ghost use Rattle.std.specs.List.{AllByRecursion};
 ghost use Rattle.octet_language.specs.Language.{◌⋅◌, AnyOf, Each, Only};
 ghost use Rattle.octet_language.specs.Reading.{Passes, Reads};
 ghost use Rattle.syslog_grammar.specs.Forms.{BeginsLone, IsValueForm, ReadsForm, pieces_form};
 ghost use Rattle.syslog_grammar.specs.Spans.{Text};
 ghost use Rattle.syslog_grammar.specs.Stops.{remaining_of};
-ghost use Rattle.syslog_grammar.specs.Values.{IsEscape, IsPlainOctet, PassesPlain, Piece};
+ghost use Rattle.syslog_grammar.specs.Utf8.{IsCharacter};
+ghost use Rattle.syslog_grammar.specs.Values.{IsEscape, IsPlainOctet, IsSpecial, PassesEscapes, PassesLone};
+ghost use Rattle.syslog_grammar.specs.Values.{PassesPlain, Piece};
 
 use crate::character::behind_character;
 use crate::lanes::{LANES, plain_run};
 use crate::reading::{Stop, both, next};
 use crate::unescape::begins_special;
+
+/// Reads one character, which is mostly one octet.
+#[inline(always)]
+fn behind_escaped(octets: &[u8]) -> Result<&[u8], Stop>
+    ensures { Passes remaining_of IsCharacter (λ x. x.now) octets.now result }
+{
+    if let Some((first, rest)) = next(octets) {
+        if first < 0x80 {
+            return Ok(rest);
+        }
+    }
+    behind_character(octets)
+}
 
 /// Reads one piece of a value.
 #[inline(always)]
@@ -25,7 +40,7 @@ fn behind_piece(octets: &[u8]) -> Result<&[u8], Stop>
         });
     };
     if first == b'\\' {
-        return behind_character(rest);
+        return behind_escaped(rest);
     }
     if first == b'"' {
         return Err(Stop {
@@ -102,6 +117,66 @@ fn behind_plain(octets: &[u8]) -> &[u8]
     rest
 }
 
+/// What follows an escape at the start.
+#[inline(always)]
+fn behind_escape(octets: &[u8]) -> Option<&[u8]>
+    ensures escape { IfSome result (λ rest. (x : ℕ) × IsSpecial x × (octets.now ≡ 92 ∷ x ∷ rest.now)) }
+    ensures less { IfSome result (λ rest. length rest.now < length octets.now) }
+{
+    match octets {
+        [b'\\', b'"' | b'\\' | b']', rest @ ..] => Some(rest),
+        _ => None,
+    }
+}
+
+/// What follows the escapes at the start.
+#[inline(always)]
+fn behind_escapes(octets: &[u8]) -> &[u8]
+    ensures { PassesEscapes octets.now result.now }
+{
+    let mut rest = octets;
+    while let Some(behind) = behind_escape(rest) {
+        rest = behind;
+    }
+    rest
+}
+
+/// What follows a backslash at the start that is no escape, and an octet that means itself.
+#[inline(always)]
+fn behind_lone_one(octets: &[u8]) -> Option<&[u8]>
+    ensures lone { IfSome result (λ rest. (x : ℕ) × IsPlainOctet x × (octets.now ≡ 92 ∷ x ∷ rest.now)) }
+    ensures less { IfSome result (λ rest. length rest.now < length octets.now) }
+{
+    match octets {
+        [b'\\', octet, rest @ ..] => { if is_plain(*octet) { Some(rest) } else { None } }
+        _ => None,
+    }
+}
+
+/// What follows such backslashes at the start.
+#[inline(always)]
+fn behind_lone(octets: &[u8]) -> &[u8]
+    ensures { PassesLone octets.now result.now }
+{
+    let mut rest = octets;
+    while let Some(behind) = behind_lone_one(rest) {
+        rest = behind;
+    }
+    rest
+}
+
+/// The same where the value is known not to be canonical, and else what was given.
+#[inline(always)]
+fn behind_lone_unless(is_form: bool, octets: &[u8]) -> &[u8]
+    ensures lone { PassesLone octets.now result.now }
+    ensures same { IsTrue is_form → result.now ≡ octets.now }
+{
+    if is_form {
+        return octets;
+    }
+    behind_lone(octets)
+}
+
 /// Whether the piece that comes first is spelled as in a canonical record: no other backslash than
 /// that of an escape comes first.
 #[inline(always)]
@@ -134,7 +209,9 @@ fn behind_value(octets: &[u8]) -> Result<(&[u8], bool), Stop>
         }
         let behind = behind_piece(rest)?;
         is_form = both(is_form, begins_form(rest));
-        rest = behind_plain(behind);
+        let unescaped = behind_escapes(behind);
+        let taken = behind_lone_unless(is_form, unescaped);
+        rest = behind_plain(taken);
     }
     Err(Stop {
         remaining: rest.len(),

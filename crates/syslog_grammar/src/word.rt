@@ -49,8 +49,8 @@ fn printable_blocks(most: usize, octets: &[u8]) -> usize
 }
 
 /// How many octets at the start are printable, up to a limit.
-#[inline(always)]
-fn printable_len(limit: usize, octets: &[u8]) -> usize
+#[inline(never)]
+fn long_printable_len(limit: usize, octets: &[u8]) -> usize
     ensures most { result ≤ limit }
     ensures within { result ≤ length octets.now }
     ensures printable { AllByRecursion IsPrintable (take result octets.now) }
@@ -63,6 +63,23 @@ fn printable_len(limit: usize, octets: &[u8]) -> usize
         }
     }
     most
+}
+
+/// The same, of few octets by one look.
+#[inline(always)]
+fn printable_len(limit: usize, octets: &[u8]) -> usize
+    ensures most { result ≤ limit }
+    ensures within { result ≤ length octets.now }
+    ensures printable { AllByRecursion IsPrintable (take result octets.now) }
+    ensures ends { result < limit → IfFirst (λ x. IsPrintable x → ⊥) (drop result octets.now) }
+{
+    if limit >= LANES && octets.len() >= LANES {
+        let run = printable_run(octets, 0);
+        if run < LANES {
+            return run;
+        }
+    }
+    long_printable_len(limit, octets)
 }
 
 /// The printable octets at the start, up to a limit, and what follows them.

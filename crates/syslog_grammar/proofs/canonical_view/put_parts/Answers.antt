@@ -5,8 +5,8 @@ use Rattle.syslog_grammar.proofs.canonical_view.put_parts.Goals as goal
 
 pub returns-clause-ok : goal.returns-clause-ok
 returns-clause-ok c = λ b h.
-    record_written (view_parts c.args.view.now) c.args.out.now.items c.put_header.new.out.items
+    record_written (view_parts c.args.view.now) c.args.out.now.items c.put_view_header.new.out.items
     c.put_structured_data.new.out.items c.put_message_part.new.out.items
-    (rw (c.priority.ensures, c.instant.ensures) at c.in_ok-put_header.ensures) c.in_ok-put_structured_data.ensures
+    c.in_ok-put_view_header.ensures c.in_ok-put_structured_data.ensures
     (λ es d. kept_by_id c.args.view.now.is_form c.args.view.now.ascends c.args.view.now.«structured_data».now
     c.args.view.now.forms c.requires es d) c.in_ok-put_message_part.ensures b h

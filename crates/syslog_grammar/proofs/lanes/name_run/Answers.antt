@@ -13,5 +13,6 @@ returns c =
     c.lanes_before.ensures _
     (combined bit_or _ _ v
     (combined (λ a b. cond (leb a b) 255 0) _ _ v (splat_is_map v 16 94 long) (zip2_splat {Y = ℕ} _ v 16 33 long))
-    (combined bit_or _ _ v (combined bit_or _ _ v (zip2_splat {Y = ℕ} _ v 16 93 long) (zip2_splat {Y = ℕ} _ v 16 34 long))
+    (combined bit_or _ _ v
+    (combined bit_or _ _ v (zip2_splat {Y = ℕ} _ v 16 93 long) (zip2_splat {Y = ℕ} _ v 16 34 long))
     (zip2_splat {Y = ℕ} _ v 16 61 long))) refl

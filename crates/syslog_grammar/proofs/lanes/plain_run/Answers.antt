@@ -9,9 +9,10 @@ pub returns : goal.returns
 returns c =
     let v = chunk c.args.at 16 c.args.octets.now in
     let long = length-chunk c.args.at 16 c.args.octets.now c.requires in
-    class_run IsPlainOctet ends_plain plain_false plain_true c.args.octets.now c.args.at _ _ c.requires c.type_inv.octets
-    c.lanes_before.ensures _
+    class_run IsPlainOctet ends_plain plain_false plain_true c.args.octets.now c.args.at _ _ c.requires
+    c.type_inv.octets c.lanes_before.ensures _
     (combined bit_or _ _ v
     (combined (λ a b. cond (leb a b) 255 0) _ _ v (splat_is_map v 16 128 long) (itself v))
-    (combined bit_or _ _ v (combined bit_or _ _ v (zip2_splat {Y = ℕ} _ v 16 34 long) (zip2_splat {Y = ℕ} _ v 16 92 long))
+    (combined bit_or _ _ v
+    (combined bit_or _ _ v (zip2_splat {Y = ℕ} _ v 16 34 long) (zip2_splat {Y = ℕ} _ v 16 92 long))
     (zip2_splat {Y = ℕ} _ v 16 93 long))) refl

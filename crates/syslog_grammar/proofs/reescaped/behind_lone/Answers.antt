@@ -11,7 +11,8 @@ pub returns-then-not-begins_special-clause-lone : goal.returns-then-not-begins_s
 returns-then-not-begins_special-clause-lone c =
     kept_lone c.args.raw.now c.loop-offset.rest.now c.split_at.result.1.now c.behind_first-behind.result.now
     c.in-Some.offset c.in-Some.ensures c.split_at.ensures.back c.behind_first-behind.ensures
-    (c.begins_special.ensures.other (λ e. false≢true (sym c.if-not-begins_special.true ∙ e))) c.loop-offset.invariant.kept
+    (c.begins_special.ensures.other (λ e. false≢true (sym c.if-not-begins_special.true ∙ e)))
+    c.loop-offset.invariant.kept
 
 pub loop-offset-preserved : goal.loop-offset-preserved
 loop-offset-preserved c = record {

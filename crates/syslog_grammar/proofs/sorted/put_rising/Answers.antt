@@ -6,15 +6,15 @@ use Rattle.syslog_grammar.specs.Ids.{IsAbove}
 use Rattle.syslog_grammar.specs.Spans.{ElementSpan}
 use Rattle.syslog_grammar.specs.Views.{element_span}
 use Rattle.syslog_grammar.proofs.Appends.{adds_some}
-use Rattle.syslog_grammar.proofs.Sorting.{written_none, written_begun, written_more, written_end, text_left, none_left}
+use Rattle.syslog_grammar.proofs.Sorting.{written_none, written_begun, written_more, written_end, key_left, none_left}
 use Rattle.syslog_grammar.proofs.sorted.put_rising.Goals as goal
 
 pub loop-i-init : goal.loop-i-init
-loop-i-init c = written_none c.args.is_form c.args.texts.now c.args.out.now.items
+loop-i-init c = written_none c.args.is_form c.args.elements.now c.args.keys.now c.args.out.now.items
 
 pub returns-then-not-is_above : goal.returns-then-not-is_above
 returns-then-not-is_above c = (
-  written_begun c.args.is_form c.args.texts.now (drop c.loop-i.i c.args.texts.now)
+  written_begun c.args.is_form c.args.elements.now c.args.keys.now (drop c.loop-i.i c.args.keys.now)
       (option_map (λ s. s.now) c.loop-i.greatest) c.args.out.now.items c.loop-i.out.items c.loop-i.invariant,
   tt,
 )
@@ -23,25 +23,28 @@ pub returns-in_err-put_text : goal.returns-in_err-put_text
 returns-in_err-put_text c =
     let p = err_from_is_err_and c.from_residual.result c.from_residual.ensures.1 in
     rw p.1 (adds_some Anything Anything c.args.out.now.items c.loop-i.out.items c.put_text.new.out.items
-    (written_begun c.args.is_form c.args.texts.now (drop c.loop-i.i c.args.texts.now)
+    (written_begun c.args.is_form c.args.elements.now c.args.keys.now (drop c.loop-i.i c.args.keys.now)
     (option_map (λ s. s.now) c.loop-i.greatest) c.args.out.now.items c.loop-i.out.items c.loop-i.invariant)
     c.in_err-put_text.ensures)
 
 pub loop-i-preserved : goal.loop-i-preserved
 loop-i-preserved c =
-    let v : ElementSpan = element_span c.whole_element-found.result in
+    let v : ElementSpan = element_span c.first_element.result.0 in
     let above : IsAbove c.id-id.result.now (option_map (λ s. s.now) c.loop-i.greatest) =
     c.is_above.ensures.above (search rules) in
-    rw c.id-id.ensures (written_more c.args.is_form c.args.texts.now (drop c.loop-i.i c.args.texts.now)
-    (drop (c.loop-i.i + 1) c.args.texts.now) _ c.args.out.now.items c.loop-i.out.items
+    rw c.id-id.ensures (written_more c.args.is_form c.args.elements.now c.args.keys.now
+    (drop c.loop-i.i c.args.keys.now) (drop (c.loop-i.i + 1) c.args.keys.now) c.in-Some.rest.now
+    c.first_element.result.1.now c.split_at.result.0.now _ c.args.out.now.items c.loop-i.out.items
     c.put_text.new.out.items v (option_map (λ s. s.now) c.loop-i.greatest)
-    (text_left c.args.texts.now c.loop-i.i _ c.loop-i-test.true) c.whole_element-found.ensures
+    (key_left c.args.keys.now c.loop-i.i _ c.loop-i-test.true)
+    (c.in-Some.ensures.cases.2 ∙ ap (λ (n : ℕ). drop n c.args.elements.now) c.offset_of.ensures)
+    c.first_element.ensures.element c.split_at.ensures.front
     (rw c.id-id.ensures at above) c.in_ok-put_text.ensures c.loop-i.invariant)
 
 pub returns : goal.returns
 returns c =
-    let whole : c.loop-i.i ≡ length c.args.texts.now = omega (arith, c.loop-i-test.false, c.loop-i.auto.i-end) in
-    let none : drop c.loop-i.i c.args.texts.now ≡ [] =
-    ap (λ (n : ℕ). drop n c.args.texts.now) whole ∙ none_left c.args.texts.now in
-    written_end c.args.is_form c.args.texts.now (drop c.loop-i.i c.args.texts.now)
+    let whole : c.loop-i.i ≡ length c.args.keys.now = omega (arith, c.loop-i-test.false, c.loop-i.auto.i-end) in
+    let none : drop c.loop-i.i c.args.keys.now ≡ [] =
+    ap (λ (n : ℕ). drop n c.args.keys.now) whole ∙ none_left c.args.keys.now in
+    written_end c.args.is_form c.args.elements.now c.args.keys.now (drop c.loop-i.i c.args.keys.now)
     (option_map (λ s. s.now) c.loop-i.greatest) c.args.out.now.items c.loop-i.out.items none c.loop-i.invariant

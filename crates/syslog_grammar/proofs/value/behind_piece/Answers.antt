@@ -8,8 +8,8 @@ pub returns-in_default : goal.returns-in_default
 returns-in_default c = no_piece c.args.octets.now (subst (IfFirst _) (sym c.in_default.ensures) tt)
 
 pub returns-then-first-eq92 : goal.returns-then-first-eq92
-returns-then-first-eq92 c = piece_behind remaining_of c.args.octets.now c.in-Some.rest.now _ c.behind_character.result
-    c.in-Some.first c.in-Some.ensures c.if-first-eq92.true c.behind_character.ensures
+returns-then-first-eq92 c = piece_behind remaining_of c.args.octets.now c.in-Some.rest.now _ c.behind_escaped.result
+    c.in-Some.first c.in-Some.ensures c.if-first-eq92.true c.behind_escaped.ensures
 
 pub returns-then-first-eq34 : goal.returns-then-first-eq34
 returns-then-first-eq34 c =
@@ -22,5 +22,5 @@ returns-then-first-eq93 c =
     no_piece c.args.octets.now (subst (IfFirst (λ x. (x ≡ 34) ⊎ (x ≡ 93))) (sym e) (inr c.if-first-eq93.true))
 
 pub returns : goal.returns
-returns c = piece_other remaining_of c.args.octets.now c.in-Some.rest.now _ c.behind_character-2.result c.in-Some.first
-    c.in-Some.ensures c.if-first-eq34.false c.if-first-eq92.false c.if-first-eq93.false c.behind_character-2.ensures
+returns c = piece_other remaining_of c.args.octets.now c.in-Some.rest.now _ c.behind_character.result c.in-Some.first
+    c.in-Some.ensures c.if-first-eq34.false c.if-first-eq92.false c.if-first-eq93.false c.behind_character.ensures
