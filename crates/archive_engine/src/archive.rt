@@ -110,6 +110,11 @@ fn archive_into<S: Store + Drop, R: Input, W: Output, N: Output>(
         ⊎ ((R.calls reader.new ≡ R.calls reader.old + READER_CALLS)
         × (R.ends reader.new ≡ R.ends reader.old)) }
     ensures failed { N.failures notes.old < N.failures notes.new → result ≡ FAULT }
+    ensures calls { AreSmall (R.calls reader.old) (R.failures reader.old) →
+        R.calls reader.new ≤ R.calls reader.old + READER_CALLS }
+    ensures ends { R.ends reader.new ≤ R.ends reader.old + 1 }
+    ensures ended { R.ends reader.old < R.ends reader.new →
+        R.failures reader.new ≡ R.failures reader.old }
     ensures read_failed { R.failures reader.old < R.failures reader.new → result ≡ FAULT }
     ensures write_failed { W.failures writer.old < W.failures writer.new → result ≡ FAULT }
     // the lines that were met before a device's fault are written before the line on it
@@ -175,6 +180,11 @@ pub fn archive_input<R: Input, W: Output, N: Output>(
         ⊎ ((R.calls reader.new ≡ R.calls reader.old + READER_CALLS)
         × (R.ends reader.new ≡ R.ends reader.old)) }
     ensures failed { N.failures notes.old < N.failures notes.new → result ≡ FAULT }
+    ensures calls { AreSmall (R.calls reader.old) (R.failures reader.old) →
+        R.calls reader.new ≤ R.calls reader.old + READER_CALLS }
+    ensures ends { R.ends reader.new ≤ R.ends reader.old + 1 }
+    ensures ended { R.ends reader.old < R.ends reader.new →
+        R.failures reader.new ≡ R.failures reader.old }
     ensures read_failed { R.failures reader.old < R.failures reader.new → result ≡ FAULT }
     ensures write_failed { W.failures writer.old < W.failures writer.new → result ≡ FAULT }
     // the lines that were met before a device's fault are written before the line on it

@@ -1,6 +1,7 @@
 //! An input is received, and what is refused of it is noted.
 
-ghost use Rattle.std.specs.Prelude.{◌≡◌, ◌<◌, ◌+◌, ◌^◌, ◌⊎◌, List, ℕ, Option, [], OnErr, OnOk, IfErr, IfSome, IsErrOf};
+ghost use Rattle.std.specs.Prelude.{◌≡◌, ◌≤◌, ◌<◌, ◌+◌, ◌^◌, ◌⊎◌, List, ℕ, Option, []};
+ghost use Rattle.std.specs.Prelude.{OnErr, OnOk, IfErr, IfSome, IsErrOf, IsTrue};
 ghost use Rattle.std.specs.Io.KnownBytes.{Appends};
 ghost use Rattle.syslog_value.specs.Device.{AreSmall};
 ghost use Rattle.syslog_collect.specs.History.{HoldsBadCount};
@@ -17,10 +18,10 @@ use crate::lines::{note_line, note_outcomes};
 use crate::reception::Reception;
 use crate::stopped::Stopped;
 use archive_text::Store;
-use frame_engine::{InputFraming, Line, PendingOutput};
+use frame_engine::{InputFraming, Line, PendingOutput, Stopped as InputStopped, read_datagram};
 use std::alloc::{AllocError, Global};
-use syslog_frame::{FRAME_MAX, Framing};
-use syslog_value::{Input, Output, READ_MAX, READER_CALLS, ReadAllFault, read_all, write_all};
+use syslog_frame::Framing;
+use syslog_value::{Input, Output, READ_MAX, READER_CALLS, write_all};
 
 // the octets of lines that are held back
 const LARGE: usize = 65_536;
@@ -34,6 +35,7 @@ fn write_due<N: Output>(
     ensures moved { OnOk result ((noted : List ℕ)
         × Appends (N.taken notes.old) (N.taken notes.new) noted
         × (done_of lines.old ≡ then_done (written_out [] noted) (done_of lines.new))) }
+    ensures due { OnOk result (IsTrue waits → lines.new.notes.items ≡ []) }
     ensures no_failure { OnOk result (N.failures notes.new ≡ N.failures notes.old) }
     ensures kind { IfErr result (λ stopped. stopped ≡ Stopped.Notes) }
     ensures cause { N.failures notes.old < 2 ^ 63 →
@@ -98,6 +100,11 @@ fn receive_stream<S: Store + Drop, R: Input, N: Output>(
         IsErrOf result Stopped.Endless →
         (R.calls reader.new ≡ R.calls reader.old + READER_CALLS)
         × (R.ends reader.new ≡ R.ends reader.old) }
+    ensures calls { AreSmall (R.calls reader.old) (R.failures reader.old) →
+        R.calls reader.new ≤ R.calls reader.old + READER_CALLS }
+    ensures ends { R.ends reader.new ≤ R.ends reader.old + 1 }
+    ensures ended { R.ends reader.old < R.ends reader.new →
+        R.failures reader.new ≡ R.failures reader.old }
     ensures begun { IsErrOf result Stopped.Read ⊎ IsErrOf result Stopped.Endless →
         BeginsInput reception.old.collector.clock (Stream framing) (R.left reader.old) (R.left reader.new)
         (N.taken notes.old) (N.taken notes.new) (done_of lines.new) }
@@ -149,15 +156,21 @@ fn receive_datagram<S: Store + Drop, R: Input>(
         IsErrOf result Stopped.Endless →
         (R.calls reader.new ≡ R.calls reader.old + READER_CALLS)
         × (R.ends reader.new ≡ R.ends reader.old) }
+    ensures calls { AreSmall (R.calls reader.old) (R.failures reader.old) →
+        R.calls reader.new ≤ R.calls reader.old + READER_CALLS }
+    ensures ends { R.ends reader.new ≤ R.ends reader.old + 1 }
+    ensures ended { R.ends reader.old < R.ends reader.new →
+        R.failures reader.new ≡ R.failures reader.old }
     ensures begun { IsErrOf result Stopped.Read ⊎ IsErrOf result Stopped.Endless →
         done_of lines.new ≡ nothing }
     ensures notes { ¬ (IsErrOf result Stopped.Notes) }
 {
-    let datagram = match read_all(alloc, reader, FRAME_MAX + 1) {
+    let datagram = match read_datagram(alloc, reader) {
         Ok(datagram) => datagram,
-        Err(ReadAllFault::Device) => return Err(Stopped::Read),
-        Err(ReadAllFault::Endless) => return Err(Stopped::Endless),
-        Err(ReadAllFault::Memory) => return Err(Stopped::Memory),
+        Err(InputStopped::Read) => return Err(Stopped::Read),
+        Err(InputStopped::Endless) => return Err(Stopped::Endless),
+        Err(InputStopped::Memory) => return Err(Stopped::Memory),
+        Err(InputStopped::Write | InputStopped::Notes) => unreachable!(),
     };
     reception.datagram(alloc, datagram.as_slice())?;
     let mut number = 1;
@@ -191,6 +204,11 @@ pub fn receive<S: Store + Drop, R: Input, N: Output>(
         IsErrOf result Stopped.Endless →
         (R.calls reader.new ≡ R.calls reader.old + READER_CALLS)
         × (R.ends reader.new ≡ R.ends reader.old) }
+    ensures calls { AreSmall (R.calls reader.old) (R.failures reader.old) →
+        R.calls reader.new ≤ R.calls reader.old + READER_CALLS }
+    ensures ends { R.ends reader.new ≤ R.ends reader.old + 1 }
+    ensures ended { R.ends reader.old < R.ends reader.new →
+        R.failures reader.new ≡ R.failures reader.old }
     ensures begun { IsErrOf result Stopped.Read ⊎ IsErrOf result Stopped.Endless →
         BeginsInput reception.old.collector.clock input_framing (R.left reader.old) (R.left reader.new)
         (N.taken notes.old) (N.taken notes.new) (done_of lines.new) }

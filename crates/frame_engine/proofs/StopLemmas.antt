@@ -1,7 +1,10 @@
 -- How far a stream is read, and what is written where it is not handled to its end.
 use Rattle.std.proofs.Common.{◌≡◌, ◌<◌, ◌≤◌, ◌+◌, ◌^◌, ℕ, List, [], ◌∷◌, ◌++◌, Option, Result, Ok, Err, length, refl}
-use Rattle.std.proofs.Common.{sym, subst, append_assoc, arith, inl, inr, ◌⊎◌}
-use Rattle.std.specs.Prelude.{IfErr, IsErrOf, OnOk}
+use Rattle.std.proofs.Common.{sym, subst, append_assoc, arith, inl, inr, take, ◌⊎◌}
+use Rattle.std.proofs.Math.Dec.{ltb}
+use Rattle.std.proofs.lemmas.Bool.{lt-ltb}
+use Rattle.std.proofs.lemmas.List.{length-take-le}
+use Rattle.std.specs.Prelude.{IfErr, IsErrOf, IsTrue, OnOk}
 use Rattle.std.specs.Io.KnownBytes.{Appends, Consumes}
 use Rattle.std.proofs.KnownBytes.{Appends-trans, Consumes-trans}
 use Rattle.octet_language.specs.Language.{Begins}
@@ -47,6 +50,16 @@ streaming_goes_on D kind s number a b w0 w n0 n cur h is =
 -- a count that goes up by one
 pub call_more : (old turn now new : ℕ) → now ≡ old + turn → new ≡ count_on now → new ≤ old + turn + 1
 call_more old turn now new a b = omega (arith, a, b)
+
+pub call_next : (old turn now new : ℕ) → old < 2 ^ 63 → turn < 2 ^ 63 → now ≡ old + turn → new ≡ count_on now
+    → new ≡ now + 1
+call_next old turn now new small few a b = omega (arith, small, few, a, b)
+
+-- a read that gave less than the room it was given
+pub came_short : (n room : ℕ) (buf : List ℕ) → n ≤ length buf → length (take n buf) < room → IsTrue (ltb n room)
+came_short n room buf within short =
+    let same : length (take n buf) ≡ n = length-take-le n buf within in
+    lt-ltb n room (omega (arith, same, short))
 
 pub stops_at : (D : Handling) (kind : Framing) (s : Scan) (number turn calls_old calls_new : ℕ)
     (a b c w0 w n0 n : Option (List ℕ)) (cur : Done) (last : List ℕ) → IsStreaming D kind s number a b w0 w n0 n cur

@@ -2,6 +2,7 @@ pub mod Checked
 pub mod Converted
 pub mod Pending
 pub mod Handling
+pub mod Held
 pub mod Line
 pub mod Readings
 pub mod Scans

@@ -22,11 +22,12 @@ mod stream;
 
 pub use check::Check;
 pub use convert::Convert;
+pub use datagram::read_datagram;
 pub use frame_handler::FrameHandler;
 pub use input_framing::InputFraming;
 pub use line::{Line, put_line};
 pub use notes::note;
 pub use pending::PendingOutput;
-pub use scan::scan_input;
+pub use scan::{Stopped, scan_input};
 pub use show::Show;
 pub use status::{DONE, FAULT, NO_MEMORY, REFUSED};

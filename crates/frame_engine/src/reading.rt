@@ -28,6 +28,7 @@ pub enum Reading<'a> {
 ///
 /// # Errors
 /// The line that says why the frame is no record.
+#[inline(always)]
 pub fn read_frame<'a>(
     clock: Option<LegacyClock>,
     number: u64,

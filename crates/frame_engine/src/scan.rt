@@ -1,11 +1,12 @@
 //! An input read from a device and handled frame by frame.
 
 ghost use Rattle.std.specs.Prelude.{◌≡◌, ◌≢◌, ◌≤◌, ◌<◌, ◌+◌, ◌^◌, ◌++◌, ◌⊎◌, ℕ, List, [], codes, length, take};
-ghost use Rattle.std.specs.Prelude.{OnErr, OnOk, IfErr, IfSome, IsErrOf, IsOk, if◌then◌else◌};
+ghost use Rattle.std.specs.Prelude.{OnErr, OnOk, IfErr, IfSome, IsErrOf, IsOk, IsTrue, if◌then◌else◌};
 ghost use Rattle.std.specs.Io.KnownBytes.{Appends};
 ghost use Rattle.syslog_value.specs.Device.{AreSmall};
 ghost use Rattle.frame_engine.specs.Pending.{done_of};
 ghost use Rattle.frame_engine.specs.Handling.{HasOneOutput, nothing};
+ghost use Rattle.frame_engine.specs.Held.{FailsWrittenOut, IsWrittenOut};
 ghost use Rattle.frame_engine.specs.Scans.{IsCause};
 ghost use Rattle.frame_engine.specs.Stops.{FailsBehind, IsStopped, ReadsUpTo, StopsReading, StopsWith, WritesLast};
 ghost use Rattle.frame_engine.specs.Streams.{AnswersWith, InputDone, IsAnswered, IsBegun, Moves};
@@ -103,6 +104,9 @@ fn flush_due<W: Output, N: Output>(
 ) -> Result<(), Stopped>
     ensures ok { OnOk result (Moves (W.taken writer.old) (W.taken writer.new)
         (N.taken notes.old) (N.taken notes.new) (done_of done.old) (done_of done.new)) }
+    ensures due { OnOk result (IsTrue waits → IsWrittenOut (done_of done.new)) }
+    ensures few { OnOk result ((length done.new.output.items < LARGE)
+        × (length done.new.notes.items < LARGE)) }
     ensures kinds { IfErr result (λ stopped.
         (stopped ≡ Stopped.Write) ⊎ (stopped ≡ Stopped.Notes)) }
     ensures err { OnErr result ((done.new.output.items ≡ []) × ((n : ℕ)
@@ -127,7 +131,8 @@ fn flush_due<W: Output, N: Output>(
 }
 
 /// Reads a stream to its end, or up to a bad MSG-LEN, and handles its frames. What is held back in
-/// `done` is written whenever it is large; the rest is left in it.
+/// `done` is written whenever it is large, and before a read that may wait for a sender; the rest is
+/// left in it.
 pub fn handle_stream<D: FrameHandler, R: Input, W: Output, N: Output>(
     alloc: Global,
     framing: Framing,
@@ -184,6 +189,9 @@ pub fn handle_stream<D: FrameHandler, R: Input, W: Output, N: Output>(
         (R.left reader.old) (R.left reader.new) }
     ensures good { R.failures reader.old < R.failures reader.new →
         FailsBehind (Stream framing) (R.left reader.old) (R.left reader.new) }
+    ensures due { AreSmall (R.calls reader.old) (R.failures reader.old) →
+        IsErrOf result Stopped.Read → FailsWrittenOut (λ r. R.calls r) (λ r. R.left r)
+        reader.old reader.new (done_of done.new) }
 {
     let mut scanner = Scanner::new(alloc, framing)?;
     let mut number = 1;

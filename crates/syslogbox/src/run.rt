@@ -249,14 +249,14 @@ pub fn run<R: Input, W: Output, N: Output, F: Files>(
         NameNothing texts ⊎ (W.failures writer.old < W.failures writer.new)
         ⊎ (N.failures notes.old < N.failures notes.new) }
 
-    // the reader of `check`, `show` and `convert` is called at most so often, and not after its end
+    // the standard input is called at most so often, and not after its end
     ensures calls { (asked : Asked) → parsed (map string_bytes words.now) ≡ Some asked →
-        ReadsFrames asked → AreSmall (R.calls reader.old) (R.failures reader.old) →
+        ReadsInput asked → AreSmall (R.calls reader.old) (R.failures reader.old) →
         R.calls reader.new ≤ R.calls reader.old + READER_CALLS }
     ensures ends { (asked : Asked) → parsed (map string_bytes words.now) ≡ Some asked →
-        ReadsFrames asked → R.ends reader.new ≤ R.ends reader.old + 1 }
+        ReadsInput asked → R.ends reader.new ≤ R.ends reader.old + 1 }
     ensures ended { (asked : Asked) → parsed (map string_bytes words.now) ≡ Some asked →
-        ReadsFrames asked → R.ends reader.old < R.ends reader.new →
+        ReadsInput asked → R.ends reader.old < R.ends reader.new →
         R.failures reader.new ≡ R.failures reader.old }
 
     // which fault their last line names; before it is what comes of all frames that were read
@@ -297,49 +297,42 @@ pub fn run<R: Input, W: Output, N: Output, F: Files>(
     ensures read_failed { R.failures reader.old < R.failures reader.new → result ≡ FAULT }
     ensures write_failed { W.failures writer.old < W.failures writer.new → result ≡ FAULT }
 {
-    match read_words(alloc, words) {
-        Ok(
-            Request::Check {
-                input_framing,
-                clock,
-            },
-        ) => {
+    let request = match read_words(alloc, words) {
+        Ok(request) => request,
+        Err(WordsFault::Usage(text)) => return note(notes, text.as_bytes(), FAULT),
+        Err(WordsFault::Memory) => return note(notes, b"want of memory\n", NO_MEMORY),
+    };
+    match request {
+        Request::Check {
+            input_framing,
+            clock,
+        } => {
             let check = Check { clock };
             scan_input(alloc, input_framing, &check, reader, writer, notes)
         }
-        Ok(
-            Request::Show {
-                input_framing,
-                clock,
-            },
-        ) => {
+        Request::Show {
+            input_framing,
+            clock,
+        } => {
             let show = Show { alloc, clock };
             scan_input(alloc, input_framing, &show, reader, writer, notes)
         }
-        Ok(
-            Request::Convert {
-                input_framing,
-                clock,
-                to,
-            },
-        ) => {
+        Request::Convert {
+            input_framing,
+            clock,
+            to,
+        } => {
             let convert = Convert { alloc, clock, to };
             scan_input(alloc, input_framing, &convert, reader, writer, notes)
         }
-        Ok(
-            Request::Archive {
-                input_framing,
-                clock,
-            },
-        ) => archive_input(alloc, input_framing, clock, reader, writer, notes),
-        Ok(Request::Merge { left, right }) => {
-            merge_files(alloc, left, right, writer, notes, files)
-        }
-        Ok(Request::Migrate { file }) => migrate_file(alloc, file, writer, notes, files),
-        Ok(Request::Send { options }) => send_text(alloc, &options, writer, notes),
+        Request::Archive {
+            input_framing,
+            clock,
+        } => archive_input(alloc, input_framing, clock, reader, writer, notes),
+        Request::Merge { left, right } => merge_files(alloc, left, right, writer, notes, files),
+        Request::Migrate { file } => migrate_file(alloc, file, writer, notes, files),
+        Request::Send { options } => send_text(alloc, &options, writer, notes),
         // only `main` has sockets
-        Ok(Request::Collect { .. }) => note(notes, b"socket fault\n", FAULT),
-        Err(WordsFault::Usage(text)) => note(notes, text.as_bytes(), FAULT),
-        Err(WordsFault::Memory) => note(notes, b"want of memory\n", NO_MEMORY),
+        Request::Collect { .. } => note(notes, b"socket fault\n", FAULT),
     }
 }

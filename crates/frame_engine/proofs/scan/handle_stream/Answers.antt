@@ -1,13 +1,15 @@
-use Rattle.std.proofs.Common.{◌∙◌, [], arith, refl, rules}
+use Rattle.std.proofs.Common.{◌∙◌, [], arith, inr, refl, rules, take}
 use Rattle.std.proofs.KnownBytes.{Appends-trans, Consumes-kept, Consumes-nil, Consumes-trans}
 use Rattle.std.proofs.lemmas.Grind.{common_steps}
 use Rattle.std.proofs.lemmas.Result.{err_from_is_err_and}
+use Rattle.syslog_value.specs.declared.loops.TheConstants.{READ_MAX}
 use Rattle.frame_engine.specs.Pending.{done_of}
 use Rattle.frame_engine.specs.Streams.{written_out}
 use Rattle.frame_engine.proofs.ScanLemmas.{streaming_more, streaming_moved, streaming_still, answered_end, answered_bad}
 use Rattle.frame_engine.proofs.ScanLemmas.{begun_streaming, begun_same, begun_flush, begun_piece, begun_bad}
 use Rattle.frame_engine.proofs.ScanLemmas.{begun_nothing}
-use Rattle.frame_engine.proofs.StopLemmas.{call_more, nothing_goes_on, stops_at, streaming_goes_on, streaming_stopped}
+use Rattle.frame_engine.proofs.StopLemmas.{call_more, call_next, came_short, nothing_goes_on, stops_at}
+use Rattle.frame_engine.proofs.StopLemmas.{streaming_goes_on, streaming_stopped}
 use Rattle.frame_engine.proofs.scan.handle_stream.Goals as goal
 
 pub returns-in_err-scanner-clause-err : goal.returns-in_err-scanner-clause-err
@@ -87,6 +89,16 @@ loop-turn-preserved g c =
       ends = grind arith;
       writes = c.in_ok-flush_due.ensures.no_failure.0 ∙ c.loop-turn.invariant.writes;
       reported = c.in_ok-flush_due.ensures.no_failure.1 ∙ c.loop-turn.invariant.reported;
+      due = λ small.
+          inr (record {
+            before = c.loop-turn.reader;
+            piece = take c.in-Ok.n c.read.new.buf;
+            call = call_next _ _ _ _ small.0 (omega (arith, c.loop-turn-test.true))
+                (c.loop-turn.invariant.calls small) c.read.ensures.calls;
+            gave = c.in-Ok.ensures.octets.0;
+            written = λ short. c.in_ok-flush_due.ensures.due
+                (came_short _ READ_MAX c.read.new.buf (omega (arith, c.in-Ok.ensures.bound)) short);
+          });
     }
 
 pub returns-clause-err : goal.returns-clause-err
@@ -196,3 +208,13 @@ returns-clause-stopped g c = λ _.
       streaming_stopped _ _ c.loop-turn.scanner _ _ _ _ _ _ _ _ (done_of c.loop-turn.done)
           i.streaming i.reading i.streaming.consumed,
     )
+
+-- ---- what is held back where the reader is called
+
+pub returns-in_default-clause-due : goal.returns-in_default-clause-due
+returns-in_default-clause-due g c = λ small is. (
+  c.loop-turn.reader,
+  call_next _ _ _ _ small.0 (omega (arith, c.loop-turn-test.true)) (c.loop-turn.invariant.calls small)
+      c.read.ensures.calls,
+  c.loop-turn.invariant.due small,
+)

@@ -1,6 +1,7 @@
 use Rattle.std.proofs.Common.{◌*◌, ◌+◌, ◌≡◌, ◌≤◌}
 use Rattle.syslog_frame.specs.Scan.{IsReading}
 use Rattle.syslog_value.specs.Device.{AreSmall}
+use Rattle.frame_engine.specs.Held.{IsCalledWrittenOut}
 use Rattle.frame_engine.specs.Pending.{done_of}
 use Rattle.frame_engine.specs.Streams.{IsStreaming}
 use Rattle.frame_engine.proofs.scan.handle_stream.Given as goal
@@ -20,4 +21,6 @@ invariant-loop-turn g l = record {
   ends : g.R.Input.ends l.reader ≡ g.R.Input.ends l.fn.reader;
   writes : g.W.Output.failures l.writer ≡ g.W.Output.failures l.fn.writer;
   reported : g.N.Output.failures l.notes ≡ g.N.Output.failures l.fn.notes;
+  due : AreSmall (g.R.Input.calls l.fn.reader) (g.R.Input.failures l.fn.reader)
+      → IsCalledWrittenOut g.R.Input.calls g.R.Input.left l.fn.reader l.reader (done_of l.done);
 }
