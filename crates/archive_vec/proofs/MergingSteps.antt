@@ -202,19 +202,20 @@ merged a b list mid new i j m mid_is new_is x =
     let whole_b : take j b ++ drop j b ≡ b = take-append-drop j b in
     let in_a : Has (take i a ++ drop i a) x → Has a x = λ h. subst (λ (l : List Entry). Has l x) whole_a h in
     let in_b : Has (take j b ++ drop j b) x → Has b x = λ h. subst (λ (l : List Entry). Has l x) whole_b h in (
-      λ h. elim (has_either mid (drop j b) x (subst (λ (l : List Entry). Has l x) new_is h)) as (λ _. Has a x ⊎ Has b x) [
-        | inl p ↦
-            elim (has_either list (drop i a) x (subst (λ (l : List Entry). Has l x) mid_is p)) as
-            (λ _. Has a x ⊎ Has b x) [
-              | inl u ↦
-                  elim ((m.members x).0 u) as (λ _. Has a x ⊎ Has b x) [
-                    | inl v ↦ inl (in_a (has_left (take i a) (drop i a) x v))
-                    | inr w ↦ inr (in_b (has_left (take j b) (drop j b) x w))
-                  ]
-              | inr v ↦ inl (in_a (has_right (take i a) (drop i a) x v))
-            ]
-        | inr q ↦ inr (in_b (has_right (take j b) (drop j b) x q))
-      ],
+      λ h. let either = has_either mid (drop j b) x (subst (λ (l : List Entry). Has l x) new_is h) in
+          elim either as (λ _. Has a x ⊎ Has b x) [
+            | inl p ↦
+                elim (has_either list (drop i a) x (subst (λ (l : List Entry). Has l x) mid_is p)) as
+                (λ _. Has a x ⊎ Has b x) [
+                  | inl u ↦
+                      elim ((m.members x).0 u) as (λ _. Has a x ⊎ Has b x) [
+                        | inl v ↦ inl (in_a (has_left (take i a) (drop i a) x v))
+                        | inr w ↦ inr (in_b (has_left (take j b) (drop j b) x w))
+                      ]
+                  | inr v ↦ inl (in_a (has_right (take i a) (drop i a) x v))
+                ]
+            | inr q ↦ inr (in_b (has_right (take j b) (drop j b) x q))
+          ],
       λ h. subst (λ (l : List Entry). Has l x) (sym new_is) (elim h as (λ _. Has (mid ++ drop j b) x) [
         | inl p ↦
             has_left mid (drop j b) x (subst (λ (l : List Entry). Has l x) (sym mid_is)

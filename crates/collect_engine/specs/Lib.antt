@@ -5,3 +5,4 @@ pub mod Ends
 pub mod Receiving
 pub mod Serving
 pub mod Collecting
+pub mod Sockets

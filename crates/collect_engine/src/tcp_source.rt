@@ -1,6 +1,8 @@
 //! Connections to a socket.
-ghost use Rattle.std.specs.Prelude.{◌≡◌, length};
-ghost use Rattle.collect_engine.specs.Steps.{IsWithin};
+ghost use Rattle.std.specs.Prelude.{◌≡◌, IsNone, length};
+ghost use Rattle.syslog_value.specs.Device.{count_on};
+ghost use Rattle.collect_engine.specs.Sockets.{IsOfConnections};
+ghost use Rattle.collect_engine.specs.Steps.{FailuresAfter, FinishesAfter, IsWithin};
 
 use crate::counts::StepCounts;
 use crate::source::Source;
@@ -14,9 +16,9 @@ use syslog_frame::Framing;
 #[derive(Drop)]
 pub struct TcpSource {
     listener: TcpListener,
-    framing: Framing,
-    left: u32,
-    stream: Option<TcpStream>,
+    pub(crate) framing: Framing,
+    pub(crate) left: u32,
+    pub(crate) stream: Option<TcpStream>,
     counts: StepCounts,
 }
 
@@ -27,6 +29,9 @@ impl TcpSource {
         ensures steps { ⟦<TcpSource as Source>⟧.steps result ≡ 0 }
         ensures failures { ⟦<TcpSource as Source>⟧.failures result ≡ 0 }
         ensures finishes { ⟦<TcpSource as Source>⟧.finishes result ≡ 0 }
+        ensures framing { result.framing ≡ framing }
+        ensures left { result.left ≡ count }
+        ensures none { IsNone result.stream }
     {
         TcpSource {
             listener,
@@ -39,8 +44,12 @@ impl TcpSource {
 
     // Waits for a connection, if one is still asked for.
     fn accept(&mut self) -> Step
+        requires { IsNone self.old.stream }
         ensures counts { self.new.counts ≡ self.old.counts }
         ensures within { IsWithin 0 result }
+        ensures framing { self.new.framing ≡ self.old.framing }
+        ensures left { IsOfConnections self.old.framing self.old.left self.new.left
+            self.old.stream self.new.stream result }
     {
         let Some(left) = self.left.checked_sub(1) else {
             return Step::Finished;
@@ -57,6 +66,9 @@ impl TcpSource {
     fn receive(&mut self, buf: &mut [u8]) -> Step
         ensures within { IsWithin (length buf.new) result }
         ensures counts { self.new.counts ≡ self.old.counts }
+        ensures framing { self.new.framing ≡ self.old.framing }
+        ensures left { IsOfConnections self.old.framing self.old.left self.new.left
+            self.old.stream self.new.stream result }
     {
         let Some(stream) = &mut self.stream else {
             return self.accept();
@@ -83,7 +95,17 @@ impl Source for TcpSource {
 
     ghost coming = { λ _. None };
 
-    fn next(&mut self, buf: &mut [u8]) -> Step {
+    fn next(&mut self, buf: &mut [u8]) -> Step
+        ensures bound { IsWithin (length buf.new) result }
+        ensures steps { self.new.counts.steps ≡ count_on self.old.counts.steps }
+        ensures failures { FailuresAfter result self.old.counts.failures self.new.counts.failures }
+        ensures finishes { FinishesAfter result self.old.counts.finishes self.new.counts.finishes }
+
+        // a connection while one is asked for, octets and the end of the open one, and then the end
+        ensures framing { self.new.framing ≡ self.old.framing }
+        ensures left { IsOfConnections self.old.framing self.old.left self.new.left
+            self.old.stream self.new.stream result }
+    {
         let step = self.receive(buf);
         self.counts.count(step);
         step

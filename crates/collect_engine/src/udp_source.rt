@@ -1,6 +1,8 @@
 //! Datagrams from a socket.
 ghost use Rattle.std.specs.Prelude.{◌≡◌, length};
-ghost use Rattle.collect_engine.specs.Steps.{IsWithin};
+ghost use Rattle.syslog_value.specs.Device.{count_on};
+ghost use Rattle.collect_engine.specs.Sockets.{IsOfDatagrams};
+ghost use Rattle.collect_engine.specs.Steps.{FailuresAfter, FinishesAfter, IsWithin};
 
 use crate::counts::StepCounts;
 use crate::source::Source;
@@ -11,7 +13,7 @@ use std::net::UdpSocket;
 #[derive(Drop)]
 pub struct UdpSource {
     socket: UdpSocket,
-    left: u32,
+    pub(crate) left: u32,
     counts: StepCounts,
 }
 
@@ -21,6 +23,7 @@ impl UdpSource {
         ensures steps { ⟦<UdpSource as Source>⟧.steps result ≡ 0 }
         ensures failures { ⟦<UdpSource as Source>⟧.failures result ≡ 0 }
         ensures finishes { ⟦<UdpSource as Source>⟧.finishes result ≡ 0 }
+        ensures left { result.left ≡ count }
     {
         UdpSource {
             socket,
@@ -33,6 +36,7 @@ impl UdpSource {
     fn receive(&mut self, buf: &mut [u8]) -> Step
         ensures within { IsWithin (length buf.new) result }
         ensures counts { self.new.counts ≡ self.old.counts }
+        ensures left { IsOfDatagrams self.old.left self.new.left result }
     {
         let Some(left) = self.left.checked_sub(1) else {
             return Step::Finished;
@@ -56,7 +60,15 @@ impl Source for UdpSource {
 
     ghost coming = { λ _. None };
 
-    fn next(&mut self, buf: &mut [u8]) -> Step {
+    fn next(&mut self, buf: &mut [u8]) -> Step
+        ensures bound { IsWithin (length buf.new) result }
+        ensures steps { self.new.counts.steps ≡ count_on self.old.counts.steps }
+        ensures failures { FailuresAfter result self.old.counts.failures self.new.counts.failures }
+        ensures finishes { FinishesAfter result self.old.counts.finishes self.new.counts.finishes }
+
+        // a datagram while one is asked for, and then the end
+        ensures left { IsOfDatagrams self.old.left self.new.left result }
+    {
         let step = self.receive(buf);
         self.counts.count(step);
         step

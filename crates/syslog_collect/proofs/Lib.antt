@@ -10,6 +10,7 @@ pub mod Waiting
 pub mod Taking
 pub mod Headline
 pub mod Pieces
+pub mod Between
 pub mod EventRuns
 pub mod Logging
 pub mod Stopping

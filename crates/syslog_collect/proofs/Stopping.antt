@@ -25,16 +25,19 @@ use Rattle.syslog_collect.specs.declared.fault.CollectFault.TheVariants.{Memory}
 use Rattle.syslog_collect.specs.declared.outcome.Outcome.{Outcome}
 use Rattle.syslog_collect.specs.declared.outcome.Outcome.TheVariants.{New, Held, Refused, RefusedLegacy, TooLong}
 use Rattle.syslog_collect.specs.declared.outcome.Outcome.TheVariants.{BadCount}
-use Rattle.syslog_collect.specs.Answers.{Advances, ComesInTurn, IfMemory, IfUnreleased, IsBadCount, IsCause, IsEnding}
-use Rattle.syslog_collect.specs.Answers.{IsOpening, ReportsBadCount, accepted_count}
+use Rattle.syslog_collect.specs.Answers.{Advances, ComesInTurn, EndsFrameOf, IfMemory, IfUnreleased, IsBadCount}
+use Rattle.syslog_collect.specs.Answers.{IsCause, IsEnding, IsOpening, IsTaken, IsWholeWith, ReportsBadCount}
+use Rattle.syslog_collect.specs.Answers.{accepted_count}
 use Rattle.syslog_collect.specs.History.{AcceptedEvent, History, HoldsBadCount, Stream, accept, history_after}
 use Rattle.syslog_collect.specs.History.{history_of, stream_of, with_octets}
 use Rattle.syslog_collect.specs.Logs.{ready_count, waiting}
 use Rattle.syslog_collect.specs.Outcomes.{IsRecordFrame, outcomes_of}
 use Rattle.syslog_collect.specs.Runs.{IfDone, Logs, accepted_all, accepted_event, event_end, piece_octets, used_before}
 use Rattle.syslog_collect.specs.Standing.{IsAt, Stands}
-use Rattle.syslog_collect.specs.Stops.{EndWell, EndsWell, IfStopped, IsPieceCause, IsPieceRefusal, MayGoOn, StopsAs}
-use Rattle.syslog_collect.specs.Stops.{StopsAt, StopsAtFirst, StopsPiece}
+use Rattle.syslog_collect.specs.Stops.{EndWell, EndsWell, IfStopped, IsBetween, IsBetweenAt, IsPieceCause}
+use Rattle.syslog_collect.specs.Stops.{IsPieceRefusal, MayGoOn, StopsAs, StopsAt, StopsAtFirst, StopsPiece}
+use Rattle.syslog_collect.specs.Stops.{StopsPieceAt, StopsStep}
+use Rattle.syslog_collect.proofs.Between.{before_step, between_at, between_kept, ends_of, frame_of_rest, whole_on}
 use Rattle.syslog_collect.proofs.EventRuns.{with_octets_none}
 use Rattle.syslog_collect.proofs.Pieces.{accepted_used, taken_on, with_octets_twice}
 use Rattle.syslog_collect.proofs.Places.{found_here, opening_at, place_from}
@@ -43,22 +46,26 @@ use Rattle.syslog_collect.proofs.Waiting.{place_set, waiting_at}
 -- ---- one step of a piece
 
 -- an advance that was refused
-pub step_cause : (clock : Clock) (rest : List ℕ) (used : ℕ) (phase : Phase) (fault : CollectFault) (s : Stream)
-    → used ≡ used_before fault → IsCause clock rest (Err fault) s
-    → IfMemory {A = Advance} (Err fault) (phase ≡ phase_Ended)
-    → IsPieceCause clock rest used (ready_count phase) fault s
-step_cause clock rest used phase (Memory n) s is cause frame = (
-  subst (λ (k : ℕ). IsCause clock rest (Err (Memory k)) s) (sym is) cause,
-  omega arith,
-  ap (λ (p : Phase). ready_count p) frame,
-)
-step_cause clock rest used phase ConnFailed s is cause frame = (cause, is)
-step_cause clock rest used phase StreamTooLong s is cause frame = (cause, is)
-step_cause clock rest used phase NotOpen s is cause frame = absurd cause
-step_cause clock rest used phase AlreadyOpen s is cause frame = absurd cause
-step_cause clock rest used phase TooManyOpen s is cause frame = absurd cause
-step_cause clock rest used phase Unreleased s is cause frame = absurd cause
-step_cause clock rest used phase (Unterminated start) s is cause frame = absurd cause
+pub step_cause : (clock : Clock) (rest : List ℕ) (used waited : ℕ) (phase : Phase) (fault : CollectFault) (s : Stream)
+    → used ≡ used_before fault → used ≤ length rest → IsCause clock rest (Err fault) s
+    → IfMemory {A = Advance} (Err fault) (phase ≡ phase_Ended) → IsTaken rest waited (Err fault) s
+    → StopsStep clock rest used waited (ready_count phase) fault s
+step_cause clock rest used waited phase (Memory n) s is le cause frame taken =
+    inr (
+      (
+        subst (λ (k : ℕ). IsCause clock rest (Err (Memory k)) s) (sym is) cause,
+        subst (λ (k : ℕ). EndsFrameOf (take k rest) n s) (sym is) (ends_of rest n s (omega (arith, is)) taken.1),
+        ap (λ (p : Phase). ready_count p) frame,
+      ),
+      omega (arith, is, taken.2),
+    )
+step_cause clock rest used waited phase ConnFailed s is le cause frame taken = inr ((cause, is), tt)
+step_cause clock rest used waited phase StreamTooLong s is le cause frame taken = inr ((cause, is), tt)
+step_cause clock rest used waited phase NotOpen s is le cause frame taken = absurd cause
+step_cause clock rest used waited phase AlreadyOpen s is le cause frame taken = absurd cause
+step_cause clock rest used waited phase TooManyOpen s is le cause frame taken = absurd cause
+step_cause clock rest used waited phase Unreleased s is le cause frame taken = absurd cause
+step_cause clock rest used waited phase (Unterminated start) s is le cause frame taken = absurd cause
 
 unmarked : (o : Option Outcome) (t : Stream) → ¬ (IsBadCount o) → ReportsBadCount (outcomes_of o) t
     → ¬ (HoldsBadCount t)
@@ -119,48 +126,62 @@ lengths s p n le = omega (
 )
 
 -- a cause of the rest of a piece is one of the piece
-of_rest : (clock : Clock) (p : List ℕ) (n m waits : ℕ) (fault : CollectFault) (s : Stream) → n ≤ length p
-    → (take n p ≡ []) ⊎ ¬ (HoldsBadCount s) → MayGoOn p n s
+of_rest : (clock : Clock) (p : List ℕ) (n m waited waits : ℕ) (fault : CollectFault) (s : Stream) → n ≤ length p
+    → m ≤ length (take (length p - n) (drop n p)) → (take n p ≡ []) ⊎ ¬ (HoldsBadCount s) → MayGoOn p n s
+    → IsBetween p n waited s → IfMemory {A = Unit {0}} (Err fault) (0 < waited + m)
     → IsPieceCause clock (take (length p - n) (drop n p)) m waits fault (with_octets s (take n p))
     → IsPieceCause clock p (n + m) waits fault s
-of_rest clock p n m waits (Memory k) s le was may ((good, (frames, f, are, spelled)), lt, one) =
+of_rest clock p n m waited waits (Memory k) s le lt was may between some
+    ((good, (frames, f, are, spelled)), ends, one) =
     let before : ¬ (HoldsBadCount s) = elim was
     [ inl none ↦ of_none (λ (t : Stream). ¬ (HoldsBadCount t)) s (take n p) none good | inr sound ↦ sound ] in
     let same = append_assoc s.octets (take n p) (take m (take (length p - n) (drop n p)))
     ∙ ap (λ (u : List ℕ). s.octets ++ u) (taken_on p n m) in (
       (before, (frames, f, subst (λ (u : List ℕ). Frames s.framing u (frames ++ f ∷ []) []) same are, spelled)),
-      omega arith,
+      frame_of_rest p n m k s le lt (before_step p n m waited s between some) ends,
       one,
     )
-of_rest clock p n m waits ConnFailed s le was (inl none) (cause, zero_here) =
+of_rest clock p n m waited waits ConnFailed s le lt was (inl none) between some (cause, zero_here) =
     (of_none (λ (t : Stream). HoldsBadCount t) s (take n p) (take_none n p none) cause, omega arith)
-of_rest clock p n m waits ConnFailed s le was (inr (good, fits)) (cause, zero_here) = absurd (good cause)
-of_rest clock p n m waits StreamTooLong s le was (inl none) ((good, long), zero_here) = (
+of_rest clock p n m waited waits ConnFailed s le lt was (inr (good, fits)) between some (cause, zero_here) =
+    absurd (good cause)
+of_rest clock p n m waited waits StreamTooLong s le lt was (inl none) between some ((good, long), zero_here) = (
   (
     of_none (λ (t : Stream). ¬ (HoldsBadCount t)) s (take n p) (take_none n p none) good,
     omega (arith, lengths s p n le, long),
   ),
   omega arith,
 )
-of_rest clock p n m waits StreamTooLong s le was (inr (good, fits)) ((still, long), zero_here) =
-    absurd (omega (arith, lengths s p n le, long, fits))
-of_rest clock p n m waits NotOpen s le was may cause = absurd cause
-of_rest clock p n m waits AlreadyOpen s le was may cause = absurd cause
-of_rest clock p n m waits TooManyOpen s le was may cause = absurd cause
-of_rest clock p n m waits Unreleased s le was may cause = absurd cause
-of_rest clock p n m waits (Unterminated start) s le was may cause = absurd cause
+of_rest clock p n m waited waits StreamTooLong s le lt was (inr (good, fits)) between some
+    ((still, long), zero_here) = absurd (omega (arith, lengths s p n le, long, fits))
+of_rest clock p n m waited waits NotOpen s le lt was may between some cause = absurd cause
+of_rest clock p n m waited waits AlreadyOpen s le lt was may between some cause = absurd cause
+of_rest clock p n m waited waits TooManyOpen s le lt was may between some cause = absurd cause
+of_rest clock p n m waited waits Unreleased s le lt was may between some cause = absurd cause
+of_rest clock p n m waited waits (Unterminated start) s le lt was may between some cause = absurd cause
 
-pub piece_stops : (clock : Clock) (x y : Connection) (a b : List Entry) (p : List ℕ) (n m waits : ℕ)
+pub piece_stops : (clock : Clock) (x y : Connection) (a b : List Entry) (p : List ℕ) (n m waited waits : ℕ)
     (fault : CollectFault) (l k : List Outcome) (s : Stream) (d : List (List ℕ)) → n ≤ length p
-    → IsAt x s d → Logs clock x y a b (take n p) l k s d → MayGoOn p n s
+    → m ≤ length (take (length p - n) (drop n p)) → IsAt x s d → Logs clock x y a b (take n p) l k s d
+    → MayGoOn p n s → IsBetween p n waited s
     → ((t : Stream) (e : List (List ℕ)) → IsAt y t e
-    → StopsPiece clock (take (length p - n) (drop n p)) m waits fault t) → StopsPiece clock p (n + m) waits fault s
-piece_stops clock x y a b p n m waits fault l k s d le at logs may cause =
+    → StopsStep clock (take (length p - n) (drop n p)) m waited waits fault t)
+    → StopsPiece clock p (n + m) waits fault s
+piece_stops clock x y a b p n m waited waits fault l k s d le lt at logs may between cause =
     let there = reached clock x y a b (take n p) l k s d at logs in
     elim (cause (with_octets s (take n p)) there.0 there.1) [
-      | inl room ↦ inl room
-      | inr why ↦ inr (of_rest clock p n m waits fault s le there.2 may why)
+      | inl (room, none, same) ↦ inl (room, between_kept p n m waited waits s none same between)
+      | inr (why, some) ↦ inr (of_rest clock p n m waited waits fault s le lt there.2 may between some why)
     ]
+
+-- a step that goes on ends a frame
+pub piece_between : (clock : Clock) (x y : Connection) (a b : List Entry) (p : List ℕ) (n m : ℕ) (l k : List Outcome)
+    (s : Stream) (d : List (List ℕ)) (waits : ℕ) → waits ≡ 0 → IsAt x s d → Logs clock x y a b (take n p) l k s d
+    → ((t : Stream) (e : List (List ℕ)) → IsAt y t e → IsWholeWith (take m (take (length p - n) (drop n p))) t)
+    → IsBetween p (n + m) waits s
+piece_between clock x y a b p n m l k s d waits quiet at logs next =
+    let there = reached clock x y a b (take n p) l k s d at logs in
+    inr (quiet, whole_on p n m s (next (with_octets s (take n p)) there.0 there.1))
 
 pub piece_goes_on : (clock : Clock) (x y : Connection) (a b : List Entry) (p : List ℕ) (n m : ℕ) (l k : List Outcome)
     (s : Stream) (d : List (List ℕ)) → n ≤ length p
@@ -205,9 +226,8 @@ pub piece_refused : (clock : Clock) (c n : ℕ) (x y : Connection) (ls : List Co
     → ((s : Stream) (d : List (List ℕ)) → IsAt x s d → Logs clock x y kept now (piece_octets o r) l m s d)
     → ((s : Stream) (d : List (List ℕ)) → IsAt x s d
     → IfStopped r (λ taken fault. StopsPiece clock o taken (ready_count y.scanner.phase) fault s))
-    → Stands clock ls kept first es → IfStopped r
-    (λ taken fault. (fault ≡ Memory 0) ⊎ IsPieceRefusal clock c o taken (waiting (set_at ls n y) c) fault
-    (history_of es))
+    → Stands clock ls kept first es
+    → IfStopped r (λ taken fault. StopsPieceAt clock c o taken (waiting (set_at ls n y) c) fault (history_of es))
 piece_refused clock c n x y ls kept now first es o end_Done l m is item logs cause was = tt
 piece_refused clock c n x y ls kept now first es o (end_Stopped taken fault) l m is item logs cause was =
     let here = found_here c n x ls is item in
@@ -217,7 +237,12 @@ piece_refused clock c n x y ls kept now first es o (end_Stopped taken fault) l m
     let number : y.number ≡ x.number = then.1.number ∙ sym there.at.number in
     let one = waiting_at c n y (set_at ls n y) (place_set c n x y ls number here) in
     elim (cause there.opening there.handled there.at) [
-      | inl room ↦ inl room
+      | inl (room, between) ↦
+          inl (
+            room,
+            subst (λ (k : ℕ). IsBetweenAt c o taken k (history_of es)) (sym one)
+                (between_at c o taken (ready_count y.scanner.phase) (history_of es) there.opening there.is between),
+          )
       | inr why ↦
           inr (subst (λ (k : ℕ). IsPieceRefusal clock c o taken k fault (history_of es)) (sym one)
           (refused_at clock c o taken (ready_count y.scanner.phase) fault (history_of es) there.opening there.is why))
@@ -240,7 +265,7 @@ ending_refused clock h w v c (Err fault) cause ready same =
 
 pub piece_event_refused : (clock : Clock) (h : History) (w : ℕ → ℕ) (c : ℕ) (o : Bor (List ℕ)) (r : EventEnd)
     → IfStopped r (λ taken fault. taken ≤ length o.now)
-    → IfStopped r (λ taken fault. (fault ≡ Memory 0) ⊎ IsPieceRefusal clock c o.now taken (w c) fault h)
+    → IfStopped r (λ taken fault. StopsPieceAt clock c o.now taken (w c) fault h)
     → IfStopped r (StopsAt clock h w (event_Piece c o))
 piece_event_refused clock h w c o end_Done within cause = tt
 piece_event_refused clock h w c o (end_Stopped taken fault) within cause = (within, cause)

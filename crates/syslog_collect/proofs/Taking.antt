@@ -1,7 +1,7 @@
 -- How much of a piece an advance takes.
-use Rattle.std.proofs.Common.{◌≡◌, ℕ, ◌+◌, ◌<◌, List, [], ◌∷◌, ◌++◌, length, get_or, take, inl, inr, sym, ap, subst}
-use Rattle.std.proofs.Common.{◌∙◌, arith}
-use Rattle.std.proofs.lemmas.List.{length-append}
+use Rattle.std.proofs.Common.{◌≡◌, ℕ, zero, suc, ◌+◌, ◌<◌, List, [], ◌∷◌, ◌++◌, length, get_or, take, inl}
+use Rattle.std.proofs.Common.{inr, sym, ap, subst, ◌∙◌, arith}
+use Rattle.std.proofs.lemmas.List.{append-nil, length-append}
 use Rattle.std.specs.Prelude.{◌⊎◌, Option, Some, None, Result, IfSome}
 use Rattle.syslog_frame.specs.Scan.{Scan, HasBadCount, HasReady, IsFailed, IsReading, Stands as scanner_Stands}
 use Rattle.syslog_frame.specs.Frames.{framed}
@@ -10,6 +10,7 @@ use Rattle.syslog_frame.specs.declared.framing.Framing.{Framing}
 use Rattle.syslog_frame.specs.declared.limits.TheConstants.{FRAME_MAX, POSITION_MAX}
 use Rattle.syslog_frame.specs.declared.phase.Phase.{Phase}
 use Rattle.syslog_frame.specs.declared.phase.Phase.TheVariants.{Ended, BadCount as phase_BadCount, Failed}
+use Rattle.syslog_frame.proofs.Calls.{none_unless_frame}
 use Rattle.syslog_frame.proofs.Reading.{frames_with}
 use Rattle.archive_text.specs.Entries.{Entry}
 use Rattle.syslog_legacy.specs.FrameReadings.{Clock}
@@ -110,6 +111,23 @@ ends_frame clock c mid s handled piece n p record_ready at =
       frames_with FRAME_MAX mid s.framing 0 (s.octets ++ take n piece) handled (here.rest ++ take n piece) f.0 on f.1,
       omega (arith, all),
     )
+
+-- where a frame is ready, one waited or an octet was taken
+pub some_taken : (clock : Clock) (c : Connection) (mid : Scan) (s : Stream) (handled : List (List ℕ))
+    (piece : List ℕ) (n : ℕ) → IsPushed c.scanner mid piece n → HasRecord clock mid → IsAt c s handled
+    → 0 < ready_count c.scanner.phase + n
+some_taken clock c mid s handled piece zero p record_ready at =
+    let here = open_unless_failed c s handled p.live at in
+    elim (ended_or_not c.scanner.phase) [
+      | inl frame ↦ omega (arith, ap (λ (phase : Phase). ready_count phase) frame)
+      | inr other ↦
+          let on = (p.reads s.framing 0 s.octets handled here.rest here.reads here.good).reads in
+          let f = record_ready s.framing 0 (s.octets ++ take zero piece) handled (here.rest ++ take zero piece) on in
+          absurd (none_unless_frame FRAME_MAX c.scanner s.framing (0 + length s.octets) here.rest other
+          here.reads.stands (here.rest ++ []) [] (sym (append-nil (here.rest ++ []) ∙ append-nil here.rest))
+          (f.0, f.1))
+    ]
+some_taken clock c mid s handled piece (suc n) p record_ready at = omega arith
 
 -- what is taken at the connection that was found
 pub taken_found : (clock : Clock) (c n : ℕ) (x : Connection) (ls : List Connection) (kept first : List Entry)

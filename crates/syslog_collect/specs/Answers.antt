@@ -1,5 +1,5 @@
 -- What the collector's calls accept, by their answers.
-use Rattle.std.specs.Prelude.{◌≡◌, ◌⊎◌, ℕ, ◌+◌, ◌<◌, ◌≤◌, List, [], ◌∷◌, ◌++◌, length, take}
+use Rattle.std.specs.Prelude.{◌≡◌, ◌⊎◌, ℕ, ◌+◌, ◌<◌, ◌≤◌, List, [], ◌∷◌, ◌++◌, length, min, take}
 use Rattle.std.specs.Prelude.{Option, Some, None, Result, Ok, Err, IsSome, IsSomeAnd}
 use Rattle.syslog_frame.specs.Frames.{Frames, IsBadAt, framed}
 use Rattle.syslog_frame.specs.declared.framing.Framing.{Framing}
@@ -155,10 +155,17 @@ StopsRight piece n (Some (RefusedLegacy offset)) s = IsWholeWith (take n piece) 
 StopsRight piece n (Some TooLong) s = IsWholeWith (take n piece) s
 StopsRight piece n (Some (BadCount at)) s = at ≡ length s.octets + n
 
--- how much of a piece an advance takes at an opening where so many frames wait
+-- with octets more an opening is whole frames, and n of the octets are of the last one: all, where it began before them
+abbrev pub EndsFrameOf : List ℕ → ℕ → Stream → Type 0
+EndsFrameOf o n s = (frames : List (List ℕ)) × (f : List ℕ)
+    × Frames s.framing (s.octets ++ o) (frames ++ f ∷ []) [] × (n ≡ min (length o) (length (framed s.framing f)))
+
+-- how much of a piece an advance takes at an opening where so many frames wait; where memory is refused, a frame waited
+-- or an octet was taken
 abbrev pub IsTaken : List ℕ → ℕ → Result Advance CollectFault → Stream → Type 0
 IsTaken piece waits (Ok a) s = ComesInTurn piece waits a.used s × StopsRight piece a.used a.outcome s
-IsTaken piece waits (Err (Memory n)) s = ComesInTurn piece waits n s × EndsFrameWith (take n piece) s
+IsTaken piece waits (Err (Memory n)) s =
+    ComesInTurn piece waits n s × EndsFrameWith (take n piece) s × (0 < waits + n)
 IsTaken piece waits (Err StreamTooLong) s = waits ≡ 0
 IsTaken piece waits (Err ConnFailed) s = Unit {0}
 IsTaken piece waits (Err NotOpen) s = Unit {0}

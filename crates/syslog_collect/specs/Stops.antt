@@ -15,16 +15,18 @@ use Rattle.syslog_collect.specs.declared.fault.CollectFault.TheVariants.{StreamT
 use Rattle.syslog_collect.specs.declared.fault.CollectFault.TheVariants.{Memory}
 use Rattle.syslog_collect.specs.declared.piece.Step.{Step}
 use Rattle.syslog_collect.specs.declared.piece.Step.TheVariants.{Stopped as step_Stopped, Ended as step_Ended, On}
-use Rattle.syslog_collect.specs.Answers.{EndsWhole, IfUnreleased, IsCause, IsEnding, IsOpening}
+use Rattle.syslog_collect.specs.Answers.{EndsFrameOf, EndsWhole, IfMemory, IfUnreleased, IsCause, IsEnding, IsOpening}
+use Rattle.syslog_collect.specs.Answers.{IsWholeWith}
 use Rattle.syslog_collect.specs.History.{History, HoldsBadCount, Stream, accept, history_after, stream_of, with_octets}
 use Rattle.syslog_collect.specs.Outcomes.{IsRecordFrame}
 use Rattle.syslog_collect.specs.Runs.{accepted_all, accepted_event}
 
 -- why a piece is refused at an opening, so many of its octets being taken, where so many frames wait then: memory is
--- refused for the record of the frame that they complete, which waits; any other cause is there before the first octet
+-- refused for the record of the frame that they complete, which waits, and n of them are of that frame; any other cause
+-- is there before the first octet
 abbrev pub IsPieceCause : Clock → List ℕ → ℕ → ℕ → CollectFault → Stream → Type 0
 IsPieceCause clock piece taken waits (Memory n) s =
-    IsCause clock piece (Err (Memory taken)) s × (n ≤ taken) × (waits ≡ 1)
+    IsCause clock piece (Err (Memory taken)) s × EndsFrameOf (take taken piece) n s × (waits ≡ 1)
 IsPieceCause clock piece taken waits ConnFailed s = IsCause clock piece (Err ConnFailed) s × (taken ≡ 0)
 IsPieceCause clock piece taken waits StreamTooLong s = IsCause clock piece (Err StreamTooLong) s × (taken ≡ 0)
 IsPieceCause clock piece taken waits NotOpen s = ⊥
@@ -48,8 +50,7 @@ IsPieceRefusal clock c piece taken waits Unreleased h = ⊥
 IsPieceRefusal clock c piece taken waits (Unterminated start) h = ⊥
 
 -- why the call for an event is refused after a history, so many octets of a piece being taken; w tells how many frames
--- of
--- each number wait then
+-- of each number wait then
 abbrev pub IsRefusal : Clock → History → (ℕ → ℕ) → Event → ℕ → CollectFault → Type 0
 IsRefusal clock h w (event_Opened c k) taken fault = IsOpening {U = Unit {0}} c (Err fault) h
 IsRefusal clock h w (event_Piece c o) taken fault = IsPieceRefusal clock c o.now taken (w c) fault h
@@ -64,12 +65,24 @@ octets_of (event_Piece c o) = o.now
 octets_of (event_Ended c) = []
 octets_of (event_Datagram o) = []
 
--- an event is refused after a history, so many octets of a piece being taken: the log has no room for an outcome; or
--- its
--- call is refused
+-- so many octets of a number's piece were taken, where so many frames wait then: none; or they end a frame, and none
+-- waits
+abbrev pub IsBetweenAt : ℕ → List ℕ → ℕ → ℕ → History → Type 0
+IsBetweenAt c piece taken waits h =
+    (taken ≡ 0) ⊎ ((waits ≡ 0) × IsSomeAnd (stream_of c h.streams) (IsWholeWith (take taken piece)))
+
+-- of an event
+abbrev pub IsBetweenFrames : History → (ℕ → ℕ) → Event → ℕ → Type 0
+IsBetweenFrames h w (event_Opened c k) taken = taken ≡ 0
+IsBetweenFrames h w (event_Piece c o) taken = IsBetweenAt c o.now taken (w c) h
+IsBetweenFrames h w (event_Ended c) taken = taken ≡ 0
+IsBetweenFrames h w (event_Datagram o) taken = taken ≡ 0
+
+-- an event is refused after a history, so many octets of a piece being taken: the log has no room for an outcome,
+-- between frames; or the event's call is refused
 abbrev pub StopsAt : Clock → History → (ℕ → ℕ) → Event → ℕ → CollectFault → Type 0
-StopsAt clock h w e taken fault =
-    (taken ≤ length (octets_of e)) × ((fault ≡ Memory 0) ⊎ IsRefusal clock h w e taken fault)
+StopsAt clock h w e taken fault = (taken ≤ length (octets_of e))
+    × (((fault ≡ Memory 0) × IsBetweenFrames h w e taken) ⊎ IsRefusal clock h w e taken fault)
 
 -- the first of the events is
 abbrev pub StopsAtFirst : Clock → History → (ℕ → ℕ) → List Event → ℕ → CollectFault → Type 0
@@ -112,9 +125,26 @@ abbrev pub IfStopped : EventEnd → (ℕ → CollectFault → Type 0) → Type 0
 IfStopped end_Done P = Unit {0}
 IfStopped (end_Stopped taken fault) P = P taken fault
 
--- a piece of an opening is refused: the log has no room; or there is a cause
+-- so many octets of an opening's piece were taken, where so many frames wait then: none; or they end a frame, and none
+-- waits
+abbrev pub IsBetween : List ℕ → ℕ → ℕ → Stream → Type 0
+IsBetween piece taken waits s = (taken ≡ 0) ⊎ ((waits ≡ 0) × IsWholeWith (take taken piece) s)
+
+-- a piece of an opening is refused: the log has no room, between frames; or there is a cause
 abbrev pub StopsPiece : Clock → List ℕ → ℕ → ℕ → CollectFault → Stream → Type 0
-StopsPiece clock piece taken waits fault s = (fault ≡ Memory 0) ⊎ IsPieceCause clock piece taken waits fault s
+StopsPiece clock piece taken waits fault s =
+    ((fault ≡ Memory 0) × IsBetween piece taken waits s) ⊎ IsPieceCause clock piece taken waits fault s
+
+-- a step of a piece is refused where so many frames waited: the log has no room, and nothing was taken; or there is a
+-- cause, and where it is want of memory, a frame waited or an octet was taken
+abbrev pub StopsStep : Clock → List ℕ → ℕ → ℕ → ℕ → CollectFault → Stream → Type 0
+StopsStep clock rest used waited waits fault s = ((fault ≡ Memory 0) × (used ≡ 0) × (waits ≡ waited))
+    ⊎ (IsPieceCause clock rest used waits fault s × IfMemory {A = Unit {0}} (Err fault) (0 < waited + used))
+
+-- a piece of a number is refused after a history: the log has no room, between frames; or there is a cause
+abbrev pub StopsPieceAt : Clock → ℕ → List ℕ → ℕ → ℕ → CollectFault → History → Type 0
+StopsPieceAt clock c piece taken waits fault h =
+    ((fault ≡ Memory 0) × IsBetweenAt c piece taken waits h) ⊎ IsPieceRefusal clock c piece taken waits fault h
 
 -- where octets of a piece were taken, they hold no bad count, and the piece is not too long for its opening
 abbrev pub MayGoOn : List ℕ → ℕ → Stream → Type 0

@@ -1,14 +1,15 @@
 //! A piece of a connection, to its end.
 
-ghost use Rattle.std.specs.Prelude.{◌≡◌, ◌++◌, ◌<◌, ◌≤◌, ◌⊎◌, ◌↔◌, ℕ, List, IsTrue, length, vec_capacity, vec_len};
-ghost use Rattle.syslog_collect.specs.Answers.{IsBadCount};
+ghost use Rattle.std.specs.Prelude.{◌≡◌, ◌++◌, ◌<◌, ◌≤◌, ◌⊎◌, ◌↔◌, ℕ, List, IsTrue, length, take};
+ghost use Rattle.std.specs.Prelude.{vec_capacity, vec_len};
+ghost use Rattle.syslog_collect.specs.Answers.{IsBadCount, IsWholeWith};
 ghost use Rattle.syslog_collect.specs.History.{Stream};
 ghost use Rattle.syslog_collect.specs.Outcomes.{outcomes_of};
 ghost use Rattle.syslog_collect.specs.Runs.{IfAccepted, IfDone, IsStepWithin, Logs, LogsAdvance, OnGoing};
 ghost use Rattle.syslog_collect.specs.Runs.{piece_octets, step_octets, used_before};
 ghost use Rattle.syslog_collect.specs.Logs.{ready_count};
 ghost use Rattle.syslog_collect.specs.Standing.{IsAt};
-ghost use Rattle.syslog_collect.specs.Stops.{IfStopped, MayGoOn, OnStopped, StopsPiece};
+ghost use Rattle.syslog_collect.specs.Stops.{IfStopped, MayGoOn, OnStopped, StopsPiece, StopsStep};
 ghost use Rattle.syslog_frame.specs.Scan.{HasReady};
 
 use crate::advancing::advance_connection;
@@ -76,9 +77,11 @@ fn take_step<S: Store>(
         (S.entries store.new) (step_octets rest.now result) log.old.items log.new.items s handled) }
     ensures goes_on { (s : Stream) (handled : List (List ℕ)) → IsAt connection.old s handled
         → OnGoing result (λ used. MayGoOn rest.now used s) }
+    ensures whole { (s : Stream) (handled : List (List ℕ)) → IsAt connection.old s handled
+        → OnGoing result (λ used. IsWholeWith (take used rest.now) s) }
     ensures cause { (s : Stream) (handled : List (List ℕ)) → IsAt connection.old s handled
-        → OnStopped result (λ used fault. StopsPiece clock rest.now used
-        (ready_count connection.new.scanner.phase) fault s) }
+        → OnStopped result (λ used fault. StopsStep clock rest.now used
+        (ready_count connection.old.scanner.phase) (ready_count connection.new.scanner.phase) fault s) }
 {
     if log.reserve(1).is_err() {
         let fault = CollectFault::Memory { used: 0 };

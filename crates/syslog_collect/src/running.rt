@@ -1,6 +1,6 @@
 //! A run of a collector over a list of events.
 
-ghost use Rattle.std.specs.Prelude.{◌≡◌, ◌⊎◌, ◌++◌, ◌<◌, ◌≤◌, ◌+◌, List, length, vec_capacity, vec_len};
+ghost use Rattle.std.specs.Prelude.{◌≡◌, ◌++◌, ◌<◌, ◌≤◌, ◌+◌, List, length, vec_capacity, vec_len};
 ghost use Rattle.archive_text.specs.Entries.{Entry};
 ghost use Rattle.syslog_collect.specs.Headline.{IsSettled};
 ghost use Rattle.syslog_collect.specs.History.{AcceptedEvent, history_of};
@@ -10,7 +10,7 @@ ghost use Rattle.syslog_collect.specs.Outcomes.{IsRecordFrame};
 ghost use Rattle.syslog_collect.specs.Runs.{IfAllDone, IfDone, accepted_by, accepted_datagram_end};
 ghost use Rattle.syslog_collect.specs.Runs.{accepted_piece_end, accepted_run, event_end};
 ghost use Rattle.syslog_collect.specs.Standing.{Stands};
-ghost use Rattle.syslog_collect.specs.Stops.{EndWell, EndsWell, IfStopped, IsPieceRefusal, StopsAs, StopsAt};
+ghost use Rattle.syslog_collect.specs.Stops.{EndWell, EndsWell, IfStopped, StopsAs, StopsAt, StopsPieceAt};
 ghost use Rattle.syslog_collect.specs.Stops.{done_events};
 ghost use Rattle.syslog_collect.specs.declared.fault.CollectFault.TheVariants.{Memory};
 
@@ -50,8 +50,7 @@ impl<S: Store> Collector<S> {
         ensures within { IfStopped result (λ taken fault. taken ≤ length octets.now) }
         ensures cause { (first : List Entry) (events : List AcceptedEvent)
             → Stands self.old.clock self.old.connections.items (S.entries self.old.store) first events
-            → IfStopped result (λ taken fault. (fault ≡ Memory 0)
-            ⊎ IsPieceRefusal self.old.clock conn octets.now taken
+            → IfStopped result (λ taken fault. StopsPieceAt self.old.clock conn octets.now taken
             (waiting self.new.connections.items conn) fault (history_of events)) }
     {
         match place(&self.connections, conn) {
@@ -139,8 +138,10 @@ impl<S: Store> Collector<S> {
     ///
     /// After `Stopped { at, taken, fault }` the events before `at` were accepted, and `taken` octets
     /// of a piece there, so that the caller may go on with the rest; an end there that is
-    /// `Unterminated` has closed its connection. Room for an outcome is made in the log before each
-    /// call: if that is refused, the fault is `Memory { used: 0 }`.
+    /// `Unterminated` has closed its connection. Where memory was refused for a record,
+    /// `Memory { used }` tells how many of these octets are of its frame. Room for an outcome is made
+    /// in the log before each call: if that is refused, the fault is `Memory { used: 0 }`, and the
+    /// octets taken end a frame.
     pub fn run(&mut self, alloc: Global, events: &[Event<'_>], log: &mut Vec<Outcome>) -> RunEnd
         ensures stands { (first : List Entry) (before : List AcceptedEvent)
             → Stands self.old.clock self.old.connections.items (S.entries self.old.store) first before

@@ -33,6 +33,7 @@ pub line_goes_on : (most size : ℕ) (kept new p piece : List ℕ) → Nowhere (
 line_goes_on most size kept new p piece none keeps h =
     rw (take_all (length piece) piece (omega arith)) (
       AllByRecursion-append (λ y. y ≢ 10) p piece h.0
-          (subst IsLine (take_all (length piece) piece (omega arith)) (nowhere piece (length piece) (omega arith) none)),
+          (subst IsLine (take_all (length piece) piece (omega arith))
+          (nowhere piece (length piece) (omega arith) none)),
       keeps p h.1,
     )

@@ -28,6 +28,7 @@ pub struct Progress {
 }
 
 /// Appends octets of a record of which `size` came, unless it gets too long.
+#[inline(always)]
 fn keep(kept: &mut Vec<u8>, size: u64, octets: &[u8])
     requires room { FRAME_MAX ≤ vec_capacity kept.old }
     requires known { size ≤ FRAME_MAX → vec_len kept.old ≡ size }
@@ -83,6 +84,7 @@ fn take_line(kept: &mut Vec<u8>, size: u64, piece: &[u8]) -> Progress
 }
 
 /// Takes a piece of a record that was counted, up to its last octet.
+#[inline(always)]
 fn take_record(kept: &mut Vec<u8>, count: u64, size: u64, piece: &[u8]) -> Progress
     requires room { FRAME_MAX ≤ vec_capacity kept.old }
     requires known { size ≤ FRAME_MAX → vec_len kept.old ≡ size }

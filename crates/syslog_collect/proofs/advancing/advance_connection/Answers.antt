@@ -1,7 +1,7 @@
 use Rattle.std.proofs.Common.{◌+◌, length, inl, refl, arith}
 use Rattle.syslog_collect.proofs.Moving.{advanced, good_unless_failed, pushed, released, too_long, waiting}
 use Rattle.syslog_collect.proofs.Moving.{waiting_record}
-use Rattle.syslog_collect.proofs.Taking.{ends_frame, in_turn, stops_right}
+use Rattle.syslog_collect.proofs.Taking.{ends_frame, in_turn, some_taken, stops_right}
 use Rattle.syslog_collect.proofs.Waiting.{ready_none}
 use Rattle.syslog_collect.proofs.advancing.advance_connection.Goals as goal
 
@@ -74,6 +74,9 @@ returns-in_default-clause-taken g c s handled at =
           (λ long. let e = c.in-Ok.ensures.too_long.1 long in absurd (cc))
           (λ ready. let e = (c.in-Ok.ensures.waits ready).0 in cc) at,
       ends_frame c.args.clock c.args.connection.now c.push.new.self s handled c.args.piece.now c.in-Ok.used
+          (pushed _ _ c.args.piece.now c.in-Ok.used e.failed e.too_long e.waits e.within e.position e.bound e.reads
+          e.takes) c.in_default.ensures.spelled at,
+      some_taken c.args.clock c.args.connection.now c.push.new.self s handled c.args.piece.now c.in-Ok.used
           (pushed _ _ c.args.piece.now c.in-Ok.used e.failed e.too_long e.waits e.within e.position e.bound e.reads
           e.takes) c.in_default.ensures.spelled at,
     )

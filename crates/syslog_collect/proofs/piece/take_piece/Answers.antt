@@ -1,7 +1,8 @@
-use Rattle.std.proofs.Common.{◌+◌, ◌-◌, drop, length, take, arith}
+use Rattle.std.proofs.Common.{◌+◌, ◌-◌, drop, inl, length, take, arith}
 use Rattle.syslog_collect.proofs.Pieces.{logs_of, logs_on, logs_on_advance, measure_falls, taken_all, taken_on}
 use Rattle.syslog_collect.proofs.Pieces.{within_rest}
-use Rattle.syslog_collect.proofs.Stopping.{piece_goes_on, piece_stops, within_taken}
+use Rattle.syslog_collect.proofs.Stopping.{piece_between, piece_goes_on, piece_stops, within_taken}
+use Rattle.syslog_collect.proofs.Waiting.{ready_none}
 use Rattle.syslog_collect.specs.Logs.{ready_count}
 use Rattle.syslog_collect.proofs.piece.take_piece.Goals as goal
 
@@ -51,6 +52,12 @@ pieces-preserved g c =
           (g.S.Store.entries c.pieces.store) p n m c.args.log.now.items c.pieces.log.items s d
           c.pieces.invariant.within at (c.pieces.invariant.so_far s d at) (c.pieces.invariant.goes_on s d at)
           c.in-On.ensures.goes_on;
+      between = λ s d at.
+          piece_between c.args.clock c.args.connection.now c.pieces.connection (g.S.Store.entries c.args.store.now)
+          (g.S.Store.entries c.pieces.store) p n m c.args.log.now.items c.pieces.log.items s d
+          (ready_count c.take_step.new.connection.scanner.phase)
+          (ready_none c.take_step.new.connection.scanner.phase (λ frame. c.in-On.ensures.settled (inl frame)))
+          at (c.pieces.invariant.so_far s d at) c.in-On.ensures.whole;
     }
 
 pub pieces-smaller : goal.pieces-smaller
@@ -67,7 +74,7 @@ pub returns-in-Stopped-clause-cause : goal.returns-in-Stopped-clause-cause
 returns-in-Stopped-clause-cause g c s d at =
     piece_stops c.args.clock c.args.connection.now c.pieces.connection (g.S.Store.entries c.args.store.now)
     (g.S.Store.entries c.pieces.store) c.args.piece.now c.pieces.taken c.in-Stopped.used
-    (ready_count c.take_step.new.connection.scanner.phase) c.in-Stopped.fault c.args.log.now.items c.pieces.log.items s
-    d
-    c.pieces.invariant.within at (c.pieces.invariant.so_far s d at) (c.pieces.invariant.goes_on s d at)
-    c.in-Stopped.ensures.cause
+    (ready_count c.pieces.connection.scanner.phase) (ready_count c.take_step.new.connection.scanner.phase)
+    c.in-Stopped.fault c.args.log.now.items c.pieces.log.items s d c.pieces.invariant.within
+    c.in-Stopped.ensures.within at (c.pieces.invariant.so_far s d at) (c.pieces.invariant.goes_on s d at)
+    (c.pieces.invariant.between s d at) c.in-Stopped.ensures.cause

@@ -1,8 +1,9 @@
 use Rattle.std.proofs.Common.{ℕ, ◌+◌, ◌-◌, ◌≤◌, List, length, take}
 use Rattle.syslog_collect.specs.History.{Stream}
+use Rattle.syslog_collect.specs.Logs.{ready_count}
 use Rattle.syslog_collect.specs.Runs.{Logs, pending}
 use Rattle.syslog_collect.specs.Standing.{IsAt}
-use Rattle.syslog_collect.specs.Stops.{MayGoOn}
+use Rattle.syslog_collect.specs.Stops.{IsBetween, MayGoOn}
 use Rattle.syslog_collect.proofs.piece.take_piece.Given as goal
 
 -- so much of the piece was accepted
@@ -13,6 +14,8 @@ invariant-pieces g l = record {
       Logs l.fn.clock l.fn.connection l.connection (g.S.Store.entries l.fn.store) (g.S.Store.entries l.store)
       (take l.taken l.piece) l.fn.log.items l.log.items s d;
   goes_on : (s : Stream) (d : List (List ℕ)) → IsAt l.fn.connection s d → MayGoOn l.piece l.taken s;
+  between : (s : Stream) (d : List (List ℕ)) → IsAt l.fn.connection s d →
+      IsBetween l.piece l.taken (ready_count l.connection.scanner.phase) s;
 }
 
 abbrev pub decreases-pieces : goal.decreases-pieces

@@ -2,8 +2,10 @@ use Rattle.std.proofs.Common.{◌≡◌, ◌≤◌, List, ◌++◌, length, inl,
 use Rattle.std.specs.Prelude.{◌⊎◌, Bool, false, IsTrue}
 use Rattle.std.proofs.lemmas.Bool.{both_ways}
 use Rattle.syslog_collect.specs.Answers.{IsBadCount}
+use Rattle.syslog_collect.specs.Logs.{ready_count}
 use Rattle.syslog_collect.specs.Outcomes.{outcomes_of}
 use Rattle.syslog_collect.specs.declared.outcome.Outcome.{Outcome}
+use Rattle.syslog_collect.proofs.Between.{step_whole}
 use Rattle.syslog_collect.proofs.Pieces.{goes_on, logs_nothing, logs_of, refused, step_ended, step_on, used_within}
 use Rattle.syslog_collect.proofs.Stopping.{step_cause, step_goes_on}
 use Rattle.syslog_collect.proofs.piece.take_step.Goals as goal
@@ -64,13 +66,14 @@ pub returns-clause-moves : goal.returns-clause-moves
 returns-clause-moves g c s d at = logs_of c.args.clock _ _ _ _ _ _ _ s d (returns-clause-accepted g c s d at)
 
 pub returns-then-is_err-clause-cause : goal.returns-then-is_err-clause-cause
-returns-then-is_err-clause-cause g c s d at = inl refl
+returns-then-is_err-clause-cause g c s d at = inl (refl, refl, refl)
 
 pub returns-in-Err-clause-cause : goal.returns-in-Err-clause-cause
 returns-in-Err-clause-cause g c s d at =
-    inr (step_cause c.args.clock c.args.rest.now c.used_of-used.result c.advance_connection.new.connection.scanner.phase
-    c.in-Err.fault s c.used_of-used.ensures
-    (c.in-Err.ensures.cause s d at) c.in-Err.ensures.waits)
+    step_cause c.args.clock c.args.rest.now c.used_of-used.result (ready_count c.args.connection.now.scanner.phase)
+    c.advance_connection.new.connection.scanner.phase c.in-Err.fault s c.used_of-used.ensures
+    (returns-in-Err-clause-within g c) (c.in-Err.ensures.cause s d at) c.in-Err.ensures.waits
+    (c.in-Err.ensures.taken s d at)
 
 pub returns-clause-goes_on : goal.returns-clause-goes_on
 returns-clause-goes_on g c s d at =
@@ -79,3 +82,9 @@ returns-clause-goes_on g c s d at =
     c.in-Ok.advance.used c.in-Ok.advance.outcome s d _
     (λ bad. not_both c.is_bad_count.result (c.is_bad_count.ensures.1 bad) c.if-is_bad_count.false)
     (c.in-Ok.ensures.taken s d at).0 (c.in-Ok.ensures.drops s d at)
+
+pub returns-clause-whole : goal.returns-clause-whole
+returns-clause-whole g c s d at =
+    step_whole c.args.rest.now c.in-Ok.advance.used c.in-Ok.advance.outcome s
+    (λ bad. not_both c.is_bad_count.result (c.is_bad_count.ensures.1 bad) c.if-is_bad_count.false) (omega arith)
+    (c.in-Ok.ensures.taken s d at).1

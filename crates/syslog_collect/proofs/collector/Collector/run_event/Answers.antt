@@ -9,6 +9,7 @@ use Rattle.syslog_collect.specs.declared.fault.CollectFault.TheVariants.{Memory}
 use Rattle.syslog_collect.specs.Logs.{Grows, LogsDatagram, LogsEventEnd, LogsPiece, waiting}
 use Rattle.syslog_collect.specs.Runs.{IfDone, accepted_by}
 use Rattle.syslog_collect.specs.Standing.{Stands}
+use Rattle.syslog_collect.proofs.Between.{nothing_between}
 use Rattle.syslog_collect.proofs.Logging.{datagram_logged, ended_logged, nothing_logged, opened_logged}
 use Rattle.syslog_collect.proofs.Logging.{piece_event_logged}
 use Rattle.syslog_collect.proofs.EventRuns.{accepted_nothing, datagram_accepted, ending_accepted, opening_accepted}
@@ -129,7 +130,8 @@ returns-in-Datagram-clause-logged g c first events was =
     c.logged_datagram.ensures.logged))
 
 pub returns-then-is_err-clause-cause : goal.returns-then-is_err-clause-cause
-returns-then-is_err-clause-cause g c first events was = (omega arith, inl refl)
+returns-then-is_err-clause-cause g c first events was =
+    (omega arith, inl (refl, nothing_between (history_of events) _ c.args.event))
 
 pub returns-in-Opened-clause-cause : goal.returns-in-Opened-clause-cause
 returns-in-Opened-clause-cause g c first events was =
