@@ -17,7 +17,8 @@ loop-first-preserved c = record {
     c.loop-first.invariant.suffix.0 ++ c.first_element.ensures.suffix.0,
     c.loop-first.invariant.suffix.1
         ∙ ap (λ u. c.loop-first.invariant.suffix.0 ++ u) c.first_element.ensures.suffix.1
-        ∙ sym (append_assoc c.loop-first.invariant.suffix.0 c.first_element.ensures.suffix.0 c.first_element.result.1.now),
+        ∙ sym (append_assoc c.loop-first.invariant.suffix.0 c.first_element.ensures.suffix.0
+        c.first_element.result.1.now),
   );
   fills = keys_more c.args.elements.now c.loop-first.rest.now c.first_element.result.1.now c.in-Some._after.now
       c.loop-first.invariant.suffix.0 c.in-Some._first c.loop-first.count c.key_of.result c.loop-first.keys
