@@ -1,19 +1,20 @@
 -- Where the first of known elements ends.
 use Rattle.std.proofs.Common.{◌≡◌, ◌≢◌, ℕ, zero, suc, ◌-◌, ◌<◌, true, List, [], ◌∷◌, ◌++◌, length, take, drop, get_or}
-use Rattle.std.proofs.Common.{◌+◌, refl, sym, ap, subst, ◌∙◌, append_assoc, arith, inl, inr, ◌⊎◌}
+use Rattle.std.proofs.Common.{◌+◌, Bool, false, not, ◌==◌, refl, sym, ap, subst, ◌∙◌, append_assoc, arith, inl, inr, ◌⊎◌}
 use Rattle.std.specs.Prelude.{Some, None}
 use Rattle.std.specs.List.{AllByRecursion}
-use Rattle.std.proofs.lemmas.Bool.{cases_eq}
+use Rattle.std.proofs.lemmas.Bool.{cases_eq, false≢true}
 use Rattle.std.proofs.lemmas.Bool.Decides.{nat_tests}
-use Rattle.std.proofs.lemmas.List.{append-nil, length-append, take-append-drop, take_at}
+use Rattle.std.proofs.lemmas.List.{append-nil, length-append, take-append-drop, take_all, take_at}
 use Rattle.memchr.specs.Find.{IsFirstByte, Nowhere, is_byte, is_byte2}
+use Rattle.std.proofs.Math.Seq.{take-suc}
 use Rattle.octet_language.specs.Language.{AnyOf, Each}
 use Rattle.octet_language.specs.Reading.{Follows}
-use Rattle.octet_language.proofs.Lists.{heads, tails}
+use Rattle.octet_language.proofs.Lists.{heads}
 use Rattle.syslog_value.specs.Parts.{ParamParts, IsNameOctet}
 use Rattle.syslog_grammar.specs.Canonical.{needs_escape}
 use Rattle.syslog_grammar.specs.FirstElements.{IsIdLength, IsNameLength, IsMarkedLength, IsPaired, SplitsElement}
-use Rattle.syslog_grammar.specs.FirstElements.{SkipsPairs, SplitsParam}
+use Rattle.syslog_grammar.specs.FirstElements.{SplitsParam, takes_next}
 use Rattle.syslog_grammar.specs.Grammar.{Element, Param}
 use Rattle.syslog_grammar.specs.Spans.{SpannedElement, SpannedParam}
 use Rattle.syslog_grammar.specs.Values.{IsSpecial, Piece}
@@ -154,138 +155,219 @@ unfolding IsPaired
 paired_params [] b h = subst (IsPaired 93) (sym h) tt
 paired_params (p ∷ ps) b (x, y, e, h, k) = subst (IsPaired 93) (sym e) (paired_param p x y h (paired_params ps y k))
 
-at_mark : (m : ℕ) → is_byte2 92 m m ≡ true
-at_mark m = grind (arith, nat_tests)
+-- ---- the mark that no backslash takes
 
--- the octet at which a scan of such octets stops: the mark after them, or a backslash
-scanned : (m k : ℕ) (left after : List ℕ) → IsPaired m left
-    → ((i : ℕ) → i < k → ¬ (is_byte2 92 m (get_or (left ++ m ∷ after) i 0) ≡ true))
-    → is_byte2 92 m (get_or (left ++ m ∷ after) k 0) ≡ true
-    → (drop k (left ++ m ∷ after) ≡ m ∷ after)
-    ⊎ ((y : ℕ) × (others : List ℕ) × (drop k (left ++ m ∷ after) ≡ 92 ∷ y ∷ others ++ m ∷ after)
-    × IsPaired m others)
+is_test : (x : ℕ) → x ≢ 92 → (x == 92) ≡ false
+is_test x ne = grind (arith, nat_tests, ne)
+
+-- octets that are paired end with none
+paired_ends : (m : ℕ) (s : List ℕ) → IsPaired m s → takes_next false s ≡ false
+unfolding IsPaired takes_next
+paired_ends m [] p = refl
+paired_ends m (x ∷ []) p = is_test x p.0
+paired_ends m (x ∷ y ∷ s) (inl (e, p)) = rw e (paired_ends m s p)
+paired_ends m (x ∷ y ∷ s) (inr (a, (b, p))) =
+    ap (λ (t : Bool). takes_next t (y ∷ s)) (is_test x a) ∙ paired_ends m (y ∷ s) p
+
+no_mark : (m : ℕ) (s : List ℕ) → m ≢ 92 → IsPaired m (m ∷ s) → ⊥
 unfolding IsPaired
-scanned m zero [] after p none here = inl refl
-scanned m (suc k) [] after p none here = absurd (none 0 (omega arith) (at_mark m))
-scanned m zero (x ∷ []) after p none here = absurd (grind (arith, nat_tests, p.0, p.1))
-scanned m (suc k) (x ∷ []) after p none here = scanned m k [] after tt (λ i less. none (suc i) (omega arith)) here
-scanned m zero (x ∷ y ∷ s) after (inl (e, p)) none here = inr (y, s, ap (λ (u : ℕ). u ∷ y ∷ s ++ m ∷ after) e, p)
-scanned m zero (x ∷ y ∷ s) after (inr (a, (b, p))) none here = absurd (grind (arith, nat_tests, a, b))
-scanned m (suc k) (x ∷ y ∷ s) after (inl (e, p)) none here = absurd (none 0 (omega arith) (rw e refl))
-scanned m (suc k) (x ∷ y ∷ s) after (inr (a, (b, p))) none here =
-    scanned m k (y ∷ s) after p (λ i less. none (suc i) (omega arith)) here
+no_mark m [] ne p = p.1 refl
+no_mark m (y ∷ s) ne (inl (e, p)) = ne e
+no_mark m (y ∷ s) ne (inr (a, (b, p))) = b refl
 
--- what was scanned of the octets, and what is left before the mark
+-- before a mark among them a backslash takes it
+paired_takes : (m : ℕ) (u v : List ℕ) → m ≢ 92 → IsPaired m (u ++ m ∷ v) → takes_next false u ≡ true
+unfolding IsPaired takes_next
+paired_takes m [] v ne p = absurd (no_mark m v ne p)
+paired_takes m (x ∷ []) v ne (inl (e, p)) = rw e refl
+paired_takes m (x ∷ []) v ne (inr (a, (b, p))) = absurd (no_mark m v ne p)
+paired_takes m (x ∷ y ∷ u) v ne (inl (e, p)) = rw e (paired_takes m u v ne p)
+paired_takes m (x ∷ y ∷ u) v ne (inr (a, (b, p))) =
+    ap (λ (t : Bool). takes_next t (y ∷ u)) (is_test x a) ∙ paired_takes m (y ∷ u) v ne p
+
+pub takes_last : (b : Bool) (s : List ℕ) → takes_next b (s ++ 92 ∷ []) ≡ not (takes_next b s)
+unfolding takes_next
+takes_last true [] = refl
+takes_last false [] = refl
+takes_last true (x ∷ s) = takes_last false s
+takes_last false (x ∷ s) = takes_last (x == 92) s
+
+pub takes_other : (b : Bool) (x : ℕ) (s : List ℕ) → x ≢ 92 → takes_next b (s ++ x ∷ []) ≡ false
+unfolding takes_next
+takes_other true x [] ne = refl
+takes_other false x [] ne = is_test x ne
+takes_other true x (y ∷ s) ne = takes_other false x s ne
+takes_other false x (y ∷ s) ne = takes_other (y == 92) x s ne
+
+-- the answer about what comes first, where so many backslashes follow that they turn it
+pub turned : Bool → Bool → Bool
+turned false b = b
+turned true b = not b
+
+twice_turned : (t b : Bool) → turned t (not b) ≡ turned (not t) b
+unfolding turned
+twice_turned true true = refl
+twice_turned true false = refl
+twice_turned false b = refl
+
+turned_false : (t : Bool) → t ≡ turned t false
+unfolding turned
+turned_false true = refl
+turned_false false = refl
+
+-- all but the last i octets end with this one
+last_of_prefix : (s : List ℕ) (i : ℕ) → i < length s
+    → take (length s - i) s ≡ take (length s - (i + 1)) s ++ get_or s (length s - 1 - i) 0 ∷ []
+last_of_prefix s i less =
+    let j : ℕ = length s - 1 - i in
+    let more : length s - i ≡ suc j = omega (arith, less) in
+    let same : j ≡ length s - (i + 1) = omega (arith, less) in
+    ap (λ n. take n s) more ∙ take-suc s j 0 (omega (arith, less))
+    ∙ ap (λ n. take n s ++ get_or s j 0 ∷ []) same
+
+pub turned_none : (s : List ℕ) → takes_next false s ≡ turned false (takes_next false (take (length s - 0) s))
+unfolding turned
+turned_none s = ap (takes_next false) (sym (take_all (length s - 0) s (omega arith)))
+
+pub turned_more : (t : Bool) (s : List ℕ) (i : ℕ) → i < length s → get_or s (length s - 1 - i) 0 ≡ 92
+    → takes_next false s ≡ turned t (takes_next false (take (length s - i) s))
+    → takes_next false s ≡ turned (not t) (takes_next false (take (length s - (i + 1)) s))
+turned_more t s i less e h =
+    let front = take (length s - (i + 1)) s in
+    h ∙ ap (λ (u : List ℕ). turned t (takes_next false u)) (last_of_prefix s i less ∙ ap (λ (x : ℕ). front ++ x ∷ []) e)
+    ∙ ap (turned t) (takes_last false front) ∙ twice_turned t (takes_next false front)
+
+pub turned_end : (t : Bool) (s : List ℕ) (i : ℕ) → i < length s → get_or s (length s - 1 - i) 0 ≢ 92
+    → takes_next false s ≡ turned t (takes_next false (take (length s - i) s)) → t ≡ takes_next false s
+turned_end t s i less ne h =
+    let front = take (length s - (i + 1)) s in
+    turned_false t ∙ ap (turned t) (sym (takes_other false (get_or s (length s - 1 - i) 0) front ne)
+    ∙ ap (takes_next false) (sym (last_of_prefix s i less))) ∙ sym h
+
+pub turned_all : (t : Bool) (s : List ℕ) (i : ℕ) → i ≡ length s
+    → takes_next false s ≡ turned t (takes_next false (take (length s - i) s)) → t ≡ takes_next false s
+unfolding takes_next
+turned_all t s i e h =
+    let none : length s - i ≡ 0 = omega (arith, e) in
+    turned_false t ∙ ap (λ n. turned t (takes_next false (take n s))) (sym none) ∙ sym h
+
+at_itself : (m : ℕ) → is_byte m m ≡ true
+at_itself m = grind (arith, nat_tests)
+
+-- the first mark is the one behind the octets, or one among them
+first_mark : (m k : ℕ) (left after : List ℕ)
+    → ((i : ℕ) → i < k → ¬ (is_byte m (get_or (left ++ m ∷ after) i 0) ≡ true))
+    → is_byte m (get_or (left ++ m ∷ after) k 0) ≡ true
+    → ((take k (left ++ m ∷ after) ≡ left) × (drop k (left ++ m ∷ after) ≡ m ∷ after))
+    ⊎ ((v : List ℕ) × (left ≡ take k (left ++ m ∷ after) ++ m ∷ v) × (drop k (left ++ m ∷ after) ≡ m ∷ v ++ m ∷ after))
+first_mark m zero [] after none here = inl (refl, refl)
+first_mark m (suc k) [] after none here = absurd (none 0 (omega arith) (at_itself m))
+first_mark m zero (x ∷ s) after none here =
+    let e : x ≡ m = grind (arith, nat_tests, here) in
+    inr (s, ap (λ (u : ℕ). u ∷ s) e, ap (λ (u : ℕ). u ∷ s ++ m ∷ after) e)
+first_mark m (suc k) (x ∷ s) after none here =
+    elim (first_mark m k s after (λ i less. none (suc i) (omega arith)) here) [
+      | inl f ↦ inl (ap (λ (u : List ℕ). x ∷ u) f.0, f.1)
+      | inr (v, e, d) ↦ inr (v, ap (λ (u : List ℕ). x ∷ u) e, d)
+    ]
+
+-- what was scanned of the octets: where paired octets and the mark come first, it is of those octets
 pub record Scanned (m : ℕ) (octets rest : List ℕ) : Type 0 where
   pub done : List ℕ
   pub parts : octets ≡ done ++ rest
   pub closes : (text after : List ℕ) → IsPaired m text → octets ≡ text ++ m ∷ after
-      → (left : List ℕ) × (rest ≡ left ++ m ∷ after) × IsPaired m left
+      → (left : List ℕ) × (text ≡ done ++ left) × (rest ≡ left ++ m ∷ after)
 
 pub scanned_none : (m : ℕ) (octets : List ℕ) → Scanned m octets octets
-scanned_none m octets = record { done = []; parts = refl; closes = λ text after h e. (text, e, h) }
+scanned_none m octets = record { done = []; parts = refl; closes = λ text after h e. (text, refl, e) }
 
-scan_step : (m : ℕ) (rest left after found : List ℕ) (k : ℕ) → rest ≡ left ++ m ∷ after → IsPaired m left
-    → IsFirstByte (is_byte2 92 m) rest (Some k) → found ≡ drop k rest
-    → (found ≡ m ∷ after) ⊎ ((y : ℕ) × (others : List ℕ) × (found ≡ 92 ∷ y ∷ others ++ m ∷ after) × IsPaired m others)
-scan_step m rest left after found k e p f d =
-    let g : IsFirstByte (is_byte2 92 m) (left ++ m ∷ after) (Some k) =
-    subst (λ (b : List ℕ). IsFirstByte (is_byte2 92 m) b (Some k)) e f in
-    let at : found ≡ drop k (left ++ m ∷ after) = d ∙ ap (drop k) e in
-    elim (scanned m k left after p (λ i less. g.0.before i (omega arith) less) g.1) [
-      | inl s ↦ inl (at ∙ s)
-      | inr (y, others, s, q) ↦ inr (y, others, at ∙ s, q)
+-- what comes before the mark that was found
+before_found : (m : ℕ) (octets rest found before : List ℕ) (k : ℕ) (s : Scanned m octets rest) → found ≡ drop k rest
+    → before ≡ take (length octets - length found) octets → before ≡ s.done ++ take k rest
+before_found m octets rest found before k s d b =
+    let all : octets ≡ (s.done ++ take k rest) ++ found =
+    s.parts ∙ ap (λ (u : List ℕ). s.done ++ u) (sym (take-append-drop k rest) ∙ ap (λ (u : List ℕ). take k rest ++ u) (sym d))
+    ∙ sym (append_assoc s.done (take k rest) found) in
+    let size : length octets - length found ≡ length (s.done ++ take k rest) =
+    omega (arith, ap length all, length-append (s.done ++ take k rest) found) in
+    b ∙ rw (size, all) (take_at (s.done ++ take k rest) found (length (s.done ++ take k rest)) refl)
+
+-- the octets before a mark that was found are all before the right one, and a backslash takes nothing; or the right
+-- one comes later, and a backslash takes this one
+mark_step : (m : ℕ) (octets rest found before text after : List ℕ) (k : ℕ) → m ≢ 92 → (s : Scanned m octets rest)
+    → IsFirstByte (is_byte m) rest (Some k) → found ≡ drop k rest → before ≡ take (length octets - length found) octets
+    → IsPaired m text → octets ≡ text ++ m ∷ after
+    → ((before ≡ text) × (takes_next false before ≡ false))
+    ⊎ ((v : List ℕ) × (text ≡ before ++ m ∷ v) × (found ≡ m ∷ v ++ m ∷ after) × (takes_next false before ≡ true))
+mark_step m octets rest found before text after k ne s f d b h e =
+    let c = s.closes text after h e in
+    let g : IsFirstByte (is_byte m) (c.0 ++ m ∷ after) (Some k) =
+    subst (λ (u : List ℕ). IsFirstByte (is_byte m) u (Some k)) c.2 f in
+    let front : before ≡ s.done ++ take k (c.0 ++ m ∷ after) =
+    before_found m octets rest found before k s d b ∙ ap (λ (u : List ℕ). s.done ++ take k u) c.2 in
+    elim (first_mark m k c.0 after (λ i less. g.0.before i (omega arith) less) g.1) [
+      | inl (t, r) ↦
+          let same : before ≡ text = front ∙ ap (λ (u : List ℕ). s.done ++ u) t ∙ sym c.1 in
+          inl (same, ap (takes_next false) same ∙ paired_ends m text h)
+      | inr (v, t, r) ↦
+          let whole : text ≡ before ++ m ∷ v =
+          c.1 ∙ ap (λ (u : List ℕ). s.done ++ u) t
+          ∙ sym (append_assoc s.done (take k (c.0 ++ m ∷ after)) (m ∷ v))
+          ∙ ap (λ (u : List ℕ). u ++ m ∷ v) (sym front) in
+          inr (v, whole, d ∙ ap (drop k) c.2 ∙ r, paired_takes m before v ne (subst (IsPaired m) whole h))
     ]
 
-skipped : (found behind next : List ℕ) (x : ℕ) → found ≡ x ∷ behind → next ≡ drop 1 behind
-    → (z : List ℕ) × (found ≡ z ++ next)
-skipped found [] next x e d = (x ∷ [], e ∙ ap (λ (u : List ℕ). x ∷ u) (sym d))
-skipped found (y ∷ s) next x e d = (x ∷ y ∷ [], e ∙ ap (λ (u : List ℕ). x ∷ y ∷ u) (sym d))
+pub scanned_end : (m : ℕ) (octets rest found before : List ℕ) (k : ℕ) → m ≢ 92 → Scanned m octets rest
+    → IsFirstByte (is_byte m) rest (Some k) → found ≡ drop k rest → before ≡ take (length octets - length found) octets
+    → takes_next false before ≡ false → IsMarkedLength m octets (length before)
+scanned_end m octets rest found before k ne s f d b ends text after h e =
+    elim (mark_step m octets rest found before text after k ne s f d b h e) [
+      | inl (same, none) ↦ ap length same
+      | inr (v, whole, r, takes) ↦ absurd (false≢true (sym ends ∙ takes))
+    ]
 
-pub scanned_more : (m : ℕ) (octets rest found behind next : List ℕ) (k x : ℕ)
-    → IsFirstByte (is_byte2 92 m) rest (Some k) → found ≡ drop k rest → found ≡ x ∷ behind → x ≢ m
-    → next ≡ drop 1 behind → Scanned m octets rest → Scanned m octets next
-scanned_more m octets rest found behind next k x f d e other n s =
-    let z = skipped found behind next x e n in
-    record {
-      done = s.done ++ take k rest ++ z.0;
-      parts = s.parts ∙ ap (λ (u : List ℕ). s.done ++ u)
-          (sym (take-append-drop k rest) ∙ ap (λ (u : List ℕ). take k rest ++ u) (sym d ∙ z.1)) ∙ simp append_assoc;
-      closes = λ text after h g.
-          let c = s.closes text after h g in
-          elim (scan_step m rest c.0 after found k c.1 c.2 f d) [
-            | inl same ↦ absurd (other (heads x m behind after (sym e ∙ same)))
-            | inr (y, others, same, p) ↦ (
-              others,
-              n
-                  ∙ ap (drop 1) (tails x 92 behind (y ∷ others ++ m ∷ after) (sym e ∙ same)),
-              p,
-            )
-          ];
-    }
+pub scanned_more : (m : ℕ) (octets rest found before next : List ℕ) (k : ℕ) → m ≢ 92 → Scanned m octets rest
+    → IsFirstByte (is_byte m) rest (Some k) → found ≡ drop k rest → before ≡ take (length octets - length found) octets
+    → takes_next false before ≡ true → next ≡ drop 1 found → Scanned m octets next
+scanned_more m octets rest found before next k ne s f d b takes n = record {
+  done = before ++ take 1 found;
+  parts =
+      s.parts ∙ ap (λ (u : List ℕ). s.done ++ u)
+      (sym (take-append-drop k rest) ∙ ap (λ (u : List ℕ). take k rest ++ u) (sym d))
+      ∙ sym (append_assoc s.done (take k rest) found)
+      ∙ ap (λ (u : List ℕ). u ++ found) (sym (before_found m octets rest found before k s d b))
+      ∙ ap (λ (u : List ℕ). before ++ u)
+      (sym (take-append-drop 1 found) ∙ ap (λ (u : List ℕ). take 1 found ++ u) (sym n))
+      ∙ sym (append_assoc before (take 1 found) next);
+  closes = λ text after h e.
+      elim (mark_step m octets rest found before text after k ne s f d b h e) [
+        | inl (same, none) ↦ absurd (false≢true (sym none ∙ takes))
+        | inr (v, whole, r, more) ↦ (
+          v,
+          whole ∙ rw r (sym (append_assoc before (m ∷ []) v)),
+          n ∙ ap (drop 1) r,
+        )
+      ];
+}
 
 -- the mark comes first
 pub marked_at_once : (m : ℕ) (octets behind : List ℕ) → m ≢ 92 → octets ≡ m ∷ behind → IsMarkedLength m octets 0
 unfolding IsPaired
 marked_at_once m octets behind ne e [] after h g = refl
-marked_at_once m octets behind ne e (x ∷ []) after h g =
-    absurd (h.1 (sym (heads m x behind (m ∷ after) (sym e ∙ g))))
-marked_at_once m octets behind ne e (x ∷ y ∷ s) after (inl (f, p)) g =
-    absurd (ne (heads m x behind (y ∷ s ++ m ∷ after) (sym e ∙ g) ∙ f))
-marked_at_once m octets behind ne e (x ∷ y ∷ s) after (inr (a, (b, p))) g =
-    absurd (b (sym (heads m x behind (y ∷ s ++ m ∷ after) (sym e ∙ g))))
-
-pair_left : (m x : ℕ) (left after behind : List ℕ) → m ≢ 92 → 92 ∷ x ∷ behind ≡ left ++ m ∷ after → IsPaired m left
-    → (others : List ℕ) × (behind ≡ others ++ m ∷ after) × IsPaired m others
-unfolding IsPaired
-pair_left m x [] after behind ne e p = absurd (ne (sym (heads 92 m (x ∷ behind) after e)))
-pair_left m x (y ∷ []) after behind ne e p = absurd (p.0 (sym (heads 92 y (x ∷ behind) (m ∷ after) e)))
-pair_left m x (y ∷ z ∷ left) after behind ne e (inl (f, p)) = (
-  left,
-  tails x z behind (left ++ m ∷ after) (tails 92 y (x ∷ behind) (z ∷ left ++ m ∷ after) e),
-  p,
-)
-pair_left m x (y ∷ z ∷ left) after behind ne e (inr (a, p)) =
-    absurd (a (sym (heads 92 y (x ∷ behind) (z ∷ left ++ m ∷ after) e)))
-
-pub pairs_none : (octets : List ℕ) → SkipsPairs octets octets
-pairs_none octets m ne text after h e = (text, e, h)
-
-pub pairs_more : (octets rest behind : List ℕ) (x : ℕ) → rest ≡ 92 ∷ x ∷ behind → SkipsPairs octets rest
-    → SkipsPairs octets behind
-pairs_more octets rest behind x e skips m ne text after h g =
-    let c = skips m ne text after h g in
-    pair_left m x c.0 after behind ne (sym e ∙ c.1) c.2
-
-pub scanned_pairs : (m : ℕ) (octets rest next : List ℕ) → m ≢ 92 → SkipsPairs rest next
-    → (prefix : List ℕ) × (rest ≡ prefix ++ next) → Scanned m octets rest → Scanned m octets next
-scanned_pairs m octets rest next ne skips (z, ze) s = record {
-  done = s.done ++ z;
-  parts = s.parts ∙ ap (λ (u : List ℕ). s.done ++ u) ze ∙ sym (append_assoc s.done z next);
-  closes = λ text after h e. let c = s.closes text after h e in skips m ne c.0 after c.2 c.1;
-}
-
-pub scanned_end : (m : ℕ) (octets rest found behind : List ℕ) (k x n : ℕ) → m ≢ 92
-    → IsFirstByte (is_byte2 92 m) rest (Some k) → found ≡ drop k rest → found ≡ x ∷ behind → x ≡ m
-    → n ≡ length octets - length found → Scanned m octets rest → IsMarkedLength m octets n
-scanned_end m octets rest found behind k x n ne f d e here size s text after h g =
-    let c = s.closes text after h g in
-    elim (scan_step m rest c.0 after found k c.1 c.2 f d) [
-      | inl same ↦ size ∙ omega (arith, ap length same, ap length g, length-append text (m ∷ after))
-      | inr (y, others, same, p) ↦ absurd (ne (sym here ∙ heads x 92 behind (y ∷ others ++ m ∷ after) (sym e ∙ same)))
-    ]
+marked_at_once m octets behind ne e (x ∷ s) after h g =
+    absurd (no_mark m s ne (subst (λ (u : ℕ). IsPaired m (u ∷ s)) (sym (heads m x behind (s ++ m ∷ after) (sym e ∙ g))) h))
 
 -- the mark is found, and so an octet there
-closed : (m : ℕ) (left after : List ℕ) → is_byte2 92 m (get_or (left ++ m ∷ after) (length left) 0) ≡ true
-closed m [] after = at_mark m
+closed : (m : ℕ) (left after : List ℕ) → is_byte m (get_or (left ++ m ∷ after) (length left) 0) ≡ true
+closed m [] after = at_itself m
 closed m (x ∷ left) after = closed m left after
 
-pub scanned_missing : (m : ℕ) (octets rest : List ℕ) (n : ℕ) → IsFirstByte (is_byte2 92 m) rest None
+pub scanned_missing : (m : ℕ) (octets rest : List ℕ) (n : ℕ) → IsFirstByte (is_byte m) rest None
     → Scanned m octets rest → IsMarkedLength m octets n
 scanned_missing m octets rest n f s text after h g =
     let c = s.closes text after h g in
-    let none : IsFirstByte (is_byte2 92 m) (c.0 ++ m ∷ after) None =
-    subst (λ (b : List ℕ). IsFirstByte (is_byte2 92 m) b None) c.1 f in
+    let none : IsFirstByte (is_byte m) (c.0 ++ m ∷ after) None =
+    subst (λ (b : List ℕ). IsFirstByte (is_byte m) b None) c.2 f in
     absurd (none (length c.0) (omega arith) (omega (arith, length-append c.0 (m ∷ after))) (closed m c.0 after))
 
 drop_at : (s t : List ℕ) → drop (length s) (s ++ t) ≡ t

@@ -1,5 +1,5 @@
 -- The first of elements and parameters that are known to be well-formed.
-use Rattle.std.specs.Prelude.{◌≡◌, ◌≢◌, ℕ, List, [], ◌∷◌, ◌++◌, ◌⊎◌, length, ⊤}
+use Rattle.std.specs.Prelude.{◌≡◌, ◌≢◌, ◌==◌, ℕ, List, [], ◌∷◌, ◌++◌, ◌⊎◌, length, ⊤, Bool, true, false}
 use Rattle.std.specs.List.{AllByRecursion}
 use Rattle.octet_language.specs.Language.{AnyOf}
 use Rattle.octet_language.specs.Reading.{Follows}
@@ -23,16 +23,17 @@ IsPaired mark [] = ⊤
 IsPaired mark (x ∷ []) = (x ≢ 92) × (x ≢ mark)
 IsPaired mark (x ∷ y ∷ s) = ((x ≡ 92) × IsPaired mark s) ⊎ ((x ≢ 92) × ((x ≢ mark) × IsPaired mark (y ∷ s)))
 
+-- whether the octets end with a backslash that takes the octet after them, where an octet comes first that is taken
+-- or none
+unfoldable pub takes_next : Bool → List ℕ → Bool
+takes_next b [] = b
+takes_next true (x ∷ s) = takes_next false s
+takes_next false (x ∷ s) = takes_next (x == 92) s
+
 -- where such octets come first, and then the mark, they are so many
 abbrev pub IsMarkedLength : ℕ → List ℕ → ℕ → Type 0
 IsMarkedLength mark octets n = (text after : List ℕ) → IsPaired mark text → octets ≡ text ++ mark ∷ after
     → n ≡ length text
-
--- where such octets come first, and then the mark, the rest has the last of them
-abbrev pub SkipsPairs : List ℕ → List ℕ → Type 0
-SkipsPairs octets rest = (mark : ℕ) → mark ≢ 92 → (text after : List ℕ) → IsPaired mark text
-    → octets ≡ text ++ mark ∷ after
-    → (left : List ℕ) × (rest ≡ left ++ mark ∷ after) × IsPaired mark left
 
 -- where an element comes first, this is it, and the rest follows it
 abbrev pub SplitsElement : List ℕ → ElementSpan → List ℕ → Type 0

@@ -132,6 +132,8 @@ fn put_resorted(view: &RecordView<'_>, out: &mut Vec<u8>) -> Result<bool, AllocE
 
 /// Appends the canonical octets of the record that a view shows, by way of a record that owns its
 /// parts.
+#[cold]
+#[inline(never)]
 fn put_owned(alloc: Global, view: &RecordView<'_>, out: &mut Vec<u8>) -> Result<(), AllocError>
     ensures begun { Adds Anything out.old.items out.new.items }
     ensures ok { (b : List ℕ) → IsViewOf b (view_parts view.now)

@@ -1,14 +1,13 @@
 //! The first of elements, and of parameters, that are known to be well-formed: where its parts end,
 //! and no test.
 
-ghost use Rattle.std.specs.Prelude.{◌≡◌, ◌≢◌, ◌≤◌, ◌<◌, ◌++◌, ◌∷◌, ℕ, List, IfSome, IsTrue, drop, length};
+ghost use Rattle.std.specs.Prelude.{◌≡◌, ◌≢◌, ◌≤◌, ◌<◌, ◌++◌, ◌∷◌, ℕ, List, IsTrue, drop, false, length};
 ghost use Rattle.syslog_grammar.specs.FirstElements.{IsIdLength, IsMarkedLength, IsNameLength};
-ghost use Rattle.syslog_grammar.specs.FirstElements.{SkipsPairs, SplitsElement, SplitsParam};
+ghost use Rattle.syslog_grammar.specs.FirstElements.{SplitsElement, SplitsParam, takes_next};
 ghost use Rattle.syslog_grammar.specs.Views.{element_span, param_span};
 
 use crate::element::{ElementView, ParamView};
 use crate::near::{near_either, near_octet};
-use crate::reading::next;
 
 /// What follows the first octet, if there is one.
 #[inline(always)]
@@ -45,30 +44,20 @@ fn name_len(octets: &[u8]) -> usize
     }
 }
 
-/// What follows a backslash at the start and the octet that it takes.
+/// Whether the octets end with a backslash that takes the octet after them: backslashes come last,
+/// and an odd number of them.
 #[inline(always)]
-fn behind_pair(octets: &[u8]) -> Option<&[u8]>
-    ensures pair { IfSome result (λ rest. (x : ℕ) × (octets.now ≡ 92 ∷ x ∷ rest.now)) }
-    ensures less { IfSome result (λ rest. length rest.now < length octets.now) }
+fn ends_taking(octets: &[u8]) -> bool
+    ensures { result ≡ takes_next false octets.now }
 {
-    match octets {
-        [b'\\', _, rest @ ..] => Some(rest),
-        _ => None,
+    let mut takes = false;
+    for i in 0..octets.len() {
+        if octets[octets.len() - 1 - i] != b'\\' {
+            return takes;
+        }
+        takes = !takes;
     }
-}
-
-/// What follows the backslashes at the start, each with the octet that it takes.
-#[inline(always)]
-fn behind_pairs(octets: &[u8]) -> &[u8]
-    ensures pairs { SkipsPairs octets.now result.now }
-    ensures suffix { (prefix : List ℕ) × (octets.now ≡ prefix ++ result.now) }
-    ensures within { length result.now ≤ length octets.now }
-{
-    let mut rest = octets;
-    while let Some(behind) = behind_pair(rest) {
-        rest = behind;
-    }
-    rest
+    takes
 }
 
 /// Whether this octet comes first.
@@ -93,16 +82,13 @@ fn marked_len(mark: u8, octets: &[u8]) -> usize
         return 0;
     }
     let mut rest = octets;
-    while let Some(offset) = near_either(b'\\', mark, rest) {
+    while let Some(offset) = near_octet(mark, rest) {
         let (_, found) = rest.split_at(offset);
-        let Some((first, behind)) = next(found) else {
-            return octets.len();
-        };
-        if first == mark {
-            return octets.len() - found.len();
+        let (before, _) = octets.split_at(octets.len() - found.len());
+        if !ends_taking(before) {
+            return before.len();
         }
-        let taken = behind_first(behind);
-        rest = behind_pairs(taken);
+        rest = behind_first(found);
     }
     octets.len()
 }
