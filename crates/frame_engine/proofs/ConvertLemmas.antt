@@ -11,12 +11,12 @@ use Rattle.syslog_frame.specs.declared.limits.TheConstants.{FRAME_MAX}
 use Rattle.syslog_value.specs.Parts.{Parts}
 use Rattle.syslog_grammar.specs.Canonical.{Canonical, HeaderForm, priority_version_form}
 use Rattle.syslog_legacy.specs.FrameReadings.{Clock}
-use Rattle.frame_engine.specs.Readings.{AddsRecord}
+use Rattle.frame_engine.specs.Readings.{AddsRecord, IsRefusedWith}
 use Rattle.frame_engine.specs.Converted.{Carries, Converts, convert_handling, Framed, GoesOut, goes_out, noted_line}
+use Rattle.frame_engine.specs.declared.line.Line.{Line}
 use Rattle.frame_engine.specs.declared.line.Line.TheVariants.{CanonicalTooLong, HasLf}
 use Rattle.frame_engine.specs.Pending.{Adds}
 use Rattle.frame_engine.specs.Handling.{Done, HasOneOutput, then_done}
-use Rattle.std.specs.Prelude.{Result, Ok, Err, OnOk}
 use Rattle.syslog_grammar.proofs.CanonicalParses.{canonical_once}
 use Rattle.frame_engine.proofs.HandlingLemmas.{adds_output, same_done}
 use Rattle.frame_engine.proofs.ReadingLemmas.{not_both, one_record}
@@ -98,11 +98,15 @@ adds_after D old mid new r o n (d, h, e) = (
       (same_done mid.refused old.refused mid.output old.output mid.notes old.notes r o n),
 )
 
--- what holds of each octet text at Ok holds at Ok of each
-pub at_ok : {X E : Type 0} (r : Result X E) (P Q : List ℕ → Type 0) → ((b : List ℕ) → P b → OnOk r (Q b))
-    → OnOk r ((b : List ℕ) → P b → Q b)
-at_ok (Ok x) P Q h = h
-at_ok (Err e) P Q h = tt
+-- a record was converted
+pub converted : (clock : Clock) (to : Option Framing) (n : ℕ) (f : List ℕ) (old new : Done)
+    → Adds (Converts clock to n f) old new → Adds (convert_handling clock to n f) old new
+converted clock to n f old new (d, is, e) = (d, inl is, e)
+
+-- the line on a frame was noted
+pub noted : (clock : Clock) (to : Option Framing) (n : ℕ) (f : List ℕ) (line : Line) (old new : Done)
+    → IsRefusedWith clock n f line → new ≡ then_done old (noted_line line) → Adds (convert_handling clock to n f) old new
+noted clock to n f line old new is e = (noted_line line, inr (line, is, refl), e)
 
 -- ---- a frame has one output
 

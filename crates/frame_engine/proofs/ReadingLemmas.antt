@@ -1,15 +1,14 @@
 -- A frame is read in one way, and each reading has one output.
-use Rattle.std.proofs.Common.{◌≡◌, ◌≤◌, ℕ, ℤ, List, Bool, true, false, length, refl, sym, ap, ◌∙◌, arith, inl, inr}
-use Rattle.std.specs.Prelude.{◌↔◌, IsTrue, None, Some}
+use Rattle.std.proofs.Common.{◌≡◌, ◌≤◌, ℕ, ℤ, List, length, sym, ap, ◌∙◌, arith, inl, inr}
+use Rattle.std.specs.Prelude.{Some}
 use Rattle.syslog_frame.specs.declared.limits.TheConstants.{FRAME_MAX}
 use Rattle.syslog_value.specs.Parts.{Parts}
-use Rattle.syslog_grammar.specs.Faults.{FaultOf}
 use Rattle.syslog_grammar.specs.declared.fault.Fault.{Fault}
 use Rattle.syslog_grammar.proofs.OneFault.{one_fault}
 use Rattle.syslog_legacy.proofs.FrameReadings.{fault_not_read, not_utf8, not_utf8_legacy, one_offset, one_reading}
 use Rattle.syslog_legacy.specs.FrameReadings.{Clock}
 use Rattle.syslog_legacy.specs.NewForm.{HasNewForm}
-use Rattle.syslog_legacy.specs.Readings.{Legacy, NotUtf8At, ReadAs}
+use Rattle.syslog_legacy.specs.Readings.{Legacy, ReadAs}
 use Rattle.syslog_legacy.specs.declared.clock.LegacyClock.{LegacyClock}
 use Rattle.frame_engine.specs.Readings.{IsRecordOf, IsRefusedWith}
 use Rattle.frame_engine.specs.declared.line.Line.{Line}
@@ -42,22 +41,6 @@ one_line clock n f l m (inr (inr (few, form, x, bad, e))) (inr (inr (few', form'
 
 -- ---- a frame under a clock
 
-pub not_so : (A : Type 0) (b : Bool) → b ≡ false → (IsTrue b ↔ A) → ¬ A
-not_so A b e h a = let t : b ≡ true = h.1 a in absurd cc
-
 pub legacy_record : (clock : Clock) (k : LegacyClock) (r : Parts ℤ) (f : List ℕ) → clock ≡ Some k → length f ≤ FRAME_MAX
     → ¬ (HasNewForm f) → Legacy k (ReadAs r) f → IsRecordOf clock r f
 legacy_record clock k r f e few form is = (few, rw e (inr (form, is)))
-
-pub legacy_refused : (clock : Clock) (k : LegacyClock) (n offset : ℕ) (f : List ℕ) → clock ≡ Some k
-    → length f ≤ FRAME_MAX → ¬ (HasNewForm f) → Legacy k (NotUtf8At offset) f
-    → IsRefusedWith clock n f (LegacyNotUtf8 n offset)
-legacy_refused clock k n offset f e few form stops = inr (inl (few, offset, rw e (form, stops), refl))
-
-pub new_form_refused : (clock : Clock) (k : LegacyClock) (n : ℕ) (f : List ℕ) (fault : Fault) → clock ≡ Some k
-    → length f ≤ FRAME_MAX → HasNewForm f → FaultOf f fault → IsRefusedWith clock n f (Refused n fault)
-new_form_refused clock k n f fault e few form bad = inr (inr (few, (rw e (λ no. no form)), fault, bad, refl))
-
-pub fault_refused : (clock : Clock) (n : ℕ) (f : List ℕ) (fault : Fault) → clock ≡ None → length f ≤ FRAME_MAX
-    → FaultOf f fault → IsRefusedWith clock n f (Refused n fault)
-fault_refused clock n f fault e few bad = inr (inr (few, (rw e (λ no. no)), fault, bad, refl))

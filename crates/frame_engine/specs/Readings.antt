@@ -1,5 +1,5 @@
 -- As what a frame is read, and why it is no record.
-use Rattle.std.specs.Prelude.{◌≡◌, ◌≤◌, ◌<◌, ℕ, ℤ, List, ◌⊎◌, length}
+use Rattle.std.specs.Prelude.{◌≡◌, ◌≤◌, ◌<◌, ℕ, ℤ, List, ◌⊎◌, Option, None, Some, length}
 use Rattle.syslog_frame.specs.declared.limits.TheConstants.{FRAME_MAX}
 use Rattle.syslog_value.specs.Parts.{Parts}
 use Rattle.syslog_grammar.specs.Appending.{Adds}
@@ -18,6 +18,10 @@ use Rattle.frame_engine.specs.declared.reading.Reading.TheVariants as reading
 -- a frame within the limit is read as this record
 abbrev pub IsRecordOf : Clock → Parts ℤ → List ℕ → Type 0
 IsRecordOf clock r f = (length f ≤ FRAME_MAX) × IsReadAs clock r f
+
+-- the frame is read as a record of RFC 5424, if it is one, and not as a legacy packet
+abbrev pub IsReadNew : Clock → List ℕ → Type 0
+IsReadNew clock f = ((r : Parts ℤ) → WellFormed r f → IsReadAs clock r f) × ¬ (IsLegacy clock f)
 
 -- the line on a frame that is no record: it is too long; or a legacy packet whose message is no
 -- UTF-8 at this offset; or no legacy packet, and no record of RFC 5424 because of this fault
@@ -39,3 +43,9 @@ IsReadingOf clock f (reading.Legacy view) = IsRecordOf clock (legacy_view_parts 
 -- the canonical octets of the record that the frame is read as follow the old octets
 abbrev pub AddsRecord : Clock → List ℕ → List ℕ → List ℕ → Type 0
 AddsRecord clock f old new = (r : Parts ℤ) × IsRecordOf clock r f × Adds (Canonical r) old new
+
+-- the canonical octets of the record that the frame is read as follow the old octets; or the line says why there is
+-- none, and nothing does
+abbrev pub PutsReading : Clock → ℕ → List ℕ → List ℕ → List ℕ → Option Line → Type 0
+PutsReading clock n f old new None = AddsRecord clock f old new
+PutsReading clock n f old new (Some line) = IsRefusedWith clock n f line × (new ≡ old)

@@ -1,15 +1,14 @@
 //! `convert`: the canonical octets of each record.
 
-ghost use Rattle.std.specs.Prelude.{◌≡◌, ◌<◌, List, ℕ, OnErr, OnOk, Some, length};
-ghost use Rattle.frame_engine.specs.Converted.{Converts, Framed, noted_line};
+ghost use Rattle.std.specs.Prelude.{◌≡◌, ◌<◌, OnErr, OnOk, length};
+ghost use Rattle.frame_engine.specs.Converted.{Framed, noted_line};
 ghost use Rattle.frame_engine.specs.Pending.{Adds, done_of};
 ghost use Rattle.frame_engine.specs.Handling.{then_done};
-ghost use Rattle.frame_engine.specs.Readings.{IsReadingOf};
 
 use crate::frame_handler::FrameHandler;
 use crate::line::{Line, put_line};
 use crate::pending::PendingOutput;
-use crate::reading::{Reading, read_frame};
+use crate::reading::put_reading;
 use std::alloc::{AllocError, Global};
 use syslog_frame::{Framing, PutFault, put_frame};
 use syslog_legacy::LegacyClock;
@@ -51,29 +50,6 @@ fn put_framed(framing: Framing, number: u64, done: &mut PendingOutput) -> Result
     }
 }
 
-impl Convert {
-    // Appends the canonical octets of a record to the output.
-    fn put_record(
-        &self,
-        number: u64,
-        reading: &Reading<'_>,
-        done: &mut PendingOutput,
-    ) -> Result<(), AllocError>
-        requires { (f : List ℕ) × IsReadingOf self.now.clock f reading.now }
-        ensures ok { OnOk result ((f : List ℕ) → IsReadingOf self.now.clock f reading.now →
-            Adds (Converts self.now.clock self.now.to number f)
-            (done_of done.old) (done_of done.new)) }
-        ensures err { OnErr result (done_of done.new ≡ done_of done.old) }
-    {
-        let Some(framing) = self.to else {
-            return reading.put_canonical(self.alloc, &mut done.output);
-        };
-        done.scratch.clear();
-        reading.put_canonical(self.alloc, &mut done.scratch)?;
-        put_framed(framing, number, done)
-    }
-}
-
 impl FrameHandler for Convert {
     ghost use Rattle.std.proofs.Common.{inl, inr, refl};
     ghost use Rattle.frame_engine.specs.Converted.{convert_handling, noted_line};
@@ -89,9 +65,18 @@ impl FrameHandler for Convert {
         frame: &[u8],
         done: &mut PendingOutput,
     ) -> Result<(), AllocError> {
-        match read_frame(self.clock, number, frame) {
-            Ok(reading) => self.put_record(number, &reading, done),
-            Err(line) => note_line(line, done),
+        let Some(framing) = self.to else {
+            let out = &mut done.output;
+            return match put_reading(self.clock, number, frame, self.alloc, out)? {
+                None => Ok(()),
+                Some(line) => note_line(line, done),
+            };
+        };
+        done.scratch.clear();
+        let out = &mut done.scratch;
+        match put_reading(self.clock, number, frame, self.alloc, out)? {
+            None => put_framed(framing, number, done),
+            Some(line) => note_line(line, done),
         }
     }
 

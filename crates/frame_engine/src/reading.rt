@@ -1,11 +1,13 @@
 //! How a frame is read.
 
-ghost use Rattle.std.specs.Prelude.{◌≡◌, ℤ, List, ℕ, IfErr, IfOk, OnErr, OnOk};
+ghost use Rattle.std.specs.Prelude.{◌≡◌, ◌≤◌, ℤ, List, ℕ, IfErr, IfOk, MatchOption, OnErr, OnOk, Some, length};
 ghost use Rattle.syslog_value.specs.Parts.{Parts};
 ghost use Rattle.syslog_grammar.specs.ViewParts.{IsViewOf, view_parts};
 ghost use Rattle.syslog_grammar.specs.Faults.{FaultOf};
 ghost use Rattle.syslog_legacy.specs.FrameReadings.{Clock};
-ghost use Rattle.frame_engine.specs.Readings.{AddsRecord, IsReadingOf, IsRecordOf, IsRefusedWith};
+ghost use Rattle.syslog_legacy.specs.NewForm.{HasNewForm};
+ghost use Rattle.frame_engine.specs.Readings.{IsReadNew, IsReadingOf, IsRecordOf, IsRefusedWith};
+ghost use Rattle.frame_engine.specs.Readings.{PutsReading};
 
 use crate::line::Line;
 use std::alloc::{AllocError, Global};
@@ -21,6 +23,20 @@ pub enum Reading<'a> {
     Record(RecordView<'a>),
     /// A legacy packet (RFC 3164).
     Legacy(LegacyView<'a>),
+}
+
+/// The clock by which a frame is read as a legacy packet, if it is read as one: there is a clock, and
+/// the frame has not the front of RFC 5424.
+#[inline(always)]
+fn legacy_clock(clock: Option<LegacyClock>, frame: &[u8]) -> Option<LegacyClock>
+    ensures { MatchOption result (IsReadNew clock frame.now)
+        (λ k. (clock ≡ Some k) × ¬ (HasNewForm frame.now)) }
+{
+    let clock = clock?;
+    if has_new_form(frame) {
+        return None;
+    }
+    Some(clock)
 }
 
 /// Reads a frame, which has this number. With a clock, a frame without the front of RFC 5424 is a
@@ -41,16 +57,14 @@ pub fn read_frame<'a>(
     if frame.len() > FRAME_MAX {
         return Err(Line::TooLong { number });
     }
-    if let Some(clock) = clock {
-        if !has_new_form(frame) {
-            return match legacy_view(&clock, frame) {
-                Ok(view) => Ok(Reading::Legacy(view)),
-                Err(fault) => Err(Line::LegacyNotUtf8 {
-                    number,
-                    offset: fault.offset,
-                }),
-            };
-        }
+    if let Some(clock) = legacy_clock(clock, frame) {
+        return match legacy_view(&clock, frame) {
+            Ok(view) => Ok(Reading::Legacy(view)),
+            Err(fault) => Err(Line::LegacyNotUtf8 {
+                number,
+                offset: fault.offset,
+            }),
+        };
     }
     match view(frame) {
         Ok(view) => Ok(Reading::Record(view)),
@@ -72,19 +86,63 @@ impl<'a> Reading<'a> {
             Reading::Legacy(view) => view.to_record(alloc),
         }
     }
+}
 
-    /// Appends the canonical octets of the record; where a growth is refused, nothing.
-    ///
-    /// # Errors
-    /// Out of memory.
-    pub fn put_canonical(&self, alloc: Global, out: &mut Vec<u8>) -> Result<(), AllocError>
-        ensures ok { (clock : Clock) (f : List ℕ) → IsReadingOf clock f self.now
-            → OnOk result (AddsRecord clock f out.old.items out.new.items) }
-        ensures err { OnErr result (out.new.items ≡ out.old.items) }
-    {
-        match self {
-            Reading::Record(view) => put_canonical(alloc, view, out),
-            Reading::Legacy(view) => put_legacy_canonical(view, out),
+/// Appends the canonical octets of a legacy packet, or gives the line that says why it is none.
+#[inline(never)]
+fn put_legacy(
+    clock: &LegacyClock,
+    number: u64,
+    frame: &[u8],
+    out: &mut Vec<u8>,
+) -> Result<Option<Line>, AllocError>
+    requires few { length frame.now ≤ FRAME_MAX }
+    requires legacy { ¬ (HasNewForm frame.now) }
+    ensures ok { IfOk result (λ line. PutsReading (Some clock.now) number frame.now
+        out.old.items out.new.items line) }
+    ensures err { OnErr result (out.new.items ≡ out.old.items) }
+{
+    match legacy_view(clock, frame) {
+        Ok(view) => {
+            put_legacy_canonical(&view, out)?;
+            Ok(None)
         }
+        Err(fault) => Ok(Some(Line::LegacyNotUtf8 {
+            number,
+            offset: fault.offset,
+        })),
+    }
+}
+
+/// Appends the canonical octets of the record that a frame is read as, as [`read_frame`] does.
+/// Where the frame is no record, nothing is appended, and the answer is the line that says why.
+///
+/// The allocator is used where element ids do not ascend.
+///
+/// # Errors
+/// Out of memory: nothing is appended.
+pub fn put_reading(
+    clock: Option<LegacyClock>,
+    number: u64,
+    frame: &[u8],
+    alloc: Global,
+    out: &mut Vec<u8>,
+) -> Result<Option<Line>, AllocError>
+    ensures ok { IfOk result (λ line. PutsReading clock number frame.now
+        out.old.items out.new.items line) }
+    ensures err { OnErr result (out.new.items ≡ out.old.items) }
+{
+    if frame.len() > FRAME_MAX {
+        return Ok(Some(Line::TooLong { number }));
+    }
+    if let Some(clock) = legacy_clock(clock, frame) {
+        return put_legacy(&clock, number, frame, out);
+    }
+    match view(frame) {
+        Ok(view) => {
+            put_canonical(alloc, &view, out)?;
+            Ok(None)
+        }
+        Err(fault) => Ok(Some(Line::Refused { number, fault })),
     }
 }

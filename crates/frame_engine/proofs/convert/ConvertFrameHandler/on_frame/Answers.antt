@@ -1,13 +1,61 @@
-use Rattle.std.proofs.Common.{refl, inl, inr}
+use Rattle.std.proofs.Common.{List, ℕ, refl, sym, subst}
+use Rattle.std.specs.Prelude.{Option}
 use Rattle.std.proofs.lemmas.Result.{on_ok_weaker}
+use Rattle.syslog_frame.specs.declared.framing.Framing.{Framing}
+use Rattle.frame_engine.specs.Converted.{Converts, convert_handling}
+use Rattle.frame_engine.specs.Pending.{Adds, done_of}
+use Rattle.frame_engine.specs.Readings.{AddsRecord}
+use Rattle.frame_engine.proofs.ConvertLemmas.{adds_after, bare, converted, in_frame, noted}
+use Rattle.frame_engine.proofs.HandlingLemmas.{build}
 use Rattle.frame_engine.proofs.convert.ConvertFrameHandler.on_frame.Goals as goal
 
-pub returns-in-Ok-clause-ok : goal.returns-in-Ok-clause-ok
-returns-in-Ok-clause-ok c =
-    on_ok_weaker c.put_record.result
-    (λ h. let (d, w, e) = h c.args.frame.now c.in-Ok.ensures.reading in (d, inl w, e)) c.put_record.ensures.ok
+pub returns-in-None-clause-ok : goal.returns-in-None-clause-ok
+returns-in-None-clause-ok c =
+    let clock = c.args.self.now.clock in
+    let to = c.args.self.now.to in
+    let f = c.args.frame.now in
+    let before = c.args.done.now in
+    let old = done_of before in
+    let new = build before.refused c.put_reading.new.out.items before.notes.items in
+    converted clock to c.args.number f old new
+    (subst (λ (t : Option Framing). Adds (Converts clock t c.args.number f) old new) (sym c.in_default.is)
+    (bare clock c.args.number f old new (rw c.in-None.is at c.in_ok-put_reading.ensures.ok) refl refl))
 
-pub returns-in-Err-clause-ok : goal.returns-in-Err-clause-ok
-returns-in-Err-clause-ok c =
-    on_ok_weaker c.note_line.result (λ e. (_, inr (c.in-Err.line, c.in-Err.ensures.refused, refl), e))
+pub returns-in-Some-2-clause-ok : goal.returns-in-Some-2-clause-ok
+returns-in-Some-2-clause-ok c =
+    let clock = c.args.self.now.clock in
+    let to = c.args.self.now.to in
+    let f = c.args.frame.now in
+    let new = done_of c.note_line.new.done in
+    let (is, same) = rw c.in-Some-2.is at c.in_ok-put_reading.ensures.ok in
+    on_ok_weaker c.note_line.result
+    (λ e. adds_after (convert_handling clock to c.args.number f) (done_of c.args.done.now) _ new refl same refl
+    (noted clock to c.args.number f c.in-Some-2.line _ new is e))
     c.note_line.ensures.ok
+
+pub returns-in-None-2-clause-ok : goal.returns-in-None-2-clause-ok
+returns-in-None-2-clause-ok c =
+    let clock = c.args.self.now.clock in
+    let to = c.args.self.now.to in
+    let f = c.args.frame.now in
+    let old = done_of c.args.done.now in
+    let new = done_of c.put_framed.new.done in
+    let scratch = c.put_reading-2.new.out.items in
+    on_ok_weaker c.put_framed.result
+    (λ h. converted clock to c.args.number f old new
+    (subst (λ (t : Option Framing). Adds (Converts clock t c.args.number f) old new) (sym c.in-Some.is)
+    (in_frame clock c.in-Some.framing c.args.number f scratch old _ new
+    (subst (λ (s : List ℕ). AddsRecord clock f s scratch) c.clear.ensures.items
+    (rw c.in-None-2.is at c.in_ok-put_reading-2.ensures.ok)) refl h)))
+    c.put_framed.ensures.ok
+
+pub returns-in-Some-3-clause-ok : goal.returns-in-Some-3-clause-ok
+returns-in-Some-3-clause-ok c =
+    let clock = c.args.self.now.clock in
+    let to = c.args.self.now.to in
+    let f = c.args.frame.now in
+    let new = done_of c.note_line-in-Some-3.new.done in
+    let (is, same) = rw c.in-Some-3.is at c.in_ok-put_reading-2.ensures.ok in
+    on_ok_weaker c.note_line-in-Some-3.result
+    (λ e. noted clock to c.args.number f c.in-Some-3.line (done_of c.args.done.now) new is e)
+    c.note_line-in-Some-3.ensures.ok
