@@ -1,6 +1,6 @@
 -- What comes of two archives that were joined.
 use Rattle.std.proofs.Common.{◌≡◌, ℕ, ◌+◌, ◌<◌, ◌^◌, ◌⊎◌, List, [], ◌++◌, Option, None, Some, IfSome, codes, length}
-use Rattle.std.proofs.Common.{refl, sym, ap, subst, ◌∙◌, inl, inr}
+use Rattle.std.proofs.Common.{refl, sym, subst, inl, inr, arith}
 use Rattle.std.specs.Prelude.{IsErrOf, Err}
 use Rattle.std.specs.Io.KnownBytes.{Appends, Consumes, IsAtEnd}
 use Rattle.std.proofs.KnownBytes.{Appends-nil, Consumes-whole}
@@ -14,7 +14,7 @@ use Rattle.archive_text.specs.declared.limits.TheConstants.{ENTRY_MAX}
 use Rattle.archive_streams.specs.Joined.{Joined}
 use Rattle.archive_streams.specs.Joining.{IsFirstWithin, IsUpToFirst}
 use Rattle.archive_text.specs.Positions.{position_of as at_of}
-use Rattle.archive_streams.specs.Merging.{WriteFailed}
+use Rattle.archive_streams.specs.Merging.{LeftReadFailed, RightReadFailed, WriteFailed}
 use Rattle.archive_streams.specs.Pieces.{Reader}
 use Rattle.archive_streams.specs.Stopped.{Stopped}
 use Rattle.archive_streams.specs.declared.fault.MergeFault.{MergeFault}
@@ -259,3 +259,25 @@ merge_cause (Write sent) dl el dr er t0 t1 n0 n1 f0 f1 h0 h1 w0 w1 m0 m1 cl cr w
     ]
 merge_cause Memory dl el dr er t0 t1 n0 n1 f0 f1 h0 h1 w0 w1 m0 m1 cl cr w m s left right writer device told =
     elim device [ inl e ↦ absurd e | inr rises ↦ inl rises ]
+
+-- ---- a reader failed
+
+pub left_failure : (fault : MergeFault) (old new : ℕ) → LeftReadFailed {X = ℕ} (Err fault) old new → old < new
+    → IsDeviceFault fault
+left_failure (Left f) old new same less = absurd (omega (arith, same, less))
+left_failure (Right f) old new same less = absurd (omega (arith, same, less))
+left_failure (Read side_Left) old new same less = tt
+left_failure (Read side_Right) old new same less = tt
+left_failure (Endless side) old new same less = tt
+left_failure (Write sent) old new same less = tt
+left_failure Memory old new same less = absurd (omega (arith, same, less))
+
+pub right_failure : (fault : MergeFault) (old new : ℕ) → RightReadFailed {X = ℕ} (Err fault) old new
+    → old < new → IsDeviceFault fault
+right_failure (Left f) old new same less = absurd (omega (arith, same, less))
+right_failure (Right f) old new same less = absurd (omega (arith, same, less))
+right_failure (Read side_Left) old new same less = tt
+right_failure (Read side_Right) old new same less = tt
+right_failure (Endless side) old new same less = tt
+right_failure (Write sent) old new same less = tt
+right_failure Memory old new same less = absurd (omega (arith, same, less))

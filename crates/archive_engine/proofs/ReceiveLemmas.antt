@@ -12,13 +12,13 @@ use Rattle.syslog_frame.proofs.Calls.{begins_reading, none_unless_frame, open_re
 use Rattle.syslog_frame.proofs.FrameLaws.{concatenation, unique_frames}
 use Rattle.syslog_frame.proofs.Reading.{frames_read}
 use Rattle.archive_text.specs.Entries.{Entry, Has}
-use Rattle.syslog_collect.specs.Answers.{IfUnreleased, IsEnding, ReportsBadCount}
+use Rattle.syslog_collect.specs.Answers.{IfUnreleased, IsEnding}
 use Rattle.syslog_collect.specs.Frames.{AreFramesOf, HasFrames, all_of}
 use Rattle.syslog_collect.specs.Headline.{IsSettled}
 use Rattle.syslog_collect.specs.History.{AcceptedEvent, Datagram, History, HoldsBadCount, Opened, Piece, accept}
 use Rattle.syslog_collect.specs.History.{history_of, initial}
 use Rattle.syslog_collect.specs.Logs.{Grows, IsLogOf, LogsOctets, ready_count, waiting}
-use Rattle.syslog_collect.specs.Outcomes.{AreReported, IsOutcome}
+use Rattle.syslog_collect.specs.Outcomes.{IsOutcome}
 use Rattle.syslog_legacy.specs.FrameReadings.{Clock}
 use Rattle.syslog_collect.specs.Standing.{AreAt, Stands}
 use Rattle.syslog_collect.specs.declared.connection.Connection.{Connection}

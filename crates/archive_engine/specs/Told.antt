@@ -1,5 +1,5 @@
 -- What is noted where a device's fault stops the archiving of an input.
-use Rattle.std.specs.Prelude.{◌≡◌, ℕ, List, [], ◌++◌, Option, IfSome, codes}
+use Rattle.std.specs.Prelude.{◌≡◌, ℕ, List, [], ◌++◌, Option, codes}
 use Rattle.std.specs.Io.KnownBytes.{Appends, Consumes}
 use Rattle.syslog_frame.specs.Frames.{Frames}
 use Rattle.syslog_legacy.specs.FrameReadings.{Clock}

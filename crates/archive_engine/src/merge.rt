@@ -72,6 +72,8 @@ pub fn merge_archives<R1: Input, R2: Input, W: Output, N: Output>(
         ⊎ ((R2.calls right.new ≡ R2.calls right.old + READER_CALLS)
         × (R2.ends right.new ≡ R2.ends right.old) × (line ≡ codes "right endless input\n"))))))) }
     ensures failed { N.failures notes.old < N.failures notes.new → result ≡ FAULT }
+    ensures left_failed { R1.failures left.old < R1.failures left.new → result ≡ FAULT }
+    ensures right_failed { R2.failures right.old < R2.failures right.new → result ≡ FAULT }
     ensures write_failed { W.failures writer.old < W.failures writer.new → result ≡ FAULT }
 {
     match merge_streams(alloc, left, right, writer) {

@@ -45,6 +45,11 @@ pub fn migrate_archive<R: Input, W: Output, N: Output>(
         N.failures notes.new ≡ N.failures notes.old →
         W.failures writer.old < W.failures writer.new →
         Appends (N.taken notes.old) (N.taken notes.new) (codes "write fault\n") }
+    ensures endless_told { AreSmall (R.calls old.old) (R.failures old.old) →
+        W.failures writer.old < 2 ^ 63 → N.failures notes.old < 2 ^ 63 → result ≡ FAULT →
+        R.failures old.new ≡ R.failures old.old → W.failures writer.new ≡ W.failures writer.old →
+        N.failures notes.new ≡ N.failures notes.old →
+        Appends (N.taken notes.old) (N.taken notes.new) (codes "old endless input\n") }
 {
     let text = match read_all(alloc, old, usize::MAX) {
         Ok(text) => text,

@@ -1,4 +1,4 @@
-use Rattle.std.proofs.Common.{◌<◌, ◌≡◌, ◌^◌, ◌∙◌, ap, arith, inl, inr, sym}
+use Rattle.std.proofs.Common.{◌∙◌, ap, arith, sym}
 use Rattle.frame_engine.specs.Pending.{done_of}
 use Rattle.archive_engine.proofs.ArchiveLemmas.{archive_answer, archive_prefix, stop_cause}
 use Rattle.archive_engine.proofs.TellLemmas.{same_failures, told_all, told_endless, told_read}

@@ -1,6 +1,6 @@
 use Rattle.std.proofs.Common.{◌≡◌, arith}
 use Rattle.archive_engine.proofs.MergeLemmas.{joined_answer, joined_fronts, merge_cause, merged_answer, refused_answer}
-use Rattle.archive_engine.proofs.MergeLemmas.{stopped_fronts}
+use Rattle.archive_engine.proofs.MergeLemmas.{stopped_fronts, left_failure, right_failure}
 use Rattle.archive_engine.proofs.merge.merge_archives.Goals as goal
 
 pub returns-in-Ok-clause-merged : goal.returns-in-Ok-clause-merged
@@ -28,3 +28,11 @@ returns-in-Err-clause-cause g c = λ one two w m fault.
     merge_cause c.in-Err.fault _ _ _ _ _ _ _ _ _ _ _ _ _ _ _ _ one.0 two.0 w m d.stopped (d.read_left one.1)
     (d.read_right two.1)
     d.writer (n.cause m fault) n.told
+
+pub returns-in-Err-clause-left_failed : goal.returns-in-Err-clause-left_failed
+returns-in-Err-clause-left_failed g c = λ less.
+    c.note_merge_fault.ensures.device (left_failure c.in-Err.fault _ _ c.in-Err.ensures.left less)
+
+pub returns-in-Err-clause-right_failed : goal.returns-in-Err-clause-right_failed
+returns-in-Err-clause-right_failed g c = λ less.
+    c.note_merge_fault.ensures.device (right_failure c.in-Err.fault _ _ c.in-Err.ensures.right less)
