@@ -26,7 +26,7 @@ pub enum Reading<'a> {
 }
 
 /// The clock by which a frame is read as a legacy packet, if it is read as one: there is a clock, and
-/// the frame has not the front of RFC 5424.
+/// the frame does not have the front of RFC 5424.
 #[inline(always)]
 fn legacy_clock(clock: Option<LegacyClock>, frame: &[u8]) -> Option<LegacyClock>
     ensures { MatchOption result (IsReadNew clock frame.now)

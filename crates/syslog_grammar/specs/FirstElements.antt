@@ -23,8 +23,8 @@ IsPaired mark [] = ⊤
 IsPaired mark (x ∷ []) = (x ≢ 92) × (x ≢ mark)
 IsPaired mark (x ∷ y ∷ s) = ((x ≡ 92) × IsPaired mark s) ⊎ ((x ≢ 92) × ((x ≢ mark) × IsPaired mark (y ∷ s)))
 
--- whether the octets end with a backslash that takes the octet after them, where an octet comes first that is taken
--- or none
+-- whether the octets end with a backslash that takes the octet after them (RFC 5424, 6.3.3), where true says that a
+-- backslash before them takes their first octet
 unfoldable pub takes_next : Bool → List ℕ → Bool
 takes_next b [] = b
 takes_next true (x ∷ s) = takes_next false s
