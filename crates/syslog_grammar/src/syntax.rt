@@ -91,10 +91,11 @@ pub fn parse(octets: &[u8]) -> Result<Parsed<'_>, Fault>
         Err(stop) => return Err(fault_before(octets, stop.remaining)),
     };
     match message_part(rest) {
-        Ok(message) => Ok(Parsed {
+        // taken apart, so that no padding is copied
+        Ok(MessageView { octets, has_mark }) => Ok(Parsed {
             fields,
             structured_data,
-            message,
+            message: MessageView { octets, has_mark },
             structured_data_remaining,
             is_form,
             ascends,

@@ -366,6 +366,8 @@ fn time(octets: &[u8]) -> Result<(Timestamp, &[u8]), Stop>
     let rest = expect(b'T', rest)?;
     let ((hour, minute, second), rest) = clock(rest)?;
     let ((micros, offset_minutes), rest) = fraction_and_zone(rest)?;
+    // made anew from its length: the slice would be copied through memory
+    let (_, rest) = octets.split_at(octets.len() - rest.len());
     let civil = Civil {
         year,
         month,

@@ -12,6 +12,7 @@ ghost use Rattle.syslog_grammar.specs.ViewParts.{IsViewOf, view_parts};
 ghost use Rattle.syslog_grammar.specs.WellFormed.{WellFormed};
 
 use crate::fault::Fault;
+use crate::message::MessageView;
 use crate::record_view::RecordView;
 use crate::repeated::first_repeated;
 use crate::syntax::{Parsed, parse};
@@ -72,6 +73,10 @@ pub fn view_of<'a>(octets: &'a [u8], spelling: Parsed<'a>) -> Result<RecordView<
             offset: octets.len() - spelling.structured_data_remaining + offset,
         });
     }
+    let MessageView {
+        octets: message,
+        has_mark,
+    } = spelling.message;
     Ok(RecordView {
         priority: fields.priority,
         micros,
@@ -80,7 +85,10 @@ pub fn view_of<'a>(octets: &'a [u8], spelling: Parsed<'a>) -> Result<RecordView<
         proc_id: fields.proc_id,
         msg_id: fields.msg_id,
         structured_data: spelling.structured_data,
-        message: spelling.message,
+        message: MessageView {
+            octets: message,
+            has_mark,
+        },
         behind_time: fields.behind_time,
         is_form: spelling.is_form,
         ascends: spelling.ascends,
