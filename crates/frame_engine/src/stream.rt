@@ -55,7 +55,8 @@ fn handle_next<D: FrameHandler>(
     }
 }
 
-/// Reads a piece, up to a bad MSG-LEN, and handles each frame that ends in it. `number` is that of
+/// Reads a piece, up to a bad MSG-LEN, and handles each frame that ends in it: as it lies in the
+/// piece where all of it does. `number` is that of
 /// the next frame. Returns the position of the bad MSG-LEN, if there is one.
 pub fn feed<D: FrameHandler>(
     handler: &D,
@@ -84,6 +85,12 @@ pub fn feed<D: FrameHandler>(
 {
     let mut rest = piece;
     while !rest.is_empty() {
+        if let Some(lent) = scanner.lend(rest) {
+            handler.on_frame(*number, lent.frame, done)?;
+            rest = &rest[lent.used..];
+            *number += 1;
+            continue;
+        }
         let Ok(used) = scanner.push(rest) else {
             unreachable!()
         };

@@ -10,7 +10,7 @@ use Rattle.syslog_frame.specs.declared.phase.Phase.TheVariants.{Inside, Ended}
 use Rattle.octet_language.proofs.Lists.{AllByRecursion-append}
 use Rattle.syslog_frame.proofs.Cuts.{free_prefix, one_taken}
 
-nowhere : (s : List ℕ) (n : ℕ) → n ≤ length s → Nowhere (Passes (is_byte 10) s) 0 n → IsLine (take n s)
+pub nowhere : (s : List ℕ) (n : ℕ) → n ≤ length s → Nowhere (Passes (is_byte 10) s) 0 n → IsLine (take n s)
 nowhere s n within h = free_prefix 10 s n within (λ k less e. h k (omega arith) less (eq-eqb (get_or s k 0) 10 e))
 
 pub line_ends : (most size at : ℕ) (kept new p piece : List ℕ) → at < length piece

@@ -1,4 +1,5 @@
 pub mod Frames
+pub mod Lent
 pub mod MsgLen
 pub mod Count
 pub mod Scan

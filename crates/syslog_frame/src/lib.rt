@@ -3,12 +3,14 @@
 //!
 //! A [`Scanner`] keeps one unfinished frame. Feed it by [`Scanner::push`] until the piece is empty,
 //! look at [`Scanner::ready`] after each call, and drop what was ready by [`Scanner::release`].
+//! [`Scanner::lend`] gives a frame that lies whole in the piece without a copy.
 #![tactic(auto)]
 
 mod count;
 mod fault;
 mod framing;
 mod laws;
+mod lent;
 mod limits;
 mod phase;
 mod pieces;
@@ -24,6 +26,7 @@ pub use laws::{
     bad_counts_end_streams, frames_are_unique, frames_begin, frames_go_on,
     frames_of_a_concatenation, streams_have_frames,
 };
+pub use lent::LentFrame;
 pub use limits::{COUNT_MAX, FRAME_MAX, POSITION_MAX};
 pub use pieces::{StreamEnd, StreamFrames, frames_of_pieces};
 pub use put::put_frame;

@@ -1,8 +1,9 @@
 //! The scanner.
 
 ghost use Rattle.std.specs.Prelude.{◌≡◌, ◌≤◌, ◌<◌, ◌+◌, ◌++◌, ◌∷◌, ◌↔◌, ℕ, List, [], length, take};
-ghost use Rattle.std.specs.Prelude.{IfOk, OnErr, OnOk, IsTrue, false};
+ghost use Rattle.std.specs.Prelude.{IfOk, IfSome, IsNone, OnErr, OnOk, OnSome, IsTrue, false};
 ghost use Rattle.syslog_frame.specs.Frames.{Frame, Whole};
+ghost use Rattle.syslog_frame.specs.Lent.{IsLent};
 ghost use Rattle.syslog_frame.specs.Ready.{IsEnd, IsReady, ImpliedOf};
 ghost use Rattle.syslog_frame.specs.Reads.{IsReadyBehind, Reads, ReadsOn, StopsBehind};
 ghost use Rattle.syslog_frame.specs.Scan.{HasBadCount, HasFrame, HasReady};
@@ -13,6 +14,7 @@ ghost use Rattle.syslog_frame.specs.declared.framing.Framing.{Framing};
 
 use crate::fault::{EndFault, ScanFault, StartFault};
 use crate::framing::Framing;
+use crate::lent::{LentFrame, lent_frame};
 use crate::limits::{FRAME_MAX, POSITION_MAX};
 use crate::phase::Phase;
 use crate::ready::Ready;
@@ -144,6 +146,52 @@ impl Scanner {
                 self.size = taken.size;
                 self.position += taken.used as u64;
                 Ok(taken.used)
+            }
+        }
+    }
+
+    /// Lends the frame that the piece begins with, where the scanner is between two frames and all of
+    /// this one lies in the piece: what `push`, `ready` and `release` do together, without a copy.
+    /// Otherwise nothing is taken, and the piece is for `push`.
+    #[inline]
+    pub fn lend<'a>(&mut self, piece: &'a [u8]) -> Option<LentFrame<'a>>
+        // What is lent, and where the scanner is then.
+        ensures lends { IsReading self.old → (kind : Framing) (position : ℕ)
+            → Stands FRAME_MAX self.old kind position [] → position + length piece.now ≤ POSITION_MAX
+            → IsLent FRAME_MAX kind piece.now result }
+        ensures reading { OnSome result (IsReading self.old × IsReading self.new) }
+        ensures progress { IfSome result (λ lent. 0 < lent.used × (lent.used ≤ length piece.now)) }
+        ensures position { IfSome result (λ lent. self.new.position ≡ self.old.position + lent.used) }
+        ensures bound { OnSome result (self.new.position ≤ POSITION_MAX) }
+        ensures stands { IfSome result (λ lent. (kind : Framing) (position : ℕ) (p : List ℕ)
+            → Stands FRAME_MAX self.old kind position p
+            → (p ≡ []) × Stands FRAME_MAX self.new kind (position + lent.used) []) }
+        ensures reads { IfSome result (λ lent. (kind : Framing) (first : ℕ) (octets : List ℕ)
+            (frames : List (List ℕ)) (rest : List ℕ)
+            → Reads FRAME_MAX self.old kind first octets frames rest
+            → Frame kind lent.frame.now (take lent.used piece.now)
+            × Reads FRAME_MAX self.new kind first (octets ++ take lent.used piece.now)
+            (frames ++ lent.frame.now ∷ []) []) }
+
+        // What else is left.
+        ensures same { IsNone result → self.new ≡ self.old }
+    {
+        match self.phase {
+            Phase::Failed | Phase::Ended | Phase::BadCount => None,
+            Phase::Counting | Phase::Inside => {
+                if self.start != self.position {
+                    return None;
+                }
+                if POSITION_MAX - self.position < piece.len() as u64 {
+                    return None;
+                }
+                let Some(lent) = lent_frame(self.framing, piece) else {
+                    return None;
+                };
+                let behind = self.position + lent.used as u64;
+                self.position = behind;
+                self.start = behind;
+                Some(lent)
             }
         }
     }

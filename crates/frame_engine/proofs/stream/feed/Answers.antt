@@ -1,9 +1,10 @@
-use Rattle.std.proofs.Common.{◌<◌, ◌++◌, length, take, ap, arith, rules, inl, inr}
+use Rattle.std.proofs.Common.{◌≡◌, ◌<◌, ◌++◌, length, take, refl, sym, subst, ap, arith, rules, inl, inr}
 use Rattle.std.proofs.lemmas.List.{length-drop, take_rest}
 use Rattle.std.proofs.lemmas.Result.{err_from_is_err_and}
-use Rattle.syslog_frame.specs.Scan.{Scan, HasBadCount, HasFrame}
+use Rattle.syslog_frame.specs.Scan.{Scan, HasBadCount, HasFrame, IsReading}
+use Rattle.frame_engine.specs.Pending.{done_of}
 use Rattle.frame_engine.specs.Handling.{then_done}
-use Rattle.frame_engine.proofs.StreamLemmas.{handled_nothing, handled_frame, handled_bad, handled_part}
+use Rattle.frame_engine.proofs.StreamLemmas.{HandledPiece, handled_nothing, handled_frame, handled_bad, handled_part}
 use Rattle.frame_engine.proofs.stream.feed.Goals as goal
 
 not_bad : (s : Scan) → HasFrame s → ¬ (HasBadCount s)
@@ -11,7 +12,8 @@ not_bad s frame bad = absurd cc
 
 pub returns-in_err-handle_next-clause-err : goal.returns-in_err-handle_next-clause-err
 returns-in_err-handle_next-clause-err g c =
-    let p = err_from_is_err_and c.from_residual.result c.from_residual.ensures.1 in
+    let p = err_from_is_err_and c.from_residual-in_err-handle_next.result
+    c.from_residual-in_err-handle_next.ensures.1 in
     rw p.1
     (λ kind octets before h.
     handled_part _ c.loop-rest.scanner kind octets c.args.piece.now c.loop-rest.rest.now _ _ _
@@ -19,6 +21,8 @@ returns-in_err-handle_next-clause-err g c =
 
 pub loop-rest-preserved-in-Nothing : goal.loop-rest-preserved-in-Nothing
 loop-rest-preserved-in-Nothing g c =
+    let same : c.lend.new.self ≡ c.loop-rest.scanner = c.in_default.ensures.same refl in
+    let reading = subst IsReading (sym same) c.loop-rest.invariant.reading in
     let rest = c.loop-rest.rest.now in
     let n = c.in-Ok.used in
     rw (take_rest rest n)
@@ -30,33 +34,42 @@ loop-rest-preserved-in-Nothing g c =
         c.in-Ok.ensures.position,
         c.in-Ok.ensures.within,
         c.loop-rest.invariant.position,
+        ap (λ (s : Scan). s.position) same,
         length-drop n rest,
       );
       few = omega (arith, c.loop-rest.invariant.few, length-drop n rest);
       handled = λ kind octets before h.
-          let d = c.loop-rest.invariant.handled kind octets before h in
+          let d = subst (λ (s : Scan). HandledPiece (g.D.FrameHandler.handles c.args.handler.now) s kind octets
+          c.args.piece.now rest c.loop-rest.number (then_done before (done_of c.loop-rest.done))) (sym same)
+          (c.loop-rest.invariant.handled kind octets before h) in
           let on = c.in-Ok.ensures.reads kind 0 (octets ++ d.0) d.2.frames d.2.rest d.2.reads
-          (λ b. c.loop-rest.invariant.reading.0 (inr b)) in
+          (λ b. reading.0 (inr b)) in
           let same = rw c.in-Nothing.is at (c.in_ok-handle_next.ensures.handles kind ((octets ++ d.0) ++ take n rest)
           d.2.frames (d.2.rest ++ take n rest) on.reads) in
-          handled_nothing _ c.loop-rest.scanner c.push.new.self kind octets c.args.piece.now rest _ n _ _ d on
+          handled_nothing _ c.lend.new.self c.push.new.self kind octets c.args.piece.now rest _ n _ _ d on
           (ap (then_done before) same);
     })
 
 pub returns-in-Bad-clause-handles : goal.returns-in-Bad-clause-handles
 returns-in-Bad-clause-handles g c = λ kind octets before h more.
+    let same : c.lend.new.self ≡ c.loop-rest.scanner = c.in_default.ensures.same refl in
+    let reading = subst IsReading (sym same) c.loop-rest.invariant.reading in
     let rest = c.loop-rest.rest.now in
     let n = c.in-Ok.used in
-    let d = c.loop-rest.invariant.handled kind octets before h in
+    let d = subst (λ (s : Scan). HandledPiece (g.D.FrameHandler.handles c.args.handler.now) s kind octets
+    c.args.piece.now rest c.loop-rest.number (then_done before (done_of c.loop-rest.done))) (sym same)
+    (c.loop-rest.invariant.handled kind octets before h) in
     let on = c.in-Ok.ensures.reads kind 0 (octets ++ d.0) d.2.frames d.2.rest d.2.reads
-    (λ b. c.loop-rest.invariant.reading.0 (inr b)) in
+    (λ b. reading.0 (inr b)) in
     let reported = rw c.in-Bad.is at (c.in_ok-handle_next.ensures.handles kind ((octets ++ d.0) ++ take n rest)
     d.2.frames (d.2.rest ++ take n rest) on.reads) in
-    handled_bad _ c.loop-rest.scanner c.push.new.self kind octets c.args.piece.now rest _ n c.in-Bad.at _ _ d on
+    handled_bad _ c.lend.new.self c.push.new.self kind octets c.args.piece.now rest _ n c.in-Bad.at _ _ d on
     (rw c.in-Bad.is at c.in_ok-handle_next.ensures.reports) reported.1 (ap (then_done before) reported.0) more
 
 pub loop-rest-preserved : goal.loop-rest-preserved
 loop-rest-preserved g c =
+    let same : c.lend.new.self ≡ c.loop-rest.scanner = c.in_default.ensures.same refl in
+    let reading = subst IsReading (sym same) c.loop-rest.invariant.reading in
     let rest = c.loop-rest.rest.now in
     let n = c.in-Ok.used in
     rw (take_rest rest n)
@@ -68,22 +81,56 @@ loop-rest-preserved g c =
         c.in-Ok.ensures.position,
         c.in-Ok.ensures.within,
         c.loop-rest.invariant.position,
+        ap (λ (s : Scan). s.position) same,
         length-drop n rest,
       );
       few =
           let frame : HasFrame c.push.new.self = rw c.in-Handled.is at c.in_ok-handle_next.ensures.reports in
           let some : 0 < length rest = search rules in
-          let more : 0 < n = c.in-Ok.ensures.progress c.loop-rest.invariant.reading some (not_bad c.push.new.self frame)
+          let more : 0 < n = c.in-Ok.ensures.progress reading some (not_bad c.push.new.self frame)
           in
           omega (arith, c.loop-rest.invariant.few, length-drop n rest, more, c.in-Ok.ensures.within);
       handled = λ kind octets before h.
-          let d = c.loop-rest.invariant.handled kind octets before h in
+          let d = subst (λ (s : Scan). HandledPiece (g.D.FrameHandler.handles c.args.handler.now) s kind octets
+          c.args.piece.now rest c.loop-rest.number (then_done before (done_of c.loop-rest.done))) (sym same)
+          (c.loop-rest.invariant.handled kind octets before h) in
           let on = c.in-Ok.ensures.reads kind 0 (octets ++ d.0) d.2.frames d.2.rest d.2.reads
-          (λ b. c.loop-rest.invariant.reading.0 (inr b)) in
+          (λ b. reading.0 (inr b)) in
           let f = rw c.in-Handled.is at (c.in_ok-handle_next.ensures.handles kind ((octets ++ d.0) ++ take n rest)
           d.2.frames (d.2.rest ++ take n rest) on.reads) in
           let begun = c.release.ensures.reads kind 0 ((octets ++ d.0) ++ take n rest) d.2.frames
           (d.2.rest ++ take n rest) f.0 on.reads f.1 in
-          handled_frame _ c.loop-rest.scanner c.release.new.self kind octets c.args.piece.now rest _ n f.0 before _ _ d
+          handled_frame _ c.lend.new.self c.release.new.self kind octets c.args.piece.now rest _ n f.0 before _ _ d
           begun f.2;
     })
+
+pub loop-rest-preserved-in-Some : goal.loop-rest-preserved-in-Some
+loop-rest-preserved-in-Some g c =
+    let rest = c.loop-rest.rest.now in
+    let n = c.in-Some.lent.used in
+    let lent = c.in-Some.ensures in
+    rw (take_rest rest n)
+    (record {
+      reading = lent.reading.1;
+      position = omega (
+        arith,
+        lent.position,
+        lent.progress.1,
+        c.loop-rest.invariant.position,
+        length-drop n rest,
+      );
+      few = omega (arith, c.loop-rest.invariant.few, length-drop n rest, lent.progress.0, lent.progress.1);
+      handled = λ kind octets before h.
+          let d = c.loop-rest.invariant.handled kind octets before h in
+          let begun = lent.reads kind 0 (octets ++ d.0) d.2.frames d.2.rest d.2.reads in
+          handled_frame _ c.loop-rest.scanner c.lend.new.self kind octets c.args.piece.now rest _ n
+          c.in-Some.lent.frame.now before _ _ d begun.1 c.in_ok-on_frame.ensures.ok;
+    })
+
+pub returns-in_err-on_frame-clause-err : goal.returns-in_err-on_frame-clause-err
+returns-in_err-on_frame-clause-err g c =
+    let p = err_from_is_err_and c.from_residual.result c.from_residual.ensures.1 in
+    rw p.1
+    (λ kind octets before h.
+    handled_part _ c.loop-rest.scanner kind octets c.args.piece.now c.loop-rest.rest.now _ _ _
+    (c.loop-rest.invariant.handled kind octets before h) (ap (then_done before) c.in_err-on_frame.ensures.err))

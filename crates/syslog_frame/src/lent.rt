@@ -1,0 +1,84 @@
+//! A frame that lies whole in octets, lent from them.
+
+ghost use Rattle.std.specs.Prelude.{◌≡◌, ◌<◌, ◌≤◌, ◌++◌, ◌∷◌, [], decimal, length, take};
+ghost use Rattle.syslog_frame.specs.Lent.{IsLent};
+ghost use Rattle.syslog_frame.specs.declared.framing.Framing.TheVariants.{Counted, Lf};
+
+use crate::count::{CountStep, count_on};
+use crate::framing::Framing;
+use crate::limits::{COUNT_MAX, FRAME_MAX};
+use memchr::memchr;
+
+/// A frame that lies whole in octets of a stream.
+#[derive(Clone, Copy, Debug, PartialEq, Eq)]
+pub struct LentFrame<'a> {
+    /// The frame.
+    pub frame: &'a [u8],
+    /// So many octets it takes on the stream.
+    pub used: usize,
+}
+
+/// The record of so many octets behind its count, which takes the first `used` octets.
+#[inline(always)]
+fn counted_record(count: u64, used: usize, octets: &[u8]) -> Option<LentFrame<'_>>
+    requires some { 0 < count }
+    requires small { count ≤ COUNT_MAX }
+    requires within { used ≤ length octets.now }
+    requires digits { take used octets.now ≡ decimal count ++ 32 ∷ [] }
+    ensures { IsLent FRAME_MAX Counted octets.now result }
+{
+    let (_, behind) = octets.split_at(used);
+    if count > FRAME_MAX as u64 {
+        return None;
+    }
+    let len = count as usize;
+    if len > behind.len() {
+        return None;
+    }
+    let (frame, _) = behind.split_at(len);
+    Some(LentFrame {
+        frame,
+        used: used + len,
+    })
+}
+
+/// The counted frame that comes first.
+#[inline(always)]
+fn counted_frame(octets: &[u8]) -> Option<LentFrame<'_>>
+    ensures { IsLent FRAME_MAX Counted octets.now result }
+{
+    match count_on(0, octets) {
+        CountStep::Read { count, used } => counted_record(count, used, octets),
+        CountStep::Unfinished { .. } => None,
+        CountStep::Broken { .. } => None,
+    }
+}
+
+/// The line that comes first.
+#[inline(always)]
+fn line(octets: &[u8]) -> Option<LentFrame<'_>>
+    ensures { IsLent FRAME_MAX Lf octets.now result }
+{
+    let Some(at) = memchr(b'\n', octets) else {
+        return None;
+    };
+    if at > FRAME_MAX {
+        return None;
+    }
+    let (frame, _) = octets.split_at(at);
+    Some(LentFrame {
+        frame,
+        used: at + 1,
+    })
+}
+
+/// The frame that comes first, where all of it is there and it is no longer than a frame may be.
+#[inline(always)]
+pub fn lent_frame(framing: Framing, octets: &[u8]) -> Option<LentFrame<'_>>
+    ensures { IsLent FRAME_MAX framing octets.now result }
+{
+    match framing {
+        Framing::Counted => counted_frame(octets),
+        Framing::Lf => line(octets),
+    }
+}
