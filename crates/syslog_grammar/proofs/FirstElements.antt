@@ -157,7 +157,7 @@ paired_params (p ∷ ps) b (x, y, e, h, k) = subst (IsPaired 93) (sym e) (paired
 
 -- ---- the mark that no backslash takes
 
-is_test : (x : ℕ) → x ≢ 92 → (x == 92) ≡ false
+pub is_test : (x : ℕ) → x ≢ 92 → (x == 92) ≡ false
 is_test x ne = grind (arith, nat_tests, ne)
 
 -- octets that are paired end with none

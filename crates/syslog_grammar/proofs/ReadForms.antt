@@ -13,14 +13,13 @@ use Rattle.syslog_grammar.specs.Forms.{IsForm, ReadsForm, HasForm, BeginsLone, p
 use Rattle.syslog_grammar.specs.Forms.{IsValueForm, ReadsElement}
 use Rattle.syslog_grammar.specs.Grammar.{Param}
 use Rattle.syslog_grammar.specs.Spans.{ParamSpan, SpannedParam, ElementSpan, SpannedElement}
-use Rattle.syslog_grammar.specs.Values.{AreEscapes, AreLone, IsSpecial, IsPlain, IsPlainOctet, PassesEscapes}
-use Rattle.syslog_grammar.specs.Values.{PassesLone, PassesPlain, Piece, Spells}
+use Rattle.syslog_grammar.specs.Values.{IsSpecial, IsPlain, IsPlainOctet, PassesPlain, Piece, Spells}
 use Rattle.syslog_grammar.proofs.CanonicalParses.{bare}
 use Rattle.syslog_grammar.proofs.Characters.{character_some}
 use Rattle.syslog_grammar.proofs.DataForms.{form_text}
 use Rattle.syslog_grammar.proofs.Unescaped.{plain_bare}
 use Rattle.syslog_grammar.proofs.ValueForms.{escaped_join, escaped_special, joined}
-use Rattle.syslog_grammar.proofs.Values.{lone_piece, no_special, plain_octet}
+use Rattle.syslog_grammar.proofs.Values.{no_special, plain_octet}
 
 -- ---- one text after the other
 
@@ -126,27 +125,6 @@ plain_read a b from rest p r = over p.run p.plain (subst (ReadsForm (Each Piece)
     over [] h k = k
     over (x ∷ s) h k = over s h.1 (exact_read Piece escaped a b (x ∷ (s ++ rest)) (s ++ rest) k (one x (s ++ rest) h.0))
 
-pub escapes_read : (a : Bool) (b from rest : List ℕ) → PassesEscapes from rest
-    → ReadsForm (Each Piece) pieces_form a b from → ReadsForm (Each Piece) pieces_form a b rest
-unfolding AreEscapes
-escapes_read a b from rest p r = over p.run p.escapes (subst (ReadsForm (Each Piece) pieces_form a b) p.parts r)
-  where
-    one : (x : ℕ) (s : List ℕ) → IsSpecial x → ReadsForm Piece escaped true (92 ∷ x ∷ s) s
-    one x s special = record {
-      value = x ∷ [];
-      text = 92 ∷ x ∷ [];
-      parts = refl;
-      is = inl (x, special, refl, refl);
-      answer = sym (escaped_special x [] special);
-    }
-
-    over : (s : List ℕ) → AreEscapes s → ReadsForm (Each Piece) pieces_form a b (s ++ rest)
-        → ReadsForm (Each Piece) pieces_form a b rest
-    over [] h k = k
-    over (x ∷ []) h k = absurd h
-    over (x ∷ y ∷ s) h k = over s h.2 (exact_read Piece escaped a b (92 ∷ y ∷ (s ++ rest)) (s ++ rest)
-        (subst (λ (n : ℕ). ReadsForm (Each Piece) pieces_form a b (n ∷ y ∷ (s ++ rest))) h.0 k) (one y (s ++ rest) h.1))
-
 plain_first : (c behind : List ℕ) → IsPlain c → IfFirst (λ x. ¬ (IsSpecial x)) (c ++ behind)
 plain_first [] behind h = absurd (character_some h.0)
 plain_first (x ∷ c) behind h = λ s. no_special x c s h
@@ -190,26 +168,6 @@ piece_read rest behind false not_lone lone (t, e, (m, inr (inl (c, k, f, i)))) =
     record { value = m; text = t; parts = e; is = inr (inl (c, k, f, i)); answer = longer }
 piece_read rest behind false not_lone lone (t, e, (m, inr (inr (k, i)))) =
     absurd (not_lone_plain rest behind t m k e i (lone (λ u. absurd cc)))
-
--- a value that is not canonical stays so
-pub lone_read : (a : Bool) (b from rest : List ℕ) → PassesLone from rest → (IsTrue a → rest ≡ from)
-    → ReadsForm (Each Piece) pieces_form a b from → ReadsForm (Each Piece) pieces_form a b rest
-unfolding AreLone
-lone_read true b from rest p same r = subst (ReadsForm (Each Piece) pieces_form true b) (sym (same refl)) r
-lone_read false b from rest p same r =
-    over p.run p.lone (subst (ReadsForm (Each Piece) pieces_form false b) p.parts r)
-  where
-    one : (x y : ℕ) (s : List ℕ) → x ≡ 92 → IsPlainOctet y → ReadsForm Piece escaped false (x ∷ y ∷ s) s
-    one x y s e h = piece_read (x ∷ y ∷ s) s false (λ u. absurd cc)
-        (λ u. (y ∷ s, ap (λ (n : ℕ). n ∷ y ∷ s) e, λ special. no_special y [] special (plain_octet y h)))
-        (x ∷ y ∷ [], refl, lone_piece x y e h)
-
-    over : (s : List ℕ) → AreLone s → ReadsForm (Each Piece) pieces_form false b (s ++ rest)
-        → ReadsForm (Each Piece) pieces_form false b rest
-    over [] h k = k
-    over (x ∷ []) h k = absurd h
-    over (x ∷ y ∷ s) h k = over s h.2 (more_read Piece escaped false false b (x ∷ y ∷ (s ++ rest)) (s ++ rest) k
-        (one x y (s ++ rest) h.0 h.1))
 
 escaped_pieces : (ms : List (List ℕ)) → flat_map escaped ms ≡ escaped (joined ms)
 escaped_pieces [] = refl

@@ -1,20 +1,21 @@
 -- Structured data that is written from its octets.
 use Rattle.std.proofs.Common.{◌≡◌, ℕ, List, [], ◌∷◌, ◌++◌, take, drop, refl, sym, ap, subst, ◌∙◌, append_assoc, inl}
-use Rattle.std.proofs.Common.{inr, ◌-◌, length}
+use Rattle.std.proofs.Common.{inr, ◌-◌, ◌≤◌, arith, length, true, false}
 use Rattle.std.specs.Prelude.{ℤ, Bool, IsTrue, Option, Some, None, Result, Ok, Err}
 use Rattle.std.specs.List.{flat_map}
-use Rattle.std.proofs.lemmas.List.{append-nil}
+use Rattle.std.proofs.lemmas.List.{append-nil, length-append}
 use Rattle.std.proofs.lemmas.List.Sorted.{IsPermutation-refl}
 use Rattle.memchr.specs.Find.{IsFirstByte, is_byte}
 use Rattle.octet_language.specs.Language.{Only, ◌⋅◌, Each, IfFirst}
 use Rattle.syslog_value.specs.Parts.{ParamParts, ElementParts, Parts, IsById}
 use Rattle.syslog_grammar.specs.Appending.{Anything, Adds, Puts}
 use Rattle.syslog_grammar.specs.Canonical.{escaped, param_form, element_form, message_form, HeaderForm, SpacedWord}
+use Rattle.syslog_grammar.specs.Canonical.{needs_escape}
 use Rattle.syslog_grammar.specs.Escapes.{BeginsSpecial}
 use Rattle.syslog_grammar.specs.Grammar.{Param, Element, StructuredDataText, WordFields}
 use Rattle.syslog_grammar.specs.Verbatim.{HasOneMessageForm, ShownHeader, VerbatimForm}
 use Rattle.syslog_grammar.specs.Reescaped.{EndsLone, IsOwnForm, ValueOf, ParamOf, ParamsOf, ElementOf, ElementsOf}
-use Rattle.syslog_grammar.specs.Reescaped.{StructuredDataOf}
+use Rattle.syslog_grammar.specs.Reescaped.{HasLongerForm, StructuredDataOf}
 use Rattle.syslog_grammar.specs.ViewParts.{ViewParts, HasParts, IsViewOf}
 use Rattle.syslog_grammar.specs.FirstElements.{SplitsElement, SplitsParam}
 use Rattle.syslog_grammar.specs.Sorting.{SortedDataOf}
@@ -103,6 +104,39 @@ kept_lone raw rest marked behind k f m b none w =
                 ∙ simp append_assoc,
           );
     }
+
+-- each octet has one at least in the canonical form
+escaped_least : (s : List ℕ) → length s ≤ length (escaped s)
+escaped_least [] = omega arith
+escaped_least (x ∷ s) = one (needs_escape x) refl (escaped_least s)
+  where
+    one : (b : Bool) → needs_escape x ≡ b → length s ≤ length (escaped s) → length (x ∷ s) ≤ length (escaped (x ∷ s))
+    one true e h = rw e (omega (arith, h))
+    one false e h = rw e (omega (arith, h))
+
+piece_least : (m x : List ℕ) → Piece m x → length x ≤ length (escaped m)
+piece_least m x (inl (q, k, f, i)) = omega (arith, ap length i, ap length (ap escaped f ∙ escaped_special q [] k))
+piece_least m x (inr (inl (c, k, f, i))) = omega (arith, ap length i, ap length f, escaped_least m)
+piece_least m x (inr (inr (k, i))) = omega (arith, ap length i, escaped_least m)
+
+-- the spelling is no longer than the canonical form of what it means
+pieces_least : (ms : List (List ℕ)) (s : List ℕ) → Each Piece ms s → length s ≤ length (escaped (joined ms))
+pieces_least [] s h = omega (arith, ap length h)
+pieces_least (m ∷ ms) s (x, y, e, h, k) = omega (
+  arith,
+  ap length e,
+  length-append x y,
+  piece_least m x h,
+  pieces_least ms y k,
+  ap length (escaped_join m (joined ms)),
+  length-append (escaped m) (escaped (joined ms)),
+)
+
+-- a backslash that is no escape makes the canonical form longer
+pub lone_longer : (raw rest : List ℕ) → EndsLone raw rest → HasLongerForm raw
+lone_longer raw rest l ms h =
+    let k = l.form ms h in
+    omega (arith, ap length k.2, ap length l.parts, length-append l.run rest, length-append l.run (92 ∷ escaped (joined k.0)), pieces_least k.0 rest k.1)
 
 -- no backslash is left
 pub kept_end : (raw rest : List ℕ) → IsFirstByte (is_byte 92) rest None → Kept raw rest → IsOwnForm raw

@@ -118,6 +118,11 @@ rows = (
   ),
 )
 
+-- a character is one octet, or octets above ASCII
+pub alone_or_high : (c : List ℕ) → IsCharacter c → ((x : ℕ) × (c ≡ x ∷ [])) ⊎ AllByRecursion (λ x. 128 ≤ x) c
+unfolding IsCharacter
+alone_or_high c h = one_or_high table c rows h
+
 -- a plain character begins with no octet that needs a backslash
 plain_first : (x : ℕ) (c : List ℕ) → IsPlain (x ∷ c) → ¬ (needs_escape x ≡ true)
 plain_first x c h e = no_special x c (test_special x e) h

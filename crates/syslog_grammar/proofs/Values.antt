@@ -1,6 +1,6 @@
 -- Values of parameters: pieces up to the quotation mark.
 use Rattle.std.proofs.Common.{◌≡◌, ◌≢◌, ℕ, ◌≤◌, List, [], ◌∷◌, ◌++◌, length, refl, sym, ap, subst, ◌∙◌, arith, inl, inr}
-use Rattle.std.proofs.Common.{◌⊎◌, append_assoc}
+use Rattle.std.proofs.Common.{◌⊎◌}
 use Rattle.std.specs.Prelude.{Result}
 use Rattle.std.specs.List.{AllByRecursion}
 use Rattle.std.proofs.lemmas.List.{length-append}
@@ -11,8 +11,7 @@ use Rattle.octet_language.proofs.Lists.{heads, tails}
 use Rattle.octet_language.proofs.Chain.{IsPrefixFree-only}
 use Rattle.octet_language.proofs.Many.{Many, IsPrefixFree-many}
 use Rattle.syslog_grammar.specs.Utf8.{table, from_to, IsCharacter}
-use Rattle.syslog_grammar.specs.Values.{AreEscapes, AreLone, IsSpecial, IsPlain, IsPlainOctet, PassesEscapes}
-use Rattle.syslog_grammar.specs.Values.{PassesLone, PassesPlain, Piece}
+use Rattle.syslog_grammar.specs.Values.{IsSpecial, IsPlain, IsPlainOctet, PassesPlain, Piece}
 use Rattle.syslog_grammar.proofs.Loops.{Carries, carries_more}
 use Rattle.syslog_grammar.proofs.Prefix.{Passes-behind, Passes-alike}
 use Rattle.syslog_grammar.proofs.Characters.{character_some, IsPrefixFree-character, octet_cons, width, table_widths}
@@ -77,7 +76,7 @@ behind_backslash s (m, inl (x, k, e, f)) =
 behind_backslash s (m, inr (inl (c, k, e, f))) = subst IsCharacter (sym (tails 92 92 s c f)) k.0
 behind_backslash s (m, inr (inr (k, e))) = absurd (no_special 92 s (inr (inl refl)) (subst IsPlain (sym e) k))
 
-backslash : (s : List ℕ) → IsCharacter s → AnyPiece (92 ∷ s)
+pub backslash : (s : List ℕ) → IsCharacter s → AnyPiece (92 ∷ s)
 backslash s h = elim (plain_or s h) [
   | inl k ↦ (s, inl (k.0, k.2, k.1, ap (λ (t : List ℕ). 92 ∷ t) k.1))
   | inr k ↦ (92 ∷ s, inr (inl (s, k, refl, refl)))
@@ -210,80 +209,3 @@ carries_plain b from rest p k = carries_run b p.run rest p.plain (subst (Carries
 
 pub plain_takes : (from rest : List ℕ) → PassesPlain from rest → length rest ≤ length from
 plain_takes from rest p = omega (arith, ap length p.parts, length-append p.run rest)
-
--- ---- escapes
-
-pub no_escapes : (b : List ℕ) → PassesEscapes b b
-unfolding AreEscapes
-no_escapes b = record { run = []; parts = refl; escapes = tt }
-
-escapes_end : (run : List ℕ) (x : ℕ) → AreEscapes run → IsSpecial x → AreEscapes (run ++ 92 ∷ x ∷ [])
-unfolding AreEscapes
-escapes_end [] x h s = (refl, s, tt)
-escapes_end (y ∷ []) x h s = absurd h
-escapes_end (y ∷ z ∷ run) x h s = (h.0, h.1, escapes_end run x h.2 s)
-
-pub escapes_more : (b rest behind : List ℕ) (x : ℕ) → IsSpecial x → rest ≡ 92 ∷ x ∷ behind → PassesEscapes b rest
-    → PassesEscapes b behind
-escapes_more b rest behind x s e p = record {
-  run = p.run ++ 92 ∷ x ∷ [];
-  parts = p.parts ∙ ap (λ (u : List ℕ). p.run ++ u) e ∙ sym (append_assoc p.run (92 ∷ x ∷ []) behind);
-  escapes = escapes_end p.run x p.escapes s;
-}
-
-carries_escaped : (b run rest : List ℕ) → AreEscapes run → Carries Piece (Only (34 ∷ [])) b (run ++ rest)
-    → Carries Piece (Only (34 ∷ [])) b rest
-unfolding AreEscapes
-carries_escaped b [] rest h k = k
-carries_escaped b (x ∷ []) rest h k = absurd h
-carries_escaped b (x ∷ y ∷ run) rest h k = carries_escaped b run rest h.2
-    (carries_more Piece 34 b (x ∷ y ∷ run ++ rest) (run ++ rest) IsPrefixFree-piece (λ e. omega (arith, h.0, e))
-    (x ∷ y ∷ [], refl, (y ∷ [], inl (y, h.1, refl, ap (λ (u : ℕ). u ∷ y ∷ []) h.0))) k)
-
-pub carries_escapes : (b from rest : List ℕ) → PassesEscapes from rest → Carries Piece (Only (34 ∷ [])) b from
-    → Carries Piece (Only (34 ∷ [])) b rest
-carries_escapes b from rest p k =
-    carries_escaped b p.run rest p.escapes (subst (Carries Piece (Only (34 ∷ [])) b) p.parts k)
-
-pub escapes_take : (from rest : List ℕ) → PassesEscapes from rest → length rest ≤ length from
-escapes_take from rest p = omega (arith, ap length p.parts, length-append p.run rest)
-
--- ---- backslashes that are no escapes
-
-pub none_lone : (b : List ℕ) → PassesLone b b
-unfolding AreLone
-none_lone b = record { run = []; parts = refl; lone = tt }
-
-lone_end : (run : List ℕ) (x : ℕ) → AreLone run → IsPlainOctet x → AreLone (run ++ 92 ∷ x ∷ [])
-unfolding AreLone
-lone_end [] x h s = (refl, s, tt)
-lone_end (y ∷ []) x h s = absurd h
-lone_end (y ∷ z ∷ run) x h s = (h.0, h.1, lone_end run x h.2 s)
-
-pub lone_more : (b rest behind : List ℕ) (x : ℕ) → IsPlainOctet x → rest ≡ 92 ∷ x ∷ behind → PassesLone b rest
-    → PassesLone b behind
-lone_more b rest behind x s e p = record {
-  run = p.run ++ 92 ∷ x ∷ [];
-  parts = p.parts ∙ ap (λ (u : List ℕ). p.run ++ u) e ∙ sym (append_assoc p.run (92 ∷ x ∷ []) behind);
-  lone = lone_end p.run x p.lone s;
-}
-
-pub lone_piece : (x y : ℕ) → x ≡ 92 → IsPlainOctet y → AnyPiece (x ∷ y ∷ [])
-lone_piece x y e h = (92 ∷ y ∷ [], inr (inl (y ∷ [], plain_octet y h, refl, ap (λ (u : ℕ). u ∷ y ∷ []) e)))
-
-carries_lone_run : (b run rest : List ℕ) → AreLone run → Carries Piece (Only (34 ∷ [])) b (run ++ rest)
-    → Carries Piece (Only (34 ∷ [])) b rest
-unfolding AreLone
-carries_lone_run b [] rest h k = k
-carries_lone_run b (x ∷ []) rest h k = absurd h
-carries_lone_run b (x ∷ y ∷ run) rest h k = carries_lone_run b run rest h.2
-    (carries_more Piece 34 b (x ∷ y ∷ run ++ rest) (run ++ rest) IsPrefixFree-piece (λ e. omega (arith, h.0, e))
-    (x ∷ y ∷ [], refl, lone_piece x y h.0 h.1) k)
-
-pub carries_lone : (b from rest : List ℕ) → PassesLone from rest → Carries Piece (Only (34 ∷ [])) b from
-    → Carries Piece (Only (34 ∷ [])) b rest
-carries_lone b from rest p k =
-    carries_lone_run b p.run rest p.lone (subst (Carries Piece (Only (34 ∷ [])) b) p.parts k)
-
-pub lone_takes : (from rest : List ℕ) → PassesLone from rest → length rest ≤ length from
-lone_takes from rest p = omega (arith, ap length p.parts, length-append p.run rest)

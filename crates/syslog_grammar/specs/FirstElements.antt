@@ -30,6 +30,17 @@ takes_next b [] = b
 takes_next true (x ∷ s) = takes_next false s
 takes_next false (x ∷ s) = takes_next (x == 92) s
 
+-- no quotation mark and no closing bracket but behind a backslash that takes it, where true says that a backslash
+-- before the octets takes the first
+unfoldable pub IsUnmarked : Bool → List ℕ → Type 0
+IsUnmarked b [] = ⊤
+IsUnmarked true (x ∷ s) = IsUnmarked false s
+IsUnmarked false (x ∷ s) = (x ≢ 34) × (x ≢ 93) × IsUnmarked (x == 92) s
+
+-- no mark ends the spelling of a value before its end, and no backslash takes the octet after it
+abbrev pub HasNoMark : List ℕ → Type 0
+HasNoMark raw = IsUnmarked false raw × (takes_next false raw ≡ false)
+
 -- where such octets come first, and then the mark, they are so many
 abbrev pub IsMarkedLength : ℕ → List ℕ → ℕ → Type 0
 IsMarkedLength mark octets n = (text after : List ℕ) → IsPaired mark text → octets ≡ text ++ mark ∷ after

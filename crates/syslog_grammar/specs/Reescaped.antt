@@ -1,5 +1,5 @@
 -- The canonical form of structured data by any spelling of it.
-use Rattle.std.specs.Prelude.{◌≡◌, ℕ, List, [], ◌∷◌, ◌++◌, Bool, true, false, Result, Ok, Err}
+use Rattle.std.specs.Prelude.{◌≡◌, ℕ, List, [], ◌∷◌, ◌++◌, ◌<◌, length, Bool, true, false, Result, Ok, Err}
 use Rattle.std.specs.List.{flat_map}
 use Rattle.octet_language.specs.Language.{Language, Only, ◌⋅◌, Each}
 use Rattle.syslog_value.specs.Parts.{ParamParts, ElementParts, IsById}
@@ -47,6 +47,10 @@ PutsUnless L Cause old new (Err e) = Adds Anything old new
 -- the spelling is its own canonical form
 abbrev pub IsOwnForm : List ℕ → Type 0
 IsOwnForm raw = (ms : List (List ℕ)) → Each Piece ms raw → escaped (flat_map (λ m. m) ms) ≡ raw
+
+-- the canonical form is longer than the spelling
+abbrev pub HasLongerForm : List ℕ → Type 0
+HasLongerForm raw = (ms : List (List ℕ)) → Each Piece ms raw → length raw < length (escaped (flat_map (λ m. m) ms))
 
 -- up to the rest, which follows a backslash that is no escape, the canonical form is the spelling and one backslash
 -- more

@@ -1,24 +1,15 @@
 //! The first of elements, and of parameters, that are known to be well-formed: where its parts end,
 //! and no test.
 
-ghost use Rattle.std.specs.Prelude.{◌≡◌, ◌≢◌, ◌≤◌, ◌<◌, ◌++◌, ◌∷◌, ℕ, List, IsTrue, drop, false, length};
+ghost use Rattle.std.specs.Prelude.{◌≡◌, ◌≢◌, ◌≤◌, ◌<◌, ◌++◌, ◌∷◌, ℕ, List, IsTrue, length};
 ghost use Rattle.syslog_grammar.specs.FirstElements.{IsIdLength, IsMarkedLength, IsNameLength};
-ghost use Rattle.syslog_grammar.specs.FirstElements.{SplitsElement, SplitsParam, takes_next};
+ghost use Rattle.syslog_grammar.specs.FirstElements.{SplitsElement, SplitsParam};
 ghost use Rattle.syslog_grammar.specs.Views.{element_span, param_span};
 
+use crate::backslash::ends_taking;
 use crate::element::{ElementView, ParamView};
 use crate::near::{near_either, near_octet};
-
-/// What follows the first octet, if there is one.
-#[inline(always)]
-pub fn behind_first(octets: &[u8]) -> &[u8]
-    ensures { result.now ≡ drop 1 octets.now }
-{
-    match octets {
-        [] => octets,
-        [_first, rest @ ..] => rest,
-    }
-}
+use crate::reading::behind_first;
 
 /// How many octets an id has, which a space or a bracket follows.
 #[inline(always)]
@@ -42,22 +33,6 @@ fn name_len(octets: &[u8]) -> usize
         Some(offset) => offset,
         None => octets.len(),
     }
-}
-
-/// Whether the octets end with a backslash that takes the octet after them: backslashes come last,
-/// and an odd number of them.
-#[inline(always)]
-fn ends_taking(octets: &[u8]) -> bool
-    ensures { result ≡ takes_next false octets.now }
-{
-    let mut takes = false;
-    for i in 0..octets.len() {
-        if octets[octets.len() - 1 - i] != b'\\' {
-            return takes;
-        }
-        takes = !takes;
-    }
-    takes
 }
 
 /// Whether this octet comes first.

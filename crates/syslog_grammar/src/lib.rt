@@ -2,6 +2,7 @@
 #![tactic(auto)]
 
 mod appending;
+mod backslash;
 mod canonical;
 mod canonical_data;
 mod canonical_form;

@@ -1,6 +1,6 @@
 //! What every reader builds on: where it stops, the next octet, an expected octet.
 
-ghost use Rattle.std.specs.Prelude.{◌≡◌, ◌∷◌, ◌&&◌, [], MatchOption};
+ghost use Rattle.std.specs.Prelude.{◌≡◌, ◌∷◌, ◌&&◌, [], MatchOption, drop};
 ghost use Rattle.octet_language.specs.Language.{Only};
 ghost use Rattle.octet_language.specs.Reading.{Passes};
 ghost use Rattle.syslog_grammar.specs.Stops.{remaining_of};
@@ -20,6 +20,17 @@ pub fn next(octets: &[u8]) -> Option<(u8, &[u8])>
     match octets {
         [] => None,
         [first, rest @ ..] => Some((*first, rest)),
+    }
+}
+
+/// What follows the first octet, if there is one.
+#[inline(always)]
+pub fn behind_first(octets: &[u8]) -> &[u8]
+    ensures { result.now ≡ drop 1 octets.now }
+{
+    match octets {
+        [] => octets,
+        [_first, rest @ ..] => rest,
     }
 }
 

@@ -9,9 +9,9 @@ ghost use Rattle.syslog_grammar.specs.Views.{element_span, param_span};
 
 use crate::appending::put;
 use crate::element::{ElementView, ParamView};
-use crate::first_element::{behind_first, first_element, first_param};
+use crate::first_element::{first_element, first_param};
 use crate::near::near_octet;
-use crate::reading::next;
+use crate::reading::{behind_first, next};
 use crate::unescape::begins_special;
 use std::alloc::AllocError;
 

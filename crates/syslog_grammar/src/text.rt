@@ -1,6 +1,6 @@
 //! Texts in UTF-8, and the exact offset where octets are none.
 
-ghost use Rattle.std.specs.Prelude.{◌≡◌, MatchResult};
+ghost use Rattle.std.specs.Prelude.{◌≡◌, ◌↔◌, IsTrue, MatchResult};
 ghost use Rattle.octet_language.specs.Language.{IsFaultOffset};
 ghost use Rattle.octet_language.specs.Reading.{Misses};
 ghost use Rattle.syslog_grammar.specs.Utf8.{IsText};
@@ -20,6 +20,17 @@ fn characters(octets: &[u8]) -> Result<(), Stop>
         rest = behind;
     }
     Ok(())
+}
+
+/// Whether octets are a text.
+#[inline]
+pub fn is_text(octets: &[u8]) -> bool
+    ensures { IsTrue result ↔ IsText octets.now }
+{
+    match simdutf8::basic::from_utf8(octets) {
+        Ok(_) => true,
+        Err(_) => false,
+    }
 }
 
 /// Reads a text up to the end.

@@ -1,19 +1,21 @@
 //! Values of parameters (RFC 5424, 6.3.3).
 
-ghost use Rattle.std.specs.Prelude.{◌≡◌, ◌≤◌, ◌<◌, ◌∷◌, ◌↔◌, [], ℕ, IfOk, IfSome, IsTrue, length, take};
+ghost use Rattle.std.specs.Prelude.{◌≡◌, ◌≤◌, ◌∷◌, ◌++◌, ◌↔◌, [], IfOk, IfSome, IsTrue, length, take};
 ghost use Rattle.std.specs.List.{AllByRecursion};
 ghost use Rattle.octet_language.specs.Language.{◌⋅◌, AnyOf, Each, Only};
-ghost use Rattle.octet_language.specs.Reading.{Passes, Reads};
+ghost use Rattle.octet_language.specs.Reading.{Follows, Passes, Reads};
+ghost use Rattle.syslog_grammar.specs.FirstElements.{HasNoMark};
 ghost use Rattle.syslog_grammar.specs.Forms.{BeginsLone, IsValueForm, ReadsForm, pieces_form};
 ghost use Rattle.syslog_grammar.specs.Spans.{Text};
 ghost use Rattle.syslog_grammar.specs.Stops.{remaining_of};
-ghost use Rattle.syslog_grammar.specs.Utf8.{IsCharacter};
-ghost use Rattle.syslog_grammar.specs.Values.{IsEscape, IsPlainOctet, IsSpecial, PassesEscapes, PassesLone};
-ghost use Rattle.syslog_grammar.specs.Values.{PassesPlain, Piece};
+ghost use Rattle.syslog_grammar.specs.Utf8.{IsCharacter, IsText};
+ghost use Rattle.syslog_grammar.specs.Values.{IsEscape, IsPlainOctet, PassesPlain, Piece};
 
+use crate::backslash::{ends_taking, has_lone};
 use crate::character::behind_character;
 use crate::lanes::{LANES, plain_run};
-use crate::reading::{Stop, both, next};
+use crate::near::near_either;
+use crate::reading::{Stop, behind_first, both, expect, next};
 use crate::unescape::begins_special;
 
 /// Reads one character, which is mostly one octet.
@@ -117,66 +119,6 @@ fn behind_plain(octets: &[u8]) -> &[u8]
     rest
 }
 
-/// What follows an escape at the start.
-#[inline(always)]
-fn behind_escape(octets: &[u8]) -> Option<&[u8]>
-    ensures escape { IfSome result (λ rest. (x : ℕ) × IsSpecial x × (octets.now ≡ 92 ∷ x ∷ rest.now)) }
-    ensures less { IfSome result (λ rest. length rest.now < length octets.now) }
-{
-    match octets {
-        [b'\\', b'"' | b'\\' | b']', rest @ ..] => Some(rest),
-        _ => None,
-    }
-}
-
-/// What follows the escapes at the start.
-#[inline(always)]
-fn behind_escapes(octets: &[u8]) -> &[u8]
-    ensures { PassesEscapes octets.now result.now }
-{
-    let mut rest = octets;
-    while let Some(behind) = behind_escape(rest) {
-        rest = behind;
-    }
-    rest
-}
-
-/// What follows a backslash at the start that is no escape, and an octet that means itself.
-#[inline(always)]
-fn behind_lone_one(octets: &[u8]) -> Option<&[u8]>
-    ensures lone { IfSome result (λ rest. (x : ℕ) × IsPlainOctet x × (octets.now ≡ 92 ∷ x ∷ rest.now)) }
-    ensures less { IfSome result (λ rest. length rest.now < length octets.now) }
-{
-    match octets {
-        [b'\\', octet, rest @ ..] => { if is_plain(*octet) { Some(rest) } else { None } }
-        _ => None,
-    }
-}
-
-/// What follows such backslashes at the start.
-#[inline(always)]
-fn behind_lone(octets: &[u8]) -> &[u8]
-    ensures { PassesLone octets.now result.now }
-{
-    let mut rest = octets;
-    while let Some(behind) = behind_lone_one(rest) {
-        rest = behind;
-    }
-    rest
-}
-
-/// The same where the value is known not to be canonical, and else what was given.
-#[inline(always)]
-fn behind_lone_unless(is_form: bool, octets: &[u8]) -> &[u8]
-    ensures lone { PassesLone octets.now result.now }
-    ensures same { IsTrue is_form → result.now ≡ octets.now }
-{
-    if is_form {
-        return octets;
-    }
-    behind_lone(octets)
-}
-
 /// Whether the piece that comes first is spelled as in a canonical record: no other backslash than
 /// that of an escape comes first.
 #[inline(always)]
@@ -193,8 +135,8 @@ fn begins_form(octets: &[u8]) -> bool
     begins_special(behind)
 }
 
-/// Reads a value and the quotation mark that ends it, and tells whether the value is spelled as in a
-/// canonical record.
+/// Reads a value and the quotation mark that ends it, piece by piece, and tells whether the value is
+/// spelled as in a canonical record.
 fn behind_value(octets: &[u8]) -> Result<(&[u8], bool), Stop>
     ensures reads { Passes remaining_of (AnyOf (Each Piece) ⋅ Only (34 ∷ [])) (λ x. x.0.now)
         octets.now result }
@@ -209,18 +151,16 @@ fn behind_value(octets: &[u8]) -> Result<(&[u8], bool), Stop>
         }
         let behind = behind_piece(rest)?;
         is_form = both(is_form, begins_form(rest));
-        let unescaped = behind_escapes(behind);
-        let taken = behind_lone_unless(is_form, unescaped);
-        rest = behind_plain(taken);
+        rest = behind_plain(behind);
     }
     Err(Stop {
         remaining: rest.len(),
     })
 }
 
-/// Reads a value, which is given as it is spelled, and the quotation mark that ends it, and tells
-/// whether it is spelled as in a canonical record.
-pub fn value(octets: &[u8]) -> Result<(&[u8], &[u8], bool), Stop>
+/// Reads a value like `value`, from any octets.
+#[cold]
+fn value_of_pieces(octets: &[u8]) -> Result<(&[u8], &[u8], bool), Stop>
     ensures reads { Reads remaining_of (λ raw. Text (AnyOf (Each Piece)) raw ⋅ Only (34 ∷ []))
         (λ x. (x.0.now, x.1.now)) octets.now result }
     ensures form { IfOk result (λ x. IsValueForm x.2 x.0.now) }
@@ -228,6 +168,73 @@ pub fn value(octets: &[u8]) -> Result<(&[u8], &[u8], bool), Stop>
     let (rest, is_form) = behind_value(octets)?;
     let (raw, _) = octets.split_at(octets.len() - rest.len() - 1);
     Ok((raw, rest, is_form))
+}
+
+/// Reads a value without a backslash or an octet above ASCII, and its quotation mark.
+#[inline(always)]
+fn plain_value(octets: &[u8]) -> Option<(&[u8], &[u8])>
+    ensures { IfSome result (λ x. (octets.now ≡ x.0.now ++ 34 ∷ x.1.now)
+        × AllByRecursion IsPlainOctet x.0.now) }
+{
+    let (plain, rest) = octets.split_at(plain_len(octets));
+    match expect(b'"', rest) {
+        Ok(behind) => Some((plain, behind)),
+        Err(_) => None,
+    }
+}
+
+/// Octets up to a quotation mark that no backslash takes, and what follows it, if no closing bracket
+/// that none takes comes before it.
+#[inline(always)]
+fn marked_value(octets: &[u8]) -> Option<(&[u8], &[u8])>
+    ensures { IfSome result (λ x. (octets.now ≡ x.0.now ++ 34 ∷ x.1.now) × HasNoMark x.0.now) }
+{
+    let mut rest = octets;
+    while let Some(offset) = near_either(b'"', b']', rest) {
+        let (_, found) = rest.split_at(offset);
+        let (before, _) = octets.split_at(octets.len() - found.len());
+        if !ends_taking(before) {
+            return match expect(b'"', found) {
+                Ok(behind) => Some((before, behind)),
+                Err(_) => None,
+            };
+        }
+        rest = behind_first(found);
+    }
+    None
+}
+
+/// Reads a value whose quotation mark stands in octets that are known to be characters: each octet
+/// before it that is no mark is then part of a piece.
+#[inline(always)]
+fn text_value(octets: &[u8]) -> Option<(&[u8], &[u8], bool)>
+    requires { IsText octets.now }
+    ensures reads { IfSome result (λ x.
+        Follows (Text (AnyOf (Each Piece)) x.0.now ⋅ Only (34 ∷ [])) octets.now x.1.now) }
+    ensures form { IfSome result (λ x. IsValueForm x.2 x.0.now) }
+{
+    let (raw, rest) = marked_value(octets)?;
+    Some((raw, rest, !has_lone(raw)))
+}
+
+/// Reads a value, which is given as it is spelled, and the quotation mark that ends it, and tells
+/// whether it is spelled as in a canonical record. It may be told that the octets are characters.
+#[inline]
+pub fn value(octets: &[u8], is_text: bool) -> Result<(&[u8], &[u8], bool), Stop>
+    requires { IsTrue is_text → IsText octets.now }
+    ensures reads { Reads remaining_of (λ raw. Text (AnyOf (Each Piece)) raw ⋅ Only (34 ∷ []))
+        (λ x. (x.0.now, x.1.now)) octets.now result }
+    ensures form { IfOk result (λ x. IsValueForm x.2 x.0.now) }
+{
+    if let Some((raw, rest)) = plain_value(octets) {
+        return Ok((raw, rest, true));
+    }
+    if is_text {
+        if let Some(read) = text_value(octets) {
+            return Ok(read);
+        }
+    }
+    value_of_pieces(octets)
 }
 
 /// Whether a piece is a special character after a backslash.

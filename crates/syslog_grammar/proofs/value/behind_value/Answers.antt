@@ -6,9 +6,8 @@ use Rattle.octet_language.specs.Language.{AnyOf, Each}
 use Rattle.syslog_grammar.specs.Canonical.{escaped}
 use Rattle.syslog_grammar.specs.Forms.{ReadsForm, pieces_form}
 use Rattle.syslog_grammar.proofs.Loops.{carries_all, carries_more, carried_fails, carried_ends, takes_some}
-use Rattle.syslog_grammar.proofs.ReadForms.{escapes_read, lone_read, more_read, none_read, piece_read, plain_read}
-use Rattle.syslog_grammar.proofs.Values.{IsPrefixFree-piece, no_piece, piece_some, carries_escapes, carries_lone}
-use Rattle.syslog_grammar.proofs.Values.{carries_plain, escapes_take, lone_takes, plain_takes}
+use Rattle.syslog_grammar.proofs.ReadForms.{more_read, none_read, piece_read, plain_read}
+use Rattle.syslog_grammar.proofs.Values.{IsPrefixFree-piece, carries_plain, no_piece, piece_some, plain_takes}
 use Rattle.syslog_grammar.proofs.value.behind_value.Goals as goal
 
 pub returns-then-first-eq34-clause-reads : goal.returns-then-first-eq34-clause-reads
@@ -33,11 +32,7 @@ loop-first-smaller c =
     omega (
       arith,
       some,
-      escapes_take c.in_ok-behind.behind.now c.behind_escapes-unescaped.result.now c.behind_escapes-unescaped.ensures,
-      lone_takes c.behind_escapes-unescaped.result.now c.behind_lone_unless-taken.result.now
-          c.behind_lone_unless-taken.ensures.lone,
-      plain_takes c.behind_lone_unless-taken.result.now c.behind_plain-rest-in-Some.result.now
-          c.behind_plain-rest-in-Some.ensures,
+      plain_takes c.in_ok-behind.behind.now c.behind_plain-rest-in-Some.result.now c.behind_plain-rest-in-Some.ensures,
     )
 
 pub loop-first-preserved : goal.loop-first-preserved
@@ -45,28 +40,20 @@ loop-first-preserved c =
     let e : c.loop-first.rest.now ≡ c.in-Some.first ∷ c.in-Some.after.now = c.in-Some.ensures in
     record {
       carries =
-          carries_plain c.args.octets.now c.behind_lone_unless-taken.result.now c.behind_plain-rest-in-Some.result.now
+          carries_plain c.args.octets.now c.in_ok-behind.behind.now c.behind_plain-rest-in-Some.result.now
           c.behind_plain-rest-in-Some.ensures
-          (carries_lone c.args.octets.now c.behind_escapes-unescaped.result.now c.behind_lone_unless-taken.result.now
-          c.behind_lone_unless-taken.ensures.lone
-          (carries_escapes c.args.octets.now c.in_ok-behind.behind.now c.behind_escapes-unescaped.result.now
-          c.behind_escapes-unescaped.ensures
           (carries_more Piece 34 c.args.octets.now c.loop-first.rest.now c.in_ok-behind.behind.now IsPrefixFree-piece
           (subst (IfFirst (λ x. x ≢ 34)) (sym e) c.if-first-eq34.false) c.in_ok-behind.ensures
-          c.loop-first.invariant.carries)));
+          c.loop-first.invariant.carries);
       form =
-          plain_read _ c.args.octets.now c.behind_lone_unless-taken.result.now c.behind_plain-rest-in-Some.result.now
+          plain_read _ c.args.octets.now c.in_ok-behind.behind.now c.behind_plain-rest-in-Some.result.now
           c.behind_plain-rest-in-Some.ensures
-          (lone_read _ c.args.octets.now c.behind_escapes-unescaped.result.now c.behind_lone_unless-taken.result.now
-          c.behind_lone_unless-taken.ensures.lone c.behind_lone_unless-taken.ensures.same
-          (escapes_read _ c.args.octets.now c.in_ok-behind.behind.now c.behind_escapes-unescaped.result.now
-          c.behind_escapes-unescaped.ensures
           (subst (λ (a : Bool). ReadsForm (Each Piece) pieces_form a c.args.octets.now c.in_ok-behind.behind.now)
           (sym c.both-is_form.ensures)
           (more_read Piece escaped c.loop-first.is_form c.begins_form.result c.args.octets.now c.loop-first.rest.now
           c.in_ok-behind.behind.now c.loop-first.invariant.form
           (piece_read c.loop-first.rest.now c.in_ok-behind.behind.now c.begins_form.result c.begins_form.ensures.form
-          c.begins_form.ensures.lone c.in_ok-behind.ensures)))));
+          c.begins_form.ensures.lone c.in_ok-behind.ensures)));
     }
 
 pub returns : goal.returns

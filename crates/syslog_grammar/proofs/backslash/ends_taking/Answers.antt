@@ -1,6 +1,6 @@
 use Rattle.std.proofs.Common.{arith}
 use Rattle.syslog_grammar.proofs.FirstElements.{turned_none, turned_more, turned_end, turned_all}
-use Rattle.syslog_grammar.proofs.first_element.ends_taking.Goals as goal
+use Rattle.syslog_grammar.proofs.backslash.ends_taking.Goals as goal
 
 pub loop-i-init : goal.loop-i-init
 loop-i-init c = turned_none c.args.octets.now

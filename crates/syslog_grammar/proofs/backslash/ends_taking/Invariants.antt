@@ -1,7 +1,7 @@
 use Rattle.std.proofs.Common.{◌≡◌, ◌-◌, false, length, take}
 use Rattle.syslog_grammar.specs.FirstElements.{takes_next}
 use Rattle.syslog_grammar.proofs.FirstElements.{turned}
-use Rattle.syslog_grammar.proofs.first_element.ends_taking.Given as goal
+use Rattle.syslog_grammar.proofs.backslash.ends_taking.Given as goal
 
 abbrev pub invariant-loop-i : goal.invariant-loop-i
 invariant-loop-i l =
