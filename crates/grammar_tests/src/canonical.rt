@@ -32,7 +32,7 @@ fn canonical(alloc: Global, octets: &[u8]) -> Result<Vec<u8>, Fail> {
 
 /// Octets and their canonical form: an instant is written in UTC with six digits, elements are sorted
 /// by id, three octets are escaped, the empty message is left out and the BOM is kept.
-const FORMS: [(&[u8], &[u8]); 21] = [
+const FORMS: [(&[u8], &[u8]); 22] = [
     (
         b"<7>1 - - - - - [b-name-of-twenty-oct k-name-of-twenty-oct=\"twenty octets of text, \\n then \\\" and \xc3\xa9 \\] end\"][a]",
         b"<7>1 - - - - - [a][b-name-of-twenty-oct k-name-of-twenty-oct=\"twenty octets of text, \\\\n then \\\" and \xc3\xa9 \\] end\"]",
@@ -92,6 +92,10 @@ const FORMS: [(&[u8], &[u8]); 21] = [
     (
         b"<0>1 - - - - - [a k=\"\\\xc3\xa9\\\"\"]",
         b"<0>1 - - - - - [a k=\"\\\\\xc3\xa9\\\"\"]",
+    ),
+    (
+        b"<0>1 - - - - - [a k=\"\\\xc3\xa9\\\"\" l=\"\\\\\"] \xff",
+        b"<0>1 - - - - - [a k=\"\\\\\xc3\xa9\\\"\" l=\"\\\\\"] \xff",
     ),
     (b"<0>1 - - - - - -", b"<0>1 - - - - - -"),
     (b"<0>1 - - - - - - ", b"<0>1 - - - - - -"),

@@ -119,7 +119,7 @@ bracket : IsMark 93
 bracket = (inr (inr refl), λ e. omega (arith, e))
 
 -- the spelling of a value
-paired_value : (ts : List (List ℕ)) (raw : List ℕ) → Each Piece ts raw → IsPaired 34 raw
+pub paired_value : (ts : List (List ℕ)) (raw : List ℕ) → Each Piece ts raw → IsPaired 34 raw
 unfolding IsPaired
 paired_value ts raw h = subst (IsPaired 34) (append-nil raw) (paired_pieces 34 ts raw [] quote h tt)
 
@@ -176,7 +176,7 @@ no_mark m (y ∷ s) ne (inl (e, p)) = ne e
 no_mark m (y ∷ s) ne (inr (a, (b, p))) = b refl
 
 -- before a mark among them a backslash takes it
-paired_takes : (m : ℕ) (u v : List ℕ) → m ≢ 92 → IsPaired m (u ++ m ∷ v) → takes_next false u ≡ true
+pub paired_takes : (m : ℕ) (u v : List ℕ) → m ≢ 92 → IsPaired m (u ++ m ∷ v) → takes_next false u ≡ true
 unfolding IsPaired takes_next
 paired_takes m [] v ne p = absurd (no_mark m v ne p)
 paired_takes m (x ∷ []) v ne (inl (e, p)) = rw e refl
@@ -452,6 +452,17 @@ param_split octets behind name rest marked value raw end next n m b namelen i r 
 
 -- ---- the element
 
+-- the id of an element is so long
+pub id_ends : (ps : List ParamParts) (u after w behind : List ℕ) → behind ≡ w ++ (u ++ 93 ∷ after)
+    → AllByRecursion IsNameOctet w → Each Param ps u → (n : ℕ) → IsIdLength behind n → n ≡ length w
+id_ends [] u after w behind e o each n len =
+    len w after 93 o (inr refl) (e ∙ ap (λ (s : List ℕ). w ++ (s ++ 93 ∷ after)) each)
+id_ends (q ∷ ps) u after w behind e o (a, c, j, k, l) n len =
+    let t = param_prefix a (q, k) in
+    len w (t.0 ++ (c ++ 93 ∷ after)) 32 o (inl refl)
+    (e ∙ ap (λ (s : List ℕ). w ++ (s ++ 93 ∷ after)) (j ∙ ap (λ (s : List ℕ). s ++ c) t.1)
+    ∙ ap (λ (s : List ℕ). w ++ 32 ∷ s) (append_assoc t.0 c (93 ∷ after)))
+
 -- the parts of an element as they are found by their lengths, where its parameters and then a bracket come first
 element_at : (octets behind id rest params end next : List ℕ) (n m : ℕ) (after : List ℕ) → behind ≡ drop 1 octets
     → IsIdLength behind n → id ≡ take n behind → rest ≡ drop n behind
@@ -480,16 +491,6 @@ element_at octets behind id rest params end next n m after b idlen i r paramlen 
       parts ∙ ap (λ (s : List ℕ). text ++ s) (sym next_is),
       subst (λ (s : List ℕ). SpannedElement (record { id = s; params = params }) text) (sym (id_is ∙ name)) by_params,
     )
-  where
-    id_ends : (ps : List ParamParts) (u after w behind : List ℕ) → behind ≡ w ++ (u ++ 93 ∷ after)
-        → AllByRecursion IsNameOctet w → Each Param ps u → (n : ℕ) → IsIdLength behind n → n ≡ length w
-    id_ends [] u after w behind e o each n len =
-        len w after 93 o (inr refl) (e ∙ ap (λ (s : List ℕ). w ++ (s ++ 93 ∷ after)) each)
-    id_ends (q ∷ ps) u after w behind e o (a, c, j, k, l) n len =
-        let t = param_prefix a (q, k) in
-        len w (t.0 ++ (c ++ 93 ∷ after)) 32 o (inl refl)
-        (e ∙ ap (λ (s : List ℕ). w ++ (s ++ 93 ∷ after)) (j ∙ ap (λ (s : List ℕ). s ++ c) t.1)
-        ∙ ap (λ (s : List ℕ). w ++ 32 ∷ s) (append_assoc t.0 c (93 ∷ after)))
 
 -- the first of elements
 pub element_split : (octets behind id rest params end next : List ℕ) (n m : ℕ) → behind ≡ drop 1 octets

@@ -46,6 +46,7 @@ pub mod ReadForms
 pub mod ReadData
 pub mod TimeForms
 pub mod CanonicalForms
+pub mod FirstForms
 pub mod Rewritten
 pub mod Props
 pub mod ShownRecords

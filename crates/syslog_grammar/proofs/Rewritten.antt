@@ -1,51 +1,32 @@
 -- Structured data that is written from its octets.
 use Rattle.std.proofs.Common.{◌≡◌, ℕ, List, [], ◌∷◌, ◌++◌, take, drop, refl, sym, ap, subst, ◌∙◌, append_assoc, inl}
-use Rattle.std.proofs.Common.{inr, ◌-◌, ◌≤◌, arith, length, true, false}
-use Rattle.std.specs.Prelude.{ℤ, Bool, IsTrue, Option, Some, None, Result, Ok, Err}
+use Rattle.std.proofs.Common.{inr, ◌≤◌, arith, length, true, false}
+use Rattle.std.specs.Prelude.{ℤ, Bool, IsTrue, Option, Some, None}
 use Rattle.std.specs.List.{flat_map}
 use Rattle.std.proofs.lemmas.List.{append-nil, length-append}
 use Rattle.std.proofs.lemmas.List.Sorted.{IsPermutation-refl}
 use Rattle.memchr.specs.Find.{IsFirstByte, is_byte}
 use Rattle.octet_language.specs.Language.{Only, ◌⋅◌, Each, IfFirst}
-use Rattle.syslog_value.specs.Parts.{ParamParts, ElementParts, Parts, IsById}
-use Rattle.syslog_grammar.specs.Appending.{Anything, Adds, Puts}
-use Rattle.syslog_grammar.specs.Canonical.{escaped, param_form, element_form, message_form, HeaderForm, SpacedWord}
+use Rattle.syslog_value.specs.Parts.{ElementParts, Parts, IsById}
+use Rattle.syslog_grammar.specs.Appending.{Adds}
+use Rattle.syslog_grammar.specs.Canonical.{escaped, element_form, message_form, HeaderForm, SpacedWord}
 use Rattle.syslog_grammar.specs.Canonical.{needs_escape}
 use Rattle.syslog_grammar.specs.Escapes.{BeginsSpecial}
-use Rattle.syslog_grammar.specs.Grammar.{Param, Element, StructuredDataText, WordFields}
+use Rattle.syslog_grammar.specs.Grammar.{Element, StructuredDataText, WordFields}
 use Rattle.syslog_grammar.specs.Verbatim.{HasOneMessageForm, ShownHeader, VerbatimForm}
-use Rattle.syslog_grammar.specs.Reescaped.{EndsLone, IsOwnForm, ValueOf, ParamOf, ParamsOf, ElementOf, ElementsOf}
+use Rattle.syslog_grammar.specs.Reescaped.{ElementsOf, FirstElement, IsOwnForm}
 use Rattle.syslog_grammar.specs.Reescaped.{HasLongerForm, StructuredDataOf}
 use Rattle.syslog_grammar.specs.ViewParts.{ViewParts, HasParts, IsViewOf}
-use Rattle.syslog_grammar.specs.FirstElements.{SplitsElement, SplitsParam}
 use Rattle.syslog_grammar.specs.Sorting.{SortedDataOf}
-use Rattle.syslog_grammar.specs.Spans.{ParamSpan, SpannedParam, ElementSpan}
 use Rattle.syslog_grammar.specs.Time.{CivilTime}
-use Rattle.syslog_grammar.specs.Values.{IsSpecial, Piece, Spells}
+use Rattle.syslog_grammar.specs.Values.{IsSpecial, Piece}
 use Rattle.syslog_grammar.specs.WellFormed.{IsMeaning, AddsCanonical}
-use Rattle.syslog_grammar.proofs.Appends.{adds_some}
 use Rattle.syslog_grammar.proofs.CanonicalForms.{word_formed}
-use Rattle.syslog_grammar.proofs.DataForms.{item, form_raw, form_text, first_item}
-use Rattle.syslog_grammar.proofs.OwnedParts.{param_same, element_same}
-use Rattle.syslog_grammar.proofs.ParamTexts.{IsPrefixFree-param, spanned_param, param_prefix, element_prefix}
+use Rattle.syslog_grammar.proofs.ParamTexts.{element_prefix}
 use Rattle.syslog_grammar.proofs.ValueForms.{joined, runs, escape, lone_more, marked_at, all_plain}
-use Rattle.syslog_grammar.proofs.Repeating.{prefix_is}
 use Rattle.syslog_grammar.proofs.ValueForms.{escaped_join, escaped_special, free_rest}
 
 -- ---- values
-
--- what was written of a value, and what is left of its spelling
-pub record Written (raw rest old out : List ℕ) : Type 0 where
-  pub done : List ℕ
-  pub parts : out ≡ old ++ done
-  pub is : (text : List ℕ) → Spells text raw
-      → (ms : List (List ℕ)) × Each Piece ms rest × (escaped text ≡ done ++ escaped (joined ms))
-
-pub written_all : (raw old : List ℕ) → Written raw raw old old
-written_all raw old = record { done = []; parts = sym (append-nil old); is = λ text h. (h.0, h.2, ap escaped h.1) }
-
-pub written_begun : (raw rest old out : List ℕ) → Written raw rest old out → Adds Anything old out
-written_begun raw rest old out w = (w.done, tt, w.parts)
 
 -- what was read of a spelling and means itself in the canonical form, and what is left
 pub record Kept (raw rest : List ℕ) : Type 0 where
@@ -81,6 +62,15 @@ kept_more raw rest marked behind after k f m b (x, t, e, s) a w =
                 ∙ simp append_assoc,
           );
     }
+
+-- up to the rest, which follows a backslash that is no escape, the canonical form is the spelling and one backslash
+-- more
+pub record EndsLone (raw rest : List ℕ) : Type 0 where
+  pub run : List ℕ
+  pub parts : raw ≡ run ++ rest
+  pub form : (ms : List (List ℕ)) → Each Piece ms raw
+      → (ks : List (List ℕ)) × Each Piece ks rest
+      × (escaped (flat_map (λ m. m) ms) ≡ run ++ 92 ∷ escaped (flat_map (λ m. m) ks))
 
 -- a backslash that is no escape ends what is kept
 pub kept_lone : (raw rest marked behind : List ℕ) (k : ℕ) → IsFirstByte (is_byte 92) rest (Some k)
@@ -144,93 +134,7 @@ kept_end raw rest f w ms h =
     let l = w.is ms h in
     l.2 ∙ ap (λ (u : List ℕ). w.run ++ u) (sym (all_plain l.0 rest l.1 (free_rest rest f))) ∙ sym w.parts
 
-pub written_more : (raw rest old out m1 m2 run behind : List ℕ) → Written raw rest old out → EndsLone rest behind
-    → run ≡ take (length rest - length behind) rest → Adds (Only run) out m1 → Adds (Only (92 ∷ [])) m1 m2
-    → Written raw behind old m2
-written_more raw rest old out m1 m2 run behind w lone t (x, xs, xe) (y, ys, ye) =
-    let run_is : run ≡ lone.run = t ∙ prefix_is rest lone.run behind lone.parts in
-    record {
-      done = w.done ++ lone.run ++ 92 ∷ [];
-      parts = ye ∙ ap (λ (u : List ℕ). u ++ y) (xe ∙ ap (λ (u : List ℕ). u ++ x) w.parts)
-          ∙ rw (xs, ys, run_is) (simp append_assoc);
-      is = λ text h.
-          let l = w.is text h in
-          let q = lone.form l.0 l.1 in
-          (q.0, q.1, l.2 ∙ ap (λ (u : List ℕ). w.done ++ u) q.2 ∙ simp append_assoc);
-    }
-
-pub written_end : {X E : Type 0} (raw rest old out new : List ℕ) (r : Result X E) → Written raw rest old out
-    → IsOwnForm rest → Puts (Only rest) out new r → Puts (ValueOf raw) old new r
-written_end raw rest old out new (Ok x) w own (t, ts, te) = (
-  w.done ++ rest,
-  λ text h. let l = w.is text h in sym (l.2 ∙ ap (λ (u : List ℕ). w.done ++ u) (own l.0 l.1)),
-  te ∙ ap (λ (s : List ℕ). s ++ t) w.parts ∙ append_assoc old w.done t ∙ ap (λ (s : List ℕ). old ++ (w.done ++ s)) ts,
-)
-written_end raw rest old out new (Err x) w own a =
-    adds_some Anything Anything old out new (written_begun raw rest old out w) a
-
--- ---- parameters
-
-param_written : (q : ParamParts) (v : ParamSpan) (b : List ℕ) → q.name ≡ v.name → Spells q.value v.raw → ParamOf v b
-    → b ≡ param_form q
-param_written q v b n s (x0, y0, e0, h0, (x1, y1, e1, h1, (x2, y2, e2, h2, (x3, y3, e3, h3, h4)))) =
-    let value : x3 ≡ escaped q.value = h3 q.value s in
-    e0 ∙ rw (h0, e1, h1, e2, h2, e3, value, h4, ← n) refl ∙ sym (form_raw q)
-
-pub record ParamsWritten (params rest old out : List ℕ) : Type 0 where
-  pub done : List ℕ
-  pub parts : out ≡ old ++ done
-  pub is : (ps : List ParamParts) → Each Param ps params
-      → (todo : List ParamParts) × Each Param todo rest × (flat_map param_form ps ≡ done ++ flat_map param_form todo)
-
-pub params_all : (params old : List ℕ) → ParamsWritten params params old old
-params_all params old = record { done = []; parts = sym (append-nil old); is = λ ps h. (ps, h, refl) }
-
-pub params_begun : (params rest old out : List ℕ) → ParamsWritten params rest old out → Adds Anything old out
-params_begun params rest old out w = (w.done, tt, w.parts)
-
-pub params_more : (params rest behind after old out mid : List ℕ) (x : ℕ) (v : ParamSpan) → rest ≡ x ∷ after
-    → SplitsParam rest v behind → Adds (ParamOf v) out mid → ParamsWritten params rest old out
-    → ParamsWritten params behind old mid
-params_more params rest behind after old out mid x v e f (z, zs, ze) w = record {
-  done = w.done ++ z;
-  parts = ze ∙ ap (λ (u : List ℕ). u ++ z) w.parts ∙ append_assoc old w.done z;
-  is = λ ps h. let l = w.is ps h in one ps l.0 l.1 l.2;
-}
-  where
-    one : (ps todo : List ParamParts) → Each Param todo rest
-        → flat_map param_form ps ≡ w.done ++ flat_map param_form todo
-        → (ks : List ParamParts) × Each Param ks behind
-        × (flat_map param_form ps ≡ w.done ++ z ++ flat_map param_form ks)
-    one ps [] k g = let i : ◌≡◌ {A = List ℕ} [] (x ∷ after) = sym k ∙ e in absurd cc
-    one ps (q ∷ todo) k g =
-        let i = item Param SpannedParam IsPrefixFree-param spanned_param q todo v rest behind k
-        (f k.1 (k.0, k.2, (q, k.3))) in
-        let same = param_same q v i.0 i.2 i.3 in (
-          todo,
-          i.4,
-          g ∙ ap (λ (u : List ℕ). w.done ++ (u ++ flat_map param_form todo))
-              (sym (param_written q v z same.0 same.1 zs)) ∙ sym (append_assoc w.done z (flat_map param_form todo)),
-        )
-
-pub params_end : (params rest old out : List ℕ) → rest ≡ [] → ParamsWritten params rest old out
-    → Adds (ParamsOf params) old out
-params_end params rest old out e w = (w.done, λ ps h. let l = w.is ps h in one ps l.0 l.1 l.2, w.parts)
-  where
-    one : (ps todo : List ParamParts) → Each Param todo rest
-        → flat_map param_form ps ≡ w.done ++ flat_map param_form todo → w.done ≡ flat_map param_form ps
-    one ps [] k g = sym (g ∙ append-nil w.done)
-    one ps (q ∷ todo) (y, z, i, k, l) g =
-        let s = param_prefix y (q, k) in
-        let j : ◌≡◌ {A = List ℕ} [] (32 ∷ (s.0 ++ z)) = sym e ∙ i ∙ ap (λ (t : List ℕ). t ++ z) s.1 in absurd cc
-
 -- ---- elements
-
-pub element_written : (d : ElementParts) (v : ElementSpan) (b : List ℕ) → d.id ≡ v.id → Each Param d.params v.params
-    → ElementOf v b → b ≡ element_form d
-element_written d v b n s (x0, y0, e0, h0, (x1, y1, e1, h1, (x2, y2, e2, h2, h3))) =
-    let params : x2 ≡ flat_map param_form d.params = h2 d.params s in
-    e0 ∙ rw (h0, e1, h1, e2, params, h3, ← n) refl ∙ sym (form_text d)
 
 pub record ElementsWritten (elements rest old out : List ℕ) : Type 0 where
   pub done : List ℕ
@@ -242,24 +146,27 @@ pub record ElementsWritten (elements rest old out : List ℕ) : Type 0 where
 pub elements_all : (elements old : List ℕ) → ElementsWritten elements elements old old
 elements_all elements old = record { done = []; parts = sym (append-nil old); is = λ es h. (es, h, refl) }
 
-pub elements_more : (elements rest behind after old out mid : List ℕ) (x : ℕ) (v : ElementSpan) → rest ≡ x ∷ after
-    → SplitsElement rest v behind → Adds (ElementOf v) out mid → ElementsWritten elements rest old out
+pub elements_more : (elements rest behind after old out mid : List ℕ) (x : ℕ) → rest ≡ x ∷ after
+    → Adds (FirstElement rest behind) out mid → ElementsWritten elements rest old out
     → ElementsWritten elements behind old mid
-elements_more elements rest behind after old out mid x v e f (z, zs, ze) w = record {
+elements_more elements rest behind after old out mid x e (z, zs, ze) w = record {
   done = w.done ++ z;
   parts = ze ∙ ap (λ (u : List ℕ). u ++ z) w.parts ∙ append_assoc old w.done z;
-  is = λ es h.
-      let l = w.is es h in
-      let i = first_item rest behind after x v l.0 e f l.1 in
-      let same = element_same i.element v i.text i.parse i.spanned in (
-        i.others,
-        i.each,
-        l.2 ∙ ap (λ (u : List ElementParts). w.done ++ flat_map element_form u) i.is
-            ∙ ap (λ (u : List ℕ). w.done ++ (u ++ flat_map element_form i.others))
-            (sym (element_written i.element v z same.0 same.1 zs))
-            ∙ sym (append_assoc w.done z (flat_map element_form i.others)),
-      );
+  is = λ es h. let l = w.is es h in one es l.0 l.1 l.2;
 }
+  where
+    one : (es todo : List ElementParts) → Each Element todo rest
+        → flat_map element_form es ≡ w.done ++ flat_map element_form todo
+        → (ks : List ElementParts) × Each Element ks behind
+        × (flat_map element_form es ≡ (w.done ++ z) ++ flat_map element_form ks)
+    one es [] k g = let i : ◌≡◌ {A = List ℕ} [] (x ∷ after) = sym k ∙ e in absurd cc
+    one es (d ∷ todo) (t, s, i, k, l) g =
+        let form = zs d s (t, i, k) in (
+          todo,
+          subst (Each Element todo) (sym form.1) l,
+          g ∙ ap (λ (u : List ℕ). w.done ++ (u ++ flat_map element_form todo)) (sym form.0)
+              ∙ sym (append_assoc w.done z (flat_map element_form todo)),
+        )
 
 pub elements_end : (elements rest old out : List ℕ) → rest ≡ [] → ElementsWritten elements rest old out
     → Adds (ElementsOf elements) old out

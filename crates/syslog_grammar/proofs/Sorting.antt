@@ -7,25 +7,23 @@ use Rattle.std.specs.List.Sorted.{IsPermutation}
 use Rattle.std.proofs.lemmas.List.{append-nil, drop_at, length-append, take_more_set}
 use Rattle.std.proofs.lemmas.List.Sorted.{IsPermutation-keeps, IsPermutation-refl, IsPermutation-swap}
 use Rattle.std.proofs.lemmas.List.Sorted.{IsPermutation-trans, length_permutation}
-use Rattle.octet_language.specs.Language.{AnyOf, Each}
+use Rattle.octet_language.specs.Language.{AnyOf}
 use Rattle.octet_language.proofs.Lists.{heads}
 use Rattle.syslog_value.specs.Parts.{ElementParts, IsById}
 use Rattle.syslog_grammar.specs.Appending.{Adds, Anything}
 use Rattle.syslog_grammar.specs.Canonical.{element_form, structured_data_form}
-use Rattle.syslog_grammar.specs.FirstElements.{SplitsElement}
-use Rattle.syslog_grammar.specs.Grammar.{Element, Param}
+use Rattle.syslog_grammar.specs.FirstElements.{IsFirstId, SplitsElement}
+use Rattle.syslog_grammar.specs.Grammar.{Element}
 use Rattle.syslog_grammar.specs.Ids.{IsAbove, IsRisingFrom, ids_of}
-use Rattle.syslog_grammar.specs.Reescaped.{PutsUnless}
-use Rattle.syslog_grammar.specs.Sorting.{AreElementsOf, AreKeysOf, KeysForm, SortedDataOf, SortedElementsOf, StandsAt}
-use Rattle.syslog_grammar.specs.Sorting.{TextForm, offset_of}
+use Rattle.syslog_grammar.specs.Reescaped.{FirstElement, PutsUnless}
+use Rattle.syslog_grammar.specs.Sorting.{AreElementsOf, AreKeysOf, FirstOf, KeysForm, SortedDataOf, SortedElementsOf}
+use Rattle.syslog_grammar.specs.Sorting.{StandsAt, offset_of}
 use Rattle.syslog_grammar.specs.Spans.{ElementSpan, SpannedElement}
 use Rattle.syslog_grammar.proofs.DataForms.{item, of_rising}
 use Rattle.syslog_grammar.proofs.CanonicalParses.{element_parsed}
 use Rattle.syslog_grammar.proofs.OneMeaning.{by_prefix}
-use Rattle.syslog_grammar.proofs.OwnedParts.{element_same}
 use Rattle.syslog_grammar.proofs.ParamTexts.{IsPrefixFree-element, element_prefix, spanned_element}
 use Rattle.syslog_grammar.proofs.Repeating.{prefix_is, split}
-use Rattle.syslog_grammar.proofs.Rewritten.{element_written}
 use Rattle.syslog_grammar.proofs.Valid.{valid_element}
 
 -- ---- the keys
@@ -178,18 +176,25 @@ pub written_begun : (a : Bool) (text all rest : List ℕ) (met : Option (List �
     → KeysWritten a text all rest met old out → Adds Anything old out
 written_begun a text all rest met old out w = (w.done, tt, w.parts)
 
-text_written : (a : Bool) (text : List ℕ) (v : ElementSpan) (d : ElementParts) (b : List ℕ) → d.id ≡ v.id
-    → Each Param d.params v.params → (IsTrue a → text ≡ element_form d) → TextForm a text v b → b ≡ element_form d
-text_written true text v d b n s form h = h ∙ form refl
-text_written false text v d b n s form h = element_written d v b n s h
+-- the first of elements, cut from their octets where it lies there in canonical form
+pub first_cut : (a : Bool) (octets behind text b : List ℕ) (v : ElementSpan) → IsTrue a → SplitsElement octets v behind
+    → text ≡ take (length octets - length behind) octets → b ≡ text → FirstOf a octets b
+first_cut a octets behind text b v u f cut h d others (each, form) =
+    let i = item Element SpannedElement IsPrefixFree-element spanned_element d others v octets behind each
+    (f each.1 (each.0, each.2, (d, each.3))) in
+    let k = form_parted a d others octets i.0 behind i.1 i.2 form u in
+    h ∙ cut ∙ prefix_is octets i.0 behind i.1 ∙ k.0
 
-pub written_more : (a : Bool) (text all rest others tail behind piece : List ℕ) (key : ℕ) (old out mid : List ℕ)
-    (v : ElementSpan) (met : Option (List ℕ)) → rest ≡ key ∷ others → tail ≡ drop (offset_of key) text
-    → SplitsElement tail v behind → piece ≡ take (length tail - length behind) tail → IsAbove v.id met
-    → Adds (TextForm a piece v) out mid
-    → KeysWritten a text all rest met old out → KeysWritten a text all others (Some v.id) old mid
+-- the first of elements, written in canonical form
+pub first_put : (a : Bool) (octets rest b : List ℕ) → FirstElement octets rest b → FirstOf a octets b
+first_put a octets rest b h d others ((x, y, e, k, l), form) = (h d y (x, e, k)).0
+
+pub written_more : (a : Bool) (text all rest others tail id : List ℕ) (key : ℕ) (old out mid : List ℕ)
+    (met : Option (List ℕ)) → rest ≡ key ∷ others → tail ≡ drop (offset_of key) text → IsFirstId tail id
+    → IsAbove id met → Adds (FirstOf a tail) out mid
+    → KeysWritten a text all rest met old out → KeysWritten a text all others (Some id) old mid
 unfolding AreKeysOf
-written_more a text all rest others tail behind piece key old out mid v met e at f cut above (z, zs, ze) w = record {
+written_more a text all rest others tail id key old out mid met e at first above (z, zs, ze) w = record {
   done = w.done ++ z;
   parts = ze ∙ ap (λ (u : List ℕ). u ++ z) w.parts ∙ append_assoc old w.done z;
   is = λ es h. go es (w.is es h);
@@ -200,25 +205,20 @@ written_more a text all rest others tail behind piece key old out mid v met e at
         × (IsRisingFrom met (ids_of todo) → IsById es)
         → (todo : List ElementParts) × AreKeysOf a text todo others
         × (flat_map element_form es ≡ (w.done ++ z) ++ flat_map element_form todo)
-        × (IsRisingFrom (Some v.id) (ids_of todo) → IsById es)
+        × (IsRisingFrom (Some id) (ids_of todo) → IsById es)
     go es ([], k, g, rising) = absurd (subst (AreKeysOf a text []) e k)
     go es (d ∷ todo, k, g, rising) =
         let both : StandsAt a text d (offset_of key) × AreKeysOf a text todo others =
         subst (AreKeysOf a text (d ∷ todo)) e k in
         let h : AreElementsOf a (d ∷ both.0.0) tail = subst (AreElementsOf a (d ∷ both.0.0)) (sym at) both.0.1 in
-        let i = item Element SpannedElement IsPrefixFree-element spanned_element d both.0.0 v tail behind h.0
-        (f h.0.1 (h.0.0, h.0.2, (d, h.0.3))) in
-        let same = element_same d v i.0 i.2 i.3 in
-        let piece_is : piece ≡ i.0 = cut ∙ prefix_is tail i.0 behind i.1 in
-        let form = form_parted a d both.0.0 tail i.0 behind i.1 i.2 h.1 in (
+        let same : id ≡ d.id = first d h.0.1 (h.0.0, h.0.2, h.0.3) in (
           todo,
           both.1,
-          g ∙ ap (λ (u : List ℕ). w.done ++ (u ++ flat_map element_form todo))
-              (sym (text_written a piece v d z same.0 same.1 (λ u. piece_is ∙ (form u).0) zs))
+          g ∙ ap (λ (u : List ℕ). w.done ++ (u ++ flat_map element_form todo)) (sym (zs d both.0.0 h))
               ∙ sym (append_assoc w.done z (flat_map element_form todo)),
           λ others_rise. rising (
-            subst (λ (id : List ℕ). IsAbove id met) (sym same.0) above,
-            subst (λ (id : List ℕ). IsRisingFrom (Some id) (ids_of todo)) (sym same.0) others_rise,
+            subst (λ (u : List ℕ). IsAbove u met) same above,
+            subst (λ (u : List ℕ). IsRisingFrom (Some u) (ids_of todo)) same others_rise,
           ),
         )
 

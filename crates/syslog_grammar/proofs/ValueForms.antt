@@ -67,7 +67,7 @@ runs (m ∷ ms) rest (r ∷ run) t (x, y, e, inr (inr (k, f)), j) g free = elim 
 
 -- ---- the piece at a backslash
 
-no_plain : (m z t : List ℕ) (x : ℕ) → IsPlain m → IsSpecial x → x ∷ t ≡ m ++ z → ⊥
+pub no_plain : (m z t : List ℕ) (x : ℕ) → IsPlain m → IsSpecial x → x ∷ t ≡ m ++ z → ⊥
 no_plain [] z t x k s e = character_some k.0
 no_plain (y ∷ m) z t x k s e = no_special y m (subst IsSpecial (heads x y t (m ++ z) e) s) k
 

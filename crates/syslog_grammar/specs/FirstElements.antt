@@ -3,7 +3,7 @@ use Rattle.std.specs.Prelude.{◌≡◌, ◌≢◌, ◌==◌, ℕ, List, [], ◌
 use Rattle.std.specs.List.{AllByRecursion}
 use Rattle.octet_language.specs.Language.{AnyOf}
 use Rattle.octet_language.specs.Reading.{Follows}
-use Rattle.syslog_value.specs.Parts.{IsNameOctet}
+use Rattle.syslog_value.specs.Parts.{ElementParts, IsNameOctet}
 use Rattle.syslog_grammar.specs.Grammar.{Element, Param}
 use Rattle.syslog_grammar.specs.Spans.{ElementSpan, SpannedElement, ParamSpan, SpannedParam}
 
@@ -11,6 +11,10 @@ use Rattle.syslog_grammar.specs.Spans.{ElementSpan, SpannedElement, ParamSpan, S
 abbrev pub IsIdLength : List ℕ → ℕ → Type 0
 IsIdLength octets n = (id after : List ℕ) (x : ℕ) → AllByRecursion IsNameOctet id → (x ≡ 32) ⊎ (x ≡ 93)
     → octets ≡ id ++ x ∷ after → n ≡ length id
+
+-- where an element comes first, this is its id
+abbrev pub IsFirstId : List ℕ → List ℕ → Type 0
+IsFirstId octets id = (e : ElementParts) (after : List ℕ) → Follows (Element e) octets after → id ≡ e.id
 
 -- where a name comes first, and then "=", it is so long
 abbrev pub IsNameLength : List ℕ → ℕ → Type 0

@@ -2,28 +2,53 @@
 use Rattle.std.specs.Prelude.{◌≡◌, ℕ, List, [], ◌∷◌, ◌++◌, ◌<◌, length, Bool, true, false, Result, Ok, Err}
 use Rattle.std.specs.List.{flat_map}
 use Rattle.octet_language.specs.Language.{Language, Only, ◌⋅◌, Each}
-use Rattle.syslog_value.specs.Parts.{ParamParts, ElementParts, IsById}
+use Rattle.octet_language.specs.Reading.{Follows}
+use Rattle.syslog_value.specs.Parts.{ElementParts, IsById}
 use Rattle.syslog_grammar.specs.Appending.{Anything, Adds}
 use Rattle.syslog_grammar.specs.Canonical.{escaped, param_form, element_form, structured_data_form}
 use Rattle.syslog_grammar.specs.Grammar.{Param, Element, StructuredDataText}
-use Rattle.syslog_grammar.specs.Spans.{ParamSpan, ElementSpan}
 use Rattle.syslog_grammar.specs.Values.{Piece, Spells}
 
--- of the value of a spelling
-abbrev pub ValueOf : List ℕ → Language
-ValueOf raw b = (text : List ℕ) → Spells text raw → b ≡ escaped text
+-- where a text of some value comes first, this is the form of that value, and the rest follows the text
+abbrev pub FirstForm : {V : Type 0} → (V → Language) → (V → List ℕ) → List ℕ → List ℕ → Language
+FirstForm {V} A form octets rest b = (v : V) (after : List ℕ) → Follows (A v) octets after
+    → (b ≡ form v) × (rest ≡ after)
 
--- of a parameter, with the space before it
-abbrev pub ParamOf : ParamSpan → Language
-ParamOf v = Only (32 ∷ []) ⋅ Only v.name ⋅ Only (61 ∷ 34 ∷ []) ⋅ ValueOf v.raw ⋅ Only (34 ∷ [])
+-- a value and its quotation mark
+abbrev pub FirstValue : List ℕ → List ℕ → Language
+FirstValue octets rest =
+    FirstForm (λ text. Spells text ⋅ Only (34 ∷ [])) (λ text. escaped text ++ 34 ∷ []) octets rest
 
--- of the parameters of a text
-abbrev pub ParamsOf : List ℕ → Language
-ParamsOf params b = (ps : List ParamParts) → Each Param ps params → b ≡ flat_map param_form ps
+abbrev pub FirstParam : List ℕ → List ℕ → Language
+FirstParam octets rest = FirstForm Param param_form octets rest
 
--- of an element
-abbrev pub ElementOf : ElementSpan → Language
-ElementOf v = Only (91 ∷ []) ⋅ Only v.id ⋅ ParamsOf v.params ⋅ Only (93 ∷ [])
+-- parameters and the bracket that ends them
+abbrev pub FirstParams : List ℕ → List ℕ → Language
+FirstParams octets rest =
+    FirstForm (λ ps. Each Param ps ⋅ Only (93 ∷ [])) (λ ps. flat_map param_form ps ++ 93 ∷ []) octets rest
+
+abbrev pub FirstElement : List ℕ → List ℕ → Language
+FirstElement octets rest = FirstForm Element element_form octets rest
+
+-- octets as they are, and a backslash where one is missing behind them
+abbrev pub RunForm : Bool → List ℕ → Language
+RunForm true run = Only run
+RunForm false run = Only (run ++ 92 ∷ [])
+
+-- the octets are the canonical form of these pieces and the quotation mark; or up to the rest, which other pieces and
+-- the mark come first of, the form is the octets and one backslash more
+abbrev pub KeptForm : Bool → List ℕ → List ℕ → List (List ℕ) → List ℕ → Type 0
+KeptForm true run rest ms after = (run ≡ escaped (flat_map (λ m. m) ms) ++ 34 ∷ []) × (rest ≡ after)
+KeptForm false run rest ms after = (ks : List (List ℕ)) × (left : List ℕ) × Each Piece ks left
+    × (rest ≡ left ++ 34 ∷ after)
+    × (escaped (flat_map (λ m. m) ms) ≡ run ++ 92 ∷ escaped (flat_map (λ m. m) ks))
+
+-- where a value and its quotation mark come first, so much of them is in a canonical record as it is
+pub record KeptTo (octets rest : List ℕ) (ends : Bool) : Type 0 where
+  pub run : List ℕ
+  pub parts : octets ≡ run ++ rest
+  pub form : (ms : List (List ℕ)) (raw after : List ℕ) → Each Piece ms raw → octets ≡ raw ++ 34 ∷ after
+      → KeptForm ends run rest ms after
 
 -- of the elements of a text
 abbrev pub ElementsOf : List ℕ → Language
@@ -51,12 +76,3 @@ IsOwnForm raw = (ms : List (List ℕ)) → Each Piece ms raw → escaped (flat_m
 -- the canonical form is longer than the spelling
 abbrev pub HasLongerForm : List ℕ → Type 0
 HasLongerForm raw = (ms : List (List ℕ)) → Each Piece ms raw → length raw < length (escaped (flat_map (λ m. m) ms))
-
--- up to the rest, which follows a backslash that is no escape, the canonical form is the spelling and one backslash
--- more
-pub record EndsLone (raw rest : List ℕ) : Type 0 where
-  pub run : List ℕ
-  pub parts : raw ≡ run ++ rest
-  pub form : (ms : List (List ℕ)) → Each Piece ms raw
-      → (ks : List (List ℕ)) × Each Piece ks rest
-      × (escaped (flat_map (λ m. m) ms) ≡ run ++ 92 ∷ escaped (flat_map (λ m. m) ks))

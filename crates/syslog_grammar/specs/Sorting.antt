@@ -1,22 +1,20 @@
 -- Structured data with its elements put in the order of their ids.
-use Rattle.std.specs.Prelude.{◌≡◌, ℕ, ◌%◌, List, [], ◌∷◌, ⊤, Bool, true, false, IsTrue, drop}
+use Rattle.std.specs.Prelude.{◌≡◌, ℕ, ◌%◌, List, [], ◌∷◌, ⊤, Bool, IsTrue, drop}
 use Rattle.std.specs.List.{flat_map}
 use Rattle.std.specs.List.Sorted.{IsPermutation}
-use Rattle.octet_language.specs.Language.{Language, Each, Only}
+use Rattle.octet_language.specs.Language.{Language, Each}
 use Rattle.syslog_value.specs.Parts.{ElementParts, IsById}
 use Rattle.syslog_grammar.specs.Canonical.{element_form, structured_data_form}
 use Rattle.syslog_grammar.specs.Grammar.{Element, StructuredDataText}
-use Rattle.syslog_grammar.specs.Reescaped.{ElementOf}
-use Rattle.syslog_grammar.specs.Spans.{ElementSpan}
-
--- an element is written as it lies where that is its canonical form
-abbrev pub TextForm : Bool → List ℕ → ElementSpan → Language
-TextForm true text v = Only text
-TextForm false text v = ElementOf v
 
 -- the text is that of the elements, and the canonical one where the answer is true
 abbrev pub AreElementsOf : Bool → List ElementParts → Language
 AreElementsOf is_form es text = Each Element es text × (IsTrue is_form → text ≡ flat_map element_form es)
+
+-- the canonical form of the first of elements
+abbrev pub FirstOf : Bool → List ℕ → Language
+FirstOf is_form text b = (e : ElementParts) (others : List ElementParts) → AreElementsOf is_form (e ∷ others) text
+    → b ≡ element_form e
 
 -- the element is the first of those that the text has from an offset on
 abbrev pub StandsAt : Bool → List ℕ → ElementParts → ℕ → Type 0

@@ -2,7 +2,8 @@
 //! and no test.
 
 ghost use Rattle.std.specs.Prelude.{◌≡◌, ◌≢◌, ◌≤◌, ◌<◌, ◌++◌, ◌∷◌, ℕ, List, IsTrue, length};
-ghost use Rattle.syslog_grammar.specs.FirstElements.{IsIdLength, IsMarkedLength, IsNameLength};
+ghost use Rattle.octet_language.specs.Language.{IfFirst};
+ghost use Rattle.syslog_grammar.specs.FirstElements.{IsFirstId, IsIdLength, IsMarkedLength, IsNameLength};
 ghost use Rattle.syslog_grammar.specs.FirstElements.{SplitsElement, SplitsParam};
 ghost use Rattle.syslog_grammar.specs.Views.{element_span, param_span};
 
@@ -13,7 +14,7 @@ use crate::reading::behind_first;
 
 /// How many octets an id has, which a space or a bracket follows.
 #[inline(always)]
-fn id_len(octets: &[u8]) -> usize
+pub fn id_len(octets: &[u8]) -> usize
     ensures within { result ≤ length octets.now }
     ensures id { IsIdLength octets.now result }
 {
@@ -25,7 +26,7 @@ fn id_len(octets: &[u8]) -> usize
 
 /// How many octets a name has, which `=` follows.
 #[inline(always)]
-fn name_len(octets: &[u8]) -> usize
+pub fn name_len(octets: &[u8]) -> usize
     ensures within { result ≤ length octets.now }
     ensures name { IsNameLength octets.now result }
 {
@@ -37,8 +38,9 @@ fn name_len(octets: &[u8]) -> usize
 
 /// Whether this octet comes first.
 #[inline(always)]
-fn begins_with(mark: u8, octets: &[u8]) -> bool
-    ensures { IsTrue result → (after : List ℕ) × (octets.now ≡ mark ∷ after) }
+pub fn begins_with(mark: u8, octets: &[u8]) -> bool
+    ensures mark { IsTrue result → (after : List ℕ) × (octets.now ≡ mark ∷ after) }
+    ensures other { (IsTrue result → ⊥) → IfFirst (λ x. x ≢ mark) octets.now }
 {
     match octets {
         [] => false,
@@ -66,6 +68,16 @@ fn marked_len(mark: u8, octets: &[u8]) -> usize
         rest = behind_first(found);
     }
     octets.len()
+}
+
+/// The id of the element that comes first.
+#[inline(always)]
+pub fn first_id(octets: &[u8]) -> &[u8]
+    ensures { IsFirstId octets.now result.now }
+{
+    let behind = behind_first(octets);
+    let (id, _rest) = behind.split_at(id_len(behind));
+    id
 }
 
 /// The parameter that comes first in octets that begin with one, and what follows it.

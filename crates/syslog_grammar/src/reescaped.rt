@@ -1,100 +1,117 @@
-//! The canonical octets of structured data, from any octets that spell it.
+//! The canonical octets of structured data, from any octets that spell it: each part is written as its
+//! end is found.
 
-ghost use Rattle.std.specs.Prelude.{◌<◌, IfSome, MatchOption, length};
-ghost use Rattle.octet_language.specs.Language.{Only};
-ghost use Rattle.syslog_grammar.specs.Appending.{Puts};
-ghost use Rattle.syslog_grammar.specs.Reescaped.{ElementOf, ElementsOf, ParamOf, ParamsOf};
-ghost use Rattle.syslog_grammar.specs.Reescaped.{EndsLone, IsOwnForm, ValueOf};
-ghost use Rattle.syslog_grammar.specs.Views.{element_span, param_span};
+ghost use Rattle.std.specs.Prelude.{◌≤◌, ◌<◌, IfOk, IsTrue, MatchResult, length};
+ghost use Rattle.syslog_grammar.specs.Appending.{Adds, Anything, Puts};
+ghost use Rattle.syslog_grammar.specs.Reescaped.{ElementsOf, FirstElement, FirstParam, FirstParams, FirstValue};
+ghost use Rattle.syslog_grammar.specs.Reescaped.{KeptTo, RunForm};
 
 use crate::appending::put;
-use crate::element::{ElementView, ParamView};
-use crate::first_element::{first_element, first_param};
-use crate::near::near_octet;
+use crate::first_element::{begins_with, id_len, name_len};
+use crate::near::near_either;
 use crate::reading::{behind_first, next};
 use crate::unescape::begins_special;
 use std::alloc::AllocError;
 
-/// What follows the first backslash that is no escape.
+/// What follows the octets that a canonical record has as they are, where a value and its quotation
+/// mark come first: up to the mark, which ends them, or up to a backslash that is no escape. It
+/// tells whether the mark does.
 #[inline(always)]
-fn behind_lone(raw: &[u8]) -> Option<&[u8]>
-    ensures lone { MatchOption result (IsOwnForm raw.now) (λ rest. EndsLone raw.now rest.now) }
-    ensures less { IfSome result (λ rest. length rest.now < length raw.now) }
+fn behind_kept(octets: &[u8]) -> (&[u8], bool)
+    ensures kept { KeptTo octets.now result.0.now result.1 }
+    ensures most { length result.0.now ≤ length octets.now }
+    ensures less { (IsTrue result.1 → ⊥) → length result.0.now < length octets.now }
 {
-    let mut rest = raw;
-    while let Some(offset) = near_octet(b'\\', rest) {
-        let (_plain, marked) = rest.split_at(offset);
+    let mut rest = octets;
+    while let Some(offset) = near_either(b'"', b'\\', rest) {
+        let (_, marked) = rest.split_at(offset);
         let behind = behind_first(marked);
+        if begins_with(b'"', marked) {
+            return (behind, true);
+        }
         if !begins_special(behind) {
-            return Some(behind);
+            return (behind, false);
         }
         rest = behind_first(behind);
     }
-    None
+    (octets, true)
 }
 
-/// Appends octets that are mostly one or two.
+/// Appends the octets up to where they are no longer as in a canonical record, and a backslash if a
+/// second one is missing there.
 #[inline(always)]
-fn put_few(octets: &[u8], out: &mut Vec<u8>) -> Result<(), AllocError>
-    ensures { Puts (Only octets.now) out.old.items out.new.items result }
+fn put_run(run: &[u8], is_last: bool, out: &mut Vec<u8>) -> Result<(), AllocError>
+    ensures { Puts (RunForm is_last run.now) out.old.items out.new.items result }
 {
-    match octets {
-        [first] => out.push(*first)?,
-        [first, second] => {
-            out.push(*first)?;
-            out.push(*second)?;
-        }
-        _ => put(octets, out)?,
+    put(run, out)?;
+    if is_last {
+        return Ok(());
     }
-    Ok(())
+    put(b"\\", out)
 }
 
-/// Appends the canonical spelling of a value: a backslash that is no escape is written twice.
-fn put_value(raw: &[u8], out: &mut Vec<u8>) -> Result<(), AllocError>
-    ensures { Puts (ValueOf raw.now) out.old.items out.new.items result }
+/// Appends the canonical spelling of the value that comes first and its quotation mark, and gives
+/// what follows it: a backslash that is no escape is written twice.
+fn put_value<'a>(octets: &'a [u8], out: &mut Vec<u8>) -> Result<&'a [u8], AllocError>
+    ensures form { MatchResult result
+        (λ rest. Adds (FirstValue octets.now rest.now) out.old.items out.new.items)
+        (λ e. Adds Anything out.old.items out.new.items) }
+    ensures most { IfOk result (λ rest. length rest.now ≤ length octets.now) }
 {
-    let mut rest = raw;
-    while let Some(behind) = behind_lone(rest) {
+    let mut rest = octets;
+    let mut is_last = false;
+    while !is_last {
+        let (behind, ends) = behind_kept(rest);
         let (run, _) = rest.split_at(rest.len() - behind.len());
-        put_few(run, out)?;
-        put_few(b"\\", out)?;
+        put_run(run, ends, out)?;
         rest = behind;
+        is_last = ends;
     }
-    put(rest, out)
+    Ok(rest)
 }
 
-/// Appends a space and a parameter.
-fn put_param(param: &ParamView<'_>, out: &mut Vec<u8>) -> Result<(), AllocError>
-    ensures { Puts (ParamOf (param_span param.now)) out.old.items out.new.items result }
+/// Appends the space and the parameter that come first, and gives what follows them.
+fn put_param<'a>(octets: &'a [u8], out: &mut Vec<u8>) -> Result<&'a [u8], AllocError>
+    ensures form { MatchResult result
+        (λ rest. Adds (FirstParam octets.now rest.now) out.old.items out.new.items)
+        (λ e. Adds Anything out.old.items out.new.items) }
+    ensures less { IfOk result (λ rest. 0 < length octets.now → length rest.now < length octets.now) }
 {
-    put(b" ", out)?;
-    put(param.name(), out)?;
-    put(b"=\"", out)?;
-    put_value(param.raw(), out)?;
-    put(b"\"", out)
+    let behind = behind_first(octets);
+    let (_name, marked) = behind.split_at(name_len(behind));
+    let value = behind_first(behind_first(marked));
+    let (named, _) = octets.split_at(octets.len() - value.len());
+    put(named, out)?;
+    put_value(value, out)
 }
 
-/// Appends the parameters of a text of parameters.
-fn put_params(params: &[u8], out: &mut Vec<u8>) -> Result<(), AllocError>
-    ensures { Puts (ParamsOf params.now) out.old.items out.new.items result }
+/// Appends the parameters that come first and the bracket that ends them, and gives what follows it.
+fn put_params<'a>(octets: &'a [u8], out: &mut Vec<u8>) -> Result<&'a [u8], AllocError>
+    ensures form { MatchResult result
+        (λ rest. Adds (FirstParams octets.now rest.now) out.old.items out.new.items)
+        (λ e. Adds Anything out.old.items out.new.items) }
+    ensures most { IfOk result (λ rest. length rest.now ≤ length octets.now) }
 {
-    let mut rest = params;
-    while let Some((_first, _after)) = next(rest) {
-        let (found, behind) = first_param(rest);
-        put_param(&found, out)?;
-        rest = behind;
+    let mut rest = octets;
+    while begins_with(b' ', rest) {
+        rest = put_param(rest, out)?;
     }
-    Ok(())
+    put(b"]", out)?;
+    Ok(behind_first(rest))
 }
 
-/// Appends an element.
-pub fn put_element(element: &ElementView<'_>, out: &mut Vec<u8>) -> Result<(), AllocError>
-    ensures { Puts (ElementOf (element_span element.now)) out.old.items out.new.items result }
+/// Appends the element that comes first, and gives what follows it.
+pub fn put_element<'a>(octets: &'a [u8], out: &mut Vec<u8>) -> Result<&'a [u8], AllocError>
+    ensures form { MatchResult result
+        (λ rest. Adds (FirstElement octets.now rest.now) out.old.items out.new.items)
+        (λ e. Adds Anything out.old.items out.new.items) }
+    ensures less { IfOk result (λ rest. 0 < length octets.now → length rest.now < length octets.now) }
 {
-    put(b"[", out)?;
-    put(element.id(), out)?;
-    put_params(element.params_text(), out)?;
-    put(b"]", out)
+    let behind = behind_first(octets);
+    let (_id, params) = behind.split_at(id_len(behind));
+    let (head, _) = octets.split_at(octets.len() - params.len());
+    put(head, out)?;
+    put_params(params, out)
 }
 
 /// Appends elements.
@@ -103,9 +120,7 @@ pub fn put_elements(elements: &[u8], out: &mut Vec<u8>) -> Result<(), AllocError
 {
     let mut rest = elements;
     while let Some((_first, _after)) = next(rest) {
-        let (found, behind) = first_element(rest);
-        put_element(&found, out)?;
-        rest = behind;
+        rest = put_element(rest, out)?;
     }
     Ok(())
 }

@@ -6,13 +6,11 @@ ghost use Rattle.std.specs.List.Sorted.{IsPermutation};
 ghost use Rattle.syslog_value.specs.Parts.{ElementParts};
 ghost use Rattle.syslog_grammar.specs.Appending.{Puts};
 ghost use Rattle.syslog_grammar.specs.Reescaped.{PutsUnless};
-ghost use Rattle.syslog_grammar.specs.Sorting.{AreElementsOf, AreKeysOf, KeysForm, SortedDataOf};
-ghost use Rattle.syslog_grammar.specs.Sorting.{SortedElementsOf, TextForm, offset_of};
-ghost use Rattle.syslog_grammar.specs.Views.{element_span};
+ghost use Rattle.syslog_grammar.specs.Sorting.{AreElementsOf, AreKeysOf, FirstOf, KeysForm, SortedDataOf};
+ghost use Rattle.syslog_grammar.specs.Sorting.{SortedElementsOf, offset_of};
 
 use crate::appending::put;
-use crate::element::ElementView;
-use crate::first_element::first_element;
+use crate::first_element::{first_element, first_id};
 use crate::reading::next;
 use crate::reescaped::put_element;
 use crate::repeated::is_above;
@@ -98,20 +96,17 @@ fn sort_keys(elements: &[u8], keys: &mut [u64])
     }
 }
 
-/// Appends an element, whose text is given: as it lies where that is canonical.
-fn put_text(
-    text: &[u8],
-    element: &ElementView<'_>,
-    is_form: bool,
-    out: &mut Vec<u8>,
-) -> Result<(), AllocError>
-    ensures { Puts (TextForm is_form text.now (element_span element.now))
-        out.old.items out.new.items result }
+/// Appends the element that comes first: as it lies where that is canonical.
+fn put_first(octets: &[u8], is_form: bool, out: &mut Vec<u8>) -> Result<(), AllocError>
+    ensures { Puts (FirstOf is_form octets.now) out.old.items out.new.items result }
 {
     if is_form {
+        let (_found, behind) = first_element(octets);
+        let (text, _) = octets.split_at(octets.len() - behind.len());
         return put(text, out);
     }
-    put_element(element, out)
+    put_element(octets, out)?;
+    Ok(())
 }
 
 /// Appends the elements at the offsets of keys, up to one whose id is not above those before it.
@@ -129,13 +124,11 @@ fn put_rising<'a>(
         let Some((_before, rest)) = elements.split_at_checked(offset_of(keys[i])) else {
             return Ok(false);
         };
-        let (found, behind) = first_element(rest);
-        let id = found.id();
+        let id = first_id(rest);
         if !is_above(id, greatest) {
             return Ok(false);
         }
-        let (text, _) = rest.split_at(rest.len() - behind.len());
-        put_text(text, &found, is_form, out)?;
+        put_first(rest, is_form, out)?;
         greatest = Some(id);
     }
     Ok(true)

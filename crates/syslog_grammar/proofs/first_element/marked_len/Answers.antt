@@ -5,7 +5,7 @@ use Rattle.syslog_grammar.proofs.first_element.marked_len.Goals as goal
 
 pub returns-then-begins_with-clause-marked : goal.returns-then-begins_with-clause-marked
 returns-then-begins_with-clause-marked c =
-    let first = c.begins_with.ensures c.if-begins_with.true in
+    let first = c.begins_with.ensures.mark c.if-begins_with.true in
     marked_at_once c.args.mark c.args.octets.now first.0 c.requires first.1
 
 pub loop-offset-init : goal.loop-offset-init

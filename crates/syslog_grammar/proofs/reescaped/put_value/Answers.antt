@@ -1,17 +1,30 @@
-use Rattle.syslog_grammar.proofs.Rewritten.{written_all, written_more, written_end}
+use Rattle.std.proofs.Common.{Bool, arith, subst}
+use Rattle.syslog_grammar.proofs.FirstForms.{ValueWritten, fewer_left, value_end, value_more, value_none}
 use Rattle.syslog_grammar.proofs.reescaped.put_value.Goals as goal
 
-pub loop-behind-init : goal.loop-behind-init
-loop-behind-init c = written_all c.args.raw.now c.args.out.now.items
+pub loop-is_last-init : goal.loop-is_last-init
+loop-is_last-init c = record { written = value_none c.args.octets.now c.args.out.now.items; within = omega arith }
 
-pub loop-behind-preserved : goal.loop-behind-preserved
-loop-behind-preserved c =
-    written_more c.args.raw.now c.loop-behind.rest.now c.args.out.now.items c.loop-behind.out.items
-    c.put_few.new.out.items
-    c.put_few-in-Some.new.out.items c.split_at.result.0.now c.in-Some.behind.now c.loop-behind.invariant
-    c.in-Some.ensures.lone c.split_at.ensures.front c.in_ok-put_few.ensures c.in_ok-put_few-2.ensures
+pub loop-is_last-preserved : goal.loop-is_last-preserved
+loop-is_last-preserved c = record {
+  written =
+      value_more c.args.octets.now c.loop-is_last.rest.now c.behind_kept-ends.result.0.now c.split_at.result.0.now
+      c.args.out.now.items c.loop-is_last.out.items c.put_run.new.out.items c.behind_kept-ends.result.1
+      (subst (λ (b : Bool). ValueWritten c.args.octets.now c.loop-is_last.rest.now b c.args.out.now.items
+      c.loop-is_last.out.items) c.loop-is_last-test.true c.loop-is_last.invariant.written)
+      c.behind_kept-ends.ensures.kept c.split_at.ensures.front c.in_ok-put_run.ensures;
+  within = omega (arith, c.loop-is_last.invariant.within, c.behind_kept-ends.ensures.most);
+}
+
+pub loop-is_last-smaller : goal.loop-is_last-smaller
+loop-is_last-smaller c = rw c.loop-is_last-test.true
+    (fewer_left c.behind_kept-ends.result.1 c.loop-is_last.rest.now c.behind_kept-ends.result.0.now
+    c.behind_kept-ends.ensures.less)
 
 pub returns : goal.returns
-returns c =
-    written_end c.args.raw.now c.loop-behind.rest.now c.args.out.now.items c.loop-behind.out.items c.put.new.out.items
-    c.put.result c.loop-behind.invariant c.in_default.ensures.lone c.put.ensures
+returns c = record {
+  form = value_end c.args.octets.now c.loop-is_last.rest.now c.args.out.now.items c.loop-is_last.out.items
+      (subst (λ (b : Bool). ValueWritten c.args.octets.now c.loop-is_last.rest.now b c.args.out.now.items
+      c.loop-is_last.out.items) c.loop-is_last-test.false c.loop-is_last.invariant.written);
+  most = c.loop-is_last.invariant.within;
+}

@@ -2,9 +2,6 @@ use Rattle.std.proofs.Common.{◌≡◌, ◌∙◌, rules, ◌+◌, ℕ, [], ap,
 use Rattle.std.specs.Prelude.{option_map}
 use Rattle.std.proofs.lemmas.Result.{err_from_is_err_and}
 use Rattle.syslog_grammar.specs.Appending.{Anything}
-use Rattle.syslog_grammar.specs.Ids.{IsAbove}
-use Rattle.syslog_grammar.specs.Spans.{ElementSpan}
-use Rattle.syslog_grammar.specs.Views.{element_span}
 use Rattle.syslog_grammar.proofs.Appends.{adds_some}
 use Rattle.syslog_grammar.proofs.Sorting.{written_none, written_begun, written_more, written_end, key_left, none_left}
 use Rattle.syslog_grammar.proofs.sorted.put_rising.Goals as goal
@@ -19,27 +16,22 @@ returns-then-not-is_above c = (
   tt,
 )
 
-pub returns-in_err-put_text : goal.returns-in_err-put_text
-returns-in_err-put_text c =
+pub returns-in_err-put_first : goal.returns-in_err-put_first
+returns-in_err-put_first c =
     let p = err_from_is_err_and c.from_residual.result c.from_residual.ensures.1 in
-    rw p.1 (adds_some Anything Anything c.args.out.now.items c.loop-i.out.items c.put_text.new.out.items
+    rw p.1 (adds_some Anything Anything c.args.out.now.items c.loop-i.out.items c.put_first.new.out.items
     (written_begun c.args.is_form c.args.elements.now c.args.keys.now (drop c.loop-i.i c.args.keys.now)
     (option_map (λ s. s.now) c.loop-i.greatest) c.args.out.now.items c.loop-i.out.items c.loop-i.invariant)
-    c.in_err-put_text.ensures)
+    c.in_err-put_first.ensures)
 
 pub loop-i-preserved : goal.loop-i-preserved
 loop-i-preserved c =
-    let v : ElementSpan = element_span c.first_element.result.0 in
-    let above : IsAbove c.id-id.result.now (option_map (λ s. s.now) c.loop-i.greatest) =
-    c.is_above.ensures.above (search rules) in
-    rw c.id-id.ensures (written_more c.args.is_form c.args.elements.now c.args.keys.now
-    (drop c.loop-i.i c.args.keys.now) (drop (c.loop-i.i + 1) c.args.keys.now) c.in-Some.rest.now
-    c.first_element.result.1.now c.split_at.result.0.now _ c.args.out.now.items c.loop-i.out.items
-    c.put_text.new.out.items v (option_map (λ s. s.now) c.loop-i.greatest)
+    written_more c.args.is_form c.args.elements.now c.args.keys.now (drop c.loop-i.i c.args.keys.now)
+    (drop (c.loop-i.i + 1) c.args.keys.now) c.in-Some.rest.now c.first_id-id.result.now _ c.args.out.now.items
+    c.loop-i.out.items c.put_first.new.out.items (option_map (λ s. s.now) c.loop-i.greatest)
     (key_left c.args.keys.now c.loop-i.i _ c.loop-i-test.true)
     (c.in-Some.ensures.cases.2 ∙ ap (λ (n : ℕ). drop n c.args.elements.now) c.offset_of.ensures)
-    c.first_element.ensures.element c.split_at.ensures.front
-    (rw c.id-id.ensures at above) c.in_ok-put_text.ensures c.loop-i.invariant)
+    c.first_id-id.ensures (c.is_above.ensures.above (search rules)) c.in_ok-put_first.ensures c.loop-i.invariant
 
 pub returns : goal.returns
 returns c =
