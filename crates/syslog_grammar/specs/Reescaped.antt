@@ -35,8 +35,8 @@ abbrev pub RunForm : Bool → List ℕ → Language
 RunForm true run = Only run
 RunForm false run = Only (run ++ 92 ∷ [])
 
--- the octets are the canonical form of these pieces and the quotation mark; or up to the rest, which other pieces and
--- the mark come first of, the form is the octets and one backslash more
+-- the octets are the canonical form of these pieces and the quotation mark, which the rest follows; or the form is the
+-- octets, one backslash more, and the form of the pieces that come first in the rest, before the mark
 abbrev pub KeptForm : Bool → List ℕ → List ℕ → List (List ℕ) → List ℕ → Type 0
 KeptForm true run rest ms after = (run ≡ escaped (flat_map (λ m. m) ms) ++ 34 ∷ []) × (rest ≡ after)
 KeptForm false run rest ms after = (ks : List (List ℕ)) × (left : List ℕ) × Each Piece ks left
