@@ -18,7 +18,7 @@ use Rattle.syslog_grammar.specs.FirstElements.{IsFirstId, IsIdLength, IsNameLeng
 use Rattle.syslog_grammar.specs.Grammar.{Param}
 use Rattle.syslog_grammar.specs.Reescaped.{FirstElement, FirstParam, FirstParams, FirstValue, KeptTo}
 use Rattle.syslog_grammar.specs.Reescaped.{RunForm}
-use Rattle.syslog_grammar.specs.Values.{IsSpecial, Piece}
+use Rattle.syslog_grammar.specs.Values.{AreEscapes, IsSpecial, PassesEscapes, Piece}
 use Rattle.syslog_grammar.proofs.Appends.{adds_some}
 use Rattle.syslog_grammar.proofs.Characters.{character_some}
 use Rattle.syslog_grammar.proofs.DataForms.{form_raw, form_text}
@@ -195,6 +195,52 @@ kept_more octets rest marked behind next k f m b other (x, t, e, s) n w =
         let same : x ≡ y = heads x y next (z ++ 34 ∷ after) g in
         let q = escape qs x z (subst (λ (u : ℕ). Each Piece qs (92 ∷ u ∷ z)) (sym same) h) s in
         (q.behind, z, q.each, tails x y next (z ++ 34 ∷ after) g, q.means)
+
+escapes_kept : (run behind left after : List ℕ) (ks : List (List ℕ)) → AreEscapes run → Each Piece ks left
+    → run ++ behind ≡ left ++ 34 ∷ after
+    → (js : List (List ℕ)) × (kept : List ℕ) × Each Piece js kept × (behind ≡ kept ++ 34 ∷ after)
+    × (escaped (joined ks) ≡ run ++ escaped (joined js))
+unfolding AreEscapes
+escapes_kept [] behind left after ks h k e = (ks, left, k, e, refl)
+escapes_kept (x ∷ []) behind left after ks h k e = absurd h
+escapes_kept (x ∷ y ∷ run) behind [] after ks h k e =
+    absurd (omega (arith, h.0, heads x 34 (y ∷ (run ++ behind)) after e))
+escapes_kept (x ∷ y ∷ run) behind (a ∷ []) after ks h k e =
+    let first : a ≡ 92 = sym (heads x a (y ∷ (run ++ behind)) (34 ∷ after) e) ∙ h.0 in
+    absurd (no_end ks (subst (λ (u : ℕ). Each Piece ks (u ∷ [])) first k))
+escapes_kept (x ∷ y ∷ run) behind (a ∷ b ∷ left) after ks h k e =
+    let first : a ≡ 92 = sym (heads x a (y ∷ (run ++ behind)) (b ∷ (left ++ 34 ∷ after)) e) ∙ h.0 in
+    let next = tails x a (y ∷ (run ++ behind)) (b ∷ (left ++ 34 ∷ after)) e in
+    let second : b ≡ y = sym (heads y b (run ++ behind) (left ++ 34 ∷ after) next) in
+    let q = escape ks y left
+    (subst (λ (u : ℕ). Each Piece ks (92 ∷ u ∷ left)) second (subst (λ (u : ℕ). Each Piece ks (u ∷ b ∷ left)) first k))
+    h.1 in
+    let deeper = escapes_kept run behind left after q.behind h.2 q.each
+    (tails y b (run ++ behind) (left ++ 34 ∷ after) next) in (
+      deeper.0,
+      deeper.1,
+      deeper.2,
+      deeper.3,
+      ap escaped q.means ∙ escaped_special y (joined q.behind) h.1 ∙ ap (λ (u : List ℕ). 92 ∷ y ∷ u) deeper.4
+          ∙ ap (λ (u : ℕ). u ∷ y ∷ (run ++ escaped (joined deeper.0))) (sym h.0),
+    )
+
+-- so are the escapes that follow
+pub kept_escapes : (octets rest behind : List ℕ) → KeptValue octets rest → PassesEscapes rest behind
+    → KeptValue octets behind
+kept_escapes octets rest behind w p = record {
+  run = w.run ++ p.run;
+  parts = w.parts ∙ ap (λ (u : List ℕ). w.run ++ u) p.parts ∙ sym (append_assoc w.run p.run behind);
+  is = λ ms raw after h e.
+      let l = w.is ms raw after h e in
+      let q = escapes_kept p.run behind l.1 after l.0 p.escapes l.2 (sym p.parts ∙ l.3) in (
+        q.0,
+        q.1,
+        q.2,
+        q.3,
+        l.4 ∙ ap (λ (u : List ℕ). w.run ++ u) q.4 ∙ sym (append_assoc w.run p.run (escaped (joined q.0))),
+      );
+}
 
 -- a backslash that is no escape ends what is kept
 pub kept_lone : (octets rest marked behind : List ℕ) (k : ℕ) → IsFirstByte (is_byte2 34 92) rest (Some k)

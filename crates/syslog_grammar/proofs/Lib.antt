@@ -21,7 +21,6 @@ pub mod Records
 pub mod Repeating
 pub mod FirstElements
 pub mod MarkedValues
-pub mod TextParts
 pub mod Viewing
 pub mod Meanings
 pub mod Rising

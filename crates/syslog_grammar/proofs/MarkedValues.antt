@@ -1,5 +1,5 @@
 -- Values that are read by their marks, from octets that are characters.
-use Rattle.std.proofs.Common.{◌≡◌, ◌≢◌, ℕ, zero, suc, ◌-◌, ◌<◌, ◌≤◌, List, [], ◌∷◌, ◌++◌, length, take, drop}
+use Rattle.std.proofs.Common.{◌≡◌, ◌≢◌, ℕ, zero, suc, ◌-◌, ◌<◌, List, [], ◌∷◌, ◌++◌, length, take, drop}
 use Rattle.std.proofs.Common.{get_or, Bool, not, true, false, refl, sym, ap, subst, ◌∙◌, append_assoc, arith, inl, inr}
 use Rattle.std.specs.Prelude.{Some, IsTrue, ◌==◌}
 use Rattle.std.specs.List.{AllByRecursion}
@@ -8,52 +8,20 @@ use Rattle.std.proofs.lemmas.List.{length-append, take-append-drop, take_at}
 use Rattle.memchr.specs.Find.{IsFirstByte, is_byte2}
 use Rattle.octet_language.specs.Language.{◌⋅◌, AnyOf, Each, Only}
 use Rattle.octet_language.specs.Reading.{Follows}
-use Rattle.octet_language.proofs.Lists.{AllByRecursion-right, parted, tails}
+use Rattle.octet_language.proofs.Lists.{tails}
 use Rattle.syslog_grammar.specs.Canonical.{escaped, needs_escape}
 use Rattle.syslog_grammar.specs.FirstElements.{HasNoMark, IsUnmarked, takes_next}
 use Rattle.syslog_grammar.specs.Forms.{IsValueForm}
 use Rattle.syslog_grammar.specs.Reescaped.{HasLongerForm, IsOwnForm}
 use Rattle.syslog_grammar.specs.Spans.{Text}
 use Rattle.syslog_grammar.specs.Utf8.{Character, IsCharacter, IsText}
-use Rattle.syslog_grammar.specs.Values.{IsPlainOctet, IsSpecial, Piece}
+use Rattle.syslog_grammar.specs.Values.{AreEscapes, IsPlainOctet, IsSpecial, PassesEscapes, Piece}
 use Rattle.syslog_grammar.proofs.Characters.{character_some}
 use Rattle.syslog_grammar.proofs.FirstElements.{is_test}
-use Rattle.syslog_grammar.proofs.Unescaped.{alone_or_high, plain_bare, special_test, test_special}
+use Rattle.syslog_grammar.proofs.Unescaped.{plain_bare, special_test, test_special}
 use Rattle.syslog_grammar.proofs.EscapedRuns.{kept}
 use Rattle.syslog_grammar.proofs.ValueForms.{joined}
 use Rattle.syslog_grammar.proofs.Values.{backslash, no_special, plain_octet, plain_or}
-
--- ---- characters around an octet of ASCII
-
-only_octet : (p z : List ℕ) (x w : ℕ) → p ++ x ∷ z ≡ w ∷ [] → (p ≡ []) × (z ≡ [])
-only_octet [] z x w e = (refl, tails x w z [] e)
-only_octet (a ∷ p) z x w e =
-    absurd (omega (arith, ap length e, length-append p (x ∷ z)))
-
-split : (cs : List (List ℕ)) (b p rest : List ℕ) (x : ℕ) → Each Character cs b → b ≡ p ++ x ∷ rest → x < 128
-    → IsText p × IsText rest
-split [] b p rest x h g low =
-    absurd (omega (arith, ap length h, ap length g, length-append p (x ∷ rest)))
-split (c ∷ cs) b p rest x (u, y, e, (h, f), k) g low = elim (parted u y p x rest (sym e ∙ g)) [
-  | inl (z, i) ↦ elim (alone_or_high c h) [
-    | inl (w, j) ↦
-        let one = only_octet p z x w (sym i ∙ f ∙ j) in
-        let alone : u ≡ x ∷ [] = i ∙ rw (one.0, one.1) refl in
-        let whole : x ∷ y ≡ x ∷ rest =
-        sym (e ∙ ap (λ (s : List ℕ). s ++ y) alone) ∙ g ∙ ap (λ (s : List ℕ). s ++ x ∷ rest) one.0 in
-        (([], one.0), subst IsText (tails x x y rest whole) (cs, k))
-    | inr all ↦
-        let high = AllByRecursion-right (λ n. 128 ≤ n) p (x ∷ z) (subst (AllByRecursion (λ n. 128 ≤ n)) (sym f ∙ i) all) in
-        absurd (omega (arith, high.0, low))
-  ]
-  | inr (w, i, l) ↦
-      let deeper = split cs y w rest x k l low in
-      ((c ∷ deeper.0.0, (u, w, i, (h, f), deeper.0.1)), deeper.1)
-]
-
--- what comes before an octet of ASCII, and what follows it
-pub text_around : (b p rest : List ℕ) (x : ℕ) → IsText b → b ≡ p ++ x ∷ rest → x < 128 → IsText p × IsText rest
-text_around b p rest x (cs, h) g low = split cs b p rest x h g low
 
 -- ---- the pieces
 
@@ -95,9 +63,9 @@ not_last : IsUnmarked true [] × (takes_next true [] ≡ false) → ⊥
 unfolding takes_next
 not_last m = absurd cc
 
-pieces : (cs : List (List ℕ)) (raw : List ℕ) → Each Character cs raw → HasNoMark raw → AnyOf (Each Piece) raw
-pieces [] raw h m = ([], h)
-pieces (c ∷ []) raw (u, y, e, (h, f), k) m = elim (plain_or c h) [
+pieces_of : (cs : List (List ℕ)) (raw : List ℕ) → Each Character cs raw → HasNoMark raw → AnyOf (Each Piece) raw
+pieces_of [] raw h m = ([], h)
+pieces_of (c ∷ []) raw (u, y, e, (h, f), k) m = elim (plain_or c h) [
   | inl (x, i, s) ↦ elim (cases_eq x 92) [
     | inl g ↦
         let whole : raw ≡ 92 ∷ [] = e ∙ rw (f, i, g, k) refl in
@@ -106,28 +74,27 @@ pieces (c ∷ []) raw (u, y, e, (h, f), k) m = elim (plain_or c h) [
   ]
   | inr p ↦ (c ∷ [], (u, y, e, inr (inr (p, f)), k))
 ]
-pieces (c ∷ d ∷ cs) raw (u, y, e, (h, f), (v, z, g, (i, j), k)) m = elim (plain_or c h) [
+pieces_of (c ∷ d ∷ cs) raw (u, y, e, (h, f), (v, z, g, (i, j), k)) m = elim (plain_or c h) [
   | inl (x, l, s) ↦ elim (cases_eq x 92) [
     | inl b ↦
         let whole : raw ≡ 92 ∷ (d ++ z) = e ∙ rw (f, l, b, g, j) refl in
         let taken = at_backslash (d ++ z) (subst HasNoMark whole m) in
-        let deeper = pieces cs z k (unmarked_taken d z i taken.0 taken.1) in
+        let deeper = pieces_of cs z k (unmarked_taken d z i taken.0 taken.1) in
         let piece = backslash d i in
         (piece.0 ∷ deeper.0, (92 ∷ d, z, whole, piece.1, deeper.1))
     | inr b ↦ absurd (no_first x y s b (subst HasNoMark (e ∙ rw (f, l) refl) m))
   ]
   | inr p ↦
-      let deeper = pieces (d ∷ cs) y (v, z, g, (i, j), k)
+      let deeper = pieces_of (d ∷ cs) y (v, z, g, (i, j), k)
       (unmarked_bare c y (plain_bare c p) (subst HasNoMark (e ∙ rw f refl) m)) in
       (c ∷ deeper.0, (u, y, e, inr (inr (p, f)), deeper.1))
 ]
 
--- ---- the value
+-- characters without a mark are pieces
+pub marked_pieces : (raw : List ℕ) → IsText raw → HasNoMark raw → AnyOf (Each Piece) raw
+marked_pieces raw (cs, h) m = pieces_of cs raw h m
 
-pub marked_any : (octets raw rest : List ℕ) → IsText octets → octets ≡ raw ++ 34 ∷ rest → HasNoMark raw
-    → AnyOf (Each Piece) raw
-marked_any octets raw rest h e m =
-    let front = (text_around octets raw rest 34 h e (omega arith)).0 in pieces front.0 raw front.1 m
+-- ---- the value
 
 pub marked_read : (octets raw rest : List ℕ) → octets ≡ raw ++ 34 ∷ rest → AnyOf (Each Piece) raw
     → Follows (Text (AnyOf (Each Piece)) raw ⋅ Only (34 ∷ [])) octets rest
@@ -231,13 +198,45 @@ passed_found octets rest found before k p f d b =
           (unmarked_run (takes_next false p.done) k rest (λ i less. f.0.before i (omega arith) less)));
     }
 
-pub passed_more : (octets found before next : List ℕ) → Marked octets before found → takes_next false before ≡ true
-    → next ≡ drop 1 found → Passed octets next
-passed_more octets found before next m takes n = record {
-  done = before ++ take 1 found;
+takes_join : (b : Bool) (s t : List ℕ) → takes_next b (s ++ t) ≡ takes_next (takes_next b s) t
+unfolding takes_next
+takes_join b [] t = refl
+takes_join true (x ∷ s) t = takes_join false s t
+takes_join false (x ∷ s) t = takes_join (x == 92) s t
+
+escapes_unmarked : (run : List ℕ) → AreEscapes run → IsUnmarked false run
+unfolding AreEscapes IsUnmarked
+escapes_unmarked [] h = tt
+escapes_unmarked (x ∷ []) h = absurd h
+escapes_unmarked (x ∷ y ∷ run) h = (
+  λ e. omega (arith, h.0, e),
+  λ e. omega (arith, h.0, e),
+  rw h.0 (escapes_unmarked run h.2),
+)
+
+no_octets : (b : Bool) (run rest : List ℕ) → run ++ rest ≡ [] → IsUnmarked b run
+unfolding IsUnmarked
+no_octets b [] rest e = tt
+no_octets b (x ∷ run) rest e = absurd cc
+
+-- escapes behind a mark that is taken
+escapes_behind : (found next rest : List ℕ) → next ≡ drop 1 found → (p : PassesEscapes next rest)
+    → IsUnmarked (takes_next true (take 1 found)) p.run
+unfolding takes_next
+escapes_behind [] next rest n p = no_octets true p.run rest (sym p.parts ∙ n)
+escapes_behind (x ∷ s) next rest n p = escapes_unmarked p.run p.escapes
+
+pub passed_more : (octets found before next rest : List ℕ) → Marked octets before found
+    → takes_next false before ≡ true → next ≡ drop 1 found → PassesEscapes next rest → Passed octets rest
+passed_more octets found before next rest m takes n p = record {
+  done = (before ++ take 1 found) ++ p.run;
   parts = m.parts ∙ ap (λ (u : List ℕ). before ++ u)
-      (sym (take-append-drop 1 found) ∙ ap (λ (u : List ℕ). take 1 found ++ u) (sym n))
-      ∙ sym (append_assoc before (take 1 found) next);
-  unmarked = unmarked_join false before (take 1 found) m.unmarked
-      (subst (λ (b : Bool). IsUnmarked b (take 1 found)) (sym takes) (unmarked_one found));
+      (sym (take-append-drop 1 found) ∙ ap (λ (u : List ℕ). take 1 found ++ u) (sym n ∙ p.parts))
+      ∙ simp append_assoc;
+  unmarked = unmarked_join false (before ++ take 1 found) p.run
+      (unmarked_join false before (take 1 found) m.unmarked
+      (subst (λ (b : Bool). IsUnmarked b (take 1 found)) (sym takes) (unmarked_one found)))
+      (subst (λ (b : Bool). IsUnmarked b p.run)
+      (sym (takes_join false before (take 1 found) ∙ ap (λ (b : Bool). takes_next b (take 1 found)) takes))
+      (escapes_behind found next rest n p));
 }

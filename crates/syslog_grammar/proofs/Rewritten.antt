@@ -19,7 +19,7 @@ use Rattle.syslog_grammar.specs.Reescaped.{HasLongerForm, StructuredDataOf}
 use Rattle.syslog_grammar.specs.ViewParts.{ViewParts, HasParts, IsViewOf}
 use Rattle.syslog_grammar.specs.Sorting.{SortedDataOf}
 use Rattle.syslog_grammar.specs.Time.{CivilTime}
-use Rattle.syslog_grammar.specs.Values.{IsSpecial, Piece}
+use Rattle.syslog_grammar.specs.Values.{AreEscapes, IsSpecial, PassesEscapes, Piece}
 use Rattle.syslog_grammar.specs.WellFormed.{IsMeaning, AddsCanonical}
 use Rattle.syslog_grammar.proofs.CanonicalForms.{word_formed}
 use Rattle.syslog_grammar.proofs.ParamTexts.{element_prefix}
@@ -62,6 +62,34 @@ kept_more raw rest marked behind after k f m b (x, t, e, s) a w =
                 ∙ simp append_assoc,
           );
     }
+
+escapes_kept : (run rest : List ℕ) (ks : List (List ℕ)) → AreEscapes run → Each Piece ks (run ++ rest)
+    → (js : List (List ℕ)) × Each Piece js rest × (escaped (joined ks) ≡ run ++ escaped (joined js))
+unfolding AreEscapes
+escapes_kept [] rest ks h k = (ks, k, refl)
+escapes_kept (x ∷ []) rest ks h k = absurd h
+escapes_kept (x ∷ y ∷ run) rest ks h k =
+    let q = escape ks y (run ++ rest) (subst (λ (u : ℕ). Each Piece ks (u ∷ y ∷ (run ++ rest))) h.0 k) h.1 in
+    let deeper = escapes_kept run rest q.behind h.2 q.each in (
+      deeper.0,
+      deeper.1,
+      ap escaped q.means ∙ escaped_special y (joined q.behind) h.1 ∙ ap (λ (u : List ℕ). 92 ∷ y ∷ u) deeper.2
+          ∙ ap (λ (u : ℕ). u ∷ y ∷ (run ++ escaped (joined deeper.0))) (sym h.0),
+    )
+
+-- so are the escapes that follow
+pub kept_escapes : (raw rest after : List ℕ) → Kept raw rest → PassesEscapes rest after → Kept raw after
+kept_escapes raw rest after w p = record {
+  run = w.run ++ p.run;
+  parts = w.parts ∙ ap (λ (u : List ℕ). w.run ++ u) p.parts ∙ sym (append_assoc w.run p.run after);
+  is = λ ms h.
+      let l = w.is ms h in
+      let q = escapes_kept p.run after l.0 p.escapes (subst (Each Piece l.0) p.parts l.1) in (
+        q.0,
+        q.1,
+        l.2 ∙ ap (λ (u : List ℕ). w.run ++ u) q.2 ∙ sym (append_assoc w.run p.run (escaped (joined q.0))),
+      );
+}
 
 -- up to the rest, which follows a backslash that is no escape, the canonical form is the spelling and one backslash
 -- more

@@ -1,6 +1,6 @@
 -- Values of parameters: pieces up to the quotation mark.
 use Rattle.std.proofs.Common.{◌≡◌, ◌≢◌, ℕ, ◌≤◌, List, [], ◌∷◌, ◌++◌, length, refl, sym, ap, subst, ◌∙◌, arith, inl, inr}
-use Rattle.std.proofs.Common.{◌⊎◌}
+use Rattle.std.proofs.Common.{◌⊎◌, append_assoc}
 use Rattle.std.specs.Prelude.{Result}
 use Rattle.std.specs.List.{AllByRecursion}
 use Rattle.std.proofs.lemmas.List.{length-append}
@@ -11,7 +11,8 @@ use Rattle.octet_language.proofs.Lists.{heads, tails}
 use Rattle.octet_language.proofs.Chain.{IsPrefixFree-only}
 use Rattle.octet_language.proofs.Many.{Many, IsPrefixFree-many}
 use Rattle.syslog_grammar.specs.Utf8.{table, from_to, IsCharacter}
-use Rattle.syslog_grammar.specs.Values.{IsSpecial, IsPlain, IsPlainOctet, PassesPlain, Piece}
+use Rattle.syslog_grammar.specs.Values.{AreEscapes, IsSpecial, IsPlain, IsPlainOctet, PassesEscapes}
+use Rattle.syslog_grammar.specs.Values.{PassesPlain, Piece}
 use Rattle.syslog_grammar.proofs.Loops.{Carries, carries_more}
 use Rattle.syslog_grammar.proofs.Prefix.{Passes-behind, Passes-alike}
 use Rattle.syslog_grammar.proofs.Characters.{character_some, IsPrefixFree-character, octet_cons, width, table_widths}
@@ -209,3 +210,26 @@ carries_plain b from rest p k = carries_run b p.run rest p.plain (subst (Carries
 
 pub plain_takes : (from rest : List ℕ) → PassesPlain from rest → length rest ≤ length from
 plain_takes from rest p = omega (arith, ap length p.parts, length-append p.run rest)
+
+-- ---- escapes
+
+pub no_escapes : (b : List ℕ) → PassesEscapes b b
+unfolding AreEscapes
+no_escapes b = record { run = []; parts = refl; escapes = tt }
+
+escapes_end : (run : List ℕ) (x : ℕ) → AreEscapes run → IsSpecial x → AreEscapes (run ++ 92 ∷ x ∷ [])
+unfolding AreEscapes
+escapes_end [] x h s = (refl, s, tt)
+escapes_end (y ∷ []) x h s = absurd h
+escapes_end (y ∷ z ∷ run) x h s = (h.0, h.1, escapes_end run x h.2 s)
+
+pub escapes_more : (b rest behind : List ℕ) (x : ℕ) → IsSpecial x → rest ≡ 92 ∷ x ∷ behind → PassesEscapes b rest
+    → PassesEscapes b behind
+escapes_more b rest behind x s e p = record {
+  run = p.run ++ 92 ∷ x ∷ [];
+  parts = p.parts ∙ ap (λ (u : List ℕ). p.run ++ u) e ∙ sym (append_assoc p.run (92 ∷ x ∷ []) behind);
+  escapes = escapes_end p.run x p.escapes s;
+}
+
+pub escapes_take : (from rest : List ℕ) → PassesEscapes from rest → length rest ≤ length from
+escapes_take from rest p = omega (arith, ap length p.parts, length-append p.run rest)

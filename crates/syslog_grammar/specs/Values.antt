@@ -1,5 +1,5 @@
 -- The spellings of a parameter's value (RFC 5424, 6.3.3).
-use Rattle.std.specs.Prelude.{◌≡◌, ◌≢◌, ℕ, ◌<◌, List, [], ◌∷◌, ◌++◌, ◌⊎◌}
+use Rattle.std.specs.Prelude.{◌≡◌, ◌≢◌, ℕ, ◌<◌, List, [], ◌∷◌, ◌++◌, ◌⊎◌, ⊤}
 use Rattle.std.specs.List.{AllByRecursion, flat_map}
 use Rattle.octet_language.specs.Language.{Language, Each}
 use Rattle.syslog_grammar.specs.Utf8.{IsCharacter}
@@ -36,3 +36,15 @@ pub record PassesPlain (b rest : List ℕ) : Type 0 where
   pub run : List ℕ
   pub parts : b ≡ run ++ rest
   pub plain : AllByRecursion IsPlainOctet run
+
+-- special characters after backslashes
+unfoldable pub AreEscapes : List ℕ → Type 0
+AreEscapes [] = ⊤
+AreEscapes (x ∷ []) = ⊥
+AreEscapes (x ∷ y ∷ s) = (x ≡ 92) × IsSpecial y × AreEscapes s
+
+-- they stand before the rest
+pub record PassesEscapes (b rest : List ℕ) : Type 0 where
+  pub run : List ℕ
+  pub parts : b ≡ run ++ rest
+  pub escapes : AreEscapes run

@@ -1,12 +1,37 @@
 //! What the backslashes in the spelling of a value take (RFC 5424, 6.3.3).
 
-ghost use Rattle.std.specs.Prelude.{◌≡◌, IsTrue, false};
+ghost use Rattle.std.specs.Prelude.{◌≡◌, ◌<◌, ◌∷◌, ℕ, IfSome, IsTrue, false, length};
 ghost use Rattle.syslog_grammar.specs.FirstElements.{takes_next};
 ghost use Rattle.syslog_grammar.specs.Reescaped.{HasLongerForm, IsOwnForm};
+ghost use Rattle.syslog_grammar.specs.Values.{IsSpecial, PassesEscapes};
 
 use crate::near::near_octet;
 use crate::reading::behind_first;
 use crate::unescape::begins_special;
+
+/// What follows an escape at the start.
+#[inline(always)]
+fn behind_escape(octets: &[u8]) -> Option<&[u8]>
+    ensures escape { IfSome result (λ rest. (x : ℕ) × IsSpecial x × (octets.now ≡ 92 ∷ x ∷ rest.now)) }
+    ensures less { IfSome result (λ rest. length rest.now < length octets.now) }
+{
+    match octets {
+        [b'\\', b'"' | b'\\' | b']', rest @ ..] => Some(rest),
+        _ => None,
+    }
+}
+
+/// What follows the escapes at the start.
+#[inline(always)]
+pub fn behind_escapes(octets: &[u8]) -> &[u8]
+    ensures { PassesEscapes octets.now result.now }
+{
+    let mut rest = octets;
+    while let Some(behind) = behind_escape(rest) {
+        rest = behind;
+    }
+    rest
+}
 
 /// Whether the octets end with a backslash that takes the octet after them: backslashes come last,
 /// and an odd number of them.
@@ -38,7 +63,7 @@ pub fn has_lone(raw: &[u8]) -> bool
         if !begins_special(behind) {
             return true;
         }
-        rest = behind_first(behind);
+        rest = behind_escapes(behind_first(behind));
     }
     false
 }

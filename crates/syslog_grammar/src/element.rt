@@ -1,6 +1,6 @@
 //! Elements of the structured data (RFC 5424, 6.3.1 to 6.3.3).
 
-ghost use Rattle.std.specs.Prelude.{◌≡◌, ◌∷◌, [], IfOk, IsTrue};
+ghost use Rattle.std.specs.Prelude.{◌≡◌, ◌∷◌, [], IfOk};
 ghost use Rattle.octet_language.specs.Language.{◌⋅◌, AnyOf, Each, Only};
 ghost use Rattle.octet_language.specs.Reading.{Passes, Reads};
 ghost use Rattle.syslog_grammar.specs.Canonical.{param_form};
@@ -9,7 +9,6 @@ ghost use Rattle.syslog_grammar.specs.Forms.{params_form};
 ghost use Rattle.syslog_grammar.specs.Grammar.{Param};
 ghost use Rattle.syslog_grammar.specs.Spans.{SpannedElement, SpannedParam, SpannedValue, Text};
 ghost use Rattle.syslog_grammar.specs.Stops.{remaining_of};
-ghost use Rattle.syslog_grammar.specs.Utf8.{IsText};
 ghost use Rattle.syslog_grammar.specs.Views.{element_span, param_span};
 
 use crate::name::name;
@@ -64,35 +63,31 @@ impl<'a> ElementView<'a> {
 
 /// Reads `="`, a value and the quotation mark that follows it.
 #[inline(always)]
-fn assigned(octets: &[u8], is_text: bool) -> Result<(&[u8], &[u8], bool), Stop>
-    requires { IsTrue is_text → IsText octets.now }
+fn assigned(octets: &[u8]) -> Result<(&[u8], &[u8], bool), Stop>
     ensures reads { Reads remaining_of SpannedValue (λ x. (x.0.now, x.1.now)) octets.now result }
     ensures form { IfOk result (λ x. IsValueForm x.2 x.0.now) }
 {
     let rest = expect(b'=', octets)?;
     let rest = expect(b'"', rest)?;
-    value(rest, is_text)
+    value(rest)
 }
 
 /// Reads a space and a parameter, and tells whether its value is spelled as in a canonical record.
-/// It may be told that the octets are characters, as may each reader below.
 #[inline]
-pub fn param(octets: &[u8], is_text: bool) -> Result<(ParamView<'_>, &[u8], bool), Stop>
-    requires { IsTrue is_text → IsText octets.now }
+pub fn param(octets: &[u8]) -> Result<(ParamView<'_>, &[u8], bool), Stop>
     ensures reads { Reads remaining_of SpannedParam (λ x. (param_span x.0, x.1.now))
         octets.now result }
     ensures form { IfOk result (λ x. ReadsForm Param param_form x.2 octets.now x.1.now) }
 {
     let rest = expect(b' ', octets)?;
     let (name, rest) = name(rest)?;
-    let (raw, rest, is_form) = assigned(rest, is_text)?;
+    let (raw, rest, is_form) = assigned(rest)?;
     Ok((ParamView { name, raw }, rest, is_form))
 }
 
 /// Reads the parameters of an element and the bracket that ends it, and tells whether the
 /// parameters are canonical.
-fn behind_params(octets: &[u8], is_text: bool) -> Result<(&[u8], bool), Stop>
-    requires { IsTrue is_text → IsText octets.now }
+fn behind_params(octets: &[u8]) -> Result<(&[u8], bool), Stop>
     ensures reads { Passes remaining_of (AnyOf (Each Param) ⋅ Only (93 ∷ [])) (λ x. x.0.now)
         octets.now result }
     ensures form { IfOk result (λ x.
@@ -104,7 +99,7 @@ fn behind_params(octets: &[u8], is_text: bool) -> Result<(&[u8], bool), Stop>
         if first == b']' {
             return Ok((after, is_form));
         }
-        let (_param, behind, param_is_form) = param(rest, is_text)?;
+        let (_param, behind, param_is_form) = param(rest)?;
         is_form = both(is_form, param_is_form);
         rest = behind;
     }
@@ -116,20 +111,18 @@ fn behind_params(octets: &[u8], is_text: bool) -> Result<(&[u8], bool), Stop>
 /// Reads the parameters of an element, whose text is given, and the bracket that ends it, and tells
 /// whether the parameters are canonical.
 #[inline]
-fn params(octets: &[u8], is_text: bool) -> Result<(&[u8], &[u8], bool), Stop>
-    requires { IsTrue is_text → IsText octets.now }
+fn params(octets: &[u8]) -> Result<(&[u8], &[u8], bool), Stop>
     ensures reads { Reads remaining_of (λ text. Text (AnyOf (Each Param)) text ⋅ Only (93 ∷ []))
         (λ x. (x.0.now, x.1.now)) octets.now result }
     ensures form { IfOk result (λ x. HasForm (Each Param) params_form x.2 x.0.now) }
 {
-    let (rest, is_form) = behind_params(octets, is_text)?;
+    let (rest, is_form) = behind_params(octets)?;
     let (text, _) = octets.split_at(octets.len() - rest.len() - 1);
     Ok((text, rest, is_form))
 }
 
 /// Reads an element, and tells whether it is canonical.
-pub fn element(octets: &[u8], is_text: bool) -> Result<(ElementView<'_>, &[u8], bool), Stop>
-    requires { IsTrue is_text → IsText octets.now }
+pub fn element(octets: &[u8]) -> Result<(ElementView<'_>, &[u8], bool), Stop>
     ensures reads { Reads remaining_of SpannedElement (λ x. (element_span x.0, x.1.now))
         octets.now result }
     ensures form { IfOk result (λ x.
@@ -137,6 +130,6 @@ pub fn element(octets: &[u8], is_text: bool) -> Result<(ElementView<'_>, &[u8], 
 {
     let rest = expect(b'[', octets)?;
     let (id, rest) = name(rest)?;
-    let (params, rest, is_form) = params(rest, is_text)?;
+    let (params, rest, is_form) = params(rest)?;
     Ok((ElementView { id, params }, rest, is_form))
 }

@@ -64,7 +64,7 @@ impl<'a> Iterator for Elements<'a> {
     ghost remaining = { λ s. at_most (length (elements_left s)) };
 
     fn next(&mut self) -> Option<ElementView<'a>> {
-        let Ok((found, rest, _)) = element(self.rest, false) else {
+        let Ok((found, rest, _)) = element(self.rest) else {
             return None;
         };
         self.rest = rest;
@@ -84,7 +84,7 @@ impl<'a> Iterator for Params<'a> {
     ghost remaining = { λ s. at_most (length (params_left s)) };
 
     fn next(&mut self) -> Option<ParamView<'a>> {
-        let Ok((found, rest, _)) = param(self.rest, false) else {
+        let Ok((found, rest, _)) = param(self.rest) else {
             return None;
         };
         self.rest = rest;

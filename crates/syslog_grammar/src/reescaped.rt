@@ -2,11 +2,13 @@
 //! end is found.
 
 ghost use Rattle.std.specs.Prelude.{◌≤◌, ◌<◌, IfOk, IsTrue, MatchResult, length};
+ghost use Rattle.octet_language.specs.Language.{Only};
 ghost use Rattle.syslog_grammar.specs.Appending.{Adds, Anything, Puts};
 ghost use Rattle.syslog_grammar.specs.Reescaped.{ElementsOf, FirstElement, FirstParam, FirstParams, FirstValue};
 ghost use Rattle.syslog_grammar.specs.Reescaped.{KeptTo, RunForm};
 
 use crate::appending::put;
+use crate::backslash::behind_escapes;
 use crate::first_element::{begins_with, id_len, name_len};
 use crate::near::near_either;
 use crate::reading::{behind_first, next};
@@ -32,9 +34,25 @@ fn behind_kept(octets: &[u8]) -> (&[u8], bool)
         if !begins_special(behind) {
             return (behind, false);
         }
-        rest = behind_first(behind);
+        rest = behind_escapes(behind_first(behind));
     }
     (octets, true)
+}
+
+/// Appends octets that are mostly one or two.
+#[inline(always)]
+fn put_few(octets: &[u8], out: &mut Vec<u8>) -> Result<(), AllocError>
+    ensures { Puts (Only octets.now) out.old.items out.new.items result }
+{
+    match octets {
+        [first] => out.push(*first)?,
+        [first, second] => {
+            out.push(*first)?;
+            out.push(*second)?;
+        }
+        _ => put(octets, out)?,
+    }
+    Ok(())
 }
 
 /// Appends the octets up to where they are no longer as in a canonical record, and a backslash if a
@@ -43,11 +61,11 @@ fn behind_kept(octets: &[u8]) -> (&[u8], bool)
 fn put_run(run: &[u8], is_last: bool, out: &mut Vec<u8>) -> Result<(), AllocError>
     ensures { Puts (RunForm is_last run.now) out.old.items out.new.items result }
 {
-    put(run, out)?;
+    put_few(run, out)?;
     if is_last {
         return Ok(());
     }
-    put(b"\\", out)
+    put_few(b"\\", out)
 }
 
 /// Appends the canonical spelling of the value that comes first and its quotation mark, and gives

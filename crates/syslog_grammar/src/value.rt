@@ -8,14 +8,15 @@ ghost use Rattle.syslog_grammar.specs.FirstElements.{HasNoMark};
 ghost use Rattle.syslog_grammar.specs.Forms.{BeginsLone, IsValueForm, ReadsForm, pieces_form};
 ghost use Rattle.syslog_grammar.specs.Spans.{Text};
 ghost use Rattle.syslog_grammar.specs.Stops.{remaining_of};
-ghost use Rattle.syslog_grammar.specs.Utf8.{IsCharacter, IsText};
+ghost use Rattle.syslog_grammar.specs.Utf8.{IsCharacter};
 ghost use Rattle.syslog_grammar.specs.Values.{IsEscape, IsPlainOctet, PassesPlain, Piece};
 
-use crate::backslash::{ends_taking, has_lone};
+use crate::backslash::{behind_escapes, ends_taking, has_lone};
 use crate::character::behind_character;
 use crate::lanes::{LANES, plain_run};
 use crate::near::near_either;
 use crate::reading::{Stop, behind_first, both, expect, next};
+use crate::text::is_text;
 use crate::unescape::begins_special;
 
 /// Reads one character, which is mostly one octet.
@@ -199,29 +200,30 @@ fn marked_value(octets: &[u8]) -> Option<(&[u8], &[u8])>
                 Err(_) => None,
             };
         }
-        rest = behind_first(found);
+        rest = behind_escapes(behind_first(found));
     }
     None
 }
 
-/// Reads a value whose quotation mark stands in octets that are known to be characters: each octet
-/// before it that is no mark is then part of a piece.
+/// Reads a value by its marks, and its quotation mark: where all its octets are characters, each that
+/// is no mark is part of a piece.
 #[inline(always)]
 fn text_value(octets: &[u8]) -> Option<(&[u8], &[u8], bool)>
-    requires { IsText octets.now }
     ensures reads { IfSome result (λ x.
         Follows (Text (AnyOf (Each Piece)) x.0.now ⋅ Only (34 ∷ [])) octets.now x.1.now) }
     ensures form { IfSome result (λ x. IsValueForm x.2 x.0.now) }
 {
     let (raw, rest) = marked_value(octets)?;
+    if !is_text(raw) {
+        return None;
+    }
     Some((raw, rest, !has_lone(raw)))
 }
 
 /// Reads a value, which is given as it is spelled, and the quotation mark that ends it, and tells
-/// whether it is spelled as in a canonical record. It may be told that the octets are characters.
+/// whether it is spelled as in a canonical record.
 #[inline]
-pub fn value(octets: &[u8], is_text: bool) -> Result<(&[u8], &[u8], bool), Stop>
-    requires { IsTrue is_text → IsText octets.now }
+pub fn value(octets: &[u8]) -> Result<(&[u8], &[u8], bool), Stop>
     ensures reads { Reads remaining_of (λ raw. Text (AnyOf (Each Piece)) raw ⋅ Only (34 ∷ []))
         (λ x. (x.0.now, x.1.now)) octets.now result }
     ensures form { IfOk result (λ x. IsValueForm x.2 x.0.now) }
@@ -229,10 +231,8 @@ pub fn value(octets: &[u8], is_text: bool) -> Result<(&[u8], &[u8], bool), Stop>
     if let Some((raw, rest)) = plain_value(octets) {
         return Ok((raw, rest, true));
     }
-    if is_text {
-        if let Some(read) = text_value(octets) {
-            return Ok(read);
-        }
+    if let Some(read) = text_value(octets) {
+        return Ok(read);
     }
     value_of_pieces(octets)
 }

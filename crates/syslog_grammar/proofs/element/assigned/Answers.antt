@@ -1,8 +1,6 @@
 use Rattle.std.proofs.lemmas.Result.{err_from_is_err_and}
 use Rattle.syslog_grammar.specs.Stops.{remaining_of}
 use Rattle.syslog_grammar.proofs.ParamTexts.{no_equals, no_quote, behind_marks}
-use Rattle.std.proofs.Common.{arith}
-use Rattle.syslog_grammar.proofs.TextParts.{behind_octet}
 use Rattle.syslog_grammar.proofs.element.assigned.Goals as goal
 
 pub returns-in_err-rest : goal.returns-in_err-rest
@@ -21,8 +19,3 @@ returns-in_err-rest-2 c =
 pub returns-clause-reads : goal.returns-clause-reads
 returns-clause-reads c = behind_marks remaining_of _ c.args.octets.now c.in_ok-rest.rest.now c.in_ok-rest-2.rest.now
     c.value.result c.in_ok-rest.ensures c.in_ok-rest-2.ensures c.value.ensures.reads
-
-pub value-requires : goal.value-requires
-value-requires c t = behind_octet 34 c.in_ok-rest.rest.now c.in_ok-rest-2.rest.now
-    (behind_octet 61 c.args.octets.now c.in_ok-rest.rest.now (c.requires t) (omega arith) c.in_ok-rest.ensures)
-    (omega arith) c.in_ok-rest-2.ensures

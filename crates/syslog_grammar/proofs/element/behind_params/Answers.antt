@@ -9,7 +9,6 @@ use Rattle.syslog_grammar.proofs.ReadForms.{more_read, none_read}
 use Rattle.syslog_grammar.proofs.Runs.{IfFirst-cons, IfFirst-empty}
 use Rattle.syslog_grammar.proofs.Loops.{carries_all, carries_more, carried_fails, carried_ends, takes_some, Fails-empty}
 use Rattle.syslog_grammar.proofs.ParamTexts.{IsPrefixFree-param, Fails-param, Follows-param, param_some, some_param}
-use Rattle.syslog_grammar.proofs.TextParts.{behind_param}
 use Rattle.syslog_grammar.proofs.element.behind_params.Goals as goal
 
 pub loop-first-init : goal.loop-first-init
@@ -17,7 +16,6 @@ loop-first-init c = record {
   carries = carries_all Param _ c.args.octets.now;
   form =
       none_read Param param_form c.args.octets.now;
-  text = c.requires;
 }
 
 pub returns-then-first-eq93-clause-reads : goal.returns-then-first-eq93-clause-reads
@@ -51,9 +49,6 @@ loop-first-preserved c =
           (sym c.both-is_form.ensures)
           (more_read Param param_form c.loop-first.is_form c.in_ok-_param.param_is_form c.args.octets.now
           c.loop-first.rest.now c.in_ok-_param.behind.now c.loop-first.invariant.form c.in_ok-_param.ensures.form);
-      text = λ t.
-          behind_param (param_span c.in_ok-_param._param) c.loop-first.rest.now c.in_ok-_param.behind.now
-          (c.loop-first.invariant.text t) c.in_ok-_param.ensures.reads;
     }
 
 pub returns-then-first-eq93-clause-form : goal.returns-then-first-eq93-clause-form
@@ -70,6 +65,3 @@ returns c =
           c.loop-first.invariant.carries (Fails-empty (AnyOf Param) _ _ some_param param_some e);
       form = tt;
     }
-
-pub param-requires : goal.param-requires
-param-requires c t = c.loop-first.invariant.text t

@@ -1,9 +1,7 @@
 use Rattle.std.proofs.Common.{◌∷◌, [], length}
-use Rattle.std.specs.Prelude.{IsTrue}
 use Rattle.octet_language.specs.Language.{Each, Only}
 use Rattle.syslog_grammar.specs.Forms.{ReadsForm, params_form}
 use Rattle.syslog_grammar.specs.Grammar.{Param}
-use Rattle.syslog_grammar.specs.Utf8.{IsText}
 use Rattle.syslog_grammar.proofs.Loops.{Carries}
 use Rattle.syslog_grammar.proofs.element.behind_params.Given as goal
 
@@ -11,7 +9,6 @@ abbrev pub invariant-loop-first : goal.invariant-loop-first
 invariant-loop-first l = record {
   carries : Carries Param (Only (93 ∷ [])) l.octets l.rest;
   form : ReadsForm (Each Param) params_form l.is_form l.octets l.rest;
-  text : IsTrue l.is_text → IsText l.rest;
 }
 
 abbrev pub decreases-loop-first : goal.decreases-loop-first

@@ -4,8 +4,6 @@ use Rattle.syslog_grammar.specs.Views.{element_span}
 use Rattle.syslog_grammar.proofs.ReadForms.{element_read}
 use Rattle.syslog_grammar.proofs.ParamTexts.{SpannedParams, as_element, bad_octet, bad_name, bad_behind, whole_element}
 use Rattle.syslog_grammar.proofs.ParamTexts.{no_params, IsPrefixFree-spanned_params, params_start}
-use Rattle.std.proofs.Common.{arith}
-use Rattle.syslog_grammar.proofs.TextParts.{behind_name, behind_octet}
 use Rattle.syslog_grammar.proofs.element.element.Goals as goal
 
 pub returns-in_err-rest : goal.returns-in_err-rest
@@ -46,8 +44,3 @@ pub returns-clause-form : goal.returns-clause-form
 returns-clause-form c = element_read c.in_ok-params.is_form
     (element_span record { id = c.in_ok-id.id; params = c.in_ok-params.params }) c.args.octets.now
     c.in_ok-params.rest.now (returns-clause-reads c) c.in_ok-params.ensures.form
-
-pub params-requires : goal.params-requires
-params-requires c t = behind_name c.in_ok-id.id.now c.in_ok-rest.rest.now c.in_ok-id.rest.now
-    (behind_octet 91 c.args.octets.now c.in_ok-rest.rest.now (c.requires t) (omega arith) c.in_ok-rest.ensures)
-    c.in_ok-id.ensures.0

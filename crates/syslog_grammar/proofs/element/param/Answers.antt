@@ -5,8 +5,6 @@ use Rattle.syslog_grammar.specs.Views.{param_span}
 use Rattle.syslog_grammar.proofs.ReadForms.{param_read}
 use Rattle.syslog_grammar.proofs.ParamTexts.{as_param, bad_octet, bad_name, bad_behind, whole_param, empty_value}
 use Rattle.syslog_grammar.proofs.ParamTexts.{IsPrefixFree-spanned_value, value_starts}
-use Rattle.std.proofs.Common.{arith}
-use Rattle.syslog_grammar.proofs.TextParts.{behind_name, behind_octet}
 use Rattle.syslog_grammar.proofs.element.param.Goals as goal
 
 pub returns-in_err-rest : goal.returns-in_err-rest
@@ -47,8 +45,3 @@ pub returns-clause-form : goal.returns-clause-form
 returns-clause-form c = param_read c.in_ok-raw.is_form
     (param_span record { name = c.in_ok-name.name; raw = c.in_ok-raw.raw }) c.args.octets.now c.in_ok-raw.rest.now
     (returns-clause-reads c) c.in_ok-raw.ensures.form
-
-pub assigned-requires : goal.assigned-requires
-assigned-requires c t = behind_name c.in_ok-name.name.now c.in_ok-rest.rest.now c.in_ok-name.rest.now
-    (behind_octet 32 c.args.octets.now c.in_ok-rest.rest.now (c.requires t) (omega arith) c.in_ok-rest.ensures)
-    c.in_ok-name.ensures.0

@@ -1,7 +1,8 @@
 use Rattle.std.proofs.Common.{arith, length, ap, sym, ◌∙◌}
 use Rattle.std.proofs.lemmas.Bool.{false≢true}
 use Rattle.std.proofs.lemmas.List.{length-drop}
-use Rattle.syslog_grammar.proofs.FirstForms.{kept_ends, kept_lone, kept_missing, kept_more, kept_none}
+use Rattle.syslog_grammar.proofs.FirstForms.{kept_ends, kept_escapes, kept_lone, kept_missing, kept_more, kept_none}
+use Rattle.syslog_grammar.proofs.Values.{escapes_take}
 use Rattle.syslog_grammar.proofs.reescaped.behind_kept.Goals as goal
 
 pub loop-offset-init : goal.loop-offset-init
@@ -25,16 +26,19 @@ returns-then-not-begins_special-clause-kept c =
 pub loop-offset-preserved : goal.loop-offset-preserved
 loop-offset-preserved c = record {
   kept =
-      kept_more c.args.octets.now c.loop-offset.rest.now c.split_at.result.1.now c.behind_first-behind.result.now
-      c.behind_first-rest.result.now c.in-Some.offset c.in-Some.ensures c.split_at.ensures.back
+      kept_escapes c.args.octets.now c.behind_first.result.now c.behind_escapes-rest.result.now
+      (kept_more c.args.octets.now c.loop-offset.rest.now c.split_at.result.1.now c.behind_first-behind.result.now
+      c.behind_first.result.now c.in-Some.offset c.in-Some.ensures c.split_at.ensures.back
       c.behind_first-behind.ensures (c.begins_with.ensures.other (λ e. false≢true (sym c.if-begins_with.false ∙ e)))
-      (c.begins_special.ensures.special c.if-not-begins_special.false) c.behind_first-rest.ensures
-      c.loop-offset.invariant.kept;
+      (c.begins_special.ensures.special c.if-not-begins_special.false) c.behind_first.ensures
+      c.loop-offset.invariant.kept)
+      c.behind_escapes-rest.ensures;
   within =
       omega (
         arith,
         c.loop-offset.invariant.within,
-        ap length c.behind_first-rest.ensures,
+        escapes_take c.behind_first.result.now c.behind_escapes-rest.result.now c.behind_escapes-rest.ensures,
+        ap length c.behind_first.ensures,
         ap length c.behind_first-behind.ensures,
         ap length c.split_at.ensures.back,
         length-drop 1 c.behind_first-behind.result.now,
@@ -46,3 +50,17 @@ loop-offset-preserved c = record {
 pub returns-clause-kept : goal.returns-clause-kept
 returns-clause-kept c = kept_missing c.args.octets.now c.loop-offset.rest.now c.in_default.ensures
     c.loop-offset.invariant.kept
+
+pub loop-offset-smaller : goal.loop-offset-smaller
+loop-offset-smaller c =
+    omega (
+      arith,
+      c.in-Some.ensures.0.high,
+      escapes_take c.behind_first.result.now c.behind_escapes-rest.result.now c.behind_escapes-rest.ensures,
+      ap length c.behind_first.ensures,
+      ap length c.behind_first-behind.ensures,
+      ap length c.split_at.ensures.back,
+      length-drop 1 c.behind_first-behind.result.now,
+      length-drop 1 c.split_at.result.1.now,
+      length-drop c.in-Some.offset c.loop-offset.rest.now,
+    )

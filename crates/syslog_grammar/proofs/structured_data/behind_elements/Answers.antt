@@ -5,7 +5,6 @@ use Rattle.syslog_grammar.specs.Forms.{ReadsElement}
 use Rattle.syslog_grammar.specs.Views.{element_span}
 use Rattle.syslog_grammar.proofs.DataTexts.{goes_first, bad_first, goes_more, goes_bad}
 use Rattle.syslog_grammar.proofs.ReadData.{all_read, first_read, next_read}
-use Rattle.syslog_grammar.proofs.TextParts.{behind_element}
 use Rattle.syslog_grammar.proofs.structured_data.behind_elements.Goals as goal
 
 pub returns-in_err-found : goal.returns-in_err-found
@@ -21,9 +20,6 @@ loop-first-init c = record {
       first_read c.in_ok-found.is_form c.id-greatest.result.now c.args.octets.now c.in_ok-found.rest.now
       (subst (λ (id : List ℕ). ReadsElement c.in_ok-found.is_form id c.args.octets.now c.in_ok-found.rest.now)
       (sym c.id-greatest.ensures) c.in_ok-found.ensures.form);
-  text = λ t.
-      behind_element (element_span c.in_ok-found.found) c.args.octets.now c.in_ok-found.rest.now (c.requires t)
-      c.in_ok-found.ensures.reads;
 }
 
 pub returns-in_err-found-2 : goal.returns-in_err-found-2
@@ -50,9 +46,6 @@ loop-first-preserved c = record {
       (subst (λ (id : List ℕ). ReadsElement c.in_ok-found-2.found_is_form id c.loop-first.rest.now
       c.in_ok-found-2.behind.now) (sym c.id-id.ensures) c.in_ok-found-2.ensures.form)
       c.loop-first.invariant.read);
-  text = λ t.
-      behind_element (element_span c.in_ok-found-2.found) c.loop-first.rest.now c.in_ok-found-2.behind.now
-      (c.loop-first.invariant.text t) c.in_ok-found-2.ensures.reads;
 }
 
 pub returns-then-first-ne91-clause-forms : goal.returns-then-first-ne91-clause-forms
@@ -62,6 +55,3 @@ returns-then-first-ne91-clause-forms c = all_read c.loop-first.is_form c.loop-fi
 pub returns-clause-forms : goal.returns-clause-forms
 returns-clause-forms c = all_read c.loop-first.is_form c.loop-first.ascends (Some c.loop-first.greatest.now)
     c.args.octets.now c.loop-first.rest.now c.loop-first.invariant.read
-
-pub element-requires-in-Some : goal.element-requires-in-Some
-element-requires-in-Some c t = c.loop-first.invariant.text t

@@ -1,6 +1,5 @@
 use Rattle.std.proofs.Common.{length}
-use Rattle.std.specs.Prelude.{IsTrue, Some}
-use Rattle.syslog_grammar.specs.Utf8.{IsText}
+use Rattle.std.specs.Prelude.{Some}
 use Rattle.syslog_grammar.proofs.DataTexts.{Goes}
 use Rattle.syslog_grammar.proofs.ReadData.{ElementsRead}
 use Rattle.syslog_grammar.proofs.structured_data.behind_elements.Given as goal
@@ -9,7 +8,6 @@ abbrev pub invariant-loop-first : goal.invariant-loop-first
 invariant-loop-first l = record {
   goes : Goes l.octets l.rest;
   read : ElementsRead l.is_form l.ascends (Some l.greatest) l.octets l.rest;
-  text : IsTrue l.is_text → IsText l.rest;
 }
 
 abbrev pub decreases-loop-first : goal.decreases-loop-first
