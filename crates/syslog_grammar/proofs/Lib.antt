@@ -49,5 +49,6 @@ pub mod FirstForms
 pub mod Rewritten
 pub mod Props
 pub mod ShownRecords
+pub mod ShownParts
 pub mod Sorting
 pub mod IdTables

@@ -1,11 +1,13 @@
 -- What was read of parameters and elements, as parts of their own.
 use Rattle.std.proofs.Common.{◌≡◌, ◌≢◌, ℕ, List, [], ◌∷◌, ◌++◌, refl, sym, ap, subst, ◌∙◌, append_assoc, arith, inl}
 use Rattle.std.proofs.Common.{inr, ◌⊎◌}
+use Rattle.std.proofs.Math.Logic.{∥∥₁_elim, ∥∥₁_map}
+use Rattle.std.proofs.Props.{props}
 use Rattle.std.proofs.lemmas.List.{append-nil, append_cancel_left, append_cancel_right}
 use Rattle.octet_language.specs.Language.{Language, AnyOf, Each, IsPrefixFree, IfFirst}
 use Rattle.octet_language.specs.Reading.{Follows}
 use Rattle.octet_language.proofs.Lists.{heads, tails}
-use Rattle.syslog_value.specs.Parts.{ParamParts, ElementParts}
+use Rattle.syslog_value.specs.Parts.{ParamParts, ElementParts, IsName}
 use Rattle.syslog_grammar.specs.Grammar.{Name, Param, Element, StructuredDataText}
 use Rattle.syslog_grammar.specs.FirstElements.{SplitsElement, SplitsParam}
 use Rattle.syslog_grammar.specs.Spans.{ParamSpan, SpannedParam, ElementSpan, SpannedElement}
@@ -14,6 +16,7 @@ use Rattle.syslog_grammar.proofs.Ahead.{may_start}
 use Rattle.syslog_grammar.proofs.Names.{EndsName, OneAhead-name}
 use Rattle.syslog_grammar.proofs.ParamTexts.{SpannedParams, params_start, IsPrefixFree-param, IsPrefixFree-element}
 use Rattle.syslog_grammar.proofs.ParamTexts.{spanned_param, spanned_element, param_some, element_some, element_prefix}
+use Rattle.syslog_grammar.proofs.Valid.{valid_param, valid_element}
 
 -- ---- one item
 
@@ -119,6 +122,28 @@ params_end text rest done e before ps h = go (before ps h)
         some_param [] b q e k = param_some (q, k)
         some_param (y ∷ a) b q e k = absurd cc
 
+name_prop : (w : List ℕ) → IsProp (IsName w)
+name_prop = hlevel props
+
+-- the first parameter is spelled, and so are those that follow it
+first_of_params : (rest behind after : List ℕ) (x : ℕ) (v : ParamSpan) → rest ≡ x ∷ after → SplitsParam rest v behind
+    → AnyOf (Each Param) rest → IsName v.name × AnyOf Spells v.raw × AnyOf (Each Param) behind
+first_of_params rest behind after x v e f ([], k) = absurd (nothing x rest after e k)
+first_of_params rest behind after x v e f (q ∷ todo, k) =
+    let item = next_item Param SpannedParam IsPrefixFree-param spanned_param q todo v rest behind k
+    (f k.1 (k.0, k.2, (q, k.3))) in
+    let same = param_same q v item.0 item.1 item.2 in
+    (subst IsName same.0 (valid_param q item.0 item.1).0, (q.value, same.1), (todo, item.3))
+
+pub params_spelled : (rest behind after : List ℕ) (x : ℕ) (v : ParamSpan) → rest ≡ x ∷ after
+    → SplitsParam rest v behind → ∥ AnyOf (Each Param) rest ∥₁
+    → IsName v.name × ∥ AnyOf Spells v.raw ∥₁ × ∥ AnyOf (Each Param) behind ∥₁
+params_spelled rest behind after x v e f h = (
+  ∥∥₁_elim h (name_prop v.name) (λ k. (first_of_params rest behind after x v e f k).0),
+  ∥∥₁_map h (λ k. (first_of_params rest behind after x v e f k).1),
+  ∥∥₁_map h (λ k. (first_of_params rest behind after x v e f k).2),
+)
+
 -- ---- elements
 
 -- what was read of structured data, and what is left of it
@@ -186,6 +211,36 @@ elements_end text rest done e before es h = go (before es h)
         some_element : (a b : List ℕ) (q : ElementParts) → a ++ b ≡ [] → Element q a → ⊥
         some_element [] b q e k = element_some (q, k)
         some_element (y ∷ a) b q e k = absurd cc
+
+-- elements, or NILVALUE
+abbrev pub ElementsOrNil : List ℕ → Type 0
+ElementsOrNil b = AnyOf (Each Element) b ⊎ (b ≡ 45 ∷ [])
+
+pub data_spelled : (text : List ℕ) → AnyOf StructuredDataText text → ElementsOrNil text
+data_spelled text ([], h) = inr h
+data_spelled text (e ∷ es, h) = inl (e ∷ es, h)
+
+-- the first element is spelled, and so are those that follow it
+first_of_elements : (rest behind after : List ℕ) (x : ℕ) (v : ElementSpan) → rest ≡ x ∷ after → x ≡ 91
+    → SplitsElement rest v behind → ElementsOrNil rest
+    → IsName v.id × AnyOf (Each Param) v.params × ElementsOrNil behind
+first_of_elements rest behind after x v e first f (inr l) =
+    let i : x ≡ 45 = heads x 45 after [] (sym e ∙ l) in absurd (omega (arith, i, first))
+first_of_elements rest behind after x v e first f (inl ([], k)) = absurd (nothing x rest after e k)
+first_of_elements rest behind after x v e first f (inl (q ∷ todo, k)) =
+    let item = next_item Element SpannedElement IsPrefixFree-element spanned_element q todo v rest behind k
+    (f k.1 (k.0, k.2, (q, k.3))) in
+    let same = element_same q v item.0 item.1 item.2 in
+    (subst IsName same.0 (valid_element q item.0 item.1).0, (q.params, same.1), inl (todo, item.3))
+
+pub elements_spelled : (rest behind after : List ℕ) (x : ℕ) (v : ElementSpan) → rest ≡ x ∷ after → x ≡ 91
+    → SplitsElement rest v behind → ∥ ElementsOrNil rest ∥₁
+    → IsName v.id × ∥ AnyOf (Each Param) v.params ∥₁ × ∥ ElementsOrNil behind ∥₁
+elements_spelled rest behind after x v e first f h = (
+  ∥∥₁_elim h (name_prop v.id) (λ k. (first_of_elements rest behind after x v e first f k).0),
+  ∥∥₁_map h (λ k. (first_of_elements rest behind after x v e first f k).1),
+  ∥∥₁_map h (λ k. (first_of_elements rest behind after x v e first f k).2),
+)
 
 -- ---- wholes from their parts
 

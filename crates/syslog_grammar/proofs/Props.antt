@@ -133,7 +133,7 @@ pub by_id_prop : (es : List ElementParts) → IsProp (IsById es)
 by_id_prop [] = Unit-prop
 by_id_prop (e ∷ es) = ×_prop (AllByRecursion-prop _ (λ f. octets_below_prop e.id f.id) es) (by_id_prop es)
 
-message_prop : (m : MessageParts) → IsProp (IsMessage m)
+pub message_prop : (m : MessageParts) → IsProp (IsMessage m)
 message_prop (AnyOctets octets) = hlevel props
 message_prop (Utf8Text text) = hlevel props
 

@@ -1,12 +1,14 @@
 -- What a packet is read as is a record.
 use Rattle.std.proofs.Common.{ℕ, ◌≤◌, List, sym, subst, arith, inl, inr}
 use Rattle.std.specs.Prelude.{ℤ, Option, Some, None, IfSome}
+use Rattle.std.proofs.Math.Logic.{∥∥₁_elim}
 use Rattle.octet_language.specs.Reading.{Follows}
 use Rattle.octet_language.proofs.Lists.{AllByRecursion-weaker}
 use Rattle.syslog_value.specs.Instants.{IsOffset}
 use Rattle.syslog_value.specs.Parts.{IsInstant, IsMessage, IsPrintable, IsRecord, IsWord, MessageParts, AnyOctets}
 use Rattle.syslog_value.specs.Parts.{Utf8Text, Parts}
 use Rattle.syslog_grammar.specs.Grammar.{Message, Priority}
+use Rattle.syslog_grammar.proofs.Props.{record_prop}
 use Rattle.syslog_grammar.proofs.Utf8Text.{IsUtf8-text}
 use Rattle.syslog_legacy.specs.declared.clock.LegacyClock.{LegacyClock}
 use Rattle.syslog_legacy.specs.Clocks.{IsYear}
@@ -129,3 +131,7 @@ read_valid clock r b year offset h =
       message = message_valid h.message h.octets h.means;
     } in
     subst IsRecord (sym h.is) valid
+
+-- what a view holds is a record
+pub held_valid : (r : Parts ℤ) → ∥ IsRecord r ∥₁ → IsRecord r
+held_valid r h = ∥∥₁_elim h (record_prop r) (λ k. k)

@@ -10,7 +10,7 @@ ghost use Rattle.syslog_legacy.specs.Readings.{Answer, Legacy, ReadAs};
 ghost use Rattle.syslog_legacy.specs.declared.clock.LegacyClock.{LegacyClock};
 
 use crate::clock::LegacyClock;
-use crate::view::legacy_view;
+use crate::whole::legacy_view;
 
 /// Under a clock a packet has exactly one answer.
 pub fn packets_have_one_answer(clock: &LegacyClock, octets: &[u8])

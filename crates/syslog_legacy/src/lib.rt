@@ -18,6 +18,7 @@ mod runs;
 mod tag;
 mod timestamp;
 mod view;
+mod whole;
 
 pub use canonical::put_legacy_canonical;
 pub use clock::LegacyClock;
@@ -25,4 +26,5 @@ pub use fault::{LegacyFault, MessageNotUtf8};
 pub use law::{legacy_canonical_is_bounded, legacy_is_a_record, packets_have_one_answer};
 pub use new_form::has_new_form;
 pub use owned::read_legacy;
-pub use view::{LegacyView, legacy_view};
+pub use view::LegacyView;
+pub use whole::legacy_view;

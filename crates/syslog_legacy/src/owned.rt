@@ -1,27 +1,46 @@
 //! The record of a legacy packet, with memory of its own.
 
-ghost use Rattle.std.specs.Prelude.{◌≡◌, IfOk, MatchResult};
+ghost use Rattle.std.specs.Prelude.{◌≡◌, IfOk, IfSome, MatchResult, option_map};
+ghost use Rattle.syslog_value.specs.Parts.{IsWord};
 ghost use Rattle.syslog_legacy.specs.Readings.{Legacy, ReadAs};
 ghost use Rattle.syslog_legacy.specs.Views.{IsLegacyFault, legacy_view_parts};
 
 use crate::clock::LegacyClock;
 use crate::fault::LegacyFault;
-use crate::view::{LegacyView, legacy_view};
+use crate::view::LegacyView;
+use crate::whole::legacy_view;
 use std::alloc::{AllocError, Global};
 use syslog_grammar::fields::{to_message, to_word};
-use syslog_value::{Record, StructuredData};
+use syslog_value::{Record, StructuredData, Word, WordFault};
+
+/// The word of octets that are one, where there are some.
+fn known_word<const N: usize>(
+    alloc: Global,
+    octets: Option<&[u8]>,
+) -> Result<Option<Word<N>>, AllocError>
+    requires { IfSome (option_map (λ s. s.now) octets) (IsWord N) }
+    ensures { IfOk result (λ word. word ≡ option_map (λ s. s.now) octets.entry) }
+{
+    match to_word(alloc, octets) {
+        Ok(word) => Ok(word),
+        Err(WordFault::Memory) => Err(AllocError),
+        Err(_) => unreachable!(),
+    }
+}
 
 impl<'a> LegacyView<'a> {
     /// The record that the view shows, with memory of its own.
     ///
-    /// For a view of a packet it fails only when out of memory.
+    /// It fails only when out of memory.
     pub fn to_record(&self, alloc: Global) -> Result<Record, AllocError>
         ensures { IfOk result (λ r. r ≡ legacy_view_parts self.now) }
     {
-        let hostname = to_word(alloc, self.front.hostname)?;
-        let app_name = to_word(alloc, self.front.app_name)?;
-        let proc_id = to_word(alloc, self.front.proc_id)?;
-        let message = to_message(alloc, &self.message)?;
+        let hostname = known_word(alloc, self.front.hostname)?;
+        let app_name = known_word(alloc, self.front.app_name)?;
+        let proc_id = known_word(alloc, self.front.proc_id)?;
+        let Some(message) = to_message(alloc, &self.message)? else {
+            unreachable!();
+        };
         Ok(Record::new(
             self.front.priority,
             self.front.instant,

@@ -1,17 +1,12 @@
-//! A legacy packet as it lies in its octets.
+//! A legacy packet's record as it lies in its octets.
 
-ghost use Rattle.std.specs.Prelude.{MatchResult};
-ghost use Rattle.syslog_legacy.specs.Messages.{MessageStops};
-ghost use Rattle.syslog_legacy.specs.Readings.{Legacy, NotUtf8At, ReadAs};
-ghost use Rattle.syslog_legacy.specs.Views.{legacy_view_parts};
-ghost use Rattle.syslog_grammar.specs.Grammar.{Message};
+ghost use Rattle.syslog_value.specs.Parts.{IsRecord};
 ghost use Rattle.syslog_grammar.specs.Views.{message_parts};
+ghost use Rattle.syslog_legacy.specs.FrontViews.{front_parts};
+ghost use Rattle.syslog_legacy.specs.Readings.{legacy_parts};
 
-use crate::clock::LegacyClock;
-use crate::fault::MessageNotUtf8;
-use crate::front::{Front, split};
+use crate::front::Front;
 use syslog_grammar::fields::MessageView;
-use syslog_grammar::utf8;
 use syslog_value::{Instant, Priority};
 
 /// A legacy packet's record that lends its parts from the octets. It takes no memory.
@@ -19,54 +14,13 @@ use syslog_value::{Instant, Priority};
 pub struct LegacyView<'a> {
     pub(crate) front: Front<'a>,
     pub(crate) message: MessageView<'a>,
-}
-
-/// Reads a message up to the end: a text where it starts with the BOM, else any octets. Where it
-/// is neither, the answer is how many octets come before the first that cannot go on with it.
-fn message(octets: &[u8]) -> Result<MessageView<'_>, usize>
-    ensures { MatchResult result (λ m. Message (message_parts m) octets.now)
-        (MessageStops octets.now) }
-{
-    let [0xef, 0xbb, 0xbf, behind @ ..] = octets else {
-        return Ok(MessageView {
-            octets,
-            has_mark: false,
-        });
-    };
-    match utf8(behind) {
-        Ok(_text) => Ok(MessageView {
-            octets: behind,
-            has_mark: true,
-        }),
-        Err(at) => Err(3 + at),
-    }
-}
-
-/// Reads a legacy packet from all of its octets (RFC 3164, section 4).
-///
-/// Ask [has_new_form](crate::has_new_form) first: what has the form of RFC 5424 is read by that
-/// standard alone. Every other packet is a record, but for a message that starts with the byte
-/// order mark and is no UTF-8. It takes no memory.
-pub fn legacy_view<'a>(
-    clock: &LegacyClock,
-    octets: &'a [u8],
-) -> Result<LegacyView<'a>, MessageNotUtf8>
-    ensures { MatchResult result
-        (λ view. Legacy clock.now (ReadAs (legacy_view_parts view)) octets.now)
-        (λ fault. Legacy clock.now (NotUtf8At fault.offset) octets.now) }
-{
-    let (front, text) = split(clock, octets);
-    match message(text) {
-        Ok(message) => Ok(LegacyView { front, message }),
-        Err(at) => Err(MessageNotUtf8 {
-            offset: octets.len() - text.len() + at,
-        }),
-    }
+    pub ghost valid: { ∥ IsRecord (legacy_parts (front_parts front) (message_parts message)) ∥₁ },
 }
 
 impl<'a> LegacyView<'a> {
     ghost use Rattle.std.specs.Prelude.{◌≡◌, ◌↔◌, IsTrue, option_map};
     ghost use Rattle.syslog_grammar.specs.ViewParts.{HasBom, octets_of};
+    ghost use Rattle.syslog_legacy.specs.Views.{legacy_view_parts};
 
     /// Facility and severity.
     pub fn priority(&self) -> Priority
