@@ -1,20 +1,20 @@
 -- From the mask of one load to the octets of a class before it.
 use Rattle.std.proofs.Common.{take, zero, suc, ◌≡◌, ℕ, ◌+◌, ◌%◌, ◌^◌, ◌<◌, ◌≤◌, Bool, true, false, not, ◌&&◌, ◌||◌}
-use Rattle.std.proofs.Common.{List, map, length, get_or, Fits, w8, sym, ap, ◌∙◌, subst, arith, eqb, cond, bit_or}
-use Rattle.std.proofs.Common.{refl, [], ◌∷◌, inl, inr}
+use Rattle.std.proofs.Common.{List, map, length, get_or, Fits, w8, sym, ap, ◌∙◌, subst, arith, eqb, cond, bit_or, ltb}
+use Rattle.std.proofs.Common.{refl, [], ◌∷◌, inl, inr, ◌*◌}
 use Rattle.std.specs.Prelude.{nat_le, ◌==◌, Option, Some, None}
 use Rattle.std.specs.List.{AllByRecursion, prefix_len}
 use Rattle.memchr.specs.Find.{IsFirstByte, Nowhere, Passes, is_byte, is_byte2}
 use Rattle.syslog_grammar.proofs.Runs.{run_more}
 use Rattle.std.proofs.lemmas.Bool.{agree_below, agree_below_at, cases_lt}
 use Rattle.std.proofs.lemmas.Bool.Decides.{nat_tests}
-use Rattle.std.proofs.lemmas.Simd.{map-map, mask_l-mod, length-chunk, zip2_of_maps, first_set_mask_l}
+use Rattle.std.proofs.lemmas.Simd.{map-map, mask_l-mod, length-chunk, length-zip2, get_or-chunk, zip2_of_maps, first_set_mask_l}
 use Rattle.std.proofs.lemmas.Simd.{run_in_chunk_le, run_in_chunk_fails, run_in_chunk_stops}
 use Rattle.std.proofs.lemmas.Grind.{common_steps}
 use Rattle.std.proofs.lemmas.List.{length-map}
 use lib.Lanes.{chunk, zip2, mask_l, top}
 use Rattle.syslog_value.specs.Parts.{IsNameOctet, IsPrintable}
-use Rattle.syslog_grammar.specs.Lanes.{IsNeither, IsRunOf, first_set}
+use Rattle.syslog_grammar.specs.Lanes.{IsNeither, IsRunOf, LiesBetween, first_set}
 use Rattle.syslog_grammar.specs.Values.{IsPlainOctet}
 
 -- an operation on two vectors that were computed lane by lane from v
@@ -169,3 +169,52 @@ run_on P i (suc r) s room prefix each =
     let before = run_on P i r s (omega (arith, room)) prefix (λ k from to. each k from (omega (arith, to))) in
     subst (λ n. AllByRecursion P (take n s)) (omega arith)
     (run_more P (i + r) s (omega (arith, room)) before (each (i + r) (omega arith) (omega arith)))
+
+-- ---- octets between those of two texts
+
+neither : (p q : Bool) → (p || q) ≡ false → (p ≡ false) × (q ≡ false)
+neither true q e = absurd cc
+neither false q e = (refl, e)
+
+-- the lane of an octet is set where it is below the one or above the other
+lane_between : (x l m : ℕ) → top 7 (bit_or (cond (ltb x l) 255 0) (cond (ltb m x) 255 0)) ≡ false → (l ≤ x) × (x ≤ m)
+lane_between x l m e =
+    let both = neither (ltb x l) (ltb m x) (sym (either_lane (ltb x l) (ltb m x)) ∙ e) in
+    (grind (arith, common_steps, nat_tests, both.0), grind (arith, common_steps, nat_tests, both.1))
+
+-- the lowest lane, and those above it
+lanes_apart : (b : Bool) (n : ℕ) → cond b 1 0 + 2 * n ≡ 0 → (b ≡ false) × (n ≡ 0)
+lanes_apart true n e = absurd (omega (arith, e))
+lanes_apart false n e = (refl, omega (arith, e))
+
+lanes_between : (xs ls ms : List ℕ) → length ls ≤ length xs → length ls ≤ length ms
+    → mask_l (map (top 7) (zip2 bit_or (zip2 (λ a b. cond (ltb a b) 255 0) xs ls)
+    (zip2 (λ a b. cond (ltb a b) 255 0) ms xs))) ≡ 0 → (k : ℕ) → k < length ls
+    → (get_or ls k 0 ≤ get_or xs k 0) × (get_or xs k 0 ≤ get_or ms k 0)
+lanes_between xs [] ms long same e k less = absurd (omega (arith, less))
+lanes_between [] (l ∷ ls) ms long same e k less = absurd (omega (arith, long))
+lanes_between (x ∷ xs) (l ∷ ls) [] long same e k less = absurd (omega (arith, same))
+lanes_between (x ∷ xs) (l ∷ ls) (m ∷ ms) long same e zero less =
+    lane_between x l m (lanes_apart (top 7 (bit_or (cond (ltb x l) 255 0) (cond (ltb m x) 255 0))) _ e).0
+lanes_between (x ∷ xs) (l ∷ ls) (m ∷ ms) long same e (suc k) less =
+    lanes_between xs ls ms (omega (arith, long)) (omega (arith, same))
+    (lanes_apart (top 7 (bit_or (cond (ltb x l) 255 0) (cond (ltb m x) 255 0))) _ e).1 k (omega (arith, less))
+
+-- sixteen octets whose mask is empty
+pub octets_between : (octets ls ms : List ℕ) → 16 ≤ length octets → length ls ≡ 16 → length ms ≡ 16
+    → mask_l (map (top 7) (zip2 bit_or (zip2 (λ a b. cond (ltb a b) 255 0) (take 16 octets) ls)
+    (zip2 (λ a b. cond (ltb a b) 255 0) ms (take 16 octets)))) % 2 ^ 64 ≡ 0 → LiesBetween ls ms octets
+octets_between octets ls ms room least most e k less =
+    let xs : List ℕ = chunk 0 16 octets in
+    let long : length xs ≡ 16 = length-chunk 0 16 octets room in
+    let below : List ℕ = zip2 (λ a b. cond (ltb a b) 255 0) xs ls in
+    let above : List ℕ = zip2 (λ a b. cond (ltb a b) 255 0) ms xs in
+    let few : length below ≡ 16 = length-zip2 _ xs ls (long ∙ sym least) ∙ long in
+    let same : length above ≡ 16 = length-zip2 _ ms xs (most ∙ sym long) ∙ most in
+    let lanes : length (zip2 bit_or below above) ≡ 16 = length-zip2 bit_or below above (few ∙ sym same) ∙ few in
+    let mask : mask_l (map (top 7) (zip2 bit_or below above)) ≡ 0 = sym (mask_l-mod (map (top 7) (zip2 bit_or below above)) 64
+    (omega (arith, length-map (zip2 bit_or below above) (top 7), lanes))) ∙ e in
+    let between = lanes_between xs ls ms (omega (arith, least, long)) (omega (arith, least, most)) mask k less in
+    let at : get_or xs k 0 ≡ get_or octets k 0 = get_or-chunk 0 16 octets k 0 (omega (arith, less, least))
+    ∙ ap (λ j. get_or octets j 0) (omega arith) in
+    (subst (λ x. get_or ls k 0 ≤ x) at between.0, subst (λ x. x ≤ get_or ms k 0) at between.1)

@@ -51,4 +51,5 @@ pub mod Props
 pub mod ShownRecords
 pub mod ShownParts
 pub mod Sorting
+pub mod Stamps
 pub mod IdTables

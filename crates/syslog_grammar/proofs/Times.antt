@@ -1,6 +1,6 @@
 -- Where the parts of a timestamp end and stop.
 use Rattle.std.proofs.Common.{◌≡◌, ℕ, ◌+◌, ◌-◌, ◌*◌, ◌/◌, ◌%◌, ◌<◌, ◌≤◌, List, [], ◌∷◌, ◌++◌, length, refl, sym, ap}
-use Rattle.std.proofs.Common.{subst, ◌∙◌, arith, inl, inr, ◌⊎◌}
+use Rattle.std.proofs.Common.{subst, ◌∙◌, append_assoc, arith, inl, inr, ◌⊎◌}
 use Rattle.std.proofs.lemmas.Bool.{cases_lt}
 use Rattle.std.proofs.lemmas.Bool.Decides.{nat_tests}
 use Rattle.std.proofs.lemmas.List.{append_cancel_left, length-append}
@@ -144,6 +144,17 @@ pub bad_year : (b rest : List ℕ) (c remaining : ℕ) → Follows (Two 0 99 c) 
     → Fails (AnyOf (Two 0 99)) rest remaining → Fails (AnyOf YearText) b remaining
 bad_year b rest c remaining g f = Fails-same Halves (AnyOf YearText) b remaining halves_year year_halves
     (Fails-later (AnyOf (Two 0 99)) (AnyOf (Two 0 99)) b rest remaining (IsPrefixFree-two 0 99) (g.0, g.1, (c, g.2)) f)
+
+pub year_read : (b rest end : List ℕ) (c y : ℕ) → Follows (Two 0 99 c) b rest → Follows (Two 0 99 y) rest end
+    → Follows (YearText (100 * c + y)) b end
+year_read b rest end c y (s, e, (l, h, f)) (t, g, (m, i, k)) = (
+  s ++ t,
+  e ∙ ap (λ (u : List ℕ). s ++ u) g ∙ sym (append_assoc s t end),
+  (
+    omega (arith, h, i),
+    ap (λ (u : List ℕ). u ++ t) f ∙ ap (λ (u : List ℕ). padded 2 c ++ u) k ∙ sym (century_year c y h i),
+  ),
+)
 
 pub IsPrefixFree-year : IsPrefixFree (AnyOf YearText)
 IsPrefixFree-year = IsPrefixFree-length (AnyOf YearText) 4 (λ p (y, (h, e)). ap length e)

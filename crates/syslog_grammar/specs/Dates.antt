@@ -1,6 +1,7 @@
 -- The parts of a timestamp as they are read, one after the other.
-use Rattle.std.specs.Prelude.{ℕ, ℤ, [], ◌∷◌}
+use Rattle.std.specs.Prelude.{ℕ, ℤ, List, [], ◌∷◌}
 use Rattle.octet_language.specs.Language.{Language, Only, ◌⋅◌}
+use Rattle.octet_language.specs.Reading.{Follows}
 use Rattle.syslog_grammar.specs.declared.timestamp.Timestamp.{Timestamp}
 use Rattle.syslog_grammar.specs.Time.{CivilTime, Two, YearText, DateText, ClockText, FractionText, ZoneText}
 
@@ -19,6 +20,11 @@ HourMinute c = Two 0 23 c.0 ⋅ Only (58 ∷ []) ⋅ Two 0 59 c.1
 -- an hour, a minute and a second
 abbrev pub Clock : ℕ × ℕ × ℕ → Language
 Clock c = ClockText c.0 c.1 c.2
+
+-- octets that begin with a date, "T" and the time of a day, and what follows
+abbrev pub DateClock : (ℕ × ℕ × ℕ) × (ℕ × ℕ × ℕ) → List ℕ → List ℕ → Type 0
+DateClock d b end = (rest : List ℕ) × (after : List ℕ) × Follows (Date d.0) b rest
+    × Follows (Only (84 ∷ [])) rest after × Follows (Clock d.1) after end
 
 -- microseconds and an offset in minutes
 abbrev pub FractionZone : ℕ × ℤ → Language

@@ -1,5 +1,5 @@
 -- Sixteen octets at a time.
-use Rattle.std.specs.Prelude.{◌≡◌, ◌==◌, ◌+◌, ◌≤◌, ◌<◌, ℕ, List, slice_index, true, if◌then◌else◌}
+use Rattle.std.specs.Prelude.{◌≡◌, ◌==◌, ◌+◌, ◌≤◌, ◌<◌, ℕ, List, length, slice_index, true, if◌then◌else◌}
 use Rattle.std.specs.Int.{w64, trailing_zeros}
 use Rattle.memchr.specs.Find.{is_byte2}
 
@@ -16,3 +16,8 @@ pub record IsRunOf (C : ℕ → Type 0) (octets : List ℕ) (at run : ℕ) : Typ
   pub most : run ≤ 16
   pub each : (k : ℕ) → at ≤ k → k < at + run → C (slice_index octets k)
   pub ends : run < 16 → C (slice_index octets (at + run)) → ⊥
+
+-- each of so many octets lies between those at its place in two texts
+abbrev pub LiesBetween : List ℕ → List ℕ → List ℕ → Type 0
+LiesBetween least most octets = (k : ℕ) → k < length least
+    → (slice_index least k ≤ slice_index octets k) × (slice_index octets k ≤ slice_index most k)

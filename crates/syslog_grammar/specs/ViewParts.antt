@@ -15,7 +15,7 @@ view_parts v = record {
   proc_id = option_map (λ s. s.now) v.proc_id;
   msg_id = option_map (λ s. s.now) v.msg_id;
   elements = v.structured_data.now;
-  message = message_parts v.message;
+  message = message_parts (record { octets = v.message; has_mark = v.has_mark });
   behind_time = v.behind_time.now;
 }
 

@@ -75,7 +75,7 @@ fn put_parts(view: &RecordView<'_>, out: &mut Vec<u8>) -> Result<(), AllocError>
 {
     put_view_header(view, out)?;
     put_structured_data(view, out)?;
-    put_message_part(view.message.octets, view.message.has_mark, out)?;
+    put_message_part(view.message, view.has_mark, out)?;
     Ok(())
 }
 
@@ -91,7 +91,7 @@ fn put_ascending(view: &RecordView<'_>, out: &mut Vec<u8>) -> Result<(), AllocEr
     if !is_form {
         return put_parts(view, out);
     }
-    if !has_one_message_form(&view.message) {
+    if !has_one_message_form(&view.message_view()) {
         return put_parts(view, out);
     }
     copy_verbatim(view, out)?;
@@ -126,7 +126,7 @@ fn put_resorted(view: &RecordView<'_>, out: &mut Vec<u8>) -> Result<bool, AllocE
     if !put_sorted(view.structured_data, view.is_form, out)? {
         return Ok(false);
     }
-    put_message_part(view.message.octets, view.message.has_mark, out)?;
+    put_message_part(view.message, view.has_mark, out)?;
     Ok(true)
 }
 

@@ -1,8 +1,8 @@
 //! Sixteen octets at a time.
 
-ghost use Rattle.std.specs.Prelude.{◌≡◌, ◌+◌, ◌≤◌, length};
+ghost use Rattle.std.specs.Prelude.{◌≡◌, ◌+◌, ◌≤◌, IsTrue, length};
 ghost use Rattle.syslog_value.specs.Parts.{IsNameOctet, IsPrintable};
-ghost use Rattle.syslog_grammar.specs.Lanes.{IsNeither, IsRunOf, first_set};
+ghost use Rattle.syslog_grammar.specs.Lanes.{IsNeither, IsRunOf, LiesBetween, first_set};
 ghost use Rattle.syslog_grammar.specs.Values.{IsPlainOctet};
 
 use std::simd::prelude::*;
@@ -68,4 +68,22 @@ pub fn run_before_either(first: u8, second: u8, octets: &[u8], at: usize) -> usi
     let lanes = u8x16::from_slice(&octets[at..]);
     let marks = lanes.simd_eq(u8x16::splat(first)) | lanes.simd_eq(u8x16::splat(second));
     lanes_before(marks.to_bitmask())
+}
+
+/// The least octet at each place of a date and a time of day up to the minutes.
+const LEAST: [u8; LANES] = *b"0000-00-00T00:00";
+
+/// The greatest octet at each place. That 19 is no month is left to the caller.
+const MOST: [u8; LANES] = *b"9999-19-39T29:59";
+
+/// Whether the first sixteen octets may be a date and a time of day up to the minutes.
+#[inline(always)]
+pub fn has_date_shape(octets: &[u8]) -> bool
+    requires { LANES ≤ length octets.now }
+    ensures { IsTrue result → LiesBetween LEAST MOST octets.now }
+{
+    let lanes = u8x16::from_slice(octets);
+    let below = lanes.simd_lt(u8x16::from_array(LEAST));
+    let above = lanes.simd_gt(u8x16::from_array(MOST));
+    (below | above).to_bitmask() == 0
 }

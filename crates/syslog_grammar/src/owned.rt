@@ -168,7 +168,7 @@ impl<'a> RecordView<'a> {
         let Some(structured) = StructuredData::from_elements(elements) else {
             unreachable!();
         };
-        let Some(message) = to_message(alloc, &self.message)? else {
+        let Some(message) = to_message(alloc, &self.message_view())? else {
             unreachable!();
         };
         Ok(Record::new(

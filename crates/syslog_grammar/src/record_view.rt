@@ -21,9 +21,11 @@ pub struct RecordView<'a> {
     pub(crate) proc_id: Option<&'a [u8]>,
     pub(crate) msg_id: Option<&'a [u8]>,
     pub(crate) structured_data: &'a [u8],
-    pub(crate) message: MessageView<'a>,
+    pub(crate) message: &'a [u8],
     /// What follows the timestamp and its space.
     pub(crate) behind_time: &'a [u8],
+    /// Whether the message starts with the BOM, which `message` is without.
+    pub(crate) has_mark: bool,
     /// Whether the structured data is canonical but for the order of its elements.
     pub(crate) is_form: bool,
     /// Whether the ids of the elements ascend.
@@ -39,7 +41,7 @@ pub struct RecordView<'a> {
       proc_id = option_map (λ s. s.now) proc_id;
       msg_id = option_map (λ s. s.now) msg_id;
       elements = structured_data.now;
-      message = message_parts message;
+      message = message_parts (record { octets = message; has_mark = has_mark });
       behind_time = behind_time.now;
     }) ∥₁ },
 }
@@ -107,13 +109,23 @@ impl<'a> RecordView<'a> {
     pub fn message(&self) -> &'a [u8]
         ensures { result.now ≡ octets_of (view_parts self.now).message }
     {
-        self.message.octets
+        self.message
     }
 
     /// Whether the message starts with the BOM, and so is a text in UTF-8.
     pub fn has_mark(&self) -> bool
         ensures { IsTrue result ↔ HasBom (view_parts self.now).message }
     {
-        self.message.has_mark
+        self.has_mark
+    }
+
+    /// The message with whether it starts with the BOM.
+    pub(crate) fn message_view(&self) -> MessageView<'a>
+        ensures { message_parts result ≡ (view_parts self.now).message }
+    {
+        MessageView {
+            octets: self.message,
+            has_mark: self.has_mark,
+        }
     }
 }

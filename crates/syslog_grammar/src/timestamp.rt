@@ -2,25 +2,27 @@
 
 ghost use Rattle.std.specs.Prelude.{◌≡◌, ◌≤◌, ◌<◌, ◌+◌, ◌-◌, ◌*◌, ◌∷◌, ◌++◌, ◌↔◌, [], length};
 ghost use Rattle.std.specs.Prelude.{replicate, take, drop, slice_index, IsTrue, MatchResult};
-ghost use Rattle.std.specs.Prelude.{option_map, IfOk};
+ghost use Rattle.std.specs.Prelude.{option_map, IfOk, IfSome};
 ghost use Rattle.std.specs.List.{AllByRecursion};
 ghost use Rattle.octet_language.specs.Digits.{IsDigit, read_on};
-ghost use Rattle.octet_language.specs.Language.{IfFirst};
-ghost use Rattle.octet_language.specs.Reading.{Follows, Reads};
+ghost use Rattle.octet_language.specs.Language.{AnyOf, IfFirst};
+ghost use Rattle.octet_language.specs.Reading.{Fails, Follows, Reads};
 ghost use Rattle.syslog_value.specs.Calendar.{is_leap, month_length};
-ghost use Rattle.syslog_grammar.specs.Dates.{Clock, Date, FractionZone, HourMinute, YearMonth};
+ghost use Rattle.syslog_grammar.specs.Dates.{Clock, Date, DateClock, FractionZone, HourMinute, YearMonth};
 ghost use Rattle.syslog_grammar.specs.Dates.{time_of};
+ghost use Rattle.syslog_grammar.specs.Instants.{HasInstant, NamesInstant};
 ghost use Rattle.syslog_grammar.specs.Spans.{StopsInRun};
 ghost use Rattle.syslog_grammar.specs.Grammar.{Nilable, Spaced};
 ghost use Rattle.syslog_grammar.specs.Stops.{remaining_of};
 ghost use Rattle.syslog_grammar.specs.Time.{Decimals, OffsetText, TimeText, Two, YearText};
 ghost use Rattle.syslog_grammar.specs.Time.{ZoneText};
 
+use crate::lanes::has_date_shape;
 use crate::reading::{Stop, expect, next};
-use syslog_value::Civil;
+use syslog_value::{Civil, Instant};
 
-/// The octets of a date, as `2003-10-11`.
-const DATE_LEN: usize = 10;
+/// The octets of a date and the time of a day, as `2003-10-11T22:14:15`.
+const STAMP_LEN: usize = 19;
 
 /// The octets of the time of a day, as `22:14:15`.
 const CLOCK_LEN: usize = 8;
@@ -28,11 +30,13 @@ const CLOCK_LEN: usize = 8;
 /// The most octets of a fraction and a zone, as `.003000-07:00`, and the octet after them.
 const ZONE_LEN: usize = 14;
 
-/// A civil time as it is spelled, and how many minutes it is ahead of UTC.
+/// A civil time as it is spelled, how many minutes it is ahead of UTC, and the instant that it names.
 #[derive(Clone, Copy, Debug, PartialEq, Eq)]
 pub struct Timestamp {
     pub civil: Civil,
     pub offset_minutes: i16,
+    /// Microseconds from 1970-01-01T00:00:00Z. None: the instant lies outside the years 0 to 9999.
+    pub micros: Option<i64>,
 }
 
 #[inline(always)]
@@ -132,7 +136,6 @@ fn year_month(octets: &[u8]) -> Result<((u16, u8), &[u8]), Stop>
 }
 
 /// Reads a date that the calendar has.
-#[inline(always)]
 fn read_date(octets: &[u8]) -> Result<((u16, u8, u8), &[u8]), Stop>
     ensures { Reads remaining_of Date (λ x. (x.0, x.1.now)) octets.now result }
 {
@@ -140,27 +143,6 @@ fn read_date(octets: &[u8]) -> Result<((u16, u8, u8), &[u8]), Stop>
     let rest = expect(b'-', rest)?;
     let (day, rest) = two(1, last_day(year, month), rest)?;
     Ok(((year, month, day), rest))
-}
-
-/// The same where fewer octets are left.
-#[cold]
-#[inline(never)]
-fn last_date(octets: &[u8]) -> Result<((u16, u8, u8), &[u8]), Stop>
-    ensures { Reads remaining_of Date (λ x. (x.0, x.1.now)) octets.now result }
-{
-    read_date(octets)
-}
-
-/// Reads a date that the calendar has. Where there are octets enough, the compiler leaves out the
-/// tests for the end.
-#[inline(always)]
-fn date(octets: &[u8]) -> Result<((u16, u8, u8), &[u8]), Stop>
-    ensures { Reads remaining_of Date (λ x. (x.0, x.1.now)) octets.now result }
-{
-    if octets.len() < DATE_LEN {
-        return last_date(octets);
-    }
-    read_date(octets)
 }
 
 /// Reads an hour and a minute.
@@ -194,7 +176,8 @@ fn last_clock(octets: &[u8]) -> Result<((u8, u8, u8), &[u8]), Stop>
     read_clock(octets)
 }
 
-/// Reads the time of a day. It tests for the end as [`date`] does.
+/// Reads the time of a day. Where there are octets enough, the compiler leaves out the tests for the
+/// end.
 #[inline(always)]
 pub fn clock(octets: &[u8]) -> Result<((u8, u8, u8), &[u8]), Stop>
     ensures { Reads remaining_of Clock (λ x. (x.0, x.1.now)) octets.now result }
@@ -203,6 +186,80 @@ pub fn clock(octets: &[u8]) -> Result<((u8, u8, u8), &[u8]), Stop>
         return last_clock(octets);
     }
     read_clock(octets)
+}
+
+/// The number that the two digits at an offset spell.
+#[inline(always)]
+fn number(octets: &[u8], at: usize) -> u8
+    requires within { at + 2 ≤ length octets.now }
+    requires tens { IsDigit (slice_index octets.now at) }
+    requires units { IsDigit (slice_index octets.now (at + 1)) }
+    ensures { result ≡ 10 * (slice_index octets.now at - 48)
+        + (slice_index octets.now (at + 1) - 48) }
+{
+    10 * (octets[at] - b'0') + (octets[at + 1] - b'0')
+}
+
+/// Whether a colon and seconds, as `:15`, follow the minutes.
+#[inline(always)]
+fn has_seconds(octets: &[u8]) -> bool
+    requires { STAMP_LEN ≤ length octets.now }
+    ensures { IsTrue result ↔ ((slice_index octets.now 16 ≡ 58) × (48 ≤ slice_index octets.now 17)
+        × (slice_index octets.now 17 ≤ 53) × IsDigit (slice_index octets.now 18)) }
+{
+    octets[16] == b':' && octets[17] >= b'0' && octets[17] <= b'5' && is_digit(octets[18])
+}
+
+/// Reads a date, `T` and the time of a day, the first sixteen octets by one comparison. None where an
+/// octet is missing or wrong: the readers of the parts find where.
+#[inline(always)]
+fn quick_date_and_clock(octets: &[u8]) -> Option<(((u16, u8, u8), (u8, u8, u8)), &[u8])>
+    ensures { IfSome result (λ x. DateClock x.0 octets.now x.1.now) }
+{
+    if octets.len() < STAMP_LEN || !has_date_shape(octets) || !has_seconds(octets) {
+        return None;
+    }
+    let year = 100 * u16::from(number(octets, 0)) + u16::from(number(octets, 2));
+    let month = number(octets, 5);
+    if month < 1 || month > 12 {
+        return None;
+    }
+    let day = number(octets, 8);
+    if day < 1 || day > last_day(year, month) {
+        return None;
+    }
+    let hour = number(octets, 11);
+    if hour > 23 {
+        return None;
+    }
+    let clock = (hour, number(octets, 14), number(octets, 17));
+    let (_, rest) = octets.split_at(STAMP_LEN);
+    Some((((year, month, day), clock), rest))
+}
+
+/// Reads a date, `T` and the time of a day, part by part.
+#[cold]
+#[inline(never)]
+fn read_date_and_clock(octets: &[u8]) -> Result<(((u16, u8, u8), (u8, u8, u8)), &[u8]), Stop>
+    ensures { MatchResult result (λ x. DateClock x.0 octets.now x.1.now)
+        (λ e. Fails (AnyOf TimeText) octets.now e.remaining) }
+{
+    let (date, rest) = read_date(octets)?;
+    let rest = expect(b'T', rest)?;
+    let (clock, rest) = read_clock(rest)?;
+    Ok(((date, clock), rest))
+}
+
+/// Reads a date, `T` and the time of a day.
+#[inline(always)]
+fn date_and_clock(octets: &[u8]) -> Result<(((u16, u8, u8), (u8, u8, u8)), &[u8]), Stop>
+    ensures { MatchResult result (λ x. DateClock x.0 octets.now x.1.now)
+        (λ e. Fails (AnyOf TimeText) octets.now e.remaining) }
+{
+    match quick_date_and_clock(octets) {
+        Some(read) => Ok(read),
+        None => read_date_and_clock(octets),
+    }
 }
 
 /// How many digits come first, up to six.
@@ -346,7 +403,7 @@ fn last_fraction_and_zone(octets: &[u8]) -> Result<((u32, i16), &[u8]), Stop>
     read_fraction_and_zone(octets)
 }
 
-/// Reads the fraction, if there is one, and the zone. It tests for the end as [`date`] does.
+/// Reads the fraction, if there is one, and the zone. It tests for the end as [`clock`] does.
 #[inline(always)]
 fn fraction_and_zone(octets: &[u8]) -> Result<((u32, i16), &[u8]), Stop>
     ensures { Reads remaining_of FractionZone (λ x. (x.0, x.1.now)) octets.now result }
@@ -357,14 +414,24 @@ fn fraction_and_zone(octets: &[u8]) -> Result<((u32, i16), &[u8]), Stop>
     read_fraction_and_zone(octets)
 }
 
-/// Reads a time.
+/// The microseconds of the instant that a civil time names, so many minutes ahead of UTC.
+#[inline(always)]
+fn micros_at(civil: Civil, offset_minutes: i16) -> Option<i64>
+    ensures { NamesInstant civil offset_minutes result }
+{
+    match Instant::from_civil(civil, offset_minutes) {
+        Ok(instant) => Some(instant.micros()),
+        Err(_) => None,
+    }
+}
+
+/// Reads a time. Its instant is found here, so that `view` need not keep the civil time.
 #[inline(always)]
 fn time(octets: &[u8]) -> Result<(Timestamp, &[u8]), Stop>
-    ensures { Reads remaining_of TimeText (λ x. (time_of x.0, x.1.now)) octets.now result }
+    ensures reads { Reads remaining_of TimeText (λ x. (time_of x.0, x.1.now)) octets.now result }
+    ensures instant { IfOk result (λ x. HasInstant x.0) }
 {
-    let ((year, month, day), rest) = date(octets)?;
-    let rest = expect(b'T', rest)?;
-    let ((hour, minute, second), rest) = clock(rest)?;
+    let (((year, month, day), (hour, minute, second)), rest) = date_and_clock(octets)?;
     let ((micros, offset_minutes), rest) = fraction_and_zone(rest)?;
     // made anew from its length: the slice would be copied through memory
     let (_, rest) = octets.split_at(octets.len() - rest.len());
@@ -381,6 +448,7 @@ fn time(octets: &[u8]) -> Result<(Timestamp, &[u8]), Stop>
         Timestamp {
             civil,
             offset_minutes,
+            micros: micros_at(civil, offset_minutes),
         },
         rest,
     ))
@@ -389,8 +457,9 @@ fn time(octets: &[u8]) -> Result<(Timestamp, &[u8]), Stop>
 /// Reads a time, or NILVALUE, and the space that follows it.
 #[inline(always)]
 pub fn nilable_time(octets: &[u8]) -> Result<(Option<Timestamp>, &[u8]), Stop>
-    ensures { Reads remaining_of (λ t. Spaced (Nilable TimeText t))
+    ensures reads { Reads remaining_of (λ t. Spaced (Nilable TimeText t))
         (λ x. (option_map time_of x.0, x.1.now)) octets.now result }
+    ensures instant { IfOk result (λ x. IfSome x.0 HasInstant) }
 {
     let Some((first, behind)) = next(octets) else {
         return Err(Stop {

@@ -1,37 +1,36 @@
 //! The reading of a record from all of its octets.
 
-ghost use Rattle.std.specs.Prelude.{IsTrue, List, MatchOption, MatchResult, OnErr, OnOk};
+ghost use Rattle.std.specs.Prelude.{IfSome, IsTrue, List, MatchOption, MatchResult, OnErr, OnOk};
 ghost use Rattle.octet_language.specs.Language.{AnyOf};
 ghost use Rattle.syslog_value.specs.Parts.{ElementParts, IsById};
 ghost use Rattle.syslog_grammar.specs.Faults.{FaultOf};
 ghost use Rattle.syslog_grammar.specs.Grammar.{StructuredDataText};
 ghost use Rattle.syslog_grammar.specs.Ids.{HoldsDistinct, HoldsRepeated};
-ghost use Rattle.syslog_grammar.specs.Instants.{IsTimeInRange, IsTimeOf};
+ghost use Rattle.syslog_grammar.specs.Instants.{HasInstant, IsTimeInRange, IsTimeOf};
 ghost use Rattle.syslog_grammar.specs.Parsing.{IsParsed};
 ghost use Rattle.syslog_grammar.specs.ViewParts.{IsViewOf, view_parts};
 ghost use Rattle.syslog_grammar.specs.WellFormed.{WellFormed};
 
 use crate::fault::Fault;
-use crate::message::MessageView;
 use crate::record_view::RecordView;
 use crate::repeated::first_repeated;
 use crate::syntax::{Parsed, parse};
 use crate::timestamp::Timestamp;
-use syslog_value::Instant;
 
 /// The instant lies outside the years from 0 to 9999.
 pub struct OutOfRange;
 
 /// The instant that a time names, if there is one.
 pub fn micros_of(time: Option<Timestamp>) -> Result<Option<i64>, OutOfRange>
+    requires { IfSome time HasInstant }
     ensures { IsTimeOf time result }
 {
     let Some(time) = time else {
         return Ok(None);
     };
-    match Instant::from_civil(time.civil, time.offset_minutes) {
-        Ok(instant) => Ok(Some(instant.micros())),
-        Err(_) => Err(OutOfRange),
+    match time.micros {
+        Some(micros) => Ok(Some(micros)),
+        None => Err(OutOfRange),
     }
 }
 
@@ -73,10 +72,6 @@ pub fn view_of<'a>(octets: &'a [u8], spelling: Parsed<'a>) -> Result<RecordView<
             offset: octets.len() - spelling.structured_data_remaining + offset,
         });
     }
-    let MessageView {
-        octets: message,
-        has_mark,
-    } = spelling.message;
     Ok(RecordView {
         priority: fields.priority,
         micros,
@@ -85,11 +80,9 @@ pub fn view_of<'a>(octets: &'a [u8], spelling: Parsed<'a>) -> Result<RecordView<
         proc_id: fields.proc_id,
         msg_id: fields.msg_id,
         structured_data: spelling.structured_data,
-        message: MessageView {
-            octets: message,
-            has_mark,
-        },
+        message: spelling.message.octets,
         behind_time: fields.behind_time,
+        has_mark: spelling.message.has_mark,
         is_form: spelling.is_form,
         ascends: spelling.ascends,
     })

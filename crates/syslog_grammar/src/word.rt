@@ -1,6 +1,6 @@
 //! The words of the header (RFC 5424, 6.2.4 to 6.2.7).
 
-ghost use Rattle.std.specs.Prelude.{◌≡◌, ◌≤◌, ◌<◌, ◌∷◌, ◌++◌, ◌↔◌, [], length, IsTrue, take, drop};
+ghost use Rattle.std.specs.Prelude.{◌≡◌, ◌≤◌, ◌<◌, ◌*◌, ◌∷◌, ◌++◌, ◌↔◌, [], length, IsTrue, take, drop};
 ghost use Rattle.std.specs.Prelude.{option_map};
 ghost use Rattle.std.specs.List.{AllByRecursion};
 ghost use Rattle.octet_language.specs.Language.{IfFirst};
@@ -10,7 +10,10 @@ ghost use Rattle.syslog_grammar.specs.Grammar.{Nilable, Spaced, Word};
 ghost use Rattle.syslog_grammar.specs.Stops.{remaining_of};
 
 use crate::lanes::{LANES, printable_run};
-use crate::reading::{Stop, next};
+use crate::reading::{Stop, both, next};
+
+/// A limit above this is that of host names.
+const HOSTNAME_FROM: usize = 128;
 
 #[inline(always)]
 fn is_printable(octet: u8) -> bool
@@ -19,14 +22,14 @@ fn is_printable(octet: u8) -> bool
     octet >= 33 && octet <= 126
 }
 
-/// Whether a word is NILVALUE.
+/// Whether a word is NILVALUE. No branch depends on the first octet alone.
 #[inline(always)]
 fn is_nil(word: &[u8]) -> bool
     ensures { IsTrue result ↔ (word.now ≡ 45 ∷ []) }
 {
     match word {
-        [octet] => *octet == b'-',
-        _ => false,
+        [] => false,
+        [first, rest @ ..] => both(*first == b'-', rest.is_empty()),
     }
 }
 
@@ -65,7 +68,22 @@ fn long_printable_len(limit: usize, octets: &[u8]) -> usize
     most
 }
 
-/// The same, of few octets by one look.
+/// How many printable octets come first, up to thirty-two. Both loads are always made, so that no
+/// branch depends on which of them has the end.
+#[inline(always)]
+fn two_printable_runs(octets: &[u8]) -> usize
+    requires { 2 * LANES ≤ length octets.now }
+    ensures most { result ≤ 2 * LANES }
+    ensures printable { AllByRecursion IsPrintable (take result octets.now) }
+    ensures ends { result < 2 * LANES → IfFirst (λ x. IsPrintable x → ⊥) (drop result octets.now) }
+{
+    let first = printable_run(octets, 0);
+    let second = printable_run(octets, LANES);
+    if first < LANES { first } else { LANES + second }
+}
+
+/// How many octets at the start are printable, up to a limit: of short words by one load, and of host
+/// names, which are often longer than sixteen octets, by two.
 #[inline(always)]
 fn printable_len(limit: usize, octets: &[u8]) -> usize
     ensures most { result ≤ limit }
@@ -73,7 +91,12 @@ fn printable_len(limit: usize, octets: &[u8]) -> usize
     ensures printable { AllByRecursion IsPrintable (take result octets.now) }
     ensures ends { result < limit → IfFirst (λ x. IsPrintable x → ⊥) (drop result octets.now) }
 {
-    if limit >= LANES && octets.len() >= LANES {
+    if limit > HOSTNAME_FROM && octets.len() >= 2 * LANES {
+        let run = two_printable_runs(octets);
+        if run < 2 * LANES {
+            return run;
+        }
+    } else if limit >= LANES && octets.len() >= LANES {
         let run = printable_run(octets, 0);
         if run < LANES {
             return run;

@@ -1,4 +1,5 @@
-use Rattle.std.proofs.Common.{arith}
+use Rattle.std.proofs.Common.{arith, subst, sym}
+use Rattle.syslog_value.specs.Parts.{IsMessage}
 use Rattle.syslog_grammar.specs.ViewParts.{view_parts}
 use Rattle.syslog_grammar.proofs.ShownParts.{shown_data, shown_distinct, shown_valid}
 use Rattle.syslog_grammar.proofs.record_view.RecordView.to_record.Goals as goal
@@ -25,4 +26,5 @@ unreachable-requires c =
 
 pub unreachable-requires-in_default-2 : goal.unreachable-requires-in_default-2
 unreachable-requires-in_default-2 c =
-    (rw c.in_default-2.is at c.in_ok-message.ensures) (shown_valid (view_parts c.args.self.now) c.args.self.now.shown).message
+    (rw c.in_default-2.is at c.in_ok-message.ensures) (subst IsMessage (sym c.message_view.ensures)
+    (shown_valid (view_parts c.args.self.now) c.args.self.now.shown).message)
