@@ -32,7 +32,7 @@ fn canonical(alloc: Global, octets: &[u8]) -> Result<Vec<u8>, Fail> {
 
 /// Octets and their canonical form: an instant is written in UTC with six digits, elements are sorted
 /// by id, three octets are escaped, the empty message is left out and the BOM is kept.
-const FORMS: [(&[u8], &[u8]); 22] = [
+const FORMS: [(&[u8], &[u8]); 26] = [
     (
         b"<7>1 - - - - - [b-name-of-twenty-oct k-name-of-twenty-oct=\"twenty octets of text, \\n then \\\" and \xc3\xa9 \\] end\"][a]",
         b"<7>1 - - - - - [a][b-name-of-twenty-oct k-name-of-twenty-oct=\"twenty octets of text, \\\\n then \\\" and \xc3\xa9 \\] end\"]",
@@ -68,6 +68,22 @@ const FORMS: [(&[u8], &[u8]); 22] = [
     (
         b"<0>1 - - - - - [b][a x=\"\\n\\\"\\]\\\\\"][B]",
         b"<0>1 - - - - - [B][a x=\"\\\\n\\\"\\]\\\\\"][b]",
+    ),
+    (
+        b"<0>1 - - - - - [origin@1 k=\"\\]\"][origin]",
+        b"<0>1 - - - - - [origin][origin@1 k=\"\\]\"]",
+    ),
+    (
+        b"<0>1 - - - - - [ab][a k=\"\\n\"][aB]",
+        b"<0>1 - - - - - [a k=\"\\\\n\"][aB][ab]",
+    ),
+    (
+        b"<0>1 - - - - - [h][g][f][e][d][c][b][a] x",
+        b"<0>1 - - - - - [a][b][c][d][e][f][g][h] x",
+    ),
+    (
+        b"<0>1 - - - - - [i][h][g][f][e][d][c][b][a] x",
+        b"<0>1 - - - - - [a][b][c][d][e][f][g][h][i] x",
     ),
     (
         b"<0>1 - - - - - [a\\b x\\y=\"z\"]",

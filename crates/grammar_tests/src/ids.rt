@@ -38,7 +38,7 @@ fn repeated(octets: &[u8]) -> Option<usize> {
 
 #[test]
 fn scattered_ids_differ_until_one_comes_again(rt: HostRuntime) -> Result<(), Fail> {
-    for count in [2, 16, 17, 40, 41, 200, 700, 3_000, 12_000, 40_000] {
+    for count in [2, 7, 8, 9, 16, 17, 40, 41, 200, 700, 3_000, 12_000, 40_000] {
         let mut octets = scattered(rt.alloc(), count)?;
         assert!(rt; view(octets.as_slice()).is_ok());
         assert!(rt; is_canon_unsorted(octets.as_slice()));

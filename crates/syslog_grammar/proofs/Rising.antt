@@ -1,5 +1,5 @@
 -- Ids that rise are distinct, in whatever order they were before.
-use Rattle.std.proofs.Common.{◌≡◌, ℕ, zero, suc, ◌+◌, ◌<◌, List, [], ◌∷◌, ◌++◌, length, take, set, map, refl, sym, ap}
+use Rattle.std.proofs.Common.{◌≡◌, ℕ, zero, suc, ◌+◌, ◌<◌, List, [], ◌∷◌, ◌++◌, length, take, set, map, refl, sym, ap, get_or}
 use Rattle.std.proofs.Common.{subst, ◌∙◌, append_assoc, add-one, arith, inl, inr, Bor, Bool, true, false}
 use Rattle.std.specs.Prelude.{Option, Some, None}
 use Rattle.std.specs.List.{AllByRecursion, IsDistinct}
@@ -17,6 +17,7 @@ use Rattle.syslog_value.specs.Parts.{ElementParts}
 use Rattle.syslog_value.specs.Structured.{HasId}
 use Rattle.syslog_value.proofs.Octets.{below_itself, below_trans}
 use Rattle.syslog_grammar.specs.Faults.{AreDistinct}
+use Rattle.syslog_grammar.specs.FewIds.{IsNew}
 use Rattle.syslog_grammar.specs.Grammar.{Element}
 use Rattle.syslog_grammar.specs.Ids.{IsRisingFrom, ids_of}
 use Rattle.syslog_grammar.specs.FirstElements.{SplitsElement}
@@ -148,3 +149,16 @@ pub sorted_distinct : (es : List ElementParts) (before after : List Lent) → id
 sorted_distinct es before after e p h =
     distinct_ids es before e (IsDistinct-IsPermutation same flips after before (IsPermutation-sym before after p)
     (rising_distinct None after h))
+
+-- ---- few ids
+
+new_suc : (id : List ℕ) (n : ℕ) (d : Lent) (kept : List Lent) → n < length kept → ¬ ((get_or kept n d).now ≡ id)
+    → IsNew id (texts (take n kept)) → IsNew id (texts (take (suc n) kept))
+new_suc id n d [] less other h = absurd (omega arith)
+new_suc id zero d (x ∷ kept) less other h = (other, tt)
+new_suc id (suc n) d (x ∷ kept) less other h = (h.0, new_suc id n d kept (omega arith) other h.1)
+
+-- the id is not the next one either
+pub new_more : (id : List ℕ) (n : ℕ) (d : Lent) (kept : List Lent) → n < length kept → ¬ ((get_or kept n d).now ≡ id)
+    → IsNew id (texts (take n kept)) → IsNew id (texts (take (n + 1) kept))
+new_more id n d kept less other h = rw add-one (new_suc id n d kept less other h)

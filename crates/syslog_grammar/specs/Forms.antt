@@ -4,6 +4,7 @@ use Rattle.std.specs.List.{flat_map}
 use Rattle.octet_language.specs.Language.{Language, Each, IfFirst}
 use Rattle.syslog_value.specs.Parts.{ElementParts, IsById, ParamParts}
 use Rattle.syslog_grammar.specs.Canonical.{escaped, param_form, element_form, structured_data_form}
+use Rattle.syslog_grammar.specs.Faults.{AreDistinct}
 use Rattle.syslog_grammar.specs.Grammar.{Element, StructuredDataText}
 use Rattle.syslog_grammar.specs.Ids.{IsRisingFrom, ids_of}
 use Rattle.syslog_grammar.specs.Values.{IsSpecial, Spells}
@@ -48,10 +49,11 @@ IsValueForm is_form raw = HasForm Spells escaped is_form raw
 abbrev pub ReadsElement : Bool → List ℕ → List ℕ → List ℕ → Type 0
 ReadsElement is_form id b rest = (r : ReadsForm Element element_form is_form b rest) × (r.value.id ≡ id)
 
--- elements come first, and the answers tell whether they are canonical and whether their ids ascend
-abbrev pub ReadsElements : Bool → Bool → List ℕ → List ℕ → Type 0
-ReadsElements is_form ascends b rest = (r : ReadsForm (Each Element) elements_form is_form b rest)
-    × (IsTrue ascends ↔ IsRisingFrom None (ids_of r.value))
+-- elements come first, and the answers tell whether they are canonical, whether their ids ascend, and whether they are
+-- known to differ
+abbrev pub ReadsElements : Bool → Bool → Bool → List ℕ → List ℕ → Type 0
+ReadsElements is_form ascends differ b rest = (r : ReadsForm (Each Element) elements_form is_form b rest)
+    × (IsTrue ascends ↔ IsRisingFrom None (ids_of r.value)) × (IsTrue differ → AreDistinct r.value)
 
 -- whether structured data is canonical but for the order of its elements, and whether they stand by id
 abbrev pub HasDataForms : Bool → Bool → List ℕ → Type 0

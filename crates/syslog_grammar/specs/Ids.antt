@@ -10,6 +10,10 @@ use Rattle.syslog_grammar.specs.Grammar.{StructuredDataText, Element}
 abbrev pub HoldsDistinct : List ℕ → Type 0
 HoldsDistinct text = (es : List ElementParts) × StructuredDataText es text × AreDistinct es
 
+-- the ids of the elements of the text are distinct
+abbrev pub IdsDiffer : List ℕ → Type 0
+IdsDiffer text = (es : List ElementParts) → StructuredDataText es text → AreDistinct es
+
 -- the text is that of elements of which one, at this offset, is the first to repeat an id
 abbrev pub HoldsRepeated : List ℕ → ℕ → Type 0
 HoldsRepeated text at = (es : List ElementParts) × StructuredDataText es text × (before : List ElementParts)

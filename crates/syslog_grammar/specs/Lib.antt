@@ -10,6 +10,7 @@ pub mod Forms
 pub mod Views
 pub mod Fields
 pub mod Faults
+pub mod FewIds
 pub mod Parsing
 pub mod Ids
 pub mod ElementOrders

@@ -1,11 +1,12 @@
 -- A whole record as it lies in the octets, and where octets are outside the grammar.
-use Rattle.std.specs.Prelude.{◌≡◌, ◌≢◌, ℕ, ◌-◌, ◌<◌, ◌≤◌, List, ◌∷◌, ◌++◌, length, take, ◌⊎◌, IfSome}
+use Rattle.std.specs.Prelude.{◌≡◌, ◌≢◌, ℕ, ◌-◌, ◌<◌, ◌≤◌, List, ◌∷◌, ◌++◌, length, take, ◌⊎◌, IfSome, IsTrue}
 use Rattle.octet_language.specs.Language.{AnyOf, IfFirst}
 use Rattle.octet_language.specs.Reading.{Follows}
 use Rattle.syslog_grammar.specs.Faults.{FaultOf, times}
 use Rattle.syslog_grammar.specs.Fields.{header_parts, before_words, words_of, TimeStands}
 use Rattle.syslog_grammar.specs.Forms.{HasDataForms}
 use Rattle.syslog_grammar.specs.Grammar.{Header, StructuredDataText, MessagePart}
+use Rattle.syslog_grammar.specs.Ids.{IdsDiffer}
 use Rattle.syslog_grammar.specs.Instants.{HasInstant}
 use Rattle.syslog_grammar.specs.Views.{message_parts}
 use Rattle.syslog_grammar.specs.declared.syntax.Parsed.{Parsed}
@@ -59,4 +60,5 @@ pub record IsParsed (b : List ℕ) (s : Parsed) : Type 0 where
   pub remaining : length rest ≡ s.structured_data_remaining
   pub elements : AnyOf StructuredDataText s.structured_data.now
   pub forms : HasDataForms s.is_form s.ascends s.structured_data.now
+  pub differ : IsTrue s.differ → IdsDiffer s.structured_data.now
   pub message_part : MessagePart (message_parts s.message) end

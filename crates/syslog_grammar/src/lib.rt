@@ -14,6 +14,8 @@ mod decoding;
 mod distinct;
 mod element;
 mod fault;
+mod few_elements;
+mod few_ids;
 pub mod fields;
 mod first_element;
 mod header;

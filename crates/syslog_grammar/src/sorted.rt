@@ -10,6 +10,7 @@ ghost use Rattle.syslog_grammar.specs.Sorting.{AreElementsOf, AreKeysOf, FirstOf
 ghost use Rattle.syslog_grammar.specs.Sorting.{SortedElementsOf, offset_of};
 
 use crate::appending::put;
+use crate::few_elements::put_few;
 use crate::first_element::{first_element, first_id};
 use crate::reading::next;
 use crate::reescaped::put_element;
@@ -167,8 +168,8 @@ fn put_sorted_in_room<const N: usize>(
     put_sorted_in(elements, &mut keys, is_form, out)
 }
 
-/// Appends elements in the order of their ids. Each has three octets at least.
-fn put_elements(elements: &[u8], is_form: bool, out: &mut Vec<u8>) -> Result<bool, AllocError>
+/// Appends elements in the order of their ids, by keys. Each has three octets at least.
+fn put_by_keys(elements: &[u8], is_form: bool, out: &mut Vec<u8>) -> Result<bool, AllocError>
     ensures { PutsUnless (SortedElementsOf is_form elements.now) ⊤ out.old.items out.new.items result }
 {
     match elements.len() {
@@ -181,6 +182,18 @@ fn put_elements(elements: &[u8], is_form: bool, out: &mut Vec<u8>) -> Result<boo
         196_609..=16_777_215 => put_sorted_in_room::<131_072>(elements, is_form, out),
         _ => Ok(false),
     }
+}
+
+/// Appends elements in the order of their ids.
+fn put_elements(elements: &[u8], is_form: bool, out: &mut Vec<u8>) -> Result<bool, AllocError>
+    ensures { PutsUnless (SortedElementsOf is_form elements.now) ⊤ out.old.items out.new.items result }
+{
+    let start = out.len();
+    if put_few(elements, is_form, out)? {
+        return Ok(true);
+    }
+    out.truncate(start);
+    put_by_keys(elements, is_form, out)
 }
 
 /// Appends structured data with its elements in the order of their ids. Each is copied as it lies

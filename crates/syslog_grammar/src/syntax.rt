@@ -22,6 +22,8 @@ pub struct Parsed<'a> {
     pub is_form: bool,
     /// Whether the ids of the elements ascend.
     pub ascends: bool,
+    /// Whether these ids are known to differ.
+    pub differ: bool,
 }
 
 fn count(octet: u8, octets: &[u8]) -> usize
@@ -86,7 +88,7 @@ pub fn parse(octets: &[u8]) -> Result<Parsed<'_>, Fault>
         Err(stop) => return Err(fault_before(octets, stop.remaining)),
     };
     let structured_data_remaining = rest.len();
-    let (structured_data, rest, is_form, ascends) = match structured_data(rest) {
+    let (structured_data, rest, is_form, ascends, differ) = match structured_data(rest) {
         Ok(read) => read,
         Err(stop) => return Err(fault_before(octets, stop.remaining)),
     };
@@ -99,6 +101,7 @@ pub fn parse(octets: &[u8]) -> Result<Parsed<'_>, Fault>
             structured_data_remaining,
             is_form,
             ascends,
+            differ,
         }),
         Err(stop) => Err(fault_behind(octets, rest, stop.remaining)),
     }

@@ -1,11 +1,10 @@
 //! The reading of a record from all of its octets.
 
-ghost use Rattle.std.specs.Prelude.{IfSome, IsTrue, List, MatchOption, MatchResult, OnErr, OnOk};
+ghost use Rattle.std.specs.Prelude.{IfSome, IsTrue, MatchOption, MatchResult, OnErr, OnOk};
 ghost use Rattle.octet_language.specs.Language.{AnyOf};
-ghost use Rattle.syslog_value.specs.Parts.{ElementParts, IsById};
 ghost use Rattle.syslog_grammar.specs.Faults.{FaultOf};
 ghost use Rattle.syslog_grammar.specs.Grammar.{StructuredDataText};
-ghost use Rattle.syslog_grammar.specs.Ids.{HoldsDistinct, HoldsRepeated};
+ghost use Rattle.syslog_grammar.specs.Ids.{HoldsDistinct, HoldsRepeated, IdsDiffer};
 ghost use Rattle.syslog_grammar.specs.Instants.{HasInstant, IsTimeInRange, IsTimeOf};
 ghost use Rattle.syslog_grammar.specs.Parsing.{IsParsed};
 ghost use Rattle.syslog_grammar.specs.ViewParts.{IsViewOf, view_parts};
@@ -34,15 +33,14 @@ pub fn micros_of(time: Option<Timestamp>) -> Result<Option<i64>, OutOfRange>
     }
 }
 
-/// The offset of the first id that repeats an earlier one. Ids that ascend are distinct.
-fn repeated_id(structured_data: &[u8], ascends: bool) -> Option<usize>
+/// The offset of the first id that repeats an earlier one, if they are not known to differ.
+fn repeated_id(structured_data: &[u8], differ: bool) -> Option<usize>
     requires some { AnyOf StructuredDataText structured_data.now }
-    requires ascending { IsTrue ascends
-        → (es : List ElementParts) → StructuredDataText es structured_data.now → IsById es }
+    requires differ { IsTrue differ → IdsDiffer structured_data.now }
     ensures { MatchOption result (HoldsDistinct structured_data.now)
         (HoldsRepeated structured_data.now) }
 {
-    if ascends {
+    if differ {
         return None;
     }
     first_repeated(structured_data)
@@ -67,7 +65,7 @@ pub fn view_of<'a>(octets: &'a [u8], spelling: Parsed<'a>) -> Result<RecordView<
             });
         }
     };
-    if let Some(offset) = repeated_id(spelling.structured_data, spelling.ascends) {
+    if let Some(offset) = repeated_id(spelling.structured_data, spelling.differ) {
         return Err(Fault::RepeatedId {
             offset: octets.len() - spelling.structured_data_remaining + offset,
         });

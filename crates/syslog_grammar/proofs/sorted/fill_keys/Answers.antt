@@ -1,13 +1,14 @@
 use Rattle.std.proofs.Common.{[], ◌++◌, ◌∙◌, ap, arith, refl, rules, sym, append_assoc}
+use Rattle.syslog_grammar.specs.Sorting.{IsKeyOf}
 use Rattle.syslog_grammar.specs.Views.{element_span}
-use Rattle.syslog_grammar.proofs.Sorting.{keys_none, keys_more, keys_whole}
+use Rattle.syslog_grammar.proofs.Sorting.{fills_none, keys_more, fills_whole}
 use Rattle.syslog_grammar.proofs.sorted.fill_keys.Goals as goal
 
 pub loop-first-init : goal.loop-first-init
 loop-first-init c = record {
   room = search rules;
   suffix = ([], refl);
-  fills = keys_none c.args.elements.now c.args.keys.now;
+  fills = fills_none (λ a. IsKeyOf a c.args.elements.now) c.args.elements.now c.args.keys.now;
 }
 
 pub loop-first-preserved : goal.loop-first-preserved
@@ -29,6 +30,6 @@ loop-first-preserved c = record {
 pub returns : goal.returns
 returns c = (
   c.loop-first.invariant.room,
-  keys_whole c.args.elements.now c.loop-first.rest.now c.loop-first.count
+  fills_whole (λ a. IsKeyOf a c.args.elements.now) c.args.elements.now c.loop-first.rest.now c.loop-first.count
       c.loop-first.keys c.in_default.ensures c.loop-first.invariant.fills,
 )

@@ -1,6 +1,6 @@
 use Rattle.std.proofs.Common.{◌≡◌, ◌∙◌, ap, subst, take, length, rules}
 use Rattle.std.proofs.lemmas.List.{take_at}
-use Rattle.syslog_grammar.specs.Sorting.{AreKeysOf, KeysForm, SortedElementsOf}
+use Rattle.syslog_grammar.specs.Sorting.{AreKeysOf, IsKeyOf, KeysForm, SortedElementsOf}
 use Rattle.syslog_grammar.proofs.Sorting.{puts_wider, sorted_form}
 use Rattle.syslog_grammar.proofs.sorted.put_sorted_in.Goals as goal
 
@@ -14,7 +14,7 @@ returns c =
     puts_wider (KeysForm c.args.is_form c.args.elements.now c.sort_keys.new.keys)
     (SortedElementsOf c.args.is_form c.args.elements.now) c.args.out.now.items
     c.put_rising.new.out.items c.put_rising.result
-    (λ b. sorted_form c.args.is_form c.args.elements.now prefix c.sort_keys.new.keys b
+    (λ b. sorted_form (IsKeyOf c.args.is_form c.args.elements.now) c.args.is_form c.args.elements.now prefix c.sort_keys.new.keys b
     (λ es h. subst (AreKeysOf c.args.is_form c.args.elements.now es) taken (c.in-Some.ensures.1 c.args.is_form es h))
     c.sort_keys.ensures)
     c.put_rising.ensures

@@ -17,7 +17,8 @@ loop-first-init c = record {
   goes = goes_first c.args.octets.now c.in_ok-found.rest.now (element_span c.in_ok-found.found)
       c.in_ok-found.ensures.reads;
   read =
-      first_read c.in_ok-found.is_form c.id-greatest.result.now c.args.octets.now c.in_ok-found.rest.now
+      first_read c.in_ok-found.is_form c.of_one-ids.result c.id-greatest.result.now c.args.octets.now
+      c.in_ok-found.rest.now c.of_one-ids.ensures
       (subst (λ (id : List ℕ). ReadsElement c.in_ok-found.is_form id c.args.octets.now c.in_ok-found.rest.now)
       (sym c.id-greatest.ensures) c.in_ok-found.ensures.form);
 }
@@ -38,11 +39,13 @@ loop-first-preserved c = record {
       c.in-Some.first (element_span c.in_ok-found-2.found) c.in-Some.ensures c.if-first-ne91.false
       c.in_ok-found-2.ensures.reads c.loop-first.invariant.goes;
   read =
-      rw (c.both-is_form.ensures, c.both-ascends.ensures)
+      rw (c.both-is_form.ensures, c.both-ascends.ensures, c.both-differ.ensures)
       (next_read c.loop-first.is_form c.in_ok-found-2.found_is_form c.loop-first.ascends c.is_above-above.result
+      c.loop-first.differ c.is_new.result c.loop-first.ids c.push.new.self
       c.id-id.result.now c.args.octets.now c.loop-first.rest.now c.in_ok-found-2.behind.now
       (Some c.loop-first.greatest.now)
-      c.is_above-above.ensures.above c.is_above-above.ensures.most
+      c.is_above-above.ensures.above c.is_above-above.ensures.most (rw (sym c.both-ascends.ensures) c.is_new.ensures)
+      c.push.ensures
       (subst (λ (id : List ℕ). ReadsElement c.in_ok-found-2.found_is_form id c.loop-first.rest.now
       c.in_ok-found-2.behind.now) (sym c.id-id.ensures) c.in_ok-found-2.ensures.form)
       c.loop-first.invariant.read);
@@ -50,8 +53,8 @@ loop-first-preserved c = record {
 
 pub returns-then-first-ne91-clause-forms : goal.returns-then-first-ne91-clause-forms
 returns-then-first-ne91-clause-forms c = all_read c.loop-first.is_form c.loop-first.ascends
-    (Some c.loop-first.greatest.now) c.args.octets.now c.loop-first.rest.now c.loop-first.invariant.read
+    c.loop-first.differ c.loop-first.ids (Some c.loop-first.greatest.now) c.args.octets.now c.loop-first.rest.now c.loop-first.invariant.read
 
 pub returns-clause-forms : goal.returns-clause-forms
-returns-clause-forms c = all_read c.loop-first.is_form c.loop-first.ascends (Some c.loop-first.greatest.now)
-    c.args.octets.now c.loop-first.rest.now c.loop-first.invariant.read
+returns-clause-forms c = all_read c.loop-first.is_form c.loop-first.ascends c.loop-first.differ c.loop-first.ids
+    (Some c.loop-first.greatest.now) c.args.octets.now c.loop-first.rest.now c.loop-first.invariant.read

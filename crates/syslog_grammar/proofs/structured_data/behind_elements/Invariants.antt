@@ -7,7 +7,7 @@ use Rattle.syslog_grammar.proofs.structured_data.behind_elements.Given as goal
 abbrev pub invariant-loop-first : goal.invariant-loop-first
 invariant-loop-first l = record {
   goes : Goes l.octets l.rest;
-  read : ElementsRead l.is_form l.ascends (Some l.greatest) l.octets l.rest;
+  read : ElementsRead l.is_form l.ascends l.differ l.ids (Some l.greatest) l.octets l.rest;
 }
 
 abbrev pub decreases-loop-first : goal.decreases-loop-first

@@ -1,10 +1,10 @@
 use Rattle.std.proofs.lemmas.Result.{err_from_is_err_and}
 use Rattle.syslog_grammar.proofs.DataTexts.{no_data, data_stops}
-use Rattle.syslog_grammar.proofs.ReadData.{data_forms, data_nil, nil_ends, nil_forms}
+use Rattle.syslog_grammar.proofs.ReadData.{data_differ, data_forms, data_nil, nil_differ, nil_ends, nil_forms}
 use Rattle.syslog_grammar.proofs.structured_data.structured_data.Goals as goal
 
 pub returns-in_default : goal.returns-in_default
-returns-in_default c = record { reads = no_data c.args.octets.now c.in_default.ensures; forms = tt }
+returns-in_default c = record { reads = no_data c.args.octets.now c.in_default.ensures; forms = tt; ids = tt }
 
 pub returns-in_err-rest : goal.returns-in_err-rest
 returns-in_err-rest c =
@@ -13,6 +13,7 @@ returns-in_err-rest c =
       reads = data_stops c.args.octets.now c.in-Some.behind.now c.in-Some.first _
           c.in-Some.ensures c.if-first-eq45.false c.in_err-rest.ensures.reads;
       forms = tt;
+      ids = tt;
     })
 
 pub returns-then-first-eq45 : goal.returns-then-first-eq45
@@ -23,8 +24,14 @@ returns-then-first-eq45 c =
       reads = nil_ends c.args.octets.now c.in-Some.behind.now c.split_at.result.0.now c.in-Some.first
           c.in-Some.ensures c.if-first-eq45.true nil;
       forms = nil_forms c.split_at.result.0.now nil;
+      ids = λ u. nil_differ c.split_at.result.0.now nil;
     }
 
 pub returns-clause-forms : goal.returns-clause-forms
-returns-clause-forms c = data_forms c.in_ok-rest.is_form c.in_ok-rest.ascends c.args.octets.now c.in_ok-rest.rest.now
+returns-clause-forms c = data_forms c.in_ok-rest.is_form c.in_ok-rest.ascends c.in_ok-rest.differ c.args.octets.now
+    c.in_ok-rest.rest.now
     c.split_at-2.result.0.now c.in_ok-rest.ensures.forms c.split_at-2.ensures.front
+
+pub returns-clause-ids : goal.returns-clause-ids
+returns-clause-ids c = data_differ c.in_ok-rest.is_form c.in_ok-rest.ascends c.in_ok-rest.differ c.args.octets.now
+    c.in_ok-rest.rest.now c.split_at-2.result.0.now c.in_ok-rest.ensures.forms c.split_at-2.ensures.front

@@ -27,6 +27,7 @@ returns-in-Ok-message_part c = record {
   elements = data_text c.in-Ok.read.1.now c.in-Ok-structured_data.read.0.now c.in-Ok-structured_data.read.1.now
       c.in-Ok-structured_data.ensures.reads;
   forms = c.in-Ok-structured_data.ensures.forms;
+  differ = c.in-Ok-structured_data.ensures.ids;
   message_part = c.in-Ok-message_part.ensures;
 }
 

@@ -1,7 +1,6 @@
-use Rattle.syslog_grammar.proofs.ById.{distinct_by_id}
 use Rattle.syslog_grammar.proofs.whole.repeated_id.Goals as goal
 
-pub returns-then-ascends : goal.returns-then-ascends
-returns-then-ascends c =
+pub returns-then-differ : goal.returns-then-differ
+returns-then-differ c =
     let d = c.requires.some in
-    (d.0, d.1, distinct_by_id d.0 (c.requires.ascending c.if-ascends.true d.0 d.1))
+    (d.0, d.1, c.requires.differ c.if-differ.true d.0 d.1)

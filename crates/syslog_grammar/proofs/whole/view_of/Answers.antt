@@ -40,8 +40,8 @@ invariant_of-result c = record {
   ) ∣₁;
 }
 
-pub repeated_id-requires-clause-ascending : goal.repeated_id-requires-clause-ascending
-repeated_id-requires-clause-ascending c = λ u es d. (c.requires.forms es d).1.0 u
+pub repeated_id-requires-clause-differ : goal.repeated_id-requires-clause-differ
+repeated_id-requires-clause-differ c = c.requires.differ
 
 pub returns-clause-whole : goal.returns-clause-whole
 returns-clause-whole c = view_of c.args.octets.now c.args.spelling c.in-Ok.micros c.requires

@@ -1,0 +1,85 @@
+//! The canonical octets of a few elements whose ids do not ascend: their texts are sorted on the stack.
+
+ghost use Rattle.std.specs.Prelude.{◌≤◌, Bool, List, IfSome, length, take, ⊤};
+ghost use Rattle.syslog_value.specs.Parts.{ElementParts};
+ghost use Rattle.syslog_grammar.specs.Appending.{Puts};
+ghost use Rattle.syslog_grammar.specs.Reescaped.{PutsUnless};
+ghost use Rattle.syslog_grammar.specs.Sorting.{AreElementsOf, AreTextsOf, SortedElementsOf, TextForm, TextsForm};
+
+use crate::appending::put;
+use crate::first_element::{first_element, first_id};
+use crate::reading::next;
+use crate::reescaped::put_element;
+use crate::repeated::is_above;
+use std::alloc::AllocError;
+
+/// So many elements are few.
+const FEW: usize = 8;
+
+/// Puts the text of each element into the slice, where it has room for them.
+#[inline(always)]
+fn fill_texts<'a>(elements: &'a [u8], texts: &mut [&'a [u8]]) -> Option<usize>
+    ensures { IfSome result (λ n. (n ≤ length texts.new)
+        × ((a : Bool) (es : List ElementParts) → AreElementsOf a es elements.now
+        → AreTextsOf a es (take n texts.new))) }
+{
+    let mut rest = elements;
+    let mut count = 0;
+    while let Some((_first, _after)) = next(rest) {
+        let (_found, behind) = first_element(rest);
+        if count >= texts.len() {
+            return None;
+        }
+        let (text, _) = rest.split_at(rest.len() - behind.len());
+        texts[count] = text;
+        count += 1;
+        rest = behind;
+    }
+    Some(count)
+}
+
+/// Appends the element of a text: as it lies where that is canonical.
+#[inline(always)]
+fn put_text(text: &[u8], is_form: bool, out: &mut Vec<u8>) -> Result<(), AllocError>
+    ensures { Puts (TextForm is_form text.now) out.old.items out.new.items result }
+{
+    if is_form {
+        return put(text, out);
+    }
+    put_element(text, out)?;
+    Ok(())
+}
+
+/// Appends the elements of texts, up to one whose id is not above those before it.
+#[inline(always)]
+fn put_texts<'a>(texts: &[&'a [u8]], is_form: bool, out: &mut Vec<u8>) -> Result<bool, AllocError>
+    ensures { PutsUnless (TextsForm is_form texts.now) ⊤ out.old.items out.new.items result }
+{
+    let mut greatest: Option<&'a [u8]> = None;
+    for i in 0..texts.len() {
+        let text = texts[i];
+        let id = first_id(text);
+        if !is_above(id, greatest) {
+            return Ok(false);
+        }
+        put_text(text, is_form, out)?;
+        greatest = Some(id);
+    }
+    Ok(true)
+}
+
+/// Appends elements in the order of their ids, where they are at most eight.
+///
+/// The answer is false, and a part may have been appended, where they are more. It can also be where
+/// one has no parameters: its text may sort otherwise than its id, which another begins with.
+pub fn put_few(elements: &[u8], is_form: bool, out: &mut Vec<u8>) -> Result<bool, AllocError>
+    ensures { PutsUnless (SortedElementsOf is_form elements.now) ⊤ out.old.items out.new.items result }
+{
+    let mut texts = [elements; FEW];
+    let Some(count) = fill_texts(elements, &mut texts) else {
+        return Ok(false);
+    };
+    let (found, _) = texts.split_at_mut(count);
+    found.sort_unstable();
+    put_texts(found, is_form, out)
+}
