@@ -1,5 +1,5 @@
 -- How the digits of a count continue, and where they stop.
-use Rattle.std.proofs.Common.{◌≡◌, ◌≢◌, ℕ, ◌+◌, ◌-◌, ◌*◌, ◌^◌, ◌<◌, ◌≤◌, List, [], ◌∷◌, ◌++◌, length, get_or, refl, sym}
+use Rattle.std.proofs.Common.{◌≡◌, ◌≢◌, ℕ, ◌+◌, ◌-◌, ◌*◌, ◌^◌, ◌<◌, ◌≤◌, List, [], ◌∷◌, ◌++◌, length, take, get_or, refl, sym}
 use Rattle.std.proofs.Common.{ap, subst, ◌∙◌, append_assoc, arith, inl, inr}
 use Rattle.std.specs.List.{AllByRecursion}
 use Rattle.std.specs.Fmt.{decimal}
@@ -13,6 +13,7 @@ use Rattle.octet_language.proofs.FaultOffset.{IsFaultOffset-from_stops}
 use Rattle.octet_language.specs.Digits.{IsDigit}
 use Rattle.octet_language.proofs.Decimal.{digits_decimal, goes_on, one_digit, next_digit}
 use Rattle.octet_language.proofs.Lists.{heads, parted, not_free, AllByRecursion-weaker}
+use Rattle.syslog_frame.proofs.Cuts.{one_taken}
 
 fits : (n : ℕ) → n ≤ COUNT_MAX → n < 2 ^ 64
 fits n h = omega arith
@@ -37,6 +38,24 @@ count_digit c x q (inl h) d =
     inr (d.1, ap (λ (u : List ℕ). u ++ x ∷ []) h.1 ∙ sym (one_digit x d.0) ∙ ap decimal (sym same))
 count_digit c x q (inr h) d =
     inr (d.1, ap (λ (u : List ℕ). u ++ x ∷ []) h.1 ∙ sym (next_digit c x h.0 d.0 (omega (arith, d.2))))
+
+-- one digit more of octets
+digit_taken : (c : ℕ) (s : List ℕ) (i : ℕ) → i < length s → IsCount c (take i s) → IsNextDigit c (get_or s i 0)
+    → IsCount (10 * c + (get_or s i 0 - 48)) (take (i + 1) s)
+digit_taken c s i less is next =
+    rw (one_taken [] s i less) (count_digit c (get_or s i 0) (take i s) is next)
+
+-- three digits, the first of which is no zero, and a space
+pub count_three : (s : List ℕ) (n : ℕ) → 4 ≤ length s → 49 ≤ get_or s 0 0 → get_or s 0 0 ≤ 57 → IsDigit (get_or s 1 0)
+    → IsDigit (get_or s 2 0) → get_or s 3 0 ≡ 32
+    → n ≡ 10 * (10 * (get_or s 0 0 - 48) + (get_or s 1 0 - 48)) + (get_or s 2 0 - 48)
+    → take 4 s ≡ decimal n ++ 32 ∷ []
+count_three s n long low high tens units space is =
+    let one = digit_taken 0 s 0 (omega arith) (inl (refl, refl)) ((omega arith, high), omega arith, omega arith) in
+    let two = digit_taken _ s 1 (omega arith) one (tens, omega arith, omega (arith, high, tens.1)) in
+    let three = digit_taken _ s 2 (omega arith) two (units, omega arith, omega (arith, high, tens.1, units.1)) in
+    one_taken [] s 3 (omega arith) ∙ count_space _ (get_or s 3 0) (take 3 s) three (omega arith) space
+    ∙ ap (λ (k : ℕ). decimal k ++ 32 ∷ []) (omega arith)
 
 -- a count is continued in the digits of a number: that number is at least so large
 digit_in : (n c x : ℕ) (q z : List ℕ) → 0 < n → n ≤ COUNT_MAX → c ≤ COUNT_MAX → IsCount c q → decimal n ≡ q ++ x ∷ z

@@ -1,6 +1,6 @@
 //! A frame that lies whole in octets, lent from them.
 
-ghost use Rattle.std.specs.Prelude.{◌≡◌, ◌<◌, ◌≤◌, ◌++◌, ◌∷◌, [], decimal, length, take};
+ghost use Rattle.std.specs.Prelude.{◌≡◌, ◌<◌, ◌≤◌, ◌++◌, ◌∷◌, [], IfSome, decimal, length, take};
 ghost use Rattle.syslog_frame.specs.Lent.{IsLent};
 ghost use Rattle.syslog_frame.specs.declared.framing.Framing.TheVariants.{Counted, Lf};
 
@@ -8,6 +8,9 @@ use crate::count::{CountStep, count_on};
 use crate::framing::Framing;
 use crate::limits::{COUNT_MAX, FRAME_MAX};
 use memchr::memchr;
+
+/// The octets of a count of three digits and its space.
+const COUNT_LEN: usize = 4;
 
 /// A frame that lies whole in octets of a stream.
 #[derive(Clone, Copy, Debug, PartialEq, Eq)]
@@ -42,11 +45,37 @@ fn counted_record(count: u64, used: usize, octets: &[u8]) -> Option<LentFrame<'_
     })
 }
 
+/// The count of three digits that comes first with its space: that of most records, by one look.
+#[inline(always)]
+fn three_digits(octets: &[u8]) -> Option<u64>
+    ensures count { IfSome result (λ count. (0 < count) × (count ≤ COUNT_MAX)) }
+    ensures digits { IfSome result (λ count. (COUNT_LEN ≤ length octets.now)
+        × (take COUNT_LEN octets.now ≡ decimal count ++ 32 ∷ [])) }
+{
+    match octets {
+        [
+            hundreds @ b'1'..=b'9',
+            tens @ b'0'..=b'9',
+            units @ b'0'..=b'9',
+            b' ',
+            ..
+        ] => {
+            let hundreds = u64::from(*hundreds - b'0');
+            let tens = u64::from(*tens - b'0');
+            Some(10 * (10 * hundreds + tens) + u64::from(*units - b'0'))
+        }
+        _ => None,
+    }
+}
+
 /// The counted frame that comes first.
 #[inline(always)]
 fn counted_frame(octets: &[u8]) -> Option<LentFrame<'_>>
     ensures { IsLent FRAME_MAX Counted octets.now result }
 {
+    if let Some(count) = three_digits(octets) {
+        return counted_record(count, COUNT_LEN, octets);
+    }
     match count_on(0, octets) {
         CountStep::Read { count, used } => counted_record(count, used, octets),
         CountStep::Unfinished { .. } => None,

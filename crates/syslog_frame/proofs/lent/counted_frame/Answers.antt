@@ -2,8 +2,8 @@ use Rattle.std.proofs.Common.{[], refl, inl}
 use Rattle.syslog_frame.proofs.Lending.{none_broken, none_unfinished}
 use Rattle.syslog_frame.proofs.lent.counted_frame.Goals as goal
 
-pub counted_record-requires-clause-digits : goal.counted_record-requires-clause-digits
-counted_record-requires-clause-digits c = c.in-Read.ensures.counts [] (inl (refl, refl))
+pub counted_record-requires-in-Read-clause-digits : goal.counted_record-requires-in-Read-clause-digits
+counted_record-requires-in-Read-clause-digits c = c.in-Read.ensures.counts [] (inl (refl, refl))
 
 pub returns-in-Unfinished : goal.returns-in-Unfinished
 returns-in-Unfinished c = none_unfinished _ c.in-Unfinished.count c.args.octets.now c.in-Unfinished.ensures.step
