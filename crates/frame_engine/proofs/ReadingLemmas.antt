@@ -3,14 +3,15 @@ use Rattle.std.proofs.Common.{◌≡◌, ◌≤◌, ℕ, ℤ, List, length, sym,
 use Rattle.std.specs.Prelude.{Some}
 use Rattle.syslog_frame.specs.declared.limits.TheConstants.{FRAME_MAX}
 use Rattle.syslog_value.specs.Parts.{Parts}
+use Rattle.syslog_grammar.specs.WellFormed.{AddsCanonical, WellFormed}
 use Rattle.syslog_grammar.specs.declared.fault.Fault.{Fault}
 use Rattle.syslog_grammar.proofs.OneFault.{one_fault}
 use Rattle.syslog_legacy.proofs.FrameReadings.{fault_not_read, not_utf8, not_utf8_legacy, one_offset, one_reading}
-use Rattle.syslog_legacy.specs.FrameReadings.{Clock}
+use Rattle.syslog_legacy.specs.FrameReadings.{Clock, IsReadAs}
 use Rattle.syslog_legacy.specs.NewForm.{HasNewForm}
 use Rattle.syslog_legacy.specs.Readings.{Legacy, ReadAs}
 use Rattle.syslog_legacy.specs.declared.clock.LegacyClock.{LegacyClock}
-use Rattle.frame_engine.specs.Readings.{IsRecordOf, IsRefusedWith}
+use Rattle.frame_engine.specs.Readings.{AddsRecord, IsRecordOf, IsRefusedWith}
 use Rattle.frame_engine.specs.declared.line.Line.{Line}
 use Rattle.frame_engine.specs.declared.line.Line.TheVariants.{LegacyNotUtf8, Refused}
 
@@ -44,3 +45,9 @@ one_line clock n f l m (inr (inr (few, form, x, bad, e))) (inr (inr (few', form'
 pub legacy_record : (clock : Clock) (k : LegacyClock) (r : Parts ℤ) (f : List ℕ) → clock ≡ Some k → length f ≤ FRAME_MAX
     → ¬ (HasNewForm f) → Legacy k (ReadAs r) f → IsRecordOf clock r f
 legacy_record clock k r f e few form is = (few, rw e (inr (form, is)))
+
+-- ---- the canonical octets of a frame that is read as a record of RFC 5424
+
+pub written : (clock : Clock) (f old new : List ℕ) → length f ≤ FRAME_MAX
+    → ((r : Parts ℤ) → WellFormed r f → IsReadAs clock r f) → AddsCanonical f old new → AddsRecord clock f old new
+written clock f old new few reads (r, well, adds) = (r, (few, reads r well), adds)

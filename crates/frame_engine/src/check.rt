@@ -9,7 +9,7 @@ ghost use Rattle.frame_engine.specs.declared.line.Line.{Line};
 use crate::frame_handler::FrameHandler;
 use crate::line::{Line, put_line};
 use crate::pending::PendingOutput;
-use crate::reading::read_frame;
+use crate::reading::refusal;
 use std::alloc::AllocError;
 use syslog_legacy::LegacyClock;
 
@@ -45,9 +45,9 @@ impl FrameHandler for Check {
         frame: &[u8],
         done: &mut PendingOutput,
     ) -> Result<(), AllocError> {
-        match read_frame(self.clock, number, frame) {
-            Ok(_) => put_line(&mut done.output, Line::Accepted { number }),
-            Err(line) => refuse(line, done),
+        match refusal(self.clock, number, frame) {
+            None => put_line(&mut done.output, Line::Accepted { number }),
+            Some(line) => refuse(line, done),
         }
     }
 

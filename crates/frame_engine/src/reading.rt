@@ -8,12 +8,15 @@ ghost use Rattle.syslog_legacy.specs.FrameReadings.{Clock};
 ghost use Rattle.syslog_legacy.specs.NewForm.{HasNewForm};
 ghost use Rattle.frame_engine.specs.Readings.{IsReadNew, IsReadingOf, IsRecordOf, IsRefusedWith};
 ghost use Rattle.frame_engine.specs.Readings.{PutsReading};
+ghost use Rattle.frame_engine.specs.declared.line.Line.TheVariants.{LegacyNotUtf8};
 
 use crate::line::Line;
 use std::alloc::{AllocError, Global};
 use syslog_frame::FRAME_MAX;
-use syslog_grammar::{RecordView, put_canonical, view};
-use syslog_legacy::{LegacyClock, LegacyView, has_new_form, legacy_view, put_legacy_canonical};
+use syslog_grammar::{RecordView, fault_of, put_canonical_of, view};
+use syslog_legacy::{
+    LegacyClock, LegacyView, MessageNotUtf8, has_new_form, legacy_view, put_legacy_canonical,
+};
 use syslog_value::Record;
 
 /// What a frame is read as. It lends its parts from the frame.
@@ -39,6 +42,16 @@ fn legacy_clock(clock: Option<LegacyClock>, frame: &[u8]) -> Option<LegacyClock>
     Some(clock)
 }
 
+/// The line on a legacy packet whose message is not UTF-8.
+fn legacy_line(number: u64, fault: MessageNotUtf8) -> Line
+    ensures { result ≡ LegacyNotUtf8 number fault.offset }
+{
+    Line::LegacyNotUtf8 {
+        number,
+        offset: fault.offset,
+    }
+}
+
 /// Reads a frame, which has this number. With a clock, a frame without the front of RFC 5424 is a
 /// legacy packet. It takes no memory.
 ///
@@ -60,16 +73,33 @@ pub fn read_frame<'a>(
     if let Some(clock) = legacy_clock(clock, frame) {
         return match legacy_view(&clock, frame) {
             Ok(view) => Ok(Reading::Legacy(view)),
-            Err(fault) => Err(Line::LegacyNotUtf8 {
-                number,
-                offset: fault.offset,
-            }),
+            Err(fault) => Err(legacy_line(number, fault)),
         };
     }
     match view(frame) {
         Ok(view) => Ok(Reading::Record(view)),
         Err(fault) => Err(Line::Refused { number, fault }),
     }
+}
+
+/// Why a frame, which has this number, is no record, where it is none: the line that [`read_frame`]
+/// answers, without what is read.
+#[inline(always)]
+pub fn refusal(clock: Option<LegacyClock>, number: u64, frame: &[u8]) -> Option<Line>
+    ensures { MatchOption result ((r : Parts ℤ) × IsRecordOf clock r frame.now)
+        (λ line. IsRefusedWith clock number frame.now line) }
+{
+    if frame.len() > FRAME_MAX {
+        return Some(Line::TooLong { number });
+    }
+    if let Some(clock) = legacy_clock(clock, frame) {
+        return match legacy_view(&clock, frame) {
+            Ok(_view) => None,
+            Err(fault) => Some(legacy_line(number, fault)),
+        };
+    }
+    let fault = fault_of(frame)?;
+    Some(Line::Refused { number, fault })
 }
 
 impl<'a> Reading<'a> {
@@ -107,15 +137,13 @@ fn put_legacy(
             put_legacy_canonical(&view, out)?;
             Ok(None)
         }
-        Err(fault) => Ok(Some(Line::LegacyNotUtf8 {
-            number,
-            offset: fault.offset,
-        })),
+        Err(fault) => Ok(Some(legacy_line(number, fault))),
     }
 }
 
-/// Appends the canonical octets of the record that a frame is read as, as [`read_frame`] does.
-/// Where the frame is no record, nothing is appended, and the answer is the line that says why.
+/// Appends the canonical octets of the record that a frame is read as, as [`read_frame`] does: the
+/// frame as it lies, where it is canonical. Where the frame is no record, nothing is appended, and the
+/// answer is the line that says why.
 ///
 /// The allocator is used where element ids do not ascend.
 ///
@@ -138,11 +166,8 @@ pub fn put_reading(
     if let Some(clock) = legacy_clock(clock, frame) {
         return put_legacy(&clock, number, frame, out);
     }
-    match view(frame) {
-        Ok(view) => {
-            put_canonical(alloc, &view, out)?;
-            Ok(None)
-        }
-        Err(fault) => Ok(Some(Line::Refused { number, fault })),
+    match put_canonical_of(alloc, frame, out)? {
+        None => Ok(None),
+        Some(fault) => Ok(Some(Line::Refused { number, fault })),
     }
 }

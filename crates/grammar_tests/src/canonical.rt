@@ -3,8 +3,8 @@
 use std::alloc::Global;
 use std::test::Fail;
 use syslog_grammar::{
-    DecodeFault, Fault, canon, decode, is_canon, is_canon_unsorted, put_canonical, view,
-    view_and_form,
+    DecodeFault, Fault, canon, decode, fault_of, is_canon, is_canon_unsorted, put_canonical,
+    put_canonical_of, view, view_and_form,
 };
 
 /// The canonical octets by way of the record, which are those of the view, with what stood before;
@@ -23,6 +23,11 @@ fn canonical(alloc: Global, octets: &[u8]) -> Result<Vec<u8>, Fail> {
     if !is_canon(by_record.as_slice()) || !is_canon_unsorted(by_record.as_slice()) {
         return Err(Fail::from("canonical octets are not known as such"));
     }
+    let mut direct = b"old ".to_vec(alloc)?;
+    let fault = put_canonical_of(alloc, octets, &mut direct)?;
+    if fault.is_some() || fault_of(octets).is_some() || direct.as_slice() != expected.as_slice() {
+        return Err(Fail::from("the octets and the record differ"));
+    }
     let same = octets == by_record.as_slice();
     if is_canon(octets) != same {
         return Err(Fail::from("other octets are taken for canonical ones"));
@@ -32,7 +37,7 @@ fn canonical(alloc: Global, octets: &[u8]) -> Result<Vec<u8>, Fail> {
 
 /// Octets and their canonical form: an instant is written in UTC with six digits, elements are sorted
 /// by id, three octets are escaped, the empty message is left out and the BOM is kept.
-const FORMS: [(&[u8], &[u8]); 26] = [
+const FORMS: [(&[u8], &[u8]); 27] = [
     (
         b"<7>1 - - - - - [b-name-of-twenty-oct k-name-of-twenty-oct=\"twenty octets of text, \\n then \\\" and \xc3\xa9 \\] end\"][a]",
         b"<7>1 - - - - - [a][b-name-of-twenty-oct k-name-of-twenty-oct=\"twenty octets of text, \\\\n then \\\" and \xc3\xa9 \\] end\"]",
@@ -64,6 +69,10 @@ const FORMS: [(&[u8], &[u8]); 26] = [
     (
         b"<191>1 9999-12-31T23:59:59.999999Z - - - - -",
         b"<191>1 9999-12-31T23:59:59.999999Z - - - - -",
+    ),
+    (
+        b"<13>1 2024-02-29T23:30:00Z h a - - - text with 00Z x",
+        b"<13>1 2024-02-29T23:30:00.000000Z h a - - - text with 00Z x",
     ),
     (
         b"<0>1 - - - - - [b][a x=\"\\n\\\"\\]\\\\\"][B]",
@@ -176,6 +185,13 @@ fn octets_that_are_no_record_are_refused_with_their_fault(rt: HostRuntime) -> Re
     for (octets, fault) in FAULTS {
         let refused = decode(rt.alloc(), octets).err();
         assert_eq!(rt; refused, Some(DecodeFault::Bad(fault)));
+        let mut out = b"old ".to_vec(rt.alloc())?;
+        assert_eq!(rt;
+            put_canonical_of(rt.alloc(), octets, &mut out)?,
+            Some(fault)
+        );
+        assert_eq!(rt; out.as_slice(), b"old ".as_slice());
+        assert_eq!(rt; fault_of(octets), Some(fault));
     }
     Ok(())
 }

@@ -155,7 +155,7 @@ zone_some o b (inl (e, f)) = omega (arith, ap length f)
 zone_some o b (inr (m, inl (e, (x, y, f, g, h)))) = omega (arith, together x y b f, ap length g)
 zone_some o b (inr (m, inr (e, (x, y, f, g, h)))) = omega (arith, together x y b f, ap length g)
 
-time_some : (t : CivilTime) (b : List ℕ) → TimeText t b → 20 ≤ len b
+pub time_some : (t : CivilTime) (b : List ℕ) → TimeText t b → 20 ≤ len b
 time_some t b h = let f = fixed t b h in behind f.rest f.is f.behind
   where
     behind : (rest : List ℕ) → b ≡ padded 4 t.civil.year ++ (45 ∷ padded 2 t.civil.month) ++ (45 ∷ padded 2 t.civil.day)

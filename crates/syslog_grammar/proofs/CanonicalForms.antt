@@ -1,10 +1,10 @@
 -- The canonical form of a record, part by part.
-use Rattle.std.proofs.Common.{◌≡◌, ℕ, ◌-◌, ◌≤◌, List, [], ◌∷◌, ◌++◌, length, drop, refl, sym, ap, subst, ◌∙◌}
+use Rattle.std.proofs.Common.{◌≡◌, ℕ, ◌-◌, ◌≤◌, List, [], ◌∷◌, ◌++◌, length, take, drop, refl, sym, ap, subst, ◌∙◌}
 use Rattle.std.proofs.Common.{append_assoc, arith, Bool, true, false, not}
 use Rattle.std.specs.Prelude.{◌↔◌, IsTrue, ℤ, Option, Some, None, IfSome, MatchOption, option_map, decimal}
 use Rattle.std.specs.Option.{is_some}
 use Rattle.std.proofs.lemmas.List.{length-append, append_cancel_right}
-use Rattle.std.proofs.Math.Seq.{drop-append_seam}
+use Rattle.std.proofs.Math.Seq.{drop-append_seam, take-append_seam}
 use Rattle.octet_language.specs.Language.{Language, ◌⋅◌, AnyOf}
 use Rattle.octet_language.specs.Reading.{Follows}
 use Rattle.octet_language.proofs.Sequence.{IsPrefixFree-then}
@@ -34,7 +34,7 @@ use Rattle.syslog_grammar.proofs.CanonicalParses.{named, header_parsed, data_par
 use Rattle.syslog_grammar.proofs.CanonicalParses.{timed}
 use Rattle.syslog_grammar.proofs.DataForms.{DataAnswer}
 use Rattle.syslog_grammar.proofs.Excluded.{not_distinct, same_range}
-use Rattle.syslog_grammar.proofs.Fractions.{IsPrefixFree-nilable_time}
+use Rattle.syslog_grammar.proofs.Fractions.{AnyTime, IsPrefixFree-nilable_time}
 use Rattle.syslog_grammar.proofs.Headers.{IsPrefixFree-header}
 use Rattle.syslog_grammar.proofs.Laws.{header_same, same_parts}
 use Rattle.syslog_grammar.proofs.Numbers.{IsPrefixFree-priority, IsPrefixFree-version}
@@ -299,10 +299,48 @@ time_test : (b from : List ℕ) (s : Parsed) (k : IsParsed b s) (r : Bool)
     → from ≡ drop (length b - s.fields.time_remaining) b → TimeTest r s from → TimeTest r s k.time.0
 time_test b from s k r e test = subst (TimeTest r s) (stands_at b from s.fields.time_remaining k.time e) test
 
-pub time_begins : (b from : List ℕ) (s : Parsed) → IsParsed b s → from ≡ drop (length b - s.fields.time_remaining) b
-    → Begins (Spaced (Nilable TimeText (option_map time_of s.fields.time))) from
-time_begins b from s k e = subst (Begins (Spaced (Nilable TimeText (option_map time_of s.fields.time))))
-    (sym (stands_at b from s.fields.time_remaining k.time e)) (time_given b s k)
+-- PRI and VERSION of a record, the timestamp, and what follows it
+pub time_follows : (b from : List ℕ) (s : Parsed) → IsParsed b s → from ≡ drop (length b - s.fields.time_remaining) b
+    → Follows (Spaced (Nilable TimeText (option_map time_of s.fields.time))) from s.fields.behind_time.now
+time_follows b from s k e =
+    let (x, whole, (p, y, f, pri, (v, d, g, version, time))) = k.behind in
+    let behind = s.fields.behind_time.now in
+    let parted : b ≡ (p ++ v) ++ (d ++ behind) =
+    whole ∙ ap (λ (u : List ℕ). u ++ behind) (f ∙ ap (λ (u : List ℕ). p ++ u) g ∙ sym (append_assoc p v d))
+    ∙ append_assoc (p ++ v) d behind in
+    let both = by_prefix Prefix k.time.1.0 k.time.0 (p ++ v) (d ++ behind) IsPrefixFree-prefix k.time.1.2
+    (p, v, refl, ((header_parts s.fields).priority, pri), version) (sym k.time.1.1 ∙ parted) in
+    (d, stands_at b from s.fields.time_remaining k.time e ∙ both.1, time)
+
+-- what comes before the timestamp is canonical
+pub prefix_read : (b : List ℕ) (s : Parsed) → IsParsed b s
+    → take (length b - s.fields.time_remaining) b ≡ priority_version_form s.fields.priority
+prefix_read b s k =
+    let (x, whole, (p, y, f, pri, (v, d, g, version, time))) = k.behind in
+    let behind = s.fields.behind_time.now in
+    let parted : b ≡ (p ++ v) ++ (d ++ behind) =
+    whole ∙ ap (λ (u : List ℕ). u ++ behind) (f ∙ ap (λ (u : List ℕ). p ++ u) g ∙ sym (append_assoc p v d))
+    ∙ append_assoc (p ++ v) d behind in
+    let both = by_prefix Prefix k.time.1.0 k.time.0 (p ++ v) (d ++ behind) IsPrefixFree-prefix k.time.1.2
+    (p, v, refl, ((header_parts s.fields).priority, pri), version) (sym k.time.1.1 ∙ parted) in
+    let count : length b - s.fields.time_remaining ≡ length (p ++ v) =
+    omega (arith, ap length parted, length-append (p ++ v) (d ++ behind), ap length both.1, k.time.2) in
+    ap (λ (n : ℕ). take n b) count ∙ ap (take (length (p ++ v))) parted ∙ take-append_seam (p ++ v) (d ++ behind)
+    ∙ prefix_formed s.fields.priority p v pri version
+
+-- the time is in its form wherever it is followed, if it is where the rest of the record follows
+pub begins_test : (s : Parsed) (from : List ℕ) (r : Bool)
+    → Follows (Spaced (Nilable TimeText (option_map time_of s.fields.time))) from s.fields.behind_time.now
+    → IsTrue r ↔ Follows (TimeSpace (option_map (λ t. instant (time_of t)) s.fields.time)) from s.fields.behind_time.now
+    → TimeTest r s from
+begins_test s from r (x, e, h) test = (
+  λ u. (s.fields.behind_time.now, test.0 u),
+  λ (more, (z, g, form)).
+      let both = by_prefix AnyTime x s.fields.behind_time.now z more IsPrefixFree-nilable_time
+      (option_map time_of s.fields.time, h)
+      (any_time (option_map (λ t. instant (time_of t)) s.fields.time) z form) (sym e ∙ g) in
+      test.1 (z, g ∙ ap (λ (u : List ℕ). z ++ u) (sym both.1), form),
+)
 
 pub form_time : (order : ElementOrder) (b from : List ℕ) (s : Parsed) → IsParsed b s → (r : Bool)
     → from ≡ drop (length b - s.fields.time_remaining) b → TimeTest r s from → r ≡ false → ¬ (IsForm order b)

@@ -44,9 +44,11 @@ pub mod DataForms
 pub mod ReadForms
 pub mod ReadData
 pub mod TimeForms
+pub mod UtcTimes
 pub mod CanonicalForms
 pub mod FirstForms
 pub mod Rewritten
+pub mod CanonicalOctets
 pub mod Props
 pub mod ShownRecords
 pub mod ShownParts

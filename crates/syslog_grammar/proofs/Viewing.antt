@@ -10,6 +10,7 @@ use Rattle.octet_language.specs.Digits.{IsDigit}
 use Rattle.octet_language.specs.Language.{Only, ◌⋅◌, AnyOf}
 use Rattle.syslog_value.specs.Parts.{Parts, ElementParts, IsInstant}
 use Rattle.syslog_value.specs.Instants.{IsCivil, IsOffset}
+use Rattle.syslog_grammar.specs.CanonicalOctets.{shown_parts}
 use Rattle.syslog_grammar.specs.Dates.{time_of}
 use Rattle.syslog_grammar.specs.Faults.{IsInRange, PrefixEnds, FaultOf}
 use Rattle.syslog_grammar.specs.Fields.{header_parts, words_of, TimeStands}
@@ -18,7 +19,7 @@ use Rattle.syslog_grammar.specs.Grammar.{SyslogMsg, MessagePart}
 use Rattle.syslog_grammar.specs.Ids.{HoldsDistinct, HoldsRepeated}
 use Rattle.syslog_grammar.specs.Instants.{IsOutOfRange}
 use Rattle.syslog_grammar.specs.Parsing.{IsParsed}
-use Rattle.syslog_grammar.specs.ShownParts.{ViewParts, IsViewOf}
+use Rattle.syslog_grammar.specs.ShownParts.{IsViewOf}
 use Rattle.syslog_grammar.specs.Time.{CivilTime, TimeText, FractionText, ZoneText, instant}
 use Rattle.syslog_grammar.specs.Views.{message_parts}
 use Rattle.syslog_grammar.specs.declared.syntax.Parsed.{Parsed}
@@ -221,24 +222,6 @@ some_same z x e = cc
 pub valid_micros : (m : Option ℤ) → IfSome m IsInstant → ForSome m IsInstant
 valid_micros None h = λ x e. absurd cc
 valid_micros (Some z) h = λ x e. subst IsInstant (some_same z x e) h
-
--- what is shown of a spelling
-abbrev pub shown_parts : Parsed → Option ℤ → ViewParts
-shown_parts s m =
-    let h = header_parts s.fields in
-    record {
-      priority = h.priority;
-      instant = m;
-      hostname = h.hostname;
-      app_name = h.app_name;
-      proc_id =
-          h.proc_id;
-      msg_id = h.msg_id;
-      elements = s.«structured_data».now;
-      message =
-          message_parts s.message;
-      behind_time = s.fields.behind_time.now;
-    }
 
 pub view_of : (b : List ℕ) (s : Parsed) (m : Option ℤ) → IsParsed b s
     → m ≡ option_map (λ t. instant (time_of t)) s.fields.time → IfSome m IsInstant

@@ -1,22 +1,10 @@
 -- The instant of a timestamp.
-use Rattle.std.specs.Prelude.{◌≡◌, ℤ, Option, Some, None, Result, Ok, Err, IfSome, MatchOption, option_map}
+use Rattle.std.specs.Prelude.{◌≡◌, ℤ, Option, Some, None, Result, Ok, Err, IfSome, option_map}
 use Rattle.syslog_value.specs.Parts.{IsInstant}
-use Rattle.syslog_value.specs.Instants.{IsCivil, IsOffset, instant_of}
-use Rattle.syslog_value.specs.declared.civil.Civil.{Civil}
+use Rattle.syslog_value.specs.Instants.{IsCivil, IsOffset}
 use Rattle.syslog_grammar.specs.Dates.{time_of}
 use Rattle.syslog_grammar.specs.Time.{instant}
 use Rattle.syslog_grammar.specs.declared.timestamp.Timestamp.{Timestamp}
-
--- the microseconds of the instant that a civil time with an offset names; none only where there is no such time, or where
--- its instant is out of range
-abbrev pub NamesInstant : Civil → ℤ → Option ℤ → Type 0
-NamesInstant civil offset micros = MatchOption micros
-    (IsCivil civil → IsOffset offset → ¬ (IsInstant (instant_of civil offset)))
-    (λ m. (m ≡ instant_of civil offset) × IsInstant m)
-
--- a timestamp has the instant that it names
-abbrev pub HasInstant : Timestamp → Type 0
-HasInstant t = NamesInstant t.civil t.offset_minutes t.micros
 
 -- an existing time names no instant in range
 abbrev pub IsOutOfRange : Option Timestamp → Type 0

@@ -21,6 +21,7 @@ pub mod Verbatim
 pub mod PartsLeft
 pub mod Instants
 pub mod WellFormed
+pub mod CanonicalOctets
 pub mod ShownRecords
 pub mod Canonical
 pub mod Lent

@@ -1,5 +1,5 @@
 -- A whole record as it lies in the octets, and where octets are outside the grammar.
-use Rattle.std.specs.Prelude.{◌≡◌, ◌≢◌, ℕ, ◌-◌, ◌<◌, ◌≤◌, List, ◌∷◌, ◌++◌, length, take, ◌⊎◌, IfSome, IsTrue}
+use Rattle.std.specs.Prelude.{◌≡◌, ◌≢◌, ℕ, ◌-◌, ◌<◌, ◌≤◌, List, ◌∷◌, ◌++◌, length, take, ◌⊎◌, IsTrue}
 use Rattle.octet_language.specs.Language.{AnyOf, IfFirst}
 use Rattle.octet_language.specs.Reading.{Follows}
 use Rattle.syslog_grammar.specs.Faults.{FaultOf, times}
@@ -7,7 +7,6 @@ use Rattle.syslog_grammar.specs.Fields.{header_parts, before_words, words_of, Ti
 use Rattle.syslog_grammar.specs.Forms.{HasDataForms}
 use Rattle.syslog_grammar.specs.Grammar.{Header, StructuredDataText, MessagePart}
 use Rattle.syslog_grammar.specs.Ids.{IdsDiffer}
-use Rattle.syslog_grammar.specs.Instants.{HasInstant}
 use Rattle.syslog_grammar.specs.Views.{message_parts}
 use Rattle.syslog_grammar.specs.declared.syntax.Parsed.{Parsed}
 use Rattle.syslog_grammar.specs.declared.fault.Field.{Field}
@@ -53,7 +52,6 @@ pub record IsParsed (b : List ℕ) (s : Parsed) : Type 0 where
   pub end : List ℕ
   pub fields : Follows (Header (header_parts s.fields)) b rest
   pub time : TimeStands b s.fields.time_remaining
-  pub instant : IfSome s.fields.time HasInstant
   pub behind : Follows (before_words (header_parts s.fields)) b s.fields.behind_time.now
   pub words : Follows (words_of (header_parts s.fields)) s.fields.behind_time.now rest
   pub parts : rest ≡ s.structured_data.now ++ end

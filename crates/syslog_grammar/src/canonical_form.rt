@@ -21,10 +21,10 @@ ghost use Rattle.syslog_grammar.specs.ViewParts.{IsViewOf, view_parts};
 ghost use Rattle.syslog_grammar.specs.Views.{message_parts};
 ghost use Rattle.syslog_grammar.specs.WellFormed.{WellFormed};
 
-use crate::civil_text::civil_text;
+use crate::civil_text::TIME_LEN;
 use crate::fault::Fault;
 use crate::message::MessageView;
-use crate::reading::{both, next};
+use crate::reading::both;
 use crate::record_view::RecordView;
 use crate::repeated::first_repeated;
 use crate::syntax::{Parsed, parse};
@@ -39,29 +39,22 @@ pub enum ElementOrder {
     AsGiven,
 }
 
-/// Whether the timestamp that the octets begin with is in its canonical form.
-fn has_time_form(time: Option<Timestamp>, octets: &[u8]) -> bool
-    requires { (rest : List ℕ)
-        × Follows (Spaced (Nilable TimeText (option_map time_of time))) octets.now rest }
-    ensures { IsTrue result ↔ ((rest : List ℕ)
-        × Follows (TimeForm (option_map (λ t. instant (time_of t)) time) ⋅ Only (32 ∷ []))
-        octets.now rest) }
+/// Whether the timestamp that the octets begin with, before its space and what follows that, is in its
+/// canonical form: no other time of so many octets ends in `Z`.
+#[inline(always)]
+pub fn has_time_form(time: Option<Timestamp>, octets: &[u8], behind: &[u8]) -> bool
+    requires { Follows (Spaced (Nilable TimeText (option_map time_of time))) octets.now behind.now }
+    ensures { IsTrue result
+        ↔ Follows (TimeForm (option_map (λ t. instant (time_of t)) time) ⋅ Only (32 ∷ []))
+        octets.now behind.now }
 {
-    let Some(time) = time else {
+    let Some(_time) = time else {
         return true;
     };
-    if octets.len() < 28 {
+    if octets.len() - behind.len() != TIME_LEN + 1 {
         return false;
     }
-    let (prefix, behind) = octets.split_at(27);
-    let Some((space, _rest)) = next(behind) else {
-        return false;
-    };
-    if space != b' ' {
-        return false;
-    }
-    let text = civil_text(time.civil);
-    prefix == text.as_slice()
+    octets[TIME_LEN - 1] == b'Z'
 }
 
 /// Whether structured data is in its canonical form, with its elements in this order, by what its
@@ -98,7 +91,7 @@ fn has_form(octets: &[u8], parsed: Parsed<'_>, order: ElementOrder) -> bool
 {
     let fields = parsed.fields;
     let (_, time) = octets.split_at(octets.len() - fields.time_remaining);
-    if !has_time_form(fields.time, time) {
+    if !has_time_form(fields.time, time, fields.behind_time) {
         return false;
     }
     if !has_data_form(parsed.is_form, parsed.ascends, order) {

@@ -21,7 +21,7 @@ use std::alloc::{AllocError, Global};
 
 /// Whether a message, where there is one, has one tail alone: an empty one may have a space or
 /// none.
-fn has_one_message_form(message: &MessageView<'_>) -> bool
+pub fn has_one_message_form(message: &MessageView<'_>) -> bool
     ensures { IsTrue result → HasOneMessageForm (message_parts message.now) }
 {
     message.has_mark || !message.octets.is_empty()

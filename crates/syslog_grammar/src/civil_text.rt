@@ -3,9 +3,13 @@
 ghost use Rattle.std.specs.Prelude.{◌≡◌, ◌≤◌, Some};
 ghost use Rattle.syslog_value.specs.Instants.{IsCivil};
 ghost use Rattle.syslog_grammar.specs.Canonical.{TimeForm, civil_text};
+ghost use Rattle.syslog_grammar.specs.CanonicalOctets.{utc_fraction};
 ghost use Rattle.syslog_grammar.specs.Time.{padded};
 
 use syslog_value::{Civil, Instant};
+
+/// The octets of a canonical timestamp, as `2003-10-11T22:14:15.003000Z`.
+pub const TIME_LEN: usize = 27;
 
 /// Two digits.
 #[inline(always)]
@@ -38,8 +42,18 @@ fn six(number: u32) -> [u8; 6]
     [u1, u2, u3, u4, u5, u6]
 }
 
+/// A point, microseconds in six digits, and `Z`.
+#[inline(always)]
+pub fn utc_fraction(micros: u32) -> [u8; 8]
+    requires { micros ≤ 999_999 }
+    ensures { result ≡ utc_fraction micros }
+{
+    let [u1, u2, u3, u4, u5, u6] = six(micros);
+    [b'.', u1, u2, u3, u4, u5, u6, b'Z']
+}
+
 /// The date and the time with microseconds, in UTC.
-pub fn civil_text(civil: Civil) -> [u8; 27]
+pub fn civil_text(civil: Civil) -> [u8; TIME_LEN]
     requires { IsCivil civil }
     ensures { result ≡ civil_text civil }
 {
@@ -57,7 +71,7 @@ pub fn civil_text(civil: Civil) -> [u8; 27]
 }
 
 /// The canonical timestamp of an instant (RFC 5424, section 6.2.3): in UTC, with microseconds.
-pub fn canonical_timestamp(instant: Instant) -> [u8; 27]
+pub fn canonical_timestamp(instant: Instant) -> [u8; TIME_LEN]
     ensures { TimeForm (Some instant) result }
 {
     civil_text(instant.civil())

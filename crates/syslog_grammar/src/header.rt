@@ -1,10 +1,9 @@
 //! The header of a record (RFC 5424, 6.2).
 
-ghost use Rattle.std.specs.Prelude.{IfOk, IfSome};
+ghost use Rattle.std.specs.Prelude.{IfOk};
 ghost use Rattle.octet_language.specs.Reading.{Follows, Reads};
 ghost use Rattle.syslog_grammar.specs.Fields.{TimeStands, before_words, header_parts, words_of};
 ghost use Rattle.syslog_grammar.specs.Grammar.{Header as HeaderText};
-ghost use Rattle.syslog_grammar.specs.Instants.{HasInstant};
 ghost use Rattle.syslog_grammar.specs.Stops.{remaining_of};
 
 use crate::priority::{priority, version};
@@ -33,7 +32,6 @@ pub fn fields(octets: &[u8]) -> Result<(HeaderFields<'_>, &[u8]), Stop>
     ensures reads { Reads remaining_of HeaderText (λ x. (header_parts x.0, x.1.now))
         octets.now result }
     ensures time { IfOk result (λ x. TimeStands octets.now x.0.time_remaining) }
-    ensures instant { IfOk result (λ x. IfSome x.0.time HasInstant) }
     ensures behind { IfOk result (λ x.
         Follows (before_words (header_parts x.0)) octets.now x.0.behind_time.now) }
     ensures words { IfOk result (λ x.

@@ -10,7 +10,6 @@ ghost use Rattle.octet_language.specs.Reading.{Fails, Follows, Reads};
 ghost use Rattle.syslog_value.specs.Calendar.{is_leap, month_length};
 ghost use Rattle.syslog_grammar.specs.Dates.{Clock, Date, DateClock, FractionZone, HourMinute, YearMonth};
 ghost use Rattle.syslog_grammar.specs.Dates.{time_of};
-ghost use Rattle.syslog_grammar.specs.Instants.{HasInstant, NamesInstant};
 ghost use Rattle.syslog_grammar.specs.Spans.{StopsInRun};
 ghost use Rattle.syslog_grammar.specs.Grammar.{Nilable, Spaced};
 ghost use Rattle.syslog_grammar.specs.Stops.{remaining_of};
@@ -19,10 +18,10 @@ ghost use Rattle.syslog_grammar.specs.Time.{ZoneText};
 
 use crate::lanes::has_date_shape;
 use crate::reading::{Stop, expect, next};
-use syslog_value::{Civil, Instant};
+use syslog_value::Civil;
 
 /// The octets of a date and the time of a day, as `2003-10-11T22:14:15`.
-const STAMP_LEN: usize = 19;
+pub const STAMP_LEN: usize = 19;
 
 /// The octets of the time of a day, as `22:14:15`.
 const CLOCK_LEN: usize = 8;
@@ -30,13 +29,11 @@ const CLOCK_LEN: usize = 8;
 /// The most octets of a fraction and a zone, as `.003000-07:00`, and the octet after them.
 const ZONE_LEN: usize = 14;
 
-/// A civil time as it is spelled, how many minutes it is ahead of UTC, and the instant that it names.
+/// A civil time as it is spelled, and how many minutes it is ahead of UTC.
 #[derive(Clone, Copy, Debug, PartialEq, Eq)]
 pub struct Timestamp {
     pub civil: Civil,
     pub offset_minutes: i16,
-    /// Microseconds from 1970-01-01T00:00:00Z. None: the instant lies outside the years 0 to 9999.
-    pub micros: Option<i64>,
 }
 
 #[inline(always)]
@@ -414,41 +411,27 @@ fn fraction_and_zone(octets: &[u8]) -> Result<((u32, i16), &[u8]), Stop>
     read_fraction_and_zone(octets)
 }
 
-/// The microseconds of the instant that a civil time names, so many minutes ahead of UTC.
-#[inline(always)]
-fn micros_at(civil: Civil, offset_minutes: i16) -> Option<i64>
-    ensures { NamesInstant civil offset_minutes result }
-{
-    match Instant::from_civil(civil, offset_minutes) {
-        Ok(instant) => Some(instant.micros()),
-        Err(_) => None,
-    }
-}
-
-/// Reads a time. Its instant is found here, so that `view` need not keep the civil time.
+/// Reads a time.
 #[inline(always)]
 fn time(octets: &[u8]) -> Result<(Timestamp, &[u8]), Stop>
-    ensures reads { Reads remaining_of TimeText (λ x. (time_of x.0, x.1.now)) octets.now result }
-    ensures instant { IfOk result (λ x. HasInstant x.0) }
+    ensures { Reads remaining_of TimeText (λ x. (time_of x.0, x.1.now)) octets.now result }
 {
     let (((year, month, day), (hour, minute, second)), rest) = date_and_clock(octets)?;
     let ((micros, offset_minutes), rest) = fraction_and_zone(rest)?;
     // made anew from its length: the slice would be copied through memory
     let (_, rest) = octets.split_at(octets.len() - rest.len());
-    let civil = Civil {
-        year,
-        month,
-        day,
-        hour,
-        minute,
-        second,
-        micros,
-    };
     Ok((
         Timestamp {
-            civil,
+            civil: Civil {
+                year,
+                month,
+                day,
+                hour,
+                minute,
+                second,
+                micros,
+            },
             offset_minutes,
-            micros: micros_at(civil, offset_minutes),
         },
         rest,
     ))
@@ -457,9 +440,8 @@ fn time(octets: &[u8]) -> Result<(Timestamp, &[u8]), Stop>
 /// Reads a time, or NILVALUE, and the space that follows it.
 #[inline(always)]
 pub fn nilable_time(octets: &[u8]) -> Result<(Option<Timestamp>, &[u8]), Stop>
-    ensures reads { Reads remaining_of (λ t. Spaced (Nilable TimeText t))
+    ensures { Reads remaining_of (λ t. Spaced (Nilable TimeText t))
         (λ x. (option_map time_of x.0, x.1.now)) octets.now result }
-    ensures instant { IfOk result (λ x. IfSome x.0 HasInstant) }
 {
     let Some((first, behind)) = next(octets) else {
         return Err(Stop {
@@ -473,4 +455,16 @@ pub fn nilable_time(octets: &[u8]) -> Result<(Option<Timestamp>, &[u8]), Stop>
     let (time, rest) = time(octets)?;
     let rest = expect(b' ', rest)?;
     Ok((Some(time), rest))
+}
+
+/// Whether a time, if there is one, is of a year all of whose times name an instant in range, in any
+/// zone.
+#[inline(always)]
+pub fn has_inner_year(time: Option<Timestamp>) -> bool
+    ensures { IsTrue result → IfSome time (λ t. (1 ≤ t.civil.year) × (t.civil.year ≤ 9998)) }
+{
+    match time {
+        None => true,
+        Some(time) => time.civil.year >= 1 && time.civil.year <= 9998,
+    }
 }

@@ -1,11 +1,11 @@
 //! The reading of a record from all of its octets.
 
-ghost use Rattle.std.specs.Prelude.{IfSome, IsTrue, MatchOption, MatchResult, OnErr, OnOk};
+ghost use Rattle.std.specs.Prelude.{IsTrue, MatchOption, MatchResult, OnErr, OnOk};
 ghost use Rattle.octet_language.specs.Language.{AnyOf};
 ghost use Rattle.syslog_grammar.specs.Faults.{FaultOf};
 ghost use Rattle.syslog_grammar.specs.Grammar.{StructuredDataText};
 ghost use Rattle.syslog_grammar.specs.Ids.{HoldsDistinct, HoldsRepeated, IdsDiffer};
-ghost use Rattle.syslog_grammar.specs.Instants.{HasInstant, IsTimeInRange, IsTimeOf};
+ghost use Rattle.syslog_grammar.specs.Instants.{IsTimeInRange, IsTimeOf};
 ghost use Rattle.syslog_grammar.specs.Parsing.{IsParsed};
 ghost use Rattle.syslog_grammar.specs.ViewParts.{IsViewOf, view_parts};
 ghost use Rattle.syslog_grammar.specs.WellFormed.{WellFormed};
@@ -14,22 +14,23 @@ use crate::fault::Fault;
 use crate::record_view::RecordView;
 use crate::repeated::first_repeated;
 use crate::syntax::{Parsed, parse};
-use crate::timestamp::Timestamp;
+use crate::timestamp::{Timestamp, has_inner_year};
+use syslog_value::Instant;
 
 /// The instant lies outside the years from 0 to 9999.
 pub struct OutOfRange;
 
 /// The instant that a time names, if there is one.
+#[inline(always)]
 pub fn micros_of(time: Option<Timestamp>) -> Result<Option<i64>, OutOfRange>
-    requires { IfSome time HasInstant }
     ensures { IsTimeOf time result }
 {
     let Some(time) = time else {
         return Ok(None);
     };
-    match time.micros {
-        Some(micros) => Ok(Some(micros)),
-        None => Err(OutOfRange),
+    match Instant::from_civil(time.civil, time.offset_minutes) {
+        Ok(instant) => Ok(Some(instant.micros())),
+        Err(_) => Err(OutOfRange),
     }
 }
 
@@ -98,4 +99,21 @@ pub fn view(octets: &[u8]) -> Result<RecordView<'_>, Fault>
 {
     let spelling = parse(octets)?;
     view_of(octets, spelling)
+}
+
+/// Why the octets are no record, where they are none: the fault that [`view`] answers, and faster.
+pub fn fault_of(octets: &[u8]) -> Option<Fault>
+    ensures { MatchOption result (AnyOf WellFormed octets.now) (FaultOf octets.now) }
+{
+    let parsed = match parse(octets) {
+        Ok(parsed) => parsed,
+        Err(fault) => return Some(fault),
+    };
+    if parsed.differ && has_inner_year(parsed.fields.time) {
+        return None;
+    }
+    match view_of(octets, parsed) {
+        Ok(_view) => None,
+        Err(fault) => Some(fault),
+    }
 }

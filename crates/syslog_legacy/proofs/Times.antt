@@ -1,24 +1,13 @@
 -- A legacy timestamp, part by part, and its instant, which is in range.
 use Rattle.std.proofs.Common.{◌≡◌, ◌≢◌, ℕ, ◌+◌, ◌/◌, ◌%◌, ◌≤◌, List, [], ◌∷◌, ◌++◌, refl, sym, ap, subst, ◌∙◌, arith}
-use Rattle.std.proofs.Common.{inl, inr}
-use Rattle.std.specs.Prelude.{ℤ, pos, neg_ℤ, ◌≤ℤ◌, ◌+ℤ◌, ◌-ℤ◌, ◌*ℤ◌}
-use Rattle.jiff_core.specs.declared.civil.date.Date.{Date}
-use Rattle.jiff_core.specs.Calendar.{days_from_civil}
-use Rattle.jiff_core.proofs.CalendarLemmas.{days_from_civil-day_count}
-use Rattle.jiff_core.proofs.DateLemmas.{epoch_day-lt}
-use Rattle.jiff_core.proofs.MarchLemmas.{day_count-early, day_count-late}
-use Rattle.jiff_core.proofs.SignedLemmas.{signed_arith}
+use Rattle.std.proofs.Common.{inl, inr, ℤ}
 use Rattle.octet_language.specs.Language.{Language, Only, ◌⋅◌, AnyOf, IfFirst, IsPrefixFree, NoPrefix}
 use Rattle.octet_language.specs.Reading.{Follows}
 use Rattle.octet_language.proofs.Chain.{Follows-then, IsPrefixFree-only, IsPrefixFree-same}
 use Rattle.octet_language.proofs.Sequence.{IsPrefixFree-then, NoPrefix-first, NoPrefix-later}
 use Rattle.syslog_value.specs.declared.civil.Civil.{Civil}
-use Rattle.syslog_value.specs.declared.instant.TimeFault.{TimeFault}
-use Rattle.syslog_value.specs.declared.instant.TimeFault.TheVariants.{NoSuchDate, NoSuchTime, BadOffset, OutOfRange}
-use Rattle.syslog_value.specs.Calendar.{IsDay, day_number, month_length}
-use Rattle.syslog_value.specs.Instants.{IsCivil, IsFault, IsOffset, instant_of, second_of_day}
-use Rattle.syslog_value.specs.Parts.{IsInstant}
-use Rattle.syslog_value.proofs.DayNumbers.{day_number-same, month_length-same}
+use Rattle.syslog_value.specs.Calendar.{month_length}
+use Rattle.syslog_value.specs.Instants.{IsCivil, instant_of}
 use Rattle.syslog_grammar.specs.Dates.{Clock}
 use Rattle.syslog_grammar.specs.Time.{ClockText, padded}
 use Rattle.syslog_grammar.proofs.OneMeaning.{by_prefix}
@@ -104,62 +93,6 @@ civil_valid c date time y h k none =
       (omega (arith, y.1), o.is_month.0, o.is_month.1, day.0, day.1),
       (within.0, within.1, within.2, omega (arith, none)),
     )
-
-date_made : (y m d : ℕ) → IsDay y m d → Date
-date_made y m d h = record {
-  year = pos y;
-  month = m;
-  day = d;
-  year_in = (omega (arith, signed_arith), omega (arith, signed_arith));
-  month_in = (h.1, h.2);
-  day_in = (h.3, rw month_length-same h.4);
-}
-
-last_of_year_0 : days_from_civil (pos 0) 12 31 ≡ neg_ℤ (pos 719_163)
-last_of_year_0 = omega (
-  arith,
-  signed_arith,
-  days_from_civil-day_count (pos 0) 12 31,
-  day_count-late (pos 0) 10000 12 31 refl (omega arith) (omega arith) (omega arith),
-)
-
-first_of_year_9999 : days_from_civil (pos 9999) 1 1 ≡ pos 2_932_532
-first_of_year_9999 = omega (
-  arith,
-  signed_arith,
-  days_from_civil-day_count (pos 9999) 1 1,
-  day_count-early (pos 9999) 19998 1 1 refl (omega arith) (omega arith) (omega arith),
-)
-
-abbrev Within : ℤ → Type 0
-Within day = (neg_ℤ (pos 719_162) ≤ℤ day) × (day ≤ℤ pos 2_932_531)
-
-day_in_range : (y m d : ℕ) → IsYear y → IsDay y m d → Within (day_number y m d)
-unfolding date_made
-day_in_range y m d year h =
-    let low = epoch_day-lt (date_made 0 12 31 (omega arith, omega arith, omega arith, omega arith, omega arith))
-    (date_made y m d h) (inl (omega (arith, signed_arith, year.0))) in
-    let high = epoch_day-lt (date_made y m d h)
-    (date_made 9999 1 1 (omega arith, omega arith, omega arith, omega arith, omega arith))
-    (inl (omega (arith, signed_arith, year.1))) in
-    let is = day_number-same y m d h.3 in
-    (omega (arith, signed_arith, low, last_of_year_0, is), omega (arith, signed_arith, high, first_of_year_9999, is))
-
-joined : (day o : ℤ) (s u : ℕ) → Within day → IsOffset o → s ≤ 86_399 → u ≤ 999_999
-    → IsInstant ((day *ℤ pos 86_400 +ℤ pos s -ℤ o *ℤ pos 60) *ℤ pos 1_000_000 +ℤ pos u)
-joined day o s u (dl, dh) (ol, oh) sh uh = (omega (arith, signed_arith), omega (arith, signed_arith))
-
--- a civil time of a clock's year names an instant in range
-pub in_range : (c : Civil) (o : ℤ) → IsYear c.year → IsCivil c → IsOffset o → IsInstant (instant_of c o)
-in_range c o year h offset =
-    joined (day_number c.year c.month c.day) o (second_of_day c) c.micros (day_in_range c.year c.month c.day year h.0)
-    offset (omega (arith, h.1.0, h.1.1, h.1.2)) h.1.3
-
-pub no_fault : (c : Civil) (o : ℤ) (fault : TimeFault) → IsYear c.year → IsCivil c → IsOffset o → IsFault c o fault → ⊥
-no_fault c o NoSuchDate year h offset f = f h.0
-no_fault c o NoSuchTime year h offset f = f.1 h.1
-no_fault c o BadOffset year h offset f = f.1 offset
-no_fault c o OutOfRange year h offset f = f.2 (in_range c o year h offset)
 
 -- ---- one timestamp
 

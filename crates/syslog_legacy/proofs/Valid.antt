@@ -17,7 +17,8 @@ use Rattle.syslog_legacy.specs.Readings.{IsRead, legacy_parts}
 use Rattle.syslog_legacy.specs.Splits.{FrontParts, Splits}
 use Rattle.syslog_legacy.specs.Tags.{IsProcOctet, IsTagOctet, ProcText}
 use Rattle.syslog_legacy.specs.Timestamps.{TimestampText}
-use Rattle.syslog_legacy.proofs.Times.{civil_valid, in_range}
+use Rattle.syslog_value.proofs.InnerYears.{in_range}
+use Rattle.syslog_legacy.proofs.Times.{civil_valid}
 
 -- ---- words
 

@@ -1,6 +1,7 @@
 pub mod CivilTimes
 pub mod DayNumbers
 pub mod Ids
+pub mod InnerYears
 pub mod Kept
 pub mod Known
 pub mod Masks

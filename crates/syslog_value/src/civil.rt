@@ -25,6 +25,7 @@ impl Civil {
     ghost use Rattle.syslog_value.specs.Instants.{HasDate, HasTime, second_of_day};
 
     /// The days from 1970-01-01 to the date, where the calendar has it.
+    #[inline(always)]
     pub(crate) fn day_number(&self) -> Option<i64>
         ensures exists { IsSome result ↔ HasDate self.now }
         ensures value { IfSome result (λ n.
@@ -41,6 +42,7 @@ impl Civil {
     }
 
     /// The second of the day, where the day has that time.
+    #[inline(always)]
     pub(crate) fn second_of_day(&self) -> Option<u32>
         ensures exists { IsSome result ↔ HasTime self.now }
         ensures value { IfSome result (λ s. s ≡ second_of_day self.now) }

@@ -46,6 +46,7 @@ impl Model for Instant {
 }
 
 // the instant of a day, a second of it, an offset and microseconds
+#[inline(always)]
 fn joined(day: i64, second: i64, offset_minutes: i64, micros: i64) -> i64
     requires day_in { IsBetween (neg_ℤ (pos 4_371_587)) (pos 2_932_896) day }
     requires second_in { IsBetween (pos 0) (pos 86_399) second }
@@ -99,6 +100,7 @@ impl Instant {
     }
 
     /// The instant that a civil time names, so many minutes ahead of UTC.
+    #[inline(always)]
     pub fn from_civil(civil: Civil, offset_minutes: i16) -> Result<Instant, TimeFault>
         ensures ok { IfOk result (λ i. IsCivil civil × IsOffset offset_minutes
             × (i ≡ instant_of civil offset_minutes)) }

@@ -3,7 +3,9 @@
 
 use std::alloc::{AllocError, Global};
 use std::io;
-use syslog_grammar::{DecodeFault, RecordView, canon, decode, put_canonical, view};
+use syslog_grammar::{
+    DecodeFault, RecordView, canon, decode, put_canonical, put_canonical_of, view,
+};
 use syslog_value::Record;
 
 /// Two elements, the greater id first, values with escapes, and a message that is a text.
@@ -50,6 +52,23 @@ fn put(rt: &impl Print, alloc: Global, seen: &RecordView<'_>) -> io::Result<()> 
     }
 }
 
+/// `put_canonical_of` after octets that were there before.
+fn put_of(rt: &impl Print, alloc: Global) -> io::Result<()> {
+    let Ok(mut out) = BEFORE.to_vec(alloc) else {
+        return println!(rt; "put_canonical_of: memory for the octets before");
+    };
+    let outcome = put_canonical_of(alloc, OCTETS, &mut out);
+    let octets = out.len();
+    match outcome {
+        Ok(None) => println!(rt; "put_canonical_of: ok, {octets} octets"),
+        Ok(Some(_)) => println!(rt; "put_canonical_of: refused"),
+        Err(AllocError) if out.as_slice() == BEFORE => {
+            println!(rt; "put_canonical_of: memory, unchanged at {octets} octets")
+        }
+        Err(AllocError) => println!(rt; "put_canonical_of: memory, changed to {octets} octets"),
+    }
+}
+
 /// Every call of `syslog_grammar` that allocates.
 pub fn grammar(rt: &impl Print, alloc: Global) -> io::Result<()> {
     match decode(alloc, OCTETS) {
@@ -70,5 +89,6 @@ pub fn grammar(rt: &impl Print, alloc: Global) -> io::Result<()> {
         }
         Err(AllocError) => println!(rt; "to_record: memory")?,
     }
-    put(rt, alloc, &seen)
+    put(rt, alloc, &seen)?;
+    put_of(rt, alloc)
 }

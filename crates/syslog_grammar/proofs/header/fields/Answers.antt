@@ -20,13 +20,13 @@ pub returns-in_err-time-clause-reads : goal.returns-in_err-time-clause-reads
 returns-in_err-time-clause-reads c =
     let p = err_from_is_err_and c.from_residual-in_err-time.result c.from_residual-in_err-time.ensures.1 in
     rw (p.1, p.2) (bad_time _ c.in_ok-priority.rest.now c.in_ok-rest.rest.now c.in_ok-priority.priority _
-    c.in_ok-priority.ensures c.in_ok-rest.ensures c.in_err-time.ensures.reads)
+    c.in_ok-priority.ensures c.in_ok-rest.ensures c.in_err-time.ensures)
 
 pub returns-in_err-hostname-clause-reads : goal.returns-in_err-hostname-clause-reads
 returns-in_err-hostname-clause-reads c =
     let p = err_from_is_err_and c.from_residual-in_err-hostname.result c.from_residual-in_err-hostname.ensures.1 in
     rw (p.1, p.2) (bad_hostname _ c.in_ok-priority.rest.now c.in_ok-rest.rest.now c.in_ok-time.rest.now
-    c.in_ok-priority.priority _ _ c.in_ok-priority.ensures c.in_ok-rest.ensures c.in_ok-time.ensures.reads
+    c.in_ok-priority.priority _ _ c.in_ok-priority.ensures c.in_ok-rest.ensures c.in_ok-time.ensures
     c.in_err-hostname.ensures)
 
 pub returns-in_err-app_name-clause-reads : goal.returns-in_err-app_name-clause-reads
@@ -34,14 +34,14 @@ returns-in_err-app_name-clause-reads c =
     let p = err_from_is_err_and c.from_residual-in_err-app_name.result c.from_residual-in_err-app_name.ensures.1 in
     rw (p.1, p.2) (bad_app_name _ c.in_ok-priority.rest.now c.in_ok-rest.rest.now c.in_ok-time.rest.now
     c.in_ok-hostname.rest.now c.in_ok-priority.priority _ _ _ c.in_ok-priority.ensures c.in_ok-rest.ensures
-    c.in_ok-time.ensures.reads c.in_ok-hostname.ensures c.in_err-app_name.ensures)
+    c.in_ok-time.ensures c.in_ok-hostname.ensures c.in_err-app_name.ensures)
 
 pub returns-in_err-proc_id-clause-reads : goal.returns-in_err-proc_id-clause-reads
 returns-in_err-proc_id-clause-reads c =
     let p = err_from_is_err_and c.from_residual-in_err-proc_id.result c.from_residual-in_err-proc_id.ensures.1 in
     rw (p.1, p.2) (bad_proc_id _ c.in_ok-priority.rest.now c.in_ok-rest.rest.now c.in_ok-time.rest.now
     c.in_ok-hostname.rest.now c.in_ok-app_name.rest.now c.in_ok-priority.priority _ _ _ _ c.in_ok-priority.ensures
-    c.in_ok-rest.ensures c.in_ok-time.ensures.reads c.in_ok-hostname.ensures c.in_ok-app_name.ensures
+    c.in_ok-rest.ensures c.in_ok-time.ensures c.in_ok-hostname.ensures c.in_ok-app_name.ensures
     c.in_err-proc_id.ensures)
 
 pub returns-in_err-msg_id-clause-reads : goal.returns-in_err-msg_id-clause-reads
@@ -49,7 +49,7 @@ returns-in_err-msg_id-clause-reads c =
     let p = err_from_is_err_and c.from_residual-in_err-msg_id.result c.from_residual-in_err-msg_id.ensures.1 in
     rw (p.1, p.2) (bad_msg_id _ c.in_ok-priority.rest.now c.in_ok-rest.rest.now c.in_ok-time.rest.now
     c.in_ok-hostname.rest.now c.in_ok-app_name.rest.now c.in_ok-proc_id.rest.now c.in_ok-priority.priority _ _ _ _ _
-    c.in_ok-priority.ensures c.in_ok-rest.ensures c.in_ok-time.ensures.reads c.in_ok-hostname.ensures
+    c.in_ok-priority.ensures c.in_ok-rest.ensures c.in_ok-time.ensures c.in_ok-hostname.ensures
     c.in_ok-app_name.ensures c.in_ok-proc_id.ensures c.in_err-msg_id.ensures)
 
 pub returns-clause-reads : goal.returns-clause-reads
@@ -68,7 +68,7 @@ returns-clause-reads c =
       time_remaining = 0;
       behind_time = c.in_ok-time.rest;
     })
-    c.in_ok-priority.ensures c.in_ok-rest.ensures c.in_ok-time.ensures.reads c.in_ok-hostname.ensures c.in_ok-app_name.ensures
+    c.in_ok-priority.ensures c.in_ok-rest.ensures c.in_ok-time.ensures c.in_ok-hostname.ensures c.in_ok-app_name.ensures
     c.in_ok-proc_id.ensures c.in_ok-msg_id.ensures
 
 pub returns-clause-time : goal.returns-clause-time
@@ -112,4 +112,4 @@ returns-clause-behind c =
       time_remaining = 0;
       behind_time = c.in_ok-time.rest;
     })
-    c.in_ok-priority.ensures c.in_ok-rest.ensures c.in_ok-time.ensures.reads
+    c.in_ok-priority.ensures c.in_ok-rest.ensures c.in_ok-time.ensures

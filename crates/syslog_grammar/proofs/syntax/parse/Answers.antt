@@ -19,7 +19,6 @@ returns-in-Ok-message_part c = record {
   end = c.in-Ok-structured_data.read.1.now;
   fields = c.in-Ok.ensures.reads;
   time = c.in-Ok.ensures.time;
-  instant = c.in-Ok.ensures.instant;
   behind = c.in-Ok.ensures.behind;
   words = c.in-Ok.ensures.words;
   parts = c.in-Ok-structured_data.ensures.reads.0;

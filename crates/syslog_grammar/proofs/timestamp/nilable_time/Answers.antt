@@ -5,32 +5,32 @@ use Rattle.syslog_grammar.proofs.Fractions.{AnyTime, nil_time, nilable_some, bad
 use Rattle.syslog_grammar.proofs.Fractions.{some_read}
 use Rattle.syslog_grammar.proofs.timestamp.nilable_time.Goals as goal
 
-pub returns-in_default-clause-reads : goal.returns-in_default-clause-reads
-returns-in_default-clause-reads c = Fails-empty AnyTime c.args.octets.now _ nil_time nilable_some c.in_default.ensures
+pub returns-in_default : goal.returns-in_default
+returns-in_default c = Fails-empty AnyTime c.args.octets.now _ nil_time nilable_some c.in_default.ensures
 
-pub returns-in_err-rest-clause-reads : goal.returns-in_err-rest-clause-reads
-returns-in_err-rest-clause-reads c =
+pub returns-in_err-rest : goal.returns-in_err-rest
+returns-in_err-rest c =
     let p = err_from_is_err_and c.from_residual.result c.from_residual.ensures.1 in
     rw (p.1, p.2) (bad_nil c.args.octets.now c.in-Some.behind.now c.in-Some.first _ c.in-Some.ensures
     c.if-first-eq45.true c.in_err-rest.ensures)
 
-pub returns-then-first-eq45-clause-reads : goal.returns-then-first-eq45-clause-reads
-returns-then-first-eq45-clause-reads c = nil_read c.args.octets.now c.in-Some.behind.now c.in_ok-rest.rest.now c.in-Some.first
+pub returns-then-first-eq45 : goal.returns-then-first-eq45
+returns-then-first-eq45 c = nil_read c.args.octets.now c.in-Some.behind.now c.in_ok-rest.rest.now c.in-Some.first
     c.in-Some.ensures c.if-first-eq45.true c.in_ok-rest.ensures
 
-pub returns-in_err-time-clause-reads : goal.returns-in_err-time-clause-reads
-returns-in_err-time-clause-reads c =
+pub returns-in_err-time : goal.returns-in_err-time
+returns-in_err-time c =
     let p = err_from_is_err_and c.from_residual-in_err-time.result c.from_residual-in_err-time.ensures.1 in
     rw (p.1, p.2) (bad_time c.args.octets.now c.in-Some.behind.now c.in-Some.first _ c.in-Some.ensures
-    c.if-first-eq45.false c.in_err-time.ensures.reads)
+    c.if-first-eq45.false c.in_err-time.ensures)
 
-pub returns-in_err-rest-2-clause-reads : goal.returns-in_err-rest-2-clause-reads
-returns-in_err-rest-2-clause-reads c =
+pub returns-in_err-rest-2 : goal.returns-in_err-rest-2
+returns-in_err-rest-2 c =
     let p = err_from_is_err_and c.from_residual-in_err-rest-2.result c.from_residual-in_err-rest-2.ensures.1 in
     rw (p.1, p.2) (bad_space c.args.octets.now c.in-Some.behind.now c.in_ok-time.rest.now c.in-Some.first _
-    (time_of c.in_ok-time.time) c.in-Some.ensures c.if-first-eq45.false c.in_ok-time.ensures.reads
+    (time_of c.in_ok-time.time) c.in-Some.ensures c.if-first-eq45.false c.in_ok-time.ensures
     c.in_err-rest-2.ensures)
 
-pub returns-clause-reads : goal.returns-clause-reads
-returns-clause-reads c = some_read c.args.octets.now c.in_ok-time.rest.now c.in_ok-rest-2.rest.now (time_of c.in_ok-time.time)
-    c.in_ok-time.ensures.reads c.in_ok-rest-2.ensures
+pub returns : goal.returns
+returns c = some_read c.args.octets.now c.in_ok-time.rest.now c.in_ok-rest-2.rest.now (time_of c.in_ok-time.time)
+    c.in_ok-time.ensures c.in_ok-rest-2.ensures

@@ -6,20 +6,20 @@ use Rattle.syslog_grammar.proofs.Fractions.{bad_fraction, time_read}
 use Rattle.syslog_grammar.proofs.Sorting.{left_at}
 use Rattle.syslog_grammar.proofs.timestamp.time.Goals as goal
 
-pub returns-in_err-year-clause-reads : goal.returns-in_err-year-clause-reads
-returns-in_err-year-clause-reads c =
+pub returns-in_err-year : goal.returns-in_err-year
+returns-in_err-year c =
     let p = err_from_is_err_and c.from_residual.result c.from_residual.ensures.1 in
     rw (p.1, p.2) c.in_err-year.ensures
 
-pub returns-in_err-micros-clause-reads : goal.returns-in_err-micros-clause-reads
-returns-in_err-micros-clause-reads c =
+pub returns-in_err-micros : goal.returns-in_err-micros
+returns-in_err-micros c =
     let p = err_from_is_err_and c.from_residual-in_err-micros.result c.from_residual-in_err-micros.ensures.1 in
     let d = c.in_ok-year.ensures in
     rw (p.1, p.2) (bad_fraction _ d.0 d.1 c.in_ok-year.rest.now (c.in_ok-year.year, c.in_ok-year.month, c.in_ok-year.day)
     (c.in_ok-year.hour, c.in_ok-year.minute, c.in_ok-year.second) _ d.2 d.3 d.4 c.in_err-micros.ensures)
 
-pub returns-clause-reads : goal.returns-clause-reads
-returns-clause-reads c =
+pub returns : goal.returns
+returns c =
     let f : SFits w16 c.in_ok-micros.offset_minutes = search rules in
     let d = c.in_ok-year.ensures in
     let read = time_read c.args.octets.now d.0 d.1 c.in_ok-year.rest.now c.in_ok-micros.rest.now

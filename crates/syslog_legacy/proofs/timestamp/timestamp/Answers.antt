@@ -2,7 +2,8 @@ use Rattle.std.proofs.Common.{◌∙◌, sym, subst, rules, w16}
 use Rattle.std.proofs.lemmas.Int.{to_z-of_z}
 use mir.Val.{SFits}
 use Rattle.syslog_value.specs.Instants.{IsOffset}
-use Rattle.syslog_legacy.proofs.Times.{civil_exists, civil_of, no_clock, no_date, no_fault, no_space, not_space}
+use Rattle.syslog_value.proofs.InnerYears.{no_fault}
+use Rattle.syslog_legacy.proofs.Times.{civil_exists, civil_of, no_clock, no_date, no_space, not_space}
 use Rattle.syslog_legacy.proofs.Times.{time_read}
 use Rattle.syslog_legacy.proofs.timestamp.timestamp.Goals as goal
 
