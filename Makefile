@@ -27,7 +27,7 @@ check:
 edits:
 	python3 tests/edits.py $(CRATES)
 
-# Measures check and convert beside cat and wc.
+# Measures check and convert beside cat and wc, archive and merge beside sort.
 bench: all
 	bench/run
 

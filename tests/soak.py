@@ -369,9 +369,10 @@ def entries(maker):
     read = [reference.canonical(reference.read(record)) for record in plain(maker)]
     yield "plain", reference.archive_text(read * 2)
     size = reference.ENTRY_MAX
+    count = (size - len(FRONT)) // 5 - 1
     for order in ORDERS:
-        entry = FRONT + ids((size - len(FRONT)) // 5 - 1, order, maker.random)
-        yield f"an entry of {entry.count(b'[')} ids, {order}", b"%d %b" % (len(entry), entry)
+        entry = FRONT + ids(count, order, maker.random)
+        yield f"an entry of {count} ids, {order}", b"%d %b" % (len(entry), entry)
     entry = filled(FRONT + b'[a k="', [b"\\]"], b'"]', size)
     yield "an entry of escapes", b"%d %b" % (len(entry), entry)
 

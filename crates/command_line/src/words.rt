@@ -376,9 +376,13 @@ fn takes(name: &str) -> &'static str {
              udp and 1 to 100000 for others; --legacy is a year from 1 to 9998; --zone is E or W, \
              then hours and minutes in two digits each, as E0130\n"
         }
-        _ => {
+        "convert" => {
             "error: --framing is datagram, counted or lf; --to is counted or lf; --legacy is a year \
              from 1 to 9998; --zone is E or W, then hours and minutes in two digits each, as E0130\n"
+        }
+        _ => {
+            "error: --framing is datagram, counted or lf; --legacy is a year from 1 to 9998; --zone \
+             is E or W, then hours and minutes in two digits each, as E0130\n"
         }
     }
 }

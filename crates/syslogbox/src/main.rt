@@ -38,7 +38,7 @@ fn main(rt: HostRuntime) -> ExitCode {
             return ExitCode::from(note(&mut notes, b"want of memory\n", NO_MEMORY));
         }
         Err(_) => {
-            let line = b"error: a word is not UTF-8\n";
+            let line = b"error: an argument is not UTF-8\n";
             return ExitCode::from(note(&mut notes, line, FAULT));
         }
     };
