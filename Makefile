@@ -1,17 +1,19 @@
-# Builds, checks and installs syslogbox. The toolchain's command `rt` has to be on the path.
+# Builds, checks, packs and installs syslogbox. `make` needs gcc alone; what proves needs the toolchain, its command `rt`.
 
 PREFIX = /usr/local
 DESTDIR =
-PROGRAM = crates/syslogbox
 
-.PHONY: all trials check edits bench soak install clean
+.PHONY: all proved trials check release dist mutants bench soak install clean
 
-# Proves the program and the crates below it, and builds build/syslogbox.
+# Links build/syslogbox from the object in release/, and says of which sources that is.
 all:
-	@mkdir -p build
-	cd $(PROGRAM) && rt run -- convert < stdin > ../../build/first-run
-	@cmp -s build/first-run $(PROGRAM)/stdout
-	@cmp -s $(PROGRAM)/out/syslogbox build/syslogbox || cp $(PROGRAM)/out/syslogbox build/syslogbox
+	@sh scripts/link.sh
+
+# Proves the program and the crates below it side by side, builds it, and compares its object with a release of its sources.
+proved:
+	python3 scripts/prove.py syslogbox
+	sh scripts/keep.sh
+	sh scripts/compare.sh || [ $$? -eq 2 ]
 
 # Proves and builds the trials of the libraries, which tests/ and bench/ run.
 trials:
@@ -19,13 +21,22 @@ trials:
 	cd crates/trials && rt run > ../../build/first-trial
 	@cmp -s crates/trials/out/trials build/trials || cp crates/trials/out/trials build/trials
 
-# Proves every crate from nothing, runs every test, and runs the real program.
+# Proves every crate from nothing, runs every test and the real program, and compares release/ with what was built.
 check:
 	bash .ci/run
 
-# Tries the wrong bodies in edits/, which the prover must refuse; CRATES names the crates, all by default.
-edits:
-	python3 tests/edits.py $(CRATES)
+# Writes release/ from what `make check` or `make proved` has built of these sources.
+release:
+	sh scripts/release.sh
+
+# Makes the packages in build/dist from release/: a tarball with a static program, and a Debian package.
+dist:
+	sh scripts/dist.sh
+
+# Tries the wrong bodies in mutants/, which the prover must refuse; CRATES names the crates, all by default, and JOBS says how
+# many are tried side by side.
+mutants:
+	python3 tests/run.py mutants --jobs $(or $(JOBS),1) $(CRATES)
 
 # Measures check and convert beside cat and wc, archive and merge beside sort.
 bench: all
@@ -33,11 +44,12 @@ bench: all
 
 # Runs the program on ten million hostile cases beside a second reader; SOAK=--seconds N is shorter.
 soak: all
-	python3 tests/soak.py build/syslogbox $(SOAK)
+	python3 tests/run.py soak build/syslogbox $(SOAK)
 
+# Puts the program, its manual and its completions below DESTDIR and PREFIX.
 install: all
-	install -D -m 755 build/syslogbox $(DESTDIR)$(PREFIX)/bin/syslogbox
-	install -D -m 644 man/syslogbox.1 $(DESTDIR)$(PREFIX)/share/man/man1/syslogbox.1
+	sh scripts/install.sh build/syslogbox $(DESTDIR)$(PREFIX)
 
+# Removes what was built and what checks kept.
 clean:
 	rm -rf build crates/*/out

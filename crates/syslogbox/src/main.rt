@@ -2,6 +2,7 @@
 #![tactic(auto)]
 
 mod collect;
+mod descriptors;
 mod disk;
 mod files;
 mod memory;
@@ -10,6 +11,7 @@ mod run;
 mod tests;
 
 use command_line::collect_words;
+use descriptors::{can_be_written, occupy_closed_descriptors};
 use disk::DiskFiles;
 use frame_engine::{FAULT, NO_MEMORY, note};
 use run::run;
@@ -32,6 +34,10 @@ fn program_words(rt: &HostRuntime) -> Result<Vec<String>, u8> {
 
 fn main(rt: HostRuntime) -> ExitCode {
     let mut notes = ToWrite::new(rt.stderr());
+    if occupy_closed_descriptors(&rt).is_err() {
+        let line = b"error: a standard descriptor is closed, and /dev/null cannot be opened\n";
+        return ExitCode::from(note(&mut notes, line, FAULT));
+    }
     let words = match program_words(&rt) {
         Ok(words) => words,
         Err(NO_MEMORY) => {
@@ -45,6 +51,9 @@ fn main(rt: HostRuntime) -> ExitCode {
     let mut writer = ToWrite::new(rt.stdout());
     match collect_words(rt.alloc(), words.as_slice()) {
         Ok(Some(words)) => {
+            if !can_be_written(&mut writer) {
+                return ExitCode::from(note(&mut notes, b"write fault\n", FAULT));
+            }
             let status = collect::collect(&rt, rt.alloc(), &words, &mut writer, &mut notes);
             return ExitCode::from(status);
         }

@@ -1,0 +1,49 @@
+# Completion of syslogbox in bash.
+
+# The options of a command.
+_syslogbox_options() {
+    case $1 in
+        check | show | archive) echo "--framing --legacy --zone --help" ;;
+        convert) echo "--framing --to --legacy --zone --help" ;;
+        merge | migrate) echo "--help" ;;
+        send) echo "--facility --severity --up-to --framing --host --app --proc --msgid --micros --help" ;;
+        collect) echo "--legacy --zone --help" ;;
+    esac
+}
+
+# The values of a command's option; none where any word will do. The status is 1 where it takes no value.
+_syslogbox_values() {
+    case "$1 $2" in
+        "send --framing" | *" --to") echo "counted lf" ;;
+        *" --framing") echo "datagram counted lf" ;;
+        *" --facility")
+            echo "kern user mail daemon auth syslog lpr news uucp cron authpriv ftp ntp audit alert clock"
+            echo "local0 local1 local2 local3 local4 local5 local6 local7"
+            ;;
+        *" --severity" | *" --up-to") echo "emerg alert crit err warning notice info debug" ;;
+        *" --legacy" | *" --zone" | *" --host" | *" --app" | *" --proc" | *" --msgid" | *" --micros") ;;
+        *) return 1 ;;
+    esac
+}
+
+_syslogbox() {
+    local command=${COMP_WORDS[1]} word=$2 previous=$3 files="" words
+    local commands="check convert show archive merge migrate send collect help"
+    if [ "$COMP_CWORD" -eq 1 ]; then
+        words="$commands --help --version"
+    elif [ "$command" = help ]; then
+        words=$commands
+    elif ! words=$(_syslogbox_values "$command" "$previous"); then
+        words=$(_syslogbox_options "$command")
+        case "$command $COMP_CWORD" in
+            "collect 2") words="$words udp counted lf" ;;
+            merge* | migrate*)
+                files=-f
+                compopt -o filenames 2> /dev/null
+                ;;
+        esac
+    fi
+    mapfile -t COMPREPLY < <(compgen $files -W "$words" -- "$word")
+}
+
+complete -F _syslogbox syslogbox

@@ -1,0 +1,39 @@
+# Completion of syslogbox in fish.
+
+complete -c syslogbox -f
+complete -c syslogbox -s h -l help -d 'Print help'
+complete -c syslogbox -n __fish_use_subcommand -s V -l version -d 'Print the version'
+
+complete -c syslogbox -n __fish_use_subcommand -a check -d 'Say for each frame whether it is a record'
+complete -c syslogbox -n __fish_use_subcommand -a convert -d 'Write the canonical octets of each record'
+complete -c syslogbox -n __fish_use_subcommand -a show -d 'Write the fields of each record'
+complete -c syslogbox -n __fish_use_subcommand -a archive -d 'Write the records as an archive'
+complete -c syslogbox -n __fish_use_subcommand -a merge -d 'Write the archive of the records of two archives'
+complete -c syslogbox -n __fish_use_subcommand -a migrate -d 'Write the archive of an old one'
+complete -c syslogbox -n __fish_use_subcommand -a send -d 'Write one record as a frame'
+complete -c syslogbox -n __fish_use_subcommand -a collect -d 'Receive records and write them as an archive'
+complete -c syslogbox -n __fish_use_subcommand -a help -d 'Print the help of a command'
+
+set -l reading check convert show archive
+set -l dated $reading collect
+set -l facilities kern user mail daemon auth syslog lpr news uucp cron authpriv ftp ntp audit alert clock \
+    local0 local1 local2 local3 local4 local5 local6 local7
+set -l severities emerg alert crit err warning notice info debug
+
+complete -c syslogbox -n "__fish_seen_subcommand_from $reading" -x -l framing -a 'datagram counted lf' -d 'Framing of the input'
+complete -c syslogbox -n "__fish_seen_subcommand_from convert" -x -l to -a 'counted lf' -d 'Framing of the output'
+complete -c syslogbox -n "__fish_seen_subcommand_from $dated" -x -l legacy -d 'Read legacy packets too, in this year'
+complete -c syslogbox -n "__fish_seen_subcommand_from $dated" -x -l zone -d 'Zone of their times'
+complete -c syslogbox -n "__fish_seen_subcommand_from merge migrate" -F
+complete -c syslogbox -n "__fish_seen_subcommand_from collect" -a 'udp counted lf' -d 'How records come'
+complete -c syslogbox -n "__fish_seen_subcommand_from help" -a "$reading merge migrate send collect"
+
+complete -c syslogbox -n "__fish_seen_subcommand_from send" -x -l facility -a "$facilities" -d Facility
+complete -c syslogbox -n "__fish_seen_subcommand_from send" -x -l severity -a "$severities" -d Severity
+complete -c syslogbox -n "__fish_seen_subcommand_from send" -x -l up-to -a "$severities" -d 'Least severe severity that is sent'
+complete -c syslogbox -n "__fish_seen_subcommand_from send" -x -l framing -a 'counted lf' -d 'Framing of the output'
+complete -c syslogbox -n "__fish_seen_subcommand_from send" -x -l host -d HOSTNAME
+complete -c syslogbox -n "__fish_seen_subcommand_from send" -x -l app -d APP-NAME
+complete -c syslogbox -n "__fish_seen_subcommand_from send" -x -l proc -d PROCID
+complete -c syslogbox -n "__fish_seen_subcommand_from send" -x -l msgid -d MSGID
+complete -c syslogbox -n "__fish_seen_subcommand_from send" -x -l micros -d 'Microseconds from 1970-01-01T00:00:00Z'

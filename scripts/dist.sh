@@ -1,0 +1,119 @@
+#!/bin/sh
+# Makes the packages in build/dist: a tarball with a static program, and a Debian package where dpkg-deb is there.
+# Of one release they are the same octets wherever they are made: their time is that of the version in CHANGELOG.md.
+set -eu
+umask 022
+export LC_ALL=C TZ=UTC
+cd "$(dirname "$0")/.."
+
+die() {
+    echo "$1" >&2
+    exit 1
+}
+
+version=$(sh scripts/version.sh)
+day=$(sed -n "s/^## $version (\(.*\))\$/\1/p" CHANGELOG.md)
+[ -n "$day" ] || die "CHANGELOG.md has no entry '## $version (YEAR-MONTH-DAY)'."
+[ "$(cat release/SOURCES)" = "$(sh scripts/sources.sh)" ] ||
+    die "release/ was built from other sources: 'make release' writes it anew."
+: "${SOURCE_DATE_EPOCH:=$(date -d "$day" +%s)}"
+export SOURCE_DATE_EPOCH
+
+sh scripts/unpack.sh
+rm -rf build/dist
+mkdir -p build/dist
+dist=$PWD/build/dist
+
+# Links a program without symbols, with more words for gcc.
+link() {
+    to=$1
+    shift
+    if ! (cd build/release && gcc -s "$@" -o "$to" syslogbox.o libos_c.a liblibc_c.a) 2> "$to.log"; then
+        cat "$to.log" >&2
+        die "$to does not link."
+    fi
+    rm "$to.log"
+}
+
+# All below a folder gets the one time.
+settle() {
+    find "$1" -exec touch -h -d "@$SOURCE_DATE_EPOCH" {} +
+}
+
+tarball() {
+    name=syslogbox-$version
+    link "$dist/static" -static
+    sh scripts/install.sh "$dist/static" "$dist/$name"
+    install -m 644 README.md CHANGELOG.md "$dist/$name/"
+    (cd "$dist/$name" && find . -type f | sort | xargs sha256sum) > "$dist/sums"
+    mv "$dist/sums" "$dist/$name/SHA256SUMS"
+    settle "$dist/$name"
+    (cd "$dist" && tar --format=ustar --sort=name --owner=0 --group=0 --numeric-owner -cf - "$name") |
+        gzip -9n > "$dist/$name-linux-x86_64.tar.gz"
+    rm -r "$dist/static" "${dist:?}/$name"
+}
+
+maintainer="Cupolachive maintainers <maintainers@users.noreply.cupolachive.example>"
+
+# CHANGELOG.md in the form of Debian.
+changelog() {
+    of=""
+    while IFS= read -r line; do
+        case $line in
+            "## "*)
+                [ -z "$of" ] || printf '\n -- %s  %s\n\n' "$maintainer" "$of"
+                of=$(echo "$line" | sed 's/.*(\(.*\))$/\1/')
+                of=$(date -R -d "$of")
+                echo "$line" | sed 's/^## \(.*\) (.*/syslogbox (\1) unstable; urgency=medium/'
+                echo
+                ;;
+            "- "*) echo "  * ${line#- }" ;;
+            "  "*) echo "  $line" ;;
+        esac
+    done < CHANGELOG.md
+    printf '\n -- %s  %s\n' "$maintainer" "$of"
+}
+
+control() {
+    octets=$(find "$1/usr" -type f -exec cat {} + | wc -c)
+    libc=$(objdump -T "$1/usr/bin/syslogbox" | sed -n 's/.*GLIBC_\([0-9.]*\).*/\1/p' | sort -V | tail -n 1)
+    cat << END
+Package: syslogbox
+Version: $version
+Architecture: amd64
+Maintainer: $maintainer
+Installed-Size: $(((octets + 1023) / 1024))
+Depends: libc6 (>= $libc)
+Section: admin
+Priority: optional
+Description: proved reader and writer of syslog records
+ syslogbox reads syslog records (RFC 5424) from datagrams and streams, says
+ where octets stop being a record, writes records in their one canonical form,
+ and keeps sets of them as archives that merge with any other. Each of its
+ functions is proved to meet its contract.
+END
+}
+
+debian() {
+    root=$dist/debian
+    doc=$root/usr/share/doc/syslogbox
+    link "$dist/dynamic" -pie -Wl,-z,relro,-z,now
+    sh scripts/install.sh "$dist/dynamic" "$root/usr" vendor-completions
+    gzip -9n "$root/usr/share/man/man1/syslogbox.1"
+    mkdir -p "$doc" "$root/DEBIAN"
+    changelog | gzip -9n > "$doc/changelog.gz"
+    printf 'syslogbox\n\nCopyright 2026 the Cupolachive maintainers\n' > "$doc/copyright"
+    control "$root" > "$root/DEBIAN/control"
+    (cd "$root" && find usr -type f | sort | xargs md5sum) > "$root/DEBIAN/md5sums"
+    settle "$root"
+    dpkg-deb --root-owner-group -Zxz --build "$root" "$dist/syslogbox_${version}_amd64.deb" > /dev/null
+    rm -r "$dist/dynamic" "$root"
+}
+
+tarball
+if command -v dpkg-deb > /dev/null; then
+    debian
+else
+    echo "There is no dpkg-deb here, so no Debian package was made."
+fi
+(cd "$dist" && sha256sum -- *)

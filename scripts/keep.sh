@@ -1,0 +1,14 @@
+#!/bin/sh
+# Keeps what rt has built of the program: build/syslogbox, and its object in build/proved, from which 'make release'
+# writes release/. Where rt took the program from an earlier run it leaves no object, and that which was kept stays.
+set -eu
+cd "$(dirname "$0")/.."
+built=crates/syslogbox/out/syslogbox
+mkdir -p build/proved
+cp "$built" build/syslogbox
+sh scripts/sources.sh > build/syslogbox.sources
+if [ -f "$built.o" ]; then
+    cp "$built.o" build/proved/syslogbox.o
+    cp build/syslogbox.sources build/proved/SOURCES
+    rt version > build/proved/KIT
+fi

@@ -1,0 +1,5 @@
+#!/bin/sh
+# Prints the version, as `syslogbox --version` tells it.
+set -eu
+cd "$(dirname "$0")/.."
+sed -n 's/^const VERSION: &str = "\(.*\)";$/\1/p' crates/command_line/src/words.rt

@@ -1,0 +1,172 @@
+"""The commands on standard input: the tables, the manual's examples, and devices and calls that fail."""
+import os
+import re
+import select
+import shutil
+import subprocess
+from pathlib import Path
+from random import Random
+
+from cases.rows import ELEMENTS, EXAMPLE, HELLO, LEGACY, RECORDS, REFUSED, STREAMS, WORDS
+from hostile.records import ids
+from lib import reference
+from lib.faults import each_allocation, each_call
+from lib.program import ROOT
+
+MANUAL = ROOT / "man/syslogbox.1"
+
+
+def row(program, results, name, words, octets, status, output, notes):
+    """A row of a table; where its notes are None any text will do, but some."""
+    seen = program.run(words, octets)
+    name = f"{' '.join(str(word) for word in words)}: {name}"
+    if notes is None:
+        results.check(name, seen[:2] == (status, output) and seen[2], str(seen)[:200])
+    else:
+        results.same(name, seen, (status, output, notes))
+
+
+def tables(program, results):
+    for name, octets, canonical in RECORDS:
+        row(program, results, name, ["check"], octets, 0, b"1 ok\n", b"")
+        row(program, results, name, ["convert"], octets, 0, canonical, b"")
+        if len(canonical) <= 262_144:
+            row(program, results, f"canonical: {name}", ["convert"], canonical, 0, canonical, b"")
+        row(program, results, name, ["show"], octets, 0, reference.show(1, reference.read(octets)), b"")
+    for name, octets, line in REFUSED:
+        row(program, results, name, ["check"], octets, 1, b"1 " + line + b"\n", b"")
+        for command in ["convert", "show"]:
+            row(program, results, name, [command], octets, 1, b"", b"1 " + line + b"\n")
+    for case in WORDS + STREAMS + LEGACY:
+        row(program, results, *case)
+    for words in ["--version"], ["-V"]:
+        seen = program.run(words)
+        named = seen[:2] == (2, b"") and seen[2].startswith(b"syslogbox ") and b"Usage" not in seen[2]
+        results.check(f"{words[0]} prints name and version on standard error", named, str(seen))
+    for length in range(65):
+        line = b"1 " + reference.read(EXAMPLE[:length]) + b"\n"
+        right = line.endswith(b" %d\n" % length)
+        results.check(f"the offset of a prefix of {length} octets, by the second reader", right, str(line))
+        row(program, results, f"a prefix of {length} octets", ["check"], EXAMPLE[:length], 1, line, b"")
+
+
+def unescaped(text):
+    """The lines of a literal block of the manual as they are shown."""
+    return text.replace("\\-", "-").replace("\\(aq", "'").replace("\\e", "\\").replace("\\&", "")
+
+
+def manual(program, results):
+    """Each example of the manual, run by a shell, prints what follows it."""
+    examples = MANUAL.read_text().split(".Sh EXAMPLES")[1].split(".Sh ")[0]
+    blocks = [unescaped(block) for block in re.findall(r"\.Bd -literal.*?\n(.*?)\.Ed\n", examples, re.DOTALL)]
+    if shutil.which("groff"):
+        done = subprocess.run(["groff", "-ww", "-mandoc", "-Tutf8", str(MANUAL)], capture_output=True)
+        results.check("the manual is laid out without a warning", done.returncode == 0 and done.stderr == b"", str(done.stderr))
+    results.check("the manual has examples", len(blocks) >= 10 and len(blocks) % 2 == 0, str(len(blocks)))
+    for command, output in zip(blocks[::2], blocks[1::2]):
+        path = f"{Path(program.path).parent}:{os.environ['PATH']}"
+        done = subprocess.run(["sh", "-c", command], env={**os.environ, "PATH": path}, capture_output=True, text=True)
+        results.check(f"example: {command}", done.stdout == output, done.stdout)
+
+
+def devices(program, results):
+    """Real devices that fail."""
+    with open("/dev/full", "wb") as full:
+        seen = program.run(["convert"], HELLO, stdout=full)
+        results.check("a full device is a write fault", (seen[0], seen[2]) == (2, b"write fault\n"), str(seen))
+        seen = program.run(["convert"], b"", stderr=full)
+        results.check("notes that cannot be written", seen[:2] == (2, b""), str(seen))
+        seen = program.run(["konvert"], b"", stderr=full)
+        results.check("usage that cannot be written", seen[:2] == (2, b""), str(seen))
+    read_end, write_end = os.pipe()
+    os.close(read_end)
+    seen = program.run(["convert"], HELLO, stdout=write_end)
+    os.close(write_end)
+    results.check("a pipe without a reader is a write fault", (seen[0], seen[2]) == (2, b"write fault\n"), str(seen))
+    folder = os.open("/", os.O_RDONLY)
+    seen = program.run(["convert"], stdin=folder)
+    os.close(folder)
+    results.same("a folder is a read fault", seen, (2, b"", b"read fault\n"))
+    for words in (["check"], ["check", "--framing", "counted"], ["check", "--framing", "lf"]):
+        with open("/dev/zero", "rb") as zeros:
+            seen = program.run(words, stdin=zeros)
+        expected = (1, b"1 bad-count 0\n", b"") if "counted" in words else (2, b"", b"endless input\n")
+        results.same(f"an input that does not end: {' '.join(words)}", seen, expected)
+
+
+def memory(program, results):
+    mixed = (EXAMPLE + b"\n") * 40 + b"x\n" + ELEMENTS + b"\n"
+    for name, words, octets in [
+        ("convert", ["convert"], HELLO),
+        ("convert of a long record", ["convert"], HELLO + b"x" * 60_000),
+        ("convert of octets that are no record", ["convert"], b"<192>1 - - - - - - x"),
+        ("check of a stream", ["check", "--framing", "lf"], mixed),
+        ("usage", ["konvert"], HELLO),
+        ("convert of elements", ["convert"], ELEMENTS),
+        ("convert of a stream", ["convert", "--framing", "lf"], mixed),
+        ("convert to counted frames", ["convert", "--framing", "lf", "--to", "counted"], mixed),
+        ("show", ["show"], ELEMENTS),
+        ("show of a stream", ["show", "--framing", "lf"], mixed),
+    ]:
+        each_allocation(program, results, name, words, octets)
+
+
+def calls(program, results):
+    octets = HELLO + b"x" * 9_000
+    made = program.counts(["convert"], octets)
+    results.check("reads and writes are made", made.read > 1 and made.write > 0, str(made))
+    each_call(program, results, "convert", ["convert"], octets, [0])
+    for n in range(1, 3):
+        seen = program.run(["convert"], b"", program.failing(fd=2, write=n))
+        right = seen[:2] == (2, b"") if n == 1 else seen == (1, b"", b"1 syntax priority 0\n")
+        results.check(f"write {n} of the notes fails", right, str(seen))
+
+
+def pieces(program, results):
+    """Output is written in large pieces, not by a call for each record."""
+    stream = (EXAMPLE + b"\n") * 20_000
+    for command in ["check", "convert", "show"]:
+        words = [command, "--framing", "lf"]
+        output = program.run(words, stream)[1]
+        made = program.counts(words, stream, fd=1).write
+        results.check(f"{command} writes large pieces", made <= 1 + len(output) // 32_768, f"{made} of {len(output)} octets")
+
+
+def many_ids(program, results):
+    """A record of 260,000 octets with 52,000 ids, in any order, costs milliseconds."""
+    prefix, count = b"<0>1 - - - - - ", 52_000
+    for order in "ascending", "descending", "scattered":
+        data = ids(count, order, Random(5424))
+        repeated = b"repeated-id %d" % (len(prefix) + 5 * count + 1)
+        for ending, line in [(b"", b"ok"), (data[:5], repeated), (data[-5:], repeated)]:
+            before = os.times()
+            seen = program.run(["check", "--framing", "lf"], (prefix + data + ending + b"\n") * 20)
+            after = os.times()
+            lines = b"".join(b"%d %b\n" % (n, line) for n in range(1, 21))
+            results.check(f"52,000 ids {order}, {line}", seen[1:] == (lines, b""), f"{seen[0]} {seen[1][:60]!r}")
+            took = (after.children_user + after.children_system - before.children_user - before.children_system) / 20
+            results.check(f"the time of 52,000 ids {order}, {line}", took < 0.15, f"{took:.3f} s a record")
+
+
+def live(program, results):
+    """A line that goes in is answered while the input stays open."""
+    process = subprocess.Popen([program.path, "check", "--framing", "lf"], stdin=subprocess.PIPE, stdout=subprocess.PIPE)
+    for number in range(1, 4):
+        process.stdin.write(b"<0>1 - - - - - -\n")
+        process.stdin.flush()
+        ready, _, _ = select.select([process.stdout], [], [], 10)
+        answer = os.read(process.stdout.fileno(), 100) if ready else b""
+        results.check(f"live: line {number}", answer == b"%d ok\n" % number, repr(answer))
+    process.stdin.close()
+    results.check("live: the end", process.wait() == 0 and process.stdout.read() == b"")
+
+
+def commands(program, results):
+    tables(program, results)
+    manual(program, results)
+    devices(program, results)
+    memory(program, results)
+    calls(program, results)
+    pieces(program, results)
+    many_ids(program, results)
+    live(program, results)

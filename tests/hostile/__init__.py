@@ -1,0 +1,1 @@
+"""Hostile input, by seed, beside the second reader."""

@@ -1,0 +1,98 @@
+"""`collect` and other receivers over the loopback."""
+import os
+import select
+import socket
+import subprocess
+import time
+from pathlib import Path
+
+HERE = "127.0.0.1"
+NEVER = 30  # seconds, after which a run is given up
+
+
+def kind_of(transport):
+    return socket.SOCK_DGRAM if transport == "udp" else socket.SOCK_STREAM
+
+
+def free_port(kind):
+    with socket.socket(socket.AF_INET, kind) as one:
+        one.bind((HERE, 0))
+        return one.getsockname()[1]
+
+
+def is_bound(kind, port):
+    """Whether a socket of the loopback address has the port: a listening one, for connections."""
+    table, state = ("/proc/net/tcp", "0A") if kind == socket.SOCK_STREAM else ("/proc/net/udp", "07")
+    rows = [line.split() for line in Path(table).read_text().splitlines()[1:]]
+    return any(row[1] == f"0100007F:{port:04X}" and row[3] == state for row in rows)
+
+
+def until_bound(kind, port, ended):
+    """Waits until a program has the port, or has ended."""
+    begun = time.monotonic()
+    while not is_bound(kind, port) and not ended() and time.monotonic() - begun < NEVER:
+        time.sleep(0.002)
+
+
+class Collect:
+    """A run of `collect`, bound to a free port. `front` are words before the program's, `number` writes its numbers."""
+
+    def __init__(self, program, transport, count, words=(), environment=None, front=(), number=str, **streams):
+        self.kind = kind_of(transport)
+        self.port = free_port(self.kind)
+        streams = {"stdin": subprocess.DEVNULL, "stdout": subprocess.PIPE, "stderr": subprocess.PIPE, **streams}
+        words = [*front, program.path, "collect", transport, number(self.port), number(count), *words]
+        self.process = subprocess.Popen(words, env={**os.environ, **(environment or {})}, **streams)
+        until_bound(self.kind, self.port, lambda: self.process.poll() is not None)
+
+    def open(self):
+        one = socket.socket(socket.AF_INET, self.kind)
+        one.settimeout(NEVER)
+        try:
+            one.connect((HERE, self.port))
+        except OSError:
+            pass  # the program has ended, which its answer says
+        return one
+
+    def connection(self, *pieces):
+        """A connection that sends the pieces and ends."""
+        with self.open() as one:
+            try:
+                for piece in pieces:
+                    one.sendall(piece)
+            except OSError:
+                pass
+
+    def datagrams(self, *octets):
+        with self.open() as one:
+            for piece in octets:
+                try:
+                    one.send(piece)
+                except OSError:
+                    pass
+
+    def line(self):
+        """The next line on standard error, while the program runs."""
+        ready, _, _ = select.select([self.process.stderr], [], [], NEVER)
+        return self.process.stderr.readline() if ready else b"nothing in time"
+
+    def answer(self):
+        """Status, output and notes."""
+        try:
+            output, notes = self.process.communicate(timeout=NEVER)
+        except subprocess.TimeoutExpired:
+            self.process.kill()
+            output, notes = self.process.communicate()
+            return "not ended", output, notes
+        return self.process.returncode, output, notes
+
+
+def collected(program, transport, sent, words=(), environment=None, **others):
+    """The answer after these datagrams, or connections one after the other, each with its pieces."""
+    run = Collect(program, transport, len(sent), words, environment, **others)
+    if transport == "udp":
+        run.datagrams(*sent)
+    else:
+        for pieces in sent:
+            run.connection(*([pieces] if isinstance(pieces, bytes) else pieces))
+    return run.answer()

@@ -1,0 +1,1 @@
+"""What needs other programs, and is no part of the gate."""
