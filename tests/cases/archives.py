@@ -27,7 +27,7 @@ def tables(program, results, folder):
 
 def files(program, results, folder):
     """Names without a file, folders, and files that may not be read."""
-    good, bad, none = folder.file("good", entries(A)), folder.file("bad", b"x"), str(folder.path / "none")
+    good, bad, none = folder.file("good", entries(A)), folder.file("bad", b"x"), str(folder.path / "missing")
     for words, status, notes in [
         (["merge", none, bad], 2, b"left no file\n"),
         (["merge", bad, none], 2, b"right no file\n"),

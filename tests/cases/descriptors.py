@@ -10,7 +10,7 @@ import time
 from itertools import combinations
 from pathlib import Path
 
-from cases.rows import A, Y, Z, entries
+from cases.rows import A, EXAMPLE, Y, Z, entries
 from lib.faults import failed
 from lib.loopback import Collect, free_port, kind_of
 from lib.program import run
@@ -200,8 +200,17 @@ def told_at_once(program, results):
     results.check("collect to a file for reading and writing", right, str(seen))
 
 
+def no_null_device(program, results):
+    """Where /dev/null cannot be opened the run says so, and neither reads nor writes anything else."""
+    for words in ["convert"], ["collect", "lf", str(free_port(kind_of("lf"))), "1"]:
+        seen = program.run(words, EXAMPLE, program.failing(null=1))
+        line = b"error: a standard descriptor is closed, and /dev/null cannot be opened\n"
+        results.same(f"{words[0]}: /dev/null cannot be opened", seen, (2, b"", line))
+
+
 def descriptors(program, results):
     on_files(program, results)
+    no_null_device(program, results)
     on_sockets(program, results)
     in_their_place(program, results)
     told_at_once(program, results)

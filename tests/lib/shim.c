@@ -2,7 +2,8 @@
    be short. Each is chosen by a number counted from 1:
 
      SHIM_MALLOC=N        the Nth call of malloc, realloc or calloc returns a null pointer
-     SHIM_OPEN=N          the Nth open fails with EACCES
+     SHIM_OPEN=N          the Nth open fails with EACCES; those of /dev/null are not counted
+     SHIM_NULL=N          the Nth open of /dev/null fails with EACCES
      SHIM_READ=N          the Nth read fails with EIO
      SHIM_READ_SHORT=N    the Nth read gives at most one octet
      SHIM_READ_AGAIN=N    the Nth read is interrupted (EINTR)
@@ -29,7 +30,7 @@
 #include <sys/socket.h>
 #include <unistd.h>
 
-static unsigned long allocations, opens, reads, writes, binds, accepts, receives;
+static unsigned long allocations, opens, nulls, reads, writes, binds, accepts, receives;
 static int quiet;
 
 static unsigned long chosen(const char *name) {
@@ -69,17 +70,17 @@ void *realloc(void *old, size_t size) {
   return next(old, size);
 }
 
-static int kept(void) {
+static int kept(const char *path) {
   if (quiet) return 0;
-  opens++;
-  return opens == chosen("SHIM_OPEN");
+  if (strcmp(path, "/dev/null") == 0) return ++nulls == chosen("SHIM_NULL");
+  return ++opens == chosen("SHIM_OPEN");
 }
 
 typedef int opening(const char *, int, ...);
 
 static int opened(opening **next, const char *name, const char *path, int flags, va_list rest) {
   if (!*next) *next = (opening *)next_of(name);
-  if (kept()) { errno = EACCES; return -1; }
+  if (kept(path)) { errno = EACCES; return -1; }
   return (*next)(path, flags, flags & (O_CREAT | O_TMPFILE) ? va_arg(rest, mode_t) : 0);
 }
 
