@@ -1,0 +1,5 @@
+pub mod Effects
+pub mod Sessions
+pub mod Devices
+pub mod Run
+pub mod Holding
