@@ -1,6 +1,6 @@
 -- What the collector of one input heard and holds.
-use Rattle.std.proofs.Common.{◌≡◌, ℕ, ◌+◌, ◌<◌, inl, inr, List, [], ◌∷◌, ◌++◌, Option, None, Some, length, true, false}
-use Rattle.std.proofs.Common.{cond, eqb, refl, sym, ap, subst, ◌∙◌, arith}
+use Rattle.std.proofs.Common.{◌≡◌, ℕ, ◌+◌, ◌<◌, inl, inr, List, [], ◌∷◌, ◌++◌, Option, None, Some, length}
+use Rattle.std.proofs.Common.{refl, sym, ap, subst, ◌∙◌, arith}
 use Rattle.std.specs.Prelude.{◌↔◌, Ok, Err}
 use Rattle.std.proofs.lemmas.List.{append-nil}
 use Rattle.octet_language.specs.Language.{Begins}
@@ -17,7 +17,7 @@ use Rattle.syslog_collect.specs.Frames.{AreFramesOf, HasFrames, all_of}
 use Rattle.syslog_collect.specs.Headline.{IsSettled}
 use Rattle.syslog_collect.specs.History.{AcceptedEvent, Datagram, History, HoldsBadCount, Opened, Piece, accept}
 use Rattle.syslog_collect.specs.History.{history_of, initial}
-use Rattle.syslog_collect.specs.Logs.{Grows, IsLogOf, LogsOctets, ready_count, waiting}
+use Rattle.syslog_collect.specs.Logs.{Grows, IsLogOf, LogsOctets}
 use Rattle.syslog_collect.specs.Outcomes.{IsOutcome}
 use Rattle.syslog_legacy.specs.FrameReadings.{Clock}
 use Rattle.syslog_collect.specs.Standing.{AreAt, Stands}
@@ -27,9 +27,8 @@ use Rattle.syslog_collect.specs.declared.fault.CollectFault.TheVariants.{Already
 use Rattle.syslog_collect.specs.declared.fault.CollectFault.TheVariants.{StreamTooLong, Unreleased, Unterminated}
 use Rattle.syslog_collect.specs.declared.fault.CollectFault.TheVariants.{Memory}
 use Rattle.syslog_collect.specs.declared.outcome.Outcome.{Outcome}
-use Rattle.syslog_collect.proofs.Headline.{holds_just}
+use Rattle.syslog_collect.proofs.Headline.{first_settled, holds_just}
 use Rattle.syslog_collect.proofs.Steps.{history_after-push}
-use Rattle.syslog_collect.proofs.Waiting.{ready_none}
 use Rattle.frame_engine.specs.Converted.{noted_line}
 use Rattle.frame_engine.specs.Handling.{Done, nothing as none_done}
 use Rattle.frame_engine.specs.Streams.{ReportsEnd}
@@ -68,14 +67,6 @@ receives_piece clock cs ds kept now kind given octets r stands settled = record 
 none_of : (xs : List (List ℕ)) → length xs ≡ 0 → xs ≡ []
 none_of [] e = refl
 none_of (x ∷ xs) e = absurd (omega (arith, e))
-
--- where no frame is ready, none waits
-pub none_waits : (cs : List Connection) → IsSettled cs → (d : ℕ) → waiting cs d ≡ 0
-none_waits [] settled d = refl
-none_waits (c ∷ cs) settled d = elim (eqb c.number d) as (λ b. cond b (ready_count c.scanner.phase) (waiting cs d) ≡ 0) [
-  | true ↦ ready_none c.scanner.phase settled.0
-  | false ↦ none_waits cs settled.1 d
-]
 
 logs_octets : (clock : Clock) (kind : Framing) (given octets : List ℕ) (old new : List Entry) (os : List Outcome)
     (waited : ℕ) → waited ≡ 0 → LogsOctets clock
@@ -219,11 +210,12 @@ begins_at [] kind given (f ∷ fs) at settled good frames rest are = absurd at
 begins_at (c ∷ cs) kind given [] at settled good frames rest are = absurd at
 begins_at (c ∷ cs) kind given (f ∷ fs) at settled good frames rest are = elim at.0.scanner [
   | inl here ↦
-      let none = none_unless_frame FRAME_MAX c.scanner kind (0 + length given) here.rest settled.0 here.reads.stands in
+      let quiet = first_settled c cs settled in
+      let none = none_unless_frame FRAME_MAX c.scanner kind (0 + length given) here.rest quiet here.reads.stands in
       let whole = frames_read FRAME_MAX c.scanner kind 0 given f here.rest here.reads none in
       let same = unique_frames kind given f frames here.rest rest whole are in
       let reading =
-      reading_standing FRAME_MAX c.scanner kind (0 + length given) here.rest settled.0 here.good here.reads.stands
+      reading_standing FRAME_MAX c.scanner kind (0 + length given) here.rest quiet here.good here.reads.stands
       in
       subst (Begins (Whole kind)) same.1 (begins_reading FRAME_MAX c.scanner kind (0 + length given) here.rest
       (open_reading c.scanner reading) here.reads.stands)
@@ -272,20 +264,20 @@ stop_reported kind given frames rest (Some start) (fs, q, inside, some, begins, 
     ))
 
 -- a stream that is open and of which no frame is ready ends so or so
-pub ends_so : (U : Type 0) (h : History) (kind : Framing) (given : List ℕ) (fault : CollectFault) (settled : Type 0)
+pub ends_so : (U : Type 0) (h : History) (kind : Framing) (given : List ℕ) (fault : CollectFault) (waits : ℕ)
     → h ≡ heard (input.Stream kind) given → IsEnding {U = U} 0 (Err fault) h
-    → IfUnreleased {U = U} (Err fault) (¬ settled) → settled
+    → IfUnreleased {U = U} (Err fault) (waits ≡ 1) → waits ≡ 0
     → ((start : ℕ) → fault ≡ Unterminated start → ⊥) → ⊥
-ends_so U h kind given fault settled is ending unreleased quiet other =
+ends_so U h kind given fault waits is ending unreleased quiet other =
     of_fault fault (subst (λ (k : History). IsEnding {U = U} 0 (Err fault) k) is ending) unreleased other
   where
     of_fault : (f : CollectFault) → IsEnding {U = U} 0 (Err f) (heard (input.Stream kind) given)
-        → IfUnreleased {U = U} (Err f) (¬ settled) → ((start : ℕ) → f ≡ Unterminated start → ⊥) → ⊥
+        → IfUnreleased {U = U} (Err f) (waits ≡ 1) → ((start : ℕ) → f ≡ Unterminated start → ⊥) → ⊥
     of_fault AlreadyOpen e u o = e
     of_fault TooManyOpen e u o = e
     of_fault NotOpen e u o = absurd cc
     of_fault ConnFailed e u o = e
     of_fault StreamTooLong e u o = e
-    of_fault Unreleased e u o = u quiet
+    of_fault Unreleased e u o = omega (arith, u, quiet)
     of_fault (Unterminated start) e u o = o start refl
     of_fault (Memory n) e u o = e

@@ -57,7 +57,10 @@ impl<S: Store + Drop> Reception<S> {
             (S.entries self.old.collector.store) first before
             → Stands self.old.collector.clock self.new.collector.connections.items
             (S.entries self.new.collector.store) first (before ++ accepted_event event.entry ∷ [])) }
-        ensures settled { OnOk result (IsSettled self.old.collector.connections.items
+        ensures settled { OnOk result ((first : List Entry) (before : List AcceptedEvent)
+            → Stands self.old.collector.clock self.old.collector.connections.items
+            (S.entries self.old.collector.store) first before
+            → IsSettled self.old.collector.connections.items
             → IsSettled self.new.collector.connections.items) }
         ensures logged { OnOk result ((first : List Entry) (before : List AcceptedEvent)
             → Stands self.old.collector.clock self.old.collector.connections.items

@@ -1,11 +1,14 @@
 //! Collectors over both stores.
 
-use crate::support::{A, ARCHIVE, B, collected};
+use crate::support::{A, ARCHIVE, B, C, collected, collector, text_of};
+use archive_laws::same_records_have_one_text;
 use archive_pages::PagedArchive;
-use archive_vec::VecArchive;
+use archive_text::Store;
+use archive_vec::{VecArchive, merge};
+use std::alloc::Global;
 use std::process::Abort;
 use std::test::Fail;
-use syslog_collect::{Event, Outcome, RunEnd};
+use syslog_collect::{Collector, Event, Outcome, RunEnd, merged_archives, same_archives};
 use syslog_frame::Framing;
 
 const C_AS_A_LINE: &[u8] = b"<12>1 2024-02-29T23:00:00.000000Z h a - - - z\n";
@@ -105,6 +108,47 @@ fn run_of_datagrams(
         events.push(Event::Datagram { octets })?;
     }
     run_of(rt, events.as_slice())
+}
+
+/// A collector over a store that received datagrams.
+fn receiver<S: Store + Drop>(
+    alloc: Global,
+    store: S,
+    datagrams: &[&[u8]],
+) -> Result<Collector<S>, Fail> {
+    let mut receiver = collector(alloc, store)?;
+    let mut log = Vec::new(alloc);
+    for octets in datagrams {
+        if receiver.run(alloc, &[Event::Datagram { octets }], &mut log) != RunEnd::Done {
+            Err("a datagram was refused")?;
+        }
+    }
+    Ok(receiver)
+}
+
+#[test]
+fn collectors_of_the_same_records_have_one_archive(rt: HostRuntime) -> Result<(), Fail> {
+    let alloc = rt.alloc();
+    let one = receiver(alloc, VecArchive::new(alloc), &[B, A, C])?;
+    let two = receiver(alloc, PagedArchive::new(alloc), &[C, A, B, A])?;
+    same_archives(&one, &two);
+    same_records_have_one_text(one.store(), two.store());
+    assert_eq!(rt; text_of(alloc, one.store())?.as_slice(), ARCHIVE);
+    assert_eq!(rt; text_of(alloc, two.store())?.as_slice(), ARCHIVE);
+    Ok(())
+}
+
+#[test]
+fn archives_of_two_collectors_merge_to_that_of_one(rt: HostRuntime) -> Result<(), Fail> {
+    let alloc = rt.alloc();
+    let left = receiver(alloc, VecArchive::new(alloc), &[B, A])?;
+    let right = receiver(alloc, VecArchive::new(alloc), &[A, C])?;
+    let all = receiver(alloc, PagedArchive::new(alloc), &[A, B, C])?;
+    merged_archives(&left, &right, &all);
+    let merged = merge(alloc, left.store(), right.store())?;
+    assert_eq!(rt; text_of(alloc, &merged)?.as_slice(), ARCHIVE);
+    assert_eq!(rt; text_of(alloc, all.store())?.as_slice(), ARCHIVE);
+    Ok(())
 }
 
 #[test]

@@ -24,7 +24,6 @@ use Rattle.collect_engine.specs.Serving.{StepsServed, UnlessMemory}
 use Rattle.collect_engine.specs.Steps.{Given}
 use Rattle.collect_engine.specs.declared.serve_end.Stopped.{Stopped}
 use Rattle.collect_engine.specs.declared.serve_end.Stopped.TheVariants as stopped
-use Rattle.collect_engine.proofs.Settled.{settled_quiet}
 
 archive_of : (clock k : Clock) (ds : List Connection) (now first : List Entry) (es : List AcceptedEvent) → k ≡ clock
     → first ≡ [] → IsArchive ENTRY_MAX now → Stands k ds now first es → IsSettled ds → IsArchiveOf clock es now
@@ -55,7 +54,7 @@ pub from_nothing : (clock k : Clock) (cs : List Connection) (v : ℕ → ℕ) (e
     (es : List AcceptedEvent) (lines : List ℕ) → k ≡ clock → IsSettled cs
     → StepsServed k initial (waiting cs) v end gs es lines → Collects clock end gs es lines
 from_nothing clock k cs v end gs es lines same settled served =
-    let quiet : waiting cs ≡ (λ (d : ℕ). 0) = λ i d. settled_quiet cs settled d i in (
+    let quiet : waiting cs ≡ (λ (d : ℕ). 0) = λ i d. settled d i in (
       v,
       subst (λ (w : ℕ → ℕ). StepsServed clock initial w v end gs es lines) quiet
           (subst (λ (t : Clock). StepsServed t initial (waiting cs) v end gs es lines) same served),

@@ -30,7 +30,7 @@ use Rattle.syslog_collect.specs.declared.outcome.Outcome.{Outcome}
 use Rattle.collect_engine.specs.Receiving.{IfNotMemory, IsWholeEnd, ReceivesAs, TakesPartOf, kept_outcomes, received_as}
 use Rattle.collect_engine.specs.declared.receiving.Received.{Received}
 use Rattle.collect_engine.specs.declared.receiving.Received.TheVariants as received
-use Rattle.collect_engine.proofs.Settled.{broken_quiet, part_quiet, quiet_settled, settled_quiet}
+use Rattle.collect_engine.proofs.Settled.{broken_quiet, part_quiet}
 
 -- ---- an event that was accepted
 
@@ -152,17 +152,16 @@ less_waits clock h u v (event_Datagram o) n fault a b os stops (none, same, is) 
 none_left : (a b c : ℕ) → a ≤ b → b ≡ c → c ≡ 0 → a ≡ 0
 none_left a b c x y z = omega arith
 
-pub refused_settled : (clock : Clock) (cs ds : List Connection) (now first : List Entry) (es : List AcceptedEvent)
-    (h : History) (e : Event) (at n : ℕ) (fault : CollectFault) (a b : List Entry) (log os : List Outcome)
-    → Stands clock ds now first es → IsSettled cs → StopsAs clock h (waiting ds) (e ∷ []) (Stopped at n fault)
+pub refused_settled : (clock : Clock) (cs ds : List Connection) (h : History) (e : Event) (at n : ℕ)
+    (fault : CollectFault) (a b : List Entry) (log os : List Outcome)
+    → IsSettled cs → StopsAs clock h (waiting ds) (e ∷ []) (Stopped at n fault)
     → Grows (LogsRun clock h (waiting cs) (waiting ds) (e ∷ []) (Stopped at n fault) a b) log os
     → IfNotMemory (received_as fault) (IsSettled ds)
-refused_settled clock cs ds now first es h e at n fault a b log os stands settled stops (grown, grows, logs) =
+refused_settled clock cs ds h e at n fault a b log os settled stops (grown, grows, logs) =
     let (u, mid, later, same, one, all) =
     logs_of_one clock h (waiting cs) (waiting ds) e at n fault a b grown stops.0 logs in
     if_not_memory (received_as fault) ((d : ℕ) → waiting ds d ≤ u d) (IsSettled ds)
-    (λ less. quiet_settled clock ds now first es stands
-    (λ d. none_left (waiting ds d) (u d) (waiting cs d) (less d) (same d) (settled_quiet cs settled d)))
+    (λ less d. none_left (waiting ds d) (u d) (waiting cs d) (less d) (same d) (settled d))
     (less_waits clock h u (waiting ds) e n fault mid b later
     (stops_at_one clock h (waiting ds) e at n fault stops) one)
 

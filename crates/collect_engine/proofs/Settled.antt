@@ -1,56 +1,18 @@
--- No frame is left ready exactly where none waits.
+-- Where no frame waits, and where no more of them do than before.
 use Rattle.std.proofs.Common.{◌≡◌, ℕ, ◌+◌, ◌≤◌, true, false, cond, List, [], ◌∷◌, ◌++◌, length, eqb, refl, sym}
 use Rattle.std.proofs.Common.{◌∙◌, ap, subst, inl, inr, arith}
 use Rattle.std.specs.Prelude.{IsSomeAnd, Some, None, Option}
-use Rattle.std.proofs.lemmas.Bool.{eq-eqb}
 use Rattle.std.proofs.lemmas.List.{append-nil, length-append}
 use Rattle.archive_text.specs.Entries.{Entry}
 use Rattle.syslog_frame.specs.Frames.{Frames}
 use Rattle.syslog_frame.proofs.FrameLaws.{unique_frames}
 use Rattle.syslog_legacy.specs.FrameReadings.{Clock}
-use Rattle.syslog_collect.specs.Headline.{IsSettled}
-use Rattle.syslog_collect.specs.History.{AcceptedEvent, Ended, History, HoldsBadCount, Stream, history_of, stream_of}
+use Rattle.syslog_collect.specs.History.{AcceptedEvent, History, HoldsBadCount, Stream, history_of, stream_of}
 use Rattle.syslog_collect.specs.Logs.{LogsOctets, LogsPart, ready_count, waiting}
 use Rattle.syslog_collect.specs.Standing.{AreAt, IsAt, Stands}
 use Rattle.syslog_collect.specs.declared.connection.Connection.{Connection}
 use Rattle.syslog_collect.specs.declared.outcome.Outcome.{Outcome}
-use Rattle.syslog_collect.proofs.Headline.{one_settled}
 use Rattle.syslog_collect.proofs.Moving.{good_open}
-use Rattle.syslog_collect.proofs.Places.{IsHandled, place_from}
-use Rattle.syslog_collect.proofs.Steps.{close_found}
-use Rattle.syslog_collect.proofs.Waiting.{ready_none, ready_some, waiting_closed}
-
-pub settled_quiet : (cs : List Connection) → IsSettled cs → (d : ℕ) → waiting cs d ≡ 0
-settled_quiet [] h d = refl
-settled_quiet (x ∷ xs) h d =
-    elim (eqb x.number d) as (λ b. cond b (ready_count x.scanner.phase) (waiting xs d) ≡ 0) [
-      | true ↦ ready_none x.scanner.phase h.0
-      | false ↦ settled_quiet xs h.1 d
-    ]
-
-one_no : (n : ℕ) → n ≡ 1 → n ≡ 0 → ⊥
-one_no n a b = omega arith
-
-here_count : (x : Connection) (xs : List Connection) → waiting (x ∷ xs) x.number ≡ 0 → ready_count x.scanner.phase ≡ 0
-here_count x xs h =
-    subst (λ b. cond b (ready_count x.scanner.phase) (waiting xs x.number) ≡ 0) (eq-eqb x.number x.number refl) h
-
-first_place : (x : Connection) (xs : List Connection) → place_from x.number 0 (x ∷ xs) ≡ Some 0
-first_place x xs = rw (eq-eqb x.number x.number refl) refl
-
-pub quiet_settled : (clock : Clock) (cs : List Connection) (kept first : List Entry) (es : List AcceptedEvent)
-    → Stands clock cs kept first es → ((d : ℕ) → waiting cs d ≡ 0) → IsSettled cs
-quiet_settled clock [] kept first es was none = tt
-quiet_settled clock (x ∷ xs) kept first es was none =
-    let ready = here_count x xs (none x.number) in
-    let not_frame : ¬ (x.scanner.phase ≡ _) = λ f. one_no (ready_count x.scanner.phase) (ready_some x.scanner.phase f)
-    ready in
-    let handled : IsHandled x = λ s d at. one_settled x s d at not_frame in
-    let is = first_place x xs in
-    let later : (d : ℕ) → waiting xs d ≡ 0 = λ d. waiting_closed clock x.number 0 x (x ∷ xs) kept first es is refl ready
-    handled was d ∙ none d in
-    let stands = close_found clock x.number 0 x (x ∷ xs) kept first es is refl handled was in
-    (not_frame, quiet_settled clock xs kept first (es ++ Ended x.number ∷ []) stands later)
 
 -- ---- a connection whose octets hold a bad count has no frame that waits
 

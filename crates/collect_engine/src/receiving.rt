@@ -1,11 +1,9 @@
 //! What a collector makes of an event.
 ghost use Rattle.std.specs.Prelude.{◌≡◌, ◌++◌, List};
 ghost use Rattle.archive_text.specs.Entries.{Entry};
-ghost use Rattle.syslog_collect.specs.Headline.{IsSettled};
+ghost use Rattle.syslog_collect.specs.Collectors.{NoneWaits, Stands, clock_of, waits_of};
 ghost use Rattle.syslog_collect.specs.History.{AcceptedEvent, history_of};
-ghost use Rattle.syslog_collect.specs.Logs.{waiting};
 ghost use Rattle.syslog_collect.specs.Runs.{accepted_event};
-ghost use Rattle.syslog_collect.specs.Standing.{Stands};
 ghost use Rattle.collect_engine.specs.Receiving.{IfNotMemory, ReceivesAs, kept_outcomes, received_as};
 
 use archive_text::Store;
@@ -54,18 +52,17 @@ pub(crate) fn receive<S: Store>(
     outcomes: &mut Vec<Outcome>,
 ) -> Received
     ensures received { (first : List Entry) (before : List AcceptedEvent)
-        → Stands collector.old.clock collector.old.connections.items (S.entries collector.old.store) first before
+        → Stands S.entries collector.old first before
         → (accepted : List AcceptedEvent)
-        × Stands collector.new.clock collector.new.connections.items (S.entries collector.new.store) first
-        (before ++ accepted)
-        × ReceivesAs collector.old.clock (history_of before) (waiting collector.old.connections.items)
-        (waiting collector.new.connections.items) (accepted_event event.entry) result outcomes.new.items
+        × Stands S.entries collector.new first (before ++ accepted)
+        × ReceivesAs (clock_of collector.old) (history_of before) (waits_of collector.old)
+        (waits_of collector.new) (accepted_event event.entry) result outcomes.new.items
         accepted }
     ensures settled { (first : List Entry) (before : List AcceptedEvent)
-        → Stands collector.old.clock collector.old.connections.items (S.entries collector.old.store) first before
-        → IsSettled collector.old.connections.items
-        → IfNotMemory result (IsSettled collector.new.connections.items) }
-    ensures clock { collector.new.clock ≡ collector.old.clock }
+        → Stands S.entries collector.old first before
+        → NoneWaits collector.old
+        → IfNotMemory result (NoneWaits collector.new) }
+    ensures clock { clock_of collector.new ≡ clock_of collector.old }
 {
     outcomes.clear();
     match collector.run(alloc, &[event], outcomes) {

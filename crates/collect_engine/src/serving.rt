@@ -4,11 +4,9 @@ ghost use Rattle.std.specs.Prelude.{IfOk, IsErrOf, OnOk, length, vec_len};
 ghost use Rattle.std.specs.Io.KnownBytes.{Appends};
 ghost use Rattle.archive_text.specs.Entries.{Entry};
 ghost use Rattle.syslog_frame.specs.declared.limits.TheConstants.{FRAME_MAX};
-ghost use Rattle.syslog_collect.specs.Headline.{IsSettled};
+ghost use Rattle.syslog_collect.specs.Collectors.{NoneWaits, Stands, clock_of, waits_of};
 ghost use Rattle.syslog_collect.specs.History.{AcceptedEvent, history_of};
-ghost use Rattle.syslog_collect.specs.Logs.{waiting};
 ghost use Rattle.syslog_collect.specs.Runs.{accepted_event};
-ghost use Rattle.syslog_collect.specs.Standing.{Stands};
 ghost use Rattle.syslog_value.specs.Device.{count_on};
 ghost use Rattle.collect_engine.specs.Ends.{FinishesBy, IfEndDone, IsEventStep};
 ghost use Rattle.collect_engine.specs.Lines.{NotesFail, has_some, memory_after};
@@ -53,22 +51,21 @@ fn serve_event<S: Store, N: Output>(
     lines: &mut EventLines,
 ) -> Result<(), Stopped>
     ensures served { (first : List Entry) (before : List AcceptedEvent)
-        → Stands collector.old.clock collector.old.connections.items (S.entries collector.old.store) first before
+        → Stands S.entries collector.old first before
         → (accepted : List AcceptedEvent) × (told : List ℕ)
-        × Stands collector.new.clock collector.new.connections.items (S.entries collector.new.store) first
-        (before ++ accepted)
+        × Stands S.entries collector.new first (before ++ accepted)
         × Appends (N.taken notes.old) (N.taken notes.new) told
-        × EventServed collector.old.clock (history_of before) (waiting collector.old.connections.items)
-        (waiting collector.new.connections.items) lines.old.number lines.new.number result
+        × EventServed (clock_of collector.old) (history_of before) (waits_of collector.old)
+        (waits_of collector.new) lines.old.number lines.new.number result
         (accepted_event event.entry) accepted told
         × OnOk result (lines.new.refused ≡ (lines.old.refused || has_some told)) }
     ensures settled { (first : List Entry) (before : List AcceptedEvent)
-        → Stands collector.old.clock collector.old.connections.items (S.entries collector.old.store) first before
-        → IsSettled collector.old.connections.items
-        → UnlessMemory result (IsSettled collector.new.connections.items) }
+        → Stands S.entries collector.old first before
+        → NoneWaits collector.old
+        → UnlessMemory result (NoneWaits collector.new) }
     ensures failures { NotesFail result (N.failures notes.old) (N.failures notes.new) }
     ensures going { ¬ (IsErrOf result Stopped.Endless) }
-    ensures clock { collector.new.clock ≡ collector.old.clock }
+    ensures clock { clock_of collector.new ≡ clock_of collector.old }
 {
     let received = receive(alloc, collector, event, &mut lines.outcomes);
     match received {
@@ -114,22 +111,21 @@ fn serve_step<S: Store, N: Output>(
     requires within { IsWithin (length buf.now) step }
     requires event { IsEventStep step }
     ensures served { (first : List Entry) (before : List AcceptedEvent)
-        → Stands collector.old.clock collector.old.connections.items (S.entries collector.old.store) first before
+        → Stands S.entries collector.old first before
         → (event : AcceptedEvent) × (accepted : List AcceptedEvent) × (told : List ℕ)
         × (event_of (given_of step buf.now) ≡ Some event)
-        × Stands collector.new.clock collector.new.connections.items (S.entries collector.new.store) first
-        (before ++ accepted)
+        × Stands S.entries collector.new first (before ++ accepted)
         × Appends (N.taken notes.old) (N.taken notes.new) told
-        × EventServed collector.old.clock (history_of before) (waiting collector.old.connections.items)
-        (waiting collector.new.connections.items) lines.old.number lines.new.number result event accepted told
+        × EventServed (clock_of collector.old) (history_of before) (waits_of collector.old)
+        (waits_of collector.new) lines.old.number lines.new.number result event accepted told
         × OnOk result (lines.new.refused ≡ (lines.old.refused || has_some told)) }
     ensures settled { (first : List Entry) (before : List AcceptedEvent)
-        → Stands collector.old.clock collector.old.connections.items (S.entries collector.old.store) first before
-        → IsSettled collector.old.connections.items
-        → UnlessMemory result (IsSettled collector.new.connections.items) }
+        → Stands S.entries collector.old first before
+        → NoneWaits collector.old
+        → UnlessMemory result (NoneWaits collector.new) }
     ensures failures { NotesFail result (N.failures notes.old) (N.failures notes.new) }
     ensures going { ¬ (IsErrOf result Stopped.Endless) }
-    ensures clock { collector.new.clock ≡ collector.old.clock }
+    ensures clock { clock_of collector.new ≡ clock_of collector.old }
 {
     let event = event_of_step(step, buf);
     serve_event(alloc, collector, event, notes, lines)
@@ -152,25 +148,24 @@ fn serve_next<S: Store, R: Source, N: Output>(
     lines: &mut EventLines,
 ) -> Result<bool, Stopped>
     ensures served { (first : List Entry) (before : List AcceptedEvent)
-        → Stands collector.old.clock collector.old.connections.items (S.entries collector.old.store) first before
+        → Stands S.entries collector.old first before
         → (given : Given) × (accepted : List AcceptedEvent) × (told : List ℕ)
         × (R.steps source.old < 2 ^ 64 - 1 → FRAME_MAX < length buf.new
         → Comes (R.coming source.old) (R.coming source.new) given)
-        × Stands collector.new.clock collector.new.connections.items (S.entries collector.new.store) first
-        (before ++ accepted)
+        × Stands S.entries collector.new first (before ++ accepted)
         × Appends (N.taken notes.old) (N.taken notes.new) told
-        × StepServed collector.old.clock (history_of before) (waiting collector.old.connections.items)
-        (waiting collector.new.connections.items) lines.old.number lines.new.number result given accepted told
+        × StepServed (clock_of collector.old) (history_of before) (waits_of collector.old)
+        (waits_of collector.new) lines.old.number lines.new.number result given accepted told
         × OnOk result (lines.new.refused ≡ (lines.old.refused || has_some told)) }
     ensures settled { (first : List Entry) (before : List AcceptedEvent)
-        → Stands collector.old.clock collector.old.connections.items (S.entries collector.old.store) first before
-        → IsSettled collector.old.connections.items
-        → UnlessMemory result (IsSettled collector.new.connections.items) }
+        → Stands S.entries collector.old first before
+        → NoneWaits collector.old
+        → UnlessMemory result (NoneWaits collector.new) }
     ensures failures { NotesFail result (N.failures notes.old) (N.failures notes.new) }
     ensures steps { R.steps source.new ≡ count_on (R.steps source.old) }
     ensures finishes { FinishesBy result (R.finishes source.old) (R.finishes source.new) }
     ensures going { ¬ (IsErrOf result Stopped.Endless) }
-    ensures clock { collector.new.clock ≡ collector.old.clock }
+    ensures clock { clock_of collector.new ≡ clock_of collector.old }
 {
     let step = source.next(buf);
     match step {
@@ -193,25 +188,24 @@ pub(crate) fn serve_steps<S: Store, R: Source, N: Output>(
     notes: &mut N,
 ) -> Result<bool, Stopped>
     ensures served { (first : List Entry) (before : List AcceptedEvent)
-        → Stands collector.old.clock collector.old.connections.items (S.entries collector.old.store) first before
+        → Stands S.entries collector.old first before
         → (given : List Given) × (accepted : List AcceptedEvent) × (told : List ℕ)
         × (R.steps source.old < 2 ^ 63 → Come (R.coming source.old) (R.coming source.new) given)
-        × Stands collector.new.clock collector.new.connections.items (S.entries collector.new.store) first
-        (before ++ accepted)
+        × Stands S.entries collector.new first (before ++ accepted)
         × Appends (N.taken notes.old) (N.taken notes.new) told
-        × StepsServed collector.old.clock (history_of before) (waiting collector.old.connections.items)
-        (waiting collector.new.connections.items) result given accepted told }
+        × StepsServed (clock_of collector.old) (history_of before) (waits_of collector.old)
+        (waits_of collector.new) result given accepted told }
     ensures settled { (first : List Entry) (before : List AcceptedEvent)
-        → Stands collector.old.clock collector.old.connections.items (S.entries collector.old.store) first before
-        → IsSettled collector.old.connections.items
-        → UnlessMemory result (IsSettled collector.new.connections.items) }
+        → Stands S.entries collector.old first before
+        → NoneWaits collector.old
+        → UnlessMemory result (NoneWaits collector.new) }
     ensures failures { NotesFail result (N.failures notes.old) (N.failures notes.new) }
     ensures endless { R.steps source.old < 2 ^ 63 → IsErrOf result Stopped.Endless
         → (R.steps source.new ≡ R.steps source.old + SERVE_TURNS)
         × (R.finishes source.new ≡ R.finishes source.old) }
     ensures finished { R.finishes source.old < 2 ^ 63
         → OnOk result (R.finishes source.old < R.finishes source.new) }
-    ensures clock { collector.new.clock ≡ collector.old.clock }
+    ensures clock { clock_of collector.new ≡ clock_of collector.old }
 {
     let Ok(mut buf) = make_room(alloc) else {
         return Err(Stopped::Memory);
@@ -243,26 +237,25 @@ pub fn serve<S: Store, R: Source, N: Output>(
     // Which steps came, which events they were accepted as, and which lines were noted: all that the steps ask for,
     // unless the notes failed or memory ran out.
     ensures served { (first : List Entry) (before : List AcceptedEvent)
-        → Stands collector.old.clock collector.old.connections.items (S.entries collector.old.store) first before
+        → Stands S.entries collector.old first before
         → (given : List Given) × (accepted : List AcceptedEvent) × (told : List ℕ)
         × (R.steps source.old < 2 ^ 63 → Come (R.coming source.old) (R.coming source.new) given)
-        × Stands collector.new.clock collector.new.connections.items (S.entries collector.new.store) first
-        (before ++ accepted)
+        × Stands S.entries collector.new first (before ++ accepted)
         × Appends (N.taken notes.old) (N.taken notes.new) told
-        × ServesTo collector.old.clock (history_of before) (waiting collector.old.connections.items)
-        (waiting collector.new.connections.items) result (N.failures notes.old) (N.failures notes.new) given
+        × ServesTo (clock_of collector.old) (history_of before) (waits_of collector.old)
+        (waits_of collector.new) result (N.failures notes.old) (N.failures notes.new) given
         accepted told }
     // No frame is left ready, unless memory ran out.
     ensures settled { (first : List Entry) (before : List AcceptedEvent)
-        → Stands collector.old.clock collector.old.connections.items (S.entries collector.old.store) first before
-        → IsSettled collector.old.connections.items
-        → IfEnough result (IsSettled collector.new.connections.items) }
+        → Stands S.entries collector.old first before
+        → NoneWaits collector.old
+        → IfEnough result (NoneWaits collector.new) }
     ensures endless { R.steps source.old < 2 ^ 63 → result ≡ ServeEnd.Endless
         → (R.steps source.new ≡ R.steps source.old + SERVE_TURNS)
         × (R.finishes source.new ≡ R.finishes source.old) }
     ensures finished { R.finishes source.old < 2 ^ 63
         → IfEndDone result (R.finishes source.old < R.finishes source.new) }
-    ensures clock { collector.new.clock ≡ collector.old.clock }
+    ensures clock { clock_of collector.new ≡ clock_of collector.old }
 {
     match serve_steps(alloc, collector, source, notes) {
         Ok(refused) => ServeEnd::Done { refused },

@@ -1,9 +1,9 @@
 -- A settled collector holds what was received.
-use Rattle.std.proofs.Common.{◌≡◌, ℕ, zero, suc, ◌+◌, List, [], ◌∷◌, ◌++◌, length, set as set_at, inl, inr, refl, sym}
-use Rattle.std.proofs.Common.{◌∙◌, ap, subst}
-use Rattle.std.specs.Prelude.{◌⊎◌, ◌↔◌, Result, Ok, Err, OnOk}
-use Rattle.std.specs.List.{remove}
-use Rattle.syslog_frame.specs.Scan.{HasFrame, HasReady}
+use Rattle.std.proofs.Common.{◌≡◌, ℕ, ◌+◌, cond, eqb, List, [], ◌∷◌, ◌++◌, length, inl, inr, refl, sym, ◌∙◌, ap, subst}
+use Rattle.std.proofs.Common.{arith}
+use Rattle.std.specs.Prelude.{◌⊎◌, ◌↔◌, Some}
+use Rattle.std.proofs.lemmas.Bool.{eq-eqb}
+use Rattle.syslog_frame.specs.Scan.{HasFrame}
 use Rattle.syslog_frame.specs.declared.limits.TheConstants.{FRAME_MAX}
 use Rattle.syslog_frame.proofs.Calls.{none_unless_frame}
 use Rattle.syslog_frame.proofs.FrameLaws.{unique_frames}
@@ -13,14 +13,14 @@ use Rattle.archive_text.specs.Text.{IsArchive}
 use Rattle.archive_text.proofs.Ascending.{same_members}
 use Rattle.syslog_legacy.specs.FrameReadings.{Clock}
 use Rattle.syslog_collect.specs.declared.connection.Connection.{Connection}
-use Rattle.syslog_collect.specs.declared.event.EventEnd.{EventEnd}
-use Rattle.syslog_collect.specs.declared.event.EventEnd.TheVariants.{Done as end_Done, Stopped as end_Stopped}
-use Rattle.syslog_collect.specs.Runs.{IfDone}
 use Rattle.syslog_collect.specs.Frames.{AreFramesOf, HasFrames, IsFramesOf, IsReceived, IsSpelled, all_of}
 use Rattle.syslog_collect.specs.Headline.{IsSettled, IsUnion, ReceivedBoth, ReceivedSame}
-use Rattle.syslog_collect.specs.History.{History, Stream, AcceptedEvent, history_of}
-use Rattle.syslog_collect.proofs.Places.{AtPlace}
+use Rattle.syslog_collect.specs.History.{AcceptedEvent, Ended, History, Stream, history_of}
+use Rattle.syslog_collect.specs.Logs.{ready_count, waiting}
 use Rattle.syslog_collect.specs.Standing.{AreAt, IsAt, Stands}
+use Rattle.syslog_collect.proofs.Places.{IsHandled, place_from}
+use Rattle.syslog_collect.proofs.Steps.{close_found}
+use Rattle.syslog_collect.proofs.Waiting.{ready_some, waiting_closed}
 
 -- where no frame is ready, the frames that were handled are those of the opening
 pub one_settled : (c : Connection) (s : Stream) (d : List (List ℕ)) → IsAt c s d → ¬ (HasFrame c.scanner)
@@ -34,7 +34,41 @@ one_settled c s d at none = elim at.scanner [
   | inr broken ↦ (broken.rest, broken.bad.frames_are)
 ]
 
-all_settled : (cs : List Connection) (ss : List Stream) (ds : List (List (List ℕ))) → AreAt cs ss ds → IsSettled cs
+-- no connection has a frame ready
+abbrev pub AreSettled : List Connection → Type 0
+AreSettled [] = Unit {0}
+AreSettled (c ∷ cs) = ¬ (HasFrame c.scanner) × AreSettled cs
+
+one_no : (n : ℕ) → n ≡ 1 → n ≡ 0 → ⊥
+one_no n a b = omega arith
+
+first_waits : (x : Connection) (xs : List Connection) → waiting (x ∷ xs) x.number ≡ 0
+    → ready_count x.scanner.phase ≡ 0
+first_waits x xs h =
+    subst (λ b. cond b (ready_count x.scanner.phase) (waiting xs x.number) ≡ 0) (eq-eqb x.number x.number refl) h
+
+first_place : (x : Connection) (xs : List Connection) → place_from x.number 0 (x ∷ xs) ≡ Some 0
+first_place x xs = rw (eq-eqb x.number x.number refl) refl
+
+-- where no frame waits, the first connection has none ready
+pub first_settled : (x : Connection) (xs : List Connection) → IsSettled (x ∷ xs) → ¬ (HasFrame x.scanner)
+first_settled x xs none = λ f. one_no (ready_count x.scanner.phase) (ready_some x.scanner.phase f)
+    (first_waits x xs (none x.number))
+
+-- and since the open numbers differ, no other has
+each_settled : (clock : Clock) (cs : List Connection) (kept first : List Entry) (es : List AcceptedEvent)
+    → Stands clock cs kept first es → IsSettled cs → AreSettled cs
+each_settled clock [] kept first es was none = tt
+each_settled clock (x ∷ xs) kept first es was none =
+    let ready = first_waits x xs (none x.number) in
+    let handled : IsHandled x = λ s d at. one_settled x s d at (first_settled x xs none) in
+    let is = first_place x xs in
+    let later : (d : ℕ) → waiting xs d ≡ 0 = λ d. waiting_closed clock x.number 0 x (x ∷ xs) kept first es is refl ready
+    handled was d ∙ none d in
+    let stands = close_found clock x.number 0 x (x ∷ xs) kept first es is refl handled was in
+    (first_settled x xs none, each_settled clock xs kept first (es ++ Ended x.number ∷ []) stands later)
+
+all_settled : (cs : List Connection) (ss : List Stream) (ds : List (List (List ℕ))) → AreAt cs ss ds → AreSettled cs
     → AreFramesOf ss ds
 all_settled [] [] [] f h = tt
 all_settled (c ∷ cs) (s ∷ ss) (d ∷ ds) f h = (one_settled c s d f.0 h.0, all_settled cs ss ds f.1 h.1)
@@ -44,44 +78,6 @@ all_settled [] (s ∷ ss) (d ∷ ds) f h = absurd f
 all_settled (c ∷ cs) [] [] f h = absurd f
 all_settled (c ∷ cs) [] (d ∷ ds) f h = absurd f
 all_settled (c ∷ cs) (s ∷ ss) [] f h = absurd f
-
-pub settled_push : (cs : List Connection) (c : Connection) → IsSettled cs → ¬ (HasFrame c.scanner)
-    → IsSettled (cs ++ c ∷ [])
-settled_push [] c h none = (none, tt)
-settled_push (d ∷ cs) c h none = (h.0, settled_push cs c h.1 none)
-
-settled_set : (cs : List Connection) (i : ℕ) (c : Connection) → IsSettled cs → ¬ (HasFrame c.scanner)
-    → IsSettled (set_at cs i c)
-settled_set [] zero c h none = tt
-settled_set [] (suc i) c h none = tt
-settled_set (d ∷ cs) zero c h none = (none, h.1)
-settled_set (d ∷ cs) (suc i) c h none = (h.0, settled_set cs i c h.1 none)
-
-pub settled_remove : (cs : List Connection) (i : ℕ) → IsSettled cs → IsSettled (remove cs i)
-settled_remove [] zero h = tt
-settled_remove [] (suc i) h = tt
-settled_remove (d ∷ cs) zero h = h.1
-settled_remove (d ∷ cs) (suc i) h = (h.0, settled_remove cs i h.1)
-
-pub settled_at : (c i : ℕ) (x : Connection) (ls : List Connection) → IsSettled ls → AtPlace c ls i x
-    → ¬ (HasFrame x.scanner)
-settled_at c i x [] settled at = absurd at
-settled_at c zero x (l ∷ ls) settled at = subst (λ (z : Connection). ¬ (HasFrame z.scanner)) at.0 settled.0
-settled_at c (suc i) x (l ∷ ls) settled at = settled_at c i x ls settled.1 at.1
-
-pub settled_advance : {T E : Type 0} (r : Result T E) (cs : List Connection) (n : ℕ) (c : Connection)
-    → OnOk r (¬ (HasReady c.scanner)) → OnOk r (IsSettled cs → IsSettled (set_at cs n c))
-settled_advance (Ok x) cs n c quiet = λ h. settled_set cs n c h (λ f. quiet (inl f))
-settled_advance (Err e) cs n c quiet = tt
-
-pub settled_piece : (r : EventEnd) (cs : List Connection) (n : ℕ) (c : Connection) → IfDone r (¬ (HasReady c.scanner))
-    → IfDone r (IsSettled cs → IsSettled (set_at cs n c))
-settled_piece end_Done cs n c quiet = λ h. settled_set cs n c h (λ f. quiet (inl f))
-settled_piece (end_Stopped k fault) cs n c quiet = tt
-
-pub if_done : {P : Type 0} (r : EventEnd) → P → IfDone r P
-if_done end_Done p = p
-if_done (end_Stopped k fault) p = tt
 
 -- openings have one list of frames each
 one_each : (ss : List Stream) (fs gs : List (List (List ℕ))) → AreFramesOf ss fs → AreFramesOf ss gs → fs ≡ gs
@@ -112,7 +108,7 @@ holds_received clock cs kept first es was settled x =
       open_frames = sa.handled;
       ended_frames = sa.ended_frames;
       open_are =
-          all_settled cs h.streams sa.handled sa.follow settled;
+          all_settled cs h.streams sa.handled sa.follow (each_settled clock cs kept first es was settled);
       ended_are = sa.ended_are;
       all = refl;
     } in (

@@ -6,6 +6,7 @@ pub mod Moving
 pub mod Gains
 pub mod Places
 pub mod Steps
+pub mod Collecting
 pub mod Waiting
 pub mod Taking
 pub mod Headline

@@ -1,6 +1,6 @@
 -- What is logged of events, one after the other.
 use Rattle.std.proofs.Common.{◌≡◌, ◌<◌, ℕ, zero, suc, length, drop, arith, List, [], ◌∷◌, ◌++◌, get_or, set as set_at}
-use Rattle.std.proofs.Common.{take, inl, inr, append_assoc, refl, sym, ◌∙◌, ap, subst}
+use Rattle.std.proofs.Common.{take, inl, inr, append_assoc, refl, sym, ◌∙◌, ap, subst, cond, eqb, true, false}
 use Rattle.std.specs.Prelude.{Some, Result, Ok, Err, IfOk, OnOk}
 use denote.Bor.{Bor}
 use Rattle.syslog_frame.specs.declared.framing.Framing.{Framing}
@@ -21,9 +21,11 @@ use Rattle.syslog_collect.specs.declared.event.EventEnd.TheVariants.{Done as end
 use Rattle.syslog_collect.specs.declared.outcome.Outcome.{Outcome}
 use Rattle.syslog_collect.specs.Outcomes.{outcomes_of}
 use Rattle.syslog_collect.specs.Frames.{IsFramesOf}
-use Rattle.syslog_collect.specs.History.{AcceptedEvent, History, Stream, accept, history_after, history_of, with_octets}
+use Rattle.syslog_collect.specs.History.{AcceptedEvent, Datagram, Ended, History, Opened, Piece, Stream, accept}
+use Rattle.syslog_collect.specs.History.{history_after, history_of, with_octets}
 use Rattle.syslog_collect.specs.Logs.{Grows, IsLogOf, LogsDatagram, LogsEvent, LogsEventEnd, LogsFirst, LogsOctets}
 use Rattle.syslog_collect.specs.Logs.{LogsPiece, LogsRefused, LogsRun, Reports, ready_count, waiting, waiting_after}
+use Rattle.syslog_collect.specs.Logs.{waiting_after_all}
 use Rattle.syslog_collect.specs.Runs.{IfDone, Logs, LogsAdvance, accepted_all, accepted_event, piece_octets}
 use Rattle.syslog_collect.specs.Standing.{IsAt, Stands}
 use Rattle.syslog_collect.proofs.Places.{AtPlace, found_here, opening_at, place_from, set_same}
@@ -38,6 +40,7 @@ logs_octets clock x y a b o os s d at moves =
     let before = frames_waiting x s d at in
     let now = frames_waiting y (with_octets s o) (d ++ moves.fresh) moves.now_at in
     record {
+      sound = moves.may.0;
       handled = d;
       waiting_before = before.left;
       logged = moves.fresh;
@@ -226,6 +229,25 @@ grows_push clock h w es e u v a b c l m n (os, log, is) (ps, more, (logs, waits)
 pub grows_none : (clock : Clock) (h : History) (w : ℕ → ℕ) (a : List Entry) (l : List Outcome)
     → Grows (IsLogOf clock h w [] w a a) l l
 grows_none clock h w a l = ([], sym (append-nil l), (refl, refl, λ d. refl))
+
+-- how many frames wait after events
+pub log_waits : (clock : Clock) (h : History) (w v : ℕ → ℕ) (es : List AcceptedEvent) (a b : List Entry)
+    (os : List Outcome) → IsLogOf clock h w es v a b os → (d : ℕ) → v d ≡ waiting_after_all w es d
+log_waits clock h w v [] a b os (none, same, is) d = is d
+log_waits clock h w v (e ∷ es) a b os (here, later, mid, is, one, more) d =
+    log_waits clock (accept h e) (waiting_after w e) v es mid b later more d
+
+none_after : (w : ℕ → ℕ) (e : AcceptedEvent) → ((d : ℕ) → w d ≡ 0) → (d : ℕ) → waiting_after w e d ≡ 0
+none_after w (Opened c k) none d = none d
+none_after w (Piece c o) none d = elim (eqb c d) as (λ b. cond b 0 (w d) ≡ 0) [ true ↦ refl | false ↦ none d ]
+none_after w (Ended c) none d = none d
+none_after w (Datagram o) none d = none d
+
+-- where none waited, none waits after events
+pub none_after_all : (w : ℕ → ℕ) (es : List AcceptedEvent) → ((d : ℕ) → w d ≡ 0) → (d : ℕ)
+    → waiting_after_all w es d ≡ 0
+none_after_all w [] none d = none d
+none_after_all w (e ∷ es) none d = none_after_all (waiting_after w e) es (none_after w e none) d
 
 first_here : (clock : Clock) (h : History) (w v : ℕ
     → ℕ) (es : List Event) (n k : ℕ) (d : Event) (a b : List Entry) (os : List Outcome) → n < length es

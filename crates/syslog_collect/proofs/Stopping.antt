@@ -25,8 +25,8 @@ use Rattle.syslog_collect.specs.declared.fault.CollectFault.TheVariants.{Memory}
 use Rattle.syslog_collect.specs.declared.outcome.Outcome.{Outcome}
 use Rattle.syslog_collect.specs.declared.outcome.Outcome.TheVariants.{New, Held, Refused, RefusedLegacy, TooLong}
 use Rattle.syslog_collect.specs.declared.outcome.Outcome.TheVariants.{BadCount}
-use Rattle.syslog_collect.specs.Answers.{Advances, ComesInTurn, EndsFrameOf, IfMemory, IfUnreleased, IsBadCount}
-use Rattle.syslog_collect.specs.Answers.{IsCause, IsEnding, IsOpening, IsTaken, IsWholeWith, ReportsBadCount}
+use Rattle.syslog_collect.specs.Answers.{Advances, ComesInTurn, EndsFrameOf, IfMemory, IfRefused, IfUnreleased}
+use Rattle.syslog_collect.specs.Answers.{IsBadCount, IsCause, IsEnding, IsOpening, IsTaken, IsWholeWith, ReportsBadCount}
 use Rattle.syslog_collect.specs.Answers.{accepted_count}
 use Rattle.syslog_collect.specs.History.{AcceptedEvent, History, HoldsBadCount, Stream, accept, history_after}
 use Rattle.syslog_collect.specs.History.{history_of, stream_of, with_octets}
@@ -46,11 +46,13 @@ use Rattle.syslog_collect.proofs.Waiting.{place_set, waiting_at}
 -- ---- one step of a piece
 
 -- an advance that was refused
-pub step_cause : (clock : Clock) (rest : List ℕ) (used waited : ℕ) (phase : Phase) (fault : CollectFault) (s : Stream)
-    → used ≡ used_before fault → used ≤ length rest → IsCause clock rest (Err fault) s
-    → IfMemory {A = Advance} (Err fault) (phase ≡ phase_Ended) → IsTaken rest waited (Err fault) s
-    → StopsStep clock rest used waited (ready_count phase) fault s
-step_cause clock rest used waited phase (Memory n) s is le cause frame taken =
+pub step_cause : {T : Type 0} (clock : Clock) (rest : List ℕ) (used : ℕ) (x y : Connection) (was now : T)
+    (fault : CollectFault) (s : Stream) → used ≡ used_before fault → used ≤ length rest → IsCause clock rest (Err fault) s
+    → IfMemory {A = Advance} (Err fault) (y.scanner.phase ≡ phase_Ended)
+    → IfRefused {A = Advance} (Err fault) ((y ≡ x) × (now ≡ was))
+    → IsTaken rest (ready_count x.scanner.phase) (Err fault) s
+    → StopsStep clock rest used (ready_count x.scanner.phase) (ready_count y.scanner.phase) fault s
+step_cause clock rest used x y was now (Memory n) s is le cause frame same taken =
     inr (
       (
         subst (λ (k : ℕ). IsCause clock rest (Err (Memory k)) s) (sym is) cause,
@@ -59,13 +61,14 @@ step_cause clock rest used waited phase (Memory n) s is le cause frame taken =
       ),
       omega (arith, is, taken.2),
     )
-step_cause clock rest used waited phase ConnFailed s is le cause frame taken = inr ((cause, is), tt)
-step_cause clock rest used waited phase StreamTooLong s is le cause frame taken = inr ((cause, is), tt)
-step_cause clock rest used waited phase NotOpen s is le cause frame taken = absurd cause
-step_cause clock rest used waited phase AlreadyOpen s is le cause frame taken = absurd cause
-step_cause clock rest used waited phase TooManyOpen s is le cause frame taken = absurd cause
-step_cause clock rest used waited phase Unreleased s is le cause frame taken = absurd cause
-step_cause clock rest used waited phase (Unterminated start) s is le cause frame taken = absurd cause
+step_cause clock rest used x y was now ConnFailed s is le cause frame same taken = inr ((cause, is), tt)
+step_cause clock rest used x y was now StreamTooLong s is le cause frame same taken =
+    inr ((cause, is, ap (λ (c : Connection). ready_count c.scanner.phase) same.0 ∙ taken), tt)
+step_cause clock rest used x y was now NotOpen s is le cause frame same taken = absurd cause
+step_cause clock rest used x y was now AlreadyOpen s is le cause frame same taken = absurd cause
+step_cause clock rest used x y was now TooManyOpen s is le cause frame same taken = absurd cause
+step_cause clock rest used x y was now Unreleased s is le cause frame same taken = absurd cause
+step_cause clock rest used x y was now (Unterminated start) s is le cause frame same taken = absurd cause
 
 unmarked : (o : Option Outcome) (t : Stream) → ¬ (IsBadCount o) → ReportsBadCount (outcomes_of o) t
     → ¬ (HoldsBadCount t)
@@ -145,15 +148,17 @@ of_rest clock p n m waited waits ConnFailed s le lt was (inl none) between some 
     (of_none (λ (t : Stream). HoldsBadCount t) s (take n p) (take_none n p none) cause, omega arith)
 of_rest clock p n m waited waits ConnFailed s le lt was (inr (good, fits)) between some (cause, zero_here) =
     absurd (good cause)
-of_rest clock p n m waited waits StreamTooLong s le lt was (inl none) between some ((good, long), zero_here) = (
-  (
-    of_none (λ (t : Stream). ¬ (HoldsBadCount t)) s (take n p) (take_none n p none) good,
-    omega (arith, lengths s p n le, long),
-  ),
-  omega arith,
-)
+of_rest clock p n m waited waits StreamTooLong s le lt was (inl none) between some
+    ((good, long), zero_here, quiet) = (
+      (
+        of_none (λ (t : Stream). ¬ (HoldsBadCount t)) s (take n p) (take_none n p none) good,
+        omega (arith, lengths s p n le, long),
+      ),
+      omega arith,
+      quiet,
+    )
 of_rest clock p n m waited waits StreamTooLong s le lt was (inr (good, fits)) between some
-    ((still, long), zero_here) = absurd (omega (arith, lengths s p n le, long, fits))
+    ((still, long), zero_here, quiet) = absurd (omega (arith, lengths s p n le, long, fits))
 of_rest clock p n m waited waits NotOpen s le lt was may between some cause = absurd cause
 of_rest clock p n m waited waits AlreadyOpen s le lt was may between some cause = absurd cause
 of_rest clock p n m waited waits TooManyOpen s le lt was may between some cause = absurd cause

@@ -1,16 +1,15 @@
--- When no frame is left ready, and what was received alike.
-use Rattle.std.specs.Prelude.{◌⊎◌, ◌↔◌, List, [], ◌∷◌}
-use Rattle.syslog_frame.specs.Scan.{HasFrame}
+-- When no frame waits, and what was received alike.
+use Rattle.std.specs.Prelude.{◌≡◌, ◌⊎◌, ◌↔◌, ℕ, List}
 use Rattle.archive_text.specs.Entries.{Entry, Has}
 use Rattle.syslog_legacy.specs.FrameReadings.{Clock}
 use Rattle.syslog_collect.specs.declared.connection.Connection.{Connection}
 use Rattle.syslog_collect.specs.Frames.{IsReceived}
 use Rattle.syslog_collect.specs.History.{AcceptedEvent}
+use Rattle.syslog_collect.specs.Logs.{waiting}
 
--- no connection has a frame ready that was not handled
+-- no frame of any number waits to be handled
 abbrev pub IsSettled : List Connection → Type 0
-IsSettled [] = Unit {0}
-IsSettled (c ∷ cs) = ¬ (HasFrame c.scanner) × IsSettled cs
+IsSettled cs = (d : ℕ) → waiting cs d ≡ 0
 
 -- the received sets of two lists of events are equal
 abbrev pub ReceivedSame : Clock → List AcceptedEvent → List AcceptedEvent → Type 0

@@ -2,6 +2,7 @@ pub mod Frames
 pub mod History
 pub mod Outcomes
 pub mod Standing
+pub mod Collectors
 pub mod Answers
 pub mod Headline
 pub mod Runs

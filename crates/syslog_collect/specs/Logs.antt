@@ -21,8 +21,8 @@ use Rattle.syslog_collect.specs.declared.fault.CollectFault.TheVariants.{Memory}
 use Rattle.std.specs.Prelude.{Result, Ok, Err}
 use Rattle.syslog_collect.specs.Answers.{ReportsBadCount}
 use Rattle.syslog_collect.specs.Frames.{IsFramesOf}
-use Rattle.syslog_collect.specs.History.{AcceptedEvent, Datagram, Ended, History, Opened, Piece, Stream, accept}
-use Rattle.syslog_collect.specs.History.{history_after, stream_of, with_octets}
+use Rattle.syslog_collect.specs.History.{AcceptedEvent, Datagram, Ended, History, HoldsBadCount, Opened, Piece, Stream}
+use Rattle.syslog_collect.specs.History.{accept, history_after, stream_of, with_octets}
 use Rattle.syslog_collect.specs.Outcomes.{AreReported, IsOutcome}
 use Rattle.syslog_collect.specs.Runs.{accepted_all, accepted_event}
 use Rattle.syslog_collect.specs.declared.outcome.Outcome.{Outcome}
@@ -49,6 +49,11 @@ waiting_after w (Piece c o) d = cond (c == d) 0 (w d)
 waiting_after w (Ended c) d = w d
 waiting_after w (Datagram o) d = w d
 
+-- the same after events
+abbrev pub waiting_after_all : (ℕ → ℕ) → List AcceptedEvent → ℕ → ℕ
+waiting_after_all w [] d = w d
+waiting_after_all w (e ∷ es) d = waiting_after_all (waiting_after w e) es d
+
 -- the same after an advance of a number: none after Ok, and one where memory was refused
 abbrev pub waiting_then : Result Advance CollectFault → ℕ → (ℕ → ℕ) → ℕ → ℕ
 waiting_then (Ok a) c w d = cond (c == d) 0 (w d)
@@ -63,10 +68,11 @@ waiting_then (Err (Unterminated start)) c w d = w d
 
 -- ---- the outcomes of events
 
--- the outcomes of an opening's frames where octets come: of those that waited, and of those that the octets
--- complete, but for those that wait now
+-- the outcomes of an opening's frames where octets come, no bad count before them: of the frames that waited, and of
+-- those that the octets complete, but for those that wait now
 pub record LogsOctets (clock : Clock) (s : Stream) (o : List ℕ) (waited waits : ℕ) (old new : List Entry)
     (os : List Outcome) : Type 0 where
+  pub sound : ¬ (HoldsBadCount s)
   pub handled : List (List ℕ)
   pub waiting_before : List (List ℕ)
   pub logged : List (List ℕ)
@@ -104,7 +110,8 @@ IsLogOf clock h w (e ∷ es) v old new os = (here : List Outcome) × (later : Li
 abbrev pub LogsNothing : (ℕ → ℕ) → (ℕ → ℕ) → List Entry → List Entry → List Outcome → Type 0
 LogsNothing w v old new os = (os ≡ []) × (new ≡ old) × ((d : ℕ) → v d ≡ w d)
 
--- the outcomes of the octets of a number that were taken before it was refused: nothing; or a frame may wait now
+-- the outcomes of the octets of a number that were taken before it was refused: nothing; or, where the number holds no
+-- bad count, a frame may wait now
 abbrev pub LogsPart : Clock → History → (ℕ → ℕ) → (ℕ → ℕ) → ℕ → List ℕ → List Entry → List Entry → List Outcome → Type 0
 LogsPart clock h w v c o old new os = ((o ≡ []) × LogsNothing w v old new os)
     ⊎ (IsSomeAnd (stream_of c h.streams) (λ s. LogsOctets clock s o (w c) (v c) old new os)

@@ -23,12 +23,13 @@ use Rattle.syslog_collect.specs.Runs.{accepted_all, accepted_event}
 
 -- why a piece is refused at an opening, so many of its octets being taken, where so many frames wait then: memory is
 -- refused for the record of the frame that they complete, which waits, and n of them are of that frame; any other cause
--- is there before the first octet
+-- is there before the first octet, and a stream is too long only where no frame waits
 abbrev pub IsPieceCause : Clock → List ℕ → ℕ → ℕ → CollectFault → Stream → Type 0
 IsPieceCause clock piece taken waits (Memory n) s =
     IsCause clock piece (Err (Memory taken)) s × EndsFrameOf (take taken piece) n s × (waits ≡ 1)
 IsPieceCause clock piece taken waits ConnFailed s = IsCause clock piece (Err ConnFailed) s × (taken ≡ 0)
-IsPieceCause clock piece taken waits StreamTooLong s = IsCause clock piece (Err StreamTooLong) s × (taken ≡ 0)
+IsPieceCause clock piece taken waits StreamTooLong s =
+    IsCause clock piece (Err StreamTooLong) s × (taken ≡ 0) × (waits ≡ 0)
 IsPieceCause clock piece taken waits NotOpen s = ⊥
 IsPieceCause clock piece taken waits AlreadyOpen s = ⊥
 IsPieceCause clock piece taken waits TooManyOpen s = ⊥

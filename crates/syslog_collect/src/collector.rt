@@ -1,19 +1,19 @@
 //! The collector: streams in pieces, and datagrams, into a set of records.
 
 ghost use Rattle.std.specs.Prelude.{◌≡◌, ◌≤◌, ◌⊎◌, ◌↔◌, ◌++◌, ◌==◌, ℕ, List, [], IfErr, IfOk, IfSome, OnErr, OnOk};
-ghost use Rattle.std.specs.Prelude.{vec_capacity};
 ghost use Rattle.std.specs.List.{position_from};
 ghost use Rattle.archive_text.specs.Entries.{Entry, Has};
 ghost use Rattle.archive_text.specs.Text.{IsArchive, text_of};
 ghost use Rattle.syslog_collect.specs.Answers.{IfRefused, IfUnreleased, IsAnswerAt, IsEnding, IsOpening, IsTaken};
 ghost use Rattle.syslog_collect.specs.Answers.{IsUsedWithin, accepted_octets, dropped_octets, used_octets};
 ghost use Rattle.syslog_collect.specs.Answers.{accepted_datagram, accepted_ending, accepted_opening, accepted_piece};
+ghost use Rattle.syslog_collect.specs.Collectors.{GoesOn, HaveSameConnections, NoneWaits, Stands, WaitAlike};
+ghost use Rattle.syslog_collect.specs.Collectors.{clock_of, room_of, store_of, waits_of};
 ghost use Rattle.syslog_collect.specs.Frames.{IsReceived};
-ghost use Rattle.syslog_collect.specs.Headline.{IsSettled, IsUnion, ReceivedBoth, ReceivedSame};
+ghost use Rattle.syslog_collect.specs.Headline.{IsUnion, ReceivedBoth, ReceivedSame};
 ghost use Rattle.syslog_collect.specs.History.{AcceptedEvent, history_of, stream_of};
-ghost use Rattle.syslog_collect.specs.Logs.{Reports, waiting, waiting_then};
+ghost use Rattle.syslog_collect.specs.Logs.{Reports, waiting_then};
 ghost use Rattle.syslog_collect.specs.Outcomes.{IsOutcome, IsRecordFrame, outcomes_of};
-ghost use Rattle.syslog_collect.specs.Standing.{Stands};
 
 use crate::advancing::advance_connection;
 use crate::connection::{Connection, handle};
@@ -50,12 +50,11 @@ impl<S: Store> Collector<S> {
     /// A collector over a store, with room for `CONNECTIONS_MAX` connections. Where that is
     /// refused, the store comes back.
     pub fn new(alloc: Global, store: S, clock: Option<LegacyClock>) -> Result<Collector<S>, S>
-        ensures stands { IfOk result (λ c.
-            Stands clock c.connections.items (S.entries c.store) (S.entries store) []) }
-        ensures settled { IfOk result (λ c. IsSettled c.connections.items) }
-        ensures clock { IfOk result (λ c. c.clock ≡ clock) }
+        ensures stands { IfOk result (λ c. Stands S.entries c (S.entries store) []) }
+        ensures settled { IfOk result (λ c. NoneWaits c) }
+        ensures clock { IfOk result (λ c. clock_of c ≡ clock) }
         ensures back { IfErr result (λ s. s ≡ store) }
-        ensures room { IfOk result (λ c. CONNECTIONS_MAX ≤ vec_capacity c.connections) }
+        ensures room { IfOk result (λ c. CONNECTIONS_MAX ≤ room_of c) }
     {
         match Vec::with_capacity(alloc, CONNECTIONS_MAX) {
             Ok(connections) => Ok(Collector {
@@ -79,21 +78,14 @@ impl<S: Store> Collector<S> {
         conn: u32,
         framing: Framing,
     ) -> Result<(), CollectFault>
-        ensures stands { (first : List Entry) (events : List AcceptedEvent)
-            → Stands self.old.clock self.old.connections.items (S.entries self.old.store) first events
-            → Stands self.new.clock self.new.connections.items (S.entries self.new.store) first
-            (events ++ accepted_opening conn framing result) }
+        ensures goes_on { GoesOn S.entries self.old self.new
+            (accepted_opening conn framing result) }
         ensures cause { (first : List Entry) (events : List AcceptedEvent)
-            → Stands self.old.clock self.old.connections.items (S.entries self.old.store) first events
+            → Stands S.entries self.old first events
             → IsOpening conn result (history_of events) }
-        ensures settled { IsSettled self.old.connections.items
-            → IsSettled self.new.connections.items }
-        ensures waits { (d : ℕ) → waiting self.new.connections.items d
-            ≡ waiting self.old.connections.items d }
-        ensures err { OnErr result (self.new.connections.items ≡ self.old.connections.items) }
-        ensures store { self.new.store ≡ self.old.store }
-        ensures clock { self.new.clock ≡ self.old.clock }
-        ensures room { vec_capacity self.old.connections ≤ vec_capacity self.new.connections }
+        ensures waits { WaitAlike self.old self.new }
+        ensures err { OnErr result (HaveSameConnections self.old self.new) }
+        ensures store { store_of self.new ≡ store_of self.old }
     {
         if place(&self.connections, conn).is_some() {
             return Err(CollectFault::AlreadyOpen);
@@ -133,42 +125,32 @@ impl<S: Store> Collector<S> {
         // end of a frame, or up to a bad octet, or the whole piece. Where memory was refused, all of
         // it is of the frame that waits.
         ensures taken { (first : List Entry) (events : List AcceptedEvent)
-            → Stands self.old.clock self.old.connections.items (S.entries self.old.store) first events
+            → Stands S.entries self.old first events
             → IfSome (stream_of conn (history_of events).streams)
-            (IsTaken piece.now (waiting self.old.connections.items conn) result) }
+            (IsTaken piece.now (waits_of self.old conn) result) }
         // It stands at the events with what was accepted: the octets used, and a bad one.
-        ensures stands { (first : List Entry) (events : List AcceptedEvent)
-            → Stands self.old.clock self.old.connections.items (S.entries self.old.store) first events
-            → Stands self.new.clock self.new.connections.items (S.entries self.new.store) first
-            (events ++ accepted_piece conn (accepted_octets piece.now result)) }
+        ensures goes_on { GoesOn S.entries self.old self.new
+            (accepted_piece conn (accepted_octets piece.now result)) }
         // The octets that follow a bad one change nothing.
-        ensures drops { (first : List Entry) (events : List AcceptedEvent)
-            → Stands self.old.clock self.old.connections.items (S.entries self.old.store) first events
-            → Stands self.new.clock self.new.connections.items (S.entries self.new.store) first
-            (events ++ accepted_piece conn (dropped_octets piece.now result)) }
+        ensures drops { GoesOn S.entries self.old self.new
+            (accepted_piece conn (dropped_octets piece.now result)) }
         // The outcome is that of the frame that waited, or else that the octets complete; there is
         // none exactly where there is no such frame, and no bad count.
         ensures outcome { (first : List Entry) (events : List AcceptedEvent)
-            → Stands self.old.clock self.old.connections.items (S.entries self.old.store) first events
-            → IfOk result (λ a. Reports self.old.clock conn (used_octets piece.now a) (history_of events)
-            (waiting self.old.connections.items conn)
-            (S.entries self.old.store) (S.entries self.new.store) (outcomes_of a.outcome)) }
+            → Stands S.entries self.old first events
+            → IfOk result (λ a. Reports (clock_of self.old) conn (used_octets piece.now a)
+            (history_of events) (waits_of self.old conn) (S.entries (store_of self.old))
+            (S.entries (store_of self.new)) (outcomes_of a.outcome)) }
         // After Ok no frame of the connection waits; where memory was refused, one does.
-        ensures waits { (d : ℕ) → waiting self.new.connections.items d
-            ≡ waiting_then result conn (waiting self.old.connections.items) d }
+        ensures waits { (d : ℕ) → waits_of self.new d ≡ waiting_then result conn (waits_of self.old) d }
         // Why the piece is refused.
         ensures cause { (first : List Entry) (events : List AcceptedEvent)
-            → Stands self.old.clock self.old.connections.items (S.entries self.old.store) first events
-            → IsAnswerAt self.old.clock conn piece.now result (history_of events) }
+            → Stands S.entries self.old first events
+            → IsAnswerAt (clock_of self.old) conn piece.now result (history_of events) }
         // A refusal changes nothing, but where memory was refused.
-        ensures unchanged { IfRefused result ((self.new.connections.items ≡ self.old.connections.items)
-            × (self.new.store ≡ self.old.store)) }
-        ensures err { OnErr result (S.entries self.new.store ≡ S.entries self.old.store) }
-        ensures clock { self.new.clock ≡ self.old.clock }
-        ensures room { vec_capacity self.old.connections ≤ vec_capacity self.new.connections }
-        // After Ok no frame of the connection is left ready.
-        ensures settled { OnOk result (IsSettled self.old.connections.items
-            → IsSettled self.new.connections.items) }
+        ensures unchanged { IfRefused result ((HaveSameConnections self.old self.new)
+            × (store_of self.new ≡ store_of self.old)) }
+        ensures err { OnErr result (S.entries (store_of self.new) ≡ S.entries (store_of self.old)) }
     {
         match place(&self.connections, conn) {
             None => Err(CollectFault::NotOpen),
@@ -184,18 +166,13 @@ impl<S: Store> Collector<S> {
 
     /// Handles a datagram: its octets are one frame. If a growth is refused, nothing has changed.
     pub fn datagram(&mut self, alloc: Global, octets: &[u8]) -> Result<Outcome, AllocError>
-        ensures stands { (first : List Entry) (events : List AcceptedEvent)
-            → Stands self.old.clock self.old.connections.items (S.entries self.old.store) first events
-            → Stands self.new.clock self.new.connections.items (S.entries self.new.store) first
-            (events ++ accepted_datagram octets.now result) }
+        ensures goes_on { GoesOn S.entries self.old self.new (accepted_datagram octets.now result) }
         ensures outcome { IfOk result (λ o.
-            IsOutcome self.old.clock (S.entries self.old.store) (S.entries self.new.store)
+            IsOutcome (clock_of self.old) (S.entries (store_of self.old)) (S.entries (store_of self.new))
             octets.now o) }
-        ensures err { OnErr result (S.entries self.new.store ≡ S.entries self.old.store) }
-        ensures connections { self.new.connections.items ≡ self.old.connections.items }
-        ensures clock { self.new.clock ≡ self.old.clock }
-        ensures room { vec_capacity self.old.connections ≤ vec_capacity self.new.connections }
-        ensures spelled { OnErr result (IsRecordFrame self.old.clock octets.now) }
+        ensures err { OnErr result (S.entries (store_of self.new) ≡ S.entries (store_of self.old)) }
+        ensures connections { HaveSameConnections self.old self.new }
+        ensures spelled { OnErr result (IsRecordFrame (clock_of self.old) octets.now) }
     {
         handle(alloc, self.clock, &mut self.store, octets)
     }
@@ -205,32 +182,20 @@ impl<S: Store> Collector<S> {
     /// is closed with Ok. `NotOpen`, and `Unreleased` while a frame waits whose memory was refused,
     /// change nothing.
     pub fn end_conn(&mut self, conn: u32) -> Result<(), CollectFault>
-        ensures stands { (first : List Entry) (events : List AcceptedEvent)
-            → Stands self.old.clock self.old.connections.items (S.entries self.old.store) first events
-            → Stands self.new.clock self.new.connections.items (S.entries self.new.store) first
-            (events ++ accepted_ending conn result) }
+        ensures goes_on { GoesOn S.entries self.old self.new (accepted_ending conn result) }
         ensures cause { (first : List Entry) (events : List AcceptedEvent)
-            → Stands self.old.clock self.old.connections.items (S.entries self.old.store) first events
+            → Stands S.entries self.old first events
             → IsEnding conn result (history_of events) }
-        ensures unreleased { (first : List Entry) (events : List AcceptedEvent)
-            → Stands self.old.clock self.old.connections.items (S.entries self.old.store) first events
-            → IfUnreleased result (¬ (IsSettled self.old.connections.items)) }
         // The frame that is not handled is one of this connection.
         ensures ready { (first : List Entry) (events : List AcceptedEvent)
-            → Stands self.old.clock self.old.connections.items (S.entries self.old.store) first events
-            → IfUnreleased result (waiting self.old.connections.items conn ≡ 1) }
-        ensures unchanged { IfRefused result
-            (self.new.connections.items ≡ self.old.connections.items) }
-        ensures settled { IsSettled self.old.connections.items
-            → IsSettled self.new.connections.items }
+            → Stands S.entries self.old first events
+            → IfUnreleased result (waits_of self.old conn ≡ 1) }
+        ensures unchanged { IfRefused result (HaveSameConnections self.old self.new) }
         // No frame of another connection is lost.
         ensures waits { (first : List Entry) (events : List AcceptedEvent)
-            → Stands self.old.clock self.old.connections.items (S.entries self.old.store) first events
-            → (d : ℕ) → waiting self.new.connections.items d
-            ≡ waiting self.old.connections.items d }
-        ensures store { self.new.store ≡ self.old.store }
-        ensures clock { self.new.clock ≡ self.old.clock }
-        ensures room { vec_capacity self.old.connections ≤ vec_capacity self.new.connections }
+            → Stands S.entries self.old first events
+            → WaitAlike self.old self.new }
+        ensures store { store_of self.new ≡ store_of self.old }
     {
         let at = match place(&self.connections, conn) {
             None => return Err(CollectFault::NotOpen),
@@ -253,13 +218,13 @@ impl<S: Store> Collector<S> {
         }
     }
 
-    /// The store. Where no frame is left ready, it holds what was there first and the received set.
+    /// The store. Where no frame waits, it holds what was there first and the received set.
     pub fn store(&self) -> &S
-        ensures same { result.now ≡ self.now.store }
+        ensures same { result.now ≡ store_of self.now }
         ensures received { (first : List Entry) (events : List AcceptedEvent)
-            → Stands self.now.clock self.now.connections.items (S.entries self.now.store) first events
-            → IsSettled self.now.connections.items
-            → (x : Entry) → Has (S.entries result.now) x ↔ (Has first x ⊎ IsReceived self.now.clock events x) }
+            → Stands S.entries self.now first events → NoneWaits self.now
+            → (x : Entry) → Has (S.entries result.now) x
+            ↔ (Has first x ⊎ IsReceived (clock_of self.now) events x) }
     {
         &self.store
     }
@@ -270,17 +235,14 @@ impl<S: Store> Collector<S> {
 /// are byte-equal, whatever the framings, cuts, orders, interleavings and repetitions were. Both
 /// have the same clock for legacy packets, or none.
 pub fn same_archives<S: Store, T: Store>(one: &Collector<S>, two: &Collector<T>)
-    ensures entries { (events others : List AcceptedEvent) → one.now.clock ≡ two.now.clock
-        → Stands one.now.clock one.now.connections.items (S.entries one.now.store) [] events
-        → Stands two.now.clock two.now.connections.items (T.entries two.now.store) [] others
-        → IsSettled one.now.connections.items → IsSettled two.now.connections.items
-        → ReceivedSame one.now.clock events others → S.entries one.now.store ≡ T.entries two.now.store }
-    ensures texts { (events others : List AcceptedEvent) → one.now.clock ≡ two.now.clock
-        → Stands one.now.clock one.now.connections.items (S.entries one.now.store) [] events
-        → Stands two.now.clock two.now.connections.items (T.entries two.now.store) [] others
-        → IsSettled one.now.connections.items → IsSettled two.now.connections.items
-        → ReceivedSame one.now.clock events others
-        → text_of (S.entries one.now.store) ≡ text_of (T.entries two.now.store) }
+    ensures entries { (events others : List AcceptedEvent) → clock_of one.now ≡ clock_of two.now
+        → Stands S.entries one.now [] events → Stands T.entries two.now [] others
+        → NoneWaits one.now → NoneWaits two.now → ReceivedSame (clock_of one.now) events others
+        → S.entries (store_of one.now) ≡ T.entries (store_of two.now) }
+    ensures texts { (events others : List AcceptedEvent) → clock_of one.now ≡ clock_of two.now
+        → Stands S.entries one.now [] events → Stands T.entries two.now [] others
+        → NoneWaits one.now → NoneWaits two.now → ReceivedSame (clock_of one.now) events others
+        → text_of (S.entries (store_of one.now)) ≡ text_of (T.entries (store_of two.now)) }
 {}
 
 /// Merging: the union of the archives of two collectors is the archive of a collector that received
@@ -291,13 +253,11 @@ pub fn merged_archives<S: Store, T: Store, U: Store>(
     all: &Collector<U>,
 )
     ensures { (events others both : List AcceptedEvent) (merged : List Entry)
-        → one.now.clock ≡ two.now.clock → one.now.clock ≡ all.now.clock
-        → Stands one.now.clock one.now.connections.items (S.entries one.now.store) [] events
-        → Stands two.now.clock two.now.connections.items (T.entries two.now.store) [] others
-        → Stands all.now.clock all.now.connections.items (U.entries all.now.store) [] both
-        → IsSettled one.now.connections.items → IsSettled two.now.connections.items
-        → IsSettled all.now.connections.items → ReceivedBoth one.now.clock both events others
-        → IsArchive ENTRY_MAX merged
-        → IsUnion merged (S.entries one.now.store) (T.entries two.now.store)
-        → merged ≡ U.entries all.now.store }
+        → clock_of one.now ≡ clock_of two.now → clock_of one.now ≡ clock_of all.now
+        → Stands S.entries one.now [] events → Stands T.entries two.now [] others
+        → Stands U.entries all.now [] both
+        → NoneWaits one.now → NoneWaits two.now → NoneWaits all.now
+        → ReceivedBoth (clock_of one.now) both events others → IsArchive ENTRY_MAX merged
+        → IsUnion merged (S.entries (store_of one.now)) (T.entries (store_of two.now))
+        → merged ≡ U.entries (store_of all.now) }
 {}

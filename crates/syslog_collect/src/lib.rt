@@ -18,13 +18,14 @@
 //! - Frames: `HasFrames`, the frames of all openings and datagrams; `IsReceived`, the received set:
 //!   the records as which a frame of at most `FRAME_MAX` octets is read, each as its entry
 //!   ([`received_records`]).
-//! - Standing: `Stands`, where a collector is after events over a first set. Each call's clause
-//!   `stands` says that it then stands at these events with those that the call accepted.
+//! - Collectors: `Stands`, where a collector is after events over a first set, and `GoesOn`: each
+//!   call's clause `goes_on` says that it then stands at these events with those that the call
+//!   accepted. `waits_of`, how many frames of a number wait, since memory was refused for them, and
+//!   `NoneWaits`. Standing has the same over the parts of a collector.
 //! - Answers and Runs: what a call or a run accepted, as a function of its answer, and the cause of
 //!   each refusal. Stops: why a run stopped. Outcomes: what becomes of a frame.
-//! - Logs: `LogsRun`, the log of a run, outcome by outcome; `waiting`, how many frames of a
-//!   connection wait, since memory was refused for them.
-//! - Headline: `IsSettled`, that no frame is left ready, and `ReceivedSame`.
+//! - Logs: `LogsRun`, the log of a run, outcome by outcome.
+//! - Headline: `ReceivedSame`, that the received sets of two lists of events are equal.
 #![tactic(auto)]
 
 mod advancing;

@@ -1,15 +1,14 @@
 //! A run of a collector over a list of events.
 
-ghost use Rattle.std.specs.Prelude.{◌≡◌, ◌++◌, ◌<◌, ◌≤◌, ◌+◌, List, length, vec_capacity, vec_len};
+ghost use Rattle.std.specs.Prelude.{◌≡◌, ◌++◌, ◌<◌, ◌≤◌, ◌+◌, ℕ, List, length, vec_capacity, vec_len};
 ghost use Rattle.archive_text.specs.Entries.{Entry};
-ghost use Rattle.syslog_collect.specs.Headline.{IsSettled};
+ghost use Rattle.syslog_collect.specs.Collectors.{GoesOn, HaveSameConnections, Stands, clock_of, store_of, waits_of};
 ghost use Rattle.syslog_collect.specs.History.{AcceptedEvent, history_of};
 ghost use Rattle.syslog_collect.specs.Logs.{Grows, LogsDatagram, LogsEventEnd, LogsPiece, LogsRun};
-ghost use Rattle.syslog_collect.specs.Logs.{waiting};
+ghost use Rattle.syslog_collect.specs.Logs.{waiting_after_all};
 ghost use Rattle.syslog_collect.specs.Outcomes.{IsRecordFrame};
-ghost use Rattle.syslog_collect.specs.Runs.{IfAllDone, IfDone, accepted_by, accepted_datagram_end};
+ghost use Rattle.syslog_collect.specs.Runs.{IfAllDone, IfDone, accepted_all, accepted_by, accepted_datagram_end};
 ghost use Rattle.syslog_collect.specs.Runs.{accepted_piece_end, accepted_run, event_end};
-ghost use Rattle.syslog_collect.specs.Standing.{Stands};
 ghost use Rattle.syslog_collect.specs.Stops.{EndWell, EndsWell, IfStopped, StopsAs, StopsAt, StopsPieceAt};
 ghost use Rattle.syslog_collect.specs.Stops.{done_events};
 ghost use Rattle.syslog_collect.specs.declared.fault.CollectFault.TheVariants.{Memory};
@@ -34,24 +33,17 @@ fn end_of(answer: Result<(), CollectFault>) -> EventEnd
 impl<S: Store> Collector<S> {
     /// A piece, advanced until its rest is empty, and at least once.
     fn piece(&mut self, alloc: Global, conn: u32, octets: &[u8], log: &mut Vec<Outcome>) -> EventEnd
-        ensures stands { (first : List Entry) (events : List AcceptedEvent)
-            → Stands self.old.clock self.old.connections.items (S.entries self.old.store) first events
-            → Stands self.new.clock self.new.connections.items (S.entries self.new.store) first
-            (events ++ accepted_piece_end conn octets.now result) }
-        ensures settled { IfDone result (IsSettled self.old.connections.items
-            → IsSettled self.new.connections.items) }
-        ensures clock { self.new.clock ≡ self.old.clock }
-        ensures room { vec_capacity self.old.connections ≤ vec_capacity self.new.connections }
+        ensures goes_on { GoesOn S.entries self.old self.new (accepted_piece_end conn octets.now result) }
         ensures logged { (first : List Entry) (events : List AcceptedEvent)
-            → Stands self.old.clock self.old.connections.items (S.entries self.old.store) first events
-            → Grows (LogsPiece self.old.clock (history_of events) (waiting self.old.connections.items)
-            (waiting self.new.connections.items) conn octets.now result
-            (S.entries self.old.store) (S.entries self.new.store)) log.old.items log.new.items }
+            → Stands S.entries self.old first events
+            → Grows (LogsPiece (clock_of self.old) (history_of events) (waits_of self.old)
+            (waits_of self.new) conn octets.now result (S.entries (store_of self.old))
+            (S.entries (store_of self.new))) log.old.items log.new.items }
         ensures within { IfStopped result (λ taken fault. taken ≤ length octets.now) }
         ensures cause { (first : List Entry) (events : List AcceptedEvent)
-            → Stands self.old.clock self.old.connections.items (S.entries self.old.store) first events
-            → IfStopped result (λ taken fault. StopsPieceAt self.old.clock conn octets.now taken
-            (waiting self.new.connections.items conn) fault (history_of events)) }
+            → Stands S.entries self.old first events
+            → IfStopped result (λ taken fault. StopsPieceAt (clock_of self.old) conn octets.now taken
+            (waits_of self.new conn) fault (history_of events)) }
     {
         match place(&self.connections, conn) {
             None => EventEnd::Stopped {
@@ -72,17 +64,12 @@ impl<S: Store> Collector<S> {
     /// A datagram, whose outcome the log has room for.
     fn logged_datagram(&mut self, alloc: Global, octets: &[u8], log: &mut Vec<Outcome>) -> EventEnd
         requires { vec_len log.old < vec_capacity log.old }
-        ensures stands { (first : List Entry) (events : List AcceptedEvent)
-            → Stands self.old.clock self.old.connections.items (S.entries self.old.store) first events
-            → Stands self.new.clock self.new.connections.items (S.entries self.new.store) first
-            (events ++ accepted_datagram_end octets.now result) }
-        ensures connections { self.new.connections.items ≡ self.old.connections.items }
-        ensures clock { self.new.clock ≡ self.old.clock }
-        ensures room { vec_capacity self.old.connections ≤ vec_capacity self.new.connections }
-        ensures logged { Grows (LogsDatagram self.old.clock octets.now result (S.entries self.old.store)
-            (S.entries self.new.store)) log.old.items log.new.items }
+        ensures goes_on { GoesOn S.entries self.old self.new (accepted_datagram_end octets.now result) }
+        ensures connections { HaveSameConnections self.old self.new }
+        ensures logged { Grows (LogsDatagram (clock_of self.old) octets.now result
+            (S.entries (store_of self.old)) (S.entries (store_of self.new))) log.old.items log.new.items }
         ensures cause { IfStopped result (λ taken fault. (taken ≡ 0) × (fault ≡ Memory 0)
-            × IsRecordFrame self.old.clock octets.now) }
+            × IsRecordFrame (clock_of self.old) octets.now) }
     {
         match self.datagram(alloc, octets) {
             Ok(outcome) => {
@@ -98,25 +85,18 @@ impl<S: Store> Collector<S> {
 
     /// One event, as far as it goes. Room for an outcome is made in the log first.
     fn run_event(&mut self, alloc: Global, event: Event<'_>, log: &mut Vec<Outcome>) -> EventEnd
-        ensures stands { (first : List Entry) (events : List AcceptedEvent)
-            → Stands self.old.clock self.old.connections.items (S.entries self.old.store) first events
-            → Stands self.new.clock self.new.connections.items (S.entries self.new.store) first
-            (events ++ accepted_by event.entry result) }
-        ensures settled { IfDone result (IsSettled self.old.connections.items
-            → IsSettled self.new.connections.items) }
-        ensures clock { self.new.clock ≡ self.old.clock }
-        ensures room { vec_capacity self.old.connections ≤ vec_capacity self.new.connections }
+        ensures goes_on { GoesOn S.entries self.old self.new (accepted_by event.entry result) }
         ensures logged { (first : List Entry) (events : List AcceptedEvent)
-            → Stands self.old.clock self.old.connections.items (S.entries self.old.store) first events
-            → Grows (LogsEventEnd self.old.clock (history_of events) (waiting self.old.connections.items)
-            (waiting self.new.connections.items) event.entry result
-            (S.entries self.old.store) (S.entries self.new.store)) log.old.items log.new.items }
+            → Stands S.entries self.old first events
+            → Grows (LogsEventEnd (clock_of self.old) (history_of events) (waits_of self.old)
+            (waits_of self.new) event.entry result (S.entries (store_of self.old))
+            (S.entries (store_of self.new))) log.old.items log.new.items }
         ensures cause { (first : List Entry) (events : List AcceptedEvent)
-            → Stands self.old.clock self.old.connections.items (S.entries self.old.store) first events
-            → IfStopped result (StopsAt self.old.clock (history_of events)
-            (waiting self.new.connections.items) event.entry) }
+            → Stands S.entries self.old first events
+            → IfStopped result (StopsAt (clock_of self.old) (history_of events) (waits_of self.new)
+            event.entry) }
         ensures ends { (first : List Entry) (events : List AcceptedEvent)
-            → Stands self.old.clock self.old.connections.items (S.entries self.old.store) first events
+            → Stands S.entries self.old first events
             → IfDone result (EndsWell (history_of events) event.entry) }
     {
         if log.reserve(1).is_err() {
@@ -140,35 +120,32 @@ impl<S: Store> Collector<S> {
     /// of a piece there, so that the caller may go on with the rest; an end there that is
     /// `Unterminated` has closed its connection. Where memory was refused for a record,
     /// `Memory { used }` tells how many of these octets are of its frame. Room for an outcome is made
-    /// in the log before each call: if that is refused, the fault is `Memory { used: 0 }`, and the
-    /// octets taken end a frame.
+    /// in the log before each call: if that is refused, the fault is `Memory { used: 0 }`, and either
+    /// no octets were taken, or they end a frame and none waits.
     pub fn run(&mut self, alloc: Global, events: &[Event<'_>], log: &mut Vec<Outcome>) -> RunEnd
-        ensures stands { (first : List Entry) (before : List AcceptedEvent)
-            → Stands self.old.clock self.old.connections.items (S.entries self.old.store) first before
-            → Stands self.new.clock self.new.connections.items (S.entries self.new.store) first
-            (before ++ accepted_run events.now result) }
+        // It stands at the events with those that were accepted, and with the part of the last.
+        ensures goes_on { GoesOn S.entries self.old self.new (accepted_run events.now result) }
         // Why it stopped: the first event that is refused, its cause after the events before it, and
         // how much of a piece was taken there.
         ensures cause { (first : List Entry) (before : List AcceptedEvent)
-            → Stands self.old.clock self.old.connections.items (S.entries self.old.store) first before
-            → StopsAs self.old.clock (history_of before) (waiting self.new.connections.items)
-            events.now result }
+            → Stands S.entries self.old first before
+            → StopsAs (clock_of self.old) (history_of before) (waits_of self.new) events.now result }
         // It did not stop at an end: the connection's last frame is whole, or it held a bad count.
         ensures ends { (first : List Entry) (before : List AcceptedEvent)
-            → Stands self.old.clock self.old.connections.items (S.entries self.old.store) first before
+            → Stands S.entries self.old first before
             → EndWell (history_of before) (done_events events.now result) }
-        // After Done no frame is left ready.
-        ensures settled { IfAllDone result (IsSettled self.old.connections.items
-            → IsSettled self.new.connections.items) }
-        ensures clock { self.new.clock ≡ self.old.clock }
-        ensures room { vec_capacity self.old.connections ≤ vec_capacity self.new.connections }
+        // After Done no frame waits of a number of which a piece came; of the others as many as
+        // before.
+        ensures waits { (first : List Entry) (before : List AcceptedEvent)
+            → Stands S.entries self.old first before → IfAllDone result ((d : ℕ)
+            → waits_of self.new d ≡ waiting_after_all (waits_of self.old) (accepted_all events.now) d) }
         // The log has the outcomes in the order in which the frames' last octets came: of a run
         // that stops too, where a frame for which memory was refused waits for the next call.
         ensures logged { (first : List Entry) (before : List AcceptedEvent)
-            → Stands self.old.clock self.old.connections.items (S.entries self.old.store) first before
-            → Grows (LogsRun self.old.clock (history_of before) (waiting self.old.connections.items)
-            (waiting self.new.connections.items) events.now result
-            (S.entries self.old.store) (S.entries self.new.store)) log.old.items log.new.items }
+            → Stands S.entries self.old first before
+            → Grows (LogsRun (clock_of self.old) (history_of before) (waits_of self.old)
+            (waits_of self.new) events.now result (S.entries (store_of self.old))
+            (S.entries (store_of self.new))) log.old.items log.new.items }
     {
         for (at, event) in events.iter().enumerate() {
             if let EventEnd::Stopped { taken, fault } = self.run_event(alloc, *event, log) {

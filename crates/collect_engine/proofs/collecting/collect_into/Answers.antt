@@ -1,7 +1,6 @@
 use Rattle.std.proofs.Common.{ℕ, [], refl, sym, ◌∙◌, subst}
 use Rattle.std.specs.Prelude.{Ok, Err, codes}
 use Rattle.archive_text.specs.Text.{text_of}
-use Rattle.syslog_legacy.specs.FrameReadings.{Clock}
 use Rattle.syslog_collect.specs.Logs.{waiting}
 use Rattle.syslog_collect.specs.Standing.{Stands}
 use Rattle.collect_engine.specs.Collecting.{IfArchived, IsArchiveOf, Served, WritesText}
@@ -30,9 +29,8 @@ returns-in-Ok-serve_steps g c =
     let old = c.in-Ok.collector in
     let new = c.serve_steps.new.collector in
     let first = g.S.Store.entries c.args.store in
-    let stands : Stands old.clock old.connections.items (g.S.Store.entries old.store) first [] =
-    subst (λ (k : Clock). Stands k old.connections.items (g.S.Store.entries old.store) first [])
-    (sym c.in-Ok.ensures.clock) c.in-Ok.ensures.stands in
+    let stands : Stands old.clock old.connections.items (g.S.Store.entries old.store) first [] = c.in-Ok.ensures.stands
+    in
     let here = c.in-Ok-serve_steps in
     let made = here.ensures.served first [] stands in
     let settled = here.ensures.settled first [] stands c.in-Ok.ensures.settled in
@@ -63,9 +61,8 @@ returns g c =
     let old = c.in-Ok.collector in
     let new = c.serve_steps.new.collector in
     let first = g.S.Store.entries c.args.store in
-    let stands : Stands old.clock old.connections.items (g.S.Store.entries old.store) first [] =
-    subst (λ (k : Clock). Stands k old.connections.items (g.S.Store.entries old.store) first [])
-    (sym c.in-Ok.ensures.clock) c.in-Ok.ensures.stands in
+    let stands : Stands old.clock old.connections.items (g.S.Store.entries old.store) first [] = c.in-Ok.ensures.stands
+    in
     let here = c.in-Err in
     let made = here.ensures.served first [] stands in
     let settled = here.ensures.settled first [] stands c.in-Ok.ensures.settled in

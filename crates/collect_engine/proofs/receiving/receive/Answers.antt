@@ -1,11 +1,11 @@
-use Rattle.std.proofs.Common.{◌++◌, List, [], ◌∷◌, sym, subst}
+use Rattle.std.proofs.Common.{◌++◌, List, [], ◌∷◌, sym, subst, ◌∙◌}
 use Rattle.syslog_collect.specs.Headline.{IsSettled}
 use Rattle.syslog_collect.specs.History.{history_of}
 use Rattle.syslog_collect.specs.Logs.{waiting}
 use Rattle.syslog_collect.specs.Runs.{accepted_event, accepted_run}
-use Rattle.syslog_collect.specs.Standing.{Stands}
 use Rattle.syslog_collect.specs.declared.event.RunEnd.TheVariants.{Stopped}
 use Rattle.syslog_collect.specs.declared.outcome.Outcome.{Outcome}
+use Rattle.syslog_collect.proofs.Logging.{none_after_all}
 use Rattle.collect_engine.specs.Receiving.{IfNotMemory, ReceivesAs, kept_outcomes}
 use Rattle.collect_engine.specs.declared.receiving.Received.{Received}
 use Rattle.collect_engine.proofs.Receives.{done_as, refused_settled, stopped_as}
@@ -14,11 +14,16 @@ use Rattle.collect_engine.proofs.receiving.receive.Goals as goal
 pub returns-in-Done-clause-received : goal.returns-in-Done-clause-received
 returns-in-Done-clause-received g c first before was = (
   accepted_event c.args.event ∷ [],
-  c.in-Done.ensures.stands first before was,
+  c.in-Done.ensures.goes_on.stands first before was,
   done_as c.args.collector.now.clock (history_of before) (waiting c.args.collector.now.connections.items)
       (waiting c.run.new.self.connections.items) c.args.event _ _ c.run.new.log.items c.clear.new.self.items
       (c.in-Done.ensures.logged first before was) c.clear.ensures.items (c.in-Done.ensures.ends first before was).0,
 )
+
+pub returns-in-Done-clause-settled : goal.returns-in-Done-clause-settled
+returns-in-Done-clause-settled g c first before was settled d =
+    c.in-Done.ensures.waits first before was d
+    ∙ none_after_all (waiting c.args.collector.now.connections.items) (accepted_event c.args.event ∷ []) settled d
 
 pub returns-in-Stopped-clause-received : goal.returns-in-Stopped-clause-received
 returns-in-Stopped-clause-received g c first before was =
@@ -33,7 +38,7 @@ returns-in-Stopped-clause-received g c first before was =
     (accepted_run (c.args.event ∷ []) (Stopped here.at here.taken here.fault)))
     (sym c.received_of.ensures) made in (
       accepted_run (c.args.event ∷ []) (Stopped here.at here.taken here.fault),
-      here.ensures.stands first before was,
+      here.ensures.goes_on.stands first before was,
       subst (λ (os : List Outcome). ReceivesAs c.args.collector.now.clock (history_of before)
           (waiting c.args.collector.now.connections.items) (waiting c.run.new.self.connections.items)
           (accepted_event c.args.event) c.received_of.result os
@@ -46,9 +51,6 @@ returns-in-Stopped-clause-settled g c first before was settled =
     let here = c.in-Stopped in
     subst (λ (r : Received). IfNotMemory r (IsSettled c.run.new.self.connections.items)) (sym c.received_of.ensures)
     (refused_settled c.args.collector.now.clock c.args.collector.now.connections.items
-    c.run.new.self.connections.items _ first _ (history_of before) c.args.event here.at here.taken here.fault _ _
-    c.clear.new.self.items c.run.new.log.items
-    (subst (λ k. Stands k c.run.new.self.connections.items (g.S.Store.entries c.run.new.self.store) first
-    (before ++ accepted_run (c.args.event ∷ []) (Stopped here.at here.taken here.fault))) here.ensures.clock
-    (here.ensures.stands first before was)) settled (here.ensures.cause first before was)
+    c.run.new.self.connections.items (history_of before) c.args.event here.at here.taken here.fault _ _
+    c.clear.new.self.items c.run.new.log.items settled (here.ensures.cause first before was)
     (here.ensures.logged first before was))

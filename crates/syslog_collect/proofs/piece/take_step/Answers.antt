@@ -2,7 +2,6 @@ use Rattle.std.proofs.Common.{◌≡◌, ◌≤◌, List, ◌++◌, length, inl,
 use Rattle.std.specs.Prelude.{◌⊎◌, Bool, false, IsTrue}
 use Rattle.std.proofs.lemmas.Bool.{both_ways}
 use Rattle.syslog_collect.specs.Answers.{IsBadCount}
-use Rattle.syslog_collect.specs.Logs.{ready_count}
 use Rattle.syslog_collect.specs.Outcomes.{outcomes_of}
 use Rattle.syslog_collect.specs.declared.outcome.Outcome.{Outcome}
 use Rattle.syslog_collect.proofs.Between.{step_whole}
@@ -70,10 +69,10 @@ returns-then-is_err-clause-cause g c s d at = inl (refl, refl, refl)
 
 pub returns-in-Err-clause-cause : goal.returns-in-Err-clause-cause
 returns-in-Err-clause-cause g c s d at =
-    step_cause c.args.clock c.args.rest.now c.used_of-used.result (ready_count c.args.connection.now.scanner.phase)
-    c.advance_connection.new.connection.scanner.phase c.in-Err.fault s c.used_of-used.ensures
+    step_cause c.args.clock c.args.rest.now c.used_of-used.result c.args.connection.now
+    c.advance_connection.new.connection _ _ c.in-Err.fault s c.used_of-used.ensures
     (returns-in-Err-clause-within g c) (c.in-Err.ensures.cause s d at) c.in-Err.ensures.waits
-    (c.in-Err.ensures.taken s d at)
+    c.in-Err.ensures.unchanged (c.in-Err.ensures.taken s d at)
 
 pub returns-clause-goes_on : goal.returns-clause-goes_on
 returns-clause-goes_on g c s d at =

@@ -8,7 +8,7 @@ pub returns-clause-receives : goal.returns-clause-receives
 returns-clause-receives g c =
     both_ok c.run_event.result _ _ _
     (λ stands settled.
-    receives_datagram _ _ _ c.args.octets.now (stands [] [] c.requires.stands) (settled c.requires.settled))
+    receives_datagram _ _ _ c.args.octets.now (stands [] [] c.requires.stands) (settled [] [] c.requires.stands c.requires.settled))
     c.run_event.ensures.stands c.run_event.ensures.settled
 
 pub returns-clause-logs : goal.returns-clause-logs

@@ -5,7 +5,7 @@ pub unreachable-requires : goal.unreachable-requires
 unreachable-requires g c =
     let (kind, given, r) = c.requires in
     ends_so (Unit {0}) _ kind given c.in-Err.fault _ r.history (c.in-Err.ensures.cause _ r.events r.stands)
-    (c.in-Err.ensures.unreleased _ r.events r.stands) r.settled c.in_default-fault.not-Unterminated
+    (c.in-Err.ensures.ready _ r.events r.stands) (r.settled 0) c.in_default-fault.not-Unterminated
 
 pub returns-in_default-clause-stops : goal.returns-in_default-clause-stops
 returns-in_default-clause-stops g c = λ kind given r good.

@@ -7,5 +7,5 @@ pub returns-clause-receives : goal.returns-clause-receives
 returns-clause-receives g c =
     both_ok c.run_event.result _ _ _
     (λ stands settled.
-    receives_opening _ _ _ c.args.framing (stands [] [] c.requires.stands) (settled c.requires.settled))
+    receives_opening _ _ _ c.args.framing (stands [] [] c.requires.stands) (settled [] [] c.requires.stands c.requires.settled))
     c.run_event.ensures.stands c.run_event.ensures.settled

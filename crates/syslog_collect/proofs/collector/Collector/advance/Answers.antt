@@ -1,8 +1,8 @@
-use Rattle.std.proofs.Common.{◌≡◌, List, sym, subst, arith}
+use Rattle.std.proofs.Common.{◌≡◌, List, refl, sym, subst, arith}
 use Rattle.std.specs.Prelude.{Some, None}
 use Rattle.syslog_collect.specs.Answers.{accepted_octets, answered, dropped_octets}
 use Rattle.syslog_collect.specs.declared.connection.Connection.{Connection}
-use Rattle.syslog_collect.proofs.Headline.{settled_advance}
+use Rattle.syslog_collect.proofs.Collecting.{stays}
 use Rattle.syslog_collect.proofs.Logging.{reports_found}
 use Rattle.syslog_collect.proofs.Places.{place_from, within}
 use Rattle.syslog_collect.proofs.Steps.{advance_found, cause_found, not_open, unchanged_found}
@@ -16,29 +16,43 @@ index_mut-requires g c =
     (sym c.in-Some.ensures) in
     omega (arith, within c.args.conn c.in-Some.at c.args.self.now.connections.items is)
 
+pub returns-in-None-clause-goes_on : goal.returns-in-None-clause-goes_on
+returns-in-None-clause-goes_on g c = stays (g.S.Store.entries) c.args.self.now
+
+pub returns-in-None-clause-drops : goal.returns-in-None-clause-drops
+returns-in-None-clause-drops g c = stays (g.S.Store.entries) c.args.self.now
+
 pub returns-in-None-clause-cause : goal.returns-in-None-clause-cause
 returns-in-None-clause-cause g c first events was =
     let absent = subst (λ (ls : List Connection). place_from c.args.conn 0 ls ≡ None) c.deref.ensures.value
     (sym c.in-None.ensures) in
     not_open c.args.self.now.clock c.args.conn c.args.self.now.connections.items _ first events absent was
 
-pub returns-in-Some-clause-stands : goal.returns-in-Some-clause-stands
-returns-in-Some-clause-stands g c first events was =
-    let is = subst (λ (ls : List Connection). place_from c.args.conn 0 ls ≡ Some c.in-Some.at) c.deref.ensures.value
-    (sym c.in-Some.ensures) in
-    advance_found c.args.self.now.clock c.args.conn c.in-Some.at c.index_mut.result.now
-    c.advance_connection.new.connection c.args.self.now.connections.items _ _ first events
-    (accepted_octets c.args.piece.now c.advance_connection.result) (answered c.advance_connection.result) is
-    c.index_mut.ensures.value c.advance_connection.ensures.moves was
+pub returns-in-Some-clause-goes_on : goal.returns-in-Some-clause-goes_on
+returns-in-Some-clause-goes_on g c = record {
+  stands = λ first events was.
+      let is = subst (λ (ls : List Connection). place_from c.args.conn 0 ls ≡ Some c.in-Some.at) c.deref.ensures.value
+      (sym c.in-Some.ensures) in
+      advance_found c.args.self.now.clock c.args.conn c.in-Some.at c.index_mut.result.now
+      c.advance_connection.new.connection c.args.self.now.connections.items _ _ first events
+      (accepted_octets c.args.piece.now c.advance_connection.result) (answered c.advance_connection.result) is
+      c.index_mut.ensures.value c.advance_connection.ensures.moves was;
+  clock = refl;
+  room = omega arith;
+}
 
 pub returns-in-Some-clause-drops : goal.returns-in-Some-clause-drops
-returns-in-Some-clause-drops g c first events was =
-    let is = subst (λ (ls : List Connection). place_from c.args.conn 0 ls ≡ Some c.in-Some.at) c.deref.ensures.value
-    (sym c.in-Some.ensures) in
-    advance_found c.args.self.now.clock c.args.conn c.in-Some.at c.index_mut.result.now
-    c.advance_connection.new.connection c.args.self.now.connections.items _ _ first events
-    (dropped_octets c.args.piece.now c.advance_connection.result) (answered c.advance_connection.result) is
-    c.index_mut.ensures.value c.advance_connection.ensures.drops was
+returns-in-Some-clause-drops g c = record {
+  stands = λ first events was.
+      let is = subst (λ (ls : List Connection). place_from c.args.conn 0 ls ≡ Some c.in-Some.at) c.deref.ensures.value
+      (sym c.in-Some.ensures) in
+      advance_found c.args.self.now.clock c.args.conn c.in-Some.at c.index_mut.result.now
+      c.advance_connection.new.connection c.args.self.now.connections.items _ _ first events
+      (dropped_octets c.args.piece.now c.advance_connection.result) (answered c.advance_connection.result) is
+      c.index_mut.ensures.value c.advance_connection.ensures.drops was;
+  clock = refl;
+  room = omega arith;
+}
 
 pub returns-in-Some-clause-outcome : goal.returns-in-Some-clause-outcome
 returns-in-Some-clause-outcome g c first events was =
@@ -56,10 +70,6 @@ returns-in-Some-clause-cause g c first events was =
     cause_found c.args.self.now.clock c.args.conn c.in-Some.at c.index_mut.result.now c.args.self.now.connections.items
     _ first events c.args.piece.now c.advance_connection.result is c.index_mut.ensures.value
     c.advance_connection.ensures.cause was
-
-pub returns-in-Some-clause-settled : goal.returns-in-Some-clause-settled
-returns-in-Some-clause-settled g c = settled_advance c.advance_connection.result c.args.self.now.connections.items
-    c.in-Some.at c.advance_connection.new.connection c.advance_connection.ensures.settled
 
 pub returns-in-Some-clause-unchanged : goal.returns-in-Some-clause-unchanged
 returns-in-Some-clause-unchanged g c =

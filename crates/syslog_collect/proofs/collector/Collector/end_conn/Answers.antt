@@ -1,7 +1,7 @@
 use Rattle.std.proofs.Common.{◌≡◌, ◌∙◌, List, [], ap, inl, sym, subst, arith, refl}
 use Rattle.std.specs.Prelude.{Some, None}
 use Rattle.syslog_collect.specs.declared.connection.Connection.{Connection}
-use Rattle.syslog_collect.proofs.Headline.{settled_at, settled_remove}
+use Rattle.syslog_collect.proofs.Collecting.{stays}
 use Rattle.syslog_collect.proofs.Places.{found_here, place_from, within}
 use Rattle.syslog_collect.proofs.Steps.{close_found, ended_at, handled_by, is_open, not_open, ready_frame}
 use Rattle.syslog_collect.proofs.Steps.{unfinished_at}
@@ -9,6 +9,12 @@ use Rattle.syslog_collect.proofs.Waiting.{ready_none, waiting_at, waiting_closed
 use Rattle.syslog_frame.specs.declared.phase.Phase.{Phase}
 use Rattle.syslog_collect.specs.Logs.{ready_count}
 use Rattle.syslog_collect.proofs.collector.Collector.end_conn.Goals as goal
+
+pub returns-in-None-clause-goes_on : goal.returns-in-None-clause-goes_on
+returns-in-None-clause-goes_on g c = stays (g.S.Store.entries) c.args.self.now
+
+pub returns-in-Err-Unreleased-clause-goes_on : goal.returns-in-Err-Unreleased-clause-goes_on
+returns-in-Err-Unreleased-clause-goes_on g c = stays (g.S.Store.entries) c.args.self.now
 
 pub returns-in-None-clause-cause : goal.returns-in-None-clause-cause
 returns-in-None-clause-cause g c first events was =
@@ -46,17 +52,21 @@ returns-in-Err-Unreleased-clause-cause g c first events was =
     (sym c.in-Some.ensures) in
     is_open c.args.self.now.clock c.args.conn c.in-Some.at c.args.self.now.connections.items _ first events is was
 
-pub returns-in-Err-Unterminated-clause-stands : goal.returns-in-Err-Unterminated-clause-stands
-returns-in-Err-Unterminated-clause-stands g c first events was =
-    let is = subst (λ (ls : List Connection). place_from c.args.conn 0 ls ≡ Some c.in-Some.at) c.deref.ensures.value
-    (sym c.in-Some.ensures) in
-    rw c.remove.ensures.items (close_found c.args.self.now.clock c.args.conn c.in-Some.at c.index.result.now
-    c.args.self.now.connections.items _ first events is c.index.ensures
-    (handled_by c.index.result.now (λ kind start octets frames rest r. (
-      rest,
-      (rw c.in-Err-Unterminated.field-0-is at
-          (c.in-Err-Unterminated.ensures.reads kind start octets frames rest r)).0,
-    ))) was)
+pub returns-in-Err-Unterminated-clause-goes_on : goal.returns-in-Err-Unterminated-clause-goes_on
+returns-in-Err-Unterminated-clause-goes_on g c = record {
+  stands = λ first events was.
+      let is = subst (λ (ls : List Connection). place_from c.args.conn 0 ls ≡ Some c.in-Some.at) c.deref.ensures.value
+      (sym c.in-Some.ensures) in
+      rw c.remove.ensures.items (close_found c.args.self.now.clock c.args.conn c.in-Some.at c.index.result.now
+      c.args.self.now.connections.items _ first events is c.index.ensures
+      (handled_by c.index.result.now (λ kind start octets frames rest r. (
+        rest,
+        (rw c.in-Err-Unterminated.field-0-is at
+            (c.in-Err-Unterminated.ensures.reads kind start octets frames rest r)).0,
+      ))) was);
+  clock = refl;
+  room = omega (arith, c.remove.ensures.capacity);
+}
 
 pub returns-in-Err-Unterminated-clause-cause : goal.returns-in-Err-Unterminated-clause-cause
 returns-in-Err-Unterminated-clause-cause g c first events was =
@@ -69,14 +79,18 @@ returns-in-Err-Unterminated-clause-cause g c first events was =
     rw c.in-Err-Unterminated.field-0-is at (c.in-Err-Unterminated.ensures.reads kind start octets frames rest r) in
     (e.0, e.2, e.3)) was
 
-pub returns-in-Err-Failed-clause-stands : goal.returns-in-Err-Failed-clause-stands
-returns-in-Err-Failed-clause-stands g c first events was =
-    let is = subst (λ (ls : List Connection). place_from c.args.conn 0 ls ≡ Some c.in-Some.at) c.deref.ensures.value
-    (sym c.in-Some.ensures) in
-    rw c.remove-in-Err-Failed.ensures.items (close_found c.args.self.now.clock c.args.conn c.in-Some.at
-    c.index.result.now c.args.self.now.connections.items _ first events is c.index.ensures
-    (handled_by c.index.result.now (λ kind start octets frames rest r.
-    absurd (rw c.in-Err-Failed.field-0-is at (c.in-Err-Failed.ensures.reads kind start octets frames rest r)))) was)
+pub returns-in-Err-Failed-clause-goes_on : goal.returns-in-Err-Failed-clause-goes_on
+returns-in-Err-Failed-clause-goes_on g c = record {
+  stands = λ first events was.
+      let is = subst (λ (ls : List Connection). place_from c.args.conn 0 ls ≡ Some c.in-Some.at) c.deref.ensures.value
+      (sym c.in-Some.ensures) in
+      rw c.remove-in-Err-Failed.ensures.items (close_found c.args.self.now.clock c.args.conn c.in-Some.at
+      c.index.result.now c.args.self.now.connections.items _ first events is c.index.ensures
+      (handled_by c.index.result.now (λ kind start octets frames rest r.
+      absurd (rw c.in-Err-Failed.field-0-is at (c.in-Err-Failed.ensures.reads kind start octets frames rest r)))) was);
+  clock = refl;
+  room = omega (arith, c.remove-in-Err-Failed.ensures.capacity);
+}
 
 pub returns-in-Err-Failed-clause-cause : goal.returns-in-Err-Failed-clause-cause
 returns-in-Err-Failed-clause-cause g c first events was =
@@ -87,14 +101,18 @@ returns-in-Err-Failed-clause-cause g c first events was =
     (λ kind start octets frames rest r. absurd
     (rw c.in-Err-Failed.field-0-is at (c.in-Err-Failed.ensures.reads kind start octets frames rest r))) was
 
-pub returns-in-Ok-clause-stands : goal.returns-in-Ok-clause-stands
-returns-in-Ok-clause-stands g c first events was =
-    let is = subst (λ (ls : List Connection). place_from c.args.conn 0 ls ≡ Some c.in-Some.at) c.deref.ensures.value
-    (sym c.in-Some.ensures) in
-    rw c.remove-in-Ok.ensures.items (close_found c.args.self.now.clock c.args.conn c.in-Some.at c.index.result.now
-    c.args.self.now.connections.items _ first events is c.index.ensures
-    (handled_by c.index.result.now (λ kind start octets frames rest r.
-    ([], (c.in-Ok.ensures.reads kind start octets frames rest r).1))) was)
+pub returns-in-Ok-clause-goes_on : goal.returns-in-Ok-clause-goes_on
+returns-in-Ok-clause-goes_on g c = record {
+  stands = λ first events was.
+      let is = subst (λ (ls : List Connection). place_from c.args.conn 0 ls ≡ Some c.in-Some.at) c.deref.ensures.value
+      (sym c.in-Some.ensures) in
+      rw c.remove-in-Ok.ensures.items (close_found c.args.self.now.clock c.args.conn c.in-Some.at c.index.result.now
+      c.args.self.now.connections.items _ first events is c.index.ensures
+      (handled_by c.index.result.now (λ kind start octets frames rest r.
+      ([], (c.in-Ok.ensures.reads kind start octets frames rest r).1))) was);
+  clock = refl;
+  room = omega (arith, c.remove-in-Ok.ensures.capacity);
+}
 
 pub returns-in-Ok-clause-cause : goal.returns-in-Ok-clause-cause
 returns-in-Ok-clause-cause g c first events was =
@@ -103,25 +121,6 @@ returns-in-Ok-clause-cause g c first events was =
     ended_at c.args.self.now.clock c.args.conn c.in-Some.at c.index.result.now c.args.self.now.connections.items _ first
     events is c.index.ensures
     (λ kind start octets frames rest r. (c.in-Ok.ensures.reads kind start octets frames rest r).1) was
-
-pub returns-in-Err-Unreleased-clause-unreleased : goal.returns-in-Err-Unreleased-clause-unreleased
-returns-in-Err-Unreleased-clause-unreleased g c first events was settled =
-    let is = subst (λ (ls : List Connection). place_from c.args.conn 0 ls ≡ Some c.in-Some.at) c.deref.ensures.value
-    (sym c.in-Some.ensures) in
-    let ready = c.in-Err-Unreleased.ensures.unreleased.0 (rw c.in-Err-Unreleased.field-0-is refl) in
-    settled_at c.args.conn c.in-Some.at c.index.result.now c.args.self.now.connections.items settled
-    (found_here c.args.conn c.in-Some.at c.index.result.now c.args.self.now.connections.items is c.index.ensures)
-    (ready_frame c.args.self.now.clock c.args.conn c.in-Some.at c.index.result.now c.args.self.now.connections.items _
-    first events is c.index.ensures ready was)
-
-pub returns-in-Err-Unterminated-clause-settled : goal.returns-in-Err-Unterminated-clause-settled
-returns-in-Err-Unterminated-clause-settled g c h = rw c.remove.ensures.items (settled_remove _ _ h)
-
-pub returns-in-Err-Failed-clause-settled : goal.returns-in-Err-Failed-clause-settled
-returns-in-Err-Failed-clause-settled g c h = rw c.remove-in-Err-Failed.ensures.items (settled_remove _ _ h)
-
-pub returns-in-Ok-clause-settled : goal.returns-in-Ok-clause-settled
-returns-in-Ok-clause-settled g c h = rw c.remove-in-Ok.ensures.items (settled_remove _ _ h)
 
 pub returns-in-Err-Unterminated-clause-waits : goal.returns-in-Err-Unterminated-clause-waits
 returns-in-Err-Unterminated-clause-waits g c first events was d =

@@ -14,3 +14,9 @@ returns-in-Err-clause-logged g c = ([], sym (append-nil c.args.log.now.items), (
 
 pub returns-in-Err-clause-cause : goal.returns-in-Err-clause-cause
 returns-in-Err-clause-cause g c = (refl, refl, c.in-Err.ensures.spelled)
+
+pub returns-in-Ok-clause-goes_on : goal.returns-in-Ok-clause-goes_on
+returns-in-Ok-clause-goes_on g c = c.in-Ok.ensures.goes_on
+
+pub returns-in-Err-clause-goes_on : goal.returns-in-Err-clause-goes_on
+returns-in-Err-clause-goes_on g c = c.in-Err.ensures.goes_on

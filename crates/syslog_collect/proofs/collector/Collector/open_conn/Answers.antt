@@ -3,7 +3,7 @@ use Rattle.std.specs.Prelude.{Option, Some, None, true, false}
 use Rattle.std.proofs.lemmas.Bool.{both_ways}
 use Rattle.syslog_collect.specs.declared.connection.Connection.{Connection}
 use Rattle.syslog_collect.specs.declared.limits.TheConstants.{CONNECTIONS_MAX}
-use Rattle.syslog_collect.proofs.Headline.{settled_push}
+use Rattle.syslog_collect.proofs.Collecting.{stays}
 use Rattle.syslog_collect.proofs.Places.{place_from}
 use Rattle.syslog_collect.proofs.Steps.{count_open, is_open, not_open, open_step, still}
 use Rattle.syslog_collect.specs.Logs.{waiting}
@@ -52,9 +52,23 @@ returns-in_default-clause-cause g c first events was =
       refl,
     )
 
-pub returns-in-Err-clause-stands : goal.returns-in-Err-clause-stands
-returns-in-Err-clause-stands g c first events was =
-    rw c.in-Err.ensures.items (still c.args.self.now.clock c.args.self.now.connections.items _ _ first events refl was)
+pub returns-then-is_some-clause-goes_on : goal.returns-then-is_some-clause-goes_on
+returns-then-is_some-clause-goes_on g c = stays (g.S.Store.entries) c.args.self.now
+
+pub returns-then-len-ge-CONNECTIONS_MAX-clause-goes_on : goal.returns-then-len-ge-CONNECTIONS_MAX-clause-goes_on
+returns-then-len-ge-CONNECTIONS_MAX-clause-goes_on g c = stays (g.S.Store.entries) c.args.self.now
+
+pub returns-in_default-clause-goes_on : goal.returns-in_default-clause-goes_on
+returns-in_default-clause-goes_on g c = stays (g.S.Store.entries) c.args.self.now
+
+pub returns-in-Err-clause-goes_on : goal.returns-in-Err-clause-goes_on
+returns-in-Err-clause-goes_on g c = record {
+  stands = λ first events was.
+      rw c.in-Err.ensures.items (still c.args.self.now.clock c.args.self.now.connections.items _ _ first events refl
+      was);
+  clock = refl;
+  room = omega (arith, c.in-Err.ensures.capacity);
+}
 
 pub returns-in-Err-clause-cause : goal.returns-in-Err-clause-cause
 returns-in-Err-clause-cause g c first events was =
@@ -70,14 +84,18 @@ returns-in-Err-clause-cause g c first events was =
       refl,
     )
 
-pub returns-clause-stands : goal.returns-clause-stands
-returns-clause-stands g c first events was =
-    let absent = subst (λ (ls : List Connection). place_from c.args.conn 0 ls ≡ None) c.deref.ensures.value
-    (sym c.place.ensures ∙ none_of c.place.result (sym c.is_some.ensures ∙ c.if-is_some.false)) in
-    let room : length c.args.self.now.connections.items < CONNECTIONS_MAX = omega (arith, c.len.ensures) in
-    rw c.in_default-push.ensures.items
-    (open_step c.args.self.now.clock c.args.conn c.args.framing c.in-Ok.scanner c.args.self.now.connections.items _
-    first events absent room c.in-Ok.ensures.reads c.in-Ok.ensures.stands.1 was)
+pub returns-clause-goes_on : goal.returns-clause-goes_on
+returns-clause-goes_on g c = record {
+  stands = λ first events was.
+      let absent = subst (λ (ls : List Connection). place_from c.args.conn 0 ls ≡ None) c.deref.ensures.value
+      (sym c.place.ensures ∙ none_of c.place.result (sym c.is_some.ensures ∙ c.if-is_some.false)) in
+      let room : length c.args.self.now.connections.items < CONNECTIONS_MAX = omega (arith, c.len.ensures) in
+      rw c.in_default-push.ensures.items
+      (open_step c.args.self.now.clock c.args.conn c.args.framing c.in-Ok.scanner c.args.self.now.connections.items _
+      first events absent room c.in-Ok.ensures.reads c.in-Ok.ensures.stands.1 was);
+  clock = refl;
+  room = omega (arith, c.in_default-push.ensures.capacity);
+}
 
 pub returns-clause-cause : goal.returns-clause-cause
 returns-clause-cause g c first events was =
@@ -91,13 +109,6 @@ returns-clause-cause g c first events was =
             was,
       ),
     )
-
-pub returns-in-Err-clause-settled : goal.returns-in-Err-clause-settled
-returns-in-Err-clause-settled g c h = rw c.in-Err.ensures.items h
-
-pub returns-clause-settled : goal.returns-clause-settled
-returns-clause-settled g c h = rw c.in_default-push.ensures.items
-    (settled_push _ _ h (λ f. c.in-Ok.ensures.stands.1.0 (inl f)))
 
 pub returns-in-Err-clause-waits : goal.returns-in-Err-clause-waits
 returns-in-Err-clause-waits g c d = ap (λ (ls : List Connection). waiting ls d) c.in-Err.ensures.items

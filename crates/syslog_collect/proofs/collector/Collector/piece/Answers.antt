@@ -4,7 +4,7 @@ use Rattle.syslog_collect.specs.declared.connection.Connection.{Connection}
 use Rattle.syslog_collect.specs.History.{history_of}
 use Rattle.syslog_collect.specs.Logs.{waiting}
 use Rattle.syslog_collect.specs.declared.fault.CollectFault.TheVariants.{NotOpen}
-use Rattle.syslog_collect.proofs.Headline.{settled_piece}
+use Rattle.syslog_collect.proofs.Collecting.{stays}
 use Rattle.syslog_collect.proofs.Logging.{nothing_of_piece, piece_logged}
 use Rattle.syslog_collect.proofs.Places.{place_from, within}
 use Rattle.syslog_collect.proofs.EventRuns.{piece_found}
@@ -18,22 +18,25 @@ index_mut-requires g c =
     (sym c.in-Some.ensures) in
     omega (arith, within c.args.conn c.in-Some.at c.args.self.now.connections.items is)
 
+pub returns-in-None-clause-goes_on : goal.returns-in-None-clause-goes_on
+returns-in-None-clause-goes_on g c = stays (g.S.Store.entries) c.args.self.now
+
 pub returns-in-None-clause-logged : goal.returns-in-None-clause-logged
 returns-in-None-clause-logged g c first events was =
     nothing_of_piece c.args.self.now.clock (history_of events) (waiting c.args.self.now.connections.items) c.args.conn
     c.args.octets.now NotOpen _ _
 
-pub returns-in-Some-clause-stands : goal.returns-in-Some-clause-stands
-returns-in-Some-clause-stands g c first events was =
-    let is = subst (λ (ls : List Connection). place_from c.args.conn 0 ls ≡ Some c.in-Some.at) c.deref.ensures.value
-    (sym c.in-Some.ensures) in
-    piece_found c.args.self.now.clock c.args.conn c.in-Some.at c.index_mut.result.now c.take_piece.new.connection
-    c.args.self.now.connections.items _ _ first events c.args.octets.now c.take_piece.result _ _
-    is c.index_mut.ensures.value c.take_piece.ensures.moves c.take_piece.ensures.accepted was
-
-pub returns-in-Some-clause-settled : goal.returns-in-Some-clause-settled
-returns-in-Some-clause-settled g c = settled_piece c.take_piece.result c.args.self.now.connections.items c.in-Some.at
-    c.take_piece.new.connection c.take_piece.ensures.settled
+pub returns-in-Some-clause-goes_on : goal.returns-in-Some-clause-goes_on
+returns-in-Some-clause-goes_on g c = record {
+  stands = λ first events was.
+      let is = subst (λ (ls : List Connection). place_from c.args.conn 0 ls ≡ Some c.in-Some.at) c.deref.ensures.value
+      (sym c.in-Some.ensures) in
+      piece_found c.args.self.now.clock c.args.conn c.in-Some.at c.index_mut.result.now c.take_piece.new.connection
+      c.args.self.now.connections.items _ _ first events c.args.octets.now c.take_piece.result _ _
+      is c.index_mut.ensures.value c.take_piece.ensures.moves c.take_piece.ensures.accepted was;
+  clock = refl;
+  room = omega arith;
+}
 
 pub returns-in-Some-clause-logged : goal.returns-in-Some-clause-logged
 returns-in-Some-clause-logged g c first events was =

@@ -1,30 +1,20 @@
-use Rattle.std.proofs.Common.{◌≡◌, ◌≤◌, List, ◌++◌, take}
-use Rattle.std.specs.Prelude.{vec_capacity}
+use Rattle.std.proofs.Common.{List, take}
 use Rattle.archive_text.specs.Entries.{Entry}
-use Rattle.syslog_collect.specs.Headline.{IsSettled}
+use Rattle.syslog_collect.specs.Collectors.{GoesOn, Stands}
 use Rattle.syslog_collect.specs.History.{AcceptedEvent, history_of}
 use Rattle.syslog_collect.specs.Logs.{Grows, IsLogOf, waiting}
 use Rattle.syslog_collect.specs.Runs.{accepted_all}
-use Rattle.syslog_collect.specs.Standing.{Stands}
 use Rattle.syslog_collect.specs.Stops.{EndWell}
 use Rattle.syslog_collect.proofs.collector.Collector.run.Given as goal
 
 -- so far it stands after the events accepted, and their outcomes were logged
 abbrev pub invariant-loop-at : goal.invariant-loop-at
 invariant-loop-at g l = record {
-  stands : (first : List Entry) (before : List AcceptedEvent) →
-      Stands l.fn.self.clock l.fn.self.connections.items (g.S.Store.entries l.fn.self.store) first before →
-      Stands l.self.clock l.self.connections.items (g.S.Store.entries l.self.store) first
-      (before ++ accepted_all (take l.at l.events));
-  log : (first : List Entry) (before : List AcceptedEvent) →
-      Stands l.fn.self.clock l.fn.self.connections.items (g.S.Store.entries l.fn.self.store) first before →
+  goes_on : GoesOn (g.S.Store.entries) l.fn.self l.self (accepted_all (take l.at l.events));
+  log : (first : List Entry) (before : List AcceptedEvent) → Stands (g.S.Store.entries) l.fn.self first before →
       Grows (IsLogOf l.fn.self.clock (history_of before) (waiting l.fn.self.connections.items)
       (accepted_all (take l.at l.events)) (waiting l.self.connections.items)
       (g.S.Store.entries l.fn.self.store) (g.S.Store.entries l.self.store)) l.fn.log.items l.log.items;
-  ends : (first : List Entry) (before : List AcceptedEvent) →
-      Stands l.fn.self.clock l.fn.self.connections.items (g.S.Store.entries l.fn.self.store) first before
-      → EndWell (history_of before) (take l.at l.events);
-  clock : l.self.clock ≡ l.fn.self.clock;
-  room : vec_capacity l.fn.self.connections ≤ vec_capacity l.self.connections;
-  settled : IsSettled l.fn.self.connections.items → IsSettled l.self.connections.items;
+  ends : (first : List Entry) (before : List AcceptedEvent) → Stands (g.S.Store.entries) l.fn.self first before →
+      EndWell (history_of before) (take l.at l.events);
 }

@@ -1,4 +1,4 @@
-use Rattle.std.proofs.Common.{List, ◌++◌, arith, inl, ap, ◌∙◌, refl, sym, subst}
+use Rattle.std.proofs.Common.{List, arith, inl, ap, ◌∙◌, refl, sym, subst}
 use Rattle.syslog_collect.specs.History.{AcceptedEvent, history_of}
 use Rattle.syslog_collect.specs.declared.connection.Connection.{Connection}
 use Rattle.syslog_collect.specs.declared.event.Event.{Event}
@@ -8,23 +8,22 @@ use Rattle.syslog_collect.specs.declared.outcome.Outcome.{Outcome}
 use Rattle.syslog_collect.specs.declared.fault.CollectFault.TheVariants.{Memory}
 use Rattle.syslog_collect.specs.Logs.{Grows, LogsDatagram, LogsEventEnd, LogsPiece, waiting}
 use Rattle.syslog_collect.specs.Runs.{IfDone, accepted_by}
-use Rattle.syslog_collect.specs.Standing.{Stands}
+use Rattle.syslog_collect.specs.Collectors.{GoesOn}
 use Rattle.syslog_collect.proofs.Between.{nothing_between}
 use Rattle.syslog_collect.proofs.Logging.{datagram_logged, ended_logged, nothing_logged, opened_logged}
 use Rattle.syslog_collect.proofs.Logging.{piece_event_logged}
 use Rattle.syslog_collect.proofs.EventRuns.{accepted_nothing, datagram_accepted, ending_accepted, opening_accepted}
 use Rattle.syslog_collect.proofs.EventRuns.{piece_accepted}
-use Rattle.syslog_collect.proofs.Steps.{still}
+use Rattle.syslog_collect.proofs.Collecting.{stays}
 use Rattle.syslog_collect.specs.Stops.{EndsWell, IfStopped, StopsAt}
 use Rattle.syslog_collect.proofs.Stopping.{datagram_refused, done_any, ending_done, ending_refused, opening_refused}
 use Rattle.syslog_collect.proofs.Stopping.{piece_event_refused}
 use Rattle.syslog_collect.proofs.collector.Collector.run_event.Goals as goal
 
-pub returns-then-is_err-clause-stands : goal.returns-then-is_err-clause-stands
-returns-then-is_err-clause-stands g c first events was =
-    subst (λ (ts : List AcceptedEvent). Stands c.args.self.now.clock c.args.self.now.connections.items
-    (g.S.Store.entries c.args.self.now.store) first (events ++ ts)) (sym (accepted_nothing c.args.event))
-    (still c.args.self.now.clock c.args.self.now.connections.items _ _ first events refl was)
+pub returns-then-is_err-clause-goes_on : goal.returns-then-is_err-clause-goes_on
+returns-then-is_err-clause-goes_on g c =
+    subst (λ (ts : List AcceptedEvent). GoesOn (g.S.Store.entries) c.args.self.now c.args.self.now ts)
+    (sym (accepted_nothing c.args.event)) (stays (g.S.Store.entries) c.args.self.now)
 
 pub returns-then-is_err-clause-logged : goal.returns-then-is_err-clause-logged
 returns-then-is_err-clause-logged g c first events was =
@@ -32,46 +31,39 @@ returns-then-is_err-clause-logged g c first events was =
     (Memory 0) (g.S.Store.entries c.args.self.now.store) c.args.log.now.items c.reserve.new.self.items
     c.reserve.ensures.items
 
-pub returns-in-Opened-clause-stands : goal.returns-in-Opened-clause-stands
-returns-in-Opened-clause-stands g c first events was =
+pub returns-in-Opened-clause-goes_on : goal.returns-in-Opened-clause-goes_on
+returns-in-Opened-clause-goes_on g c =
     let accepted = opening_accepted c.in-Opened.conn c.in-Opened.framing c.open_conn.result
     ∙ ap (λ (r : EventEnd). accepted_by (Opened c.in-Opened.conn c.in-Opened.framing) r) (sym c.end_of.ensures) in
-    subst (λ (e : Event). Stands c.open_conn.new.self.clock c.open_conn.new.self.connections.items
-    (g.S.Store.entries c.open_conn.new.self.store) first (events ++ accepted_by e c.end_of.result))
-    (sym c.in-Opened.is)
-    (subst (λ (ts : List AcceptedEvent). Stands c.open_conn.new.self.clock c.open_conn.new.self.connections.items
-    (g.S.Store.entries c.open_conn.new.self.store) first (events ++ ts)) accepted
-    (c.open_conn.ensures.stands first events was))
+    subst (λ (e : Event). GoesOn (g.S.Store.entries) c.args.self.now c.open_conn.new.self
+    (accepted_by e c.end_of.result)) (sym c.in-Opened.is)
+    (subst (λ (ts : List AcceptedEvent). GoesOn (g.S.Store.entries) c.args.self.now c.open_conn.new.self ts) accepted
+    c.open_conn.ensures.goes_on)
 
-pub returns-in-Piece-clause-stands : goal.returns-in-Piece-clause-stands
-returns-in-Piece-clause-stands g c first events was =
+pub returns-in-Piece-clause-goes_on : goal.returns-in-Piece-clause-goes_on
+returns-in-Piece-clause-goes_on g c =
     let accepted = piece_accepted c.in-Piece.conn c.in-Piece.octets c.piece.result in
-    subst (λ (e : Event). Stands c.piece.new.self.clock c.piece.new.self.connections.items
-    (g.S.Store.entries c.piece.new.self.store) first (events ++ accepted_by e c.piece.result)) (sym c.in-Piece.is)
-    (subst (λ (ts : List AcceptedEvent). Stands c.piece.new.self.clock c.piece.new.self.connections.items
-    (g.S.Store.entries c.piece.new.self.store) first (events ++ ts)) accepted
-    (c.piece.ensures.stands first events was))
+    subst (λ (e : Event). GoesOn (g.S.Store.entries) c.args.self.now c.piece.new.self
+    (accepted_by e c.piece.result)) (sym c.in-Piece.is)
+    (subst (λ (ts : List AcceptedEvent). GoesOn (g.S.Store.entries) c.args.self.now c.piece.new.self ts) accepted
+    c.piece.ensures.goes_on)
 
-pub returns-in-Ended-clause-stands : goal.returns-in-Ended-clause-stands
-returns-in-Ended-clause-stands g c first events was =
+pub returns-in-Ended-clause-goes_on : goal.returns-in-Ended-clause-goes_on
+returns-in-Ended-clause-goes_on g c =
     let accepted = ending_accepted c.in-Ended.conn c.end_conn.result
     ∙ ap (λ (r : EventEnd). accepted_by (Ended c.in-Ended.conn) r) (sym c.end_of-in-Ended.ensures) in
-    subst (λ (e : Event). Stands c.end_conn.new.self.clock c.end_conn.new.self.connections.items
-    (g.S.Store.entries c.end_conn.new.self.store) first (events ++ accepted_by e c.end_of-in-Ended.result))
-    (sym c.in-Ended.is)
-    (subst (λ (ts : List AcceptedEvent). Stands c.end_conn.new.self.clock c.end_conn.new.self.connections.items
-    (g.S.Store.entries c.end_conn.new.self.store) first (events ++ ts)) accepted
-    (c.end_conn.ensures.stands first events was))
+    subst (λ (e : Event). GoesOn (g.S.Store.entries) c.args.self.now c.end_conn.new.self
+    (accepted_by e c.end_of-in-Ended.result)) (sym c.in-Ended.is)
+    (subst (λ (ts : List AcceptedEvent). GoesOn (g.S.Store.entries) c.args.self.now c.end_conn.new.self ts) accepted
+    c.end_conn.ensures.goes_on)
 
-pub returns-in-Datagram-clause-stands : goal.returns-in-Datagram-clause-stands
-returns-in-Datagram-clause-stands g c first events was =
+pub returns-in-Datagram-clause-goes_on : goal.returns-in-Datagram-clause-goes_on
+returns-in-Datagram-clause-goes_on g c =
     let accepted = datagram_accepted c.in-Datagram.octets c.logged_datagram.result in
-    subst (λ (e : Event). Stands c.logged_datagram.new.self.clock c.logged_datagram.new.self.connections.items
-    (g.S.Store.entries c.logged_datagram.new.self.store) first (events ++ accepted_by e c.logged_datagram.result))
-    (sym c.in-Datagram.is)
-    (subst (λ (ts : List AcceptedEvent). Stands c.logged_datagram.new.self.clock
-    c.logged_datagram.new.self.connections.items (g.S.Store.entries c.logged_datagram.new.self.store) first
-    (events ++ ts)) accepted (c.logged_datagram.ensures.stands first events was))
+    subst (λ (e : Event). GoesOn (g.S.Store.entries) c.args.self.now c.logged_datagram.new.self
+    (accepted_by e c.logged_datagram.result)) (sym c.in-Datagram.is)
+    (subst (λ (ts : List AcceptedEvent). GoesOn (g.S.Store.entries) c.args.self.now c.logged_datagram.new.self ts) accepted
+    c.logged_datagram.ensures.goes_on)
 
 pub returns-in-Opened-clause-logged : goal.returns-in-Opened-clause-logged
 returns-in-Opened-clause-logged g c first events was =
