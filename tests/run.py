@@ -24,12 +24,13 @@ from cases.legacy import legacy
 from cases.libraries import libraries
 from cases.mutated import mutated
 from cases.sending import sending
+from cases.sockets import sockets
 from hostile.soak import soak
 from lib.program import Folder, Program
 from lib.results import Results
 
 PARTS = {part.__name__: part for part in
-         (commands, mutated, sending, legacy, collect, descriptors, archives, libraries, soak)}
+         (commands, mutated, sending, legacy, collect, sockets, descriptors, archives, libraries, soak)}
 ALONE = {"soak": "hostile.soak", "mutants": "mutants.run", "senders": "peers.senders", "load": "peers.load"}
 
 

@@ -20,11 +20,22 @@ def free_port(kind):
         return one.getsockname()[1]
 
 
+def sockets(kind, port, state):
+    """The rows of the system's table on the sockets of the loopback address that have the port and are in the state."""
+    table = "/proc/net/tcp" if kind == socket.SOCK_STREAM else "/proc/net/udp"
+    rows = [line.split() for line in Path(table).read_text().splitlines()[1:]]
+    return [row for row in rows if row[1] == f"0100007F:{port:04X}" and row[3] == state]
+
+
 def is_bound(kind, port):
     """Whether a socket of the loopback address has the port: a listening one, for connections."""
-    table, state = ("/proc/net/tcp", "0A") if kind == socket.SOCK_STREAM else ("/proc/net/udp", "07")
-    rows = [line.split() for line in Path(table).read_text().splitlines()[1:]]
-    return any(row[1] == f"0100007F:{port:04X}" and row[3] == state for row in rows)
+    return bool(sockets(kind, port, "0A" if kind == socket.SOCK_STREAM else "07"))
+
+
+def is_taken(kind, port):
+    """Whether no octets and no connections wait at a port: the program has taken all that was sent."""
+    rows = sockets(kind, port, "01" if kind == socket.SOCK_STREAM else "07")
+    return all(int(row[4].split(":")[1], 16) == 0 and row[9] != "0" for row in rows)
 
 
 def until_bound(kind, port, ended):
@@ -53,6 +64,12 @@ class Collect:
         except OSError:
             pass  # the program has ended, which its answer says
         return one
+
+    def until_taken(self):
+        """Waits until the program has taken all that was sent, or has ended."""
+        begun = time.monotonic()
+        while not is_taken(self.kind, self.port) and self.process.poll() is None and time.monotonic() - begun < NEVER:
+            time.sleep(0.002)
 
     def connection(self, *pieces):
         """A connection that sends the pieces and ends."""

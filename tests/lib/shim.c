@@ -18,6 +18,14 @@
      SHIM_RECEIVE_SHORT=N the same gives at most one octet, if it is of a connection
      SHIM_COUNTS=FILE     how many of each were made, written at the end
 
+   Others make each call of a socket answer as a wrong source would, where they are set to a number that is not 0:
+
+     SHIM_HALF=1          half of the octets of each datagram, or of each piece of a connection, are dropped
+     SHIM_CUT=N           a datagram is cut after N octets
+     SHIM_EMPTY_PASSED=1  an empty datagram is passed over
+     SHIM_RESET_IS_END=1  a connection that is reset has ended
+     SHIM_END_IS_RESET=1  a connection that has ended is reset
+
    Build: gcc -shared -fPIC -O1 -o shim.so shim.c -ldl */
 #define _GNU_SOURCE
 #include <dlfcn.h>
@@ -141,40 +149,57 @@ int accept4(int fd, struct sockaddr *address, socklen_t *length, int flags) {
   return not_accepted() ? -1 : next(fd, address, length, flags);
 }
 
+/* the type of a socket, or 0 */
+static int kind_of(int fd) {
+  int kind = 0, error = errno;
+  socklen_t length = sizeof kind;
+  if (getsockopt(fd, SOL_SOCKET, SO_TYPE, &kind, &length) != 0) kind = 0;
+  errno = error;
+  return kind;
+}
+
 /* whether the call fails; a connection may give less than was asked for, a datagram may not */
 static int not_received(int fd, size_t *size) {
-  int kind = 0;
-  socklen_t length = sizeof kind;
   if (stopped(++receives, "SHIM_RECEIVE", ECONNRESET, "SHIM_RECEIVE_AGAIN")) return 1;
-  int connection = getsockopt(fd, SOL_SOCKET, SO_TYPE, &kind, &length) == 0 && kind == SOCK_STREAM;
-  if (receives == chosen("SHIM_RECEIVE_SHORT") && connection && *size > 1) *size = 1;
+  if (receives == chosen("SHIM_RECEIVE_SHORT") && kind_of(fd) == SOCK_STREAM && *size > 1) *size = 1;
   return 0;
 }
+
+/* what a wrong source would make of what a call of a socket gave */
+static ssize_t misread(int fd, ssize_t n) {
+  int kind = kind_of(fd);
+  if (kind == SOCK_STREAM && n < 0 && errno == ECONNRESET && chosen("SHIM_RESET_IS_END")) return 0;
+  if (kind == SOCK_STREAM && n == 0 && chosen("SHIM_END_IS_RESET")) { errno = ECONNRESET; return -1; }
+  if (kind == SOCK_DGRAM && chosen("SHIM_CUT") && n > (ssize_t)chosen("SHIM_CUT")) return (ssize_t)chosen("SHIM_CUT");
+  return n > 0 && chosen("SHIM_HALF") ? n / 2 : n;
+}
+
+static int is_passed(int fd, ssize_t n) { return n == 0 && chosen("SHIM_EMPTY_PASSED") && kind_of(fd) == SOCK_DGRAM; }
 
 ssize_t recv(int fd, void *room, size_t size, int flags) {
   static ssize_t (*next)(int, void *, size_t, int);
   if (!next) next = (ssize_t (*)(int, void *, size_t, int))next_of("recv");
-  return not_received(fd, &size) ? -1 : next(fd, room, size, flags);
+  if (not_received(fd, &size)) return -1;
+  ssize_t n = next(fd, room, size, flags);
+  return misread(fd, is_passed(fd, n) ? next(fd, room, size, flags) : n);
 }
 
 ssize_t recvfrom(int fd, void *room, size_t size, int flags, struct sockaddr *address, socklen_t *length) {
   static ssize_t (*next)(int, void *, size_t, int, struct sockaddr *, socklen_t *);
   if (!next) next = (ssize_t (*)(int, void *, size_t, int, struct sockaddr *, socklen_t *))next_of("recvfrom");
-  return not_received(fd, &size) ? -1 : next(fd, room, size, flags, address, length);
-}
-
-static int is_socket(int fd) {
-  int kind, error = errno;
-  socklen_t length = sizeof kind;
-  int found = getsockopt(fd, SOL_SOCKET, SO_TYPE, &kind, &length) == 0;
-  errno = error;
-  return found;
+  if (not_received(fd, &size)) return -1;
+  ssize_t n = next(fd, room, size, flags, address, length);
+  return misread(fd, is_passed(fd, n) ? next(fd, room, size, flags, address, length) : n);
 }
 
 ssize_t read(int fd, void *room, size_t size) {
   static ssize_t (*next)(int, void *, size_t);
   if (!next) next = (ssize_t (*)(int, void *, size_t))next_of("read");
-  if (is_socket(fd)) return not_received(fd, &size) ? -1 : next(fd, room, size);
+  if (kind_of(fd)) {
+    if (not_received(fd, &size)) return -1;
+    ssize_t n = next(fd, room, size);
+    return misread(fd, is_passed(fd, n) ? next(fd, room, size) : n);
+  }
   if (!counted(fd)) return next(fd, room, size);
   reads++;
   if (reads == chosen("SHIM_READ")) { errno = EIO; return -1; }
