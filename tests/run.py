@@ -25,12 +25,13 @@ from cases.libraries import libraries
 from cases.mutated import mutated
 from cases.sending import sending
 from cases.sockets import sockets
+from cases.verdicts import verdicts
 from hostile.soak import soak
 from lib.program import Folder, Program
 from lib.results import Results
 
 PARTS = {part.__name__: part for part in
-         (commands, mutated, sending, legacy, collect, sockets, descriptors, archives, libraries, soak)}
+         (commands, mutated, sending, legacy, collect, sockets, descriptors, archives, verdicts, libraries, soak)}
 ALONE = {"soak": "hostile.soak", "mutants": "mutants.run", "senders": "peers.senders", "load": "peers.load"}
 
 

@@ -2,9 +2,14 @@
 
 The merge gate tries the strongest, in crates/CRATE/must-fail; this tries the others, in mutants/CRATE, of the crates that are
 named or of all. It works on copies of the repository, so that nothing in it changes. A mutant passes where the prover refuses a
-goal of meaning; it fails where it is refused for a name alone, still proved, or cannot be read. What is known of a mutant is
-kept in build/mutants.jsonl, by the mutant's text, the crate's sources, those of the crates below, the kit and these scripts, so a
-run that was stopped goes on where it was.
+goal of meaning; it fails where it is refused for a name alone, is still proved, or cannot be judged. Where answers name what the
+edit took away, as a goal that has another name now, their functions are checked once more without these answers.
+
+What is known of a mutant is kept in build/mutants.jsonl, by the mutant's text, the crate's sources, those of the crates below,
+the kit and these scripts, so a run that was stopped goes on where it was. The last line is `N refused for a goal, M for a name
+alone, K let through, U unreadable`; the last number has all that were not judged: edits that cannot be applied or read, limits
+of the prover, crates that are not proved as they stand, and what a run that was stopped left. The status is 0 exactly where
+all are refused for a goal.
 """
 import argparse
 import os
@@ -14,22 +19,24 @@ import signal
 import subprocess
 import tempfile
 import threading
+from collections import Counter
 from concurrent.futures import ThreadPoolExecutor
 from pathlib import Path
 
 from lib.program import ROOT
-from lib.results import Results
+from mutants.answers import Lessened
 from mutants.journal import Journal, checksum, sources
 from mutants.mutant import Mutant, Unfit
-from mutants.verdict import BAD, REFUSED, UNKNOWN, judged
+from mutants.verdict import BAD, NAME, PROVED, REFUSED, UNKNOWN, function_of, judged, missing
 
 GOAL = re.compile(r"^pub (\S+)\s*:", re.MULTILINE)
+AGAIN = 3  # so often answers are dropped, each time those that name what is not there
 
 
-def below():
+def below(root):
     """The crates that each crate stands on, by name, the repository's own alone."""
     direct = {}
-    for line in (ROOT / "crates.txt").read_text().splitlines():
+    for line in (root / "crates.txt").read_text().splitlines():
         name, _, used = line.partition(":")
         direct[name] = used.split()
 
@@ -54,15 +61,15 @@ class Stopped(Exception):
 class Room:
     """A copy of the repository in which one crate is checked with its mutants, one after the other."""
 
-    def __init__(self, runs, crate, folder):
+    def __init__(self, runs, root, crate, folder):
         self.runs = runs
         self.crate = folder / "crates" / crate
         self.seed = folder / "seed"
         for name in ["crates.txt", "HANDLES"]:
-            shutil.copy(ROOT / name, folder / name)
+            shutil.copy(root / name, folder / name)
         kept = shutil.ignore_patterns("incremental", "must-fail")
-        shutil.copytree(ROOT / "crates", folder / "crates", ignore=kept)
-        own = ROOT / "crates" / crate / "out/incremental"
+        shutil.copytree(root / "crates", folder / "crates", ignore=kept)
+        own = root / "crates" / crate / "out/incremental"
         if own.is_dir():
             shutil.copytree(own, self.crate / "out/incremental", copy_function=shutil.copy2)
 
@@ -80,17 +87,25 @@ class Room:
         shutil.rmtree(self.crate / "out/incremental", ignore_errors=True)
         shutil.copytree(self.seed, self.crate / "out/incremental", copy_function=linked)
 
-    def tried(self, mutant):
-        """The status and the output of a check with the mutant's texts."""
-        own = {path: (self.crate / path).read_text() for path, _, _ in mutant.edits()}
-        self.begin()
-        for path, text in mutant.applied(self.crate).items():
-            (self.crate / path).write_text(text)
-        try:
-            return self.check("--jobs", "1")
-        finally:
-            for path, text in own.items():
+    def write(self, texts):
+        """Writes files of the crate, by their paths; one without a text is removed."""
+        for path, text in texts.items():
+            if text is None:
+                (self.crate / path).unlink(missing_ok=True)
+            else:
                 (self.crate / path).write_text(text)
+
+    def tried(self, mutant, answers=None, functions=()):
+        """The status and the output of a check with the mutant's texts and, by their paths, those of files of answers: of the
+        whole crate, or of these functions alone."""
+        texts = {**mutant.applied(self.crate), **(answers or {})}
+        own = {path: (self.crate / path).read_text() for path in texts}
+        self.begin()
+        self.write(texts)
+        try:
+            return self.check("--jobs", "1", *(word for one in functions for word in ("--only", one)))
+        finally:
+            self.write(own)
 
     def goals(self, function):
         """The names of the goals of a function of the crate as it stands."""
@@ -114,7 +129,7 @@ class Runs:
             if self.stopped:
                 raise Stopped
             one = subprocess.Popen(words, cwd=folder, stdin=subprocess.DEVNULL, stdout=subprocess.PIPE, stderr=subprocess.STDOUT,
-                                   text=True, errors="replace")
+                                   text=True, errors="replace", start_new_session=True)
             self.running.add(one)
         output = one.communicate()[0]
         with self.alone:
@@ -127,33 +142,41 @@ class Runs:
         with self.alone:
             self.stopped = True
             for one in self.running:
-                one.terminate()
+                if one.poll() is None:
+                    os.killpg(one.pid, signal.SIGTERM)  # the session of this check alone
 
 
 class Trials:
     """The mutants of some crates, and what is known of them."""
 
-    def __init__(self, runs, results):
+    def __init__(self, runs, root):
         self.runs = runs
-        self.results = results
+        self.root = root
         self.alone = threading.Lock()
-        self.journal = Journal(ROOT / "build/mutants.jsonl")
+        self.told = Counter()
+        self.journal = Journal(root / "build/mutants.jsonl")
         self.kit = subprocess.run(["rt", "version"], capture_output=True, text=True, check=True).stdout.strip()
         self.rules = checksum(*(path.read_bytes() for path in sorted(Path(__file__).resolve().parent.glob("*.py"))))
-        self.below = below()
+        self.below = below(root)
 
     def stand(self, crate):
         """A sum of what the outcomes of a crate stand on, the mutant apart."""
-        crates = ROOT / "crates"
+        crates = self.root / "crates"
         others = [sources(crates / one, ("src", "specs")) for one in self.below[crate]]
         return checksum(self.kit, self.rules, sources(crates / crate), *others)
 
     def tell(self, mutant, verdict, cause):
-        name = mutant.path.relative_to(ROOT)
+        failed = "" if verdict == REFUSED else "FAILED "
         with self.alone:
-            self.results.check(f"{name}: {verdict}", verdict == REFUSED, cause[:400])
-            if verdict == REFUSED:
-                print(f"{name}: refused: {cause[:200]}", flush=True)
+            self.told[verdict] += 1
+            print(f"{failed}{mutant.path.relative_to(self.root)}: {verdict}: {cause[:400]}", flush=True)
+
+    def end(self, count):
+        """Prints the last line, on so many mutants; the status is 0 exactly where all were refused for a goal."""
+        refused, name, proved = (self.told[verdict] for verdict in (REFUSED, NAME, PROVED))
+        unread = count - refused - name - proved
+        print(f"{refused} refused for a goal, {name} for a name alone, {proved} let through, {unread} unreadable", flush=True)
+        return 0 if refused == count else 1
 
     def crate(self, crate, mutants):
         """Tries the mutants of a crate that are not known."""
@@ -168,11 +191,11 @@ class Trials:
         if not left:
             return
         with tempfile.TemporaryDirectory(prefix="mutants-") as folder:
-            room = Room(self.runs, crate, Path(folder))
+            room = Room(self.runs, self.root, crate, Path(folder))
             proved, output = room.proved()
             if not proved:
                 with self.alone:
-                    self.results.check(f"{crate} is proved as it stands", False, output[-600:])
+                    print(f"FAILED {crate} is not proved as it stands: {output[-600:]}", flush=True)
                 return
             for mutant in left:
                 verdict, cause = self.one(room, stand, mutant)
@@ -181,11 +204,16 @@ class Trials:
                 self.tell(mutant, verdict, cause)
 
     def one(self, room, stand, mutant):
+        """The verdict on a mutant, and its cause."""
+        def base(function):
+            return self.goals(room, stand, function)
+
         try:
             status, output = room.tried(mutant)
         except (Unfit, FileNotFoundError) as cause:
             return BAD, str(cause)
-        return judged(mutant, status, output, lambda function: self.goals(room, stand, function))
+        verdict, cause = judged(mutant, status, output, base)
+        return verdict_without(room, mutant, output, base) or (verdict, cause) if verdict == NAME else (verdict, cause)
 
     def goals(self, room, stand, function):
         """The names of the goals that a function has with its right body."""
@@ -199,32 +227,62 @@ class Trials:
         return known
 
 
-def folders(crate, gate):
+def verdict_without(room, mutant, output, base):
+    """The verdict where answers that name what the edit took away are dropped; None where that tells no more."""
+    lessened = Lessened(room.crate)
+    for _ in range(AGAIN):
+        if not lessened.drop(missing(output)):
+            return None
+        dropped = {function_of(mutant.crate, path): names for path, names in lessened.dropped.items()}
+        status, output = room.tried(mutant, lessened.texts, sorted(dropped))
+        if status == 0:
+            # these functions are proved: the others decide
+            status, output = room.tried(mutant, lessened.texts)
+        verdict, cause = judged(mutant, status, output, base, dropped)
+        if verdict in (REFUSED, PROVED):
+            count = sum(map(len, dropped.values()))
+            return verdict, f"{cause}, without {count} answers that name what the edit took away"
+        if verdict != NAME:
+            return None
+    return None
+
+
+def folders(root, crate, gate):
     """The folders of the mutants of a crate."""
-    return [ROOT / "mutants" / crate, *([ROOT / "crates" / crate / "must-fail"] if gate else [])]
+    return [root / "mutants" / crate, *([root / "crates" / crate / "must-fail"] if gate else [])]
 
 
-def main(words):
+def asked(words):
+    """What a run is asked for."""
     given = argparse.ArgumentParser(prog="tests/run.py mutants", description=__doc__,
                                     formatter_class=argparse.RawDescriptionHelpFormatter)
     given.add_argument("--jobs", type=int, default=1, metavar="N", help="so many crates side by side (default 1)")
     given.add_argument("--gate", action="store_true", help="try those of must-fail too")
+    given.add_argument("--root", type=Path, default=ROOT, metavar="FOLDER", help="a repository (default this one)")
     given.add_argument("crates", nargs="*", metavar="CRATE")
-    given = given.parse_args(words)
-    results, runs = Results(), Runs()
-    crates = given.crates or sorted(folder.name for folder in (ROOT / "mutants").iterdir())
-    mutants = {crate: [Mutant(crate, path) for folder in folders(crate, given.gate) for path in sorted(folder.glob("*.edit"))]
+    return given.parse_args(words)
+
+
+def main(words):
+    given, runs = asked(words), Runs()
+    root = given.root.resolve()
+    crates = given.crates or sorted(folder.name for folder in (root / "mutants").iterdir())
+    mutants = {crate: [Mutant(crate, path) for folder in folders(root, crate, given.gate) for path in sorted(folder.glob("*.edit"))]
                for crate in crates}
+    none = [crate for crate, found in mutants.items() if not found]
+    if none:
+        print(f"there are no mutants of {', '.join(none)}", flush=True)
+        return 2
     for signalled in signal.SIGINT, signal.SIGTERM:
         signal.signal(signalled, runs.stop)
-    trials = Trials(runs, results)
+    trials, stopped = Trials(runs, root), False
     with ThreadPoolExecutor(given.jobs) as pool:
-        tasks = [pool.submit(trials.crate, crate, found) for crate, found in mutants.items() if found]
-    for crate in [crate for crate, found in mutants.items() if not found]:
-        results.check(f"{crate} has mutants", False)
+        tasks = [pool.submit(trials.crate, crate, found) for crate, found in mutants.items()]
     for task in tasks:
         try:
             task.result()
         except Stopped:
-            results.check("the run was stopped", False, "run it again, and it goes on")
-    return results.end()
+            stopped = True
+    if stopped:
+        print("FAILED the run was stopped: run it again, and it goes on", flush=True)
+    return trials.end(sum(map(len, mutants.values())))

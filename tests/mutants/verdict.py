@@ -4,22 +4,32 @@ A goal is known by its name, which tells the place in the body and the clause. A
 goal open that it closes in the right body. It does too, where the edit keeps all branches, where an answer is of another type
 now, or where an open goal is new by its name alone, as that of a condition with another number, and no answer's goal is gone.
 It shows nothing where answers only name what the edit took away, or where the only open goals are those of a branch that the
-edit added: nobody has answered those.
+edit added: nobody has answered those. Nor does a goal whose own answer was dropped (answers.py) or, where the edit adds a
+branch or takes one away, one that has the name of another by its number alone.
 """
 import re
+from collections import namedtuple
 
 REFUSED, NAME, PROVED, BAD, LIMIT, UNKNOWN = "refused", "a name alone", "still proved", "bad edit", "a limit", "unknown"
 
 OPEN = re.compile(r"note: (\S+): it is not proved .*?\(`([^`]+)`\)")
 OUTCOME = re.compile(r"(?:fn|struct|enum|impl|trait) (\S+): (proved|not proved|no proof|could not tell)")
-ERROR = re.compile(r"(?:\./)?(\S+?):\d+:\d+: error: (?:`([^`]*)`: )?(.*)")
-# what is said of names that the edit took away, and of what hangs on them
-NAMES = re.compile(r"has no (?:field )?`|is not in scope|is no name|that depends? on `|was not admitted")
+ERROR = re.compile(r"(?:\./)?(\S+?):(\d+):\d+: error: (?:`([^`]*)`: )?(.*)")
+# what a line begins with that does not go on with the one before, however that was wrapped
+BEGINS = re.compile(r"\S+:\d+:\d+: |(?:note|warning|help|error|rt|antt|so far|by-macro|ahead of the check)\b.*:|"
+                    r"(?:fn|struct|enum|impl|trait) \S+: |(?:logic|statements|checked|calls) |(?:logic|only|holes)=")
+# names that the edit took away
+MISSING = re.compile(r"has no (?:field )?`|is not in scope|is no name")
+# what is said of them, and of what hangs on them
+NAMES = re.compile(MISSING.pattern + r"|that depends? on `|was not admitted")
 # an answer whose goal is gone
-GONE = re.compile(r"Goals` has no `")
+GONE = re.compile(r"Goals` has no `([^`]*)`")
 UNREAD = re.compile(r"is not in scope|has no field|is no name|operand is missing|expected the end|cannot continue")
 STALE = re.compile(r"module .Rattle-\w+-.*Run the lower steps again")
 LIMITS = re.compile(r"antt ran out of|outgrew the memory limit|stopped at the step limit")
+
+# an error: the file, the line, the declaration where one is told, and what is said
+Error = namedtuple("Error", "path line name text")
 
 
 class Goal:
@@ -39,16 +49,29 @@ def messages(output):
     """The lines, each with those that go on with it."""
     gathered = []
     for line in output.splitlines():
-        if line.startswith("  ") and gathered:
+        goes_on = line.startswith("  ") or line.strip() and not BEGINS.match(line)
+        if goes_on and gathered and gathered[-1]:
             gathered[-1] += " " + line.strip()
         else:
-            gathered.append(line)
+            gathered.append(line.strip())
     return gathered
+
+
+def error_of(line):
+    found = ERROR.match(line)
+    return Error(found[1], int(found[2]), found[3], found[4]) if found else None
 
 
 def function_of(crate, path):
     """The name of the function that a file of answers is of, as `held_output::held::HeldOutput::put`."""
     return "::".join([crate, *path.removeprefix("proofs/").split("/")[:-1]])
+
+
+def missing(output):
+    """The places in files of answers, (path, line) each, that name what is not there."""
+    errors = [error for error in map(error_of, messages(output)) if error and MISSING.search(error.text)]
+    return [(error.path, error.line) for error in errors
+            if error.path.startswith("proofs/") and error.path.endswith("/Answers.antt")]
 
 
 def goals(crate, lines):
@@ -60,12 +83,33 @@ def goals(crate, lines):
         elif found := OUTCOME.match(line):
             yield from (Goal(found[1], name, place, False) for place, name in waiting)
             waiting = []
-        elif (found := ERROR.match(line)) and found[1].startswith("proofs/") and found[2] and not NAMES.search(found[3]):
-            yield Goal(function_of(crate, found[1]), found[2], found[1], True)
+        elif (found := error_of(line)) and found.path.startswith("proofs/") and found.name and not NAMES.search(found.text):
+            yield Goal(function_of(crate, found.path), found.name, found.path, True)
 
 
-def judged(mutant, status, output, base):
-    """The verdict on a mutant, and what it stands on. `base` gives the names of a function's goals with its right body."""
+def numberless(name):
+    return re.sub(r"-\d+", "", name)
+
+
+def told_goal(mutant, lines, base, dropped):
+    """The goal of meaning that the check refuses, or None; and one that is open, if any."""
+    answered, known, new = [], [], []
+    for goal in goals(mutant.crate, lines):
+        if goal.name in dropped.get(goal.function, ()):
+            continue
+        (answered if goal.answered else known if goal.name in base(goal.function) else new).append(goal)
+    gone = [name for line in lines for name in GONE.findall(line)]
+    if not mutant.branches():
+        told = known or answered or ([] if gone or dropped else new)
+    else:
+        others = {numberless(name) for name in [*gone, *(goal.name for goal in new), *set().union(*dropped.values())]}
+        told = [goal for goal in known if numberless(goal.name) not in others]
+    return (told[0] if told else None), next(iter([*known, *new]), None)
+
+
+def judged(mutant, status, output, base, dropped=None):
+    """The verdict on a mutant, and what it stands on. `base` gives the names of a function's goals with its right body,
+    `dropped` has those whose answers were dropped, by function."""
     lines = messages(output)
     if status == 0:
         return PROVED, "the crate is proved with it"
@@ -79,21 +123,16 @@ def judged(mutant, status, output, base):
     if not any(line.startswith(("logic=not-proved", "only=")) for line in lines):
         compiled = any(re.search(r"\berror\[[\w-]+\]", line) for line in lines)
         return BAD if status == 1 and compiled else UNKNOWN, " ".join(lines[:4])
-    answered, known, new = [], [], []
-    for goal in goals(mutant.crate, lines):
-        (answered if goal.answered else known if goal.name in base(goal.function) else new).append(goal)
-    told = known
-    if not told and not mutant.branches():
-        told = answered or ([] if any(GONE.search(line) for line in lines) else new)
+    told, left = told_goal(mutant, lines, base, dropped or {})
     if told:
-        return REFUSED, str(told[0])
-    cause = next((line for line in lines if ERROR.match(line)), None) or (str(new[0]) if new else lines[0])
+        return REFUSED, str(told)
+    cause = next((line for line in lines if error_of(line)), None) or (str(left) if left else lines[0])
     return NAME, cause
 
 
 def is_unread(line):
     """Whether a text of src or specs could not be read, where an edit that only makes a statement false reads well."""
-    found = ERROR.match(line)
-    if not found or not found[1].startswith(("src/", "specs/")):
+    found = error_of(line)
+    if not found or not found.path.startswith(("src/", "specs/")):
         return False
-    return not found[2] or bool(UNREAD.search(found[3]))
+    return not found.name or bool(UNREAD.search(found.text))
