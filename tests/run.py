@@ -19,6 +19,7 @@ sys.dont_write_bytecode = True
 from cases.archives import archives
 from cases.collect import collect
 from cases.commands import commands
+from cases.costs import costs
 from cases.descriptors import descriptors
 from cases.legacy import legacy
 from cases.libraries import libraries
@@ -31,7 +32,7 @@ from lib.program import Folder, Program
 from lib.results import Results
 
 PARTS = {part.__name__: part for part in
-         (commands, mutated, sending, legacy, collect, sockets, descriptors, archives, verdicts, libraries, soak)}
+         (commands, mutated, sending, legacy, collect, sockets, descriptors, archives, verdicts, costs, libraries, soak)}
 ALONE = {"soak": "hostile.soak", "mutants": "mutants.run", "senders": "peers.senders", "load": "peers.load"}
 
 

@@ -58,6 +58,10 @@ class Stopped(Exception):
     """The run was stopped."""
 
 
+class Unknown(Exception):
+    """The goals of a function are not known."""
+
+
 class Room:
     """A copy of the repository in which one crate is checked with its mutants, one after the other."""
 
@@ -210,10 +214,13 @@ class Trials:
 
         try:
             status, output = room.tried(mutant)
-        except (Unfit, FileNotFoundError) as cause:
-            return BAD, str(cause)
-        verdict, cause = judged(mutant, status, output, base)
-        return verdict_without(room, mutant, output, base) or (verdict, cause) if verdict == NAME else (verdict, cause)
+            verdict, cause = judged(mutant, status, output, base)
+            without = verdict_without(room, mutant, output, base) if verdict == NAME else None
+        except Unfit as unfit:
+            return BAD, str(unfit)
+        except Unknown as unknown:
+            return UNKNOWN, str(unknown)
+        return without or (verdict, cause)
 
     def goals(self, room, stand, function):
         """The names of the goals that a function has with its right body."""
@@ -222,7 +229,7 @@ class Trials:
         if known is None:
             status, names, output = room.goals(function)
             if status not in (0, 1):
-                raise RuntimeError(f"the goals of {function} are not known: {output[-400:]}")
+                raise Unknown(f"the goals of {function} are not known: {output[-400:]}")
             known = self.journal.keep(key, names)
         return known
 
