@@ -9,7 +9,8 @@ usage: tests/run.py PROGRAM TRIALS [PART..]
 
 PROGRAM is syslogbox, TRIALS the program of trials of the libraries. The first form runs it on tables of inputs, with devices
 that fail and with allocations that fail: all parts, or those that are named. The others tell about themselves with --help.
-Each prints what fails, and last `N passed, M failed`. The status is 0 exactly where nothing failed.
+Each prints what fails, and last `N passed, M failed`; `mutants` prints how many were refused for a goal, for a name alone, let
+through or unreadable. The status is 0 exactly where nothing failed.
 """
 import sys
 import tempfile
