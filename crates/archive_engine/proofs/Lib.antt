@@ -5,5 +5,4 @@ pub mod MigrateLemmas
 pub mod OutcomeLemmas
 pub mod ReceiveLemmas
 pub mod StreamLemmas
-pub mod TellLemmas
 pub mod WrittenLemmas

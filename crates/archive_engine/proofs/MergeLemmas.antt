@@ -1,11 +1,11 @@
 -- What comes of two archives that were joined.
 use Rattle.std.proofs.Common.{◌≡◌, ℕ, ◌+◌, ◌<◌, ◌^◌, ◌⊎◌, List, [], ◌++◌, Option, None, Some, IfSome, codes, length}
 use Rattle.std.proofs.Common.{refl, sym, subst, inl, inr, arith}
-use Rattle.std.specs.Prelude.{IsErrOf, Err}
+use Rattle.std.specs.Prelude.{IsErrOf, Ok, Err}
 use Rattle.std.specs.Io.KnownBytes.{Appends, Consumes, IsAtEnd}
 use Rattle.std.proofs.KnownBytes.{Appends-nil, Consumes-whole}
 use Rattle.std.proofs.lemmas.List.{append-nil}
-use Rattle.syslog_value.specs.declared.loops.TheConstants.{READER_CALLS}
+use Rattle.octet_devices.specs.Device.{InputState, OutputState}
 use Rattle.archive_text.specs.Entries.{Entry}
 use Rattle.archive_text.specs.Faults.{IsArchiveFault}
 use Rattle.archive_text.specs.Text.{IsArchive, text_of}
@@ -14,25 +14,25 @@ use Rattle.archive_text.specs.declared.limits.TheConstants.{ENTRY_MAX}
 use Rattle.archive_streams.specs.Joined.{Joined}
 use Rattle.archive_streams.specs.Joining.{IsFirstWithin, IsUpToFirst}
 use Rattle.archive_text.specs.Positions.{position_of as at_of}
-use Rattle.archive_streams.specs.Merging.{LeftReadFailed, RightReadFailed, WriteFailed}
-use Rattle.archive_streams.specs.Pieces.{Reader}
+use Rattle.archive_streams.specs.Steps.{TellsFailures}
 use Rattle.archive_streams.specs.Stopped.{Stopped}
 use Rattle.archive_streams.specs.declared.fault.MergeFault.{MergeFault}
 use Rattle.archive_streams.specs.declared.fault.MergeFault.TheVariants.{Left, Right, Read, Endless, Write, Memory}
 use Rattle.archive_streams.specs.declared.fault.Side.TheVariants.{Left as side_Left, Right as side_Right}
 use Rattle.archive_streams.proofs.Joining.{SideAt, prefix_of_union}
 use Rattle.frame_engine.specs.Converted.{goes_out}
-use Rattle.frame_engine.specs.Handling.{Done}
-use Rattle.frame_engine.specs.Streams.{AnswersWith, status_of}
+use Rattle.driver.specs.Devices.{OutputFailed, Reports}
+use Rattle.driver.specs.Effects.{Done, status_of}
+use Rattle.driver.specs.declared.status.TheConstants.{DONE, FAULT, NO_MEMORY}
+use Rattle.archive_engine.specs.Answered.{AnswersWith}
 use Rattle.archive_engine.specs.FaultLines.{fault_line}
-use Rattle.archive_engine.specs.Merged.{IsDeviceFault, IsMerged, IsRefusal, IsRefused, IsSecondAbove, MergeDone}
-use Rattle.archive_engine.specs.Merged.{WritesFronts}
-use Rattle.archive_engine.specs.Merged.{merge_line, refused_behind}
+use Rattle.archive_engine.specs.Merged.{IsMerged, IsRefusal, IsRefused, IsSecondAbove, MergeDone, RanMerge, WritesFronts}
+use Rattle.archive_engine.specs.Merged.{merge_devices, merge_line, merge_status, refused_behind}
 use Rattle.archive_engine.proofs.FaultLemmas.{HasFaultOf, goes_on}
 
 -- ---- both are archives
 
-joined_merged : (dl el dr er : Reader) (t0 t1 : Option (List ℕ)) (n : ℕ) → (j : Joined dl el dr er t0 t1 n)
+joined_merged : (dl el dr er : InputState) (t0 t1 : Option (List ℕ)) (n : ℕ) → (j : Joined dl el dr er t0 t1 n)
     → IsMerged (text_of j.xs) (text_of j.ys) (goes_out (text_of j.zs))
 joined_merged dl el dr er t0 t1 n j = record {
   xs = j.xs;
@@ -47,24 +47,17 @@ joined_merged dl el dr er t0 t1 n j = record {
 }
 
 -- what holds of the octets of two readers that are at their ends
-both_whole : (dl el dr er : Reader) (t0 t1 : Option (List ℕ)) (n : ℕ) (P : List ℕ → List ℕ → Type 0)
+both_whole : (dl el dr er : InputState) (t0 t1 : Option (List ℕ)) (n : ℕ) (P : List ℕ → List ℕ → Type 0)
     → (j : Joined dl el dr er t0 t1 n) → P (text_of j.xs) (text_of j.ys) → IfSome dl.left (λ x. IfSome dr.left (P x))
 both_whole dl el dr er t0 t1 n P j h =
     Consumes-whole dl.left el.left (text_of j.xs) (λ x. IfSome dr.left (P x)) j.left j.left_whole
     (Consumes-whole dr.left er.left (text_of j.ys) (P (text_of j.xs)) j.right j.right_whole h)
 
-pub merged_answer : (dl el dr er : Reader) (t0 t1 n0 : Option (List ℕ)) (n : ℕ) → Joined dl el dr er t0 t1 n
-    → IfSome dl.left (λ x. AnswersWith (IsMerged x) dr.left 0 t0 t1 n0 n0)
-merged_answer dl el dr er t0 t1 n0 n j =
-    both_whole dl el dr er t0 t1 n
-    (λ x y. (d : Done) × IsMerged x y d × (0 ≡ status_of d) × Appends t0 t1 d.output × Appends n0 n0 d.notes) j
-    (goes_out (text_of j.zs), joined_merged dl el dr er t0 t1 n j, refl, j.written, Appends-nil n0)
-
-pub joined_answer : (dl el dr er : Reader) (t0 t1 n0 : Option (List ℕ)) (n : ℕ) → Joined dl el dr er t0 t1 n
+pub joined_answer : (dl el dr er : InputState) (t0 t1 n0 : Option (List ℕ)) (n : ℕ) → Joined dl el dr er t0 t1 n
     → IfSome dl.left (λ x. AnswersWith (MergeDone x) dr.left 0 t0 t1 n0 n0)
 joined_answer dl el dr er t0 t1 n0 n j =
     both_whole dl el dr er t0 t1 n
-    (λ x y. (d : Done) × MergeDone x y d × (0 ≡ status_of d) × Appends t0 t1 d.output × Appends n0 n0 d.notes) j
+    (λ x y. (d : Done) × MergeDone x y d × (0 ≡ status_of d) × Appends t0 t1 d.output × Appends n0 n0 d.diagnostics) j
     (goes_out (text_of j.zs), inl (joined_merged dl el dr er t0 t1 n j), refl, j.written, Appends-nil n0)
 
 -- all of a side is joined
@@ -77,7 +70,7 @@ whole_side xs ws archive = record {
   stands = inr (inl (refl, refl));
 }
 
-pub joined_fronts : (dl el dr er : Reader) (t0 t1 : Option (List ℕ)) (n : ℕ) → Joined dl el dr er t0 t1 n
+pub joined_fronts : (dl el dr er : InputState) (t0 t1 : Option (List ℕ)) (n : ℕ) → Joined dl el dr er t0 t1 n
     → IfSome dl.left (λ x. IfSome dr.left (λ y. WritesFronts x y t0 t1))
 joined_fronts dl el dr er t0 t1 n j =
     both_whole dl el dr er t0 t1 n (λ x y. WritesFronts x y t0 t1) j (record {
@@ -107,7 +100,7 @@ both_some (Some s) (Some t) (Some u) None x y P left right h = absurd right
 both_some (Some s) (Some t) (Some u) (Some v) x y P left right h =
     subst (λ (k : List ℕ). P k t) (sym left) (subst (P (x ++ u)) (sym right) (h u v (λ e. e) (λ e. e)))
 
-pub stopped_fronts : (fault : MergeFault) (dl el dr er : Reader) (t0 t1 : Option (List ℕ))
+pub stopped_fronts : (fault : MergeFault) (dl el dr er : InputState) (t0 t1 : Option (List ℕ))
     → Stopped fault dl el dr er t0 t1
     → IfSome dl.left (λ x. IfSome dr.left (λ y. WritesFronts x y t0 t1))
 stopped_fronts fault dl el dr er t0 t1 s =
@@ -157,13 +150,13 @@ refused F name x y u v written fault carry is end up order =
       whole = refl;
     }
 
-left_answer : (fault : ArchiveFault) (dl el dr er : Reader) (t0 t1 n0 n1 : Option (List ℕ)) (status : ℕ)
+left_answer : (fault : ArchiveFault) (dl el dr er : InputState) (t0 t1 n0 n1 : Option (List ℕ)) (status : ℕ)
     → Stopped (Left fault) dl el dr er t0 t1 → status ≡ 1 → Appends n0 n1 (fault_line (codes "left") fault)
     → IfSome dl.left (λ x. AnswersWith (MergeDone x) dr.left status t0 t1 n0 n1)
 left_answer fault dl el dr er t0 t1 n0 n1 status s one noted =
     let no = s.input.0 in
     both_some dl.left dr.left el.left er.left s.x s.y
-    (λ x y. (d : Done) × MergeDone x y d × (status ≡ status_of d) × Appends t0 t1 d.output × Appends n0 n1 d.notes)
+    (λ x y. (d : Done) × MergeDone x y d × (status ≡ status_of d) × Appends t0 t1 d.output × Appends n0 n1 d.diagnostics)
     s.left s.right
     (λ u v at_end also. (
       refused_behind s.written (codes "left") fault,
@@ -176,13 +169,13 @@ left_answer fault dl el dr er t0 t1 n0 n1 status s one noted =
       noted,
     ))
 
-right_answer : (fault : ArchiveFault) (dl el dr er : Reader) (t0 t1 n0 n1 : Option (List ℕ)) (status : ℕ)
+right_answer : (fault : ArchiveFault) (dl el dr er : InputState) (t0 t1 n0 n1 : Option (List ℕ)) (status : ℕ)
     → Stopped (Right fault) dl el dr er t0 t1 → status ≡ 1 → Appends n0 n1 (fault_line (codes "right") fault)
     → IfSome dl.left (λ x. AnswersWith (MergeDone x) dr.left status t0 t1 n0 n1)
 right_answer fault dl el dr er t0 t1 n0 n1 status s one noted =
     let no = s.input.0 in
     both_some dl.left dr.left el.left er.left s.x s.y
-    (λ x y. (d : Done) × MergeDone x y d × (status ≡ status_of d) × Appends t0 t1 d.output × Appends n0 n1 d.notes)
+    (λ x y. (d : Done) × MergeDone x y d × (status ≡ status_of d) × Appends t0 t1 d.output × Appends n0 n1 d.diagnostics)
     s.left s.right
     (λ u v at_end also. (
       refused_behind s.written (codes "right") fault,
@@ -194,7 +187,7 @@ right_answer fault dl el dr er t0 t1 n0 n1 status s one noted =
       noted,
     ))
 
-pub refused_answer : (fault : MergeFault) (dl el dr er : Reader) (t0 t1 n0 n1 : Option (List ℕ)) (status : ℕ)
+pub refused_answer : (fault : MergeFault) (dl el dr er : InputState) (t0 t1 n0 n1 : Option (List ℕ)) (status : ℕ)
     → Stopped fault dl el dr er t0 t1 → status ≡ 1 → IsRefusal fault → Appends n0 n1 (merge_line fault)
     → IfSome dl.left (λ x. AnswersWith (MergeDone x) dr.left status t0 t1 n0 n1)
 refused_answer (Left fault) dl el dr er t0 t1 n0 n1 status s one is noted =
@@ -206,78 +199,110 @@ refused_answer (Endless side) dl el dr er t0 t1 n0 n1 status s one is noted = ab
 refused_answer (Write sent) dl el dr er t0 t1 n0 n1 status s one is noted = absurd is
 refused_answer Memory dl el dr er t0 t1 n0 n1 status s one is noted = absurd is
 
--- ---- a device's fault
+-- ---- the failures
 
--- which device failed or has no end, and the line that was written; or the notes failed. `f` counts the failures of
--- the left, `h` those of the right, `w` those of the writer, `m` those of the notes
-pub merge_cause : {U : Type 0} (fault : MergeFault) (dl el dr er : Reader) (t0 t1 n0 n1 : Option (List ℕ))
-    (f0 f1 h0 h1 w0 w1 m0 m1 : ℕ) → dl.calls < 2 ^ 63 → dr.calls < 2 ^ 63 → w0 < 2 ^ 63 → m0 < 2 ^ 63
-    → Stopped fault dl el dr er t0 t1 → (IsErrOf {T = U} (Err fault) (Read side_Left) → f0 < f1)
-    → (IsErrOf {T = U} (Err fault) (Read side_Right) → h0 < h1) → WriteFailed {X = U} (Err fault) w0 w1
-    → IsDeviceFault fault ⊎ (m0 < m1)
-    → (IsDeviceFault fault → m0 < 2 ^ 63 → (m0 < m1) ⊎ Appends n0 n1 (merge_line fault))
-    → (m0 < m1)
-    ⊎ ((line : List ℕ) × Appends n0 n1 line
-    × (((f0 < f1) × (line ≡ codes "left read fault\n"))
-    ⊎ (((h0 < h1) × (line ≡ codes "right read fault\n"))
-    ⊎ (((w0 < w1) × (line ≡ codes "write fault\n"))
-    ⊎ (((el.calls ≡ dl.calls + READER_CALLS) × (el.ends ≡ dl.ends) × (line ≡ codes "left endless input\n"))
-    ⊎ ((er.calls ≡ dr.calls + READER_CALLS) × (er.ends ≡ dr.ends) × (line ≡ codes "right endless input\n")))))))
-merge_cause (Left fault) dl el dr er t0 t1 n0 n1 f0 f1 h0 h1 w0 w1 m0 m1 cl cr w m s left right writer device told =
-    elim device [ inl e ↦ absurd e | inr rises ↦ inl rises ]
-merge_cause (Right fault) dl el dr er t0 t1 n0 n1 f0 f1 h0 h1 w0 w1 m0 m1 cl cr w m s left right writer device told =
-    elim device [ inl e ↦ absurd e | inr rises ↦ inl rises ]
-merge_cause (Read side_Left) dl el dr er t0 t1 n0 n1 f0 f1 h0 h1 w0 w1 m0 m1 cl cr w m s left right writer device told =
-    elim (told tt m) [
-      | inl rises ↦ inl rises
-      | inr line ↦ inr (codes "left read fault\n", line, inl (left refl, refl))
-    ]
-merge_cause (Read side_Right) dl el dr er t0 t1 n0 n1 f0 f1 h0 h1 w0 w1 m0 m1 cl cr w m s left right writer device
-    told =
-    elim (told tt m) [
-      | inl rises ↦ inl rises
-      | inr line ↦ inr (codes "right read fault\n", line, inr (inl (right refl, refl)))
-    ]
-merge_cause (Endless side_Left) dl el dr er t0 t1 n0 n1 f0 f1 h0 h1 w0 w1 m0 m1 cl cr w m s left right writer device
-    told =
-    elim (told tt m) [
-      | inl rises ↦ inl rises
-      | inr line ↦
-          inr (codes "left endless input\n", line, inr (inr (inr (inl (s.input.0.calls cl, s.input.0.ends cl, refl)))))
-    ]
-merge_cause (Endless side_Right) dl el dr er t0 t1 n0 n1 f0 f1 h0 h1 w0 w1 m0 m1 cl cr w m s left right writer device
-    told =
-    elim (told tt m) [
-      | inl rises ↦ inl rises
-      | inr line ↦
-          inr (codes "right endless input\n", line, inr (inr (inr (inr (s.input.0.calls cr, s.input.0.ends cr, refl)))))
-    ]
-merge_cause (Write sent) dl el dr er t0 t1 n0 n1 f0 f1 h0 h1 w0 w1 m0 m1 cl cr w m s left right writer device told =
-    elim (told tt m) [
-      | inl rises ↦ inl rises
-      | inr line ↦ inr (codes "write fault\n", line, inr (inr (inl (writer w, refl))))
-    ]
-merge_cause Memory dl el dr er t0 t1 n0 n1 f0 f1 h0 h1 w0 w1 m0 m1 cl cr w m s left right writer device told =
-    elim device [ inl e ↦ absurd e | inr rises ↦ inl rises ]
+told_joined : (k m : ℕ) (dl el dr er : InputState) (w w_new : OutputState)
+    → TellsFailures {X = ℕ} (Ok k) dl el dr er w w_new → TellsFailures {X = ℕ} (Ok m) dl el dr er w w_new
+told_joined k m dl el dr er w w_new f = record {
+  left = f.left;
+  right = f.right;
+  writer = f.writer;
+  read_left = λ low is. absurd cc;
+  read_right = λ low is. absurd cc;
+}
 
--- ---- a reader failed
+unsaid_stop : (fault : MergeFault) (dl el dr er : InputState) (t0 t1 : Option (List ℕ))
+    → Stopped fault dl el dr er t0 t1 → Stopped Memory dl el dr er t0 t1
+unsaid_stop fault dl el dr er t0 t1 s = record {
+  x = s.x;
+  y = s.y;
+  written = s.written;
+  left = s.left;
+  right = s.right;
+  left_calls = s.left_calls;
+  right_calls = s.right_calls;
+  taken = s.taken;
+  prefix = s.prefix;
+  input = tt;
+  sent = tt;
+}
 
-pub left_failure : (fault : MergeFault) (old new : ℕ) → LeftReadFailed {X = ℕ} (Err fault) old new → old < new
-    → IsDeviceFault fault
-left_failure (Left f) old new same less = absurd (omega (arith, same, less))
-left_failure (Right f) old new same less = absurd (omega (arith, same, less))
-left_failure (Read side_Left) old new same less = tt
-left_failure (Read side_Right) old new same less = tt
-left_failure (Endless side) old new same less = tt
-left_failure (Write sent) old new same less = tt
-left_failure Memory old new same less = absurd (omega (arith, same, less))
+unsaid_failures : (fault : MergeFault) (dl el dr er : InputState) (w w_new : OutputState) → IsRefusal fault
+    → TellsFailures {X = ℕ} (Err fault) dl el dr er w w_new → TellsFailures {X = ℕ} (Err Memory) dl el dr er w w_new
+unsaid_failures (Left fault) dl el dr er w w_new is f = record {
+  left = f.left;
+  right = f.right;
+  writer = f.writer;
+  read_left = λ low e. absurd cc;
+  read_right = λ low e. absurd cc;
+}
+unsaid_failures (Right fault) dl el dr er w w_new is f = record {
+  left = f.left;
+  right = f.right;
+  writer = f.writer;
+  read_left = λ low e. absurd cc;
+  read_right = λ low e. absurd cc;
+}
+unsaid_failures (Read side) dl el dr er w w_new is f = absurd is
+unsaid_failures (Endless side) dl el dr er w w_new is f = absurd is
+unsaid_failures (Write sent) dl el dr er w w_new is f = absurd is
+unsaid_failures Memory dl el dr er w w_new is f = absurd is
 
-pub right_failure : (fault : MergeFault) (old new : ℕ) → RightReadFailed {X = ℕ} (Err fault) old new
-    → old < new → IsDeviceFault fault
-right_failure (Left f) old new same less = absurd (omega (arith, same, less))
-right_failure (Right f) old new same less = absurd (omega (arith, same, less))
-right_failure (Read side_Left) old new same less = tt
-right_failure (Read side_Right) old new same less = tt
-right_failure (Endless side) old new same less = tt
-right_failure (Write sent) old new same less = tt
-right_failure Memory old new same less = absurd (omega (arith, same, less))
+-- a status below that of a fault is that of a refusal
+told_answer : (fault : MergeFault) (dl el dr er : InputState) (t0 t1 : Option (List ℕ)) (n n_new : OutputState)
+    (status : ℕ) → Stopped fault dl el dr er t0 t1 → Reports (merge_line fault) (merge_status fault) n n_new status
+    → status < FAULT → IfSome dl.left (λ x. AnswersWith (MergeDone x) dr.left status t0 t1 n.taken n_new.taken)
+told_answer fault dl el dr er t0 t1 n n_new status s (inr (is, failed)) few = absurd (omega (arith, is, few))
+told_answer (Left fault) dl el dr er t0 t1 n n_new status s (inl (is, wrote)) few =
+    refused_answer (Left fault) dl el dr er t0 t1 n.taken n_new.taken status s is tt wrote.octets
+told_answer (Right fault) dl el dr er t0 t1 n n_new status s (inl (is, wrote)) few =
+    refused_answer (Right fault) dl el dr er t0 t1 n.taken n_new.taken status s is tt wrote.octets
+told_answer (Read side) dl el dr er t0 t1 n n_new status s (inl (is, wrote)) few = absurd (omega (arith, is, few))
+told_answer (Endless side) dl el dr er t0 t1 n n_new status s (inl (is, wrote)) few = absurd (omega (arith, is, few))
+told_answer (Write sent) dl el dr er t0 t1 n n_new status s (inl (is, wrote)) few = absurd (omega (arith, is, few))
+told_answer Memory dl el dr er t0 t1 n n_new status s (inl (is, wrote)) few = absurd (omega (arith, is, few))
+
+-- ---- a run
+
+pub ran_joined : (dl el dr er : InputState) (w w_new n : OutputState) (k : ℕ)
+    → Joined dl el dr er w.taken w_new.taken k → TellsFailures {X = ℕ} (Ok k) dl el dr er w w_new
+    → RanMerge (merge_devices dl dr w n) (merge_devices el er w_new n) DONE
+ran_joined dl el dr er w w_new n k j f = record {
+  ending = None;
+  outcome = (refl, refl, (k, j));
+  failures = told_joined k 0 dl el dr er w w_new f;
+  answer = λ few. joined_answer dl el dr er w.taken w_new.taken n.taken k j;
+  begins = joined_fronts dl el dr er w.taken w_new.taken k j;
+}
+
+-- a fault was told by its line
+ran_told : (fault : MergeFault) (dl el dr er : InputState) (w w_new n n_new : OutputState) (status : ℕ)
+    → Stopped fault dl el dr er w.taken w_new.taken → TellsFailures {X = ℕ} (Err fault) dl el dr er w w_new
+    → Reports (merge_line fault) (merge_status fault) n n_new status
+    → RanMerge (merge_devices dl dr w n) (merge_devices el er w_new n_new) status
+ran_told fault dl el dr er w w_new n n_new status s f r = record {
+  ending = Some fault;
+  outcome = (r, s);
+  failures = f;
+  answer = λ few. told_answer fault dl el dr er w.taken w_new.taken n n_new status s r few;
+  begins = stopped_fronts fault dl el dr er w.taken w_new.taken s;
+}
+
+-- a fault for whose line memory ran out
+unsaid : (fault : MergeFault) (dl el dr er : InputState) (w w_new n n_new : OutputState) (status : ℕ) → IsRefusal fault
+    → Stopped fault dl el dr er w.taken w_new.taken → TellsFailures {X = ℕ} (Err fault) dl el dr er w w_new
+    → Reports (codes "want of memory\n") NO_MEMORY n n_new status
+    → RanMerge (merge_devices dl dr w n) (merge_devices el er w_new n_new) status
+unsaid fault dl el dr er w w_new n n_new status is s f r =
+    ran_told Memory dl el dr er w w_new n n_new status (unsaid_stop fault dl el dr er w.taken w_new.taken s)
+    (unsaid_failures fault dl el dr er w w_new is f) r
+
+pub ran_stopped : (fault : MergeFault) (dl el dr er : InputState) (w w_new n n_new : OutputState) (status : ℕ)
+    → Stopped fault dl el dr er w.taken w_new.taken → TellsFailures {X = ℕ} (Err fault) dl el dr er w w_new
+    → Reports (merge_line fault) (merge_status fault) n n_new status
+    ⊎ (IsRefusal fault × Reports (codes "want of memory\n") NO_MEMORY n n_new status)
+    → RanMerge (merge_devices dl dr w n) (merge_devices el er w_new n_new) status
+ran_stopped fault dl el dr er w w_new n n_new status s f (inl r) =
+    ran_told fault dl el dr er w w_new n n_new status s f r
+ran_stopped fault dl el dr er w w_new n n_new status s f (inr (is, r)) =
+    unsaid fault dl el dr er w w_new n n_new status is s f r

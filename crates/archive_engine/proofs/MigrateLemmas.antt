@@ -1,5 +1,5 @@
 -- What comes of an old archive, and that it is one text at most.
-use Rattle.std.proofs.Common.{◌≡◌, inl, inr, ℕ, ◌≤◌, List, [], Option, None, Some, IfSome, codes, length, take, refl}
+use Rattle.std.proofs.Common.{◌≡◌, ◌⊎◌, inl, inr, ℕ, ◌≤◌, List, [], Option, None, Some, IfSome, codes, length, take, refl}
 use Rattle.std.proofs.Common.{sym, ap, subst, ◌∙◌, arith}
 use Rattle.std.specs.Io.KnownBytes.{Appends}
 use Rattle.std.proofs.KnownBytes.{Appends-nil}
@@ -15,9 +15,18 @@ use Rattle.archive_migration.specs.OldFaults.{IsOldArchiveFault}
 use Rattle.archive_migration.proofs.OldPrefixes.{old_archive_has_no_fault}
 use Rattle.archive_migration.proofs.OldTexts.{same_old_text}
 use Rattle.frame_engine.specs.Converted.{goes_out}
-use Rattle.frame_engine.specs.Streams.{AnswersWith, WritesPrefixOf}
+use Rattle.octet_devices.specs.Device.{InputState, OutputState}
+use Rattle.octet_devices.specs.Transfers.{IsReadCause, ReadsFew, WroteAll, WrotePart}
+use Rattle.octet_devices.specs.declared.loops.ReadAllFault.{ReadAllFault}
+use Rattle.octet_devices.specs.declared.loops.ReadAllFault.TheVariants as read
+use Rattle.driver.specs.Devices.{IsLeft, Reports, devices}
+use Rattle.driver.specs.declared.status.TheConstants.{DONE, FAULT, NO_MEMORY, REFUSED}
+use Rattle.driver.specs.declared.stopped.Stopped.{Stopped}
+use Rattle.driver.specs.declared.stopped.Stopped.TheVariants.{Diagnostics, Endless, Memory, Read, Write}
+use Rattle.archive_engine.specs.Answered.{WritesPrefixOf}
 use Rattle.archive_engine.specs.FaultLines.{fault_line}
-use Rattle.archive_engine.specs.Migrated.{MigrateDone, noted_fault}
+use Rattle.archive_engine.specs.Migrated.{MigrateDone, MigrateEndsAs, RanMigrate, noted_fault}
+use Rattle.archive_engine.proofs.WrittenLemmas.{nothing_written}
 
 low : ENTRY_MAX ≤ COUNT_MAX
 low = omega arith
@@ -66,19 +75,6 @@ migrated_prefix (Some input) t0 t1 text octets n is (es, a, h, e) w = λ d came.
       (subst (λ (t : List ℕ). IsOldArchiveFault ENTRY_MAX t fault) (sym is) bad))
 ]
 
-pub migrated_answer : (left t0 t1 n0 : Option (List ℕ)) (text octets : List ℕ) → IfSome left (λ input. text ≡ input)
-    → (es : List Entry) × IsArchive ENTRY_MAX es × Migrates text [] es × (octets ≡ text_of es) → Appends t0 t1 octets
-    → AnswersWith MigrateDone left 0 t0 t1 n0 n0
-migrated_answer None t0 t1 n0 text octets is done w = tt
-migrated_answer (Some input) t0 t1 n0 text octets is (es, a, h, e) w = (
-  goes_out (text_of es),
-  inl (es, a, subst (λ (t : List ℕ). Migrates t [] es) is h, refl),
-  refl,
-  subst
-      (Appends t0 t1) e w,
-  Appends-nil n0,
-)
-
 -- all of it was written
 pub migrated_whole : (left t0 t1 : Option (List ℕ)) (text octets : List ℕ) → IfSome left (λ input. text ≡ input)
     → (es : List Entry) × IsArchive ENTRY_MAX es × Migrates text [] es × (octets ≡ text_of es) → Appends t0 t1 octets
@@ -87,15 +83,107 @@ migrated_whole left t0 t1 text octets is done w =
     migrated_prefix left t0 t1 text octets (length octets) is done
     (subst (Appends t0 t1) (sym (take_all (length octets) octets (omega arith))) w)
 
-pub refused_answer : (left t0 n0 n1 : Option (List ℕ)) (text : List ℕ) (fault : ArchiveFault) (status : ℕ)
-    → IfSome left (λ input. text ≡ input) → IsOldArchiveFault ENTRY_MAX text fault → status ≡ 1
-    → Appends n0 n1 (fault_line (codes "old") fault) → AnswersWith MigrateDone left status t0 t0 n0 n1
-refused_answer None t0 n0 n1 text fault status is bad s w = tt
-refused_answer (Some input) t0 n0 n1 text fault status is bad s w = (
-  noted_fault (codes "old") fault,
-  inr
-      (fault, subst (λ (t : List ℕ). IsOldArchiveFault ENTRY_MAX t fault) is bad, refl),
-  s,
-  Appends-nil t0,
-  w,
-)
+-- ---- a run
+
+-- this is all that an input had left
+abbrev pub IsRead : Option (List ℕ) → List ℕ → Type 0
+IsRead left text = IfSome left (λ input. text ≡ input)
+
+left_of : (left : Option (List ℕ)) (text : List ℕ) → IsRead left text → IsLeft left text
+left_of None text is = tt
+left_of (Some input) text is = is
+
+nothing_read : (r r_new : InputState) (w n n_new : OutputState) (ending : Option Stopped) (status : ℕ)
+    → MigrateEndsAs ending (devices r w n) (devices r_new w n_new) status → ReadsFew r r_new
+    → RanMigrate (devices r w n) (devices r_new w n_new) status
+nothing_read r r_new w n n_new ending status ends few = record {
+  ending = ending;
+  outcome = ends;
+  begins = nothing_written MigrateDone r.left w.taken;
+  few = few;
+}
+
+-- what is told of an input that was not read to its end
+abbrev pub read_line : ReadAllFault → List ℕ
+read_line read.Device = codes "old read fault\n"
+read_line read.Endless = codes "old endless input\n"
+read_line read.Memory = codes "want of memory\n"
+
+abbrev pub read_status : ReadAllFault → ℕ
+read_status read.Device = FAULT
+read_status read.Endless = FAULT
+read_status read.Memory = NO_MEMORY
+
+pub ran_unread : (fault : ReadAllFault) (r r_new : InputState) (w n n_new : OutputState) (status : ℕ)
+    → IsReadCause fault r r_new → ReadsFew r r_new → Reports (read_line fault) (read_status fault) n n_new status
+    → RanMigrate (devices r w n) (devices r_new w n_new) status
+ran_unread read.Device r r_new w n n_new status cause few told =
+    nothing_read r r_new w n n_new (Some Read) status (told, cause.cause, refl) few
+ran_unread read.Endless r r_new w n n_new status cause few told =
+    nothing_read r r_new w n n_new (Some Endless) status
+    (told, record { calls = cause.calls; no_failure = cause.no_failure; no_end = cause.no_end }, refl) few
+ran_unread read.Memory r r_new w n n_new status cause few told =
+    nothing_read r r_new w n n_new (Some Memory) status (told, refl) few
+
+-- the text is no old archive
+pub ran_refused : (text : List ℕ) (fault : ArchiveFault) (r r_new : InputState) (w n n_new : OutputState) (status : ℕ)
+    → IsRead r.left text → ReadsFew r r_new → IsOldArchiveFault ENTRY_MAX text fault
+    → Reports (fault_line (codes "old") fault) REFUSED n n_new status
+    ⊎ Reports (codes "want of memory\n") NO_MEMORY n n_new status
+    → RanMigrate (devices r w n) (devices r_new w n_new) status
+ran_refused text fault r r_new w n n_new status is few bad (inl (inl (one, wrote))) =
+    nothing_read r r_new w n n_new None status
+    (record {
+      input = text;
+      done = noted_fault (codes "old") fault;
+      is_input = left_of r.left text is;
+      comes = inr (fault, bad, refl);
+      wrote = record { to_output = record { octets = Appends-nil w.taken; no_failure = refl }; to_diagnostics = wrote };
+      status_is = one;
+    }) few
+ran_refused text fault r r_new w n n_new status is few bad (inl (inr (two, failed))) =
+    nothing_read r r_new w n n_new (Some Diagnostics) status (two, failed, refl) few
+ran_refused text fault r r_new w n n_new status is few bad (inr told) =
+    nothing_read r r_new w n n_new (Some Memory) status (told, refl) few
+
+-- memory ran out for the archive
+pub ran_out : (r r_new : InputState) (w n n_new : OutputState) (status : ℕ) → ReadsFew r r_new
+    → Reports (codes "want of memory\n") NO_MEMORY n n_new status
+    → RanMigrate (devices r w n) (devices r_new w n_new) status
+ran_out r r_new w n n_new status few told =
+    nothing_read r r_new w n n_new (Some Memory) status (told, refl) few
+
+-- the archive was written
+pub ran_whole : (text octets : List ℕ) (r r_new : InputState) (w w_new n : OutputState) → IsRead r.left text
+    → ReadsFew r r_new
+    → (es : List Entry) × IsArchive ENTRY_MAX es × Migrates text [] es × (octets ≡ text_of es)
+    → WroteAll w w_new octets → RanMigrate (devices r w n) (devices r_new w_new n) DONE
+ran_whole text octets r r_new w w_new n is few (es, a, h, e) wrote = record {
+  ending = None;
+  outcome = record {
+    input = text;
+    done = goes_out (text_of es);
+    is_input = left_of r.left text is;
+    comes = inl (es, a, h, refl);
+    wrote = record {
+      to_output = subst (WroteAll w w_new) e wrote;
+      to_diagnostics = record { octets = Appends-nil n.taken; no_failure = refl };
+    };
+    status_is = refl;
+  };
+  begins = migrated_whole r.left w.taken w_new.taken text octets is (es, a, h, e) wrote.octets;
+  few = few;
+}
+
+-- the output failed behind a part of it
+pub ran_part : (text octets : List ℕ) (sent : ℕ) (r r_new : InputState) (w w_new n n_new : OutputState) (status : ℕ)
+    → IsRead r.left text → ReadsFew r r_new
+    → (es : List Entry) × IsArchive ENTRY_MAX es × Migrates text [] es × (octets ≡ text_of es)
+    → WrotePart w w_new octets sent → Reports (codes "write fault\n") FAULT n n_new status
+    → RanMigrate (devices r w n) (devices r_new w_new n_new) status
+ran_part text octets sent r r_new w w_new n n_new status is few done part told = record {
+  ending = Some Write;
+  outcome = (told, part.cause);
+  begins = migrated_prefix r.left w.taken w_new.taken text octets sent is done part.octets;
+  few = few;
+}

@@ -1,8 +1,9 @@
 -- What is noted of outcomes is what the frames that they report call for.
-use Rattle.std.proofs.Common.{◌≡◌, ℕ, ◌+◌, ◌≤◌, inl, inr, List, [], ◌∷◌, ◌++◌, Bool, true, false, length, refl, sym, ap}
-use Rattle.std.proofs.Common.{subst, ◌∙◌, arith}
-use Rattle.std.specs.Prelude.{if◌then◌else◌}
+use Rattle.std.proofs.Common.{◌≡◌, ℕ, suc, get_or, ◌+◌, ◌≤◌, inl, inr, List, [], ◌∷◌, ◌++◌, Bool, true, false, length, refl, sym, ap}
+use Rattle.std.proofs.Common.{subst, ◌∙◌, append_assoc, arith}
+use Rattle.std.specs.Prelude.{◌<◌, ◌-◌, ◌^◌, ◌||◌, drop, min, if◌then◌else◌}
 use Rattle.std.specs.List.{flat_map}
+use Rattle.std.proofs.Math.Seq.{drop-cons}
 use Rattle.std.proofs.lemmas.List.{length-append}
 use Rattle.syslog_frame.specs.Frames.{Frames, framed}
 use Rattle.syslog_frame.specs.declared.framing.Framing.{Framing}
@@ -16,9 +17,10 @@ use Rattle.syslog_collect.specs.declared.outcome.Outcome.{Outcome}
 use Rattle.syslog_collect.specs.declared.outcome.Outcome.TheVariants.{New, Held, Refused, RefusedLegacy, TooLong}
 use Rattle.syslog_collect.specs.declared.outcome.Outcome.TheVariants.{BadCount}
 use Rattle.frame_engine.specs.Converted.{noted_line}
-use Rattle.frame_engine.specs.Handling.{Done, Handling, HandledFrom, nothing, then_done}
+use Rattle.driver.specs.Effects.{Done, nothing, then_done}
+use Rattle.frame_engine.specs.Handling.{HandledFrom, Handling}
 use Rattle.frame_engine.specs.declared.line.Line.TheVariants as line
-use Rattle.frame_engine.proofs.HandlingLemmas.{then_assoc}
+use Rattle.frame_engine.proofs.HandlingLemmas.{then_assoc, then_nothing}
 use Rattle.archive_engine.specs.Archived.{archive_handling}
 use Rattle.archive_engine.specs.Outcomes.{has_bad_count, is_bad_count, noted_outcome, noted_outcomes}
 
@@ -157,6 +159,102 @@ bad_outcomes clock n old new fs (TooLong ∷ os) s (here, later, between, parts,
     (bad_outcomes clock (n + 1) between new later os s more marks bad)
 bad_outcomes clock n old new fs (BadCount at ∷ os) s (here, later, between, parts, (none, same), more) marks bad =
     bad_last clock n at between new fs here later os s parts none more marks.0 marks.1
+
+-- the first outcomes are of the first frames
+pub reported_first : (clock : Clock) (old new : List Entry) (fs : List (List ℕ)) (first later : List Outcome)
+    → AreReported clock old new fs (first ++ later)
+    → (here : List (List ℕ)) × (behind : List (List ℕ)) × (between : List Entry) × (fs ≡ here ++ behind)
+    × AreReported clock old between here first
+reported_first clock old new fs [] later h = ([], fs, old, refl, (refl, refl))
+reported_first clock old new fs (o ∷ first) later (here, behind, between, parts, one, more) =
+    let (h, l, b, p, m) = reported_first clock between new behind first later more in (
+      here ++ h,
+      l,
+      b,
+      parts ∙ ap (λ (x : List (List ℕ)). here ++ x) p ∙ sym (append_assoc here h l),
+      (here, h, between, refl, one, m),
+    )
+
+neither : (a b : Bool) → (a || b) ≡ false → (a ≡ false) × (b ≡ false)
+neither false false h = (refl, refl)
+neither false true h = absurd cc
+neither true b h = absurd cc
+
+-- what is noted of outcomes without a bad count, and then of others
+pub noted_append : (n m : ℕ) (xs ys : List Outcome) → has_bad_count xs ≡ false → m ≡ n + length xs
+    → noted_outcomes n (xs ++ ys) ≡ then_done (noted_outcomes n xs) (noted_outcomes m ys)
+noted_append n m [] ys good e = ap (λ (k : ℕ). noted_outcomes k ys) (omega (arith, e))
+noted_append n m (x ∷ xs) ys good e =
+    let both = neither (is_bad_count x) (has_bad_count xs) good in
+    noted_good n x (xs ++ ys) both.0
+    ∙ ap (then_done (noted_outcome n x)) (noted_append (n + 1) m xs ys both.1 (omega (arith, e)))
+    ∙ sym (then_assoc (noted_outcome n x) (noted_outcomes (n + 1) xs) (noted_outcomes m ys))
+    ∙ ap (λ (d : Done). then_done d (noted_outcomes m ys)) (sym (noted_good n x xs both.0))
+
+pub bad_append : (xs ys : List Outcome) → has_bad_count xs ≡ false → has_bad_count (xs ++ ys) ≡ has_bad_count ys
+bad_append [] ys good = refl
+bad_append (x ∷ xs) ys good =
+    let both = neither (is_bad_count x) (has_bad_count xs) good in
+    ap (λ (b : Bool). b || has_bad_count (xs ++ ys)) both.0 ∙ bad_append xs ys both.1
+
+pub one_of : (os : List Outcome) (i : ℕ) (d : Outcome) → i < length os → drop i os ≡ get_or os i d ∷ drop (i + 1) os
+one_of os i d less =
+    let same : suc i ≡ i + 1 = omega arith in
+    drop-cons os i d less ∙ ap (λ (k : ℕ). get_or os i d ∷ drop k os) same
+
+-- one outcome more
+pub noted_one_more : (n m : ℕ) (first later rest all : List Outcome) (o : Outcome) (start old new : Done)
+    → first ++ later ≡ all → later ≡ o ∷ rest → has_bad_count first ≡ false → m ≡ n + length first
+    → is_bad_count o ≡ false → old ≡ then_done start (noted_outcomes n first) → new ≡ then_done old (noted_outcome m o)
+    → new ≡ then_done start (noted_outcomes n (first ++ o ∷ []))
+noted_one_more n m first later rest all o start old new parts one good number fine before after =
+    let single : noted_outcomes m (o ∷ []) ≡ noted_outcome m o =
+    noted_good m o [] fine ∙ then_nothing (noted_outcome m o) in
+    after ∙ ap (λ (d : Done). then_done d (noted_outcome m o)) before
+    ∙ then_assoc start (noted_outcomes n first) (noted_outcome m o)
+    ∙ ap (λ (d : Done). then_done start (then_done (noted_outcomes n first) d)) (sym single)
+    ∙ ap (then_done start) (sym (noted_append n m first (o ∷ []) good number))
+
+pub noted_next : (n m k i : ℕ) (first os : List Outcome) (o : Outcome) (start old new : Done)
+    → first ++ drop i os ≡ os → drop i os ≡ o ∷ drop (i + 1) os → has_bad_count first ≡ false
+    → is_bad_count o ≡ false → k ≡ min (m + 1) (2 ^ 64 - 1)
+    → (n + length os < 2 ^ 64 → (m ≡ n + length first) × (old ≡ then_done start (noted_outcomes n first)))
+    → new ≡ then_done old (noted_outcome m o)
+    → (x : List Outcome) × (x ++ drop (i + 1) os ≡ os) × (has_bad_count x ≡ false)
+    × (n + length os < 2 ^ 64 → (k ≡ n + length x) × (new ≡ then_done start (noted_outcomes n x)))
+noted_next n m k i first os o start old new parts one good fine counted before after =
+    let some : length os ≡ length first + length (drop i os) =
+    sym (ap length parts) ∙ length-append first (drop i os) in (
+      first ++ o ∷ [],
+      append_assoc first (o ∷ []) (drop (i + 1) os) ∙ ap (λ (l : List Outcome). first ++ l) (sym one) ∙ parts,
+      bad_append first (o ∷ []) good ∙ ap (λ (b : Bool). b || false) fine,
+      λ few. (
+        omega (arith, counted, (before few).0, few, some, ap length one, length-append first (o ∷ [])),
+        noted_one_more n m first (drop i os) (drop (i + 1) os) os o start old new parts one good (before few).0 fine
+            (before few).1 after,
+      ),
+    )
+
+-- and it is a bad count
+pub noted_with_bad : (n m : ℕ) (first later rest all : List Outcome) (o : Outcome) (start old new : Done)
+    → first ++ later ≡ all → later ≡ o ∷ rest → has_bad_count first ≡ false → m ≡ n + length first
+    → is_bad_count o ≡ true → old ≡ then_done start (noted_outcomes n first) → new ≡ then_done old (noted_outcome m o)
+    → new ≡ then_done start (noted_outcomes n all)
+noted_with_bad n m first later rest all o start old new parts one good number bad before after =
+    let single : noted_outcomes m (o ∷ rest) ≡ noted_outcome m o =
+    ap (λ (b : Bool). if b then noted_outcome m o else then_done (noted_outcome m o) (noted_outcomes (m + 1) rest)) bad in
+    after ∙ ap (λ (d : Done). then_done d (noted_outcome m o)) before
+    ∙ then_assoc start (noted_outcomes n first) (noted_outcome m o)
+    ∙ ap (λ (d : Done). then_done start (then_done (noted_outcomes n first) d)) (sym single)
+    ∙ ap (then_done start) (sym (noted_append n m first (o ∷ rest) good number)
+    ∙ ap (λ (l : List Outcome). noted_outcomes n (first ++ l)) (sym one) ∙ ap (noted_outcomes n) parts)
+
+-- one of them is a bad count
+pub bad_among : (first later rest all : List Outcome) (o : Outcome) → first ++ later ≡ all → later ≡ o ∷ rest
+    → has_bad_count first ≡ false → is_bad_count o ≡ true → true ≡ has_bad_count all
+bad_among first later rest all o parts one good bad =
+    sym (ap (λ (b : Bool). b || has_bad_count rest) bad) ∙ ap has_bad_count (sym one)
+    ∙ sym (bad_append first later good) ∙ ap has_bad_count parts
 
 -- without a bad count among the outcomes the stream is good so far
 pub marks_good : (os : List Outcome) (s : Stream) → ReportsBadCount os s → has_bad_count os ≡ false

@@ -30,13 +30,13 @@ use Rattle.syslog_collect.specs.declared.outcome.Outcome.{Outcome}
 use Rattle.syslog_collect.proofs.Headline.{first_settled, holds_just}
 use Rattle.syslog_collect.proofs.Steps.{history_after-push}
 use Rattle.frame_engine.specs.Converted.{noted_line}
-use Rattle.frame_engine.specs.Handling.{Done, nothing as none_done}
+use Rattle.driver.specs.Effects.{Done, nothing as none_done}
 use Rattle.frame_engine.specs.Streams.{ReportsEnd}
 use Rattle.frame_engine.specs.declared.input_framing.InputFraming.{InputFraming}
 use Rattle.frame_engine.specs.declared.input_framing.InputFraming.TheVariants as input
 use Rattle.frame_engine.specs.declared.line.Line.TheVariants.{Unterminated as Unfinished}
 use Rattle.archive_engine.specs.Archived.{AreFramesIn, IsReceivedIn}
-use Rattle.archive_engine.specs.Receiving.{LogsPiece, Receives, StopsAt, heard, opening}
+use Rattle.archive_engine.specs.Receiving.{LogsPiece, Receives, ReceivesDatagram, StopsAt, heard, opening}
 
 -- ---- what was heard
 
@@ -125,6 +125,19 @@ logs_datagram clock octets w v old new os (here, later, between, parts, (x, one,
   subst
       (λ (es : List Entry). IsOutcome clock old es octets x) (sym same) out,
 )
+
+-- a datagram was heard, of which one outcome is told
+pub receives_one : (clock : Clock) (ds : List Connection) (old kept : List Entry) (octets : List ℕ) (w v : ℕ → ℕ)
+    (os : List Outcome) → Stands clock ds kept [] (Datagram octets ∷ []) → IsSettled ds
+    → IsLogOf clock initial w (Datagram octets ∷ []) v old kept os → ReceivesDatagram clock ds old kept octets os
+receives_one clock ds old kept octets w v os stands settled logged =
+    let (x, only, out) = logs_datagram clock octets w v old kept os logged in
+    record {
+      receives = receives_datagram clock ds kept octets stands settled;
+      outcome = x;
+      only = only;
+      is_outcome = out;
+    }
 
 -- ---- the received set
 

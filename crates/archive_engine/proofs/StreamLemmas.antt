@@ -1,171 +1,293 @@
--- An input that is received, piece by piece.
+-- An input that is archived: how its session goes on, and how it ends.
 use Rattle.std.proofs.Common.{◌≡◌, ℕ, ◌+◌, ◌*◌, ◌<◌, ◌≤◌, inl, inr, List, [], ◌∷◌, ◌++◌, Bool, true, false, Option}
-use Rattle.std.proofs.Common.{None, Some, IfSome, length, take, refl, sym, ap, subst, ◌∙◌, arith}
-use Rattle.std.specs.Prelude.{◌↔◌}
-use Rattle.std.specs.Io.KnownBytes.{Appends, Consumes, IsAtEnd}
-use Rattle.std.proofs.KnownBytes.{Appends-nil, Appends-trans, Consumes-nil, Consumes-trans, Consumes-whole}
+use Rattle.std.proofs.Common.{length, take, refl, sym, ap, ap₂, subst, ◌∙◌, arith, append_assoc}
+use Rattle.std.specs.Prelude.{◌↔◌, ◌^◌, ◌||◌}
+use Rattle.std.specs.List.{AllByRecursion, flat_map}
 use Rattle.std.proofs.lemmas.Bool.{cases_lt}
+use Rattle.std.proofs.lemmas.Grind.{flat_map-append}
 use Rattle.std.proofs.lemmas.List.{append-nil, length-append, length-take, take_all}
-use Rattle.syslog_value.specs.declared.loops.TheConstants.{READ_MAX}
-use Rattle.syslog_frame.specs.Frames.{Frames}
+use Rattle.syslog_frame.specs.Frames.{CanCarry, Frames, framed}
 use Rattle.syslog_frame.specs.declared.framing.Framing.{Framing}
 use Rattle.syslog_frame.specs.declared.limits.TheConstants.{FRAME_MAX}
 use Rattle.syslog_frame.proofs.FrameLaws.{bad_longer, concatenation, unique_frames}
-use Rattle.archive_text.specs.Entries.{Entry}
+use Rattle.archive_text.specs.Entries.{Entry, Has}
+use Rattle.archive_text.specs.Text.{IsArchive, text_of}
+use Rattle.archive_text.specs.declared.limits.TheConstants.{ENTRY_MAX}
 use Rattle.syslog_legacy.specs.FrameReadings.{Clock}
 use Rattle.syslog_collect.specs.Frames.{IsSpelled}
 use Rattle.syslog_collect.specs.History.{HoldsBadCount}
-use Rattle.syslog_collect.specs.Outcomes.{IsOutcome}
+use Rattle.syslog_collect.specs.Outcomes.{AreReported, IsOutcome}
 use Rattle.syslog_collect.specs.declared.connection.Connection.{Connection}
 use Rattle.syslog_collect.specs.declared.outcome.Outcome.{Outcome}
 use Rattle.syslog_collect.specs.declared.outcome.Outcome.TheVariants.{New, Held, Refused, RefusedLegacy, TooLong}
 use Rattle.syslog_collect.specs.declared.outcome.Outcome.TheVariants.{BadCount}
+use Rattle.driver.specs.Effects.{Done, nothing, then_done}
+use Rattle.driver.specs.Sessions.{most_octets, with_rest}
 use Rattle.frame_engine.specs.Converted.{noted_line}
-use Rattle.frame_engine.specs.Handling.{Done, HandledFrom, nothing, then_done}
-use Rattle.frame_engine.specs.Streams.{ReportsEnd, written_out}
+use Rattle.frame_engine.specs.Handling.{HandledFrom}
+use Rattle.frame_engine.specs.Sessions.{GoesOn, input_meaning}
+use Rattle.frame_engine.specs.Streams.{HasPart, ReportsEnd, StreamDone}
+use Rattle.frame_engine.specs.declared.input_framing.InputFraming.{InputFraming}
 use Rattle.frame_engine.specs.declared.input_framing.InputFraming.TheVariants as input
 use Rattle.frame_engine.specs.declared.line.Line.TheVariants as line
-use Rattle.frame_engine.proofs.HandlingLemmas.{then_assoc, then_nothing}
-use Rattle.archive_engine.specs.Archived.{IsReceivedIn, archive_handling}
-use Rattle.archive_engine.specs.Outcomes.{has_bad_count, noted_outcome, noted_outcomes}
-use Rattle.archive_engine.specs.Receiving.{HasReceived, IsReceiving, IsStreaming, LogsPiece, Receives, opening}
+use Rattle.frame_engine.proofs.HandlingLemmas.{or_false, same_done, then_assoc, then_nothing}
+use Rattle.archive_engine.specs.Archived.{ArchiveDone, IsReceivedIn, archive_handling}
+use Rattle.archive_engine.specs.Outcomes.{NotedSome, has_bad_count, noted_outcome, noted_outcomes}
+use Rattle.archive_engine.specs.Receiving.{LogsPiece, Receives, ReceivesDatagram, StopsAt, StreamStands, opening}
 use Rattle.archive_engine.proofs.OutcomeLemmas.{bad_outcomes, few_frames, few_outcomes, good_outcomes, handled_append}
-use Rattle.archive_engine.proofs.OutcomeLemmas.{marks_good, outcome_handled}
-use Rattle.archive_engine.proofs.ReceiveLemmas.{good_start, holds_heard}
-use Rattle.archive_engine.proofs.WrittenLemmas.{take_zero}
+use Rattle.archive_engine.proofs.OutcomeLemmas.{marks_good, outcome_handled, reported_first}
+use Rattle.archive_engine.proofs.ReceiveLemmas.{begins_rest, good_start, holds_heard, stop_done, stop_reported}
+
+-- ---- the output of lines
+
+-- what is noted of frames has no output
+pub lines_only : (clock : Clock) (n : ℕ) (fs : List (List ℕ)) (d : Done) → HandledFrom (archive_handling clock) n fs d
+    → d.output ≡ []
+lines_only clock n [] d h = ap (λ (x : Done). x.output) h
+lines_only clock n (f ∷ fs) d (a, b, one, more, e) =
+    ap (λ (x : Done). x.output) e
+    ∙ ap₂ (λ (x y : List ℕ). x ++ y) (line_only clock n f a one) (lines_only clock (n + 1) fs b more)
+  where
+    line_only : (clock : Clock) (n : ℕ) (f : List ℕ) (a : Done) → archive_handling clock n f a → a.output ≡ []
+    line_only clock n f a (inl (long, e)) = ap (λ (x : Done). x.output) e
+    line_only clock n f a (inr (inl (few, r, e))) = ap (λ (x : Done). x.output) e
+    line_only clock n f a (inr (inr (inl (few, quiet, (fault, bad, e))))) = ap (λ (x : Done). x.output) e
+    line_only clock n f a (inr (inr (inr (few, (offset, bad, e))))) = ap (λ (x : Done). x.output) e
+
+end_only : (kind : Framing) (stream : List ℕ) (frames : List (List ℕ)) (rest : List ℕ) (d : Done)
+    → ReportsEnd noted_line kind stream frames rest d → d.output ≡ []
+end_only kind stream frames rest d (inl (none, e)) = ap (λ (x : Done). x.output) e
+end_only kind stream frames rest d (inr (inl (start, some, begins, place, e))) = ap (λ (x : Done). x.output) e
+end_only kind stream frames rest d (inr (inr (at, bad, e))) = ap (λ (x : Done). x.output) e
+
+-- nothing and a rest is the rest
+only_rest : (d : Done) (rest : List ℕ) → d.output ≡ []
+    → with_rest d rest ≡ record { refused = d.refused; output = rest; diagnostics = d.diagnostics }
+only_rest d rest none = same_done (d.refused || false) d.refused (d.output ++ rest) rest (d.diagnostics ++ []) d.diagnostics
+    (or_false d.refused) (ap (λ (x : List ℕ). x ++ rest) none) (append-nil d.diagnostics)
+
+-- what comes of a stream whose archive is written behind its lines
+stream_whole : (clock : Clock) (kind : Framing) (stream : List ℕ) (kept : List Entry) (lines : Done)
+    → IsArchive ENTRY_MAX kept → ((x : Entry) → Has kept x ↔ IsReceivedIn clock (input.Stream kind) stream x)
+    → StreamDone (archive_handling clock) noted_line kind stream lines
+    → ArchiveDone clock (input.Stream kind) stream (with_rest lines (text_of kept))
+stream_whole clock kind stream kept lines archive members noted =
+    let none : lines.output ≡ [] =
+    ap (λ (x : Done). x.output) noted.whole
+    ∙ ap₂ (λ (x y : List ℕ). x ++ y) (lines_only clock 1 noted.frames noted.of_frames noted.handled)
+    (end_only kind stream noted.frames noted.rest noted.of_end noted.reported) in
+    record {
+      entries = kept;
+      lines = lines;
+      archived = record { archive = archive; members = members };
+      noted = noted;
+      whole = only_rest lines (text_of kept) none;
+    }
 
 -- ---- a stream goes on
 
-pub receiving_start : (clock : Clock) (cs : List Connection) (kept : List Entry) (kind : Framing)
-    (notes : Option (List ℕ))
-    (lines : Done) → Receives clock cs kept (input.Stream kind) [] → lines ≡ nothing → IsReceiving clock kind
-    [] 1 cs kept notes notes lines
-receiving_start clock cs kept kind notes lines r none = record {
+pub stream_start : (clock : Clock) (cs : List Connection) (kept : List Entry) (kind : Framing)
+    → Receives clock cs kept (input.Stream kind) [] → StreamStands clock kind cs kept 1 []
+stream_start clock cs kept kind r = record {
   receives = r;
   frames = [];
   rest = [];
   frames_are = concatenation kind [] tt;
   good = good_start kind;
   number_is = refl;
-  notes = [];
-  reported = Appends-nil notes;
-  handled = ap (then_done (written_out [] [])) none;
 }
 
+-- what was noted so far is that of its frames
+handled_of : (clock : Clock) (kind : Framing) (given : List ℕ) (frames : List (List ℕ)) (rest : List ℕ) (d : Done)
+    → Frames kind given frames rest → GoesOn (archive_handling clock) kind given d
+    → HandledFrom (archive_handling clock) 1 frames d
+handled_of clock kind given frames rest d are g =
+    subst (λ (fs : List (List ℕ)). HandledFrom (archive_handling clock) 1 fs d)
+    (unique_frames kind given g.frames frames g.rest rest g.frames_are are).0 g.handled
+
 -- a piece without a bad count
-pub receiving_piece : (clock : Clock) (kind : Framing) (given octets : List ℕ) (number next : ℕ)
-    (cs ds : List Connection) (kept now : List Entry) (n0 n : Option (List ℕ)) (lines new : Done)
-    (os : List Outcome) → (h : IsReceiving clock kind given number cs kept n0 n lines)
+pub stream_more : (clock : Clock) (kind : Framing) (given octets : List ℕ) (number next : ℕ)
+    (cs ds : List Connection) (kept now : List Entry) (os : List Outcome)
+    → (s : StreamStands clock kind cs kept number given)
     → Receives clock ds now (input.Stream kind) (given ++ octets) → LogsPiece clock kind given octets kept now os
-    → has_bad_count os ≡ false → new ≡ then_done lines (noted_outcomes number os) → next ≡ number + length os
-    → IsReceiving clock kind (given ++ octets) next ds now n0 n new
-receiving_piece clock kind given octets number next cs ds kept now n0 n lines new os h r p good noted counted =
-    let same : h.frames ≡ p.before =
-    (unique_frames kind given h.frames p.before h.rest p.rest_before h.frames_are p.frames_before).0
-    in
-    let many : length h.frames ≡ length p.before = ap length same in
+    → has_bad_count os ≡ false → next ≡ number + length os
+    → StreamStands clock kind ds now next (given ++ octets)
+stream_more clock kind given octets number next cs ds kept now os s r p good counted =
+    let same : s.frames ≡ p.before =
+    (unique_frames kind given s.frames p.before s.rest p.rest_before s.frames_are p.frames_before).0 in
+    let many : length s.frames ≡ length p.before = ap length same in
     let fresh = good_outcomes clock number kept now p.last os p.reported good in
-    let before =
-    subst (λ (fs : List (List ℕ)). HandledFrom (archive_handling clock) 1 fs
-    (then_done (written_out [] h.notes) lines)) same h.handled
-    in
-    let number_is : number ≡ 1 + length p.before = omega (arith, h.number_is, many) in
-    let all : then_done (written_out [] h.notes) new
-    ≡ then_done (then_done (written_out [] h.notes) lines) (noted_outcomes number os) =
-    ap (then_done (written_out [] h.notes)) noted
-    ∙ sym (then_assoc (written_out [] h.notes) lines (noted_outcomes number os)) in
     record {
       receives = r;
       frames = p.before ++ p.last;
       rest = p.rest;
       frames_are = p.frames_are;
       good = marks_good os (opening kind (given ++ octets)) p.marks good;
-      number_is = omega (arith, counted, number_is, fresh.as_many, length-append p.before p.last);
-      notes = h.notes;
-      reported = h.reported;
-      handled = subst (HandledFrom (archive_handling clock) 1 (p.before ++ p.last)) (sym all) (handled_append
-          (archive_handling clock) 1 number p.before p.last (then_done (written_out [] h.notes) lines)
-          (noted_outcomes number os) number_is before fresh.handled);
+      number_is = omega (arith, counted, s.number_is, many, fresh.as_many, length-append p.before p.last);
     }
 
--- lines were written
-pub receiving_noted : (clock : Clock) (kind : Framing) (given : List ℕ) (number : ℕ) (cs : List Connection)
-    (kept : List Entry) (n0 n m : Option (List ℕ)) (lines new : Done)
-    (noted : List ℕ) → IsReceiving clock kind given number cs kept n0 n lines
-    → Appends n m noted → lines ≡ then_done (written_out [] noted) new
-    → IsReceiving clock kind given number cs kept n0 m new
-receiving_noted clock kind given number cs kept n0 n m lines new noted h written moved =
-    let all : then_done (written_out [] h.notes) lines ≡ then_done (written_out [] (h.notes ++ noted)) new =
-    ap (then_done (written_out [] h.notes)) moved ∙ sym
-    (then_assoc (written_out [] h.notes) (written_out [] noted) new)
-    in
+pub goes_on_more : (clock : Clock) (kind : Framing) (given octets : List ℕ) (number : ℕ)
+    (cs ds : List Connection) (kept now : List Entry) (os : List Outcome) (before old new : Done)
+    → (s : StreamStands clock kind cs kept number given)
+    → Receives clock ds now (input.Stream kind) (given ++ octets) → LogsPiece clock kind given octets kept now os
+    → has_bad_count os ≡ false → new ≡ then_done old (noted_outcomes number os)
+    → GoesOn (archive_handling clock) kind given (then_done before old)
+    → GoesOn (archive_handling clock) kind (given ++ octets) (then_done before new)
+goes_on_more clock kind given octets number cs ds kept now os before old new s r p good noted g =
+    let front = handled_of clock kind given p.before p.rest_before (then_done before old) p.frames_before g in
+    let same : s.frames ≡ p.before =
+    (unique_frames kind given s.frames p.before s.rest p.rest_before s.frames_are p.frames_before).0 in
+    let number_is : number ≡ 1 + length p.before = omega (arith, s.number_is, ap length same) in
+    let fresh = good_outcomes clock number kept now p.last os p.reported good in
+    let all : then_done before new ≡ then_done (then_done before old) (noted_outcomes number os) =
+    ap (then_done before) noted ∙ sym (then_assoc before old (noted_outcomes number os)) in
     record {
-      receives = h.receives;
-      frames = h.frames;
-      rest = h.rest;
-      frames_are = h.frames_are;
-      good = h.good;
-      number_is = h.number_is;
-      notes = h.notes ++ noted;
-      reported = Appends-trans n0 n m h.notes noted h.reported written;
-      handled = subst (HandledFrom (archive_handling clock) 1 h.frames) all h.handled;
+      frames = p.before ++ p.last;
+      rest = p.rest;
+      frames_are = p.frames_are;
+      begins = begins_rest clock ds now kind (given ++ octets) r
+          (marks_good os (opening kind (given ++ octets)) p.marks good) (p.before ++ p.last) p.rest p.frames_are;
+      handled = subst (HandledFrom (archive_handling clock) 1 (p.before ++ p.last)) (sym all)
+          (handled_append (archive_handling clock) 1 number p.before p.last (then_done before old)
+          (noted_outcomes number os) number_is front fresh.handled);
     }
+
+-- no octets came
+pub stream_still : (clock : Clock) (kind : Framing) (given octets : List ℕ) (number : ℕ) (cs : List Connection)
+    (kept : List Entry) → octets ≡ [] → StreamStands clock kind cs kept number given
+    → StreamStands clock kind cs kept number (given ++ octets)
+stream_still clock kind given octets number cs kept none s =
+    subst (StreamStands clock kind cs kept number)
+    (sym (ap (λ (x : List ℕ). given ++ x) none ∙ append-nil given)) s
+
+pub goes_on_still : (clock : Clock) (kind : Framing) (given octets : List ℕ) (d : Done) → octets ≡ []
+    → GoesOn (archive_handling clock) kind given d → GoesOn (archive_handling clock) kind (given ++ octets) d
+goes_on_still clock kind given octets d none g =
+    subst (λ (x : List ℕ). GoesOn (archive_handling clock) kind x d)
+    (sym (ap (λ (x : List ℕ). given ++ x) none ∙ append-nil given)) g
 
 -- there is room for the numbers of the outcomes of a piece
 pub few_more : (clock : Clock) (kind : Framing) (given octets : List ℕ) (number : ℕ) (cs : List Connection)
-    (kept now : List Entry) (n0 n : Option (List ℕ)) (lines : Done)
-    (os : List Outcome) → IsReceiving clock kind given number cs kept n0 n lines → LogsPiece clock kind given octets
-    kept now os
+    (kept now : List Entry) (os : List Outcome) → StreamStands clock kind cs kept number given
+    → LogsPiece clock kind given octets kept now os
     → number + length os ≤ length given + length given + length octets + 2
-few_more clock kind given octets number cs kept now n0 n lines os h p =
+few_more clock kind given octets number cs kept now os s p =
     omega (
       arith,
-      h.number_is,
-      few_frames kind given h.frames h.rest h.frames_are,
+      s.number_is,
+      few_frames kind given s.frames s.rest s.frames_are,
       few_frames kind (given ++ octets) (p.before ++ p.last) p.rest p.frames_are,
       length-append given octets,
       length-append p.before p.last,
-      few_outcomes clock kept now p.last os (opening kind (given ++ octets)) p.reported
-          p.marks,
+      few_outcomes clock kept now p.last os (opening kind (given ++ octets)) p.reported p.marks,
     )
+
+-- ---- memory ran out
+
+-- before anything was noted of a piece
+pub part_before : (clock : Clock) (kind : Framing) (given octets : List ℕ) (d : Done)
+    → GoesOn (archive_handling clock) kind given d → HasPart (archive_handling clock) kind (given ++ octets) d
+part_before clock kind given octets d g = record {
+  frames = g.frames;
+  rest = g.rest ++ octets;
+  whole = ap (λ (x : List ℕ). x ++ octets) g.frames_are.whole
+      ∙ append_assoc (flat_map (framed kind) g.frames) g.rest octets;
+  each = g.frames_are.each;
+  handled = g.handled;
+}
+
+all_first : (P : List ℕ → Type 0) (xs ys : List (List ℕ)) → AllByRecursion P (xs ++ ys) → AllByRecursion P xs
+all_first P [] ys h = tt
+all_first P (x ∷ xs) ys (one, more) = (one, all_first P xs ys more)
+
+-- some of the frames of a stream
+part_of_more : (kind : Framing) (stream : List ℕ) (some later all : List (List ℕ)) (rest : List ℕ) (clock : Clock)
+    (d : Done) → Frames kind stream all rest → all ≡ some ++ later → HandledFrom (archive_handling clock) 1 some d
+    → HasPart (archive_handling clock) kind stream d
+part_of_more kind stream some later all rest clock d are split handled =
+    let each = subst (AllByRecursion (CanCarry kind)) split are.each in
+    record {
+      frames = some;
+      rest = flat_map (framed kind) later ++ rest;
+      whole = are.whole ∙ ap (λ (x : List (List ℕ)). flat_map (framed kind) x ++ rest) split
+          ∙ ap (λ (x : List ℕ). x ++ rest) (flat_map-append (framed kind) some later)
+          ∙ append_assoc (flat_map (framed kind) some) (flat_map (framed kind) later) rest;
+      each = all_first (CanCarry kind) some later each;
+      handled = handled;
+    }
+
+-- where some of its outcomes were noted
+pub part_some : (clock : Clock) (kind : Framing) (given octets : List ℕ) (number : ℕ) (cs ds : List Connection)
+    (kept now : List Entry) (os : List Outcome) (before old new : Done)
+    → (s : StreamStands clock kind cs kept number given) → LogsPiece clock kind given octets kept now os
+    → NotedSome number os old new → GoesOn (archive_handling clock) kind given (then_done before old)
+    → HasPart (archive_handling clock) kind (given ++ octets) (then_done before new)
+part_some clock kind given octets number cs ds kept now os before old new s p some g =
+    let front = handled_of clock kind given p.before p.rest_before (then_done before old) p.frames_before g in
+    let same : s.frames ≡ p.before =
+    (unique_frames kind given s.frames p.before s.rest p.rest_before s.frames_are p.frames_before).0 in
+    let number_is : number ≡ 1 + length p.before = omega (arith, s.number_is, ap length same) in
+    let (here, later, between, parts, told) =
+    reported_first clock kept now p.last some.first some.later
+    (subst (AreReported clock kept now p.last) some.parts p.reported) in
+    let fresh = good_outcomes clock number kept between here some.first told some.good in
+    let all : then_done before new ≡ then_done (then_done before old) (noted_outcomes number some.first) =
+    ap (then_done before) some.noted ∙ sym (then_assoc before old (noted_outcomes number some.first)) in
+    let split : p.before ++ p.last ≡ (p.before ++ here) ++ later =
+    ap (λ (x : List (List ℕ)). p.before ++ x) parts ∙ sym (append_assoc p.before here later) in
+    part_of_more kind (given ++ octets) (p.before ++ here) later (p.before ++ p.last) p.rest clock
+    (then_done before new) p.frames_are split
+    (subst (HandledFrom (archive_handling clock) 1 (p.before ++ here)) (sym all)
+    (handled_append (archive_handling clock) 1 number p.before here (then_done before old)
+    (noted_outcomes number some.first) number_is front fresh.handled))
 
 -- ---- a stream ends
 
-ended : (clock : Clock) (kind : Framing) (given : List ℕ) (number : ℕ) (cs : List Connection) (kept : List Entry)
-    (n0 n : Option (List ℕ)) (lines new : Done) → (h : IsReceiving clock kind given number cs kept n0 n lines)
-    → (d : Done) × ReportsEnd noted_line kind given h.frames h.rest d × (new ≡ then_done lines d)
-    → HasReceived clock (input.Stream kind) given kept n0 n new
-ended clock kind given number cs kept n0 n lines new h (d, reported, is) =
-    let front = then_done (written_out [] h.notes) lines in
-    record {
-      lines = then_done front d;
-      notes = h.notes;
-      members = holds_heard clock cs kept (input.Stream kind) given h.receives;
-      noted = record {
-        frames = h.frames;
-        rest = h.rest;
-        of_frames = front;
-        of_end = d;
-        frames_are =
-            h.frames_are;
-        handled = h.handled;
-        reported = reported;
-        whole = refl;
-      };
-      reported = h.reported;
-      whole = then_assoc (written_out [] h.notes) lines d ∙ ap (then_done (written_out [] h.notes)) (sym is);
-    }
+pub stream_ends : (clock : Clock) (kind : Framing) (given : List ℕ) (number : ℕ) (cs : List Connection)
+    (kept : List Entry) (before old new d : Done) → (s : StreamStands clock kind cs kept number given)
+    → IsArchive ENTRY_MAX kept → GoesOn (archive_handling clock) kind given (then_done before old)
+    → ReportsEnd noted_line kind given s.frames s.rest d → new ≡ then_done old d
+    → ArchiveDone clock (input.Stream kind) given (with_rest (then_done before new) (text_of kept))
+stream_ends clock kind given number cs kept before old new d s archive g reported is =
+    stream_whole clock kind given kept (then_done before new) archive
+    (holds_heard clock cs kept (input.Stream kind) given s.receives) (record {
+      frames = s.frames;
+      rest = s.rest;
+      of_frames = then_done before old;
+      of_end = d;
+      frames_are = s.frames_are;
+      handled = handled_of clock kind given s.frames s.rest (then_done before old) s.frames_are g;
+      reported = reported;
+      whole = ap (then_done before) is ∙ sym (then_assoc before old d);
+    })
 
-pub received_end : (clock : Clock) (kind : Framing) (given : List ℕ) (number : ℕ) (cs : List Connection)
-    (kept now : List Entry) (a b n0 n : Option (List ℕ))
-    (lines new : Done) → (h : IsReceiving clock kind given number cs kept n0 n lines)
-    → Consumes a b given → IsAtEnd b → now ≡ kept
-    → (d : Done) × ReportsEnd noted_line kind given h.frames h.rest d × (new ≡ then_done lines d)
-    → IfSome a (λ stream. HasReceived clock (input.Stream kind) stream now n0 n new)
-received_end clock kind given number cs kept now a b n0 n lines new h read at_end same end =
-    Consumes-whole a b given (λ stream. HasReceived clock (input.Stream kind) stream now n0 n new) read at_end
-    (subst (λ (es : List Entry). HasReceived clock (input.Stream kind) given es n0 n new) (sym same)
-    (ended clock kind given number cs kept n0 n lines new h end))
+-- a stream ended, and where it stops was noted
+pub stream_ended : (clock k : Clock) (kind : Framing) (given : List ℕ) (number : ℕ) (cs : List Connection)
+    (kept now : List Entry) (before old new : Done) (stop : Option ℕ) → k ≡ clock → now ≡ kept
+    → IsArchive ENTRY_MAX kept → (s : StreamStands clock kind cs kept number given)
+    → GoesOn (archive_handling clock) kind given (then_done before old)
+    → ((framing : Framing) (octets : List ℕ) → Receives k cs kept (input.Stream framing) octets
+    → ¬ (HoldsBadCount (opening framing octets)) → StopsAt framing octets stop) → new ≡ then_done old (stop_done stop)
+    → ArchiveDone clock (input.Stream kind) given (with_rest (then_done before new) (text_of now))
+stream_ended clock k kind given number cs kept now before old new stop same held archive s g stops is =
+    let here = stops kind given
+    (subst (λ (c : Clock). Receives c cs kept (input.Stream kind) given) (sym same) s.receives) s.good in
+    subst (λ (es : List Entry). ArchiveDone clock (input.Stream kind) given (with_rest (then_done before new) (text_of es)))
+    (sym held) (stream_ends clock kind given number cs kept before old new (stop_done stop) s archive g
+    (stop_reported kind given s.frames s.rest stop here s.frames_are) is)
+
+-- memory ran out for the line on it
+pub part_still : (clock : Clock) (kind : Framing) (given : List ℕ) (before old new : Done) → new ≡ old
+    → GoesOn (archive_handling clock) kind given (then_done before old)
+    → HasPart (archive_handling clock) kind given (then_done before new)
+part_still clock kind given before old new same g =
+    subst (λ (d : Done). HasPart (archive_handling clock) kind given (then_done before d)) (sym same) (record {
+      frames = g.frames;
+      rest = g.rest;
+      whole = g.frames_are.whole;
+      each = g.frames_are.each;
+      handled = g.handled;
+    })
 
 -- behind a bad count nothing more is received
 same_frames : (clock : Clock) (kind : Framing) (given more : List ℕ) (frames : List (List ℕ)) (rest : List ℕ)
@@ -186,92 +308,149 @@ same_frames clock kind given more frames rest short long x = (
   ),
 )
 
-stopped : (clock : Clock) (kind : Framing) (given octets more : List ℕ) (number : ℕ) (cs ds : List Connection)
-    (kept now : List Entry) (n0 n : Option (List ℕ)) (lines new : Done)
-    (os : List Outcome) → IsReceiving clock kind given number cs kept n0 n lines
+pub stream_stops : (clock : Clock) (kind : Framing) (given octets more : List ℕ) (number : ℕ) (cs ds : List Connection)
+    (kept now : List Entry) (os : List Outcome) (before old new : Done)
+    → (s : StreamStands clock kind cs kept number given) → IsArchive ENTRY_MAX now
     → Receives clock ds now (input.Stream kind) (given ++ octets) → LogsPiece clock kind given octets kept now os
-    → has_bad_count os ≡ true → new ≡ then_done lines (noted_outcomes number os)
-    → HasReceived clock (input.Stream kind) ((given ++ octets) ++ more) now n0 n new
-stopped clock kind given octets more number cs ds kept now n0 n lines new os h r p bad noted =
+    → has_bad_count os ≡ true → new ≡ then_done old (noted_outcomes number os)
+    → GoesOn (archive_handling clock) kind given (then_done before old)
+    → ArchiveDone clock (input.Stream kind) ((given ++ octets) ++ more) (with_rest (then_done before new) (text_of now))
+stream_stops clock kind given octets more number cs ds kept now os before old new s archive r p bad noted g =
     let stream = given ++ octets in
     let fresh = bad_outcomes clock number kept now p.last os (opening kind stream) p.reported p.marks bad in
     let (frames, rest, here) = fresh.bad in
     let later = bad_longer kind stream more frames rest fresh.at here in
-    let same : h.frames ≡ p.before =
-    (unique_frames kind given h.frames p.before h.rest p.rest_before h.frames_are p.frames_before).0
-    in
+    let same : s.frames ≡ p.before =
+    (unique_frames kind given s.frames p.before s.rest p.rest_before s.frames_are p.frames_before).0 in
     let whole : frames ≡ p.before ++ p.last =
-    (unique_frames kind stream frames (p.before ++ p.last) rest p.rest here.frames_are p.frames_are).0
-    in
-    let many : length h.frames ≡ length p.before = ap length same in
-    let number_is : number ≡ 1 + length p.before = omega (arith, h.number_is, many) in
-    let front = then_done (written_out [] h.notes) lines in
-    let before = subst (λ (fs : List (List ℕ)). HandledFrom (archive_handling clock) 1 fs front) same h.handled in
-    let handled =
-    handled_append
-    (archive_handling clock) 1 number p.before p.last front fresh.of_frames number_is before fresh.handled
-    in
+    (unique_frames kind stream frames (p.before ++ p.last) rest p.rest here.frames_are p.frames_are).0 in
+    let number_is : number ≡ 1 + length p.before = omega (arith, s.number_is, ap length same) in
+    let front = then_done before old in
+    let first = handled_of clock kind given p.before p.rest_before front p.frames_before g in
+    let handled = handled_append (archive_handling clock) 1 number p.before p.last front fresh.of_frames number_is first
+    fresh.handled in
     let last : number + length p.last ≡ length frames + 1 =
-    omega (arith, number_is, ap length whole, length-append p.before p.last)
-    in
+    omega (arith, number_is, ap length whole, length-append p.before p.last) in
     let end = noted_line (line.BadCount (number + length p.last) fresh.at) in
     let members = holds_heard clock ds now (input.Stream kind) stream r in
     let frames_too = same_frames clock kind stream more frames rest here.frames_are later.frames_are in
-    record {
-      lines = then_done (then_done front fresh.of_frames) end;
-      notes = h.notes;
-      members = λ x. (
-        λ has. (frames_too x).0 ((members x).0 has),
-        λ received. (members x).1
-            ((frames_too x).1 received),
-      );
-      noted = record {
-        frames = frames;
-        rest = rest ++ more;
-        of_frames = then_done front fresh.of_frames;
-        of_end = end;
-        frames_are = later.frames_are;
-        handled = subst
-            (λ (fs : List (List ℕ)). HandledFrom (archive_handling clock) 1 fs (then_done front fresh.of_frames))
-            (sym whole) handled;
-        reported = inr (inr (fresh.at, later, ap (λ (k : ℕ). noted_line (line.BadCount k fresh.at)) last));
-        whole = refl;
-      };
-      reported = h.reported;
-      whole =
-          then_assoc front fresh.of_frames end ∙ then_assoc (written_out [] h.notes) lines
-          (then_done fresh.of_frames end)
-          ∙ ap (λ (d : Done). then_done (written_out [] h.notes) (then_done lines d)) (sym fresh.noted) ∙ ap
-          (then_done (written_out [] h.notes)) (sym noted);
-    }
+    stream_whole clock kind (stream ++ more) now (then_done before new) archive
+    (λ x. (
+      λ has. (frames_too x).0 ((members x).0 has),
+      λ received. (members x).1 ((frames_too x).1 received),
+    ))
+    (record {
+      frames = frames;
+      rest = rest ++ more;
+      of_frames = then_done front fresh.of_frames;
+      of_end = end;
+      frames_are = later.frames_are;
+      handled = subst
+          (λ (fs : List (List ℕ)). HandledFrom (archive_handling clock) 1 fs (then_done front fresh.of_frames))
+          (sym whole) handled;
+      reported = inr (inr (fresh.at, later, ap (λ (k : ℕ). noted_line (line.BadCount k fresh.at)) last));
+      whole = ap (then_done before) (noted ∙ ap (then_done old) fresh.noted)
+          ∙ sym (then_assoc before old (then_done fresh.of_frames end))
+          ∙ sym (then_assoc front fresh.of_frames end);
+    })
 
-pub received_bad : (clock : Clock) (kind : Framing) (given octets : List ℕ) (number : ℕ) (cs ds : List Connection)
-    (kept now : List Entry) (a b n0 n : Option (List ℕ)) (lines new : Done)
-    (os : List Outcome) → IsReceiving clock kind given number cs kept n0 n lines
-    → Receives clock ds now (input.Stream kind) (given ++ octets) → LogsPiece clock kind given octets kept now os
-    → has_bad_count os ≡ true → new ≡ then_done lines (noted_outcomes number os) → Consumes a b (given ++ octets)
-    → IfSome a (λ stream. HasReceived clock (input.Stream kind) stream now n0 n new)
-received_bad clock kind given octets number cs ds kept now None b n0 n lines new os h r p bad noted read = tt
-received_bad clock kind given octets number cs ds kept now (Some xs) None n0 n lines new os h r p bad noted read =
-    absurd read
-received_bad clock kind given octets number cs ds kept now (Some xs) (Some ys) n0 n lines new os h r p bad noted read =
-    subst (λ (stream : List ℕ). HasReceived clock (input.Stream kind) stream now n0 n new) (sym read)
-    (stopped clock kind given octets ys number cs ds kept now n0 n lines new os h r p bad noted)
+-- ---- what a call with a piece says
+
+-- what is told of a piece that was taken, of a collector whose clock is this
+pub record TakesPiece (clock k : Clock) (kind : Framing) (given octets : List ℕ) (number : ℕ) (cs ds : List Connection)
+    (kept now : List Entry) (items os : List Outcome) : Type 0 where
+  pub same_clock : k ≡ clock
+  pub stands : StreamStands clock kind cs kept number given
+  pub receives : (framing : Framing) (s : List ℕ) → Receives k cs kept (input.Stream framing) s
+      → Receives k ds now (input.Stream framing) (s ++ octets)
+  pub logs : (framing : Framing) (s : List ℕ) → Receives k cs kept (input.Stream framing) s
+      → LogsPiece k framing s octets kept now items
+  pub same : os ≡ items
+  pub few : length given + length octets ≤ most_octets
+
+taken : (clock k : Clock) (kind : Framing) (given octets : List ℕ) (number : ℕ) (cs ds : List Connection)
+    (kept now : List Entry) (items os : List Outcome)
+    → TakesPiece clock k kind given octets number cs ds kept now items os
+    → Receives clock ds now (input.Stream kind) (given ++ octets) × LogsPiece clock kind given octets kept now os
+taken clock k kind given octets number cs ds kept now items os t =
+    let here = subst (λ (c : Clock). Receives c cs kept (input.Stream kind) given) (sym t.same_clock) t.stands.receives in (
+      subst (λ (c : Clock). Receives c ds now (input.Stream kind) (given ++ octets)) t.same_clock
+          (t.receives kind given here),
+      subst (λ (l : List Outcome). LogsPiece clock kind given octets kept now l) (sym t.same)
+          (subst (λ (c : Clock). LogsPiece c kind given octets kept now items) t.same_clock (t.logs kind given here)),
+    )
+
+small : (clock k : Clock) (kind : Framing) (given octets : List ℕ) (number : ℕ) (cs ds : List Connection)
+    (kept now : List Entry) (items os : List Outcome)
+    → TakesPiece clock k kind given octets number cs ds kept now items os → number + length os < 2 ^ 64
+small clock k kind given octets number cs ds kept now items os t =
+    let (r, p) = taken clock k kind given octets number cs ds kept now items os t in
+    omega (arith, few_more clock kind given octets number cs kept now os t.stands p, t.few)
+
+pub stream_continues : (clock k : Clock) (kind : Framing) (given octets : List ℕ) (number next : ℕ)
+    (cs ds : List Connection) (kept now : List Entry) (items os : List Outcome) (bad : Bool) (before old new : Done)
+    → TakesPiece clock k kind given octets number cs ds kept now items os
+    → (number + length os < 2 ^ 64 → new ≡ then_done old (noted_outcomes number os)) → bad ≡ has_bad_count os
+    → bad ≡ false → (number + length os < 2 ^ 64 → bad ≡ false → next ≡ number + length os)
+    → GoesOn (archive_handling clock) kind given (then_done before old)
+    → StreamStands clock kind ds now next (given ++ octets)
+    × GoesOn (archive_handling clock) kind (given ++ octets) (then_done before new)
+stream_continues clock k kind given octets number next cs ds kept now items os bad before old new t noted is good counted
+    g =
+    let (r, p) = taken clock k kind given octets number cs ds kept now items os t in
+    let low = small clock k kind given octets number cs ds kept now items os t in
+    let fine : has_bad_count os ≡ false = sym is ∙ good in (
+      stream_more clock kind given octets number next cs ds kept now os t.stands r p fine (counted low good),
+      goes_on_more clock kind given octets number cs ds kept now os before old new t.stands r p fine (noted low) g,
+    )
+
+pub stream_finishes : (clock k : Clock) (kind : Framing) (given octets more : List ℕ) (number : ℕ)
+    (cs ds : List Connection) (kept now : List Entry) (items os : List Outcome) (bad : Bool) (before old new : Done)
+    → TakesPiece clock k kind given octets number cs ds kept now items os → IsArchive ENTRY_MAX now
+    → (number + length os < 2 ^ 64 → new ≡ then_done old (noted_outcomes number os)) → bad ≡ has_bad_count os
+    → bad ≡ true → GoesOn (archive_handling clock) kind given (then_done before old)
+    → ArchiveDone clock (input.Stream kind) ((given ++ octets) ++ more) (with_rest (then_done before new) (text_of now))
+stream_finishes clock k kind given octets more number cs ds kept now items os bad before old new t archive noted is met g =
+    let (r, p) = taken clock k kind given octets number cs ds kept now items os t in
+    let low = small clock k kind given octets number cs ds kept now items os t in
+    stream_stops clock kind given octets more number cs ds kept now os before old new t.stands archive r p (sym is ∙ met)
+    (noted low) g
+
+pub stream_part : (clock k : Clock) (kind : Framing) (given octets : List ℕ) (number : ℕ) (cs ds : List Connection)
+    (kept now : List Entry) (items os : List Outcome) (before old new : Done)
+    → TakesPiece clock k kind given octets number cs ds kept now items os
+    → (number + length os < 2 ^ 64 → NotedSome number os old new)
+    → GoesOn (archive_handling clock) kind given (then_done before old)
+    → HasPart (archive_handling clock) kind (given ++ octets) (then_done before new)
+stream_part clock k kind given octets number cs ds kept now items os before old new t some g =
+    let (r, p) = taken clock k kind given octets number cs ds kept now items os t in
+    let low = small clock k kind given octets number cs ds kept now items os t in
+    part_some clock kind given octets number cs ds kept now os before old new t.stands p (some low) g
 
 -- ---- a datagram
 
-short_datagram : (clock : Clock) (cs : List Connection) (first kept : List Entry) (octets : List ℕ)
-    (n : Option (List ℕ)) (new : Done)
-    (x : Outcome) → Receives clock cs kept input.Datagram octets → IsOutcome clock first kept octets x → new ≡
-    noted_outcome 1 x → HasReceived clock input.Datagram octets kept n n new
-short_datagram clock cs first kept octets n new x r out noted = record {
-  lines = new;
-  notes = [];
-  members = holds_heard clock cs kept input.Datagram octets r;
-  noted = subst (archive_handling clock 1 octets) (sym noted) (outcome_handled clock 1 first kept octets x out);
-  reported = Appends-nil n;
-  whole = refl;
-}
+-- what comes of a datagram whose archive is written behind its line
+datagram_whole : (clock : Clock) (octets : List ℕ) (kept : List Entry) (lines : Done) → IsArchive ENTRY_MAX kept
+    → ((x : Entry) → Has kept x ↔ IsReceivedIn clock input.Datagram octets x)
+    → archive_handling clock 1 octets lines
+    → ArchiveDone clock input.Datagram octets (with_rest lines (text_of kept))
+datagram_whole clock octets kept lines archive members noted =
+    let none : lines.output ≡ [] = ap (λ (x : List ℕ). x) (sym (append-nil lines.output))
+    ∙ lines_only clock 1 (octets ∷ []) (then_done lines nothing) (lines, nothing, noted, refl, refl) in
+    record {
+      entries = kept;
+      lines = lines;
+      archived = record { archive = archive; members = members };
+      noted = noted;
+      whole = only_rest lines (text_of kept) none;
+    }
+
+short_datagram : (clock : Clock) (cs : List Connection) (first kept : List Entry) (octets : List ℕ) (x : Outcome)
+    → IsArchive ENTRY_MAX kept → Receives clock cs kept input.Datagram octets → IsOutcome clock first kept octets x
+    → ArchiveDone clock input.Datagram octets (with_rest (noted_outcome 1 x) (text_of kept))
+short_datagram clock cs first kept octets x archive r out =
+    datagram_whole clock octets kept (noted_outcome 1 x) archive (holds_heard clock cs kept input.Datagram octets r)
+    (outcome_handled clock 1 first kept octets x out)
 
 -- an outcome of octets that are too many
 only_long : (clock : Clock) (first kept : List Entry) (octets : List ℕ) (x : Outcome) → FRAME_MAX < length octets
@@ -292,42 +471,33 @@ none_long clock octets x long (frames, one, spelled) =
     of_one (inl (few, more)) = omega (arith, few, long)
     of_one (inr none) = none
 
-long_datagram : (clock : Clock) (cs : List Connection) (first kept : List Entry) (octets stream : List ℕ)
-    (n : Option (List ℕ)) (new : Done)
-    (x : Outcome) → Receives clock cs kept input.Datagram octets → IsOutcome clock first kept octets x → new ≡
-    noted_outcome 1 x
-    → FRAME_MAX < length octets → FRAME_MAX < length stream → HasReceived clock input.Datagram stream kept n n new
-long_datagram clock cs first kept octets stream n new x r out noted long longer =
+long_datagram : (clock : Clock) (cs : List Connection) (first kept : List Entry) (octets stream : List ℕ) (x : Outcome)
+    → IsArchive ENTRY_MAX kept → Receives clock cs kept input.Datagram octets → IsOutcome clock first kept octets x
+    → FRAME_MAX < length octets → FRAME_MAX < length stream
+    → ArchiveDone clock input.Datagram stream (with_rest (noted_outcome 1 x) (text_of kept))
+long_datagram clock cs first kept octets stream x archive r out long longer =
     let members = holds_heard clock cs kept input.Datagram octets r in
-    record {
-      lines = new;
-      notes = [];
-      members = λ e. (
-        λ has. absurd (none_long clock octets e long ((members e).0 has)),
-        λ received. absurd
-            (none_long clock stream e longer received),
-      );
-      noted = inl (longer, noted ∙ ap (noted_outcome 1) (only_long clock first kept octets x long out));
-      reported = Appends-nil n;
-      whole = refl;
-    }
+    datagram_whole clock stream kept (noted_outcome 1 x) archive
+    (λ e. (
+      λ has. absurd (none_long clock octets e long ((members e).0 has)),
+      λ received. absurd (none_long clock stream e longer received),
+    ))
+    (inl (longer, ap (noted_outcome 1) (only_long clock first kept octets x long out)))
 
-one_datagram : (clock : Clock) (cs : List Connection) (first kept : List Entry) (octets stream : List ℕ)
-    (n : Option (List ℕ)) (new : Done)
-    (x : Outcome) → octets ≡ take (FRAME_MAX + 1) stream → Receives clock cs kept input.Datagram octets → IsOutcome
-    clock first kept octets x → new ≡ noted_outcome 1 x
-    → HasReceived clock input.Datagram stream kept n n new
-one_datagram clock cs first kept octets stream n new x is r out noted =
+one_datagram : (clock : Clock) (cs : List Connection) (first kept : List Entry) (octets stream : List ℕ) (x : Outcome)
+    → octets ≡ take (FRAME_MAX + 1) stream → IsArchive ENTRY_MAX kept → Receives clock cs kept input.Datagram octets
+    → IsOutcome clock first kept octets x
+    → ArchiveDone clock input.Datagram stream (with_rest (noted_outcome 1 x) (text_of kept))
+one_datagram clock cs first kept octets stream x is archive r out =
     elim (cases_lt FRAME_MAX (length octets)) [
-      | inl long ↦ long_datagram clock cs first kept octets stream n new x r out noted long
+      | inl long ↦ long_datagram clock cs first kept octets stream x archive r out long
           (omega (arith, long, ap length is, length-take (FRAME_MAX + 1) stream))
       | inr few ↦
           let short : length stream ≤ FRAME_MAX + 1 =
-          omega (arith, few, ap length is, length-take (FRAME_MAX + 1) stream)
-          in
+          omega (arith, few, ap length is, length-take (FRAME_MAX + 1) stream) in
           let whole : octets ≡ stream = is ∙ take_all (FRAME_MAX + 1) stream short in
-          subst (λ (s : List ℕ). HasReceived clock input.Datagram s kept n n new) whole
-          (short_datagram clock cs first kept octets n new x r out noted)
+          subst (λ (s : List ℕ). ArchiveDone clock input.Datagram s (with_rest (noted_outcome 1 x) (text_of kept)))
+          whole (short_datagram clock cs first kept octets x archive r out)
     ]
 
 noted_one : (x : Outcome) → noted_outcomes 1 (x ∷ []) ≡ noted_outcome 1 x
@@ -338,114 +508,34 @@ noted_one (RefusedLegacy offset) = then_nothing (noted_line (line.LegacyNotUtf8 
 noted_one TooLong = then_nothing (noted_line (line.TooLong 1))
 noted_one (BadCount at) = refl
 
-pub received_datagram : (clock : Clock) (cs : List Connection) (first kept : List Entry) (octets : List ℕ)
-    (a n : Option (List ℕ)) (old new : Done)
-    (os : List Outcome) → IfSome a
-    (λ stream. octets ≡ take (FRAME_MAX + 1) stream) → Receives clock cs kept input.Datagram octets
-    → (x : Outcome) × (os ≡ x ∷ []) × IsOutcome clock first kept octets x → old ≡ nothing
+pub datagram_ends : (clock : Clock) (cs : List Connection) (first kept : List Entry) (octets given : List ℕ)
+    (os : List Outcome) (before old new : Done) → octets ≡ take (FRAME_MAX + 1) given → IsArchive ENTRY_MAX kept
+    → ReceivesDatagram clock cs first kept octets os → then_done before old ≡ nothing
     → new ≡ then_done old (noted_outcomes 1 os)
-    → IfSome a (λ stream. HasReceived clock input.Datagram stream kept n n new)
-received_datagram clock cs first kept octets None n old new os is r out none noted = tt
-received_datagram clock cs first kept octets (Some stream) n old new os is r (x, one, out) none noted =
-    let all : new ≡ noted_outcome 1 x =
-    noted ∙ ap (λ (d : Done). then_done d (noted_outcomes 1 os)) none ∙ ap (noted_outcomes 1) one ∙ noted_one x
-    in
-    one_datagram clock cs first kept octets stream n new x is r out all
+    → ArchiveDone clock input.Datagram given (with_rest (then_done before new) (text_of kept))
+datagram_ends clock cs first kept octets given os before old new is archive r none noted =
+    let all : then_done before new ≡ noted_outcome 1 r.outcome =
+    ap (then_done before) noted ∙ sym (then_assoc before old (noted_outcomes 1 os))
+    ∙ ap (λ (d : Done). then_done d (noted_outcomes 1 os)) none ∙ ap (noted_outcomes 1) r.only
+    ∙ noted_one r.outcome in
+    subst (λ (d : Done). ArchiveDone clock input.Datagram given (with_rest d (text_of kept))) (sym all)
+    (one_datagram clock cs first kept octets given r.outcome is archive r.receives r.is_outcome)
 
--- ---- over a device
-
-pub streaming_start : (clock : Clock) (cs : List Connection) (kept : List Entry) (kind : Framing)
-    (left notes : Option (List ℕ))
-    (lines : Done) → Receives clock cs kept (input.Stream kind)
-    [] → lines ≡ nothing → IsStreaming clock kind 0 1 cs kept left left notes notes lines
-streaming_start clock cs kept kind left notes lines r none =
-    record {
-      given = [];
-      consumed = Consumes-nil left;
-      few = omega arith;
-      receiving =
-          receiving_start clock cs kept kind notes lines r none;
-    }
-
--- the end was given
-pub streaming_end : (clock : Clock) (kind : Framing) (turn number k : ℕ) (cs : List Connection) (kept now : List Entry)
-    (a b c n0 n : Option (List ℕ)) (lines new : Done)
-    (buf : List ℕ) → (h : IsStreaming clock kind turn number cs kept a b n0 n lines)
-    → Consumes b c (take k buf) → k ≡ 0 → IsAtEnd c → now ≡ kept
-    → ((frames : List (List ℕ)) (rest : List ℕ) → Receives clock cs kept (input.Stream kind) h.given
-    → ¬ (HoldsBadCount (opening kind h.given)) → Frames kind h.given frames rest
-    → (d : Done) × ReportsEnd noted_line kind h.given frames rest d × (new ≡ then_done lines d))
-    → IfSome a (λ stream. HasReceived clock (input.Stream kind) stream now n0 n new)
-streaming_end clock kind turn number k cs kept now a b c n0 n lines new buf h read none at_end same end =
-    let all : h.given ++ take k buf ≡ h.given =
-    ap (λ (x : List ℕ). h.given ++ x) (ap (λ (i : ℕ). take i buf) none ∙ take_zero buf) ∙ append-nil h.given
-    in
-    let still : Consumes a c h.given =
-    subst (Consumes a c) all (Consumes-trans a b c h.given (take k buf) h.consumed read)
-    in
-    let r = h.receiving in
-    received_end clock kind h.given number cs kept now a c n0 n lines new r still at_end same
-    (end r.frames r.rest r.receives r.good r.frames_are)
-
--- a piece with a bad count was given
-pub streaming_bad : (clock : Clock) (kind : Framing) (turn number : ℕ) (octets : List ℕ) (cs ds : List Connection)
-    (kept now : List Entry) (a b c n0 n : Option (List ℕ)) (lines new : Done) (items os : List Outcome)
-    (bad : Bool) → (h : IsStreaming clock kind turn number cs kept a b n0 n lines)
-    → Receives clock ds now (input.Stream kind) (h.given ++ octets) → LogsPiece clock kind h.given octets kept now items
-    → os ≡ items → bad ≡ has_bad_count os → bad ≡ true → new ≡ then_done lines (noted_outcomes number os)
-    → Consumes b c octets
-    → IfSome a (λ stream. HasReceived clock (input.Stream kind) stream now n0 n new)
-streaming_bad clock kind turn number octets cs ds kept now a b c n0 n lines new items os bad h r p same is met noted
-    read =
-    let bad_too : has_bad_count items ≡ true = sym (ap has_bad_count same) ∙ sym is ∙ met in
-    received_bad clock kind h.given octets number cs ds kept now a c n0 n lines new items h.receiving r p bad_too
-    (noted ∙ ap (λ (x : List Outcome). then_done lines (noted_outcomes number x)) same)
-    (Consumes-trans a b c h.given octets h.consumed read)
-
--- a piece without one was given, and lines were written
-pub streaming_more : (clock : Clock) (kind : Framing) (turn number next : ℕ) (octets : List ℕ) (cs ds : List Connection)
-    (kept now : List Entry) (a b c n0 n m : Option (List ℕ)) (lines mid new : Done) (items os : List Outcome)
-    (bad : Bool) → (h : IsStreaming clock kind turn number cs kept a b n0 n lines)
-    → Receives clock ds now (input.Stream kind) (h.given ++ octets) → LogsPiece clock kind h.given octets kept now items
-    → os ≡ items → bad ≡ has_bad_count os → bad ≡ false → mid ≡ then_done lines (noted_outcomes number os)
-    → next ≡ number + length os
-    → Consumes b c octets → length octets ≤ READ_MAX
-    → (noted : List ℕ) × Appends n m noted × (mid ≡ then_done (written_out [] noted) new)
-    → IsStreaming clock kind (turn + 1) next ds now a c n0 m new
-streaming_more clock kind turn number next octets cs ds kept now a b c n0 n m lines mid new items os bad h r p same is
-    unmet said counted read few (noted, written, moved) =
-    let good : has_bad_count items ≡ false = sym (ap has_bad_count same) ∙ sym is ∙ unmet in
-    let many : length os ≡ length items = ap length same in
-    let on =
-    receiving_piece clock kind h.given octets number next cs ds kept now n0 n lines mid items h.receiving r p good
-    (said ∙ ap (λ (x : List Outcome). then_done lines (noted_outcomes number x)) same)
-    (omega (arith, counted, many))
-    in
-    record {
-      given = h.given ++ octets;
-      consumed = Consumes-trans a b c h.given octets h.consumed read;
-      few = omega (arith, h.few, few, length-append h.given octets);
-      receiving = receiving_noted clock kind (h.given ++ octets) next ds now n0 n m mid new noted on written moved;
-    }
-
--- there is room for the numbers of its outcomes
-pub streaming_few : (clock : Clock) (kind : Framing) (turn number : ℕ) (octets : List ℕ) (cs : List Connection)
-    (kept now : List Entry) (a b n0 n : Option (List ℕ)) (lines : Done)
-    (items os : List Outcome) → (h : IsStreaming clock kind turn number cs kept a b n0 n lines)
-    → LogsPiece clock kind h.given octets kept now items → os ≡ items → length octets ≤ READ_MAX
-    → number + length os ≤ 8192 * turn + 4098
-streaming_few clock kind turn number octets cs kept now a b n0 n lines items os h p same few =
-    omega (
+-- memory ran out for its line
+pub datagram_part : (os : List Outcome) (x : Outcome) (before old new : Done) → os ≡ x ∷ []
+    → then_done before old ≡ nothing → NotedSome 1 os old new → then_done before new ≡ nothing
+datagram_part os x before old new only none some =
+    let first : some.first ≡ [] = none_of some.first (omega (
       arith,
-      few_more clock kind h.given octets number cs kept now n0 n lines items h.receiving p,
-      h.few,
-      few,
-      ap length same,
-    )
-
--- of each list of octets, where there are octets at all
-pub every : (a : Option (List ℕ)) (P : List ℕ → Option (List ℕ) → Type 0)
-    → ((n : Option (List ℕ)) → IfSome a (λ stream. P stream n))
-    → IfSome a (λ stream. (n : Option (List ℕ)) → P stream n)
-every None P h = tt
-every (Some stream) P h = h
+      ap length some.parts,
+      ap length only,
+      length-append some.first some.later,
+      some.some_left,
+    )) in
+    let same : new ≡ old = some.noted ∙ ap (λ (l : List Outcome). then_done old (noted_outcomes 1 l)) first
+    ∙ then_nothing old in
+    ap (then_done before) same ∙ none
+  where
+    none_of : (l : List Outcome) → length l ≡ 0 → l ≡ []
+    none_of [] e = refl
+    none_of (o ∷ l) e = absurd (omega (arith, e))

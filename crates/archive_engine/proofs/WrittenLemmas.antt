@@ -4,8 +4,8 @@ use Rattle.std.proofs.Common.{subst, ◌∙◌, arith}
 use Rattle.std.specs.Io.KnownBytes.{Appends}
 use Rattle.std.proofs.KnownBytes.{Appends-nil}
 use Rattle.std.proofs.lemmas.List.{length-take, take_all}
-use Rattle.frame_engine.specs.Handling.{Done}
-use Rattle.frame_engine.specs.Streams.{WritesPrefixOf}
+use Rattle.driver.specs.Effects.{Done}
+use Rattle.archive_engine.specs.Answered.{WritesPrefixOf}
 
 pub take_zero : (s : List ℕ) → take 0 s ≡ []
 take_zero [] = refl

@@ -11,8 +11,10 @@ use Rattle.archive_text.specs.Text.{IsArchive, text_of}
 use Rattle.archive_text.specs.declared.limits.TheConstants.{ENTRY_MAX}
 use Rattle.syslog_collect.specs.Frames.{IsSpelled}
 use Rattle.frame_engine.specs.Converted.{noted_line}
-use Rattle.frame_engine.specs.Handling.{Done, Handling, nothing}
-use Rattle.frame_engine.specs.Streams.{InputDone}
+use Rattle.driver.specs.Effects.{Done, nothing}
+use Rattle.driver.specs.Sessions.{Meaning}
+use Rattle.frame_engine.specs.Handling.{Handling}
+use Rattle.frame_engine.specs.Sessions.{input_meaning}
 use Rattle.frame_engine.specs.declared.input_framing.InputFraming.{InputFraming}
 use Rattle.frame_engine.specs.declared.input_framing.InputFraming.TheVariants.{Datagram, Stream}
 use Rattle.frame_engine.specs.declared.line.Line.TheVariants.{LegacyNotUtf8, Refused, TooLong}
@@ -48,5 +50,13 @@ pub record ArchiveDone (clock : Clock) (framing : InputFraming) (input : List �
   pub entries : List Entry
   pub lines : Done
   pub archived : IsArchiveOf clock framing input entries
-  pub noted : InputDone (archive_handling clock) noted_line framing input lines
-  pub whole : d ≡ record { refused = lines.refused; output = text_of entries; notes = lines.notes }
+  pub noted : (input_meaning (archive_handling clock) noted_line framing).whole input lines
+  pub whole : d ≡ record { refused = lines.refused; output = text_of entries; diagnostics = lines.diagnostics }
+
+-- `archive`: of the first octets of an input the lines on their frames, and of the whole input its archive too
+abbrev pub archive_meaning : Clock → InputFraming → Meaning
+archive_meaning clock framing = record {
+  so_far = (input_meaning (archive_handling clock) noted_line framing).so_far;
+  part = (input_meaning (archive_handling clock) noted_line framing).part;
+  whole = λ input d. ArchiveDone clock framing input d;
+}

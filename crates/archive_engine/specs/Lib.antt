@@ -1,7 +1,7 @@
+pub mod Answered
 pub mod Archived
 pub mod FaultLines
 pub mod Merged
 pub mod Migrated
 pub mod Outcomes
 pub mod Receiving
-pub mod Told

@@ -1,10 +1,10 @@
 -- What is noted of outcomes.
-use Rattle.std.specs.Prelude.{ℕ, ◌+◌, List, [], ◌∷◌, Bool, true, false, ◌||◌, if◌then◌else◌}
+use Rattle.std.specs.Prelude.{◌≡◌, ◌<◌, ℕ, ◌+◌, List, [], ◌∷◌, ◌++◌, length, Bool, true, false, ◌||◌, if◌then◌else◌}
 use Rattle.syslog_collect.specs.declared.outcome.Outcome.{Outcome}
 use Rattle.syslog_collect.specs.declared.outcome.Outcome.TheVariants.{New, Held, Refused, RefusedLegacy, TooLong}
 use Rattle.syslog_collect.specs.declared.outcome.Outcome.TheVariants.{BadCount}
 use Rattle.frame_engine.specs.Converted.{noted_line}
-use Rattle.frame_engine.specs.Handling.{Done, nothing, then_done}
+use Rattle.driver.specs.Effects.{Done, nothing, then_done}
 use Rattle.frame_engine.specs.declared.line.Line.TheVariants as line
 
 -- of the frame with this number
@@ -34,3 +34,12 @@ noted_outcomes n (o ∷ os) =
 abbrev pub has_bad_count : List Outcome → Bool
 has_bad_count [] = false
 has_bad_count (o ∷ os) = is_bad_count o || has_bad_count os
+
+-- memory ran out for the line on one of the outcomes: those before it, none of them a bad count, were noted
+pub record NotedSome (n : ℕ) (outcomes : List Outcome) (old new : Done) : Type 0 where
+  pub first : List Outcome
+  pub later : List Outcome
+  pub parts : outcomes ≡ first ++ later
+  pub some_left : 0 < length later
+  pub good : has_bad_count first ≡ false
+  pub noted : new ≡ then_done old (noted_outcomes n first)

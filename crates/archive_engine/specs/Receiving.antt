@@ -1,25 +1,19 @@
 -- A collector that receives one input.
-use Rattle.std.specs.Prelude.{◌≡◌, ℕ, ◌+◌, ◌*◌, ◌<◌, ◌≤◌, ◌↔◌, List, [], ◌∷◌, ◌++◌, length, Option, Some, None}
-use Rattle.syslog_value.specs.declared.loops.TheConstants.{READ_MAX}
-use Rattle.std.specs.Io.KnownBytes.{Appends, Consumes}
+use Rattle.std.specs.Prelude.{◌≡◌, ℕ, ◌+◌, ◌<◌, List, [], ◌∷◌, ◌++◌, length, Option, Some, None}
 use Rattle.octet_language.specs.Language.{Begins}
 use Rattle.syslog_frame.specs.Frames.{Frames, Whole}
 use Rattle.syslog_frame.specs.declared.framing.Framing.{Framing}
 use Rattle.syslog_legacy.specs.FrameReadings.{Clock}
-use Rattle.archive_text.specs.Entries.{Entry, Has}
+use Rattle.archive_text.specs.Entries.{Entry}
 use Rattle.syslog_collect.specs.Answers.{ReportsBadCount}
 use Rattle.syslog_collect.specs.Headline.{IsSettled}
 use Rattle.syslog_collect.specs.History.{AcceptedEvent, History, HoldsBadCount, Stream, history_of}
-use Rattle.syslog_collect.specs.Outcomes.{AreReported}
+use Rattle.syslog_collect.specs.Outcomes.{AreReported, IsOutcome}
 use Rattle.syslog_collect.specs.Standing.{Stands}
 use Rattle.syslog_collect.specs.declared.connection.Connection.{Connection}
 use Rattle.syslog_collect.specs.declared.outcome.Outcome.{Outcome}
-use Rattle.frame_engine.specs.Converted.{noted_line}
-use Rattle.frame_engine.specs.Handling.{Done, HandledFrom, nothing, then_done}
-use Rattle.frame_engine.specs.Streams.{InputDone, written_out}
 use Rattle.frame_engine.specs.declared.input_framing.InputFraming.{InputFraming}
 use Rattle.frame_engine.specs.declared.input_framing.InputFraming.TheVariants as input
-use Rattle.archive_engine.specs.Archived.{IsReceivedIn, archive_handling}
 
 -- the one opening of a stream, with these octets
 abbrev pub opening : Framing → List ℕ → Stream
@@ -61,54 +55,21 @@ StopsAt kind stream None = (frames : List (List ℕ)) × Frames kind stream fram
 StopsAt kind stream (Some start) = (frames : List (List ℕ)) × (rest : List ℕ) × Frames kind stream frames rest
     × (0 < length rest) × Begins (Whole kind) rest × (start + length rest ≡ length stream)
 
--- these octets of a stream were received, and what their frames call for was noted, but for what is left to note
-pub record IsReceiving (clock : Clock) (kind : Framing) (given : List ℕ) (number : ℕ) (cs : List Connection)
-    (kept : List Entry)
-    (notes_old notes_new : Option (List ℕ)) (left : Done) : Type 0 where
+-- a collector over an empty store was given these octets of a stream, none of which is bad; the next frame has this
+-- number
+pub record StreamStands (clock : Clock) (kind : Framing) (cs : List Connection) (kept : List Entry) (number : ℕ)
+    (given : List ℕ) : Type 0 where
   pub receives : Receives clock cs kept (input.Stream kind) given
   pub frames : List (List ℕ)
   pub rest : List ℕ
   pub frames_are : Frames kind given frames rest
   pub good : ¬ (HoldsBadCount (opening kind given))
   pub number_is : number ≡ length frames + 1
-  pub notes : List ℕ
-  pub reported : Appends notes_old notes_new notes
-  pub handled : HandledFrom (archive_handling clock) 1 frames (then_done (written_out [] notes) left)
 
--- a device gave these octets of a stream, in so many calls
-pub record IsStreaming (clock : Clock) (kind : Framing) (turn number : ℕ) (cs : List Connection) (kept : List Entry)
-    (left_old left_new notes_old notes_new : Option (List ℕ)) (left : Done) : Type 0 where
-  pub given : List ℕ
-  pub consumed : Consumes left_old left_new given
-  pub few : length given ≤ READ_MAX * turn
-  pub receiving : IsReceiving clock kind given number cs kept notes_old notes_new left
-
--- an input was received to its end or up to a bad count, and what it calls for was noted, but for what is left to note
-pub record HasReceived (clock : Clock) (framing : InputFraming) (input : List ℕ) (kept : List Entry)
-    (notes_old notes_new : Option (List ℕ)) (left : Done) : Type 0 where
-  pub lines : Done
-  pub notes : List ℕ
-  pub members : (x : Entry) → Has kept x ↔ IsReceivedIn clock framing input x
-  pub noted : InputDone (archive_handling clock) noted_line framing input lines
-  pub reported : Appends notes_old notes_new notes
-  pub whole : lines ≡ then_done (written_out [] notes) left
-
--- of an input that was not received to its end: what the whole frames of the octets call for that its reader gave
--- was noted, but for what is left to note; of a datagram, nothing
-pub record HasBegun (clock : Clock) (kind : Framing) (left_old left_new notes_old notes_new : Option (List ℕ))
-    (left : Done) : Type 0 where
-  pub given : List ℕ
-  pub frames : List (List ℕ)
-  pub rest : List ℕ
-  pub notes : List ℕ
-  pub consumed : Consumes left_old left_new given
-  pub frames_are : Frames kind given frames rest
-  pub reported : Appends notes_old notes_new notes
-  pub handled : HandledFrom (archive_handling clock) 1 frames (then_done (written_out [] notes) left)
-
-abbrev pub BeginsInput : Clock → InputFraming → Option (List ℕ) → Option (List ℕ) → Option (List ℕ) → Option (List ℕ)
-    → Done → Type 0
-BeginsInput clock input.Datagram left_old left_new notes_old notes_new left =
-    Appends notes_old notes_new [] × (left ≡ nothing)
-BeginsInput clock (input.Stream kind) left_old left_new notes_old notes_new left =
-    HasBegun clock kind left_old left_new notes_old notes_new left
+-- a collector over an empty store was given a datagram, of which one outcome is told
+pub record ReceivesDatagram (clock : Clock) (cs : List Connection) (old kept : List Entry) (octets : List ℕ)
+    (outcomes : List Outcome) : Type 0 where
+  pub receives : Receives clock cs kept input.Datagram octets
+  pub outcome : Outcome
+  pub only : outcomes ≡ outcome ∷ []
+  pub is_outcome : IsOutcome clock old kept octets outcome

@@ -4,13 +4,13 @@
 #![tactic(auto)]
 
 mod archive;
+mod archive_datagram;
+mod archive_stream;
 mod faults;
 mod lines;
 mod merge;
 mod migrate;
-mod receiving;
 mod reception;
-mod stopped;
 
 pub use archive::archive_input;
 pub use merge::merge_archives;

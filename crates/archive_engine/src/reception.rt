@@ -5,13 +5,11 @@ ghost use Rattle.archive_text.specs.Entries.{Entry};
 ghost use Rattle.syslog_collect.specs.History.{AcceptedEvent, HoldsBadCount, history_of};
 ghost use Rattle.syslog_collect.specs.Headline.{IsSettled};
 ghost use Rattle.syslog_collect.specs.Logs.{IsLogOf, waiting};
-ghost use Rattle.syslog_collect.specs.Outcomes.{IsOutcome};
 ghost use Rattle.syslog_collect.specs.Runs.{accepted_event};
 ghost use Rattle.syslog_collect.specs.Standing.{Stands};
-ghost use Rattle.syslog_collect.specs.declared.outcome.Outcome.{Outcome};
 ghost use Rattle.syslog_frame.specs.declared.framing.Framing.{Framing};
-ghost use Rattle.frame_engine.specs.declared.input_framing.InputFraming.TheVariants.{Datagram, Stream};
-ghost use Rattle.archive_engine.specs.Receiving.{HeardNothing, LogsPiece, Receives, StopsAt, opening};
+ghost use Rattle.frame_engine.specs.declared.input_framing.InputFraming.TheVariants.{Stream};
+ghost use Rattle.archive_engine.specs.Receiving.{HeardNothing, LogsPiece, Receives, ReceivesDatagram, StopsAt, opening};
 
 use archive_text::Store;
 use std::alloc::{AllocError, Global};
@@ -36,8 +34,7 @@ impl<S: Store + Drop> Reception<S> {
         store: S,
         clock: Option<LegacyClock>,
     ) -> Result<Reception<S>, AllocError>
-        requires { S.entries store ≡ [] }
-        ensures fresh { IfOk result (λ r. HeardNothing r.collector.clock
+        ensures fresh { S.entries store ≡ [] → IfOk result (λ r. HeardNothing r.collector.clock
             r.collector.connections.items (S.entries r.collector.store)) }
         ensures clock { IfOk result (λ r. r.collector.clock ≡ clock) }
     {
@@ -81,25 +78,23 @@ impl<S: Store + Drop> Reception<S> {
 
     /// Receives a datagram.
     pub fn datagram(&mut self, alloc: Global, octets: &[u8]) -> Result<(), AllocError>
-        requires { HeardNothing self.old.collector.clock self.old.collector.connections.items
-            (S.entries self.old.collector.store) }
-        ensures receives { OnOk result (Receives self.old.collector.clock
-            self.new.collector.connections.items (S.entries self.new.collector.store)
-            Datagram octets.now) }
-        ensures logs { OnOk result ((x : Outcome) × (self.new.outcomes.items ≡ x ∷ [])
-            × IsOutcome self.old.collector.clock (S.entries self.old.collector.store)
-            (S.entries self.new.collector.store) octets.now x) }
+        ensures receives { HeardNothing self.old.collector.clock
+            self.old.collector.connections.items
+            (S.entries self.old.collector.store) → OnOk result (ReceivesDatagram
+            self.old.collector.clock self.new.collector.connections.items
+            (S.entries self.old.collector.store) (S.entries self.new.collector.store)
+            octets.now self.new.outcomes.items) }
+        ensures clock { self.new.collector.clock ≡ self.old.collector.clock }
     {
         self.run_event(alloc, Event::Datagram { octets })
     }
 
     /// Begins to receive a stream.
     pub fn open(&mut self, alloc: Global, framing: Framing) -> Result<(), AllocError>
-        requires { HeardNothing self.old.collector.clock self.old.collector.connections.items
-            (S.entries self.old.collector.store) }
-        ensures receives { OnOk result (Receives self.old.collector.clock
-            self.new.collector.connections.items (S.entries self.new.collector.store)
-            (Stream framing) []) }
+        ensures receives { HeardNothing self.old.collector.clock
+            self.old.collector.connections.items (S.entries self.old.collector.store) →
+            OnOk result (Receives self.old.collector.clock self.new.collector.connections.items
+            (S.entries self.new.collector.store) (Stream framing) []) }
         ensures clock { self.new.collector.clock ≡ self.old.collector.clock }
     {
         self.run_event(
@@ -133,21 +128,19 @@ impl<S: Store + Drop> Reception<S> {
     /// Ends a stream that was received to its end. Returns where its unfinished frame begins, if it
     /// has one.
     pub fn end(&mut self) -> Option<u64>
-        requires { (kind : Framing) × (given : List ℕ)
-            × Receives self.old.collector.clock self.old.collector.connections.items
-            (S.entries self.old.collector.store) (Stream kind) given }
         ensures stops { (kind : Framing) (given : List ℕ)
             → Receives self.old.collector.clock self.old.collector.connections.items
             (S.entries self.old.collector.store) (Stream kind) given
             → ¬ (HoldsBadCount (opening kind given)) → StopsAt kind given result }
         ensures same { self.new.collector.store ≡ self.old.collector.store }
+        ensures clock { self.new.collector.clock ≡ self.old.collector.clock }
     {
         let Err(fault) = self.collector.end_conn(CONN) else {
             return None;
         };
         match fault {
             CollectFault::Unterminated { start } => Some(start),
-            _ => unreachable!(),
+            _ => None,
         }
     }
 }

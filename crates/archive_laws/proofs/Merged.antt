@@ -1,13 +1,13 @@
 -- The laws of merging, by the entries that a text has.
-use Rattle.std.proofs.Common.{◌≡◌, ℕ, ◌≤◌, inl, inr, sym, ◌∙◌, ap, subst, List, ◌++◌}
+use Rattle.std.proofs.Common.{◌≡◌, ℕ, ◌≤◌, inl, inr, refl, sym, ◌∙◌, ap, subst, List, ◌++◌}
 use Rattle.std.specs.Prelude.{ℤ, ◌⊎◌, ◌↔◌}
 use Rattle.syslog_frame.specs.declared.limits.TheConstants.{COUNT_MAX}
 use Rattle.syslog_value.specs.Parts.{Parts}
-use Rattle.archive_text.specs.Entries.{Entry, Has}
-use Rattle.archive_text.specs.Sets.{ArchiveText, AreEntriesOf, AreSame}
+use Rattle.archive_text.specs.Entries.{Entry, Has, IsAscending}
+use Rattle.archive_text.specs.Sets.{ArchiveText, AreEntriesOf, AreSame, IsUnionOfEntries}
 use Rattle.archive_text.specs.Text.{IsArchive, text_of}
 use Rattle.archive_text.proofs.Ascending.{same_members}
-use Rattle.archive_text.proofs.Sets.{entries_union, has_union, same_entries, same_set}
+use Rattle.archive_text.proofs.Sets.{archive_union, entries_union, has_union, records_of, same_entries, same_set}
 use Rattle.archive_text.proofs.Texts.{same_text}
 use Rattle.archive_laws.specs.Unions.{IsUnion}
 
@@ -77,6 +77,25 @@ union_holds most t u v low h x =
             | inr right ↦ inr (has_held most u r.entries x low r.archive r.text_is right)
           ])),
     )
+
+-- the entries of two archives, once each, are the union of their texts
+pub union_of_entries : (most : ℕ) (xs ys zs : List Entry) → IsArchive most xs → IsArchive most ys → IsAscending zs
+    → IsUnionOfEntries xs ys zs → IsUnion most (text_of xs) (text_of ys) (text_of zs)
+union_of_entries most xs ys zs h k up has =
+    let of_left = records_of xs h.entries in
+    let of_right = records_of ys k.entries in
+    record {
+      left = of_left.0;
+      right = of_right.0;
+      left_text = record { entries = xs; archive = h; members = of_left.1; text_is = refl };
+      right_text = record { entries = ys; archive = k; members = of_right.1; text_is = refl };
+      union_text = record {
+        entries = zs;
+        archive = archive_union most xs ys zs h k up has;
+        members = entries_union of_left.0 of_right.0 xs ys zs of_left.1 of_right.1 has;
+        text_is = refl;
+      };
+    }
 
 -- two unions with the same entries
 same_union : (most : ℕ) (t u v t' u' v' : List ℕ) → most ≤ COUNT_MAX → IsUnion most t u v → IsUnion most t' u' v'

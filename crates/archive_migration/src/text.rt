@@ -10,8 +10,8 @@ ghost use Rattle.archive_migration.specs.Reading.{IsMigrateFault};
 use crate::fault::MigrateFault;
 use crate::migrating::migrate_into;
 use archive_vec::VecArchive;
+use octet_devices::ToWrite;
 use std::alloc::Global;
-use syslog_value::ToWrite;
 
 /// The text of the archive that an old archive is migrated into.
 ///

@@ -1,5 +1,5 @@
 pub mod Spans
 pub mod Pages
 pub mod Places
-pub mod Writing
 pub mod Props
+pub mod Ranks

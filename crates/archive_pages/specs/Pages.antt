@@ -1,5 +1,5 @@
 -- Pages of spans.
-use Rattle.std.specs.Prelude.{ℕ, ◌+◌, ◌<◌, ◌≤◌, List, [], ◌++◌, length, take, drop, slice_index_or, Vec}
+use Rattle.std.specs.Prelude.{ℕ, ◌+◌, ◌<◌, ◌≤◌, ◌≡◌, List, [], ◌++◌, length, take, drop, slice_index_or, Vec}
 use Rattle.std.specs.List.{AllByRecursion, flat_map}
 use Rattle.std.specs.declared.alloc.Global.{Global}
 use Rattle.archive_text.specs.Entries.{Entry, IsAscending}
@@ -54,3 +54,8 @@ pub record ArePaged (blocks : List (List ℕ)) (pages : List (List Span)) : Type
 -- the same of pages in a vector, over an arena
 abbrev pub HoldArchive : Arena → Vec (Vec Span Global) Global → Type 0
 HoldArchive arena pages = ArePaged (blocks_of arena) (lists_of pages.items)
+
+-- a refusal leaves the pages and their entries as they were
+pub record AreKept (old new : List (List ℕ)) (pages more : List (List Span)) : Type 0 where
+  pub pages_kept : more ≡ pages
+  pub entries_kept : entries_of new more ≡ entries_of old pages

@@ -5,7 +5,8 @@ ghost use Rattle.archive_text.specs.Entries.{Has, IsEntry};
 ghost use Rattle.archive_text.specs.EntryViews.{entry_of};
 ghost use Rattle.archive_text.specs.Stores.{AddsEntry};
 ghost use Rattle.archive_pages.specs.Spans.{blocks_of, lists_of};
-ghost use Rattle.archive_pages.specs.Pages.{ArePaged, entries_of};
+ghost use Rattle.archive_pages.specs.Pages.{AreKept, ArePaged, entries_of};
+ghost use Rattle.archive_pages.specs.Ranks.{ranks_of};
 ghost use Rattle.archive_pages.specs.Places.{GoesTo};
 ghost use Rattle.archive_text.specs.declared.store.Added.TheVariants.{New};
 
@@ -43,8 +44,8 @@ fn add_first(
     ensures ok { OnOk result (AddsEntry (entry_of entry.now)
         (entries_of (blocks_of arena.old) (lists_of pages.old.items))
         (entries_of (blocks_of arena.new) (lists_of pages.new.items)) New) }
-    ensures err { OnErr result (entries_of (blocks_of arena.new) (lists_of pages.new.items)
-        ≡ entries_of (blocks_of arena.old) (lists_of pages.old.items)) }
+    ensures err { OnErr result (AreKept (blocks_of arena.old) (blocks_of arena.new)
+        (lists_of pages.old.items) (lists_of pages.new.items)) }
 {
     let span = arena.push(alloc, entry)?;
     push_first(alloc, pages, span)
@@ -68,15 +69,15 @@ fn add_at(
     ensures ok { OnOk result (AddsEntry (entry_of entry.now)
         (entries_of (blocks_of arena.old) (lists_of pages.old.items))
         (entries_of (blocks_of arena.new) (lists_of pages.new.items)) New) }
-    ensures err { OnErr result (entries_of (blocks_of arena.new) (lists_of pages.new.items)
-        ≡ entries_of (blocks_of arena.old) (lists_of pages.old.items)) }
+    ensures err { OnErr result (AreKept (blocks_of arena.old) (blocks_of arena.new)
+        (lists_of pages.old.items) (lists_of pages.new.items)) }
 {
     let span = arena.push(alloc, entry)?;
     insert_span(alloc, pages, page, index, span)
 }
 
-/// Adds an entry, and notes how pages begin then. All growths come before a change of a page or of
-/// the index, and a refused one leaves the entries as they were.
+/// Adds an entry, and notes how pages begin then. All growths come before a change of a page, of
+/// the index or of the ranks, and a refused one leaves them as they were.
 pub fn add_entry(
     alloc: Global,
     arena: &mut Arena,
@@ -91,10 +92,12 @@ pub fn add_entry(
     ensures ok { IfOk result (AddsEntry (entry_of entry.now)
         (entries_of (blocks_of arena.old) (lists_of pages.old.items))
         (entries_of (blocks_of arena.new) (lists_of pages.new.items))) }
-    ensures err { OnErr result (entries_of (blocks_of arena.new) (lists_of pages.new.items)
-        ≡ entries_of (blocks_of arena.old) (lists_of pages.old.items)) }
+    ensures err { OnErr result (AreKept (blocks_of arena.old) (blocks_of arena.new)
+        (lists_of pages.old.items) (lists_of pages.new.items)) }
+    ensures ranks { OnErr result (ranks_of ranks.new ≡ ranks_of ranks.old) }
 {
     if pages.len() == 0 {
+        ranks.reserve()?;
         add_first(alloc, arena, pages, entry)?;
         ranks.note(pages, 0, 0);
         return Ok(Added::New);
@@ -103,6 +106,7 @@ pub fn add_entry(
     match place_of(arena, pages, guess, entry) {
         None => Ok(Added::Held),
         Some((page, index)) => {
+            ranks.reserve()?;
             add_at(alloc, arena, pages, entry, page, index)?;
             ranks.note(pages, page, index);
             Ok(Added::New)

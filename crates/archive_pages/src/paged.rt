@@ -14,9 +14,10 @@ use crate::index::{add_entry, holds_entry};
 use crate::ranks::Ranks;
 use crate::writing::write_pages;
 use archive_text::{AddFault, Added, ENTRY_MAX, EntryView, Store};
+use octet_devices::{Output, WriteFault};
 use std::alloc::{AllocError, Global};
 use syslog_grammar::{RecordView, canon, put_canonical};
-use syslog_value::{Output, Record, WriteFault};
+use syslog_value::Record;
 
 // more records than any memory holds
 const RECORDS_MAX: usize = 1_099_511_627_776;

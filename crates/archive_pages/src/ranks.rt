@@ -1,10 +1,12 @@
 //! Where a search among pages begins.
 
-use crate::arena::Span;
-use std::alloc::Global;
+ghost use Rattle.std.specs.Prelude.{◌≡◌, ◌<◌, ◌+◌, length, OnOk};
+ghost use Rattle.archive_pages.specs.Ranks.{HasRoom, ranks_of};
 
-/// The ranks with which pages begin. A search begins where they point to; nothing else rests on them,
-/// so that a growth that is refused here only makes searches longer.
+use crate::arena::Span;
+use std::alloc::{AllocError, Global};
+
+/// The ranks with which pages begin. A search begins where they point to; nothing else rests on them.
 #[derive(Debug, Drop)]
 pub struct Ranks {
     ranks: Vec<u64>,
@@ -40,15 +42,31 @@ impl Ranks {
         first
     }
 
+    /// Makes room for one rank more. The ranks stay.
+    pub fn reserve(&mut self) -> Result<(), AllocError>
+        ensures same { ranks_of self.new ≡ ranks_of self.old }
+        ensures room { OnOk result (HasRoom self.new) }
+    {
+        self.ranks.reserve(1)?;
+        Ok(())
+    }
+
     // Notes the rank with which the page of an index begins.
-    fn note_one(&mut self, pages: &[Vec<Span>], page: usize) {
+    fn note_one(&mut self, pages: &[Vec<Span>], page: usize)
+        ensures { length (ranks_of self.new) ≡ length (ranks_of self.old) }
+    {
         if page < pages.len() && page < self.ranks.len() {
             self.ranks[page] = first_rank(&pages[page]);
         }
     }
 
-    /// Notes a span that was put into a page, before the span of this index.
-    pub fn note(&mut self, pages: &[Vec<Span>], page: usize, index: usize) {
+    /// Notes a span that was put into a page, before the span of this index. Where there are more
+    /// pages than ranks, there is one rank more then.
+    pub fn note(&mut self, pages: &[Vec<Span>], page: usize, index: usize)
+        requires { HasRoom self.old }
+        ensures { length (ranks_of self.old) < length pages.now
+            → length (ranks_of self.new) ≡ length (ranks_of self.old) + 1 }
+    {
         if self.ranks.len() < pages.len() {
             let at = self.ranks.len().min(page.saturating_add(1));
             let _ = self.ranks.insert(at, 0);

@@ -1,9 +1,9 @@
 use crate::PagedArchive;
 use archive_text::{AddFault, Added, Store};
+use octet_devices::ToWrite;
 use std::alloc::Global;
 use std::test::Fail;
 use syslog_grammar::{decode, view};
-use syslog_value::ToWrite;
 
 // the record `<0>1 - - - - - - ` and a number
 fn numbered(alloc: Global, number: usize) -> Result<String, Fail> {

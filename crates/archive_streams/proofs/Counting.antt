@@ -24,7 +24,7 @@ use Rattle.archive_streams.specs.declared.fault.InputFault.{InputFault}
 use Rattle.archive_streams.specs.declared.fault.InputFault.TheVariants.{Device, Endless}
 use Rattle.archive_streams.specs.declared.fault.SideFault.TheVariants.{Input}
 use Rattle.archive_streams.specs.declared.pieces.Pieces.{Pieces}
-use Rattle.syslog_value.specs.declared.loops.TheConstants.{READER_CALLS}
+use Rattle.octet_devices.specs.declared.loops.TheConstants.{READER_CALLS}
 
 -- nothing is unfinished
 pub unfinished_nil : IsUnfinished []

@@ -4,7 +4,8 @@ use Rattle.std.proofs.Common.{append-nil, append_assoc, arith}
 use Rattle.std.proofs.lemmas.List.{drop-take, drop-drop, length-append, length-take, take-append-drop}
 use Rattle.std.proofs.KnownBytes.{Consumes-nil, Consumes-trans, Consumes-kept}
 use Rattle.std.specs.Io.KnownBytes.{Consumes, Keeps}
-use Rattle.archive_streams.specs.Pieces.{ReadsOn, Reader}
+use Rattle.octet_devices.specs.Device.{InputState}
+use Rattle.archive_streams.specs.Pieces.{ReadsOn}
 use Rattle.archive_streams.specs.declared.pieces.Pieces.{Pieces}
 
 -- octets of a piece are used
@@ -20,7 +21,7 @@ used_of start end used piece within =
     sym (ap (λ (n : ℕ). drop used (take n (drop start piece))) room ∙ drops)
 
 -- nothing was read
-pub ReadsOn-same : (p : Pieces) (d : Reader) (s : List ℕ) → ReadsOn p p d d s s
+pub ReadsOn-same : (p : Pieces) (d : InputState) (s : List ℕ) → ReadsOn p p d d s s
 ReadsOn-same p d s = record {
   more = [];
   consumed = Consumes-nil d.left;
@@ -32,7 +33,7 @@ ReadsOn-same p d s = record {
 }
 
 -- nothing was read, and what was given is moved
-pub ReadsOn-kept : (p q : Pieces) (d : Reader) (before after : List ℕ) → q.calls ≡ p.calls → q.ends ≡ p.ends
+pub ReadsOn-kept : (p q : Pieces) (d : InputState) (before after : List ℕ) → q.calls ≡ p.calls → q.ends ≡ p.ends
     → after ≡ before → ReadsOn p q d d before after
 ReadsOn-kept p q d before after calls ends same = record {
   more = [];
@@ -45,7 +46,7 @@ ReadsOn-kept p q d before after calls ends same = record {
 }
 
 -- one call after the other
-pub ReadsOn-then : (p q r : Pieces) (d e f : Reader) (a b c : List ℕ) → ReadsOn p q d e a b → ReadsOn q r e f b c
+pub ReadsOn-then : (p q r : Pieces) (d e f : InputState) (a b c : List ℕ) → ReadsOn p q d e a b → ReadsOn q r e f b c
     → ReadsOn p r d f a c
 ReadsOn-then p q r d e f a b c x y = record {
   more = x.more ++ y.more;
@@ -63,7 +64,7 @@ ReadsOn-then p q r d e f a b c x y = record {
 }
 
 -- some of what stands before goes behind a text
-pub ReadsOn-moved : (p q r : Pieces) (d e : Reader) (a b text after rest : List ℕ) (n : ℕ) → ReadsOn p q d e a b
+pub ReadsOn-moved : (p q r : Pieces) (d e : InputState) (a b text after rest : List ℕ) (n : ℕ) → ReadsOn p q d e a b
     → r.calls ≡ q.calls → r.ends ≡ q.ends
     → after ≡ text ++ take n b → rest ≡ drop n b → ReadsOn p r d e (text ++ a) (after ++ rest)
 ReadsOn-moved p q r d e a b text after rest n x calls ends is_after is_rest = record {
@@ -80,7 +81,7 @@ ReadsOn-moved p q r d e a b text after rest n x calls ends is_after is_rest = re
 }
 
 -- nothing goes behind a text
-pub ReadsOn-behind : (p q : Pieces) (d e : Reader) (a b text : List ℕ) → ReadsOn p q d e a b
+pub ReadsOn-behind : (p q : Pieces) (d e : InputState) (a b text : List ℕ) → ReadsOn p q d e a b
     → ReadsOn p q d e (text ++ a) (text ++ b)
 ReadsOn-behind p q d e a b text x = record {
   more = x.more;

@@ -11,14 +11,15 @@ use Rattle.archive_text.specs.declared.limits.TheConstants.{ENTRY_MAX}
 use Rattle.archive_text.proofs.Members.{has_either, has_right}
 use Rattle.archive_text.proofs.Prefixes.{archive_fault}
 use Rattle.archive_text.proofs.Texts.{text_length, text_push}
-use Rattle.held_output.specs.Held.{Carries, Held, StopsWithin}
-use Rattle.syslog_value.specs.declared.loops.TheConstants.{READ_MAX, READER_CALLS}
+use Rattle.octet_devices.specs.Held.{Carries, Held, StopsWithin}
+use Rattle.octet_devices.specs.declared.loops.TheConstants.{READ_MAX, READER_CALLS}
 use Rattle.archive_streams.specs.EntryTexts.{entry_in}
 use Rattle.archive_streams.specs.Halted.{Halted, IsUnderWay}
 use Rattle.archive_streams.specs.Joining.{IsUnion, IsWithin}
 use Rattle.archive_streams.specs.Joins.{BothDue, Joins, LeftDue, Merging, RightDue}
 use Rattle.archive_streams.specs.Merging.{HasRoom}
-use Rattle.archive_streams.specs.Pieces.{HasFewCalls, Reader, unused}
+use Rattle.octet_devices.specs.Device.{InputState}
+use Rattle.archive_streams.specs.Pieces.{HasFewCalls, unused}
 use Rattle.archive_streams.specs.Sides.{Due, EndsWith, IsNear, IsNextOrEnd, IsSideStop, Ready}
 use Rattle.archive_streams.specs.Faults.{IsCut}
 use Rattle.archive_streams.specs.Stopped.{HasEnded, IsInputFault, IsLeftFirst, IsRightFirst}
@@ -44,11 +45,11 @@ use Rattle.archive_streams.proofs.Unions.{union_left, union_right}
 near_short : (r : ArchiveReader) → IsNear r → r.position ≤ READ_MAX * READER_CALLS
 near_short r near = omega (arith, near, r.pieces.few)
 
-due_short : (s : ArchiveReader) (d e : Reader) (es : List Entry) (last : EntryText) → IsNear s → Due s d e es last
+due_short : (s : ArchiveReader) (d e : InputState) (es : List Entry) (last : EntryText) → IsNear s → Due s d e es last
     → length (text_of es) ≤ READ_MAX * READER_CALLS
 due_short s d e es last near r = omega (arith, near_short s near, r.read.position)
 
-ready_short : (s : ArchiveReader) (d e : Reader) (ls ws : List Entry) → IsNear s → Ready s d e ls ws
+ready_short : (s : ArchiveReader) (d e : InputState) (ls ws : List Entry) → IsNear s → Ready s d e ls ws
     → length (text_of ls) ≤ READ_MAX * READER_CALLS
 ready_short s d e ls ws near r = placed r.place
   where
@@ -67,7 +68,7 @@ ready_short s d e ls ws near r = placed r.place
       ap (λ (l : List Entry). length (text_of l)) end.1,
     )
 
-next_short : (s : ArchiveReader) (d e : Reader) (ls ws : List Entry) → IsNear s → HasNext s d e ls ws
+next_short : (s : ArchiveReader) (d e : InputState) (ls ws : List Entry) → IsNear s → HasNext s d e ls ws
     → length (text_of (ls ++ entry_in s.entry ∷ [])) ≤ READ_MAX * READER_CALLS
 next_short s d e ls ws near n = omega (arith, near_short s near, n.read.position)
 
@@ -79,7 +80,7 @@ both_short ls rs ws short left right = omega (arith, short, left, right)
 -- ---- a side stops
 
 -- the octets of a side that stops
-stopped_side : (fault : SideFault) (s : ArchiveReader) (d e : Reader) (ls ws : List Entry) (last : EntryText)
+stopped_side : (fault : SideFault) (s : ArchiveReader) (d e : InputState) (ls ws : List Entry) (last : EntryText)
     → (t : IsSideStop fault s d e ls) → EndsWith ls last → EndsWith ws last → IsAscending ws → SideAt t.x ls ws
 stopped_side fault s d e ls ws last t of_side of_all_joined up =
     record {
@@ -92,7 +93,7 @@ stopped_side fault s d e ls ws last t of_side of_all_joined up =
     }
 
 -- its end was given
-side_ended : (fault : SideFault) (s : ArchiveReader) (d e : Reader) (ls : List Entry) → IsSideStop fault s d e ls
+side_ended : (fault : SideFault) (s : ArchiveReader) (d e : InputState) (ls : List Entry) → IsSideStop fault s d e ls
     → 0 < s.pieces.ends → HasEnded d e
 side_ended fault s d e ls t some = record { ends = λ low. omega (arith, t.ends low, some); none_left = t.at_end some }
 
@@ -143,7 +144,7 @@ right_first x y ls rs ws rest archive parts cut a ahead b u all =
       λ other too. first_above x y ls rs ws rest fault other archive parts (cut_behind rs rest cut) a ahead u too,
     )
 
-left_input : (fault : SideFault) (s : ArchiveReader) (dl el dr er : Reader) (ls rs ws : List Entry) (y : List ℕ)
+left_input : (fault : SideFault) (s : ArchiveReader) (dl el dr er : InputState) (ls rs ws : List Entry) (y : List ℕ)
     → (t : IsSideStop fault s dl el ls) → SideAt t.x ls ws → SideAt y rs ws → IsUnion ls rs ws
     → AllWithin ls ws → IsInputFault (left_fault fault) dl el dr er t.x y (text_of ws)
 left_input (Archive fault) s dl el dr er ls rs ws y t a b u all = (
@@ -161,7 +162,7 @@ left_input (Input input_Endless) s dl el dr er ls rs ws y t a b u all = (
   left_first t.x y ls rs ws t.rest t.archive t.parts t.cause.0 a b u all,
 )
 
-right_input : (fault : SideFault) (s : ArchiveReader) (dl el dr er : Reader) (ls rs ws : List Entry) (x : List ℕ)
+right_input : (fault : SideFault) (s : ArchiveReader) (dl el dr er : InputState) (ls rs ws : List Entry) (x : List ℕ)
     → (t : IsSideStop fault s dr er rs) → (a : SideAt x ls ws) → IsAhead a.es ls ws a.rest → SideAt t.x rs ws
     → IsUnion ls rs ws → AllWithin rs ws → IsInputFault (right_fault fault) dl el dr er x t.x (text_of ws)
 right_input (Archive fault) s dl el dr er ls rs ws x t a ahead b u all = (
@@ -180,9 +181,9 @@ right_input (Input input_Endless) s dl el dr er ls rs ws x t a ahead b u all = (
 )
 
 -- the left stops
-left_stops : (fault : SideFault) (s : ArchiveReader) (m : Merge) (dl el dr er : Reader) (ls rs ws : List Entry)
+left_stops : (fault : SideFault) (s : ArchiveReader) (m : Merge) (dl el dr er : InputState) (ls rs ws : List Entry)
     (y : List ℕ) (start now : Option (List ℕ)) → IsSideStop fault s dl el ls → EndsWith ls m.last
-    → SideAt y rs ws → Consumes dr.left er.left y → HasFewCalls dr er → Joins m ls rs ws start now
+    → SideAt y rs ws → Consumes dr.left er.left y → HasFewCalls dr er y → Joins m ls rs ws start now
     → length (text_of ws) < 2 ^ 64
     → Halted (left_fault fault) m.held dl el dr er start now
 left_stops fault s m dl el dr er ls rs ws y start now t ends b consumed few j short =
@@ -194,7 +195,7 @@ left_stops fault s m dl el dr er ls rs ws y start now t ends b consumed few j sh
       text = text_of ws;
       left = t.consumed;
       right = consumed;
-      left_calls = few_calls s dl el t.calls;
+      left_calls = few_calls s dl el t.x t.calls t.far;
       right_calls = few;
       prefix = prefix_of_union t.x y ls rs ws a b j.union;
       short = short;
@@ -202,22 +203,22 @@ left_stops fault s m dl el dr er ls rs ws y start now t ends b consumed few j sh
       input = left_input fault s dl el dr er ls rs ws y t a b j.union all;
     }
 
-pub left_halts : (fault found : SideFault) (s : ArchiveReader) (m : Merge) (dl el fl dr er : Reader)
+pub left_halts : (fault found : SideFault) (s : ArchiveReader) (m : Merge) (dl el fl dr er : InputState)
     (start now : Option (List ℕ)) → HasRoom m → found ≡ fault
-    → ((d : Reader) (es : List Entry) → Due m.left d el es m.last → IsSideStop found s d fl es)
+    → ((d : InputState) (es : List Entry) → Due m.left d el es m.last → IsSideStop found s d fl es)
     → LeftDue m dl el dr er start now → Halted (left_fault fault) m.held dl fl dr er start now
 left_halts fault found s m dl el fl dr er start now room same stop h =
     let left = due_short m.left dl el h.ls m.last room.left_near h.left in
     let right = ready_short m.right dr er h.rs h.ws room.right_near h.right in
     left_stops fault s m dl fl dr er h.ls h.rs h.ws h.right.x start now
     (subst (λ (f : SideFault). IsSideStop f s dl fl h.ls) same (stop dl h.ls h.left)) h.left.ends
-    (side_ready m.right dr er h.rs h.ws h.right) h.right.read.consumed (few_calls m.right dr er h.right.read.calls)
+    (side_ready m.right dr er h.rs h.ws h.right) h.right.read.consumed (few_calls m.right dr er h.right.x h.right.read.calls h.right.read.far)
     h.joins
     (both_short h.ls h.rs h.ws h.joins.short left right)
 
-pub left_halts_first : (fault found : SideFault) (s : ArchiveReader) (m : Merge) (dl el fl dr er : Reader)
+pub left_halts_first : (fault found : SideFault) (s : ArchiveReader) (m : Merge) (dl el fl dr er : InputState)
     (start now : Option (List ℕ)) → HasRoom m → found ≡ fault
-    → ((d : Reader) (es : List Entry) → Due m.left d el es m.last → IsSideStop found s d fl es)
+    → ((d : InputState) (es : List Entry) → Due m.left d el es m.last → IsSideStop found s d fl es)
     → BothDue m dl el dr er start now → Halted (left_fault fault) m.held dl fl dr er start now
 left_halts_first fault found s m dl el fl dr er start now room same stop h =
     let left = due_short m.left dl el h.ls m.last room.left_near h.left in
@@ -225,12 +226,12 @@ left_halts_first fault found s m dl el fl dr er start now room same stop h =
     left_stops fault s m dl fl dr er h.ls h.rs h.ws h.right.x start now
     (subst (λ (f : SideFault). IsSideStop f s dl fl h.ls) same (stop dl h.ls h.left)) h.left.ends
     (side_due m.right dr er h.rs h.ws m.last h.right h.joins.last_is h.joins.union.ascending) h.right.read.consumed
-    (few_calls m.right dr er h.right.read.calls) h.joins (both_short h.ls h.rs h.ws h.joins.short left right)
+    (few_calls m.right dr er h.right.x h.right.read.calls h.right.read.far) h.joins (both_short h.ls h.rs h.ws h.joins.short left right)
 
 -- the right stops, and the left is ahead
-pub right_halts : (fault found : SideFault) (s : ArchiveReader) (m : Merge) (dl el dr er fr : Reader)
+pub right_halts : (fault found : SideFault) (s : ArchiveReader) (m : Merge) (dl el dr er fr : InputState)
     (start now : Option (List ℕ)) → HasRoom m → found ≡ fault
-    → ((d : Reader) (es : List Entry) → Due m.right d er es m.last → IsSideStop found s d fr es)
+    → ((d : InputState) (es : List Entry) → Due m.right d er es m.last → IsSideStop found s d fr es)
     → RightDue m dl el dr er start now → Halted (right_fault fault) m.held dl el dr fr start now
 right_halts fault found s m dl el dr er fr start now room same stop h =
     let left = ready_short m.left dl el h.ls h.ws room.left_near h.left in
@@ -250,8 +251,8 @@ right_halts fault found s m dl el dr er fr start now room same stop h =
       text = text_of h.ws;
       left = h.left.read.consumed;
       right = t.consumed;
-      left_calls = few_calls m.left dl el h.left.read.calls;
-      right_calls = few_calls s dr fr t.calls;
+      left_calls = few_calls m.left dl el h.left.x h.left.read.calls h.left.read.far;
+      right_calls = few_calls s dr fr t.x t.calls t.far;
       prefix = prefix_of_union h.left.x t.x h.ls h.rs h.ws a b h.joins.union;
       short = both_short h.ls h.rs h.ws h.joins.short left right;
       under_way = right_under_way fault m.held start now (text_of h.ws) h.joins.carries;
@@ -262,7 +263,7 @@ right_halts fault found s m dl el dr er fr start now room same stop h =
 -- ---- the writer fails
 
 -- all entries of a side whose next one is written are joined
-written_side : (s : ArchiveReader) (d e : Reader) (ls ws : List Entry) → (n : HasNext s d e ls ws)
+written_side : (s : ArchiveReader) (d e : InputState) (ls ws : List Entry) → (n : HasNext s d e ls ws)
     → SideAt n.x (ls ++ entry_in s.entry ∷ []) (ws ++ entry_in s.entry ∷ [])
 written_side s d e ls ws n = record {
   es = ls ++ entry_in s.entry ∷ [];
@@ -289,13 +290,13 @@ written_side s d e ls ws n = record {
     )
 
 -- the text goes on with the entry
-written_text : (s : ArchiveReader) (d e : Reader) (ls ws : List Entry) → HasNext s d e ls ws
+written_text : (s : ArchiveReader) (d e : InputState) (ls ws : List Entry) → HasNext s d e ls ws
     → text_of ws ++ s.entry.text.items ≡ text_of (ws ++ entry_in s.entry ∷ [])
 written_text s d e ls ws n = ap (λ (u : List ℕ). text_of ws ++ u) n.holds.text_is
     ∙ sym (text_push ws (entry_in s.entry))
 
 -- as the left is written alone
-pub less_halts : (m : Merge) (held : Held) (dl el dr er : Reader) (start a b : Option (List ℕ)) (sent : ℕ) → HasRoom m
+pub less_halts : (m : Merge) (held : Held) (dl el dr er : InputState) (start a b : Option (List ℕ)) (sent : ℕ) → HasRoom m
     → m.left.entry.text.items ≢ []
     → (m.right.entry.text.items ≢ [] → IsBelow (entry_in m.left.entry) (entry_in m.right.entry))
     → ((text : List ℕ) → Carries start a m.held text → StopsWithin start b (text ++ m.left.entry.text.items) sent)
@@ -311,8 +312,8 @@ less_halts m held dl el dr er start a b sent room some above stops s =
       text = text_of (s.ws ++ w ∷ []);
       left = next.read.consumed;
       right = s.right.read.consumed;
-      left_calls = few_calls m.left dl el s.left.read.calls;
-      right_calls = few_calls m.right dr er s.right.read.calls;
+      left_calls = few_calls m.left dl el next.x next.read.calls next.read.far;
+      right_calls = few_calls m.right dr er s.right.x s.right.read.calls s.right.read.far;
       prefix = prefix_of_union next.x s.right.x (s.ls ++ w ∷ []) s.rs (s.ws ++ w ∷ [])
           (written_side m.left dl el s.ls s.ws next) other union;
       short = both_short (s.ls ++ w ∷ []) s.rs (s.ws ++ w ∷ []) (longer_left s.ls s.rs s.ws w s.joins.short)
@@ -324,7 +325,7 @@ less_halts m held dl el dr er start a b sent room some above stops s =
     }
 
 -- as the right is written alone
-pub greater_halts : (m : Merge) (held : Held) (dl el dr er : Reader) (start a b : Option (List ℕ)) (sent : ℕ)
+pub greater_halts : (m : Merge) (held : Held) (dl el dr er : InputState) (start a b : Option (List ℕ)) (sent : ℕ)
     → HasRoom m → m.right.entry.text.items ≢ []
     → (m.left.entry.text.items ≢ [] → IsBelow (entry_in m.right.entry) (entry_in m.left.entry))
     → ((text : List ℕ) → Carries start a m.held text → StopsWithin start b (text ++ m.right.entry.text.items) sent)
@@ -340,8 +341,8 @@ greater_halts m held dl el dr er start a b sent room some above stops s =
       text = text_of (s.ws ++ w ∷ []);
       left = s.left.read.consumed;
       right = next.read.consumed;
-      left_calls = few_calls m.left dl el s.left.read.calls;
-      right_calls = few_calls m.right dr er s.right.read.calls;
+      left_calls = few_calls m.left dl el s.left.x s.left.read.calls s.left.read.far;
+      right_calls = few_calls m.right dr er next.x next.read.calls next.read.far;
       prefix = prefix_of_union s.left.x next.x s.ls (s.rs ++ w ∷ []) (s.ws ++ w ∷ []) other
           (written_side m.right dr er s.rs s.ws next) union;
       short = both_short s.ls (s.rs ++ w ∷ []) (s.ws ++ w ∷ []) (longer_right s.ls s.rs s.ws w s.joins.short)
@@ -353,7 +354,7 @@ greater_halts m held dl el dr er start a b sent room some above stops s =
     }
 
 -- as an equal pair is written
-pub equal_halts : (m : Merge) (held : Held) (dl el dr er : Reader) (start a b : Option (List ℕ)) (sent : ℕ) → HasRoom m
+pub equal_halts : (m : Merge) (held : Held) (dl el dr er : InputState) (start a b : Option (List ℕ)) (sent : ℕ) → HasRoom m
     → m.left.entry.text.items ≢ [] → m.right.entry.text.items ≢ []
     → entry_in m.left.entry ≡ entry_in m.right.entry
     → ((text : List ℕ) → Carries start a m.held text → StopsWithin start b (text ++ m.left.entry.text.items) sent)
@@ -375,8 +376,8 @@ equal_halts m held dl el dr er start a b sent room some also same stops s =
       text = text_of (s.ws ++ w ∷ []);
       left = next.read.consumed;
       right = other.read.consumed;
-      left_calls = few_calls m.left dl el s.left.read.calls;
-      right_calls = few_calls m.right dr er s.right.read.calls;
+      left_calls = few_calls m.left dl el next.x next.read.calls next.read.far;
+      right_calls = few_calls m.right dr er other.x other.read.calls other.read.far;
       prefix = prefix_of_union next.x other.x (s.ls ++ w ∷ []) (s.rs ++ w ∷ []) (s.ws ++ w ∷ [])
           (written_side m.left dl el s.ls s.ws next) side union;
       short = both_short (s.ls ++ w ∷ []) (s.rs ++ w ∷ []) (s.ws ++ w ∷ []) (longer_both s.ls s.rs s.ws w s.joins.short)
@@ -387,7 +388,7 @@ equal_halts m held dl el dr er start a b sent room some also same stops s =
     }
 
 -- as what is held back is written, where all is joined
-pub end_halts : (m : Merge) (held : Held) (dl el dr er : Reader) (start a b : Option (List ℕ)) (sent : ℕ) → HasRoom m
+pub end_halts : (m : Merge) (held : Held) (dl el dr er : InputState) (start a b : Option (List ℕ)) (sent : ℕ) → HasRoom m
     → ((text : List ℕ) → Carries start a m.held text → StopsWithin start b text sent) → Merging m dl el dr er start a
     → Halted (Write sent) held dl el dr er start b
 end_halts m held dl el dr er start a b sent room stops s = record {
@@ -396,8 +397,8 @@ end_halts m held dl el dr er start a b sent room stops s = record {
   text = text_of s.ws;
   left = s.left.read.consumed;
   right = s.right.read.consumed;
-  left_calls = few_calls m.left dl el s.left.read.calls;
-  right_calls = few_calls m.right dr er s.right.read.calls;
+  left_calls = few_calls m.left dl el s.left.x s.left.read.calls s.left.read.far;
+  right_calls = few_calls m.right dr er s.right.x s.right.read.calls s.right.read.far;
   prefix = prefix_of_union s.left.x s.right.x s.ls s.rs s.ws (side_ready m.left dl el s.ls s.ws s.left)
       (side_ready m.right dr er s.rs s.ws s.right) s.joins.union;
   short = both_short s.ls s.rs s.ws s.joins.short (ready_short m.left dl el s.ls s.ws room.left_near s.left)

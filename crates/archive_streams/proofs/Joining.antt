@@ -158,9 +158,9 @@ either_side : (x y : List ℕ) (ls rs ws xs ys : List Entry) (r s : List ℕ) (e
     → IsUnion ls rs ws → IsLongestArchive ENTRY_MAX x xs r → IsLongestArchive ENTRY_MAX y ys s
     → Has xs e ⊎ Has ys e → Has ws e ⊎ AllBelow ws e
 either_side x y ls rs ws xs ys r s e a b u f g (inl h) =
-    elim (further x ls ws xs r e a f.archive f.parts h) [ inl k ↦ inl (u.left e k) | inr k ↦ inr k ]
+    elim (further x ls ws xs r e a f.archive f.parts h) [ inl k ↦ inl ((u.members e).1 (inl k)) | inr k ↦ inr k ]
 either_side x y ls rs ws xs ys r s e a b u f g (inr h) =
-    elim (further y rs ws ys s e b g.archive g.parts h) [ inl k ↦ inl (u.right e k) | inr k ↦ inr k ]
+    elim (further y rs ws ys s e b g.archive g.parts h) [ inl k ↦ inl ((u.members e).1 (inr k)) | inr k ↦ inr k ]
 
 joined_of : (x y : List ℕ) (ls rs ws xs ys : List Entry) (r s : List ℕ) (e : Entry) → SideAt x ls ws → SideAt y rs ws
     → IsLongestArchive ENTRY_MAX x xs r → IsLongestArchive ENTRY_MAX y ys s
@@ -169,16 +169,16 @@ joined_of x y ls rs ws xs ys r s e a b f g (inl h) = inl (joined_before x ls ws 
 joined_of x y ls rs ws xs ys r s e a b f g (inr h) = inr (joined_before y rs ws ys s e b g h)
 
 in_union : (xs ys zs : List Entry) (e : Entry) → IsUnion xs ys zs → Has xs e ⊎ Has ys e → Has zs e
-in_union xs ys zs e u (inl h) = u.left e h
-in_union xs ys zs e u (inr h) = u.right e h
+in_union xs ys zs e u (inl h) = (u.members e).1 (inl h)
+in_union xs ys zs e u (inr h) = (u.members e).1 (inr h)
 
 -- what was joined begins the union of the prefixes
 pub prefix_of_union : (x y : List ℕ) (ls rs ws : List Entry) → SideAt x ls ws → SideAt y rs ws → IsUnion ls rs ws
     → IsPrefixOfUnion x y (text_of ws)
 prefix_of_union x y ls rs ws a b u xs ys zs r s f g v =
     let rest = initial ws zs u.ascending v.ascending
-    (λ e h. in_union xs ys zs e v (joined_of x y ls rs ws xs ys r s e a b f g (u.only e h)))
-    (λ e h. either_side x y ls rs ws xs ys r s e a b u f g (v.only e h)) in
+    (λ e h. in_union xs ys zs e v (joined_of x y ls rs ws xs ys r s e a b f g ((u.members e).0 h)))
+    (λ e h. either_side x y ls rs ws xs ys r s e a b u f g ((v.members e).0 h)) in
     (text_of rest.0, ap text_of rest.1 ∙ text_append ws rest.0)
 
 -- a prefix of it too
@@ -210,12 +210,12 @@ up_to_first x y ls rs ws rest fault archive parts wrong a b u all xs ys r s f g 
       refl,
       λ e. (
         λ h. (
-          joined_of x y ls rs ws xs ys r s e a b f g (u.only e h),
+          joined_of x y ls rs ws xs ys r s e a b f g ((u.members e).0 h),
           subst (λ (l : List Entry). IsWithin l e) same (all.within e h),
         ),
         λ h. elim (either_side x y ls rs ws xs ys r s e a b u f g h.0) [
           | inl k ↦ k
-          | inr k ↦ absurd (not_above ls ws e u.left
+          | inr k ↦ absurd (not_above ls ws e (λ m has. (u.members m).1 (inl has))
               (subst (λ (l : List Entry). IsWithin l e) (sym same) h.1) k)
         ],
       ),
@@ -228,7 +228,7 @@ pub first_within : (x y : List ℕ) (ls rs ws : List Entry) (rest : List ℕ) (f
 first_within x y ls rs ws rest fault other archive parts wrong b u too xs ys r s f g m h =
     let same : ls ≡ xs = (one_longest ENTRY_MAX x ls xs rest r (omega arith)
     (longest_faulty ENTRY_MAX x ls rest fault (omega arith) archive parts wrong) f).0 in
-    known b.stands (u.left m (subst (λ (l : List Entry). Has l m) (sym same) h))
+    known b.stands ((u.members m).1 (inl (subst (λ (l : List Entry). Has l m) (sym same) h)))
   where
     known : Standing b.es rs ws b.rest → Has ws m → IsWithin ys m
     known (inl (n, is, below)) k = (
@@ -260,7 +260,7 @@ first_above x y ls rs ws rest fault other archive parts wrong a stands u too xs 
       before_all x ls ws xs r n a f (subst (λ (l : List Entry). Has l n) (sym is)
           (has_right ls (n ∷ []) n (inl refl))),
       λ e h.
-          below e (u.right e (subst (λ (l : List Entry). Has l e) (sym same) h)),
+          below e ((u.members e).1 (inr (subst (λ (l : List Entry). Has l e) (sym same) h))),
     )
     known same (inr (is, none)) =
         absurd (archive_has_no_fault ENTRY_MAX a.es other a.archive

@@ -10,15 +10,16 @@ use Rattle.std.proofs.KnownBytes.{Consumes-nil}
 use Rattle.archive_text.specs.Text.{IsArchive, text_of}
 use Rattle.archive_text.specs.declared.limits.TheConstants.{ENTRY_MAX}
 use Rattle.archive_text.proofs.Ascending.{archive_nil}
-use Rattle.held_output.proofs.Carrying.{Carries-new}
+use Rattle.octet_devices.proofs.Carrying.{Carries-new}
 use Rattle.archive_streams.specs.Joined.{Joined}
 use Rattle.archive_streams.specs.Merging.{rank}
 use Rattle.archive_text.proofs.Texts.{text_length, text_push}
-use Rattle.held_output.specs.Held.{Carries, Held}
+use Rattle.octet_devices.specs.Held.{Carries, Held}
 use Rattle.archive_streams.specs.EntryTexts.{entry_in, HoldsEntry}
 use Rattle.archive_streams.specs.Joining.{IsUnion}
 use Rattle.archive_streams.specs.Joins.{BothDue, Joins, LeftDue, Merging, RightDue}
-use Rattle.archive_streams.specs.Pieces.{Reader, unused}
+use Rattle.octet_devices.specs.Device.{InputState}
+use Rattle.archive_streams.specs.Pieces.{HasFewCalls, unused}
 use Rattle.archive_streams.specs.Sides.{Due, EndsWith, IsNextOrEnd, ReadTo, Ready}
 use Rattle.archive_streams.specs.declared.entry.EntryText.{EntryText}
 use Rattle.archive_streams.specs.declared.merge.Merge.{Merge}
@@ -29,13 +30,14 @@ use Rattle.archive_streams.proofs.SideSteps.{few_calls}
 use Rattle.archive_streams.proofs.Unions.{below_more_joined, side_ready, union_both, union_left, union_nil, union_right}
 
 -- what was read does not hang on the room of the entry
-pub read_same : (s t : ArchiveReader) (d e : Reader) (x : List ℕ) (es : List Entry) → t.pieces ≡ s.pieces
+pub read_same : (s t : ArchiveReader) (d e : InputState) (x : List ℕ) (es : List Entry) → t.pieces ≡ s.pieces
     → t.position ≡ s.position → ReadTo s d e x es → ReadTo t d e x es
 read_same s t d e x es pieces position r = record {
   consumed = r.consumed;
   parts = r.parts ∙ ap (λ (p : Pieces). text_of es ++ unused p) (sym pieces);
   archive = r.archive;
   position = position ∙ r.position;
+  far = omega (arith, r.far, ap (λ (p : Pieces). p.calls) pieces);
   calls = λ low. r.calls low ∙ ap (λ (p : Pieces). d.calls + p.calls) (sym pieces);
   ends = λ low. r.ends low ∙ ap (λ (p : Pieces). d.ends + p.ends) (sym pieces);
   at_end = λ some. r.at_end (omega (arith, some, ap (λ (p : Pieces). p.ends) pieces));
@@ -46,13 +48,13 @@ pub ends_with : (ls : List Entry) (t : EntryText) → t.text.items ≢ [] → En
 ends_with ls t some = record { none = λ none. absurd (some none); some = λ more. (ls, refl) }
 
 -- a side that has a next entry
-pub record HasNext (s : ArchiveReader) (d e : Reader) (ls ws : List Entry) : Type 0 where
+pub record HasNext (s : ArchiveReader) (d e : InputState) (ls ws : List Entry) : Type 0 where
   pub x : List ℕ
   pub holds : HoldsEntry s.entry
   pub read : ReadTo s d e x (ls ++ entry_in s.entry ∷ [])
   pub below : AllBelow ws (entry_in s.entry)
 
-pub has_next : (s : ArchiveReader) (d e : Reader) (ls ws : List Entry) → s.entry.text.items ≢ [] → Ready s d e ls ws
+pub has_next : (s : ArchiveReader) (d e : InputState) (ls ws : List Entry) → s.entry.text.items ≢ [] → Ready s d e ls ws
     → HasNext s d e ls ws
 has_next s d e ls ws some r = placed r.place
   where
@@ -67,7 +69,7 @@ has_next s d e ls ws some r = placed r.place
     placed (inr end) = absurd (some end.0)
 
 -- it is written, so the one behind it is due
-pub due_next : (s t : ArchiveReader) (d e : Reader) (ls ws : List Entry) → s.entry.text.items ≢ [] → t.pieces ≡ s.pieces
+pub due_next : (s t : ArchiveReader) (d e : InputState) (ls ws : List Entry) → s.entry.text.items ≢ [] → t.pieces ≡ s.pieces
     → t.position ≡ s.position → HasNext s d e ls ws
     → Due t d e (ls ++ entry_in s.entry ∷ []) s.entry
 due_next s t d e ls ws some pieces position n =
@@ -79,7 +81,7 @@ due_next s t d e ls ws some pieces position n =
     }
 
 -- the next entry of the other side is above it too
-pub still_ready : (s : ArchiveReader) (d e : Reader) (ls ws : List Entry) (w : Entry)
+pub still_ready : (s : ArchiveReader) (d e : InputState) (ls ws : List Entry) (w : Entry)
     → (s.entry.text.items ≢ [] → IsBelow w (entry_in s.entry)) → Ready s d e ls ws → Ready s d e ls (ws ++ w ∷ [])
 still_ready s d e ls ws w above r = record { x = r.x; es = r.es; read = r.read; place = placed r.place }
   where
@@ -100,7 +102,7 @@ still_ready s d e ls ws w above r = record { x = r.x; es = r.es; read = r.read; 
     )
     placed (inr end) = inr end
 
-pub still_side : (s : ArchiveReader) (d e : Reader) (ls ws : List Entry) (w : Entry)
+pub still_side : (s : ArchiveReader) (d e : InputState) (ls ws : List Entry) (w : Entry)
     → (s.entry.text.items ≢ [] → IsBelow w (entry_in s.entry)) → (r : Ready s d e ls ws) → SideAt r.x ls (ws ++ w ∷ [])
 unfolding still_ready
 still_side s d e ls ws w above r = side_ready s d e ls (ws ++ w ∷ []) (still_ready s d e ls ws w above r)
@@ -141,7 +143,7 @@ joins_on m n ls rs ws ls' rs' t start a b j union short some holds last count ca
 }
 
 -- the left is written alone
-pub write_less : (m n : Merge) (dl el dr er : Reader) (start a b : Option (List ℕ)) → m.left.entry.text.items ≢ []
+pub write_less : (m n : Merge) (dl el dr er : InputState) (start a b : Option (List ℕ)) → m.left.entry.text.items ≢ []
     → (m.right.entry.text.items ≢ [] → IsBelow (entry_in m.left.entry) (entry_in m.right.entry))
     → n.last ≡ m.left.entry → n.left.pieces ≡ m.left.pieces → n.left.position ≡ m.left.position → n.right ≡ m.right
     → n.count ≡ m.count + 1
@@ -164,7 +166,7 @@ write_less m n dl el dr er start a b some above last pieces position right count
     }
 
 -- the right is written alone
-pub write_greater : (m n : Merge) (dl el dr er : Reader) (start a b : Option (List ℕ)) → m.right.entry.text.items ≢ []
+pub write_greater : (m n : Merge) (dl el dr er : InputState) (start a b : Option (List ℕ)) → m.right.entry.text.items ≢ []
     → (m.left.entry.text.items ≢ [] → IsBelow (entry_in m.right.entry) (entry_in m.left.entry))
     → n.last ≡ m.right.entry → n.right.pieces ≡ m.right.pieces → n.right.position ≡ m.right.position → n.left ≡ m.left
     → n.count ≡ m.count + 1
@@ -187,7 +189,7 @@ write_greater m n dl el dr er start a b some above last pieces position left cou
     }
 
 -- an equal pair is written once
-pub write_equal : (m n : Merge) (dl el dr er : Reader) (start a b : Option (List ℕ)) → m.left.entry.text.items ≢ []
+pub write_equal : (m n : Merge) (dl el dr er : InputState) (start a b : Option (List ℕ)) → m.left.entry.text.items ≢ []
     → m.right.entry.text.items ≢ [] → entry_in m.left.entry ≡ entry_in m.right.entry
     → n.last ≡ m.left.entry → n.left.pieces ≡ m.left.pieces → n.left.position ≡ m.left.position → n.right ≡ m.right
     → n.count ≡ m.count + 1
@@ -225,9 +227,9 @@ joins_same m n ls rs ws start now last held count j = record {
 }
 
 -- the next entry of the left was read
-pub left_read : (m n : Merge) (dl el fl dr er : Reader) (start now : Option (List ℕ)) → n.last ≡ m.last
+pub left_read : (m n : Merge) (dl el fl dr er : InputState) (start now : Option (List ℕ)) → n.last ≡ m.last
     → n.held ≡ m.held → n.count ≡ m.count → n.right ≡ m.right
-    → ((d : Reader) (es ws : List Entry) → Due m.left d el es m.last → EndsWith ws m.last → IsAscending ws
+    → ((d : InputState) (es ws : List Entry) → Due m.left d el es m.last → EndsWith ws m.last → IsAscending ws
     → Ready n.left d fl es ws) → LeftDue m dl el dr er start now → Merging n dl fl dr er start now
 left_read m n dl el fl dr er start now last held count right ready s = record {
   ls = s.ls;
@@ -238,9 +240,9 @@ left_read m n dl el fl dr er start now last held count right ready s = record {
   joins = joins_same m n s.ls s.rs s.ws start now last held count s.joins;
 }
 
-pub left_read_first : (m n : Merge) (dl el fl dr er : Reader) (start now : Option (List ℕ)) → n.last ≡ m.last
+pub left_read_first : (m n : Merge) (dl el fl dr er : InputState) (start now : Option (List ℕ)) → n.last ≡ m.last
     → n.held ≡ m.held → n.count ≡ m.count → n.right ≡ m.right
-    → ((d : Reader) (es ws : List Entry) → Due m.left d el es m.last → EndsWith ws m.last → IsAscending ws
+    → ((d : InputState) (es ws : List Entry) → Due m.left d el es m.last → EndsWith ws m.last → IsAscending ws
     → Ready n.left d fl es ws) → BothDue m dl el dr er start now → RightDue n dl fl dr er start now
 left_read_first m n dl el fl dr er start now last held count right ready s = record {
   ls = s.ls;
@@ -252,9 +254,9 @@ left_read_first m n dl el fl dr er start now last held count right ready s = rec
   joins = joins_same m n s.ls s.rs s.ws start now last held count s.joins;
 }
 
-pub right_read : (m n : Merge) (dl el dr er fr : Reader) (start now : Option (List ℕ)) → n.last ≡ m.last
+pub right_read : (m n : Merge) (dl el dr er fr : InputState) (start now : Option (List ℕ)) → n.last ≡ m.last
     → n.held ≡ m.held → n.count ≡ m.count → n.left ≡ m.left
-    → ((d : Reader) (es ws : List Entry) → Due m.right d er es m.last → EndsWith ws m.last → IsAscending ws
+    → ((d : InputState) (es ws : List Entry) → Due m.right d er es m.last → EndsWith ws m.last → IsAscending ws
     → Ready n.right d fr es ws) → RightDue m dl el dr er start now → Merging n dl el dr fr start now
 right_read m n dl el dr er fr start now last held count left ready s = record {
   ls = s.ls;
@@ -266,13 +268,14 @@ right_read m n dl el dr er fr start now last held count left ready s = record {
 }
 
 -- a side that is at its end was read whole
-pub record ReadWhole (d e : Reader) (ls : List Entry) : Type 0 where
+pub record ReadWhole (d e : InputState) (ls : List Entry) : Type 0 where
   pub consumed : Consumes d.left e.left (text_of ls)
   pub archive : IsArchive ENTRY_MAX ls
   pub at_end : IsAtEnd e.left
   pub ended : d.calls < 2 ^ 63 → d.ends < e.ends
+  pub few : HasFewCalls d e (text_of ls)
 
-pub end_of : (s : ArchiveReader) (d e : Reader) (ls ws : List Entry) → length s.entry.text.items ≡ 0 → Ready s d e ls ws
+pub end_of : (s : ArchiveReader) (d e : InputState) (ls ws : List Entry) → length s.entry.text.items ≡ 0 → Ready s d e ls ws
     → ReadWhole d e ls
 end_of s d e ls ws none r = placed r.place
   where
@@ -283,17 +286,19 @@ end_of s d e ls ws none r = placed r.place
       ap length next.0.text_is,
       length-append (decimal (length (entry_in s.entry).octets)) (32 ∷ (entry_in s.entry).octets),
     ))
-    placed (inr end) = record {
-      consumed = subst (Consumes d.left e.left)
-          (r.read.parts ∙ ap (λ (es : List Entry). text_of es ++ unused s.pieces) end.1
-          ∙ ap (λ (u : List ℕ). text_of ls ++ u) end.2 ∙ append-nil (text_of ls)) r.read.consumed;
-      archive = subst (IsArchive ENTRY_MAX) end.1 r.read.archive;
-      at_end = r.read.at_end end.3;
-      ended = λ low. omega (arith, r.read.ends low, end.3);
-    }
+    placed (inr end) =
+        let whole : r.x ≡ text_of ls = r.read.parts ∙ ap (λ (es : List Entry). text_of es ++ unused s.pieces) end.1
+        ∙ ap (λ (u : List ℕ). text_of ls ++ u) end.2 ∙ append-nil (text_of ls) in
+        record {
+          consumed = subst (Consumes d.left e.left) whole r.read.consumed;
+          archive = subst (IsArchive ENTRY_MAX) end.1 r.read.archive;
+          at_end = r.read.at_end end.3;
+          ended = λ low. omega (arith, r.read.ends low, end.3);
+          few = subst (HasFewCalls d e) whole (few_calls s d e r.x r.read.calls r.read.far);
+        }
 
 -- both sides are at their ends, and what was held back is written
-pub joined_of : (m : Merge) (dl el dr er : Reader) (start now after : Option (List ℕ)) → rank m ≡ 0
+pub joined_of : (m : Merge) (dl el dr er : InputState) (start now after : Option (List ℕ)) → rank m ≡ 0
     → ((text : List ℕ) → Carries start now m.held text → Appends start after text)
     → Merging m dl el dr er start now → Joined dl el dr er start after m.count
 joined_of m dl el dr er start now after none written s =
@@ -305,8 +310,8 @@ joined_of m dl el dr er start now after none written s =
       zs = s.ws;
       left = left.consumed;
       right = right.consumed;
-      left_calls = few_calls m.left dl el s.left.read.calls;
-      right_calls = few_calls m.right dr er s.right.read.calls;
+      left_calls = left.few;
+      right_calls = right.few;
       left_ended = left.ended;
       right_ended = right.ended;
       left_whole = left.at_end;
@@ -318,7 +323,7 @@ joined_of m dl el dr er start now after none written s =
       count = s.joins.count;
     }
 
-pub ended_of : (m : Merge) (dl el dr er : Reader) (start now : Option (List ℕ)) → rank m ≡ 0
+pub ended_of : (m : Merge) (dl el dr er : InputState) (start now : Option (List ℕ)) → rank m ≡ 0
     → Merging m dl el dr er start now → IsAtEnd el.left × IsAtEnd er.left
 ended_of m dl el dr er start now none s = (
   (end_of m.left dl el s.ls s.ws (omega (arith, none)) s.left).at_end,
@@ -326,7 +331,7 @@ ended_of m dl el dr er start now none s = (
 )
 
 -- before the first call nothing was read
-due_start : (s : ArchiveReader) (d : Reader) (last : EntryText) → unused s.pieces ≡ [] → s.position ≡ 0
+due_start : (s : ArchiveReader) (d : InputState) (last : EntryText) → unused s.pieces ≡ [] → s.position ≡ 0
     → s.pieces.calls ≡ 0 → s.pieces.ends ≡ 0 → last.text.items ≡ [] → Due s d d [] last
 due_start s d last none first calls ends empty = record {
   x = [];
@@ -335,6 +340,7 @@ due_start s d last none first calls ends empty = record {
     parts = sym none;
     archive = archive_nil ENTRY_MAX;
     position = first;
+    far = omega arith;
     calls = λ low. omega (arith, calls);
     ends = λ low. omega (arith, ends);
     at_end = λ some. absurd (omega (arith, some, ends));
@@ -342,7 +348,7 @@ due_start s d last none first calls ends empty = record {
   ends = record { none = λ e. refl; some = λ some. absurd (some empty) };
 }
 
-pub both_start : (m : Merge) (dl dr : Reader) (start : Option (List ℕ)) → unused m.left.pieces ≡ []
+pub both_start : (m : Merge) (dl dr : InputState) (start : Option (List ℕ)) → unused m.left.pieces ≡ []
     → m.left.position ≡ 0 → m.left.pieces.calls ≡ 0 → m.left.pieces.ends ≡ 0
     → unused m.right.pieces ≡ [] → m.right.position ≡ 0 → m.right.pieces.calls ≡ 0 → m.right.pieces.ends ≡ 0
     → m.last.text.items ≡ [] → m.held ≡ record { octets = []; sent = 0 } → m.count ≡ 0

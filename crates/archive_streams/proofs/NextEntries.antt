@@ -6,7 +6,7 @@ use Rattle.std.specs.Fmt.{decimal}
 use Rattle.std.proofs.lemmas.List.{length-append}
 use Rattle.syslog_frame.specs.Frames.{framed}
 use Rattle.syslog_frame.specs.declared.framing.Framing.TheVariants.{Counted}
-use Rattle.syslog_value.specs.declared.loops.TheConstants.{READ_MAX}
+use Rattle.octet_devices.specs.declared.loops.TheConstants.{READ_MAX}
 use Rattle.archive_text.specs.Entries.{Entry, IsAscending}
 use Rattle.archive_text.specs.Faults.{BeginsWithOctets, IsFaultBefore, IsFaultBehind, IsNotAscending}
 use Rattle.archive_text.specs.Text.{IsArchive, text_of}
@@ -19,7 +19,8 @@ use Rattle.archive_streams.specs.EntryTexts.{entry_in, HoldsEntry, IsAbove}
 use Rattle.archive_streams.specs.Faults.{IsSideFault}
 use Rattle.archive_text.specs.Positions.{later, position_of}
 use Rattle.archive_streams.specs.Judging.{IsJudged}
-use Rattle.archive_streams.specs.Pieces.{ReadsOn, Reader, unused}
+use Rattle.octet_devices.specs.Device.{InputState}
+use Rattle.archive_streams.specs.Pieces.{ReadsOn, unused}
 use Rattle.archive_streams.specs.Sides.{EndsWith, IsNextFault}
 use Rattle.archive_streams.specs.declared.entry.EntryText.{EntryText}
 use Rattle.archive_streams.specs.declared.fault.SideFault.TheVariants.{Archive}
@@ -128,7 +129,7 @@ not_above_fault last t position rest p h low =
 
 -- ---- positions
 
-pub near_on : (p q : Pieces) (d e : Reader) (s text : List ℕ) (position : ℕ) → ReadsOn p q d e s (text ++ unused q)
+pub near_on : (p q : Pieces) (d e : InputState) (s text : List ℕ) (position : ℕ) → ReadsOn p q d e s (text ++ unused q)
     → position + length s ≤ READ_MAX * p.calls
     → position + length text + length (unused q) ≤ READ_MAX * q.calls
 near_on p q d e s text position x near = omega

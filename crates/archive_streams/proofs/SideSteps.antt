@@ -1,8 +1,9 @@
 -- A side that is read on, entry by entry.
-use Rattle.std.proofs.Common.{◌≡◌, ℕ, ◌+◌, ◌<◌, ◌^◌, List, [], ◌∷◌, ◌++◌, length, refl, sym, ap, subst, ◌∙◌}
+use Rattle.std.proofs.Common.{◌≡◌, ℕ, ◌+◌, ◌*◌, ◌<◌, ◌≤◌, ◌^◌, List, [], ◌∷◌, ◌++◌, length, refl, sym, ap, subst, ◌∙◌}
 use Rattle.std.proofs.Common.{append_assoc, arith, inl, inr}
 use Rattle.std.proofs.KnownBytes.{Consumes-trans}
 use Rattle.std.proofs.lemmas.List.{length-append}
+use Rattle.octet_devices.specs.declared.loops.TheConstants.{READ_MAX}
 use Rattle.archive_text.specs.Entries.{Entry, Has, IsAscending, IsBelow}
 use Rattle.archive_text.specs.Text.{IsArchive, entry_text, text_of}
 use Rattle.archive_text.specs.declared.limits.TheConstants.{ENTRY_MAX}
@@ -10,7 +11,8 @@ use Rattle.archive_text.proofs.Ascending.{archive_from, ascending_after, below_a
 use Rattle.archive_text.proofs.Members.{of_member}
 use Rattle.archive_text.proofs.Texts.{text_goes_on, text_push}
 use Rattle.archive_streams.specs.EntryTexts.{entry_in, HoldsEntry, IsAbove}
-use Rattle.archive_streams.specs.Pieces.{HasFewCalls, ReadsOn, Reader, unused}
+use Rattle.octet_devices.specs.Device.{InputState}
+use Rattle.archive_streams.specs.Pieces.{HasFewCalls, ReadsOn, unused}
 use Rattle.archive_streams.specs.Sides.{Due, EndsWith, IsNextFault, IsSideStop, IsStopCause, ReadTo, Ready}
 use Rattle.archive_streams.specs.declared.entry.EntryText.{EntryText}
 use Rattle.archive_streams.specs.declared.fault.SideFault.{SideFault}
@@ -20,9 +22,12 @@ use Rattle.archive_streams.specs.declared.side.ArchiveReader.{ArchiveReader}
 use Rattle.archive_streams.proofs.NextEntries.{some_or_none}
 
 -- a reader is called as often as its calls are counted
-pub few_calls : (s : ArchiveReader) (d e : Reader) → (d.calls < 2 ^ 63 → e.calls ≡ d.calls + s.pieces.calls)
-    → HasFewCalls d e
-few_calls s d e h = λ low. omega (arith, h low, s.pieces.few)
+pub few_calls : (s : ArchiveReader) (d e : InputState) (x : List ℕ)
+    → (d.calls < 2 ^ 63 → e.calls ≡ d.calls + s.pieces.calls) → length x ≤ READ_MAX * s.pieces.calls → HasFewCalls d e x
+few_calls s d e x h far = record {
+  calls = λ low. omega (arith, h low, s.pieces.few);
+  octets = λ low. omega (arith, h low, far);
+}
 
 -- an entry above the last one is above all before it
 above_all : (ws : List Entry) (last : EntryText) (e : Entry) → EndsWith ws last → IsAscending ws → IsAbove last e
@@ -60,7 +65,7 @@ archive_on es last t ends archive h above =
         (ascending_after before (entry_in last) (entry_in t) (subst IsAscending same archive.ascending) below)
 
 -- what was given, and what was given then
-given_on : (s t : ArchiveReader) (d e f : Reader) (x : List ℕ) (es : List Entry) → ReadTo s d e x es
+given_on : (s t : ArchiveReader) (d e f : InputState) (x : List ℕ) (es : List Entry) → ReadTo s d e x es
     → (r : ReadsOn s.pieces t.pieces e f (unused s.pieces) (t.entry.text.items ++ unused t.pieces))
     → x ++ r.more ≡ text_of es ++ (t.entry.text.items ++ unused t.pieces)
 given_on s t d e f x es read r =
@@ -68,7 +73,7 @@ given_on s t d e f x es read r =
     ∙ ap (λ (u : List ℕ). text_of es ++ u) (sym r.grown)
 
 -- the next entry was read
-pub read_next : (s t : ArchiveReader) (d e f : Reader) (x : List ℕ) (es : List Entry) (last : EntryText)
+pub read_next : (s t : ArchiveReader) (d e f : InputState) (x : List ℕ) (es : List Entry) (last : EntryText)
     → ReadTo s d e x es → EndsWith es last → HoldsEntry t.entry → IsAbove last (entry_in t.entry)
     → (r : ReadsOn s.pieces t.pieces e f (unused s.pieces) (t.entry.text.items ++ unused t.pieces))
     → t.position ≡ s.position + length t.entry.text.items
@@ -86,6 +91,7 @@ read_next s t d e f x es last read ends h above r position = record {
     length-append (text_of es) (entry_text (entry_in t.entry)),
     ap length h.text_is,
   );
+  far = omega (arith, read.far, r.far, length-append x r.more);
   calls = λ low.
       let first = read.calls low in
       omega (arith, first, r.calls (omega (arith, low, first)));
@@ -96,7 +102,7 @@ read_next s t d e f x es last read ends h above r position = record {
 }
 
 -- the end was found
-pub read_end : (s t : ArchiveReader) (d e f : Reader) (x : List ℕ) (es : List Entry) → ReadTo s d e x es
+pub read_end : (s t : ArchiveReader) (d e f : InputState) (x : List ℕ) (es : List Entry) → ReadTo s d e x es
     → (r : ReadsOn s.pieces t.pieces e f (unused s.pieces) (t.entry.text.items ++ unused t.pieces))
     → t.entry.text.items ≡ [] → t.position ≡ s.position + length t.entry.text.items → ReadTo t d f (x ++ r.more) es
 read_end s t d e f x es read r none position = record {
@@ -104,6 +110,7 @@ read_end s t d e f x es read r none position = record {
   parts = given_on s t d e f x es read r ∙ ap (λ (u : List ℕ). text_of es ++ (u ++ unused t.pieces)) none;
   archive = read.archive;
   position = omega (arith, position, read.position, ap length none);
+  far = omega (arith, read.far, r.far, length-append x r.more);
   calls = λ low.
       let first = read.calls low in
       omega (arith, first, r.calls (omega (arith, low, first)));
@@ -114,7 +121,7 @@ read_end s t d e f x es read r none position = record {
 }
 
 -- a side is ready again
-pub ready_next : (s t : ArchiveReader) (d e f : Reader) (es ws : List Entry) (last : EntryText) → Due s d e es last
+pub ready_next : (s t : ArchiveReader) (d e f : InputState) (es ws : List Entry) (last : EntryText) → Due s d e es last
     → EndsWith ws last → IsAscending ws → HoldsEntry t.entry → IsAbove last (entry_in t.entry)
     → ReadsOn s.pieces t.pieces e f (unused s.pieces) (t.entry.text.items ++ unused t.pieces)
     → t.position ≡ s.position + length t.entry.text.items → Ready t d f es ws
@@ -125,7 +132,7 @@ ready_next s t d e f es ws last due ends up h above r position = record {
   place = inl (h, refl, above_all ws last (entry_in t.entry) ends up above);
 }
 
-pub ready_end : (s t : ArchiveReader) (d e f : Reader) (es ws : List Entry) (last : EntryText) → Due s d e es last
+pub ready_end : (s t : ArchiveReader) (d e f : InputState) (es ws : List Entry) (last : EntryText) → Due s d e es last
     → ReadsOn s.pieces t.pieces e f (unused s.pieces) (t.entry.text.items ++ unused t.pieces)
     → t.position ≡ s.position + length t.entry.text.items
     → (t.entry.text.items ≡ []) × (unused t.pieces ≡ []) × (0 < t.pieces.ends) → Ready t d f es ws
@@ -150,7 +157,7 @@ stop_cause (Input Device) s t x rest es last archive ends position parts wrong =
 stop_cause (Input Endless) s t x rest es last archive ends position parts wrong = wrong
 
 -- a side stops
-pub side_stops : (fault : SideFault) (s t : ArchiveReader) (d e f : Reader) (es : List Entry) (last : EntryText)
+pub side_stops : (fault : SideFault) (s t : ArchiveReader) (d e f : InputState) (es : List Entry) (last : EntryText)
     → Due s d e es last → ReadsOn s.pieces t.pieces e f (unused s.pieces) (t.entry.text.items ++ unused t.pieces)
     → IsNextFault fault last s.position (t.entry.text.items ++ unused t.pieces) t.pieces → IsSideStop fault t d f es
 side_stops fault s t d e f es last due r wrong =
@@ -164,6 +171,7 @@ side_stops fault s t d e f es last due r wrong =
       archive = due.read.archive;
       cause = stop_cause fault s t (due.x ++ r.more) rest es last due.read.archive due.ends due.read.position parts
           wrong;
+      far = omega (arith, due.read.far, r.far, length-append due.x r.more);
       calls = λ low.
           let first = due.read.calls low in
           omega (arith, first, r.calls (omega (arith, low, first)));

@@ -2,18 +2,18 @@
 use Rattle.std.proofs.Common.{◌≡◌, ℕ, List, Option, take, drop, refl, sym, subst, arith}
 use Rattle.std.specs.Io.KnownBytes.{Appends}
 use Rattle.std.proofs.lemmas.List.{length-take, take-append-drop}
-use Rattle.held_output.specs.Held.{Carries, Held, StopsWithin}
-use Rattle.held_output.proofs.Carrying.{StopsWithin-take}
+use Rattle.octet_devices.specs.Held.{Carries, Held, StopsWithin}
+use Rattle.octet_devices.proofs.Carrying.{StopsWithin-take}
 use Rattle.archive_streams.specs.Halted.{Halted, IsNotWrite, IsUnderWay}
 use Rattle.archive_streams.specs.Joining.{IsPrefixOfUnion}
-use Rattle.archive_streams.specs.Pieces.{Reader}
+use Rattle.octet_devices.specs.Device.{InputState}
 use Rattle.archive_streams.specs.Stopped.{IsSent, Stopped}
 use Rattle.archive_streams.specs.declared.fault.MergeFault.{MergeFault}
 use Rattle.archive_streams.specs.declared.fault.MergeFault.TheVariants.{Left, Right, Read, Endless, Write, Memory}
 use Rattle.archive_streams.proofs.Joining.{shorter_prefix}
 
 -- the writer took so many octets
-pub stopped_sent : (sent : ℕ) (held : Held) (dl el dr er : Reader) (start now : Option (List ℕ))
+pub stopped_sent : (sent : ℕ) (held : Held) (dl el dr er : InputState) (start now : Option (List ℕ))
     → Halted (Write sent) held dl el dr er start now → Stopped (Write sent) dl el dr er start now
 stopped_sent sent held dl el dr er start now h =
     let taken = StopsWithin-take start now h.text sent h.under_way h.short in
@@ -32,7 +32,7 @@ stopped_sent sent held dl el dr er start now h =
       sent = omega (arith, length-take sent h.text, taken.0);
     }
 
-pub stopped_write : (fault : MergeFault) (sent : ℕ) (held : Held) (dl el dr er : Reader) (start now : Option (List ℕ))
+pub stopped_write : (fault : MergeFault) (sent : ℕ) (held : Held) (dl el dr er : InputState) (start now : Option (List ℕ))
     → fault ≡ Write sent → Halted fault held dl el dr er start now
     → Stopped (Write sent) dl el dr er start now
 stopped_write fault sent held dl el dr er start now same h =
@@ -66,7 +66,7 @@ none_sent (Endless side) written other = tt
 none_sent Memory written other = tt
 
 -- what is held back is written before a fault is told
-pub stopped_whole : (fault : MergeFault) (held : Held) (dl el dr er : Reader) (start now after : Option (List ℕ))
+pub stopped_whole : (fault : MergeFault) (held : Held) (dl el dr er : InputState) (start now after : Option (List ℕ))
     → IsNotWrite fault → ((text : List ℕ) → Carries start now held text → Appends start after text)
     → Halted fault held dl el dr er start now → Stopped fault dl el dr er start after
 stopped_whole fault held dl el dr er start now after other whole h = record {
@@ -84,7 +84,7 @@ stopped_whole fault held dl el dr er start now after other whole h = record {
 }
 
 -- or the writer fails before it is told
-pub stopped_before : (fault : MergeFault) (held : Held) (dl el dr er : Reader) (start now after : Option (List ℕ))
+pub stopped_before : (fault : MergeFault) (held : Held) (dl el dr er : InputState) (start now after : Option (List ℕ))
     (sent : ℕ) → IsNotWrite fault → ((text : List ℕ) → Carries start now held text → StopsWithin start after text sent)
     → Halted fault held dl el dr er start now → Stopped (Write sent) dl el dr er start after
 stopped_before fault held dl el dr er start now after sent other stops h =

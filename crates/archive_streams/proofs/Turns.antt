@@ -1,6 +1,6 @@
 -- Numbers of two archives on their way into one.
 use Rattle.std.proofs.Common.{◌≡◌, ℕ, ◌+◌, ◌<◌, List, [], ◌∷◌, length, refl, sym, ap, subst, arith, inl, inr}
-use Rattle.std.specs.Prelude.{◌≢◌, Result, Ok, Err, IfErr, IfOk, IsErrAnd, OnOk}
+use Rattle.std.specs.Prelude.{◌≢◌, Result, Ok, Err, IfErr, IfOk, IsErrAnd, MatchResult, OnOk}
 use Rattle.std.specs.declared.cmp.Ordering.{Ordering}
 use Rattle.std.specs.declared.cmp.Ordering.TheVariants.{Less, Equal, Greater}
 use Rattle.archive_text.specs.Entries.{IsOrder}
@@ -56,6 +56,12 @@ if_ok_then (Err e) P Q h f = tt
 pub on_ok_then : {T E : Type 0} (r : Result T E) (P Q : Type 0) → OnOk r P → (P → Q) → OnOk r Q
 on_ok_then (Ok x) P Q h f = f h
 on_ok_then (Err e) P Q h f = tt
+
+-- the same of both outcomes
+pub run_outcome : {T E : Type 0} (r : Result T E) (P Q : T → Type 0) (F H : E → Type 0) → IfOk r P → IfErr r F
+    → ((x : T) → P x → Q x) → ((x : E) → F x → H x) → MatchResult r Q H
+run_outcome (Ok x) P Q F H ok err f h = f x ok
+run_outcome (Err x) P Q F H ok err f h = h x err
 
 -- what holds of the fault of a `?`
 pub at_err : {T E : Type 0} (r : Result T E) (e : E) (P : E → Type 0) → IsErrAnd r (λ x. x ≡ e) → P e → IfErr r P

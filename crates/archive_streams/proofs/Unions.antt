@@ -6,40 +6,43 @@ use Rattle.archive_text.proofs.Ascending.{ascending_appended, below_last}
 use Rattle.archive_text.proofs.Members.{has_either, has_left, has_right, of_all, of_member}
 use Rattle.archive_streams.specs.EntryTexts.{entry_in}
 use Rattle.archive_streams.specs.Joining.{IsUnion, IsWithin}
-use Rattle.archive_streams.specs.Pieces.{Reader, unused}
+use Rattle.octet_devices.specs.Device.{InputState}
+use Rattle.archive_streams.specs.Pieces.{unused}
 use Rattle.archive_streams.specs.Sides.{Due, EndsWith, IsNextOrEnd, Ready}
 use Rattle.archive_streams.specs.declared.entry.EntryText.{EntryText}
 use Rattle.archive_streams.specs.declared.side.ArchiveReader.{ArchiveReader}
 use Rattle.archive_streams.proofs.Joining.{AllBelow, SideAt, Standing}
 use Rattle.archive_streams.proofs.NextEntries.{some_or_none}
 
+-- the members of both, and no other
+union_from : (ls rs ws : List Entry) → IsAscending ws → ((e : Entry) → Has ls e → Has ws e)
+    → ((e : Entry) → Has rs e → Has ws e) → ((e : Entry) → Has ws e → Has ls e ⊎ Has rs e) → IsUnion ls rs ws
+union_from ls rs ws up left right only =
+    record { ascending = up; members = λ e. (only e, λ h. elim h [ inl k ↦ left e k | inr k ↦ right e k ]) }
+
 -- nothing is joined yet
 pub union_nil : IsUnion [] [] []
-union_nil = record { ascending = tt; left = λ e h. h; right = λ e h. h; only = λ e h. inl h }
+union_nil = union_from [] [] [] tt (λ e h. h) (λ e h. h) (λ e h. inl h)
 
 -- an entry of one side, above all that was joined
 pub union_left : (ls rs ws : List Entry) (w : Entry) → IsUnion ls rs ws → AllBelow ws w
     → IsUnion (ls ++ w ∷ []) rs (ws ++ w ∷ [])
-union_left ls rs ws w u below = record {
-  ascending = ascending_appended ws w u.ascending (of_all (λ x. IsBelow x w) ws below);
-  left = λ e h. elim (has_either ls (w ∷ []) e h)
-      [ inl k ↦ has_left ws (w ∷ []) e (u.left e k) | inr k ↦ has_right ws (w ∷ []) e k ];
-  right = λ e h. has_left ws (w ∷ []) e (u.right e h);
-  only = λ e h.
-      elim (has_either ws (w ∷ []) e h) [
-        | inl k ↦ elim (u.only e k) [ inl l ↦ inl (has_left ls (w ∷ []) e l) | inr r ↦ inr r ]
-        | inr k ↦ inl (has_right ls (w ∷ []) e k)
-      ];
-}
+union_left ls rs ws w u below =
+    union_from (ls ++ w ∷ []) rs (ws ++ w ∷ [])
+    (ascending_appended ws w u.ascending (of_all (λ x. IsBelow x w) ws below))
+    (λ e h. elim (has_either ls (w ∷ []) e h)
+    [ inl k ↦ has_left ws (w ∷ []) e ((u.members e).1 (inl k)) | inr k ↦ has_right ws (w ∷ []) e k ])
+    (λ e h. has_left ws (w ∷ []) e ((u.members e).1 (inr h)))
+    (λ e h.
+    elim (has_either ws (w ∷ []) e h) [
+      | inl k ↦ elim ((u.members e).0 k) [ inl l ↦ inl (has_left ls (w ∷ []) e l) | inr r ↦ inr r ]
+      | inr k ↦ inl (has_right ls (w ∷ []) e k)
+    ])
 
 pub turned : (ls rs ws : List Entry) → IsUnion ls rs ws → IsUnion rs ls ws
-turned ls rs ws u = record {
-  ascending = u.ascending;
-  left = u.right;
-  right = u.left;
-  only =
-      λ e h. elim (u.only e h) [ inl k ↦ inr k | inr k ↦ inl k ];
-}
+turned ls rs ws u =
+    union_from rs ls ws u.ascending (λ e h. (u.members e).1 (inr h)) (λ e h. (u.members e).1 (inl h))
+    (λ e h. elim ((u.members e).0 h) [ inl k ↦ inr k | inr k ↦ inl k ])
 
 pub union_right : (ls rs ws : List Entry) (w : Entry) → IsUnion ls rs ws → AllBelow ws w
     → IsUnion ls (rs ++ w ∷ []) (ws ++ w ∷ [])
@@ -51,13 +54,10 @@ pub union_both : (ls rs ws : List Entry) (w : Entry) → IsUnion ls rs ws → Al
     → IsUnion (ls ++ w ∷ []) (rs ++ w ∷ []) (ws ++ w ∷ [])
 union_both ls rs ws w u below =
     let l = union_left ls rs ws w u below in
-    record {
-      ascending = l.ascending;
-      left = l.left;
-      right = λ e h. elim (has_either rs (w ∷ []) e h)
-          [ inl k ↦ has_left ws (w ∷ []) e (u.right e k) | inr k ↦ has_right ws (w ∷ []) e k ];
-      only = λ e h. elim (l.only e h) [ inl k ↦ inl k | inr k ↦ inr (has_left rs (w ∷ []) e k) ];
-    }
+    union_from (ls ++ w ∷ []) (rs ++ w ∷ []) (ws ++ w ∷ []) l.ascending (λ e h. (l.members e).1 (inl h))
+    (λ e h. elim (has_either rs (w ∷ []) e h)
+    [ inl k ↦ has_left ws (w ∷ []) e ((u.members e).1 (inr k)) | inr k ↦ has_right ws (w ∷ []) e k ])
+    (λ e h. elim ((l.members e).0 h) [ inl k ↦ inl k | inr k ↦ inr (has_left rs (w ∷ []) e k) ])
 
 -- what was joined is below an entry, and so is one more
 pub below_more_joined : (ws : List Entry) (w e : Entry) → AllBelow ws e → IsBelow w e → AllBelow (ws ++ w ∷ []) e
@@ -68,7 +68,7 @@ below_more_joined ws w e below less v h = elim (has_either ws (w ∷ []) v h) [ 
     one (inr none) = absurd none
 
 -- a side whose next entry is known
-pub side_ready : (s : ArchiveReader) (d e : Reader) (ls ws : List Entry) → (r : Ready s d e ls ws) → SideAt r.x ls ws
+pub side_ready : (s : ArchiveReader) (d e : InputState) (ls ws : List Entry) → (r : Ready s d e ls ws) → SideAt r.x ls ws
 side_ready s d e ls ws r = record {
   es = r.es;
   rest = unused s.pieces;
@@ -86,7 +86,7 @@ side_ready s d e ls ws r = record {
 abbrev pub IsAhead : List Entry → List Entry → List Entry → List ℕ → Type 0
 IsAhead es ls ws rest = ((e : Entry) × (es ≡ ls ++ e ∷ []) × AllBelow ws e) ⊎ ((es ≡ ls) × (rest ≡ []))
 
-pub side_ahead : (s : ArchiveReader) (d e : Reader) (ls ws : List Entry) → (r : Ready s d e ls ws)
+pub side_ahead : (s : ArchiveReader) (d e : InputState) (ls ws : List Entry) → (r : Ready s d e ls ws)
     → IsAhead (side_ready s d e ls ws r).es ls ws (side_ready s d e ls ws r).rest
 unfolding side_ready
 side_ahead s d e ls ws r = placed r.place
@@ -124,7 +124,7 @@ all_within ls ws last of_side of_all_joined up w h =
     )
 
 -- a side all of whose entries were joined
-pub side_due : (s : ArchiveReader) (d e : Reader) (ls ws : List Entry) (last : EntryText) → (r : Due s d e ls last)
+pub side_due : (s : ArchiveReader) (d e : InputState) (ls ws : List Entry) (last : EntryText) → (r : Due s d e ls last)
     → EndsWith ws last → IsAscending ws → SideAt r.x ls ws
 side_due s d e ls ws last r of_all_joined up = record {
   es = ls;

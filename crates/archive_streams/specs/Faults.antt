@@ -1,7 +1,7 @@
 -- Why no entry comes next.
 use Rattle.std.specs.Prelude.{◌≡◌, ℕ, ◌<◌, List, length, Result, Ok, Err}
-use Rattle.syslog_value.specs.Device.{count_on}
-use Rattle.syslog_value.specs.declared.loops.TheConstants.{READER_CALLS}
+use Rattle.octet_devices.specs.Device.{count_on}
+use Rattle.octet_devices.specs.declared.loops.TheConstants.{READER_CALLS}
 use Rattle.archive_text.specs.Faults.{IsBadFrame, IsFaultBefore}
 use Rattle.archive_text.specs.declared.limits.TheConstants.{ENTRY_MAX}
 use Rattle.archive_text.specs.Positions.{position_of}

@@ -1,9 +1,10 @@
 -- Two archives on their way into one, where a fault halts them.
 use Rattle.std.specs.Prelude.{ℕ, ◌^◌, ◌<◌, List, Option, length}
 use Rattle.std.specs.Io.KnownBytes.{Consumes}
-use Rattle.held_output.specs.Held.{Carries, Held, StopsWithin}
+use Rattle.octet_devices.specs.Held.{Carries, Held, StopsWithin}
 use Rattle.archive_streams.specs.Joining.{IsPrefixOfUnion}
-use Rattle.archive_streams.specs.Pieces.{HasFewCalls, Reader}
+use Rattle.octet_devices.specs.Device.{InputState}
+use Rattle.archive_streams.specs.Pieces.{HasFewCalls}
 use Rattle.archive_streams.specs.Stopped.{IsInputFault}
 use Rattle.archive_streams.specs.declared.fault.MergeFault.{MergeFault}
 use Rattle.archive_streams.specs.declared.fault.MergeFault.TheVariants.{Left, Right, Read, Endless, Write, Memory}
@@ -27,14 +28,14 @@ IsNotWrite (Endless side) = Unit {0}
 IsNotWrite Memory = Unit {0}
 
 -- what was read of the two sides, and the text of what was joined
-pub record Halted (fault : MergeFault) (held : Held) (dl el dr er : Reader) (start now : Option (List ℕ)) : Type 0 where
+pub record Halted (fault : MergeFault) (held : Held) (dl el dr er : InputState) (start now : Option (List ℕ)) : Type 0 where
   pub x : List ℕ
   pub y : List ℕ
   pub text : List ℕ
   pub left : Consumes dl.left el.left x
   pub right : Consumes dr.left er.left y
-  pub left_calls : HasFewCalls dl el
-  pub right_calls : HasFewCalls dr er
+  pub left_calls : HasFewCalls dl el x
+  pub right_calls : HasFewCalls dr er y
   pub prefix : IsPrefixOfUnion x y text
   pub short : length text < 2 ^ 64
   pub under_way : IsUnderWay fault held start now text

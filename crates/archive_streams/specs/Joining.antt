@@ -2,6 +2,7 @@
 use Rattle.std.specs.Prelude.{◌≡◌, ℕ, ◌↔◌, ◌⊎◌, List, ◌++◌}
 use Rattle.archive_text.specs.Entries.{Entry, Has, IsAscending, IsBelow}
 use Rattle.archive_text.specs.Faults.{IsLongestArchive}
+use Rattle.archive_text.specs.Sets.{IsUnionOfEntries}
 use Rattle.archive_text.specs.Text.{text_of}
 use Rattle.archive_text.specs.declared.limits.TheConstants.{ENTRY_MAX}
 
@@ -12,9 +13,7 @@ IsWithin es e = (m : Entry) × Has es m × ((e ≡ m) ⊎ IsBelow e m)
 -- the ascending list of the members of both
 pub record IsUnion (xs ys zs : List Entry) : Type 0 where
   pub ascending : IsAscending zs
-  pub left : (e : Entry) → Has xs e → Has zs e
-  pub right : (e : Entry) → Has ys e → Has zs e
-  pub only : (e : Entry) → Has zs e → Has xs e ⊎ Has ys e
+  pub members : IsUnionOfEntries xs ys zs
 
 -- a prefix of the text of the union of the two fronts
 abbrev pub IsPrefixOfUnion : List ℕ → List ℕ → List ℕ → Type 0

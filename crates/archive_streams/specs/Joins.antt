@@ -2,9 +2,9 @@
 use Rattle.std.specs.Prelude.{◌≡◌, ℕ, ◌+◌, ◌≤◌, List, Option, length}
 use Rattle.archive_text.specs.Entries.{Entry}
 use Rattle.archive_text.specs.Text.{text_of}
-use Rattle.held_output.specs.Held.{Carries}
+use Rattle.octet_devices.specs.Held.{Carries}
 use Rattle.archive_streams.specs.Joining.{IsUnion}
-use Rattle.archive_streams.specs.Pieces.{Reader}
+use Rattle.octet_devices.specs.Device.{InputState}
 use Rattle.archive_streams.specs.Sides.{Due, EndsWith, Ready}
 use Rattle.archive_streams.specs.declared.merge.Merge.{Merge}
 
@@ -17,7 +17,7 @@ pub record Joins (m : Merge) (ls rs ws : List Entry) (start now : Option (List �
   pub count : m.count ≡ length ws
 
 -- the next entry of each side is known
-pub record Merging (m : Merge) (dl el dr er : Reader) (start now : Option (List ℕ)) : Type 0 where
+pub record Merging (m : Merge) (dl el dr er : InputState) (start now : Option (List ℕ)) : Type 0 where
   pub ls : List Entry
   pub rs : List Entry
   pub ws : List Entry
@@ -26,7 +26,7 @@ pub record Merging (m : Merge) (dl el dr er : Reader) (start now : Option (List 
   pub joins : Joins m ls rs ws start now
 
 -- the next entry of the left is to be read
-pub record LeftDue (m : Merge) (dl el dr er : Reader) (start now : Option (List ℕ)) : Type 0 where
+pub record LeftDue (m : Merge) (dl el dr er : InputState) (start now : Option (List ℕ)) : Type 0 where
   pub ls : List Entry
   pub rs : List Entry
   pub ws : List Entry
@@ -35,7 +35,7 @@ pub record LeftDue (m : Merge) (dl el dr er : Reader) (start now : Option (List 
   pub joins : Joins m ls rs ws start now
 
 -- the next entry of the right is to be read
-pub record RightDue (m : Merge) (dl el dr er : Reader) (start now : Option (List ℕ)) : Type 0 where
+pub record RightDue (m : Merge) (dl el dr er : InputState) (start now : Option (List ℕ)) : Type 0 where
   pub ls : List Entry
   pub rs : List Entry
   pub ws : List Entry
@@ -44,7 +44,7 @@ pub record RightDue (m : Merge) (dl el dr er : Reader) (start now : Option (List
   pub joins : Joins m ls rs ws start now
 
 -- the next entries of both sides are to be read
-pub record BothDue (m : Merge) (dl el dr er : Reader) (start now : Option (List ℕ)) : Type 0 where
+pub record BothDue (m : Merge) (dl el dr er : InputState) (start now : Option (List ℕ)) : Type 0 where
   pub ls : List Entry
   pub rs : List Entry
   pub ws : List Entry

@@ -10,3 +10,4 @@ pub mod Joins
 pub mod Joined
 pub mod Stopped
 pub mod Halted
+pub mod Steps

@@ -3,7 +3,7 @@ use Rattle.std.specs.Prelude.{◌≡◌, ◌≢◌, ℕ, ◌+◌, ◌-◌, ◌^�
 use Rattle.std.specs.Prelude.{Ok, Err}
 use Rattle.std.specs.declared.cmp.Ordering.{Ordering}
 use Rattle.std.specs.declared.cmp.Ordering.TheVariants.{Less, Equal, Greater}
-use Rattle.syslog_value.specs.Device.{count_on}
+use Rattle.octet_devices.specs.Device.{count_on}
 use Rattle.archive_text.specs.Entries.{IsBelow}
 use Rattle.archive_streams.specs.EntryTexts.{entry_in}
 use Rattle.archive_streams.specs.Sides.{IsNear}

@@ -1,9 +1,8 @@
 -- What a reader gave and was not yet used, and what its calls do to its counts.
-use Rattle.std.specs.Prelude.{◌≡◌, ℕ, ◌+◌, ◌-◌, ◌*◌, ◌^◌, ◌<◌, ◌≤◌, List, ◌++◌, length, take, drop, Option, Result, Ok}
-use Rattle.std.specs.Prelude.{Err}
+use Rattle.std.specs.Prelude.{◌≡◌, ℕ, ◌+◌, ◌-◌, ◌*◌, ◌^◌, ◌<◌, ◌≤◌, List, ◌++◌, length, take, drop, Result, Ok, Err}
 use Rattle.std.specs.Io.KnownBytes.{Consumes, IsAtEnd}
-use Rattle.syslog_value.specs.Device.{count_on}
-use Rattle.syslog_value.specs.declared.loops.TheConstants.{READ_MAX, READER_CALLS}
+use Rattle.octet_devices.specs.Device.{InputState, count_on}
+use Rattle.octet_devices.specs.declared.loops.TheConstants.{READ_MAX, READER_CALLS}
 use Rattle.archive_streams.specs.declared.fault.InputFault.{InputFault}
 use Rattle.archive_streams.specs.declared.fault.InputFault.TheVariants.{Device, Endless}
 use Rattle.archive_streams.specs.declared.pieces.Pieces.{Pieces}
@@ -12,22 +11,14 @@ use Rattle.archive_streams.specs.declared.pieces.Pieces.{Pieces}
 abbrev pub unused : Pieces → List ℕ
 unused p = take (p.end - p.start) (drop p.start p.piece)
 
--- what a reader tells: its octets, its calls, and how often it gave the end
-pub record Reader : Type 0 where
-  pub left : Option (List ℕ)
-  pub calls : ℕ
-  pub ends : ℕ
-
-abbrev pub device : Option (List ℕ) → ℕ → ℕ → Reader
-device left calls ends = record { left = left; calls = calls; ends = ends }
-
--- a reader was called as often as it may be, at most
-abbrev pub HasFewCalls : Reader → Reader → Type 0
-HasFewCalls d e = d.calls < 2 ^ 63 → e.calls ≤ d.calls + READER_CALLS
+-- a reader that gave these octets was called so often at most, and for READ_MAX octets a call at most
+pub record HasFewCalls (d e : InputState) (given : List ℕ) : Type 0 where
+  pub calls : d.calls < 2 ^ 63 → e.calls ≤ d.calls + READER_CALLS
+  pub octets : d.calls < 2 ^ 63 → length given + READ_MAX * d.calls ≤ READ_MAX * e.calls
 
 -- a reader gave octets, which follow those before; its calls and the ends that it gave were
 -- counted, where its own count cannot come to its last value; and behind an end nothing is left
-pub record ReadsOn (p q : Pieces) (d e : Reader) (before after : List ℕ) : Type 0 where
+pub record ReadsOn (p q : Pieces) (d e : InputState) (before after : List ℕ) : Type 0 where
   pub more : List ℕ
   pub consumed : Consumes d.left e.left more
   pub grown : after ≡ before ++ more

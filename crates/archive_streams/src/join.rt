@@ -1,22 +1,19 @@
 //! Two archives are joined.
 
-ghost use Rattle.std.specs.Prelude.{◌≡◌, ◌^◌, ◌<◌, ℕ, [], List, Option};
-ghost use Rattle.std.specs.Prelude.{IfErr, IfOk, IsErrOf, OnOk};
-ghost use Rattle.archive_streams.specs.Halted.{Halted, IsNotWrite};
+ghost use Rattle.std.specs.Prelude.{◌≡◌, ◌<◌, [], IfErr, IfOk, IsErrOf, MatchResult, OnOk};
 ghost use Rattle.archive_streams.specs.Joined.{Joined};
-ghost use Rattle.archive_streams.specs.Joins.{BothDue, Merging};
 ghost use Rattle.archive_streams.specs.Merging.{HasRoom, IsLeftDue, IsNextOrder, IsSteady};
-ghost use Rattle.archive_streams.specs.Merging.{LeftFailures, LeftReadFailed, OnlyWrite};
-ghost use Rattle.archive_streams.specs.Merging.{RightFailures, RightReadFailed, WriteFailed};
 ghost use Rattle.archive_streams.specs.Merging.{height, rank};
-ghost use Rattle.archive_streams.specs.Pieces.{Reader, device};
+ghost use Rattle.archive_streams.specs.Steps.{AreJoined, FinishFails, IsFinished, IsTurned};
+ghost use Rattle.archive_streams.specs.Steps.{JoinHalts, RunJoins, RunStops, TellsDevice};
+ghost use Rattle.archive_streams.specs.Steps.{TellsFailures, TellsWriter, TurnHalts};
 ghost use Rattle.archive_streams.specs.Stopped.{Stopped};
 
 use crate::fault::{MergeFault, Side};
 use crate::merge::Merge;
+use octet_devices::{Input, Output, WriteFault};
 use std::alloc::Global;
 use std::cmp::Ordering;
-use syslog_value::{Input, Output, WriteFault};
 
 impl Merge {
     /// Writes the next entry, and reads the next one of each side that it was of.
@@ -31,28 +28,15 @@ impl Merge {
         requires order { IsNextOrder order self.old }
         ensures steady { OnOk result (IsSteady self.new) }
         ensures falls { OnOk result (height self.new < height self.old) }
-        ensures joins { OnOk result ((dl dr : Reader) (start : Option (List ℕ)) →
-            Merging self.old dl
-            (device (R1.left left.old) (R1.calls left.old) (R1.ends left.old)) dr
-            (device (R2.left right.old) (R2.calls right.old) (R2.ends right.old))
-            start (W.taken writer.old) →
-            Merging self.new dl
-            (device (R1.left left.new) (R1.calls left.new) (R1.ends left.new)) dr
-            (device (R2.left right.new) (R2.calls right.new) (R2.ends right.new))
-            start (W.taken writer.new)) }
-        ensures halted { IfErr result (λ fault. (dl dr : Reader) (start : Option (List ℕ)) →
-            Merging self.old dl
-            (device (R1.left left.old) (R1.calls left.old) (R1.ends left.old)) dr
-            (device (R2.left right.old) (R2.calls right.old) (R2.ends right.old))
-            start (W.taken writer.old) →
-            Halted fault self.new.held dl
-            (device (R1.left left.new) (R1.calls left.new) (R1.ends left.new)) dr
-            (device (R2.left right.new) (R2.calls right.new) (R2.ends right.new))
-            start (W.taken writer.new)) }
-        ensures left { LeftFailures result (R1.failures left.old) (R1.failures left.new) }
-        ensures right { RightFailures result (R2.failures right.old) (R2.failures right.new) }
-        ensures writer { WriteFailed result (W.failures writer.old) (W.failures writer.new) }
-        ensures not_memory { ¬ (IsErrOf result MergeFault.Memory) }
+        ensures joins { OnOk result (IsTurned self.old self.new
+            (R1.state left.old) (R1.state left.new) (R2.state right.old)
+            (R2.state right.new) (W.state writer.old) (W.state writer.new)) }
+        ensures halted { IfErr result (λ fault. TurnHalts fault self.old self.new
+            (R1.state left.old) (R1.state left.new) (R2.state right.old)
+            (R2.state right.new) (W.state writer.old) (W.state writer.new)) }
+        ensures told { TellsDevice result
+            (R1.state left.old) (R1.state left.new) (R2.state right.old)
+            (R2.state right.new) (W.state writer.old) (W.state writer.new) }
     {
         match order {
             Ordering::Less => {
@@ -82,28 +66,15 @@ impl Merge {
         requires empty { self.old.right.entry.text.items ≡ [] }
         ensures done { OnOk result (rank self.new ≡ 0) }
         ensures room { OnOk result (HasRoom self.new) }
-        ensures joins { OnOk result ((dl dr : Reader) (start : Option (List ℕ)) →
-            BothDue self.old dl
-            (device (R1.left left.old) (R1.calls left.old) (R1.ends left.old)) dr
-            (device (R2.left right.old) (R2.calls right.old) (R2.ends right.old))
-            start (W.taken writer.old) →
-            Merging self.new dl
-            (device (R1.left left.new) (R1.calls left.new) (R1.ends left.new)) dr
-            (device (R2.left right.new) (R2.calls right.new) (R2.ends right.new))
-            start (W.taken writer.new)) }
-        ensures halted { IfErr result (λ fault. (dl dr : Reader) (start : Option (List ℕ)) →
-            BothDue self.old dl
-            (device (R1.left left.old) (R1.calls left.old) (R1.ends left.old)) dr
-            (device (R2.left right.old) (R2.calls right.old) (R2.ends right.old))
-            start (W.taken writer.old) →
-            Halted fault self.new.held dl
-            (device (R1.left left.new) (R1.calls left.new) (R1.ends left.new)) dr
-            (device (R2.left right.new) (R2.calls right.new) (R2.ends right.new))
-            start (W.taken writer.new)) }
-        ensures left { LeftFailures result (R1.failures left.old) (R1.failures left.new) }
-        ensures right { RightFailures result (R2.failures right.old) (R2.failures right.new) }
-        ensures writer { WriteFailed result (W.failures writer.old) (W.failures writer.new) }
-        ensures not_memory { ¬ (IsErrOf result MergeFault.Memory) }
+        ensures joins { OnOk result (AreJoined self.old self.new
+            (R1.state left.old) (R1.state left.new) (R2.state right.old)
+            (R2.state right.new) (W.state writer.old) (W.state writer.new)) }
+        ensures halted { IfErr result (λ fault. JoinHalts fault self.old self.new
+            (R1.state left.old) (R1.state left.new) (R2.state right.old)
+            (R2.state right.new) (W.state writer.old) (W.state writer.new)) }
+        ensures told { TellsDevice result
+            (R1.state left.old) (R1.state left.new) (R2.state right.old)
+            (R2.state right.new) (W.state writer.old) (W.state writer.new) }
     {
         self.advance_left(left)?;
         self.advance_right(right)?;
@@ -115,27 +86,11 @@ impl Merge {
 
     /// Writes what is held back, and answers how many entries were joined.
     fn finish<W: Output>(&mut self, writer: &mut W) -> Result<u64, MergeFault>
-        ensures joined { IfOk result (λ n. (dl el dr er : Reader) (start : Option (List ℕ)) →
-            rank self.old ≡ 0 →
-            Merging self.old dl el dr er start (W.taken writer.old) →
-            Joined dl el dr er start (W.taken writer.new) n) }
-        ensures stopped { IfErr result (λ fault. (dl el dr er : Reader) (start : Option (List ℕ)) →
-            HasRoom self.old →
-            Merging self.old dl el dr er start (W.taken writer.old) →
-            Stopped fault dl el dr er start (W.taken writer.new)) }
-        ensures halted { IfOk result (λ _. (fault : MergeFault) (dl el dr er : Reader)
-            (start : Option (List ℕ)) → IsNotWrite fault →
-            Halted fault self.old.held dl el dr er start (W.taken writer.old) →
-            Stopped fault dl el dr er start (W.taken writer.new)) }
-        ensures halted_stopped { IfErr result (λ write. (fault : MergeFault) (dl el dr er : Reader)
-            (start : Option (List ℕ)) → IsNotWrite fault →
-            Halted fault self.old.held dl el dr er start (W.taken writer.old) →
-            Stopped write dl el dr er start (W.taken writer.new)) }
-        ensures failures { WriteFailed result (W.failures writer.old) (W.failures writer.new) }
-        ensures only { OnlyWrite result }
-        ensures not_left { ¬ (IsErrOf result (MergeFault.Read Side.Left)) }
-        ensures not_right { ¬ (IsErrOf result (MergeFault.Read Side.Right)) }
-        ensures not_memory { ¬ (IsErrOf result MergeFault.Memory) }
+        ensures ok { IfOk result (λ n. IsFinished self.old (W.state writer.old)
+            (W.state writer.new) n) }
+        ensures err { IfErr result (λ fault. FinishFails fault self.old (W.state writer.old)
+            (W.state writer.new)) }
+        ensures told { TellsWriter result (W.state writer.old) (W.state writer.new) }
     {
         match self.held.finish(writer) {
             Ok(()) => Ok(self.count),
@@ -152,31 +107,15 @@ impl Merge {
     ) -> Result<u64, MergeFault>
         requires due { IsLeftDue self.old }
         requires empty { self.old.right.entry.text.items ≡ [] }
-        ensures joined { IfOk result (λ n. (dl dr : Reader) (start : Option (List ℕ)) →
-            BothDue self.old dl
-            (device (R1.left left.old) (R1.calls left.old) (R1.ends left.old)) dr
-            (device (R2.left right.old) (R2.calls right.old) (R2.ends right.old))
-            start (W.taken writer.old) →
-            Joined dl (device (R1.left left.new) (R1.calls left.new) (R1.ends left.new)) dr
-            (device (R2.left right.new) (R2.calls right.new) (R2.ends right.new))
-            start (W.taken writer.new) n) }
-        ensures stopped { IfErr result (λ fault. (dl dr : Reader) (start : Option (List ℕ)) →
-            BothDue self.old dl
-            (device (R1.left left.old) (R1.calls left.old) (R1.ends left.old)) dr
-            (device (R2.left right.old) (R2.calls right.old) (R2.ends right.old))
-            start (W.taken writer.old) →
-            Stopped fault dl (device (R1.left left.new) (R1.calls left.new) (R1.ends left.new)) dr
-            (device (R2.left right.new) (R2.calls right.new) (R2.ends right.new))
-            start (W.taken writer.new)) }
-        ensures left { LeftReadFailed result (R1.failures left.old) (R1.failures left.new) }
-        ensures right { RightReadFailed result (R2.failures right.old) (R2.failures right.new) }
-        ensures read_left { R1.failures left.old < 2 ^ 63 →
-            IsErrOf result (MergeFault.Read Side.Left) →
-            R1.failures left.old < R1.failures left.new }
-        ensures read_right { R2.failures right.old < 2 ^ 63 →
-            IsErrOf result (MergeFault.Read Side.Right) →
-            R2.failures right.old < R2.failures right.new }
-        ensures writer { WriteFailed result (W.failures writer.old) (W.failures writer.new) }
+        ensures joined { IfOk result (λ n. RunJoins self.old
+            (R1.state left.old) (R1.state left.new) (R2.state right.old)
+            (R2.state right.new) (W.state writer.old) (W.state writer.new) n) }
+        ensures stopped { IfErr result (λ fault. RunStops fault self.old
+            (R1.state left.old) (R1.state left.new) (R2.state right.old)
+            (R2.state right.new) (W.state writer.old) (W.state writer.new)) }
+        ensures told { TellsFailures result
+            (R1.state left.old) (R1.state left.new) (R2.state right.old)
+            (R2.state right.new) (W.state writer.old) (W.state writer.new) }
         ensures not_memory { ¬ (IsErrOf result MergeFault.Memory) }
     {
         let Err(fault) = self.join(left, right, writer) else {
@@ -208,32 +147,19 @@ pub fn merge_streams<R1: Input, R2: Input, W: Output>(
     right: &mut R2,
     writer: &mut W,
 ) -> Result<u64, MergeFault>
-    // both archives whole, and the text of their union
-    ensures joined { IfOk result (λ n. Joined
-        (device (R1.left left.old) (R1.calls left.old) (R1.ends left.old))
-        (device (R1.left left.new) (R1.calls left.new) (R1.ends left.new))
-        (device (R2.left right.old) (R2.calls right.old) (R2.ends right.old))
-        (device (R2.left right.new) (R2.calls right.new) (R2.ends right.new))
-        (W.taken writer.old) (W.taken writer.new) n) }
+    // both archives whole, and the text of their union; or what a fault says of what was read and
+    // written
+    ensures outcome { MatchResult result
+        (λ n. Joined (R1.state left.old) (R1.state left.new)
+        (R2.state right.old) (R2.state right.new)
+        (W.state writer.old).taken (W.state writer.new).taken n)
+        (λ fault. Stopped fault (R1.state left.old) (R1.state left.new)
+        (R2.state right.old) (R2.state right.new)
+        (W.state writer.old).taken (W.state writer.new).taken) }
 
-    // what each fault says of what was read and written
-    ensures stopped { IfErr result (λ fault. Stopped fault
-        (device (R1.left left.old) (R1.calls left.old) (R1.ends left.old))
-        (device (R1.left left.new) (R1.calls left.new) (R1.ends left.new))
-        (device (R2.left right.old) (R2.calls right.old) (R2.ends right.old))
-        (device (R2.left right.new) (R2.calls right.new) (R2.ends right.new))
-        (W.taken writer.old) (W.taken writer.new)) }
-
-    // a device's fault only where that device failed
-    ensures read_left { R1.failures left.old < 2 ^ 63 →
-        IsErrOf result (MergeFault.Read Side.Left) →
-        R1.failures left.old < R1.failures left.new }
-    ensures read_right { R2.failures right.old < 2 ^ 63 →
-        IsErrOf result (MergeFault.Read Side.Right) →
-        R2.failures right.old < R2.failures right.new }
-    ensures writer { WriteFailed result (W.failures writer.old) (W.failures writer.new) }
-    ensures left { LeftReadFailed result (R1.failures left.old) (R1.failures left.new) }
-    ensures right { RightReadFailed result (R2.failures right.old) (R2.failures right.new) }
+    // a device's fault just where that device failed
+    ensures told { TellsFailures result (R1.state left.old) (R1.state left.new)
+        (R2.state right.old) (R2.state right.new) (W.state writer.old) (W.state writer.new) }
 
     // out of memory only before anything is read or written
     ensures memory { IsErrOf result MergeFault.Memory → (left.new ≡ left.old)

@@ -1,25 +1,22 @@
 //! Two archives on their way into one, step by step.
 
-ghost use Rattle.std.specs.Prelude.{◌≡◌, ◌≢◌, ◌+◌, ℕ, [], length, List, Option};
-ghost use Rattle.std.specs.Prelude.{IfErr, IfOk, IsErrOf, MatchOption, OnOk};
-ghost use Rattle.archive_text.specs.Entries.{IsBelow};
-ghost use Rattle.archive_streams.specs.EntryTexts.{entry_in};
-ghost use Rattle.archive_streams.specs.Halted.{Halted};
-ghost use Rattle.archive_streams.specs.Joins.{BothDue, LeftDue, Merging, RightDue};
-ghost use Rattle.archive_streams.specs.Merging.{IsLeftDue, IsNextOrder, IsRightDue, IsSteady};
-ghost use Rattle.archive_streams.specs.Merging.{LeftFailures, NotWrite, OnlyWrite, RightFailures};
-ghost use Rattle.archive_streams.specs.Merging.{WriteFailed, rank};
-ghost use Rattle.archive_streams.specs.Pieces.{Reader, device};
+ghost use Rattle.std.specs.Prelude.{◌≡◌, ◌≢◌, [], List, Option, ℕ, IfErr, IfOk, MatchOption, OnOk};
+ghost use Rattle.octet_devices.specs.Device.{InputState};
+ghost use Rattle.archive_streams.specs.Joins.{BothDue};
+ghost use Rattle.archive_streams.specs.Merging.{IsLeftDue, IsNextOrder, IsRightDue, IsSteady, rank};
+ghost use Rattle.archive_streams.specs.Steps.{KeepsLeft, KeepsRight, LeftHalts, LeftIsOn, LeftReady};
+ghost use Rattle.archive_streams.specs.Steps.{LeftWriteHalts, LeftWritten, RightHalts, RightIsOn};
+ghost use Rattle.archive_streams.specs.Steps.{RightReady, RightWriteHalts, RightWritten, TakesLeft};
+ghost use Rattle.archive_streams.specs.Steps.{TakesRight, TellsLeft, TellsRight, TellsWriter};
 
 use crate::entry::EntryText;
 use crate::fault::{InputFault, MergeFault, Side, SideFault};
 use crate::side::ArchiveReader;
 use archive_text::compare;
-use held_output::HeldOutput;
+use octet_devices::{BufferedOutput, Input, Output, WriteFault};
 use std::alloc::{AllocError, Global};
 use std::cmp::Ordering;
 use std::mem::swap;
-use syslog_value::{Input, Output, WriteFault};
 
 /// Two archives on their way into one: what was read of each, the entry that was written last, what
 /// is held back of the text, and how many entries that has.
@@ -28,7 +25,7 @@ pub struct Merge {
     pub left: ArchiveReader,
     pub right: ArchiveReader,
     pub last: EntryText,
-    pub held: HeldOutput,
+    pub held: BufferedOutput,
     pub count: u64,
 }
 
@@ -37,14 +34,14 @@ impl Merge {
     pub fn new(alloc: Global) -> Result<Merge, AllocError>
         ensures due { IfOk result IsLeftDue }
         ensures empty { IfOk result (λ m. m.right.entry.text.items ≡ []) }
-        ensures both { IfOk result (λ m. (dl dr : Reader) (start : Option (List ℕ)) →
+        ensures both { IfOk result (λ m. (dl dr : InputState) (start : Option (List ℕ)) →
             BothDue m dl dl dr dr start start) }
     {
         Ok(Merge {
             left: ArchiveReader::new(alloc)?,
             right: ArchiveReader::new(alloc)?,
             last: EntryText::new(alloc)?,
-            held: HeldOutput::new(),
+            held: BufferedOutput::new(),
             count: 0,
         })
     }
@@ -70,36 +67,13 @@ impl Merge {
     /// Reads the next entry of the left, or finds its end.
     pub fn advance_left<R: Input>(&mut self, left: &mut R) -> Result<(), MergeFault>
         requires { IsLeftDue self.old }
-        ensures steady { OnOk result (IsSteady self.new) }
-        ensures position { OnOk result (self.new.left.position
-            ≡ self.old.left.position + length self.new.left.entry.text.items) }
-        ensures right { self.new.right ≡ self.old.right }
-        ensures count { self.new.count ≡ self.old.count }
-        ensures failures { LeftFailures result (R.failures left.old) (R.failures left.new) }
-        ensures others { (n : ℕ) → RightFailures result n n }
-        ensures ready { OnOk result ((dl dr er : Reader) (start now : Option (List ℕ)) →
-            LeftDue self.old dl
-            (device (R.left left.old) (R.calls left.old) (R.ends left.old)) dr er start now →
-            Merging self.new dl
-            (device (R.left left.new) (R.calls left.new) (R.ends left.new)) dr er start now) }
-        ensures first { OnOk result ((dl dr er : Reader) (start now : Option (List ℕ)) →
-            BothDue self.old dl
-            (device (R.left left.old) (R.calls left.old) (R.ends left.old)) dr er start now →
-            RightDue self.new dl
-            (device (R.left left.new) (R.calls left.new) (R.ends left.new)) dr er start now) }
-        ensures halted { IfErr result (λ fault. (dl dr er : Reader) (start now : Option (List ℕ)) →
-            LeftDue self.old dl
-            (device (R.left left.old) (R.calls left.old) (R.ends left.old)) dr er start now →
-            Halted fault self.new.held dl
-            (device (R.left left.new) (R.calls left.new) (R.ends left.new)) dr er start now) }
-        ensures halted_first { IfErr result (λ fault.
-            (dl dr er : Reader) (start now : Option (List ℕ)) →
-            BothDue self.old dl
-            (device (R.left left.old) (R.calls left.old) (R.ends left.old)) dr er start now →
-            Halted fault self.new.held dl
-            (device (R.left left.new) (R.calls left.new) (R.ends left.new)) dr er start now) }
-        ensures not_written { NotWrite result }
-        ensures not_memory { ¬ (IsErrOf result MergeFault.Memory) }
+        ensures on { OnOk result (LeftIsOn self.old self.new) }
+        ensures kept { KeepsRight self.old self.new }
+        ensures told { TellsLeft result (R.state left.old) (R.state left.new) }
+        ensures ready { OnOk result (LeftReady self.old self.new
+            (R.state left.old) (R.state left.new)) }
+        ensures halted { IfErr result (λ fault. LeftHalts fault self.old self.new
+            (R.state left.old) (R.state left.new)) }
     {
         match self.left.advance(left, &self.last) {
             Ok(()) => Ok(()),
@@ -112,25 +86,13 @@ impl Merge {
     /// Reads the next entry of the right, or finds its end.
     pub fn advance_right<R: Input>(&mut self, right: &mut R) -> Result<(), MergeFault>
         requires { IsRightDue self.old }
-        ensures steady { OnOk result (IsSteady self.new) }
-        ensures position { OnOk result (self.new.right.position
-            ≡ self.old.right.position + length self.new.right.entry.text.items) }
-        ensures left { self.new.left ≡ self.old.left }
-        ensures count { self.new.count ≡ self.old.count }
-        ensures failures { RightFailures result (R.failures right.old) (R.failures right.new) }
-        ensures others { (n : ℕ) → LeftFailures result n n }
-        ensures ready { OnOk result ((dl el dr : Reader) (start now : Option (List ℕ)) →
-            RightDue self.old dl el dr
-            (device (R.left right.old) (R.calls right.old) (R.ends right.old)) start now →
-            Merging self.new dl el dr
-            (device (R.left right.new) (R.calls right.new) (R.ends right.new)) start now) }
-        ensures halted { IfErr result (λ fault. (dl el dr : Reader) (start now : Option (List ℕ)) →
-            RightDue self.old dl el dr
-            (device (R.left right.old) (R.calls right.old) (R.ends right.old)) start now →
-            Halted fault self.new.held dl el dr
-            (device (R.left right.new) (R.calls right.new) (R.ends right.new)) start now) }
-        ensures not_written { NotWrite result }
-        ensures not_memory { ¬ (IsErrOf result MergeFault.Memory) }
+        ensures on { OnOk result (RightIsOn self.old self.new) }
+        ensures kept { KeepsLeft self.old self.new }
+        ensures told { TellsRight result (R.state right.old) (R.state right.new) }
+        ensures ready { OnOk result (RightReady self.old self.new
+            (R.state right.old) (R.state right.new)) }
+        ensures halted { IfErr result (λ fault. RightHalts fault self.old self.new
+            (R.state right.old) (R.state right.new)) }
     {
         match self.right.advance(right, &self.last) {
             Ok(()) => Ok(()),
@@ -145,33 +107,12 @@ impl Merge {
         requires steady { IsSteady self.old }
         requires some { self.old.left.entry.text.items ≢ [] }
         ensures due { OnOk result (IsLeftDue self.new) }
-        ensures position { self.new.left.position ≡ self.old.left.position }
-        ensures right { self.new.right ≡ self.old.right }
-        ensures only { OnlyWrite result }
-        ensures less { OnOk result ((dl el dr er : Reader) (start : Option (List ℕ)) →
-            (self.old.right.entry.text.items ≢ [] →
-            IsBelow (entry_in self.old.left.entry) (entry_in self.old.right.entry)) →
-            Merging self.old dl el dr er start (W.taken writer.old) →
-            LeftDue self.new dl el dr er start (W.taken writer.new)) }
-        ensures equal { OnOk result ((dl el dr er : Reader) (start : Option (List ℕ)) →
-            self.old.right.entry.text.items ≢ [] →
-            entry_in self.old.left.entry ≡ entry_in self.old.right.entry →
-            Merging self.old dl el dr er start (W.taken writer.old) →
-            BothDue self.new dl el dr er start (W.taken writer.new)) }
-        ensures halted_less { IfErr result (λ fault.
-            (dl el dr er : Reader) (start : Option (List ℕ)) →
-            (self.old.right.entry.text.items ≢ [] →
-            IsBelow (entry_in self.old.left.entry) (entry_in self.old.right.entry)) →
-            Merging self.old dl el dr er start (W.taken writer.old) →
-            Halted fault self.new.held dl el dr er start (W.taken writer.new)) }
-        ensures halted_equal { IfErr result (λ fault.
-            (dl el dr er : Reader) (start : Option (List ℕ)) →
-            self.old.right.entry.text.items ≢ [] →
-            entry_in self.old.left.entry ≡ entry_in self.old.right.entry →
-            Merging self.old dl el dr er start (W.taken writer.old) →
-            Halted fault self.new.held dl el dr er start (W.taken writer.new)) }
-        ensures not_memory { ¬ (IsErrOf result MergeFault.Memory) }
-        ensures failures { WriteFailed result (W.failures writer.old) (W.failures writer.new) }
+        ensures taken { TakesLeft self.old self.new }
+        ensures told { TellsWriter result (W.state writer.old) (W.state writer.new) }
+        ensures written { OnOk result (LeftWritten self.old self.new
+            (W.state writer.old) (W.state writer.new)) }
+        ensures halted { IfErr result (λ fault. LeftWriteHalts fault self.old self.new
+            (W.state writer.old) (W.state writer.new)) }
     {
         swap(&mut self.last, &mut self.left.entry);
         self.count += 1;
@@ -186,21 +127,12 @@ impl Merge {
         requires steady { IsSteady self.old }
         requires some { self.old.right.entry.text.items ≢ [] }
         ensures due { OnOk result (IsRightDue self.new) }
-        ensures position { self.new.right.position ≡ self.old.right.position }
-        ensures left { self.new.left ≡ self.old.left }
-        ensures only { OnlyWrite result }
-        ensures greater { OnOk result ((dl el dr er : Reader) (start : Option (List ℕ)) →
-            (self.old.left.entry.text.items ≢ [] →
-            IsBelow (entry_in self.old.right.entry) (entry_in self.old.left.entry)) →
-            Merging self.old dl el dr er start (W.taken writer.old) →
-            RightDue self.new dl el dr er start (W.taken writer.new)) }
-        ensures halted { IfErr result (λ fault. (dl el dr er : Reader) (start : Option (List ℕ)) →
-            (self.old.left.entry.text.items ≢ [] →
-            IsBelow (entry_in self.old.right.entry) (entry_in self.old.left.entry)) →
-            Merging self.old dl el dr er start (W.taken writer.old) →
-            Halted fault self.new.held dl el dr er start (W.taken writer.new)) }
-        ensures not_memory { ¬ (IsErrOf result MergeFault.Memory) }
-        ensures failures { WriteFailed result (W.failures writer.old) (W.failures writer.new) }
+        ensures taken { TakesRight self.old self.new }
+        ensures told { TellsWriter result (W.state writer.old) (W.state writer.new) }
+        ensures written { OnOk result (RightWritten self.old self.new
+            (W.state writer.old) (W.state writer.new)) }
+        ensures halted { IfErr result (λ fault. RightWriteHalts fault self.old self.new
+            (W.state writer.old) (W.state writer.new)) }
     {
         swap(&mut self.last, &mut self.right.entry);
         self.count += 1;

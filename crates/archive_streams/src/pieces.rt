@@ -2,10 +2,10 @@
 
 ghost use Rattle.std.specs.Prelude.{◌≡◌, ◌≤◌, ◌<◌, ◌+◌, ◌++◌, [], length, drop, take, false};
 ghost use Rattle.std.specs.Prelude.{IfOk, IsTrue, IsErrOf, OnErr, vec_capacity, vec_len};
-ghost use Rattle.syslog_value.specs.declared.loops.TheConstants.{READ_MAX, READER_CALLS};
+ghost use Rattle.octet_devices.specs.declared.loops.TheConstants.{READ_MAX, READER_CALLS};
 
 use crate::fault::InputFault;
-use syslog_value::{DeviceFault, Input, READ_MAX, READER_CALLS};
+use octet_devices::{DeviceFault, Input, READ_MAX, READER_CALLS};
 
 /// A reader's octets, a piece of at most `READ_MAX` at a time: from `start` to `end` they were given
 /// and not yet used. `calls` of the reader were made, and `ends` of them gave the end.
@@ -23,7 +23,7 @@ pub struct Pieces {
 }
 
 impl Pieces {
-    ghost use Rattle.archive_streams.specs.Pieces.{unused, FailuresOf, ReadsOn, TakesMore, device};
+    ghost use Rattle.archive_streams.specs.Pieces.{unused, FailuresOf, ReadsOn, TakesMore};
 
     /// Before the first call.
     pub fn new() -> Pieces
@@ -51,10 +51,10 @@ impl Pieces {
     /// there are none, and the reader is not called again.
     pub fn fill<R: Input>(&mut self, reader: &mut R) -> Result<bool, InputFault>
         ensures reads { ReadsOn self.old self.new
-            (device (R.left reader.old) (R.calls reader.old) (R.ends reader.old))
-            (device (R.left reader.new) (R.calls reader.new) (R.ends reader.new))
+            (R.state reader.old) (R.state reader.new)
             (unused self.old) (unused self.new) }
-        ensures failures { FailuresOf result (R.failures reader.old) (R.failures reader.new) }
+        ensures failures { FailuresOf result (R.state reader.old).failures
+            (R.state reader.new).failures }
         ensures some { IfOk result (λ some. IsTrue some → 0 < length (unused self.new)) }
         ensures end { IfOk result (λ some. some ≡ false →
             (unused self.new ≡ []) × (0 < self.new.ends)) }
@@ -97,10 +97,10 @@ impl Pieces {
         requires some { 0 < most }
         requires room { vec_len text.old + most ≤ vec_capacity text.old }
         ensures reads { ReadsOn self.old self.new
-            (device (R.left reader.old) (R.calls reader.old) (R.ends reader.old))
-            (device (R.left reader.new) (R.calls reader.new) (R.ends reader.new))
+            (R.state reader.old) (R.state reader.new)
             (text.old.items ++ unused self.old) (text.new.items ++ unused self.new) }
-        ensures failures { FailuresOf result (R.failures reader.old) (R.failures reader.new) }
+        ensures failures { FailuresOf result (R.state reader.old).failures
+            (R.state reader.new).failures }
         ensures room { vec_capacity text.old ≤ vec_capacity text.new }
         ensures some { IfOk result (λ some. IsTrue some →
             TakesMore most text.old.items text.new.items) }

@@ -4,7 +4,7 @@ ghost use Rattle.std.specs.Prelude.{◌≡◌, ◌<◌, ◌≤◌, ◌+◌, ◌+
 ghost use Rattle.std.specs.Prelude.{IfErr, IfOk, IfSome, IsNone, OnOk};
 ghost use Rattle.std.specs.Prelude.{vec_capacity, vec_len};
 ghost use Rattle.syslog_frame.specs.MsgLen.{MsgLen as Counts};
-ghost use Rattle.archive_streams.specs.Pieces.{ReadsOn, device, unused};
+ghost use Rattle.archive_streams.specs.Pieces.{ReadsOn, unused};
 ghost use Rattle.archive_streams.specs.Counting.{IsStep, IsUnfinished};
 ghost use Rattle.archive_streams.specs.EntryTexts.{HasCounted, HoldsEntry, IsCounted};
 ghost use Rattle.archive_streams.specs.Faults.{IsSideFault, SideFailures};
@@ -14,8 +14,8 @@ use crate::fault::SideFault;
 use crate::judging::instant_of;
 use crate::pieces::Pieces;
 use archive_text::{ArchiveFault, ENTRY_MAX};
+use octet_devices::Input;
 use syslog_frame::{MsgLen, msg_len};
-use syslog_value::Input;
 
 /// What one octet more makes of a length.
 #[derive(Clone, Copy, Debug)]
@@ -37,10 +37,10 @@ fn next_digit<R: Input>(
     requires unfinished { IsUnfinished text.old.items }
     requires room { COUNT_TEXT ≤ vec_capacity text.old }
     ensures reads { ReadsOn pieces.old pieces.new
-        (device (R.left reader.old) (R.calls reader.old) (R.ends reader.old))
-        (device (R.left reader.new) (R.calls reader.new) (R.ends reader.new))
+        (R.state reader.old) (R.state reader.new)
         (text.old.items ++ unused pieces.old) (text.new.items ++ unused pieces.new) }
-    ensures failures { SideFailures result (R.failures reader.old) (R.failures reader.new) }
+    ensures failures { SideFailures result (R.state reader.old).failures
+        (R.state reader.new).failures }
     ensures room { vec_capacity text.old ≤ vec_capacity text.new }
     ensures short { OnOk result (vec_len text.new ≤ COUNT_TEXT) }
     ensures step { IfOk result (λ step. IsStep text.old.items text.new.items pieces.new step) }
@@ -77,10 +77,10 @@ fn read_count<R: Input>(
     requires empty { text.old.items ≡ [] }
     requires room { COUNT_TEXT ≤ vec_capacity text.old }
     ensures reads { ReadsOn pieces.old pieces.new
-        (device (R.left reader.old) (R.calls reader.old) (R.ends reader.old))
-        (device (R.left reader.new) (R.calls reader.new) (R.ends reader.new))
+        (R.state reader.old) (R.state reader.new)
         (unused pieces.old) (text.new.items ++ unused pieces.new) }
-    ensures failures { SideFailures result (R.failures reader.old) (R.failures reader.new) }
+    ensures failures { SideFailures result (R.state reader.old).failures
+        (R.state reader.new).failures }
     ensures room { vec_capacity text.old ≤ vec_capacity text.new }
     ensures short { OnOk result (vec_len text.new ≤ COUNT_TEXT) }
     ensures count { IfOk result (λ found. IfSome found (λ count. Counts count text.new.items)) }
@@ -109,10 +109,10 @@ fn read_octets<R: Input>(
     requires fits { count ≤ ENTRY_MAX }
     requires room { vec_len text.old + count ≤ vec_capacity text.old }
     ensures reads { ReadsOn pieces.old pieces.new
-        (device (R.left reader.old) (R.calls reader.old) (R.ends reader.old))
-        (device (R.left reader.new) (R.calls reader.new) (R.ends reader.new))
+        (R.state reader.old) (R.state reader.new)
         (text.old.items ++ unused pieces.old) (text.new.items ++ unused pieces.new) }
-    ensures failures { SideFailures result (R.failures reader.old) (R.failures reader.new) }
+    ensures failures { SideFailures result (R.state reader.old).failures
+        (R.state reader.new).failures }
     ensures room { vec_capacity text.old ≤ vec_capacity text.new }
     ensures ok { OnOk result (HasCounted count text.old.items text.new.items) }
     ensures fault { IfErr result (λ fault.
@@ -167,10 +167,10 @@ fn read_cut<R: Input>(
     requires empty { text.old.items ≡ [] }
     requires room { TEXT_MAX ≤ vec_capacity text.old }
     ensures reads { ReadsOn pieces.old pieces.new
-        (device (R.left reader.old) (R.calls reader.old) (R.ends reader.old))
-        (device (R.left reader.new) (R.calls reader.new) (R.ends reader.new))
+        (R.state reader.old) (R.state reader.new)
         (unused pieces.old) (text.new.items ++ unused pieces.new) }
-    ensures failures { SideFailures result (R.failures reader.old) (R.failures reader.new) }
+    ensures failures { SideFailures result (R.state reader.old).failures
+        (R.state reader.new).failures }
     ensures room { vec_capacity text.old ≤ vec_capacity text.new }
     ensures counted { IfOk result (λ found. IfSome found (λ start. IsCounted start text.new.items)) }
     ensures end { IfOk result (λ found. IsNone found →
@@ -198,10 +198,10 @@ fn read_text<R: Input>(
     requires empty { text.old.items ≡ [] }
     requires room { TEXT_MAX ≤ vec_capacity text.old }
     ensures reads { ReadsOn pieces.old pieces.new
-        (device (R.left reader.old) (R.calls reader.old) (R.ends reader.old))
-        (device (R.left reader.new) (R.calls reader.new) (R.ends reader.new))
+        (R.state reader.old) (R.state reader.new)
         (unused pieces.old) (text.new.items ++ unused pieces.new) }
-    ensures failures { SideFailures result (R.failures reader.old) (R.failures reader.new) }
+    ensures failures { SideFailures result (R.state reader.old).failures
+        (R.state reader.new).failures }
     ensures room { vec_capacity text.old ≤ vec_capacity text.new }
     ensures counted { IfOk result (λ found. IfSome found (λ start. IsCounted start text.new.items)) }
     ensures end { IfOk result (λ found. IsNone found →
@@ -223,10 +223,10 @@ pub fn read_entry<R: Input>(
 ) -> Result<bool, SideFault>
     requires room { TEXT_MAX ≤ vec_capacity entry.old.text }
     ensures reads { ReadsOn pieces.old pieces.new
-        (device (R.left reader.old) (R.calls reader.old) (R.ends reader.old))
-        (device (R.left reader.new) (R.calls reader.new) (R.ends reader.new))
+        (R.state reader.old) (R.state reader.new)
         (unused pieces.old) (entry.new.text.items ++ unused pieces.new) }
-    ensures failures { SideFailures result (R.failures reader.old) (R.failures reader.new) }
+    ensures failures { SideFailures result (R.state reader.old).failures
+        (R.state reader.new).failures }
     ensures room { TEXT_MAX ≤ vec_capacity entry.new.text }
     ensures entry { IfOk result (λ some. IsTrue some → HoldsEntry entry.new) }
     ensures end { IfOk result (λ some. some ≡ false → (entry.new.text.items ≡ [])

@@ -1,9 +1,8 @@
 //! An archive is read entry by entry.
 
-ghost use Rattle.std.specs.Prelude.{◌≡◌, ◌≢◌, ◌<◌, ◌≤◌, ◌+◌, ◌*◌, ◌++◌, [], false, length};
-ghost use Rattle.std.specs.Prelude.{vec_capacity, vec_len, List, IfErr, IfOk, IsTrue, OnOk};
-ghost use Rattle.archive_streams.specs.Pieces.{ReadsOn, device, unused};
-ghost use Rattle.archive_streams.specs.EntryTexts.{entry_in, HoldsEntry, IsAbove};
+ghost use Rattle.std.specs.Prelude.{◌≡◌, ◌≢◌, ◌<◌, ◌≤◌, ◌++◌, [], false, vec_capacity, vec_len};
+ghost use Rattle.std.specs.Prelude.{IfErr, IfOk, IsTrue, OnOk};
+ghost use Rattle.archive_streams.specs.Pieces.{ReadsOn, unused};
 ghost use Rattle.archive_streams.specs.Faults.{SideFailures};
 ghost use Rattle.archive_streams.specs.declared.entry.TheConstants.{TEXT_MAX};
 
@@ -12,8 +11,8 @@ use crate::fault::SideFault;
 use crate::pieces::Pieces;
 use crate::reading::read_entry;
 use archive_text::ArchiveFault;
+use octet_devices::Input;
 use std::alloc::{AllocError, Global};
-use syslog_value::Input;
 
 /// An archive that is read entry by entry: the entry that was read last, or none at the end, and
 /// the position of the first octet behind it.
@@ -25,10 +24,8 @@ pub struct ArchiveReader {
 }
 
 impl ArchiveReader {
-    ghost use Rattle.archive_text.specs.Entries.{Entry, IsAscending};
-    ghost use Rattle.archive_streams.specs.Pieces.{Reader};
-    ghost use Rattle.archive_streams.specs.Sides.{Due, EndsWith, IsNear, Ready};
-    ghost use Rattle.archive_streams.specs.Sides.{IsNextFault, IsSideStop};
+    ghost use Rattle.archive_streams.specs.Sides.{HoldsNext, IsNear, IsNextFault, IsOn};
+    ghost use Rattle.archive_streams.specs.Sides.{ReadiesSide, StopsSide};
 
     /// Before the first entry.
     pub fn new(alloc: Global) -> Result<ArchiveReader, AllocError>
@@ -52,17 +49,14 @@ impl ArchiveReader {
         requires last { last.now.start ≤ vec_len last.now.text }
         requires near { IsNear self.old }
         ensures reads { ReadsOn self.old.pieces self.new.pieces
-            (device (R.left reader.old) (R.calls reader.old) (R.ends reader.old))
-            (device (R.left reader.new) (R.calls reader.new) (R.ends reader.new))
+            (R.state reader.old) (R.state reader.new)
             (unused self.old.pieces) (self.new.entry.text.items ++ unused self.new.pieces) }
-        ensures failures { SideFailures result (R.failures reader.old) (R.failures reader.new) }
+        ensures failures { SideFailures result (R.state reader.old).failures
+            (R.state reader.new).failures }
         ensures room { TEXT_MAX ≤ vec_capacity self.new.entry.text }
-        ensures near { IfOk result (λ _. IsNear self.new) }
-        ensures entry { IfOk result (λ some. IsTrue some → HoldsEntry self.new.entry) }
-        ensures above { IfOk result (λ some. IsTrue some →
-            IsAbove last.now (entry_in self.new.entry)) }
-        ensures position { IfOk result (λ _.
-            self.new.position ≡ self.old.position + vec_len self.new.entry.text) }
+        ensures on { IfOk result (λ _. IsOn self.old self.new) }
+        ensures entry { IfOk result (λ some. IsTrue some →
+            HoldsNext last.now self.new.entry) }
         ensures end { IfOk result (λ some. some ≡ false → (self.new.entry.text.items ≡ [])
             × (unused self.new.pieces ≡ []) × (0 < self.new.pieces.ends)) }
         ensures fault { IfErr result (λ fault. IsNextFault fault last.now self.old.position
@@ -84,28 +78,22 @@ impl ArchiveReader {
             Err(SideFault::Input(fault)) => Err(SideFault::Input(fault)),
         }
     }
+
     /// Reads the next entry behind the last one, which was joined, or finds the end.
     pub fn advance<R: Input>(&mut self, reader: &mut R, last: &EntryText) -> Result<(), SideFault>
         requires room { TEXT_MAX ≤ vec_capacity self.old.entry.text }
         requires last { last.now.start ≤ vec_len last.now.text }
         requires near { IsNear self.old }
-        ensures failures { SideFailures result (R.failures reader.old) (R.failures reader.new) }
+        ensures failures { SideFailures result (R.state reader.old).failures
+            (R.state reader.new).failures }
         ensures room { TEXT_MAX ≤ vec_capacity self.new.entry.text }
-        ensures near { OnOk result (IsNear self.new) }
+        ensures on { OnOk result (IsOn self.old self.new) }
         ensures start { OnOk result (self.new.entry.text.items ≢ [] →
             self.new.entry.start ≤ vec_len self.new.entry.text) }
-        ensures position { OnOk result
-            (self.new.position ≡ self.old.position + vec_len self.new.entry.text) }
-        ensures ready { OnOk result ((d : Reader) (es ws : List Entry) →
-            Due self.old d (device (R.left reader.old) (R.calls reader.old) (R.ends reader.old))
-            es last.now → EndsWith ws last.now → IsAscending ws →
-            Ready self.new d (device (R.left reader.new) (R.calls reader.new) (R.ends reader.new))
-            es ws) }
-        ensures stop { IfErr result (λ fault. (d : Reader) (es : List Entry) →
-            Due self.old d (device (R.left reader.old) (R.calls reader.old) (R.ends reader.old))
-            es last.now →
-            IsSideStop fault self.new d
-            (device (R.left reader.new) (R.calls reader.new) (R.ends reader.new)) es) }
+        ensures ready { OnOk result (ReadiesSide self.old self.new last.now
+            (R.state reader.old) (R.state reader.new)) }
+        ensures stop { IfErr result (λ fault. StopsSide fault self.old self.new last.now
+            (R.state reader.old) (R.state reader.new)) }
     {
         match self.next(reader, last) {
             Ok(true) => Ok(()),

@@ -1,8 +1,8 @@
 use crate::{MergeFault, Side, merge_streams};
 use archive_text::ArchiveFault;
+use octet_devices::{FromRead, Fuse, ToWrite};
 use std::io::Read;
 use std::test::Fail;
-use syslog_value::{FromRead, Fuse, ToWrite};
 
 // the texts of three entries, in their order
 const A: &[u8] = b"19 <13>1 - h a - - - x";

@@ -1,12 +1,12 @@
 //! What the tests share: three records, and collectors and archives of them.
 
 use archive_text::Store;
+use octet_devices::ToWrite;
 use std::alloc::Global;
 use std::test::Fail;
 use syslog_collect::{Collector, Event, Outcome, RunEnd};
 use syslog_grammar::view;
 use syslog_legacy::LegacyClock;
-use syslog_value::ToWrite;
 
 pub const A: &[u8] = b"<13>1 - h a - - - x";
 

@@ -4,11 +4,11 @@ use crate::support::{A, ARCHIVE, B, C, store_of, text_of};
 use archive_pages::PagedArchive;
 use archive_text::Store;
 use archive_vec::{VecArchive, merge};
+use octet_devices::{Fuse, ToWrite, WriteFault};
 use std::alloc::Global;
 use std::process::Abort;
 use std::test::Fail;
 use syslog_grammar::view;
-use syslog_value::{Fuse, ToWrite, WriteFault};
 
 /// The answer of a write, and what a device took that passes so many octets and then fails, and
 /// that fails at the call after so many.

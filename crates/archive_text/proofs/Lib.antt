@@ -8,3 +8,4 @@ pub mod FaultLaws
 pub mod Places
 pub mod Sets
 pub mod Shown
+pub mod Puts

@@ -1,10 +1,10 @@
 -- Archives as sets of records.
-use Rattle.std.proofs.Common.{◌≡◌, ℕ, inl, inr, refl, subst, List, [], ◌∷◌, ◌++◌}
+use Rattle.std.proofs.Common.{◌≡◌, ℕ, ◌≤◌, inl, inr, length, refl, subst, List, [], ◌∷◌, ◌++◌}
 use Rattle.std.specs.Prelude.{ℤ, ◌⊎◌, ◌↔◌}
 use Rattle.std.specs.List.{AllByRecursion}
 use Rattle.syslog_value.specs.Parts.{Parts}
 use Rattle.archive_text.specs.Entries.{Entry, Has, IsAscending, IsEntry, IsEntryOf}
-use Rattle.archive_text.specs.Sets.{ArchiveText, AreEntriesOf, AreSame, IsAmong}
+use Rattle.archive_text.specs.Sets.{ArchiveText, AreEntriesOf, AreSame, IsAmong, IsUnionOfEntries}
 use Rattle.archive_text.specs.Stores.{AddsEntry, AddsRecord}
 use Rattle.archive_text.specs.Text.{IsArchive, text_of}
 use Rattle.archive_text.specs.declared.store.Added.{Added}
@@ -143,8 +143,7 @@ has_union rs qs es fs gs m n u x = (
 
 -- a list with the entries of both is that of the union
 pub entries_union : (rs qs : List (Parts ℤ)) (es fs gs : List Entry) → AreEntriesOf rs es → AreEntriesOf qs fs
-    → ((x : Entry) → Has gs x ↔ (Has es x ⊎ Has fs x))
-    → AreEntriesOf (rs ++ qs) gs
+    → IsUnionOfEntries es fs gs → AreEntriesOf (rs ++ qs) gs
 entries_union rs qs es fs gs m n has = record {
   all = all_among (λ r. (e : Entry) × Has gs e × IsEntryOf r e) (rs ++ qs)
       (λ r h.
@@ -161,6 +160,21 @@ entries_union rs qs es fs gs m n has = record {
         | inr right ↦ let found = member_of_entry qs fs x n right in
             (found.0, among_right rs qs found.0 found.1, found.2)
       ]);
+}
+
+-- of two archives it is one too
+pub archive_union : (most : ℕ) (es fs gs : List Entry) → IsArchive most es → IsArchive most fs → IsAscending gs
+    → IsUnionOfEntries es fs gs → IsArchive most gs
+archive_union most es fs gs a b up has = record {
+  ascending = up;
+  entries = of_all IsEntry gs (λ x h. elim ((has x).0 h) [
+    | inl left ↦ of_member IsEntry es x a.entries left
+    | inr right ↦ of_member IsEntry fs x b.entries right
+  ]);
+  fits = of_all (λ e. length e.octets ≤ most) gs (λ x h. elim ((has x).0 h) [
+    | inl left ↦ of_member (λ e. length e.octets ≤ most) es x a.fits left
+    | inr right ↦ of_member (λ e. length e.octets ≤ most) fs x b.fits right
+  ]);
 }
 
 -- ---- archives

@@ -19,6 +19,10 @@ pub record AreEntriesOf (records : List (Parts ℤ)) (es : List Entry) : Type 0 
   pub all : AllByRecursion (λ r. (e : Entry) × Has es e × IsEntryOf r e) records
   pub only : AllByRecursion (λ e. (r : Parts ℤ) × IsAmong records r × IsEntryOf r e) es
 
+-- the entries of two lists, and no other
+abbrev pub IsUnionOfEntries : List Entry → List Entry → List Entry → Type 0
+IsUnionOfEntries xs ys zs = (e : Entry) → Has zs e ↔ (Has xs e ⊎ Has ys e)
+
 -- the text of a set: over the strictly ascending list of its entries, none above the limit
 pub record ArchiveText (most : ℕ) (records : List (Parts ℤ)) (text : List ℕ) : Type 0 where
   pub entries : List Entry

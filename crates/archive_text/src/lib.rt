@@ -2,7 +2,7 @@
 //! once, in one order, each with its length before it. Equal sets are equal texts.
 //!
 //! [`EntryView`] is an entry as it is lent, [`read_entry`] reads one from a text, [`compare`] orders
-//! two. [`Store`] is what an archive in memory offers.
+//! two, [`put_entry`] writes one. [`Store`] is what an archive in memory offers.
 #![tactic(auto)]
 
 mod entry;
@@ -10,12 +10,14 @@ mod fault;
 mod judge;
 mod limits;
 mod store;
+mod writing;
 
 pub use entry::{EntryView, compare};
 pub use fault::{ArchiveFault, EntryFault};
 pub use judge::{entry_of_octets, read_entry};
 pub use limits::ENTRY_MAX;
 pub use store::{AddFault, Added, Store};
+pub use writing::put_entry;
 
 #[cfg(test)]
 mod tests;

@@ -1,8 +1,7 @@
 //! What an archive in memory offers.
 
-ghost use Rattle.std.specs.Prelude.{◌≡◌, ◌<◌, ◌≤◌, ◌↔◌, ◌^◌, List, ℕ, ℤ, length, take, IfErr, IfOk, IsErrOf, IsTrue};
-ghost use Rattle.std.specs.Prelude.{OnErr, OnOk};
-ghost use Rattle.std.specs.Io.KnownBytes.{Appends};
+ghost use Rattle.std.specs.Prelude.{◌≡◌, ◌<◌, ◌≤◌, ◌↔◌, List, ℕ, ℤ, length, IfOk, IsErrOf, IsTrue, OnErr};
+ghost use Rattle.octet_devices.specs.Transfers.{WritesAll};
 ghost use Rattle.syslog_value.specs.Parts.{Parts};
 ghost use Rattle.syslog_grammar.specs.ViewParts.{IsViewOf, view_parts};
 ghost use Rattle.syslog_grammar.specs.WellFormed.{WellFormed};
@@ -10,9 +9,10 @@ ghost use Rattle.archive_text.specs.Entries.{Entry, Has, IsEntryOf};
 ghost use Rattle.archive_text.specs.Text.{IsArchive, text_of};
 ghost use Rattle.archive_text.specs.Stores.{AddsRecord};
 
+use octet_devices::{Output, WriteFault};
 use std::alloc::{AllocError, Global};
 use syslog_grammar::RecordView;
-use syslog_value::{Output, Record, WriteFault};
+use syslog_value::Record;
 use thiserror::Error;
 
 /// What became of a record that was added.
@@ -76,12 +76,6 @@ pub trait Store {
     /// Writes the text of the archive. Under a fault its first octets were written, so many as the
     /// fault says.
     fn write<W: Output>(&self, writer: &mut W) -> Result<(), WriteFault>
-        ensures ok { OnOk result (Appends (W.taken writer.old) (W.taken writer.new)
-            (text_of (entries self.now))) }
-        ensures no_failure { OnOk result (W.failures writer.new ≡ W.failures writer.old) }
-        ensures some_left { IfErr result (λ fault. fault.sent < length (text_of (entries self.now))) }
-        ensures sent { IfErr result (λ fault. Appends (W.taken writer.old) (W.taken writer.new)
-            (take fault.sent (text_of (entries self.now)))) }
-        ensures cause { W.failures writer.old < 2 ^ 63 →
-            OnErr result (W.failures writer.old < W.failures writer.new) };
+        ensures { WritesAll (W.state writer.old) (W.state writer.new) (text_of (entries self.now))
+            result };
 }

@@ -1,13 +1,13 @@
 -- What is added to ascending entries.
 use Rattle.std.proofs.Common.{◌≡◌, ℕ, suc, zero, ◌<◌, ◌∙◌, List, [], ◌∷◌, length, take, drop, Some, Result, Ok, Err}
-use Rattle.std.proofs.Common.{IfOk, OnOk, is_ok, is_err, sym, subst, inl, inr, take-append-drop}
-use Rattle.std.specs.Prelude.{◌↔◌, IsTrue, Bool, false}
+use Rattle.std.proofs.Common.{IfOk, is_ok, sym, subst, inl, inr, take-append-drop}
+use Rattle.std.specs.Prelude.{◌↔◌, IsTrue, Bool}
 use Rattle.std.specs.List.{insert, slice_get}
 use Rattle.std.proofs.lemmas.Bool.{false≢true}
 use Rattle.syslog_value.specs.Parts.{IsRecord, Parts}
 use Rattle.std.specs.Prelude.{ℤ}
 use Rattle.syslog_grammar.specs.Canonical.{Canonical}
-use Rattle.archive_text.specs.Entries.{Entry, Has, IsEntry, IsEntryOf}
+use Rattle.archive_text.specs.Entries.{Entry, Has, IsEntryOf}
 use Rattle.archive_text.specs.Stores.{AddsEntry, AddsRecord}
 use Rattle.archive_text.specs.declared.store.Added.{Added}
 use Rattle.archive_text.specs.declared.store.Added.TheVariants.{New, Held}

@@ -1,7 +1,8 @@
 //! Two archives become one.
 
-ghost use Rattle.std.specs.Prelude.{◌≡◌, ◌≤◌, ◌↔◌, ◌⊎◌, ◌++◌, drop, length, IfOk, OnOk};
+ghost use Rattle.std.specs.Prelude.{◌≡◌, ◌≤◌, ◌++◌, drop, length, IfOk, OnOk};
 ghost use Rattle.archive_text.specs.Entries.{Entry, Has, IsBelow};
+ghost use Rattle.archive_text.specs.Sets.{IsUnionOfEntries};
 
 use crate::entry_list::EntryList;
 use archive_text::compare;
@@ -25,8 +26,7 @@ impl EntryList {
 
     /// The entries of this list and of another one, once each.
     pub fn merged(&self, alloc: Global, other: &EntryList) -> Result<EntryList, AllocError>
-        ensures { IfOk result (λ list. (e : Entry) →
-            Has list e ↔ (Has self.now e ⊎ Has other.now e)) }
+        ensures { IfOk result (IsUnionOfEntries self.now other.now) }
     {
         let mut list = EntryList::new(alloc);
         let (mut i, mut j) = (0, 0);

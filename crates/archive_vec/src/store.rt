@@ -2,9 +2,10 @@
 
 use crate::vec_archive::VecArchive;
 use archive_text::{AddFault, Added, Store};
+use octet_devices::{Output, WriteFault};
 use std::alloc::{AllocError, Global};
 use syslog_grammar::RecordView;
-use syslog_value::{Output, Record, WriteFault};
+use syslog_value::Record;
 
 impl Store for VecArchive {
     ghost entries = { λ a. a.list };

@@ -1,12 +1,13 @@
 //! A sorted archive in memory.
 
-ghost use Rattle.std.specs.Prelude.{◌≡◌, ◌<◌, ◌≤◌, ◌↔◌, ◌⊎◌, ◌^◌, List, ℕ, ℤ, [], length, take, option_map, slice_get};
-ghost use Rattle.std.specs.Prelude.{IfErr, IfOk, IsErrOf, IsTrue, OnErr, OnOk};
-ghost use Rattle.std.specs.Io.KnownBytes.{Appends};
+ghost use Rattle.std.specs.Prelude.{◌≡◌, ◌<◌, ◌≤◌, ◌↔◌, List, ℕ, ℤ, [], length, option_map, slice_get};
+ghost use Rattle.std.specs.Prelude.{IfErr, IfOk, IsErrOf, IsTrue, OnErr};
+ghost use Rattle.octet_devices.specs.Transfers.{WritesAll};
 ghost use Rattle.syslog_value.specs.Parts.{Parts};
 ghost use Rattle.syslog_grammar.specs.ViewParts.{IsViewOf, view_parts};
 ghost use Rattle.syslog_grammar.specs.WellFormed.{WellFormed};
 ghost use Rattle.archive_text.specs.Entries.{Entry, Has, IsEntryOf};
+ghost use Rattle.archive_text.specs.Sets.{IsUnionOfEntries};
 ghost use Rattle.archive_text.specs.Text.{IsArchive, text_of};
 ghost use Rattle.archive_text.specs.Stores.{AddsRecord};
 ghost use Rattle.archive_text.specs.declared.limits.TheConstants.{ENTRY_MAX};
@@ -16,9 +17,10 @@ ghost use Rattle.archive_vec.specs.Reads.{IsReadFault};
 use crate::entry_list::EntryList;
 use crate::reading::ReadFault;
 use archive_text::{AddFault, Added, ENTRY_MAX, EntryView};
+use octet_devices::{Output, WriteFault};
 use std::alloc::{AllocError, Global};
 use syslog_grammar::{RecordView, canon, put_canonical};
-use syslog_value::{Output, Record, WriteFault};
+use syslog_value::Record;
 
 /// A finite set of records: the entries of an archive, in order.
 #[derive(Drop)]
@@ -115,14 +117,8 @@ impl VecArchive {
     /// Writes the text of the archive. Under a fault its first octets were written, so many as the
     /// fault says.
     pub fn write<W: Output>(&self, writer: &mut W) -> Result<(), WriteFault>
-        ensures ok { OnOk result (Appends (W.taken writer.old) (W.taken writer.new)
-            (text_of self.now.list)) }
-        ensures no_failure { OnOk result (W.failures writer.new ≡ W.failures writer.old) }
-        ensures some_left { IfErr result (λ fault. fault.sent < length (text_of self.now.list)) }
-        ensures sent { IfErr result (λ fault. Appends (W.taken writer.old) (W.taken writer.new)
-            (take fault.sent (text_of self.now.list))) }
-        ensures cause { W.failures writer.old < 2 ^ 63 →
-            OnErr result (W.failures writer.old < W.failures writer.new) }
+        ensures { WritesAll (W.state writer.old) (W.state writer.new) (text_of self.now.list)
+            result }
     {
         self.list.write(writer)
     }
@@ -147,8 +143,8 @@ impl VecArchive {
 
 /// The archive of the records of two archives.
 pub fn merge(alloc: Global, left: &VecArchive, right: &VecArchive) -> Result<VecArchive, AllocError>
-    ensures members { IfOk result (λ merged. (e : Entry) →
-        Has merged.list e ↔ (Has left.now.list e ⊎ Has right.now.list e)) }
+    ensures members { IfOk result (λ merged.
+        IsUnionOfEntries left.now.list right.now.list merged.list) }
     ensures archive { IfOk result (λ merged. IsArchive ENTRY_MAX merged.list) }
 {
     let list = left.list.merged(alloc, &right.list)?;

@@ -6,7 +6,9 @@ use Rattle.std.specs.Io.KnownBytes.{Appends}
 use Rattle.std.proofs.KnownBytes.{Appends-trans}
 use Rattle.std.proofs.Math.Seq.{take-append-add}
 use Rattle.std.proofs.lemmas.List.{append-nil, take-append-le}
-use Rattle.syslog_value.specs.declared.loops.WriteFault.{WriteFault}
+use Rattle.octet_devices.specs.Device.{OutputState}
+use Rattle.octet_devices.specs.Transfers.{WritesAll}
+use Rattle.octet_devices.specs.declared.loops.WriteFault.{WriteFault}
 use Rattle.archive_text.specs.Entries.{Entry}
 use Rattle.archive_text.specs.Text.{IsArchive}
 use Rattle.archive_text.specs.declared.limits.TheConstants.{ENTRY_MAX}
@@ -133,12 +135,10 @@ writes_behind text line rest status a b t0 t1 lines (inr (is, taken, lines_are))
 -- ---- one call
 
 -- a text was written to a device
-pub took : (result : Result (Unit {0}) WriteFault) (a b : ℕ) (t0 t1 : Option (List ℕ)) (text : List ℕ)
-    → OnOk result (Appends t0 t1 text) → OnOk result (b ≡ a) → IfErr result (λ f. f.sent < length text)
-    → IfErr result (λ f. Appends t0 t1 (take f.sent text)) → (a < 2 ^ 63 → OnErr result (a < b))
-    → Takes a b t0 t1 text
-took (Ok u) a b t0 t1 text whole same less sent cause = inl (same, whole)
-took (Err f) a b t0 t1 text whole same less sent cause = inr (cause, f.sent, less, sent)
+pub took : (result : Result (Unit {0}) WriteFault) (o n : OutputState) (text : List ℕ) → WritesAll o n text result
+    → Takes o.failures n.failures o.taken n.taken text
+took (Ok u) o n text w = inl (w.no_failure, w.octets)
+took (Err f) o n text w = inr (w.cause, f.sent, w.some_left, w.octets)
 
 pub noted : (a b : ℕ) (t0 t1 : Option (List ℕ)) (lines : List ℕ) → Takes a b t0 t1 lines
     → NotesBehind a b t0 t1 [] lines

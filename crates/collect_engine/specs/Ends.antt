@@ -1,6 +1,6 @@
 -- How serving ends.
 use Rattle.std.specs.Prelude.{◌≡◌, ℕ, Bool, true, false, Result, Ok, Err}
-use Rattle.syslog_value.specs.Device.{count_on}
+use Rattle.octet_devices.specs.Device.{count_on}
 use Rattle.collect_engine.specs.declared.serve_end.ServeEnd.{ServeEnd}
 use Rattle.collect_engine.specs.declared.serve_end.ServeEnd.TheVariants.{Done, Failed, Endless, Memory}
 use Rattle.collect_engine.specs.declared.step.Step.{Step}

@@ -1,6 +1,6 @@
 -- The lines on what is refused.
 use Rattle.std.specs.Prelude.{◌≡◌, ℕ, ◌<◌, ◌^◌, List, [], ◌∷◌, ◌++◌, length, take, Bool, true, false, Result, Ok, Err}
-use Rattle.syslog_value.specs.Device.{count_on}
+use Rattle.octet_devices.specs.Device.{count_on}
 use Rattle.syslog_collect.specs.declared.outcome.Outcome.{Outcome}
 use Rattle.syslog_collect.specs.declared.outcome.Outcome.TheVariants.{New, Held, Refused, RefusedLegacy, TooLong}
 use Rattle.syslog_collect.specs.declared.outcome.Outcome.TheVariants.{BadCount}

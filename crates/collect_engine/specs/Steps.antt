@@ -1,6 +1,6 @@
 -- The steps of a source, and their counts.
 use Rattle.std.specs.Prelude.{◌≡◌, ℕ, ◌+◌, ◌≤◌, List, take, Option, Some, None, ⊤}
-use Rattle.syslog_value.specs.Device.{count_on}
+use Rattle.octet_devices.specs.Device.{count_on}
 use Rattle.syslog_frame.specs.declared.framing.Framing.{Framing}
 use Rattle.collect_engine.specs.declared.step.Step.{Step}
 use Rattle.collect_engine.specs.declared.step.Step.TheVariants.{Opened as step_Opened, Piece as step_Piece}

@@ -14,11 +14,11 @@ use crate::serving::serve_steps;
 use crate::source::Source;
 use archive_pages::PagedArchive;
 use archive_text::Store;
-use frame_engine::{DONE, FAULT, NO_MEMORY, REFUSED};
+use driver::{DONE, FAULT, NO_MEMORY, REFUSED};
+use octet_devices::{Output, write_all};
 use std::alloc::Global;
 use syslog_collect::Collector;
 use syslog_legacy::LegacyClock;
-use syslog_value::{Output, write_all};
 
 // Writes the archive, and returns the exit status: this one, unless it cannot be written.
 fn write_archive<S: Store, W: Output, N: Output>(
@@ -28,8 +28,8 @@ fn write_archive<S: Store, W: Output, N: Output>(
     notes: &mut N,
 ) -> u8
     ensures { (lines : List ℕ) × WritesText (text_of (S.entries store.now)) status [] (codes "write fault\n") result
-        (W.failures writer.old) (W.failures writer.new) (W.taken writer.old) (W.taken writer.new) lines
-        × NotesBehind (N.failures notes.old) (N.failures notes.new) (N.taken notes.old) (N.taken notes.new)
+        (W.state writer.old).failures (W.state writer.new).failures (W.state writer.old).taken (W.state writer.new).taken lines
+        × NotesBehind (N.state notes.old).failures (N.state notes.new).failures (N.state notes.old).taken (N.state notes.new).taken
         [] lines }
 {
     match store.write(writer) {
@@ -44,7 +44,7 @@ fn write_archive<S: Store, W: Output, N: Output>(
 // Writes the archive where nothing more can be noted.
 fn write_unnoted<S: Store, W: Output>(store: &S, writer: &mut W) -> u8
     ensures status { result ≡ FAULT }
-    ensures written { Takes (W.failures writer.old) (W.failures writer.new) (W.taken writer.old) (W.taken writer.new)
+    ensures written { Takes (W.state writer.old).failures (W.state writer.new).failures (W.state writer.old).taken (W.state writer.new).taken
         (text_of (S.entries store.now)) }
 {
     match store.write(writer) {
@@ -62,8 +62,8 @@ fn write_behind<S: Store, W: Output, N: Output>(
 ) -> u8
     ensures { (lines : List ℕ) × WritesText (text_of (S.entries store.now)) 2 line.now
         (line.now ++ codes "write fault\n") result
-        (W.failures writer.old) (W.failures writer.new) (W.taken writer.old) (W.taken writer.new) lines
-        × NotesBehind (N.failures notes.old) (N.failures notes.new) (N.taken notes.old) (N.taken notes.new)
+        (W.state writer.old).failures (W.state writer.new).failures (W.state writer.old).taken (W.state writer.new).taken lines
+        × NotesBehind (N.state notes.old).failures (N.state notes.new).failures (N.state notes.old).taken (N.state notes.new).taken
         [] lines }
 {
     match write_all(notes, line) {
@@ -75,7 +75,7 @@ fn write_behind<S: Store, W: Output, N: Output>(
 // Notes that memory ran out. Nothing is written.
 fn tell_memory<N: Output>(notes: &mut N) -> u8
     ensures status { result ≡ NO_MEMORY }
-    ensures noted { NotesBehind (N.failures notes.old) (N.failures notes.new) (N.taken notes.old) (N.taken notes.new)
+    ensures noted { NotesBehind (N.state notes.old).failures (N.state notes.new).failures (N.state notes.old).taken (N.state notes.new).taken
         [] (codes "want of memory\n") }
 {
     match write_all(notes, b"want of memory\n") {
@@ -93,8 +93,8 @@ fn stop<S: Store, W: Output, N: Output>(
     notes: &mut N,
 ) -> u8
     ensures { (lines : List ℕ) × WritesOut (Err stopped) (text_of (S.entries store.now)) result
-        (W.failures writer.old) (W.failures writer.new) (W.taken writer.old) (W.taken writer.new) lines
-        × NotesThen (Err stopped) (N.failures notes.old) (N.failures notes.new) (N.taken notes.old) (N.taken notes.new)
+        (W.state writer.old).failures (W.state writer.new).failures (W.state writer.old).taken (W.state writer.new).taken lines
+        × NotesThen (Err stopped) (N.state notes.old).failures (N.state notes.new).failures (N.state notes.old).taken (N.state notes.new).taken
         lines }
 {
     match stopped {
@@ -128,8 +128,8 @@ fn collect_into<S: Store + Drop, R: Source, W: Output, N: Output>(
         × (R.steps source.old < 2 ^ 63 → Come (R.coming source.old) (R.coming source.new) given)
         × Collects clock end given accepted told × IfArchived end (IsArchiveOf clock accepted kept)
         × WritesOut end (text_of kept) result
-        (W.failures writer.old) (W.failures writer.new) (W.taken writer.old) (W.taken writer.new) lines
-        × NotesOut end (N.failures notes.old) (N.failures notes.new) (N.taken notes.old) (N.taken notes.new)
+        (W.state writer.old).failures (W.state writer.new).failures (W.state writer.old).taken (W.state writer.new).taken lines
+        × NotesOut end (N.state notes.old).failures (N.state notes.new).failures (N.state notes.old).taken (N.state notes.new).taken
         told lines }
 {
     let Ok(mut collector) = Collector::new(alloc, store, clock) else {
@@ -157,7 +157,7 @@ pub fn run_collect<R: Source, W: Output, N: Output>(
     notes: &mut N,
 ) -> u8
     ensures known { result ≤ 3 }
-    ensures nothing { result ≡ NO_MEMORY → W.taken writer.new ≡ W.taken writer.old }
+    ensures nothing { result ≡ NO_MEMORY → (W.state writer.new).taken ≡ (W.state writer.old).taken }
     // How serving ended, after which steps, which events they were accepted as and which lines were noted of them;
     // unless memory ran out, the archive of just the records that were received in these events, which was written, or
     // its first octets where the writer failed; and by all this the status and the lines that were noted then.
@@ -166,8 +166,8 @@ pub fn run_collect<R: Source, W: Output, N: Output>(
         × (R.steps source.old < 2 ^ 63 → Come (R.coming source.old) (R.coming source.new) given)
         × Collects words.now.clock end given accepted told × IfArchived end (IsArchiveOf words.now.clock accepted kept)
         × WritesOut end (text_of kept) result
-        (W.failures writer.old) (W.failures writer.new) (W.taken writer.old) (W.taken writer.new) lines
-        × NotesOut end (N.failures notes.old) (N.failures notes.new) (N.taken notes.old) (N.taken notes.new)
+        (W.state writer.old).failures (W.state writer.new).failures (W.state writer.old).taken (W.state writer.new).taken lines
+        × NotesOut end (N.state notes.old).failures (N.state notes.new).failures (N.state notes.old).taken (N.state notes.new).taken
         told lines }
 {
     let store = PagedArchive::new(alloc);

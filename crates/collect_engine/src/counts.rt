@@ -1,6 +1,6 @@
 //! The counts that each source keeps of its own steps.
 ghost use Rattle.std.specs.Prelude.{◌≡◌};
-ghost use Rattle.syslog_value.specs.Device.{count_on};
+ghost use Rattle.octet_devices.specs.Device.{count_on};
 ghost use Rattle.collect_engine.specs.Steps.{FailuresAfter, FinishesAfter};
 
 use crate::step::Step;

@@ -7,9 +7,9 @@ ghost use Rattle.collect_engine.specs.Lines.{outcome_line, outcome_lines};
 use crate::receiving::Received;
 use crate::serve_end::Stopped;
 use frame_engine::{Line, put_line};
+use octet_devices::{Output, write_all};
 use std::alloc::{AllocError, Global};
 use syslog_collect::Outcome;
-use syslog_value::{Output, write_all};
 
 // Appends the line on an outcome, if it is a refusal.
 fn put_outcome(outcome: Outcome, number: u64, lines: &mut Vec<u8>) -> Result<(), AllocError>
@@ -101,13 +101,13 @@ impl EventLines {
         received: Received,
         notes: &mut N,
     ) -> Result<(), Stopped>
-        ensures noted { (told : List ℕ) × Appends (N.taken notes.old) (N.taken notes.new) told
+        ensures noted { (told : List ℕ) × Appends (N.state notes.old).taken (N.state notes.new).taken told
             × NotesAs result (lines_on self.old.number self.old.outcomes.items received) told }
         ensures number { OnOk result
             (self.new.number ≡ counted self.old.number self.old.outcomes.items) }
         ensures refused { OnOk result (self.new.refused
             ≡ (self.old.refused || has_some (lines_on self.old.number self.old.outcomes.items received))) }
-        ensures failures { NotesFail result (N.failures notes.old) (N.failures notes.new) }
+        ensures failures { NotesFail result (N.state notes.old).failures (N.state notes.new).failures }
         ensures going { ¬ (IsErrOf result Stopped.Endless) }
     {
         if self.make(received).is_err() {

@@ -7,7 +7,7 @@ ghost use Rattle.syslog_frame.specs.declared.limits.TheConstants.{FRAME_MAX};
 ghost use Rattle.syslog_collect.specs.Collectors.{NoneWaits, Stands, clock_of, waits_of};
 ghost use Rattle.syslog_collect.specs.History.{AcceptedEvent, history_of};
 ghost use Rattle.syslog_collect.specs.Runs.{accepted_event};
-ghost use Rattle.syslog_value.specs.Device.{count_on};
+ghost use Rattle.octet_devices.specs.Device.{count_on};
 ghost use Rattle.collect_engine.specs.Ends.{FinishesBy, IfEndDone, IsEventStep};
 ghost use Rattle.collect_engine.specs.Lines.{NotesFail, has_some, memory_after};
 ghost use Rattle.collect_engine.specs.Serving.{Come, EventServed, IfEnough, ServesTo, StepServed, StepsServed};
@@ -20,10 +20,10 @@ use crate::serve_end::{ServeEnd, Stopped};
 use crate::source::Source;
 use crate::step::Step;
 use archive_text::Store;
+use octet_devices::Output;
 use std::alloc::{AllocError, Global};
 use syslog_collect::{Collector, Event};
 use syslog_frame::FRAME_MAX;
-use syslog_value::Output;
 
 /// The most steps that are asked of a source.
 pub const SERVE_TURNS: u64 = 1_048_576;
@@ -54,7 +54,7 @@ fn serve_event<S: Store, N: Output>(
         → Stands S.entries collector.old first before
         → (accepted : List AcceptedEvent) × (told : List ℕ)
         × Stands S.entries collector.new first (before ++ accepted)
-        × Appends (N.taken notes.old) (N.taken notes.new) told
+        × Appends (N.state notes.old).taken (N.state notes.new).taken told
         × EventServed (clock_of collector.old) (history_of before) (waits_of collector.old)
         (waits_of collector.new) lines.old.number lines.new.number result
         (accepted_event event.entry) accepted told
@@ -63,7 +63,7 @@ fn serve_event<S: Store, N: Output>(
         → Stands S.entries collector.old first before
         → NoneWaits collector.old
         → UnlessMemory result (NoneWaits collector.new) }
-    ensures failures { NotesFail result (N.failures notes.old) (N.failures notes.new) }
+    ensures failures { NotesFail result (N.state notes.old).failures (N.state notes.new).failures }
     ensures going { ¬ (IsErrOf result Stopped.Endless) }
     ensures clock { clock_of collector.new ≡ clock_of collector.old }
 {
@@ -115,7 +115,7 @@ fn serve_step<S: Store, N: Output>(
         → (event : AcceptedEvent) × (accepted : List AcceptedEvent) × (told : List ℕ)
         × (event_of (given_of step buf.now) ≡ Some event)
         × Stands S.entries collector.new first (before ++ accepted)
-        × Appends (N.taken notes.old) (N.taken notes.new) told
+        × Appends (N.state notes.old).taken (N.state notes.new).taken told
         × EventServed (clock_of collector.old) (history_of before) (waits_of collector.old)
         (waits_of collector.new) lines.old.number lines.new.number result event accepted told
         × OnOk result (lines.new.refused ≡ (lines.old.refused || has_some told)) }
@@ -123,7 +123,7 @@ fn serve_step<S: Store, N: Output>(
         → Stands S.entries collector.old first before
         → NoneWaits collector.old
         → UnlessMemory result (NoneWaits collector.new) }
-    ensures failures { NotesFail result (N.failures notes.old) (N.failures notes.new) }
+    ensures failures { NotesFail result (N.state notes.old).failures (N.state notes.new).failures }
     ensures going { ¬ (IsErrOf result Stopped.Endless) }
     ensures clock { clock_of collector.new ≡ clock_of collector.old }
 {
@@ -153,7 +153,7 @@ fn serve_next<S: Store, R: Source, N: Output>(
         × (R.steps source.old < 2 ^ 64 - 1 → FRAME_MAX < length buf.new
         → Comes (R.coming source.old) (R.coming source.new) given)
         × Stands S.entries collector.new first (before ++ accepted)
-        × Appends (N.taken notes.old) (N.taken notes.new) told
+        × Appends (N.state notes.old).taken (N.state notes.new).taken told
         × StepServed (clock_of collector.old) (history_of before) (waits_of collector.old)
         (waits_of collector.new) lines.old.number lines.new.number result given accepted told
         × OnOk result (lines.new.refused ≡ (lines.old.refused || has_some told)) }
@@ -161,7 +161,7 @@ fn serve_next<S: Store, R: Source, N: Output>(
         → Stands S.entries collector.old first before
         → NoneWaits collector.old
         → UnlessMemory result (NoneWaits collector.new) }
-    ensures failures { NotesFail result (N.failures notes.old) (N.failures notes.new) }
+    ensures failures { NotesFail result (N.state notes.old).failures (N.state notes.new).failures }
     ensures steps { R.steps source.new ≡ count_on (R.steps source.old) }
     ensures finishes { FinishesBy result (R.finishes source.old) (R.finishes source.new) }
     ensures going { ¬ (IsErrOf result Stopped.Endless) }
@@ -192,14 +192,14 @@ pub(crate) fn serve_steps<S: Store, R: Source, N: Output>(
         → (given : List Given) × (accepted : List AcceptedEvent) × (told : List ℕ)
         × (R.steps source.old < 2 ^ 63 → Come (R.coming source.old) (R.coming source.new) given)
         × Stands S.entries collector.new first (before ++ accepted)
-        × Appends (N.taken notes.old) (N.taken notes.new) told
+        × Appends (N.state notes.old).taken (N.state notes.new).taken told
         × StepsServed (clock_of collector.old) (history_of before) (waits_of collector.old)
         (waits_of collector.new) result given accepted told }
     ensures settled { (first : List Entry) (before : List AcceptedEvent)
         → Stands S.entries collector.old first before
         → NoneWaits collector.old
         → UnlessMemory result (NoneWaits collector.new) }
-    ensures failures { NotesFail result (N.failures notes.old) (N.failures notes.new) }
+    ensures failures { NotesFail result (N.state notes.old).failures (N.state notes.new).failures }
     ensures endless { R.steps source.old < 2 ^ 63 → IsErrOf result Stopped.Endless
         → (R.steps source.new ≡ R.steps source.old + SERVE_TURNS)
         × (R.finishes source.new ≡ R.finishes source.old) }
@@ -241,9 +241,9 @@ pub fn serve<S: Store, R: Source, N: Output>(
         → (given : List Given) × (accepted : List AcceptedEvent) × (told : List ℕ)
         × (R.steps source.old < 2 ^ 63 → Come (R.coming source.old) (R.coming source.new) given)
         × Stands S.entries collector.new first (before ++ accepted)
-        × Appends (N.taken notes.old) (N.taken notes.new) told
+        × Appends (N.state notes.old).taken (N.state notes.new).taken told
         × ServesTo (clock_of collector.old) (history_of before) (waits_of collector.old)
-        (waits_of collector.new) result (N.failures notes.old) (N.failures notes.new) given
+        (waits_of collector.new) result (N.state notes.old).failures (N.state notes.new).failures given
         accepted told }
     // No frame is left ready, unless memory ran out.
     ensures settled { (first : List Entry) (before : List AcceptedEvent)

@@ -1,7 +1,7 @@
 //! What steps come from.
 ghost use Rattle.std.specs.Prelude.{◌≡◌, ◌<◌, ◌-◌, ◌^◌, ℕ, Option, length};
 ghost use Rattle.syslog_frame.specs.declared.limits.TheConstants.{FRAME_MAX};
-ghost use Rattle.syslog_value.specs.Device.{count_on};
+ghost use Rattle.octet_devices.specs.Device.{count_on};
 ghost use Rattle.collect_engine.specs.Steps.{Comes, FailuresAfter, FinishesAfter, Given, IsWithin};
 ghost use Rattle.collect_engine.specs.Steps.{given_of};
 

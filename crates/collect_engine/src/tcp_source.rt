@@ -1,6 +1,6 @@
 //! Connections to a socket.
 ghost use Rattle.std.specs.Prelude.{◌≡◌, IsNone, length};
-ghost use Rattle.syslog_value.specs.Device.{count_on};
+ghost use Rattle.octet_devices.specs.Device.{count_on};
 ghost use Rattle.collect_engine.specs.Sockets.{IsOfConnections};
 ghost use Rattle.collect_engine.specs.Steps.{FailuresAfter, FinishesAfter, IsWithin};
 

@@ -6,13 +6,13 @@ use crate::{
 };
 use archive_pages::PagedArchive;
 use archive_text::Store;
+use octet_devices::ToWrite;
 use std::alloc::Global;
 use std::io::Write;
 use std::net::{TcpListener, TcpStream, UdpSocket};
 use std::test::Fail;
 use syslog_collect::Collector;
 use syslog_frame::Framing;
-use syslog_value::ToWrite;
 
 const A: &[u8] = b"<13>1 - h a - - - x";
 

@@ -1,6 +1,6 @@
 //! Datagrams from a socket.
 ghost use Rattle.std.specs.Prelude.{◌≡◌, length};
-ghost use Rattle.syslog_value.specs.Device.{count_on};
+ghost use Rattle.octet_devices.specs.Device.{count_on};
 ghost use Rattle.collect_engine.specs.Sockets.{IsOfDatagrams};
 ghost use Rattle.collect_engine.specs.Steps.{FailuresAfter, FinishesAfter, IsWithin};
 

@@ -13,7 +13,7 @@ use crate::words::{command, positional, value, whole_line, with_arg};
 use clap::error::ErrorKind;
 use clap::{ArgMatches, Command};
 use collect_engine::{CollectWords, Transport};
-use frame_engine::{FAULT, NO_MEMORY};
+use driver::{FAULT, NO_MEMORY};
 use std::alloc::{AllocError, Global};
 use std::convert::AsStr;
 

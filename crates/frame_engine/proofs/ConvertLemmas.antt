@@ -15,8 +15,8 @@ use Rattle.frame_engine.specs.Readings.{AddsRecord, IsRefusedWith}
 use Rattle.frame_engine.specs.Converted.{Carries, Converts, convert_handling, Framed, GoesOut, goes_out, noted_line}
 use Rattle.frame_engine.specs.declared.line.Line.{Line}
 use Rattle.frame_engine.specs.declared.line.Line.TheVariants.{CanonicalTooLong, HasLf}
-use Rattle.frame_engine.specs.Pending.{Adds}
-use Rattle.frame_engine.specs.Handling.{Done, HasOneOutput, then_done}
+use Rattle.driver.specs.Effects.{Adds, Done, then_done}
+use Rattle.frame_engine.specs.Handling.{HasOneOutputEach}
 use Rattle.syslog_grammar.proofs.CanonicalParses.{canonical_once}
 use Rattle.frame_engine.proofs.HandlingLemmas.{adds_output, same_done}
 use Rattle.frame_engine.proofs.ReadingLemmas.{not_both, one_record}
@@ -35,7 +35,7 @@ no_line Lf octets e h = h
 
 -- bare octets are appended to the output
 pub bare : (clock : Clock) (n : ℕ) (f : List ℕ) (old new : Done) → AddsRecord clock f old.output new.output
-    → new.refused ≡ old.refused → new.notes ≡ old.notes → Adds (Converts clock None n f) old new
+    → new.refused ≡ old.refused → new.diagnostics ≡ old.diagnostics → Adds (Converts clock None n f) old new
 bare clock n f old new (r, h, (c, k, e)) same notes =
     (goes_out c, (r, h, c, k, refl), adds_output old new c same e notes)
 
@@ -48,7 +48,7 @@ in_frame clock kind n f c old mid new (r, h, (text, k, e)) same (d, out, whole) 
 -- octets went out as one frame
 pub out_framed : (kind : Framing) (n : ℕ) (c s : List ℕ) (old new : Done) → s ≡ c → CanCarry kind s
     → length s ≤ FRAME_MAX → new.output ≡ old.output ++ framed kind s → new.refused ≡ old.refused
-    → new.notes ≡ old.notes
+    → new.diagnostics ≡ old.diagnostics
     → Adds (Framed kind n c) old new
 out_framed kind n c s old new same can few e r o = (
   goes_out (framed kind c),
@@ -90,12 +90,12 @@ some_octets clock frame c (r, h, (text, (x, y, e, (prefix, following, f, g, w), 
 
 -- an outcome is added to an equal account of what was done
 pub adds_after : (D : Done → Type 0) (old mid new : Done) → mid.refused ≡ old.refused → mid.output ≡ old.output
-    → mid.notes ≡ old.notes → Adds D mid new → Adds D old new
+    → mid.diagnostics ≡ old.diagnostics → Adds D mid new → Adds D old new
 adds_after D old mid new r o n (d, h, e) = (
   d,
   h,
   e ∙ ap (λ (x : Done). then_done x d)
-      (same_done mid.refused old.refused mid.output old.output mid.notes old.notes r o n),
+      (same_done mid.refused old.refused mid.output old.output mid.diagnostics old.diagnostics r o n),
 )
 
 -- a record was converted
@@ -135,7 +135,7 @@ converts_output clock to n f a b (r, h, c, k, out) (r', h', c', k', out') =
     let octets : c ≡ c' = canonical_once r' c c' (subst (λ (x : Parts ℤ). Canonical x c) same k) k' in
     out_output to n c' a b (subst (λ (x : List ℕ). GoesOut to n x a) octets out) out'
 
-pub convert_output : (clock : Clock) (to : Option Framing) → HasOneOutput (convert_handling clock to)
+pub convert_output : (clock : Clock) (to : Option Framing) → HasOneOutputEach (convert_handling clock to)
 convert_output clock to n f a b (inl h) (inl k) = converts_output clock to n f a b h k
 convert_output clock to n f a b (inl (r, h, c, is, out)) (inr (line, k, e)) = absurd (not_both clock n f r line k h)
 convert_output clock to n f a b (inr (line, k, e)) (inl (r, h, c, is, out)) = absurd (not_both clock n f r line k h)

@@ -1,10 +1,7 @@
-pub mod AnswerLemmas
-pub mod CauseLemmas
 pub mod ConvertLemmas
 pub mod HandlingLemmas
 pub mod OutputLemmas
-pub mod ScanLemmas
 pub mod ShowLemmas
 pub mod StreamLemmas
 pub mod ReadingLemmas
-pub mod StopLemmas
+pub mod SessionLemmas

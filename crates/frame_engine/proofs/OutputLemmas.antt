@@ -18,7 +18,8 @@ use Rattle.syslog_grammar.proofs.CanonicalParses.{once}
 use Rattle.syslog_grammar.specs.Canonical.{TimeForm, civil_text}
 use Rattle.syslog_legacy.specs.FrameReadings.{Clock}
 use Rattle.frame_engine.specs.Checked.{check_handling}
-use Rattle.frame_engine.specs.Handling.{Done, HasOneOutput}
+use Rattle.driver.specs.Effects.{Done}
+use Rattle.frame_engine.specs.Handling.{HasOneOutputEach}
 use Rattle.frame_engine.specs.Line.{line_text}
 use Rattle.frame_engine.proofs.ReadingLemmas.{not_both, one_line, one_record}
 use Rattle.frame_engine.specs.Showing.{PriorityLine, RecordLines, TimeLine, element_lines, line_of, message_line}
@@ -30,7 +31,7 @@ output_of d = d.output
 only_once : (a s t : List ℕ) → Only a s → Only a t → s ≡ t
 only_once a s t h k = h ∙ sym k
 
-pub check_output : (clock : Clock) → HasOneOutput (check_handling clock)
+pub check_output : (clock : Clock) → HasOneOutputEach (check_handling clock)
 check_output clock n f a b (inl (h, e)) (inl (k, g)) = ap output_of (e ∙ sym g)
 check_output clock n f a b (inl ((r, h), e)) (inr (line, k, g)) = absurd (not_both clock n f r line k h)
 check_output clock n f a b (inr (line, k, e)) (inl ((r, h), g)) = absurd (not_both clock n f r line k h)
@@ -79,7 +80,7 @@ record_lines_once n r b c h k =
     (λ s t. once elements message s t (only_once (flat_map element_lines r.elements))
     (only_once (message_line r.message)))))) h k
 
-pub show_output : (clock : Clock) → HasOneOutput (show_handling clock)
+pub show_output : (clock : Clock) → HasOneOutputEach (show_handling clock)
 show_output clock n f a b (inl (r, h, s, lines, e)) (inl (q, k, t, lines', g)) =
     let same : r ≡ q = one_record clock f r q h k in
     ap output_of e ∙ record_lines_once n q s t (subst (λ (x : Parts ℤ). RecordLines n x s) same lines) lines'

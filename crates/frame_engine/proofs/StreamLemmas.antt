@@ -8,8 +8,8 @@ use Rattle.syslog_frame.specs.Reads.{Reads, ReadsOn}
 use Rattle.syslog_frame.specs.Scan.{Scan, HasBadCount}
 use Rattle.syslog_frame.specs.declared.framing.Framing.{Framing}
 use Rattle.syslog_frame.specs.declared.limits.TheConstants.{FRAME_MAX}
-use Rattle.frame_engine.specs.Pending.{Adds}
-use Rattle.frame_engine.specs.Handling.{Handling, HandledFrom, Done, then_done}
+use Rattle.driver.specs.Effects.{Adds, Done, then_done}
+use Rattle.frame_engine.specs.Handling.{HandledFrom, Handling}
 use Rattle.frame_engine.specs.Streams.{HasBad, HasHandled, HasPart}
 use Rattle.frame_engine.proofs.HandlingLemmas.{handled_more, then_assoc}
 

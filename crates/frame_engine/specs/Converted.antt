@@ -7,7 +7,8 @@ use Rattle.syslog_frame.specs.declared.limits.TheConstants.{FRAME_MAX}
 use Rattle.syslog_value.specs.Parts.{Parts}
 use Rattle.syslog_grammar.specs.Canonical.{Canonical}
 use Rattle.syslog_legacy.specs.FrameReadings.{Clock}
-use Rattle.frame_engine.specs.Handling.{Handling, Done}
+use Rattle.driver.specs.Effects.{Done}
+use Rattle.frame_engine.specs.Handling.{Handling}
 use Rattle.frame_engine.specs.Line.{line_text}
 use Rattle.frame_engine.specs.Readings.{IsRecordOf, IsRefusedWith}
 use Rattle.frame_engine.specs.declared.line.Line.{Line}
@@ -15,11 +16,11 @@ use Rattle.frame_engine.specs.declared.line.Line.TheVariants.{CanonicalTooLong, 
 
 -- octets go to the output
 abbrev pub goes_out : List ℕ → Done
-goes_out octets = record { refused = false; output = octets; notes = [] }
+goes_out octets = record { refused = false; output = octets; diagnostics = [] }
 
 -- a refusal whose line is noted
 abbrev pub noted_line : Line → Done
-noted_line line = record { refused = true; output = []; notes = line_text line }
+noted_line line = record { refused = true; output = []; diagnostics = line_text line }
 
 -- a framing carries the octets: a line contains no line feed
 abbrev pub Carries : Framing → List ℕ → Type 0

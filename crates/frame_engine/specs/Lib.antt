@@ -1,11 +1,8 @@
-pub mod Checked
-pub mod Converted
-pub mod Pending
 pub mod Handling
-pub mod Held
 pub mod Line
 pub mod Readings
-pub mod Scans
+pub mod Checked
+pub mod Converted
 pub mod Showing
 pub mod Streams
-pub mod Stops
+pub mod Sessions

@@ -2,14 +2,13 @@
 
 ghost use Rattle.std.specs.Prelude.{◌≡◌, OnErr, OnOk};
 ghost use Rattle.frame_engine.specs.Checked.{refused_line};
-ghost use Rattle.frame_engine.specs.Pending.{done_of};
-ghost use Rattle.frame_engine.specs.Handling.{then_done};
+ghost use Rattle.driver.specs.Effects.{done_of, then_done};
 ghost use Rattle.frame_engine.specs.declared.line.Line.{Line};
 
 use crate::frame_handler::FrameHandler;
 use crate::line::{Line, put_line};
-use crate::pending::PendingOutput;
 use crate::reading::refusal;
+use driver::Effects;
 use std::alloc::AllocError;
 use syslog_legacy::LegacyClock;
 
@@ -21,12 +20,12 @@ pub struct Check {
 }
 
 // Reports a refusal on the output.
-fn refuse(line: Line, done: &mut PendingOutput) -> Result<(), AllocError>
-    ensures ok { OnOk result (done_of done.new ≡ then_done (done_of done.old) (refused_line line)) }
-    ensures err { OnErr result (done_of done.new ≡ done_of done.old) }
+fn refuse(line: Line, effects: &mut Effects) -> Result<(), AllocError>
+    ensures ok { OnOk result (done_of effects.new ≡ then_done (done_of effects.old) (refused_line line)) }
+    ensures err { OnErr result (done_of effects.new ≡ done_of effects.old) }
 {
-    put_line(&mut done.output, line)?;
-    done.refused = true;
+    put_line(&mut effects.output, line)?;
+    effects.refused = true;
     Ok(())
 }
 
@@ -39,20 +38,15 @@ impl FrameHandler for Check {
 
     ghost reports = { λ _. refused_line };
 
-    fn on_frame(
-        &self,
-        number: u64,
-        frame: &[u8],
-        done: &mut PendingOutput,
-    ) -> Result<(), AllocError> {
+    fn on_frame(&self, number: u64, frame: &[u8], effects: &mut Effects) -> Result<(), AllocError> {
         match refusal(self.clock, number, frame) {
-            None => put_line(&mut done.output, Line::Accepted { number }),
-            Some(line) => refuse(line, done),
+            None => put_line(&mut effects.output, Line::Accepted { number }),
+            Some(line) => refuse(line, effects),
         }
     }
 
-    fn report(&self, line: Line, done: &mut PendingOutput) -> Result<(), AllocError> {
-        refuse(line, done)
+    fn report(&self, line: Line, effects: &mut Effects) -> Result<(), AllocError> {
+        refuse(line, effects)
     }
 
     ghost long = { λ d n f h. inr (TooLong n, inl (h, refl), refl) };

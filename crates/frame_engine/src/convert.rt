@@ -2,13 +2,12 @@
 
 ghost use Rattle.std.specs.Prelude.{◌≡◌, ◌<◌, OnErr, OnOk, length};
 ghost use Rattle.frame_engine.specs.Converted.{Framed, noted_line};
-ghost use Rattle.frame_engine.specs.Pending.{Adds, done_of};
-ghost use Rattle.frame_engine.specs.Handling.{then_done};
+ghost use Rattle.driver.specs.Effects.{Adds, done_of, then_done};
 
 use crate::frame_handler::FrameHandler;
 use crate::line::{Line, put_line};
-use crate::pending::PendingOutput;
 use crate::reading::put_reading;
+use driver::Effects;
 use std::alloc::{AllocError, Global};
 use syslog_frame::{Framing, PutFault, put_frame};
 use syslog_legacy::LegacyClock;
@@ -25,26 +24,26 @@ pub struct Convert {
 }
 
 /// Notes a refusal.
-pub fn note_line(line: Line, done: &mut PendingOutput) -> Result<(), AllocError>
-    ensures ok { OnOk result (done_of done.new ≡ then_done (done_of done.old) (noted_line line)) }
-    ensures err { OnErr result (done_of done.new ≡ done_of done.old) }
+pub fn add_refusal(line: Line, effects: &mut Effects) -> Result<(), AllocError>
+    ensures ok { OnOk result (done_of effects.new ≡ then_done (done_of effects.old) (noted_line line)) }
+    ensures err { OnErr result (done_of effects.new ≡ done_of effects.old) }
 {
-    put_line(&mut done.notes, line)?;
-    done.refused = true;
+    put_line(&mut effects.diagnostics, line)?;
+    effects.refused = true;
     Ok(())
 }
 
 // Appends the canonical octets in the scratch buffer to the output, in a framing.
-fn put_framed(framing: Framing, number: u64, done: &mut PendingOutput) -> Result<(), AllocError>
-    requires { 0 < length done.old.scratch.items }
-    ensures ok { OnOk result (Adds (Framed framing number done.old.scratch.items)
-        (done_of done.old) (done_of done.new)) }
-    ensures err { OnErr result (done_of done.new ≡ done_of done.old) }
+fn put_framed(framing: Framing, number: u64, effects: &mut Effects) -> Result<(), AllocError>
+    requires { 0 < length effects.old.scratch.items }
+    ensures ok { OnOk result (Adds (Framed framing number effects.old.scratch.items)
+        (done_of effects.old) (done_of effects.new)) }
+    ensures err { OnErr result (done_of effects.new ≡ done_of effects.old) }
 {
-    match put_frame(framing, done.scratch.as_slice(), &mut done.output) {
+    match put_frame(framing, effects.scratch.as_slice(), &mut effects.output) {
         Ok(()) => Ok(()),
-        Err(PutFault::HasLf) => note_line(Line::HasLf { number }, done),
-        Err(PutFault::TooLong) => note_line(Line::CanonicalTooLong { number }, done),
+        Err(PutFault::HasLf) => add_refusal(Line::HasLf { number }, effects),
+        Err(PutFault::TooLong) => add_refusal(Line::CanonicalTooLong { number }, effects),
         Err(PutFault::Memory) => Err(AllocError),
         Err(PutFault::Empty) => unreachable!(),
     }
@@ -59,29 +58,24 @@ impl FrameHandler for Convert {
 
     ghost reports = { λ _. noted_line };
 
-    fn on_frame(
-        &self,
-        number: u64,
-        frame: &[u8],
-        done: &mut PendingOutput,
-    ) -> Result<(), AllocError> {
+    fn on_frame(&self, number: u64, frame: &[u8], effects: &mut Effects) -> Result<(), AllocError> {
         let Some(framing) = self.to else {
-            let out = &mut done.output;
+            let out = &mut effects.output;
             return match put_reading(self.clock, number, frame, self.alloc, out)? {
                 None => Ok(()),
-                Some(line) => note_line(line, done),
+                Some(line) => add_refusal(line, effects),
             };
         };
-        done.scratch.clear();
-        let out = &mut done.scratch;
+        effects.scratch.clear();
+        let out = &mut effects.scratch;
         match put_reading(self.clock, number, frame, self.alloc, out)? {
-            None => put_framed(framing, number, done),
-            Some(line) => note_line(line, done),
+            None => put_framed(framing, number, effects),
+            Some(line) => add_refusal(line, effects),
         }
     }
 
-    fn report(&self, line: Line, done: &mut PendingOutput) -> Result<(), AllocError> {
-        note_line(line, done)
+    fn report(&self, line: Line, effects: &mut Effects) -> Result<(), AllocError> {
+        add_refusal(line, effects)
     }
 
     ghost long = { λ d n f h. inr (TooLong n, inl (h, refl), refl) };

@@ -2,13 +2,13 @@
 
 ghost use Rattle.std.specs.Prelude.{◌≡◌, ◌<◌, ℕ, List, length, OnOk, OnErr};
 ghost use Rattle.syslog_frame.specs.declared.limits.TheConstants.{FRAME_MAX};
-ghost use Rattle.frame_engine.specs.Pending.{Adds, done_of};
-ghost use Rattle.frame_engine.specs.Handling.{Handling, Done, then_done};
+ghost use Rattle.driver.specs.Effects.{Adds, Done, done_of, then_done};
+ghost use Rattle.frame_engine.specs.Handling.{Handling};
 ghost use Rattle.frame_engine.specs.declared.line.Line.{Line};
 ghost use Rattle.frame_engine.specs.declared.line.Line.TheVariants.{TooLong};
 
 use crate::line::Line;
-use crate::pending::PendingOutput;
+use driver::Effects;
 use std::alloc::AllocError;
 
 /// What a command does with each frame of its input. Both calls append to what was done, or change
@@ -25,24 +25,19 @@ pub trait FrameHandler {
     ///
     /// # Errors
     /// Out of memory.
-    fn on_frame(
-        &self,
-        number: u64,
-        frame: &[u8],
-        done: &mut PendingOutput,
-    ) -> Result<(), AllocError>
+    fn on_frame(&self, number: u64, frame: &[u8], effects: &mut Effects) -> Result<(), AllocError>
         ensures ok { OnOk result (Adds (handles self.now number frame.now)
-            (done_of done.old) (done_of done.new)) }
-        ensures err { OnErr result (done_of done.new ≡ done_of done.old) };
+            (done_of effects.old) (done_of effects.new)) }
+        ensures err { OnErr result (done_of effects.new ≡ done_of effects.old) };
 
     /// Reports a line.
     ///
     /// # Errors
     /// Out of memory.
-    fn report(&self, line: Line, done: &mut PendingOutput) -> Result<(), AllocError>
+    fn report(&self, line: Line, effects: &mut Effects) -> Result<(), AllocError>
         ensures ok { OnOk result
-            (done_of done.new ≡ then_done (done_of done.old) (reports self.now line)) }
-        ensures err { OnErr result (done_of done.new ≡ done_of done.old) };
+            (done_of effects.new ≡ then_done (done_of effects.old) (reports self.now line)) }
+        ensures err { OnErr result (done_of effects.new ≡ done_of effects.old) };
 
     // a frame that is too long is reported as such, whatever its octets
     ghost long: { (d : Self) (n : ℕ) (f : List ℕ) → FRAME_MAX < length f →

@@ -1,14 +1,14 @@
 //! `show`: the fields of each record, one line each.
 
 ghost use Rattle.std.specs.Prelude.{◌≡◌, List, ℕ, OnErr, OnOk};
-ghost use Rattle.frame_engine.specs.Pending.{done_of};
+ghost use Rattle.driver.specs.Effects.{done_of};
 
-use crate::convert::note_line;
+use crate::convert::add_refusal;
 use crate::frame_handler::FrameHandler;
 use crate::line::Line;
-use crate::pending::PendingOutput;
 use crate::reading::read_frame;
 use crate::record_lines::put_record_lines;
+use driver::Effects;
 use std::alloc::{AllocError, Global};
 use syslog_legacy::LegacyClock;
 
@@ -31,23 +31,18 @@ impl FrameHandler for Show {
 
     ghost reports = { λ _. noted_line };
 
-    fn on_frame(
-        &self,
-        number: u64,
-        frame: &[u8],
-        done: &mut PendingOutput,
-    ) -> Result<(), AllocError> {
+    fn on_frame(&self, number: u64, frame: &[u8], effects: &mut Effects) -> Result<(), AllocError> {
         match read_frame(self.clock, number, frame) {
             Ok(reading) => {
                 let record = reading.to_record(self.alloc)?;
-                put_record_lines(number, &record, &mut done.output)
+                put_record_lines(number, &record, &mut effects.output)
             }
-            Err(line) => note_line(line, done),
+            Err(line) => add_refusal(line, effects),
         }
     }
 
-    fn report(&self, line: Line, done: &mut PendingOutput) -> Result<(), AllocError> {
-        note_line(line, done)
+    fn report(&self, line: Line, effects: &mut Effects) -> Result<(), AllocError> {
+        add_refusal(line, effects)
     }
 
     ghost long = { λ d n f h. inr (TooLong n, inl (h, refl), refl) };

@@ -5,13 +5,12 @@ ghost use Rattle.syslog_frame.specs.Frames.{Frames};
 ghost use Rattle.syslog_frame.specs.Reads.{Reads};
 ghost use Rattle.syslog_frame.specs.Scan.{IsReading};
 ghost use Rattle.syslog_frame.specs.declared.framing.Framing.{Framing};
-ghost use Rattle.frame_engine.specs.Pending.{done_of};
-ghost use Rattle.frame_engine.specs.Handling.{Done, then_done};
+ghost use Rattle.driver.specs.Effects.{Done, done_of, then_done};
 ghost use Rattle.frame_engine.specs.Streams.{HandlesOn, HandlesStep, HasHandled, HasPart, StepImplies, ReportsEnd};
 
 use crate::frame_handler::FrameHandler;
 use crate::line::Line;
-use crate::pending::PendingOutput;
+use driver::Effects;
 use std::alloc::AllocError;
 use syslog_frame::{EndFault, FRAME_MAX, POSITION_MAX, Ready, Scanner};
 
@@ -31,25 +30,25 @@ fn handle_next<D: FrameHandler>(
     handler: &D,
     scanner: &Scanner,
     number: u64,
-    done: &mut PendingOutput,
+    effects: &mut Effects,
 ) -> Result<Step, AllocError>
     ensures reports { IfOk result (λ step. StepImplies scanner.now step) }
     ensures handles { IfOk result (λ step. (kind : Framing) (octets : List ℕ)
         (frames : List (List ℕ)) (rest : List ℕ)
         → Reads FRAME_MAX scanner.now kind 0 octets frames rest
         → HandlesStep (D.handles handler.now) number kind octets rest
-        (done_of done.old) (done_of done.new) step) }
-    ensures err { OnErr result (done_of done.new ≡ done_of done.old) }
+        (done_of effects.old) (done_of effects.new) step) }
+    ensures err { OnErr result (done_of effects.new ≡ done_of effects.old) }
 {
     match scanner.ready() {
         None => Ok(Step::Nothing),
         Some(Ready::BadCount { at }) => Ok(Step::Bad { at }),
         Some(Ready::TooLong) => {
-            handler.report(Line::TooLong { number }, done)?;
+            handler.report(Line::TooLong { number }, effects)?;
             Ok(Step::Handled)
         }
         Some(Ready::Frame(frame)) => {
-            handler.on_frame(number, frame, done)?;
+            handler.on_frame(number, frame, effects)?;
             Ok(Step::Handled)
         }
     }
@@ -63,7 +62,7 @@ pub fn feed<D: FrameHandler>(
     scanner: &mut Scanner,
     number: &mut u64,
     piece: &[u8],
-    done: &mut PendingOutput,
+    effects: &mut Effects,
 ) -> Result<Option<u64>, AllocError>
     requires reading { IsReading scanner.old }
     requires near { scanner.old.position + length piece.now ≤ POSITION_MAX }
@@ -74,19 +73,19 @@ pub fn feed<D: FrameHandler>(
     ensures number { number.new ≤ number.old + length piece.now }
     ensures handles { IfOk result (λ bad. (kind : Framing) (octets : List ℕ) (before : Done)
         → HasHandled (D.handles handler.now) scanner.old kind octets number.old
-        (then_done before (done_of done.old))
+        (then_done before (done_of effects.old))
         → HandlesOn (D.handles handler.now) scanner.new kind (octets ++ piece.now) number.new
-        (then_done before (done_of done.new)) bad) }
+        (then_done before (done_of effects.new)) bad) }
     ensures err { OnErr result ((kind : Framing) (octets : List ℕ) (before : Done)
         → HasHandled (D.handles handler.now) scanner.old kind octets number.old
-        (then_done before (done_of done.old))
+        (then_done before (done_of effects.old))
         → HasPart (D.handles handler.now) kind (octets ++ piece.now)
-        (then_done before (done_of done.new))) }
+        (then_done before (done_of effects.new))) }
 {
     let mut rest = piece;
     while !rest.is_empty() {
         if let Some(lent) = scanner.lend(rest) {
-            handler.on_frame(*number, lent.frame, done)?;
+            handler.on_frame(*number, lent.frame, effects)?;
             rest = &rest[lent.used..];
             *number += 1;
             continue;
@@ -95,7 +94,7 @@ pub fn feed<D: FrameHandler>(
             unreachable!()
         };
         rest = &rest[used..];
-        match handle_next(handler, scanner, *number, done)? {
+        match handle_next(handler, scanner, *number, effects)? {
             Step::Nothing => {}
             Step::Bad { at } => return Ok(Some(at)),
             Step::Handled => {
@@ -111,19 +110,22 @@ pub fn feed<D: FrameHandler>(
 pub fn end_stream<D: FrameHandler>(
     handler: &D,
     scanner: &Scanner,
-    done: &mut PendingOutput,
+    effects: &mut Effects,
 ) -> Result<(), AllocError>
     requires { IsReading scanner.now }
     ensures ok { OnOk result ((kind : Framing) (octets : List ℕ) (frames : List (List ℕ))
         (rest : List ℕ) → Reads FRAME_MAX scanner.now kind 0 octets frames rest
         → Frames kind octets frames rest × ((d : Done)
         × ReportsEnd (D.reports handler.now) kind octets frames rest d
-        × (done_of done.new ≡ then_done (done_of done.old) d))) }
-    ensures err { OnErr result (done_of done.new ≡ done_of done.old) }
+        × (done_of effects.new ≡ then_done (done_of effects.old) d))) }
+    ensures err { OnErr result (done_of effects.new ≡ done_of effects.old) }
 {
     match scanner.end() {
         Ok(()) => Ok(()),
-        Err(EndFault::Unterminated { start }) => handler.report(Line::Unterminated { start }, done),
+        Err(EndFault::Unterminated { start }) => handler.report(
+            Line::Unterminated { start },
+            effects,
+        ),
         Err(EndFault::Failed | EndFault::Unreleased) => unreachable!(),
     }
 }

@@ -1,12 +1,13 @@
 //! What `check`, `show` and `convert` do with legacy packets, and with devices that fail.
 
-use frame_engine::{Check, Convert, FAULT, FrameHandler, InputFraming, REFUSED, Show, scan_input};
+use driver::{FAULT, REFUSED};
+use frame_engine::{Check, Convert, FrameHandler, InputFraming, Show, scan_input};
+use octet_devices::{FromRead, Fuse, READER_CALLS, ToWrite};
 use std::alloc::Global;
 use std::io::Read;
 use std::test::Fail;
 use syslog_frame::Framing;
 use syslog_legacy::LegacyClock;
-use syslog_value::{FromRead, Fuse, READER_CALLS, ToWrite};
 
 const LINES: InputFraming = InputFraming::Stream(Framing::Lf);
 
@@ -38,10 +39,10 @@ type Ran = (u8, Vec<u8>, Vec<u8>);
 
 /// Runs a handler over octets. The reader fails at the call after the first `reads`, the writer
 /// after `writes` octets.
-fn ran<D: FrameHandler>(
+fn ran<D: FrameHandler + Drop>(
     alloc: Global,
     input_framing: InputFraming,
-    handler: &D,
+    handler: D,
     input: &[u8],
     reads: u64,
     writes: u64,
@@ -91,11 +92,11 @@ fn legacy_packets_are_handled(rt: HostRuntime) -> Result<(), Fail> {
     let alloc = rt.alloc();
     let clock = clock();
     let most = u64::MAX;
-    let checked = ran(alloc, LINES, &Check { clock }, STREAM, most, most);
+    let checked = ran(alloc, LINES, Check { clock }, STREAM, most, most);
     expect(checked, REFUSED, CHECKED, b"")?;
-    let converted = ran(alloc, LINES, &converts(alloc, clock), STREAM, most, most);
+    let converted = ran(alloc, LINES, converts(alloc, clock), STREAM, most, most);
     expect(converted, REFUSED, CONVERTED, NOTED)?;
-    let shown = ran(alloc, LINES, &Show { alloc, clock }, STREAM, most, most);
+    let shown = ran(alloc, LINES, Show { alloc, clock }, STREAM, most, most);
     expect(shown, REFUSED, SHOWN, NOTED)
 }
 
@@ -106,7 +107,7 @@ fn without_a_clock_no_packet_is_legacy(rt: HostRuntime) -> Result<(), Fail> {
     let checked = ran(
         rt.alloc(),
         InputFraming::Datagram,
-        &check,
+        check,
         b"<13>10 x",
         most,
         most,
@@ -116,9 +117,9 @@ fn without_a_clock_no_packet_is_legacy(rt: HostRuntime) -> Result<(), Fail> {
 
 /// Under a writer that fails after n octets exactly these were written, and the notes end with the
 /// line on it.
-fn fails_everywhere<D: FrameHandler>(
+fn fails_everywhere<D: FrameHandler + Copy + Drop>(
     alloc: Global,
-    handler: &D,
+    handler: D,
     output: &[u8],
     noted: &[u8],
 ) -> Result<(), Fail> {
@@ -136,9 +137,9 @@ fn fails_everywhere<D: FrameHandler>(
 fn a_writer_that_fails_is_reported(rt: HostRuntime) -> Result<(), Fail> {
     let alloc = rt.alloc();
     let clock = clock();
-    fails_everywhere(alloc, &Check { clock }, CHECKED, b"")?;
-    fails_everywhere(alloc, &Show { alloc, clock }, SHOWN, NOTED)?;
-    fails_everywhere(alloc, &converts(alloc, clock), CONVERTED, NOTED)
+    fails_everywhere(alloc, Check { clock }, CHECKED, b"")?;
+    fails_everywhere(alloc, Show { alloc, clock }, SHOWN, NOTED)?;
+    fails_everywhere(alloc, converts(alloc, clock), CONVERTED, NOTED)
 }
 
 #[test]
@@ -146,10 +147,10 @@ fn nothing_is_read_behind_a_bad_count(rt: HostRuntime) -> Result<(), Fail> {
     let alloc = rt.alloc();
     let check = Check { clock: None };
     // The second call would fail.
-    let bad = ran(alloc, COUNTED, &check, b"1 xx", 1, u64::MAX);
+    let bad = ran(alloc, COUNTED, check, b"1 xx", 1, u64::MAX);
     expect(bad, REFUSED, b"1 syntax priority 0\n2 bad-count 3\n", b"")?;
     // It fails, and no count is bad before it.
-    let failed = ran(alloc, COUNTED, &check, b"1 x", 1, u64::MAX);
+    let failed = ran(alloc, COUNTED, check, b"1 x", 1, u64::MAX);
     expect(failed, FAULT, b"1 syntax priority 0\n", b"read fault\n")
 }
 
@@ -183,7 +184,7 @@ fn an_end_at_the_last_call_is_in_time(rt: HostRuntime) -> Result<(), Fail> {
         let mut reader = FromRead::new(OneByOne { inner });
         let mut writer = ToWrite::new(Vec::new(alloc));
         let mut notes = ToWrite::new(Vec::new(alloc));
-        let answer = scan_input(alloc, LINES, &check, &mut reader, &mut writer, &mut notes);
+        let answer = scan_input(alloc, LINES, check, &mut reader, &mut writer, &mut notes);
         expect(
             (answer, writer.into_inner(), notes.into_inner()),
             status,

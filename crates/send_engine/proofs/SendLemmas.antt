@@ -31,11 +31,14 @@ use Rattle.syslog_value.specs.declared.severity.Severity.TheVariants as severity
 use Rattle.syslog_value.specs.declared.severity.TheConstants.Severity as severities
 use Rattle.syslog_value.proofs.Tables.{severity_code-lt, severity_at}
 use Rattle.frame_engine.specs.Converted.{goes_out}
-use Rattle.frame_engine.specs.Handling.{Done, nothing}
-use Rattle.frame_engine.specs.Streams.{status_of}
-use Rattle.send_engine.specs.Options.{IsTime, Name, OptionTexts, OptionValues, framing_name}
-use Rattle.send_engine.specs.Sending.{IsMessageOf, SendDone, Sends, SentAs, refusal, sent_record}
-use Rattle.send_engine.specs.Values.{ConcludesWith, IsLetThrough, IsMade, IsRead, IsSender, IsSent, NamesSender}
+use Rattle.octet_devices.specs.Device.{OutputState}
+use Rattle.octet_devices.specs.Transfers.{WroteAll}
+use Rattle.driver.specs.Devices.{Reports}
+use Rattle.driver.specs.Effects.{Done, nothing, status_of}
+use Rattle.send_engine.specs.Options.{IsTime, Name, NameNothing, OptionTexts, OptionValues, framing_name}
+use Rattle.send_engine.specs.Sending.{IsMessageOf, OutOfMemory, RanSend, SendDone, Sends, Sent, SentAs, ValueRefused, WriteFailed}
+use Rattle.send_engine.specs.Sending.{refusal, sent_record}
+use Rattle.send_engine.specs.Values.{ConcludesAs, IsLetThrough, IsMade, IsRead, IsSender, IsSent, NamesSender}
 use Rattle.send_engine.specs.Values.{record_with}
 use Rattle.send_engine.specs.declared.values.Values.{Values}
 
@@ -170,7 +173,7 @@ made_of t s f up_to sev i msg_id k x n severity time same valid framing e = (
 
 -- ---- the answer of the sender
 
-pub sent_by : (x : Values) (m : MessageParts) (sent : Result Bool SendFault) (old new : Option (List ℕ))
+pub sent_by : (x : Values) (m : MessageParts) (sent : Result Bool SendFault) (old new : OutputState)
     → IfOk sent (λ b. IsTrue b ↔ IsLetThrough x)
     → IfOk sent (λ b. MatchBool b (SendsRecord (record_with x m) x.framing old new) (new ≡ old))
     → OnErr sent (IsLetThrough x) → IfErr sent (IsSendFault (record_with x m) x.framing old new)
@@ -254,90 +257,30 @@ not_carried : (framing : Framing) (octets : List ℕ) → framing ≡ Lf → ¬ 
 not_carried Counted octets e h = absurd cc
 not_carried Lf octets e h = h
 
--- what comes of the answer of the sender
-pub answered : (t : OptionTexts) (v : OptionValues) (x : Values) (m : MessageParts) (sent : Result Bool SendFault)
-    (old new before noted : Option (List ℕ)) (status : ℕ)
-    → IsRead t v x m → IsSent x m sent old new → ConcludesWith sent status before noted
-    → (d : Done) × SendDone t d × (status ≡ status_of d) × Appends old new d.output × Appends before noted d.notes
-answered t v x m (Ok true) old new before noted status h (l, (octets, canonical, (frame, taken))) (zero, same) = (
-  goes_out (framed x.framing octets),
-  (
-    v,
-    h.named,
-    inr (
-      (through t v x h.made).0 l,
-      m,
-      h.message,
-      octets,
-      subst (λ (r : Parts ℤ). Canonical r octets) (same_record t v x m h.made) canonical,
-      inl (
-        subst (λ (k : Framing). IsFrame k octets) h.made.framing frame,
-        ap (λ (k : Framing). goes_out (framed k octets)) h.made.framing,
-      ),
-    ),
+-- what comes of the texts, where the record is sent with this outcome
+done_with : (t : OptionTexts) (v : OptionValues) (x : Values) (m : MessageParts) (octets : List ℕ) (d : Done)
+    → IsRead t v x m → IsLetThrough x → Canonical (record_with x m) octets → SentAs v.framing octets d → SendDone t d
+done_with t v x m octets d h l canonical out = (
+  v,
+  h.named,
+  inr (
+    (through t v x h.made).0 l,
+    m,
+    h.message,
+    octets,
+    subst (λ (r : Parts ℤ). Canonical r octets) (same_record t v x m h.made) canonical,
+    out,
   ),
-  zero,
-  taken,
-  subst (λ (s : Option (List ℕ)). Appends before s []) (sym same) (Appends-nil before),
 )
-answered t v x m (Ok false) old new before noted status h (l, kept) (zero, same) = (
-  nothing,
-  (
-    v,
-    h.named,
-    inl (
-      omega (
-        arith,
-        λ (k : severity_code v.severity ≤ severity_code v.up_to).
-            l ((through t v x h.made).1 k),
-      ),
-      refl,
-    ),
-  ),
-  zero,
-  subst (λ (s : Option (List ℕ)). Appends old s []) (sym kept) (Appends-nil old),
-  subst (λ (s : Option (List ℕ)). Appends before s []) (sym same) (Appends-nil before),
-)
-answered t v x m (Err fault.HasLf) old new before noted status h (l, (octets, canonical, (kind, no_line)), kept)
-    (one, said) = (
-      refusal (codes "has-lf\n"),
-      (
-        v,
-        h.named,
-        inr (
-          (through t v x h.made).0 l,
-          m,
-          h.message,
-          octets,
-          subst (λ (r : Parts ℤ). Canonical r octets) (same_record t v x m h.made) canonical,
-          inr (inl (not_carried v.framing octets (sym h.made.framing ∙ kind) no_line, refl)),
-        ),
-      ),
-      one,
-      subst (λ (s : Option (List ℕ)). Appends old s []) (sym (kept (λ w. w))) (Appends-nil old),
-      said,
-    )
-answered t v x m (Err fault.TooLong) old new before noted status h (l, (octets, canonical, (carried, long)), kept)
-    (one, said) = (
-      refusal (codes "canonical-too-long\n"),
-      (
-        v,
-        h.named,
-        inr (
-          (through t v x h.made).0 l,
-          m,
-          h.message,
-          octets,
-          subst (λ (r : Parts ℤ). Canonical r octets) (same_record t v x m h.made) canonical,
-          inr (inr (subst (λ (k : Framing). Carries k octets) h.made.framing carried, long, refl)),
-        ),
-      ),
-      one,
-      subst (λ (s : Option (List ℕ)). Appends old s []) (sym (kept (λ w. w))) (Appends-nil old),
-      said,
-    )
-answered t v x m (Err fault.Memory) old new before noted status h s k = absurd k
-answered t v x m (Err (fault.Write sent)) old new before noted status h s k = absurd k
+
+wrote_nothing : (o : OutputState) → WroteAll o o []
+wrote_nothing o = record { octets = Appends-nil o.taken; no_failure = refl }
+
+unwritten : (old new : OutputState) → new ≡ old → WroteAll old new []
+unwritten old new same = subst (λ (s : OutputState). WroteAll old s []) (sym same) (wrote_nothing old)
+
+nothing_told : (old new : OutputState) (status : ℕ) → status ≡ 0 → new ≡ old → Reports [] 0 old new status
+nothing_told old new status zero same = inl (zero, unwritten old new same)
 
 -- ---- a prefix
 
@@ -374,24 +317,101 @@ sent_output t v x m octets d h l canonical frame (w, named, inr (below, n, messa
     out_once x.framing octets d frame (subst (λ (k : Framing). SentAs k octets d) kind
     (subst (λ (b : List ℕ). SentAs w.framing b d) equal out))
 
-none_written : (old new : Option (List ℕ)) (text : List ℕ) → new ≡ old → (n : ℕ) × Appends old new (take n text)
-none_written old new text same = (0, subst (λ (s : Option (List ℕ)). Appends old s []) (sym same) (Appends-nil old))
+none_written : (old new : OutputState) (text : List ℕ) → new ≡ old → (n : ℕ) × Appends old.taken new.taken (take n text)
+none_written old new text same =
+    (0, subst (λ (s : OutputState). Appends old.taken s.taken []) (sym same) (Appends-nil old.taken))
 
 -- whatever the answer, a prefix of what comes of the texts was written
-pub prefix_sent : (t : OptionTexts) (v : OptionValues) (x : Values) (m : MessageParts) (sent : Result Bool SendFault)
-    (old new : Option (List ℕ))
-    → IsRead t v x m → IsSent x m sent old new → (d : Done) → SendDone t d → (n : ℕ) × Appends old new (take n d.output)
-prefix_sent t v x m (Ok true) old new h (l, (octets, canonical, (frame, taken))) d done =
+prefix_sent : (t : OptionTexts) (v : OptionValues) (x : Values) (m : MessageParts) (sent : Result Bool SendFault)
+    (old new : OutputState) → IsRead t v x m → IsSent x m sent old new → (d : Done) → SendDone t d
+    → (n : ℕ) × Appends old.taken new.taken (take n d.output)
+prefix_sent t v x m (Ok true) old new h (l, (octets, canonical, (frame, wrote))) d done =
     let e : d.output ≡ framed x.framing octets = sent_output t v x m octets d h l canonical frame done in
-    (length d.output, subst (Appends old new) (sym e ∙ sym (take-length d.output)) taken)
+    (length d.output, subst (Appends old.taken new.taken) (sym e ∙ sym (take-length d.output)) wrote.octets)
 prefix_sent t v x m (Ok false) old new h (l, kept) d done = none_written old new d.output kept
 prefix_sent t v x m (Err fault.HasLf) old new h (l, s, kept) d done = none_written old new d.output (kept (λ w. w))
 prefix_sent t v x m (Err fault.TooLong) old new h (l, s, kept) d done = none_written old new d.output (kept (λ w. w))
 prefix_sent t v x m (Err fault.Memory) old new h (l, s, kept) d done = none_written old new d.output (kept (λ w. w))
-prefix_sent t v x m (Err (fault.Write sent)) old new h (l, (octets, canonical, (frame, some, taken)), kept) d done =
+prefix_sent t v x m (Err (fault.Write sent)) old new h (l, (octets, canonical, (frame, part)), kept) d done =
     let e : d.output ≡ framed x.framing octets = sent_output t v x m octets d h l canonical frame done in
-    (sent, subst (λ (s : List ℕ). Appends old new (take sent s)) (sym e) taken)
+    (sent, subst (λ (s : List ℕ). Appends old.taken new.taken (take sent s)) (sym e) part.octets)
+
+-- ---- a run
 
 -- nothing was written
-pub prefix_none : (old new : Option (List ℕ)) (d : Done) → new ≡ old → (n : ℕ) × Appends old new (take n d.output)
-prefix_none old new d same = none_written old new d.output same
+pub ran_out : (t : OptionTexts) (w n n_new : OutputState) (status : ℕ)
+    → Reports (codes "want of memory\n") 3 n n_new status → RanSend t w w n n_new status
+ran_out t w n n_new status r =
+    record { ending = OutOfMemory; outcome = (refl, r); begins = λ d done. none_written w w d.output refl }
+
+-- what comes of the answer of the sender
+pub ran_sent : (t : OptionTexts) (v : OptionValues) (x : Values) (m : MessageParts) (sent : Result Bool SendFault)
+    (w w_new n n_new : OutputState) (status : ℕ) → IsRead t v x m → IsSent x m sent w w_new
+    → ConcludesAs sent n n_new status → RanSend t w w_new n n_new status
+ran_sent t v x m (Ok true) w w_new n n_new status h (l, (octets, canonical, (frame, wrote))) (zero, same) =
+    record {
+      ending = Sent;
+      outcome = (
+        goes_out (framed x.framing octets),
+        done_with t v x m octets (goes_out (framed x.framing octets)) h l canonical (inl (
+          subst (λ (k : Framing). IsFrame k octets) h.made.framing frame,
+          ap (λ (k : Framing). goes_out (framed k octets)) h.made.framing,
+        )),
+        wrote,
+        nothing_told n n_new status zero same,
+      );
+      begins = prefix_sent t v x m (Ok true) w w_new h (l, (octets, canonical, (frame, wrote)));
+    }
+ran_sent t v x m (Ok false) w w_new n n_new status h (l, kept) (zero, same) =
+    let above : severity_code v.up_to < severity_code v.severity =
+    omega (arith, λ (k : severity_code v.severity ≤ severity_code v.up_to). l ((through t v x h.made).1 k)) in
+    record {
+      ending = Sent;
+      outcome = (nothing, (v, h.named, inl (above, refl)), unwritten w w_new kept, nothing_told n n_new status zero same);
+      begins = prefix_sent t v x m (Ok false) w w_new h (l, kept);
+    }
+ran_sent t v x m (Err fault.HasLf) w w_new n n_new status h (l, (octets, canonical, (kind, no_line)), kept) told =
+    record {
+      ending = Sent;
+      outcome = (
+        refusal (codes "has-lf\n"),
+        done_with t v x m octets (refusal (codes "has-lf\n")) h l canonical
+            (inr (inl (not_carried v.framing octets (sym h.made.framing ∙ kind) no_line, refl))),
+        unwritten w w_new (kept (λ w. w)),
+        told,
+      );
+      begins = prefix_sent t v x m (Err fault.HasLf) w w_new h (l, (octets, canonical, (kind, no_line)), kept);
+    }
+ran_sent t v x m (Err fault.TooLong) w w_new n n_new status h (l, (octets, canonical, (carried, long)), kept) told =
+    record {
+      ending = Sent;
+      outcome = (
+        refusal (codes "canonical-too-long\n"),
+        done_with t v x m octets (refusal (codes "canonical-too-long\n")) h l canonical
+            (inr (inr (subst (λ (k : Framing). Carries k octets) h.made.framing carried, long, refl))),
+        unwritten w w_new (kept (λ w. w)),
+        told,
+      );
+      begins = prefix_sent t v x m (Err fault.TooLong) w w_new h (l, (octets, canonical, (carried, long)), kept);
+    }
+ran_sent t v x m (Err fault.Memory) w w_new n n_new status h (l, s, kept) told =
+    record {
+      ending = OutOfMemory;
+      outcome = (kept (λ w. w), told);
+      begins = prefix_sent t v x m (Err fault.Memory) w w_new h (l, s, kept);
+    }
+ran_sent t v x m (Err (fault.Write sent)) w w_new n n_new status h (l, (octets, canonical, (frame, part)), kept) told =
+    record {
+      ending = WriteFailed;
+      outcome = (part.cause, told);
+      begins = prefix_sent t v x m (Err (fault.Write sent)) w w_new h (l, (octets, canonical, (frame, part)), kept);
+    }
+
+-- a text is no value of its option
+pub ran_refused : (t : OptionTexts) (w n n_new : OutputState) (line text : List ℕ) (status : ℕ) → NameNothing t
+    → text ≡ line → 0 < length line → Reports text 2 n n_new status → RanSend t w w n n_new status
+ran_refused t w n n_new line text status none is some told = record {
+  ending = ValueRefused;
+  outcome = (none, refl, (text, omega (arith, some, ap length is), told));
+  begins = λ d done. none_written w w d.output refl;
+}

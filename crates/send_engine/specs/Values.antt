@@ -1,6 +1,8 @@
 -- What was made of the values of the options.
 use Rattle.std.specs.Prelude.{◌≡◌, ℕ, ℤ, ⊤, ◌↔◌, ◌≤◌, List, [], Bool, true, false, codes, Option, Result, Ok, Err}
-use Rattle.std.specs.Io.KnownBytes.{Appends}
+use Rattle.octet_devices.specs.Device.{OutputState}
+use Rattle.driver.specs.Devices.{Reports}
+use Rattle.driver.specs.declared.status.TheConstants.{DONE, FAULT, NO_MEMORY, REFUSED}
 use Rattle.syslog_sender.specs.Answers.{IsSendFault, IsWriteFault, SendsRecord}
 use Rattle.syslog_sender.specs.declared.fault.SendFault.{SendFault}
 use Rattle.syslog_sender.specs.declared.fault.SendFault.TheVariants as fault
@@ -61,7 +63,7 @@ abbrev pub IsLetThrough : Values → Type 0
 IsLetThrough x = LetsThrough x.sender.mask (severity_code x.severity)
 
 -- what a call of the sender for these values and this message did, by its answer
-abbrev pub IsSent : Values → MessageParts → Result Bool SendFault → Option (List ℕ) → Option (List ℕ) → Type 0
+abbrev pub IsSent : Values → MessageParts → Result Bool SendFault → OutputState → OutputState → Type 0
 IsSent x m (Ok true) old new = IsLetThrough x × SendsRecord (record_with x m) x.framing old new
 IsSent x m (Ok false) old new = ¬ (IsLetThrough x) × (new ≡ old)
 IsSent x m (Err f) old new =
@@ -73,10 +75,10 @@ pub record IsRead (t : OptionTexts) (v : OptionValues) (x : Values) (m : Message
   pub made : IsMade t v x
   pub message : IsMessageOf t.text m
 
--- a status below 2 and what was noted, by the answer of the sender
-abbrev pub ConcludesWith : Result Bool SendFault → ℕ → Option (List ℕ) → Option (List ℕ) → Type 0
-ConcludesWith (Ok sent) status old new = (status ≡ 0) × (new ≡ old)
-ConcludesWith (Err fault.HasLf) status old new = (status ≡ 1) × Appends old new (codes "has-lf\n")
-ConcludesWith (Err fault.TooLong) status old new = (status ≡ 1) × Appends old new (codes "canonical-too-long\n")
-ConcludesWith (Err fault.Memory) status old new = ⊥
-ConcludesWith (Err (fault.Write sent)) status old new = ⊥
+-- what is told of the answer of the sender
+abbrev pub ConcludesAs : Result Bool SendFault → OutputState → OutputState → ℕ → Type 0
+ConcludesAs (Ok sent) old new status = (status ≡ DONE) × (new ≡ old)
+ConcludesAs (Err fault.HasLf) old new status = Reports (codes "has-lf\n") REFUSED old new status
+ConcludesAs (Err fault.TooLong) old new status = Reports (codes "canonical-too-long\n") REFUSED old new status
+ConcludesAs (Err fault.Memory) old new status = Reports (codes "want of memory\n") NO_MEMORY old new status
+ConcludesAs (Err (fault.Write sent)) old new status = Reports (codes "write fault\n") FAULT old new status

@@ -1,8 +1,8 @@
 //! Rows of what `send` writes.
 
 use crate::{SendOptions, send_text};
+use octet_devices::ToWrite;
 use std::test::Fail;
-use syslog_value::ToWrite;
 
 // the options as they are by default
 fn options<'a>(text: &'a str) -> SendOptions<'a> {

@@ -1,6 +1,6 @@
 //! The values that the texts of the options name.
 
-ghost use Rattle.std.specs.Prelude.{◌≡◌, ℤ, IfErr, IfOk, MatchOption, OnErr, Option, option_map};
+ghost use Rattle.std.specs.Prelude.{◌≡◌, ◌<◌, ℤ, length, IfErr, IfOk, MatchOption, OnErr, Option, option_map};
 ghost use Rattle.std.specs.Option.{ForSome};
 ghost use Rattle.syslog_value.specs.Facilities.{IsNoFacilityName, facility_name};
 ghost use Rattle.syslog_value.specs.Parts.{IsWord};
@@ -33,7 +33,9 @@ pub enum Restricted {
 
 impl Restricted {
     /// What the option takes, as a text for the user.
-    pub fn takes(self) -> &'static str {
+    pub fn takes(self) -> &'static str
+        ensures { 0 < length result.now }
+    {
         match self {
             Restricted::Facility => {
                 "error: --facility is kern, user, mail, daemon, auth, syslog, lpr, news, uucp, \

@@ -1,6 +1,7 @@
 -- What is known after an event was sent, or was not.
-use Rattle.std.specs.Prelude.{◌≡◌, ℕ, ℤ, ◌<◌, List, length, take, Bool, Option, Result, Ok, Err, ⊤}
-use Rattle.std.specs.Io.KnownBytes.{Appends}
+use Rattle.std.specs.Prelude.{◌≡◌, ℕ, ℤ, ◌<◌, List, length, Bool, Result, Ok, Err, ⊤}
+use Rattle.octet_devices.specs.Device.{OutputState}
+use Rattle.octet_devices.specs.Transfers.{WroteAll, WrotePart}
 use Rattle.syslog_value.specs.Parts.{Parts}
 use Rattle.syslog_grammar.specs.Canonical.{Canonical}
 use Rattle.syslog_frame.specs.Frames.{IsLine, framed}
@@ -14,26 +15,25 @@ use Rattle.syslog_sender.specs.declared.fault.SendFault.TheVariants.{HasLf, TooL
 -- ---- octets as a frame
 
 -- a writer took the frame of the octets
-abbrev pub TakesFrame : Framing → List ℕ → Option (List ℕ) → Option (List ℕ) → Type 0
-TakesFrame framing octets old new = IsFrame framing octets × Appends old new (framed framing octets)
+abbrev pub TakesFrame : Framing → List ℕ → OutputState → OutputState → Type 0
+TakesFrame framing octets old new = IsFrame framing octets × WroteAll old new (framed framing octets)
 
 -- why a writer did not take it: the first cause that holds; and how much of it was taken
-abbrev pub IsFrameFault : Framing → List ℕ → Option (List ℕ) → Option (List ℕ) → SendFault → Type 0
+abbrev pub IsFrameFault : Framing → List ℕ → OutputState → OutputState → SendFault → Type 0
 IsFrameFault framing octets old new HasLf = (framing ≡ Lf) × ¬ (IsLine octets)
 IsFrameFault framing octets old new TooLong = Carries framing octets × (FRAME_MAX < length octets)
 IsFrameFault framing octets old new Memory = ⊤
 IsFrameFault framing octets old new (Write sent) =
-    IsFrame framing octets × (sent < length (framed framing octets))
-    × Appends old new (take sent (framed framing octets))
+    IsFrame framing octets × WrotePart old new (framed framing octets) sent
 
 -- ---- a record
 
 -- the writer took the frame of the canonical octets
-abbrev pub SendsRecord : Parts ℤ → Framing → Option (List ℕ) → Option (List ℕ) → Type 0
+abbrev pub SendsRecord : Parts ℤ → Framing → OutputState → OutputState → Type 0
 SendsRecord r framing old new = (octets : List ℕ) × Canonical r octets × TakesFrame framing octets old new
 
 -- why it did not; memory may be refused before the octets are known
-abbrev pub IsSendFault : Parts ℤ → Framing → Option (List ℕ) → Option (List ℕ) → SendFault → Type 0
+abbrev pub IsSendFault : Parts ℤ → Framing → OutputState → OutputState → SendFault → Type 0
 IsSendFault r framing old new Memory = ⊤
 IsSendFault r framing old new fault = (octets : List ℕ) × Canonical r octets × IsFrameFault framing octets old new fault
 

@@ -1,21 +1,22 @@
 //! Octets to a writer as one frame.
 
-ghost use Rattle.std.specs.Prelude.{◌≡◌, ◌<◌, ◌^◌, ℕ, IfErr, IfOk, List, OnOk, Option, length};
+ghost use Rattle.std.specs.Prelude.{◌≡◌, ◌<◌, IfErr, IfOk, MatchResult, length};
+ghost use Rattle.octet_devices.specs.Device.{OutputState};
 ghost use Rattle.syslog_frame.specs.Frames.{framed};
 ghost use Rattle.syslog_sender.specs.Answers.{IsFrameFault, IsWriteFault, TakesFrame};
 ghost use Rattle.syslog_sender.specs.Sent.{IsFrame};
 
 use crate::fault::SendFault;
+use octet_devices::{Output, WriteFault, write_all};
 use std::alloc::Global;
 use syslog_frame::{Framing, PutFault, put_frame};
-use syslog_value::{Output, WriteFault, write_all};
 
 /// The frame of these octets.
 fn frame_of(alloc: Global, framing: Framing, octets: &[u8]) -> Result<Vec<u8>, SendFault>
     requires { 0 < length octets.now }
     ensures ok { IfOk result (λ frame.
         IsFrame framing octets.now × (frame.items ≡ framed framing octets.now)) }
-    ensures err { IfErr result (λ fault. (old new : Option (List ℕ))
+    ensures err { IfErr result (λ fault. (old new : OutputState)
         → IsFrameFault framing octets.now old new fault) }
     ensures unwritten { IfErr result (λ fault. ¬ (IsWriteFault fault)) }
 {
@@ -37,14 +38,10 @@ pub fn write_frame<W: Output>(
     writer: &mut W,
 ) -> Result<(), SendFault>
     requires { 0 < length octets.now }
-    ensures ok { OnOk result
-        (TakesFrame framing octets.now (W.taken writer.old) (W.taken writer.new)) }
-    ensures err { IfErr result
-        (IsFrameFault framing octets.now (W.taken writer.old) (W.taken writer.new)) }
+    ensures sends { MatchResult result
+        (λ _. TakesFrame framing octets.now (W.state writer.old) (W.state writer.new))
+        (IsFrameFault framing octets.now (W.state writer.old) (W.state writer.new)) }
     ensures same { IfErr result (λ fault. ¬ (IsWriteFault fault) → writer.new ≡ writer.old) }
-    ensures no_failure { OnOk result (W.failures writer.new ≡ W.failures writer.old) }
-    ensures cause { W.failures writer.old < 2 ^ 63 → IfErr result (λ fault.
-        IsWriteFault fault → W.failures writer.old < W.failures writer.new) }
 {
     let frame = frame_of(alloc, framing, octets)?;
     match write_all(writer, frame.as_slice()) {

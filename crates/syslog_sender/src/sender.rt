@@ -1,7 +1,6 @@
 //! The sender.
 
-ghost use Rattle.std.specs.Prelude.{◌≡◌, ◌<◌, ◌^◌, ◌↔◌, IfErr, IfOk, IfSome, IsSome, IsTrue};
-ghost use Rattle.std.specs.Prelude.{MatchBool, OnErr, OnOk};
+ghost use Rattle.std.specs.Prelude.{◌≡◌, ◌↔◌, IfErr, IfOk, IfSome, IsSome, IsTrue, MatchBool, OnErr};
 ghost use Rattle.std.specs.Option.{option_copied};
 ghost use Rattle.syslog_value.specs.Parts.{IsInstant, IsRecord, IsWord};
 ghost use Rattle.syslog_grammar.specs.Appending.{Adds, Appends};
@@ -14,11 +13,12 @@ ghost use Rattle.syslog_sender.specs.Sent.{event_of, record_of};
 
 use crate::fault::SendFault;
 use crate::framing::write_frame;
+use octet_devices::Output;
 use std::alloc::{AllocError, Global};
 use std::marker::Model;
 use syslog_frame::Framing;
 use syslog_grammar::{LentRecord, put_lent};
-use syslog_value::{Facility, Instant, Mask, Message, Output, Priority, StructuredData, Word};
+use syslog_value::{Facility, Instant, Mask, Message, Priority, StructuredData, Word};
 
 // octets of a record beside its message that have room from the start
 const ROOM: usize = 256;
@@ -243,27 +243,24 @@ impl Sender {
         ensures ok { IfOk result (λ sent. MatchBool sent
             (SendsRecord (record_of self.now (event_of priority instant
             (option_copied msg_id.entry) structured.now message.now))
-            framing (W.taken writer.old) (W.taken writer.new))
+            framing (W.state writer.old) (W.state writer.new))
             (writer.new ≡ writer.old)) }
         ensures valid { IfOk result (λ sent. IsTrue sent
             → IsRecord (record_of self.now (event_of priority instant
             (option_copied msg_id.entry) structured.now message.now))) }
-        ensures no_failure { OnOk result (W.failures writer.new ≡ W.failures writer.old) }
 
         // the first cause that holds, and what was written
         ensures let_through { OnErr result (LetsThrough self.now.mask priority) }
         ensures err { IfErr result (IsSendFault (record_of self.now (event_of priority instant
             (option_copied msg_id.entry) structured.now message.now))
-            framing (W.taken writer.old) (W.taken writer.new)) }
+            framing (W.state writer.old) (W.state writer.new)) }
         ensures same { IfErr result (λ fault. ¬ (IsWriteFault fault) → writer.new ≡ writer.old) }
-        ensures cause { W.failures writer.old < 2 ^ 63 → IfErr result (λ fault.
-            IsWriteFault fault → W.failures writer.old < W.failures writer.new) }
 
         // one step of a list of calls, unless memory or the writer failed
-        ensures step { IsAnswered result → Step self.now (W.taken writer.old)
+        ensures step { IsAnswered result → Step self.now (W.state writer.old).taken
             (Send framing (event_of priority instant (option_copied msg_id.entry)
             structured.now message.now))
-            self.now (W.taken writer.new) }
+            self.now (W.state writer.new).taken }
     {
         let octets = match self.prepare(alloc, priority, instant, msg_id, structured, message)? {
             Some(octets) => octets,

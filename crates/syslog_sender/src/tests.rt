@@ -1,13 +1,12 @@
 //! What senders write, by their public calls.
 
 use crate::{SendFault, Sender};
+use octet_devices::{Fuse, ToWrite};
 use std::alloc::Global;
 use std::test::Fail;
 use syslog_frame::{FRAME_MAX, Framing, Ready, Scanner};
 use syslog_grammar::view;
-use syslog_value::{
-    Facility, Fuse, Instant, Mask, Message, Priority, Severity, StructuredData, ToWrite, Word,
-};
+use syslog_value::{Facility, Instant, Mask, Message, Priority, Severity, StructuredData, Word};
 
 /// A sender without words.
 fn nameless(facility: Facility) -> Sender {

@@ -3,11 +3,11 @@
 use libc::STDOUT_FILENO;
 use libc::net::{POLLERR, POLLHUP, POLLOUT, poll};
 use libc::types::pollfd;
+use octet_devices::Output;
 use std::fs::{File, OpenOptions};
 use std::io;
 use std::mem::forget;
 use std::os::fd::AsRawFd;
-use syslog_value::Output;
 
 const NULL_DEVICE: &str = "/dev/null";
 

@@ -2,10 +2,10 @@
 
 ghost use Rattle.std.specs.Prelude.{None};
 
-use crate::files::Files;
+use commands::Files;
+use octet_devices::FromRead;
 use std::fs::File;
 use std::rt;
-use syslog_value::FromRead;
 
 /// The files of the system. No contract knows their octets.
 #[derive(Drop)]

@@ -4,73 +4,68 @@
 mod collect;
 mod descriptors;
 mod disk;
-mod files;
-mod memory;
-mod run;
-#[cfg(test)]
-mod tests;
 
 use command_line::collect_words;
+use commands::run;
 use descriptors::{can_be_written, occupy_closed_descriptors};
 use disk::DiskFiles;
-use frame_engine::{FAULT, NO_MEMORY, note};
-use run::run;
+use driver::{FAULT, NO_MEMORY, report};
+use octet_devices::{FromRead, ToWrite};
 use std::process::ExitCode;
 use std::{env, io};
-use syslog_value::{FromRead, ToWrite};
 
-// The words without the program's name, or the exit status where they cannot be read.
-fn program_words(rt: &HostRuntime) -> Result<Vec<String>, u8> {
-    let words = match env::args(rt) {
-        Ok(words) => words,
+// The arguments without the program's name, or the exit status where they cannot be read.
+fn program_args(rt: &HostRuntime) -> Result<Vec<String>, u8> {
+    let args = match env::args(rt) {
+        Ok(args) => args,
         Err(error) if error.kind() == io::ErrorKind::OutOfMemory => return Err(NO_MEMORY),
         Err(_) => return Err(FAULT),
     };
-    match words.skip(1).collect(rt.alloc()) {
-        Ok(words) => Ok(words),
+    match args.skip(1).collect(rt.alloc()) {
+        Ok(args) => Ok(args),
         Err(_) => Err(NO_MEMORY),
     }
 }
 
 fn main(rt: HostRuntime) -> ExitCode {
-    let mut notes = ToWrite::new(rt.stderr());
+    let mut diagnostics = ToWrite::new(rt.stderr());
     if occupy_closed_descriptors(&rt).is_err() {
         let line = b"error: a standard descriptor is closed, and /dev/null cannot be opened\n";
-        return ExitCode::from(note(&mut notes, line, FAULT));
+        return ExitCode::from(report(&mut diagnostics, line, FAULT));
     }
-    let words = match program_words(&rt) {
-        Ok(words) => words,
+    let args = match program_args(&rt) {
+        Ok(args) => args,
         Err(NO_MEMORY) => {
-            return ExitCode::from(note(&mut notes, b"want of memory\n", NO_MEMORY));
+            return ExitCode::from(report(&mut diagnostics, b"want of memory\n", NO_MEMORY));
         }
         Err(_) => {
             let line = b"error: an argument is not UTF-8\n";
-            return ExitCode::from(note(&mut notes, line, FAULT));
+            return ExitCode::from(report(&mut diagnostics, line, FAULT));
         }
     };
-    let mut writer = ToWrite::new(rt.stdout());
-    match collect_words(rt.alloc(), words.as_slice()) {
+    let mut output = ToWrite::new(rt.stdout());
+    match collect_words(rt.alloc(), args.as_slice()) {
         Ok(Some(words)) => {
-            if !can_be_written(&mut writer) {
-                return ExitCode::from(note(&mut notes, b"write fault\n", FAULT));
+            if !can_be_written(&mut output) {
+                return ExitCode::from(report(&mut diagnostics, b"write fault\n", FAULT));
             }
-            let status = collect::collect(&rt, rt.alloc(), &words, &mut writer, &mut notes);
+            let status = collect::collect(&rt, rt.alloc(), &words, &mut output, &mut diagnostics);
             return ExitCode::from(status);
         }
         Err(NO_MEMORY) => {
-            return ExitCode::from(note(&mut notes, b"want of memory\n", NO_MEMORY));
+            return ExitCode::from(report(&mut diagnostics, b"want of memory\n", NO_MEMORY));
         }
-        // another command, or words that `run` refuses with their text
+        // another command, or arguments that `run` refuses with their text
         Ok(None) | Err(_) => {}
     }
-    let mut reader = FromRead::new(rt.stdin());
+    let mut input = FromRead::new(rt.stdin());
     let mut files = DiskFiles::new(&rt);
     let status = run(
         rt.alloc(),
-        words.as_slice(),
-        &mut reader,
-        &mut writer,
-        &mut notes,
+        args.as_slice(),
+        &mut input,
+        &mut output,
+        &mut diagnostics,
         &mut files,
     );
     ExitCode::from(status)

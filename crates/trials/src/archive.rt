@@ -7,11 +7,12 @@ use crate::rows::{A, AB, ABC, AC, B};
 use archive_pages::PagedArchive;
 use archive_text::{AddFault, Store};
 use archive_vec::{ReadFault, VecArchive, merge};
+use octet_devices::{ToWrite, WriteFault};
 use std::alloc::{AllocError, Global};
 use std::io;
 use std::io::Write;
 use syslog_grammar::{RecordView, view};
-use syslog_value::{Record, ToWrite, WriteFault};
+use syslog_value::Record;
 
 /// A trial over one store.
 #[derive(Drop)]

@@ -1,10 +1,10 @@
 //! Collectors and the texts of stores, as trials make them.
 
 use archive_text::Store;
+use octet_devices::ToWrite;
 use std::alloc::{AllocError, Global};
 use std::io;
 use syslog_collect::Collector;
-use syslog_value::ToWrite;
 
 /// A collector over a store. Where its memory is refused, the store comes back.
 pub fn collector<S: Store>(alloc: Global, store: S) -> Result<Collector<S>, S> {

@@ -8,9 +8,9 @@ use archive_pages::PagedArchive;
 use archive_streams::{MergeFault, merge_streams};
 use archive_text::Store;
 use archive_vec::VecArchive;
+use octet_devices::{FromRead, ToWrite};
 use std::alloc::Global;
 use std::io;
-use syslog_value::{FromRead, ToWrite};
 
 /// An archive of the time when elements stood in the order of the octets, and what it becomes.
 const OLD: &[u8] = b"21 <0>1 - - - - - [b][c]21 <0>1 - - - - - [c][a]21 <0>1 - - - - - [c][b]";

@@ -1,11 +1,11 @@
 //! Each call of `syslog_value` that allocates, with its outcome on a line: `ok`, or `memory` and
 //! what is left.
 
+use octet_devices::{FromRead, ReadAllFault, read_all};
 use std::alloc::{AllocError, Global};
 use std::io;
 use syslog_value::{
-    Element, FromRead, Message, Param, Priority, PushFault, ReadAllFault, Record, SdName,
-    StructuredData, Word, WordFault, read_all,
+    Element, Message, Param, Priority, PushFault, Record, SdName, StructuredData, Word, WordFault,
 };
 
 /// An element with one parameter.

@@ -1,4 +1,4 @@
-use Rattle.std.proofs.Common.{arith}
+use Rattle.std.proofs.Common.{arith, refl}
 use Rattle.std.proofs.lemmas.Result.{on_err_weaker, on_ok_weaker}
 use Rattle.archive_text.specs.EntryViews.{entry_of}
 use Rattle.archive_pages.specs.Spans.{blocks_of, lists_of}
@@ -14,8 +14,11 @@ returns-in_err-span-clause-paged c =
 
 pub returns-in_err-span-clause-err : goal.returns-in_err-span-clause-err
 returns-in_err-span-clause-err c =
-    on_err c.from_residual.result (same_entries (blocks_of c.args.arena.now) (blocks_of c.push.new.self)
-    (lists_of c.args.pages.now.items) c.in_err-span.ensures.keeps c.requires.paged)
+    on_err c.from_residual.result (record {
+      pages_kept = refl;
+      entries_kept = same_entries (blocks_of c.args.arena.now) (blocks_of c.push.new.self)
+          (lists_of c.args.pages.now.items) c.in_err-span.ensures.keeps c.requires.paged;
+    })
 
 pub insert_span-requires-clause-page_in : goal.insert_span-requires-clause-page_in
 insert_span-requires-clause-page_in c = omega (arith, c.requires.place.page, count_is c.args.pages.now.items)
@@ -53,5 +56,7 @@ returns-clause-err c =
     let new = blocks_of c.push.new.self in
     let pages = lists_of c.args.pages.now.items in
     let more = lists_of c.insert_span.new.pages.items in
-    on_err_weaker c.insert_span.result (λ same.
-    entries_same old new pages more c.requires.paged c.in_ok-span.ensures.keeps same) c.insert_span.ensures.err
+    on_err_weaker c.insert_span.result (λ same. record {
+      pages_kept = same;
+      entries_kept = entries_same old new pages more c.requires.paged c.in_ok-span.ensures.keeps same;
+    }) c.insert_span.ensures.err

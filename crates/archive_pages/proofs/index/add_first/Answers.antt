@@ -1,4 +1,4 @@
-use Rattle.std.proofs.Common.{◌∙◌, ap, sym}
+use Rattle.std.proofs.Common.{◌∙◌, ap, refl, sym}
 use Rattle.std.proofs.lemmas.Result.{on_err_weaker, on_ok_weaker}
 use Rattle.archive_text.specs.EntryViews.{entry_of}
 use Rattle.archive_pages.specs.Spans.{blocks_of, lists_of}
@@ -14,8 +14,11 @@ returns-in_err-span-clause-paged c =
 
 pub returns-in_err-span-clause-err : goal.returns-in_err-span-clause-err
 returns-in_err-span-clause-err c =
-    on_err c.from_residual.result (same_entries (blocks_of c.args.arena.now) (blocks_of c.push.new.self)
-    (lists_of c.args.pages.now.items) c.in_err-span.ensures.keeps c.requires.paged)
+    on_err c.from_residual.result (record {
+      pages_kept = refl;
+      entries_kept = same_entries (blocks_of c.args.arena.now) (blocks_of c.push.new.self)
+          (lists_of c.args.pages.now.items) c.in_err-span.ensures.keeps c.requires.paged;
+    })
 
 pub returns-clause-paged : goal.returns-clause-paged
 returns-clause-paged c =
@@ -52,5 +55,8 @@ returns-clause-err c =
     let pages = lists_of c.args.pages.now.items in
     let more = lists_of c.push_first.new.pages.items in
     on_err_weaker c.push_first.result (λ same.
-    entries_same old new pages more c.requires.paged c.in_ok-span.ensures.keeps
-    (ap (λ vs. lists_of vs) (same ∙ sym c.requires.none))) c.push_first.ensures.err
+    let kept = ap (λ vs. lists_of vs) (same ∙ sym c.requires.none) in
+    record {
+      pages_kept = kept;
+      entries_kept = entries_same old new pages more c.requires.paged c.in_ok-span.ensures.keeps kept;
+    }) c.push_first.ensures.err

@@ -1,6 +1,6 @@
 use Rattle.std.proofs.Common.{◌++◌, ℕ, List, refl, sym, subst, ◌∙◌, arith}
 use Rattle.archive_streams.specs.Counting.{IsUnfinished}
-use Rattle.archive_streams.specs.Pieces.{ReadsOn, device, unused}
+use Rattle.archive_streams.specs.Pieces.{ReadsOn, unused}
 use Rattle.archive_streams.proofs.Counting.{unfinished_nil}
 use Rattle.archive_streams.proofs.Giving.{ReadsOn-same, ReadsOn-then}
 use Rattle.archive_streams.proofs.reading.read_count.Goals as goal
@@ -8,8 +8,7 @@ use Rattle.archive_streams.proofs.reading.read_count.Goals as goal
 pub digits-init : goal.digits-init
 digits-init g c =
     let p = c.args.pieces.now in
-    let d = device (g.R.Input.left c.args.reader.now) (g.R.Input.calls c.args.reader.now)
-    (g.R.Input.ends c.args.reader.now) in
+    let d = g.R.Input.state c.args.reader.now in
     record {
       unfinished = subst IsUnfinished (sym c.requires.empty) unfinished_nil;
       room = omega arith;

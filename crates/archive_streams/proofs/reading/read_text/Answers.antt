@@ -1,5 +1,5 @@
 use Rattle.std.proofs.Common.{rules, ◌≡◌, ◌++◌, [], ℕ, List, ap, sym, ◌∙◌}
-use Rattle.archive_streams.specs.Pieces.{device, unused}
+use Rattle.archive_streams.specs.Pieces.{unused}
 use Rattle.archive_streams.proofs.Giving.{ReadsOn-kept, ReadsOn-then}
 use Rattle.archive_streams.proofs.reading.read_text.Goals as goal
 
@@ -11,8 +11,7 @@ pub returns-in-None-clause-reads : goal.returns-in-None-clause-reads
 returns-in-None-clause-reads g c =
     let p = c.args.pieces.now in
     let q = c.take_whole.new.pieces in
-    let d = device (g.R.Input.left c.args.reader.now) (g.R.Input.calls c.args.reader.now)
-    (g.R.Input.ends c.args.reader.now) in
+    let d = g.R.Input.state c.args.reader.now in
     let none : c.take_whole.new.text.items ≡ [] = search rules in
     let same : unused q ≡ unused p = ap (λ (s : List ℕ). s ++ unused q) (sym none) ∙ c.take_whole.ensures.kept in
     ReadsOn-then _ _ _ _ _ _ _ _ _

@@ -49,9 +49,9 @@ returns-in-Ok-serve_steps g c =
           c.in-Ok.ensures.clock c.in-Ok.ensures.settled made.6,
       subst (λ s. IsArchiveOf c.args.clock made.1 (g.S.Store.entries s)) (sym c.store.ensures.same) archive,
       subst (λ (n : ℕ). WritesText (text_of (g.S.Store.entries c.store.result.now)) n [] (codes "write fault\n")
-          c.write_archive.result (g.W.Output.failures c.args.writer.now)
-          (g.W.Output.failures c.write_archive.new.writer)
-          (g.W.Output.taken c.args.writer.now) (g.W.Output.taken c.write_archive.new.writer) written.0)
+          c.write_archive.result (g.W.Output.state c.args.writer.now).failures
+          (g.W.Output.state c.write_archive.new.writer).failures
+          (g.W.Output.state c.args.writer.now).taken (g.W.Output.state c.write_archive.new.writer).taken written.0)
           c.end_status.ensures written.1,
       notes_out end _ _ _ _ _ _ made.2 written.0 here.ensures.failures made.5 written.2,
     )

@@ -5,13 +5,13 @@ use Rattle.collect_engine.proofs.collecting.run_collect.Goals as goal
 pub returns-clause-known : goal.returns-clause-known
 returns-clause-known g c =
     let made = c.collect_into.ensures in
-    known_out made.0 (text_of made.4) c.collect_into.result (g.W.Output.failures c.args.writer.now)
-    (g.W.Output.failures c.collect_into.new.writer) (g.W.Output.taken c.args.writer.now)
-    (g.W.Output.taken c.collect_into.new.writer) made.5 made.9
+    known_out made.0 (text_of made.4) c.collect_into.result (g.W.Output.state c.args.writer.now).failures
+    (g.W.Output.state c.collect_into.new.writer).failures (g.W.Output.state c.args.writer.now).taken
+    (g.W.Output.state c.collect_into.new.writer).taken made.5 made.9
 
 pub returns-clause-nothing : goal.returns-clause-nothing
 returns-clause-nothing g c is =
     let made = c.collect_into.ensures in
-    nothing_out made.0 (text_of made.4) c.collect_into.result (g.W.Output.failures c.args.writer.now)
-    (g.W.Output.failures c.collect_into.new.writer) (g.W.Output.taken c.args.writer.now)
-    (g.W.Output.taken c.collect_into.new.writer) made.5 made.9 is
+    nothing_out made.0 (text_of made.4) c.collect_into.result (g.W.Output.state c.args.writer.now).failures
+    (g.W.Output.state c.collect_into.new.writer).failures (g.W.Output.state c.args.writer.now).taken
+    (g.W.Output.state c.collect_into.new.writer).taken made.5 made.9 is

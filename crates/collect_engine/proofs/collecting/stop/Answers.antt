@@ -10,50 +10,50 @@ pub returns-in-Step : goal.returns-in-Step
 returns-in-Step g c =
     let call = c.write_behind in
     stop_out stopped.Step c.args.stopped (text_of (g.S.Store.entries c.args.store.now)) call.result
-    (g.W.Output.failures c.args.writer.now) (g.W.Output.failures call.new.writer)
-    (g.W.Output.taken c.args.writer.now) (g.W.Output.taken call.new.writer)
-    (g.N.Output.failures c.args.notes.now) (g.N.Output.failures call.new.notes)
-    (g.N.Output.taken c.args.notes.now) (g.N.Output.taken call.new.notes) c.in-Step.is
+    (g.W.Output.state c.args.writer.now).failures (g.W.Output.state call.new.writer).failures
+    (g.W.Output.state c.args.writer.now).taken (g.W.Output.state call.new.writer).taken
+    (g.N.Output.state c.args.notes.now).failures (g.N.Output.state call.new.notes).failures
+    (g.N.Output.state c.args.notes.now).taken (g.N.Output.state call.new.notes).taken c.in-Step.is
     call.ensures
 
 pub returns-in-Endless : goal.returns-in-Endless
 returns-in-Endless g c =
     let call = c.write_behind-in-Endless in
     stop_out stopped.Endless c.args.stopped (text_of (g.S.Store.entries c.args.store.now)) call.result
-    (g.W.Output.failures c.args.writer.now) (g.W.Output.failures call.new.writer)
-    (g.W.Output.taken c.args.writer.now) (g.W.Output.taken call.new.writer)
-    (g.N.Output.failures c.args.notes.now) (g.N.Output.failures call.new.notes)
-    (g.N.Output.taken c.args.notes.now) (g.N.Output.taken call.new.notes) c.in-Endless.is
+    (g.W.Output.state c.args.writer.now).failures (g.W.Output.state call.new.writer).failures
+    (g.W.Output.state c.args.writer.now).taken (g.W.Output.state call.new.writer).taken
+    (g.N.Output.state c.args.notes.now).failures (g.N.Output.state call.new.notes).failures
+    (g.N.Output.state c.args.notes.now).taken (g.N.Output.state call.new.notes).taken c.in-Endless.is
     call.ensures
 
 pub returns-in-Notes : goal.returns-in-Notes
 returns-in-Notes g c =
     let call = c.write_unnoted in
     stop_out stopped.Notes c.args.stopped (text_of (g.S.Store.entries c.args.store.now)) call.result
-    (g.W.Output.failures c.args.writer.now) (g.W.Output.failures call.new.writer)
-    (g.W.Output.taken c.args.writer.now) (g.W.Output.taken call.new.writer)
-    (g.N.Output.failures c.args.notes.now) (g.N.Output.failures c.args.notes.now)
-    (g.N.Output.taken c.args.notes.now) (g.N.Output.taken c.args.notes.now) c.in-Notes.is (
+    (g.W.Output.state c.args.writer.now).failures (g.W.Output.state call.new.writer).failures
+    (g.W.Output.state c.args.writer.now).taken (g.W.Output.state call.new.writer).taken
+    (g.N.Output.state c.args.notes.now).failures (g.N.Output.state c.args.notes.now).failures
+    (g.N.Output.state c.args.notes.now).taken (g.N.Output.state c.args.notes.now).taken c.in-Notes.is (
       [],
       written_unnoted _ _ _ _ _ _ call.ensures.written call.ensures.status,
-      (refl, appends_none (g.N.Output.taken c.args.notes.now)),
+      (refl, appends_none (g.N.Output.state c.args.notes.now).taken),
     )
 
 pub returns-in-Memory : goal.returns-in-Memory
 returns-in-Memory g c =
     let call = c.tell_memory in
     stop_out stopped.Memory c.args.stopped (text_of (g.S.Store.entries c.args.store.now)) call.result
-    (g.W.Output.failures c.args.writer.now) (g.W.Output.failures c.args.writer.now)
-    (g.W.Output.taken c.args.writer.now) (g.W.Output.taken c.args.writer.now)
-    (g.N.Output.failures c.args.notes.now) (g.N.Output.failures call.new.notes)
-    (g.N.Output.taken c.args.notes.now) (g.N.Output.taken call.new.notes) c.in-Memory.is
+    (g.W.Output.state c.args.writer.now).failures (g.W.Output.state c.args.writer.now).failures
+    (g.W.Output.state c.args.writer.now).taken (g.W.Output.state c.args.writer.now).taken
+    (g.N.Output.state c.args.notes.now).failures (g.N.Output.state call.new.notes).failures
+    (g.N.Output.state c.args.notes.now).taken (g.N.Output.state call.new.notes).taken c.in-Memory.is
     (codes "want of memory\n", ((call.ensures.status, refl, refl), refl), call.ensures.noted)
 
 pub returns-in-MemoryAndNotes : goal.returns-in-MemoryAndNotes
 returns-in-MemoryAndNotes g c =
     stop_out stopped.MemoryAndNotes c.args.stopped (text_of (g.S.Store.entries c.args.store.now)) 3
-    (g.W.Output.failures c.args.writer.now) (g.W.Output.failures c.args.writer.now)
-    (g.W.Output.taken c.args.writer.now) (g.W.Output.taken c.args.writer.now)
-    (g.N.Output.failures c.args.notes.now) (g.N.Output.failures c.args.notes.now)
-    (g.N.Output.taken c.args.notes.now) (g.N.Output.taken c.args.notes.now) c.in-MemoryAndNotes.is
-    ([], ((refl, refl, refl), refl), (refl, appends_none (g.N.Output.taken c.args.notes.now)))
+    (g.W.Output.state c.args.writer.now).failures (g.W.Output.state c.args.writer.now).failures
+    (g.W.Output.state c.args.writer.now).taken (g.W.Output.state c.args.writer.now).taken
+    (g.N.Output.state c.args.notes.now).failures (g.N.Output.state c.args.notes.now).failures
+    (g.N.Output.state c.args.notes.now).taken (g.N.Output.state c.args.notes.now).taken c.in-MemoryAndNotes.is
+    ([], ((refl, refl, refl), refl), (refl, appends_none (g.N.Output.state c.args.notes.now).taken))

@@ -5,4 +5,4 @@ pub returns-in-Err-clause-noted : goal.returns-in-Err-clause-noted
 returns-in-Err-clause-noted g c =
     let w = c.write_all in
     noted _ _ _ _ _
-    (took w.result _ _ _ _ _ w.ensures.ok w.ensures.no_failure w.ensures.some_left w.ensures.sent w.ensures.cause)
+    (took w.result _ _ _ w.ensures)

@@ -7,8 +7,8 @@ use Rattle.collect_engine.proofs.collecting.write_archive.Goals as goal
 pub returns-in-Ok : goal.returns-in-Ok
 returns-in-Ok g c = (
   [],
-  inl (refl, (c.in-Ok.ensures.no_failure, c.in-Ok.ensures.ok), refl),
-  inl (refl, appends_none (g.N.Output.taken c.args.notes.now)),
+  inl (refl, (c.in-Ok.ensures.no_failure, c.in-Ok.ensures.octets), refl),
+  inl (refl, appends_none (g.N.Output.state c.args.notes.now).taken),
 )
 
 pub returns-in-Err : goal.returns-in-Err
@@ -16,7 +16,6 @@ returns-in-Err g c =
     let note = c.write_all-noted in
     let fault = c.in-Err in (
       codes "write fault\n",
-      inr (refl, (fault.ensures.cause, fault.field-0.sent, fault.ensures.some_left, fault.ensures.sent), refl),
-      noted _ _ _ _ _ (took note.result _ _ _ _ _ note.ensures.ok note.ensures.no_failure note.ensures.some_left
-          note.ensures.sent note.ensures.cause),
+      inr (refl, (fault.ensures.cause, fault.field-0.sent, fault.ensures.some_left, fault.ensures.octets), refl),
+      noted _ _ _ _ _ (took note.result _ _ _ note.ensures),
     )

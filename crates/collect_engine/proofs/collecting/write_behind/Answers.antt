@@ -8,10 +8,10 @@ returns-in-Ok g c =
     let made = c.write_archive.ensures in (
       c.args.line.now ++ made.0,
       writes_behind _ c.args.line.now (codes "write fault\n") _ _ _ _ _ made.0 made.1,
-      then_lines _ _ _ _ _ _ c.args.line.now made.0 c.in-Ok.ensures.no_failure c.in-Ok.ensures.ok made.2,
+      then_lines _ _ _ _ _ _ c.args.line.now made.0 c.in-Ok.ensures.no_failure c.in-Ok.ensures.octets made.2,
     )
 
 pub returns-in-Err : goal.returns-in-Err
 returns-in-Err g c =
     written_behind_part _ c.args.line.now (codes "write fault\n") _ _ _ _ _ _ _ _ _ _ c.write_unnoted.ensures.written
-    c.write_unnoted.ensures.status c.in-Err.ensures.cause c.in-Err.ensures.some_left c.in-Err.ensures.sent
+    c.write_unnoted.ensures.status c.in-Err.ensures.cause c.in-Err.ensures.some_left c.in-Err.ensures.octets

@@ -12,7 +12,7 @@ use Rattle.collect_engine.proofs.serving.serve_event.Goals as goal
 pub returns-in-Refused-clause-served : goal.returns-in-Refused-clause-served
 returns-in-Refused-clause-served g c first before was =
     let made = c.in-Refused.ensures.received first before was in
-    (made.0, [], made.1, appends_none (g.N.Output.taken c.args.notes.now), (made.2.0, refl, made.2.2), tt)
+    (made.0, [], made.1, appends_none (g.N.Output.state c.args.notes.now).taken, (made.2.0, refl, made.2.2), tt)
 
 pub returns-in-Memory-clause-served : goal.returns-in-Memory-clause-served
 returns-in-Memory-clause-served g c first before was =

@@ -88,7 +88,7 @@ returns-in_default-clause-served g c first before was = (
   λ few. come_none (g.R.Source.coming c.args.source.now),
   subst (λ (es : List AcceptedEvent). Stands c.args.collector.now.clock c.args.collector.now.connections.items
       (g.S.Store.entries c.args.collector.now.store) first es) (sym (append-nil before)) was,
-  appends_none (g.N.Output.taken c.args.notes.now),
+  appends_none (g.N.Output.state c.args.notes.now).taken,
   inl (refl, refl, refl),
 )
 
@@ -106,7 +106,7 @@ loop-turn-init g c = record {
     λ few. come_none (g.R.Source.coming c.args.source.now),
     subst (λ (es : List AcceptedEvent). Stands c.args.collector.now.clock c.args.collector.now.connections.items
         (g.S.Store.entries c.args.collector.now.store) first es) (sym (append-nil before)) was,
-    appends_none (g.N.Output.taken c.args.notes.now),
+    appends_none (g.N.Output.state c.args.notes.now).taken,
     (λ d. refl, c.new-lines.ensures.number, refl, refl),
     refl,
     c.new-lines.ensures.refused,

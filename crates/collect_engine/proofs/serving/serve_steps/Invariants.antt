@@ -19,7 +19,7 @@ invariant-loop-turn g l = record {
   finishes : g.R.Source.finishes l.source ≡ g.R.Source.finishes l.fn.source;
   clock : l.collector.clock ≡ l.fn.collector.clock;
   room : FRAME_MAX < vec_len l.buf;
-  failures : g.N.Output.failures l.notes ≡ g.N.Output.failures l.fn.notes;
+  failures : (g.N.Output.state l.notes).failures ≡ (g.N.Output.state l.fn.notes).failures;
   settled : (first : List Entry) (before : List AcceptedEvent)
       → Stands l.fn.collector.clock l.fn.collector.connections.items (g.S.Store.entries l.fn.collector.store) first
       before
@@ -32,7 +32,7 @@ invariant-loop-turn g l = record {
       (g.R.Source.coming l.source) given)
       × Stands l.collector.clock l.collector.connections.items (g.S.Store.entries l.collector.store) first
       (before ++ accepted)
-      × Appends (g.N.Output.taken l.fn.notes) (g.N.Output.taken l.notes) told
+      × Appends (g.N.Output.state l.fn.notes).taken (g.N.Output.state l.notes).taken told
       × ServesAll l.fn.collector.clock (history_of before) (waiting l.fn.collector.connections.items)
       (waiting l.collector.connections.items) 1 l.lines.number given accepted told
       × (length given ≡ l._turn) × (l.lines.refused ≡ has_some told);

@@ -2,8 +2,7 @@ use Rattle.std.proofs.Common.{◌≡◌, ◌<◌, ◌++◌, length, take, refl, 
 use Rattle.std.proofs.lemmas.List.{length-drop, take_rest}
 use Rattle.std.proofs.lemmas.Result.{err_from_is_err_and}
 use Rattle.syslog_frame.specs.Scan.{Scan, HasBadCount, HasFrame, IsReading}
-use Rattle.frame_engine.specs.Pending.{done_of}
-use Rattle.frame_engine.specs.Handling.{then_done}
+use Rattle.driver.specs.Effects.{done_of, then_done}
 use Rattle.frame_engine.proofs.StreamLemmas.{HandledPiece, handled_nothing, handled_frame, handled_bad, handled_part}
 use Rattle.frame_engine.proofs.stream.feed.Goals as goal
 
@@ -40,7 +39,7 @@ loop-rest-preserved-in-Nothing g c =
       few = omega (arith, c.loop-rest.invariant.few, length-drop n rest);
       handled = λ kind octets before h.
           let d = subst (λ (s : Scan). HandledPiece (g.D.FrameHandler.handles c.args.handler.now) s kind octets
-          c.args.piece.now rest c.loop-rest.number (then_done before (done_of c.loop-rest.done))) (sym same)
+          c.args.piece.now rest c.loop-rest.number (then_done before (done_of c.loop-rest.effects))) (sym same)
           (c.loop-rest.invariant.handled kind octets before h) in
           let on = c.in-Ok.ensures.reads kind 0 (octets ++ d.0) d.2.frames d.2.rest d.2.reads
           (λ b. reading.0 (inr b)) in
@@ -57,7 +56,7 @@ returns-in-Bad-clause-handles g c = λ kind octets before h more.
     let rest = c.loop-rest.rest.now in
     let n = c.in-Ok.used in
     let d = subst (λ (s : Scan). HandledPiece (g.D.FrameHandler.handles c.args.handler.now) s kind octets
-    c.args.piece.now rest c.loop-rest.number (then_done before (done_of c.loop-rest.done))) (sym same)
+    c.args.piece.now rest c.loop-rest.number (then_done before (done_of c.loop-rest.effects))) (sym same)
     (c.loop-rest.invariant.handled kind octets before h) in
     let on = c.in-Ok.ensures.reads kind 0 (octets ++ d.0) d.2.frames d.2.rest d.2.reads
     (λ b. reading.0 (inr b)) in
@@ -92,7 +91,7 @@ loop-rest-preserved g c =
           omega (arith, c.loop-rest.invariant.few, length-drop n rest, more, c.in-Ok.ensures.within);
       handled = λ kind octets before h.
           let d = subst (λ (s : Scan). HandledPiece (g.D.FrameHandler.handles c.args.handler.now) s kind octets
-          c.args.piece.now rest c.loop-rest.number (then_done before (done_of c.loop-rest.done))) (sym same)
+          c.args.piece.now rest c.loop-rest.number (then_done before (done_of c.loop-rest.effects))) (sym same)
           (c.loop-rest.invariant.handled kind octets before h) in
           let on = c.in-Ok.ensures.reads kind 0 (octets ++ d.0) d.2.frames d.2.rest d.2.reads
           (λ b. reading.0 (inr b)) in

@@ -1,8 +1,7 @@
 use Rattle.std.proofs.Common.{◌≡◌, ◌+◌, ◌≤◌, ℕ, List, length}
 use Rattle.syslog_frame.specs.Scan.{IsReading}
 use Rattle.syslog_frame.specs.declared.framing.Framing.{Framing}
-use Rattle.frame_engine.specs.Pending.{done_of}
-use Rattle.frame_engine.specs.Handling.{Done, then_done}
+use Rattle.driver.specs.Effects.{Done, done_of, then_done}
 use Rattle.frame_engine.specs.Streams.{HasHandled}
 use Rattle.frame_engine.proofs.StreamLemmas.{HandledPiece}
 use Rattle.frame_engine.proofs.stream.feed.Given as goal
@@ -14,9 +13,9 @@ invariant-loop-rest g l = record {
   few : l.number + length l.rest ≤ l.fn.number + length l.piece;
   handled : (kind : Framing) (octets : List ℕ) (before : Done)
       → HasHandled (g.D.FrameHandler.handles l.handler) l.fn.scanner kind octets l.fn.number
-      (then_done before (done_of l.fn.done))
+      (then_done before (done_of l.fn.effects))
       → HandledPiece (g.D.FrameHandler.handles l.handler) l.scanner kind octets l.piece l.rest l.number
-      (then_done before (done_of l.done));
+      (then_done before (done_of l.effects));
 }
 
 abbrev pub decreases-loop-rest : goal.decreases-loop-rest

@@ -1,23 +1,17 @@
-use Rattle.std.proofs.Common.{◌≡◌, List, ℕ, Option}
-use Rattle.archive_streams.specs.Joins.{BothDue, Merging}
+use Rattle.std.proofs.Common.{◌≡◌}
 use Rattle.archive_streams.specs.Merging.{IsSteady, height}
-use Rattle.archive_streams.specs.Pieces.{Reader, device}
+use Rattle.archive_streams.specs.Steps.{AreJoined}
 use Rattle.archive_streams.proofs.merge.Merge.join.Given as goal
 
 abbrev pub invariant-entries : goal.invariant-entries
 invariant-entries g l = record {
   steady : IsSteady l.self;
-  left : g.R1.Input.failures l.left ≡ g.R1.Input.failures l.fn.left;
-  right : g.R2.Input.failures l.right ≡ g.R2.Input.failures l.fn.right;
-  writer : g.W.Output.failures l.writer ≡ g.W.Output.failures l.fn.writer;
-  joins : (dl dr : Reader) (start : Option (List ℕ))
-      → BothDue l.fn.self dl (device (g.R1.Input.left l.fn.left) (g.R1.Input.calls l.fn.left)
-      (g.R1.Input.ends l.fn.left)) dr
-      (device (g.R2.Input.left l.fn.right) (g.R2.Input.calls l.fn.right) (g.R2.Input.ends l.fn.right)) start
-      (g.W.Output.taken l.fn.writer)
-      → Merging l.self dl (device (g.R1.Input.left l.left) (g.R1.Input.calls l.left) (g.R1.Input.ends l.left)) dr
-      (device (g.R2.Input.left l.right) (g.R2.Input.calls l.right) (g.R2.Input.ends l.right)) start
-      (g.W.Output.taken l.writer);
+  left : (g.R1.Input.state l.left).failures ≡ (g.R1.Input.state l.fn.left).failures;
+  right : (g.R2.Input.state l.right).failures ≡ (g.R2.Input.state l.fn.right).failures;
+  writer : (g.W.Output.state l.writer).failures ≡ (g.W.Output.state l.fn.writer).failures;
+  joins : AreJoined l.fn.self l.self (g.R1.Input.state l.fn.left) (g.R1.Input.state l.left)
+      (g.R2.Input.state l.fn.right) (g.R2.Input.state l.right) (g.W.Output.state l.fn.writer)
+      (g.W.Output.state l.writer);
 }
 
 abbrev pub decreases-entries : goal.decreases-entries

@@ -9,7 +9,7 @@ returns-in-Err-clause-reads g c = record {
   grown = sym (ap (λ (s : List ℕ). s ++ []) (none_unused c.args.self.now.start c.args.self.now.end c.args.self.now.piece
       c.if-self.false));
   far = omega arith;
-  calls = λ h. omega (arith, h, c.read.ensures.calls, c.args.self.now.few);
-  ends = λ h. omega (arith, c.in-Err.ensures.ends);
+  calls = λ h. omega (arith, h, c.in-Err.ensures.counted, c.args.self.now.few);
+  ends = λ h. omega (arith, c.in-Err.ensures.no_end);
   at_end = λ h k. absurd (omega (arith, k, c.if-self-gt0.false));
 }

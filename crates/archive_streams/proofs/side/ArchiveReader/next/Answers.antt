@@ -22,12 +22,12 @@ returns-then-not-is_above-clause-fault g c =
     not_above_fault c.args.last.now t c.args.self.now.position (unused c.read_entry.new.pieces) c.read_entry.new.pieces
     holds low
 
-pub returns-else-not-is_above-clause-near : goal.returns-else-not-is_above-clause-near
-returns-else-not-is_above-clause-near g c =
+pub returns-else-not-is_above-clause-on : goal.returns-else-not-is_above-clause-on
+returns-else-not-is_above-clause-on g c =
     let t = c.read_entry.new.entry in
     let near = near_on _ _ _ _ (unused c.args.self.now.pieces) t.text.items c.args.self.now.position
     c.read_entry.ensures.reads c.requires.near in
-    omega (arith, near)
+    record { near = omega (arith, near); position = omega arith }
 
 pub returns-in-Err-Archive-clause-fault : goal.returns-in-Err-Archive-clause-fault
 returns-in-Err-Archive-clause-fault g c =

@@ -1,13 +1,13 @@
 use Rattle.std.proofs.Common.{refl, inl, inr}
 use Rattle.std.proofs.lemmas.Result.{on_ok_weaker}
-use Rattle.frame_engine.specs.Pending.{done_of}
+use Rattle.driver.specs.Effects.{done_of}
 use Rattle.frame_engine.proofs.HandlingLemmas.{adds_output}
 use Rattle.frame_engine.proofs.check.CheckFrameHandler.on_frame.Goals as goal
 
 pub returns-in-None-clause-ok : goal.returns-in-None-clause-ok
 returns-in-None-clause-ok c =
     on_ok_weaker c.put_line.result
-    (λ e. (_, inl (c.in-None.ensures, refl), adds_output (done_of c.args.done.now) _ _ refl e refl))
+    (λ e. (_, inl (c.in-None.ensures, refl), adds_output (done_of c.args.effects.now) _ _ refl e refl))
     c.put_line.ensures.ok
 
 pub returns-in-Some-clause-ok : goal.returns-in-Some-clause-ok

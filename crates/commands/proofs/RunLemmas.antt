@@ -1,0 +1,104 @@
+-- What a run of each command does.
+use Rattle.std.proofs.Common.{◌≡◌, ℕ, List, [], inl, inr, Option, None, Some, IfSome, codes, refl, subst, sym, take}
+use Rattle.std.proofs.KnownBytes.{Appends-nil}
+use Rattle.std.specs.Prelude.{IsSome}
+use Rattle.octet_devices.specs.Device.{InputState, OutputState}
+use Rattle.syslog_legacy.specs.FrameReadings.{Clock}
+use Rattle.syslog_frame.specs.declared.framing.Framing.{Framing}
+use Rattle.driver.specs.Devices.{Devices, Reports, devices}
+use Rattle.driver.specs.Effects.{Done, nothing}
+use Rattle.driver.specs.Run.{Ran}
+use Rattle.driver.specs.Sessions.{HasOneOutput, Meaning}
+use Rattle.driver.specs.declared.status.TheConstants.{FAULT, NO_MEMORY}
+use Rattle.driver.proofs.Ends.{unstarted}
+use Rattle.frame_engine.specs.Checked.{check_handling, refused_line}
+use Rattle.frame_engine.specs.Converted.{convert_handling, noted_line}
+use Rattle.frame_engine.specs.Handling.{Handling, HasOneOutputEach}
+use Rattle.frame_engine.specs.Sessions.{input_meaning}
+use Rattle.frame_engine.specs.Showing.{show_handling}
+use Rattle.frame_engine.specs.declared.input_framing.InputFraming.{InputFraming}
+use Rattle.frame_engine.specs.declared.input_framing.InputFraming.TheVariants.{Datagram, Stream}
+use Rattle.frame_engine.specs.declared.line.Line.{Line}
+use Rattle.frame_engine.proofs.ConvertLemmas.{convert_output}
+use Rattle.frame_engine.proofs.OutputLemmas.{check_output, show_output}
+use Rattle.frame_engine.proofs.SessionLemmas.{input_laws, nothing_goes_on, nothing_part}
+use Rattle.archive_engine.specs.Archived.{archive_handling, archive_meaning}
+use Rattle.archive_engine.proofs.ArchiveLemmas.{archive_laws}
+use Rattle.command_line.specs.Requests.{Archive, Asked, Check, Collect, Convert, Merge, Migrate, Send, Show}
+use Rattle.send_engine.specs.Sending.{OutOfMemory}
+use Rattle.commands.specs.Runs.{RanAs, RanInput, Stored}
+
+pub ran_input : (M : Meaning) (old new : Devices) (status : ℕ) → HasOneOutput M → Ran M old new status
+    → RanInput M old new status
+ran_input M old new status one r = record { ran = r; prefix = r.begins one }
+
+-- ---- each command on the standard input
+
+pub ran_check : (clock : Clock) (framing : InputFraming) (stored : Stored) (old new : Devices) (status : ℕ)
+    → Ran (input_meaning (check_handling clock) refused_line framing) old new status
+    → RanAs (Check clock framing) stored old new status
+ran_check clock framing stored old new status r =
+    ran_input (input_meaning (check_handling clock) refused_line framing) old new status
+    (input_laws (check_handling clock) refused_line framing (check_output clock)) r
+
+pub ran_show : (clock : Clock) (framing : InputFraming) (stored : Stored) (old new : Devices) (status : ℕ)
+    → Ran (input_meaning (show_handling clock) noted_line framing) old new status
+    → RanAs (Show clock framing) stored old new status
+ran_show clock framing stored old new status r =
+    ran_input (input_meaning (show_handling clock) noted_line framing) old new status
+    (input_laws (show_handling clock) noted_line framing (show_output clock)) r
+
+pub ran_convert : (clock : Clock) (framing : InputFraming) (to : Option Framing) (stored : Stored) (old new : Devices)
+    (status : ℕ) → Ran (input_meaning (convert_handling clock to) noted_line framing) old new status
+    → RanAs (Convert clock framing to) stored old new status
+ran_convert clock framing to stored old new status r =
+    ran_input (input_meaning (convert_handling clock to) noted_line framing) old new status
+    (input_laws (convert_handling clock to) noted_line framing (convert_output clock to)) r
+
+pub ran_archive : (clock : Clock) (framing : InputFraming) (stored : Stored) (old new : Devices) (status : ℕ)
+    → Ran (archive_meaning clock framing) old new status → RanAs (Archive clock framing) stored old new status
+ran_archive clock framing stored old new status r =
+    ran_input (archive_meaning clock framing) old new status (archive_laws clock framing) r
+
+-- ---- files
+
+pub has_file : (stored : Stored) (name : List ℕ) (left : Option (List ℕ))
+    → IfSome stored (λ octets. IsSome left × (octets name ≡ left)) → IfSome stored (λ octets. IsSome (octets name))
+has_file None name left h = tt
+has_file (Some octets) name left (some, same) = subst IsSome (sym same) some
+
+-- ---- memory ran out before a command began
+
+-- nothing came of no octets
+nothing_begun : (D : Handling) (T : Line → Done) (framing : InputFraming)
+    → (input_meaning D T framing).so_far [] nothing × (input_meaning D T framing).part [] nothing
+nothing_begun D T Datagram = (refl, refl)
+nothing_begun D T (Stream kind) = (nothing_goes_on D kind, nothing_part D kind)
+
+pub unstarted_as : (asked : Asked) (stored : Stored) (old : Devices) (d : OutputState) (status : ℕ)
+    → Reports (codes "want of memory\n") NO_MEMORY old.diagnostics d status
+    → RanAs asked stored old (devices old.input old.output d) status
+unstarted_as (Check clock framing) stored old d status t =
+    let b = nothing_begun (check_handling clock) refused_line framing in
+    ran_check clock framing stored old _ status
+    (unstarted (input_meaning (check_handling clock) refused_line framing) old d status b.0 b.1 t)
+unstarted_as (Show clock framing) stored old d status t =
+    let b = nothing_begun (show_handling clock) noted_line framing in
+    ran_show clock framing stored old _ status
+    (unstarted (input_meaning (show_handling clock) noted_line framing) old d status b.0 b.1 t)
+unstarted_as (Convert clock framing to) stored old d status t =
+    let b = nothing_begun (convert_handling clock to) noted_line framing in
+    ran_convert clock framing to stored old _ status
+    (unstarted (input_meaning (convert_handling clock to) noted_line framing) old d status b.0 b.1 t)
+unstarted_as (Archive clock framing) stored old d status t =
+    let b = nothing_begun (archive_handling clock) noted_line framing in
+    ran_archive clock framing stored old _ status
+    (unstarted (archive_meaning clock framing) old d status b.0 b.1 t)
+unstarted_as (Merge left right) stored old d status t = inl (refl, t)
+unstarted_as (Migrate file) stored old d status t = inl (refl, t)
+unstarted_as (Send texts) stored old d status t = record {
+  ending = OutOfMemory;
+  outcome = (refl, t);
+  begins = λ done is. (0, Appends-nil old.output.taken);
+}
+unstarted_as (Collect words) stored old d status t = inl (refl, t)

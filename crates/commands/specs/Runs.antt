@@ -1,0 +1,99 @@
+-- What a run of each command does, whatever the devices do.
+use Rattle.std.specs.Prelude.{◌≡◌, ◌⊎◌, ℕ, List, Option, None, Some, IfSome, IsSome, codes}
+use Rattle.octet_devices.specs.Device.{InputState, OutputState}
+use Rattle.driver.specs.Devices.{Devices, Reports, devices}
+use Rattle.driver.specs.Run.{Ran, WritesPrefix}
+use Rattle.driver.specs.Sessions.{Meaning}
+use Rattle.driver.specs.declared.status.TheConstants.{FAULT, NO_MEMORY}
+use Rattle.frame_engine.specs.Checked.{check_handling, refused_line}
+use Rattle.frame_engine.specs.Converted.{convert_handling, noted_line}
+use Rattle.frame_engine.specs.Sessions.{input_meaning}
+use Rattle.frame_engine.specs.Showing.{show_handling}
+use Rattle.archive_engine.specs.Archived.{archive_meaning}
+use Rattle.archive_engine.specs.Merged.{RanMerge, merge_devices}
+use Rattle.archive_engine.specs.Migrated.{RanMigrate}
+use Rattle.command_line.specs.Requests.{Archive, Asked, Check, Collect, Convert, Merge, Migrate, Send, Show}
+use Rattle.send_engine.specs.Sending.{RanSend}
+use Rattle.commands.specs.Files.{IsUnused}
+
+-- a command on the standard input; whatever the status, a prefix of the right output was written
+pub record RanInput (M : Meaning) (old new : Devices) (status : ℕ) : Type 0 where
+  pub ran : Ran M old new status
+  pub prefix : WritesPrefix M old new
+
+-- memory ran out before anything was touched, which is told
+abbrev pub RanOut : OutputState → OutputState → OutputState → OutputState → ℕ → Type 0
+RanOut w w_new n n_new status = (w_new ≡ w) × Reports (codes "want of memory\n") NO_MEMORY n n_new status
+
+-- what the files are known to hold under a name
+abbrev pub Stored : Type 0
+Stored = Option (List ℕ → Option (List ℕ))
+
+-- a name has no file, which this line tells; nothing is written
+abbrev pub LacksFile : Stored → List ℕ → List ℕ → OutputState → OutputState → OutputState → OutputState → ℕ → Type 0
+LacksFile stored name line w w_new n n_new status =
+    IfSome stored (λ octets. octets name ≡ None) × (w_new ≡ w) × Reports line FAULT n n_new status
+
+-- the reader of a name, which was not called
+abbrev pub Opens : Stored → List ℕ → InputState → Type 0
+Opens stored name s = IfSome stored (λ octets. IsSome s.left × (octets name ≡ s.left)) × IsUnused s
+
+-- two files are merged; the first name without a file is told before one is read
+abbrev pub RanMergeFiles : Stored → List ℕ → List ℕ → OutputState → OutputState → OutputState → OutputState → ℕ
+    → Type 0
+RanMergeFiles stored left right w w_new n n_new status =
+    RanOut w w_new n n_new status
+    ⊎ (LacksFile stored left (codes "left no file\n") w w_new n n_new status
+    ⊎ ((IfSome stored (λ octets. IsSome (octets left))
+    × LacksFile stored right (codes "right no file\n") w w_new n n_new status)
+    ⊎ ((l : InputState) × (r : InputState) × (l_new : InputState) × (r_new : InputState)
+    × Opens stored left l × Opens stored right r
+    × RanMerge (merge_devices l r w n) (merge_devices l_new r_new w_new n_new) status)))
+
+-- a file is migrated; a name without a file is told
+abbrev pub RanMigrateFile : Stored → List ℕ → OutputState → OutputState → OutputState → OutputState → ℕ → Type 0
+RanMigrateFile stored file w w_new n n_new status =
+    RanOut w w_new n n_new status
+    ⊎ (LacksFile stored file (codes "old no file\n") w w_new n n_new status
+    ⊎ ((o : InputState) × (o_new : InputState) × Opens stored file o
+    × RanMigrate (devices o w n) (devices o_new w_new n_new) status))
+
+-- `collect` needs sockets, and is no command of a run: that is told, unless memory ran out
+abbrev pub RanCollect : OutputState → OutputState → OutputState → OutputState → ℕ → Type 0
+RanCollect w w_new n n_new status =
+    RanOut w w_new n n_new status ⊎ ((w_new ≡ w) × Reports (codes "socket fault\n") FAULT n n_new status)
+
+-- so of each command
+abbrev pub RanAs : Asked → Stored → Devices → Devices → ℕ → Type 0
+RanAs (Check clock framing) stored old new status =
+    RanInput (input_meaning (check_handling clock) refused_line framing) old new status
+RanAs (Show clock framing) stored old new status =
+    RanInput (input_meaning (show_handling clock) noted_line framing) old new status
+RanAs (Convert clock framing to) stored old new status =
+    RanInput (input_meaning (convert_handling clock to) noted_line framing) old new status
+RanAs (Archive clock framing) stored old new status = RanInput (archive_meaning clock framing) old new status
+RanAs (Merge left right) stored old new status =
+    RanMergeFiles stored left right old.output new.output old.diagnostics new.diagnostics status
+RanAs (Migrate file) stored old new status =
+    RanMigrateFile stored file old.output new.output old.diagnostics new.diagnostics status
+RanAs (Send texts) stored old new status =
+    RanSend texts old.output new.output old.diagnostics new.diagnostics status
+RanAs (Collect words) stored old new status =
+    RanCollect old.output new.output old.diagnostics new.diagnostics status
+
+-- the commands that read the standard input
+abbrev pub ReadsInput : Asked → Type 0
+ReadsInput (Check clock framing) = Unit {0}
+ReadsInput (Show clock framing) = Unit {0}
+ReadsInput (Convert clock framing to) = Unit {0}
+ReadsInput (Archive clock framing) = Unit {0}
+ReadsInput (Merge left right) = ⊥
+ReadsInput (Migrate file) = ⊥
+ReadsInput (Send texts) = ⊥
+ReadsInput (Collect words) = ⊥
+
+-- arguments that are no request are told by a text, unless memory ran out
+abbrev pub TellsUsage : OutputState → OutputState → ℕ → Type 0
+TellsUsage n n_new status =
+    ((text : List ℕ) × Reports text FAULT n n_new status)
+    ⊎ Reports (codes "want of memory\n") NO_MEMORY n n_new status

@@ -1,0 +1,15 @@
+//! What the program does with its arguments, over any devices and files.
+//!
+//! [`run`] reads the arguments, and runs the command that they ask for. [`Files`] finds readers by
+//! name; [`MemoryFiles`] holds files in memory, for tests.
+#![tactic(auto)]
+
+mod files;
+mod memory;
+mod running;
+#[cfg(test)]
+mod tests;
+
+pub use files::Files;
+pub use memory::{MemoryFile, MemoryFiles};
+pub use running::run;

@@ -1,0 +1,47 @@
+//! Files in memory, whose octets contracts know.
+
+use crate::files::Files;
+use octet_devices::FromRead;
+
+/// A file by name, and what it holds.
+#[derive(Clone, Copy)]
+pub struct MemoryFile<'a> {
+    pub name: &'a str,
+    pub octets: &'a [u8],
+}
+
+/// Files in memory. Of two with one name the first counts.
+#[derive(Drop)]
+pub struct MemoryFiles<'a> {
+    files: &'a [MemoryFile<'a>],
+}
+
+impl<'a> MemoryFiles<'a> {
+    ghost use Rattle.std.specs.Prelude.{◌≡◌, Some};
+    ghost use Rattle.commands.specs.Memory.{stored_in};
+
+    pub fn new(files: &'a [MemoryFile<'a>]) -> MemoryFiles<'a>
+        ensures { ⟦<MemoryFiles<'a> as Files>⟧.stored result
+            ≡ Some (λ name. stored_in name files.entry.now) }
+    {
+        MemoryFiles { files }
+    }
+}
+
+impl<'a> Files for MemoryFiles<'a> {
+    ghost use Rattle.std.specs.Prelude.{Some};
+    ghost use Rattle.commands.specs.Memory.{stored_in};
+
+    type Reader = FromRead<&'a [u8]>;
+
+    ghost stored = { λ f. Some (λ name. stored_in name f.files.now) };
+
+    fn reader(&mut self, name: &str) -> Option<FromRead<&'a [u8]>> {
+        for file in self.files {
+            if file.name == name {
+                return Some(FromRead::new(file.octets));
+            }
+        }
+        None
+    }
+}

@@ -1,0 +1,124 @@
+//! The program over any devices and files.
+
+ghost use Rattle.std.specs.Prelude.{◌≡◌, Some, None, map, string_bytes};
+ghost use Rattle.driver.specs.Devices.{devices};
+ghost use Rattle.command_line.specs.Requests.{Asked, parsed};
+ghost use Rattle.commands.specs.Runs.{RanAs, RanMergeFiles, RanMigrateFile, ReadsInput, TellsUsage};
+
+use crate::files::Files;
+use archive_engine::{archive_input, merge_archives, migrate_archive};
+use command_line::{Request, WordsFault, read_words};
+use driver::{FAULT, NO_MEMORY, report};
+use frame_engine::{Check, Convert, Show, scan_input};
+use octet_devices::{Input, Output};
+use send_engine::send_text;
+use std::alloc::Global;
+
+// Joins the archives of two files. Both are opened before either is read.
+fn merge_files<W: Output, N: Output, F: Files>(
+    alloc: Global,
+    left: &str,
+    right: &str,
+    output: &mut W,
+    diagnostics: &mut N,
+    files: &mut F,
+) -> u8
+    ensures { RanMergeFiles (F.stored files.old) left.now right.now (W.state output.old)
+        (W.state output.new) (N.state diagnostics.old) (N.state diagnostics.new) result }
+{
+    let Some(mut left) = files.reader(left) else {
+        return report(diagnostics, b"left no file\n", FAULT);
+    };
+    let Some(mut right) = files.reader(right) else {
+        return report(diagnostics, b"right no file\n", FAULT);
+    };
+    merge_archives(alloc, &mut left, &mut right, output, diagnostics)
+}
+
+// Brings the old archive of a file into the present form.
+fn migrate_file<W: Output, N: Output, F: Files>(
+    alloc: Global,
+    file: &str,
+    output: &mut W,
+    diagnostics: &mut N,
+    files: &mut F,
+) -> u8
+    ensures { RanMigrateFile (F.stored files.old) file.now (W.state output.old)
+        (W.state output.new) (N.state diagnostics.old) (N.state diagnostics.new) result }
+{
+    let Some(mut old) = files.reader(file) else {
+        return report(diagnostics, b"old no file\n", FAULT);
+    };
+    migrate_archive(alloc, &mut old, output, diagnostics)
+}
+
+/// Does what the arguments ask for and returns the exit status: 0 done, 1 something was refused, 2 the
+/// arguments are wrong or a device failed, 3 out of memory. The arguments do not begin with the
+/// program's name.
+///
+/// Records go to the output, reports of what went wrong to the diagnostics. For arguments that are no
+/// request, and for a request for help, a text goes to the diagnostics and the status is 2.
+pub fn run<R: Input, W: Output, N: Output, F: Files>(
+    alloc: Global,
+    args: &[String],
+    input: &mut R,
+    output: &mut W,
+    diagnostics: &mut N,
+    files: &mut F,
+) -> u8
+    // what each command does
+    ensures ran { (asked : Asked) → parsed (map string_bytes args.now) ≡ Some asked →
+        RanAs asked (F.stored files.old)
+        (devices (R.state input.old) (W.state output.old) (N.state diagnostics.old))
+        (devices (R.state input.new) (W.state output.new) (N.state diagnostics.new)) result }
+
+    // commands that do not read the standard input leave it as it is
+    ensures unread { (asked : Asked) → parsed (map string_bytes args.now) ≡ Some asked →
+        ¬ (ReadsInput asked) → input.new ≡ input.old }
+
+    // arguments that are no request: nothing is touched but the diagnostics
+    ensures usage { parsed (map string_bytes args.now) ≡ None →
+        TellsUsage (N.state diagnostics.old) (N.state diagnostics.new) result
+        × (output.new ≡ output.old) × (input.new ≡ input.old) × (files.new ≡ files.old) }
+{
+    let request = match read_words(alloc, args) {
+        Ok(request) => request,
+        Err(WordsFault::Usage(text)) => return report(diagnostics, text.as_bytes(), FAULT),
+        Err(WordsFault::Memory) => return report(diagnostics, b"want of memory\n", NO_MEMORY),
+    };
+    match request {
+        Request::Check {
+            input_framing,
+            clock,
+        } => {
+            let check = Check { clock };
+            scan_input(alloc, input_framing, check, input, output, diagnostics)
+        }
+        Request::Show {
+            input_framing,
+            clock,
+        } => {
+            let show = Show { alloc, clock };
+            scan_input(alloc, input_framing, show, input, output, diagnostics)
+        }
+        Request::Convert {
+            input_framing,
+            clock,
+            to,
+        } => {
+            let convert = Convert { alloc, clock, to };
+            scan_input(alloc, input_framing, convert, input, output, diagnostics)
+        }
+        Request::Archive {
+            input_framing,
+            clock,
+        } => archive_input(alloc, input_framing, clock, input, output, diagnostics),
+        Request::Merge { left, right } => {
+            merge_files(alloc, left, right, output, diagnostics, files)
+        }
+        Request::Migrate { file } => migrate_file(alloc, file, output, diagnostics, files),
+        Request::Send { options } => send_text(alloc, &options, output, diagnostics),
+        // only `main` has sockets
+        Request::Collect { .. } => report(diagnostics, b"socket fault\n", FAULT),
+    }
+}

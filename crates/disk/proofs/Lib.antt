@@ -1,0 +1,5 @@
+mod FileChanges
+mod Leaving
+mod Lookups
+mod Named
+mod Renaming

@@ -1,0 +1,91 @@
+//! What is asked of a disk.
+ghost use Rattle.std.specs.Prelude.{◌≤◌, ℕ, IfOk, length};
+ghost use Rattle.disk.specs.States.{State};
+ghost use Rattle.disk.specs.Calls.{Appends, AreNames, Creates, Cuts, HasCause, IsUnchanged};
+ghost use Rattle.disk.specs.Calls.{Overwrites, Reads, Removes, Renames, Syncs, SyncsNames};
+
+use crate::{DiskFault, FileName};
+use std::alloc::Global;
+
+/// A folder of files.
+///
+/// A disk over memory tells contracts what it holds; one over the system's files does not, since
+/// no contract can say what a file gives, and every clause on what a disk holds speaks of disks
+/// that do.
+pub trait Disk {
+    /// What a read shows, and what a crash may leave.
+    ghost state: { Self → State };
+
+    /// The disk does what its clauses say of `state`.
+    ghost tells: { Self → Type 0 };
+
+    /// A call has failed by the disk's own fault.
+    ghost has_failed: { Self → Type 0 };
+
+    /// The names of all files, in any order.
+    fn names(&mut self, alloc: Global) -> Result<Vec<FileName>, DiskFault>
+        ensures names { tells self.new → IfOk result (λ v. AreNames (state self.old) v.items) }
+        ensures done { tells self.new → IsUnchanged (state self.old) (state self.new) }
+        ensures told { tells self.new → tells self.old }
+        ensures cause { HasCause (has_failed self.old) (has_failed self.new) result };
+
+    /// Reads octets of a file from an offset on, at most as many as the buffer has. It gives fewer
+    /// where it likes, and none only at the file's end.
+    fn read(&mut self, name: &FileName, at: u64, buf: &mut [u8]) -> Result<usize, DiskFault>
+        ensures within { IfOk result (λ n. n ≤ length buf.new) }
+        ensures done { tells self.new
+            → Reads (state self.old) (state self.new) name.now at buf.new result }
+        ensures told { tells self.new → tells self.old }
+        ensures cause { HasCause (has_failed self.old) (has_failed self.new) result };
+
+    /// Makes an empty file under a name that has none.
+    fn create(&mut self, name: &FileName) -> Result<(), DiskFault>
+        ensures done { tells self.new → Creates (state self.old) (state self.new) name.now result }
+        ensures told { tells self.new → tells self.old }
+        ensures cause { HasCause (has_failed self.old) (has_failed self.new) result };
+
+    /// Writes octets at the end of a file. If it fails, some of them may be there.
+    fn append(&mut self, name: &FileName, octets: &[u8]) -> Result<(), DiskFault>
+        ensures done { tells self.new
+            → Appends (state self.old) (state self.new) name.now octets.now result }
+        ensures told { tells self.new → tells self.old }
+        ensures cause { HasCause (has_failed self.old) (has_failed self.new) result };
+
+    /// Writes over one octet of a file; at its end or behind it, nothing.
+    fn overwrite(&mut self, name: &FileName, at: u64, octet: u8) -> Result<(), DiskFault>
+        ensures done { tells self.new
+            → Overwrites (state self.old) (state self.new) name.now at octet result }
+        ensures told { tells self.new → tells self.old }
+        ensures cause { HasCause (has_failed self.old) (has_failed self.new) result };
+
+    /// Cuts a file to a length, if it is longer.
+    fn cut(&mut self, name: &FileName, len: u64) -> Result<(), DiskFault>
+        ensures done { tells self.new → Cuts (state self.old) (state self.new) name.now len result }
+        ensures told { tells self.new → tells self.old }
+        ensures cause { HasCause (has_failed self.old) (has_failed self.new) result };
+
+    /// Brings what a read of a file shows to the disk.
+    fn sync(&mut self, name: &FileName) -> Result<(), DiskFault>
+        ensures done { tells self.new → Syncs (state self.old) (state self.new) name.now result }
+        ensures told { tells self.new → tells self.old }
+        ensures cause { HasCause (has_failed self.old) (has_failed self.new) result };
+
+    /// Gives a file another name, in place of the file that has it.
+    fn rename(&mut self, from: &FileName, to: &FileName) -> Result<(), DiskFault>
+        ensures done { tells self.new
+            → Renames (state self.old) (state self.new) from.now to.now result }
+        ensures told { tells self.new → tells self.old }
+        ensures cause { HasCause (has_failed self.old) (has_failed self.new) result };
+
+    /// Removes a file.
+    fn remove(&mut self, name: &FileName) -> Result<(), DiskFault>
+        ensures done { tells self.new → Removes (state self.old) (state self.new) name.now result }
+        ensures told { tells self.new → tells self.old }
+        ensures cause { HasCause (has_failed self.old) (has_failed self.new) result };
+
+    /// Brings the names of the folder to the disk.
+    fn sync_names(&mut self) -> Result<(), DiskFault>
+        ensures done { tells self.new → SyncsNames (state self.old) (state self.new) result }
+        ensures told { tells self.new → tells self.old }
+        ensures cause { HasCause (has_failed self.old) (has_failed self.new) result };
+}

@@ -1,0 +1,28 @@
+//! A folder of files as a store sees it: what a read shows now, and what a crash may leave.
+//!
+//! The model is the usual one. Octets that were written since the last sync of their file may be
+//! there in part, or be any others, in place of what was there too; nothing is longer than it was
+//! made. A name that was made, taken or removed since the last sync of the folder may be as it was
+//! before, each name on its own. Once a sync has failed, no later sync promises anything: what was
+//! written before is written again to another file, or the process begins anew.
+//!
+//! A crash at any moment of a run is the same run over a disk that fails at every call from that
+//! moment on and changes nothing ([`Fuse`] is one): the run then ends with the state of the moment.
+//! So a contract over every disk that says of each state it ends with, `Err` or `Ok`, what a crash
+//! may leave of it, says so of every moment.
+#![tactic(auto)]
+
+mod calls;
+mod fault;
+mod fuse;
+mod memory;
+mod memory_file;
+mod name;
+#[cfg(test)]
+mod tests;
+
+pub use calls::Disk;
+pub use fault::DiskFault;
+pub use fuse::Fuse;
+pub use memory::MemoryDisk;
+pub use name::{FileName, NAME_MAX};

@@ -1,0 +1,103 @@
+//! A stream as a session: its frames are handled as its octets come.
+
+ghost use Rattle.std.specs.Prelude.{◌≡◌, ◌≤◌, ◌<◌, ◌+◌, ◌^◌, false};
+ghost use Rattle.syslog_frame.specs.Scan.{IsReading};
+ghost use Rattle.syslog_frame.specs.declared.limits.TheConstants.{POSITION_MAX};
+
+use crate::frame_handler::FrameHandler;
+use crate::line::Line;
+use crate::stream::{end_stream, feed};
+use driver::{Effects, Flow, Session};
+use octet_devices::{Output, READ_MAX, READER_CALLS, WriteFault};
+use std::alloc::{AllocError, Global};
+use syslog_frame::{Framing, POSITION_MAX, Scanner};
+
+// the most octets of a stream
+const STREAM_MAX: u64 = READ_MAX as u64 * READER_CALLS;
+
+/// A stream whose frames a handler is given in order. It ends at a bad MSG-LEN, or where its input
+/// does.
+#[derive(Drop)]
+pub struct StreamSession<D> {
+    handler: D,
+    scanner: Scanner,
+    // that of the next frame
+    number: u64,
+    // how many more octets it takes
+    room: u64,
+    is_finished: bool,
+    ghost reading: { is_finished ≡ false → IsReading scanner },
+    ghost near: { is_finished ≡ false → scanner.position + room ≤ POSITION_MAX },
+    ghost few: { is_finished ≡ false → number + room < 2 ^ 63 },
+}
+
+impl<D: FrameHandler + Drop> StreamSession<D> {
+    ghost use Rattle.std.specs.Prelude.{◌≡◌, IfOk};
+    ghost use Rattle.driver.specs.Sessions.{HasBegun};
+
+    /// A session before the first octet of a stream.
+    ///
+    /// # Errors
+    /// Out of memory.
+    pub fn new(alloc: Global, framing: Framing, handler: D) -> Result<StreamSession<D>, AllocError>
+        ensures begun { IfOk result (λ s. HasBegun (⟦<StreamSession<D> as Session>⟧.stands s s)
+            (⟦<StreamSession<D> as Session>⟧.means s)) }
+        ensures handler { IfOk result (λ s. s.handler ≡ handler) }
+        ensures framing { IfOk result (λ s. s.scanner.framing ≡ framing) }
+    {
+        let scanner = Scanner::new(alloc, framing)?;
+        Ok(StreamSession {
+            handler,
+            scanner,
+            number: 1,
+            room: STREAM_MAX,
+            is_finished: false,
+        })
+    }
+}
+
+impl<D: FrameHandler> Session for StreamSession<D> {
+    ghost use Rattle.std.specs.Prelude.{[]};
+    ghost use Rattle.frame_engine.specs.Sessions.{StreamStands, stream_meaning};
+
+    ghost means = { λ s. stream_meaning (D.handles s.handler) (D.reports s.handler) s.scanner.framing };
+
+    ghost rest = { λ _. [] };
+
+    ghost stands = { λ first now given. (now.handler ≡ first.handler)
+        × StreamStands first.scanner.framing now.scanner now.number now.room now.is_finished given };
+
+    fn take(&mut self, piece: &[u8], effects: &mut Effects) -> Result<Flow, AllocError> {
+        if self.is_finished || piece.len() as u64 > self.room {
+            return Ok(Flow::Finished);
+        }
+        // until it is known to go on
+        self.is_finished = true;
+        self.room -= piece.len() as u64;
+        let bad = feed(
+            &self.handler,
+            &mut self.scanner,
+            &mut self.number,
+            piece,
+            effects,
+        )?;
+        let Some(at) = bad else {
+            self.is_finished = false;
+            return Ok(Flow::Continue);
+        };
+        let number = self.number;
+        self.handler.report(Line::BadCount { number, at }, effects)?;
+        Ok(Flow::Finished)
+    }
+
+    fn end(&mut self, effects: &mut Effects) -> Result<(), AllocError> {
+        if self.is_finished {
+            return Ok(());
+        }
+        end_stream(&self.handler, &self.scanner, effects)
+    }
+
+    fn write_rest<W: Output>(&self, _output: &mut W) -> Result<(), WriteFault> {
+        Ok(())
+    }
+}

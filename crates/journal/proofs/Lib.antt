@@ -1,0 +1,7 @@
+mod Batches
+mod Commit
+mod Create
+mod Files
+mod Readings
+mod Repair
+mod Synced

@@ -1,0 +1,58 @@
+use Rattle.std.proofs.Common.{ℕ, List, sym, ◌∙◌, subst}
+use Rattle.journal.specs.Journals.{EndsAt, IsOnDisk}
+use Rattle.journal.proofs.Repair.{unchanged_leaves, ends_here, still_there}
+use Rattle.journal.proofs.opening.open.Goals as goal
+
+pub returns-in_err-file-clause-any_moment : goal.returns-in_err-file-clause-any_moment
+returns-in_err-file-clause-any_moment g c tells file bodies at has =
+    unchanged_leaves (g.D.Disk.state c.args.disk.now) (g.D.Disk.state c.read_all.new.disk) c.args.name file bodies at (c.in_err-file.ensures.same tells) has
+
+pub returns-in_err-shut-clause-any_moment : goal.returns-in_err-shut-clause-any_moment
+returns-in_err-shut-clause-any_moment g c tells file bodies at has =
+    let before = g.D.Disk.state c.args.disk.now in
+    let read = g.D.Disk.state c.read_all.new.disk in
+    let name = c.args.name in
+    let octets = c.deref-2.result.now in
+    let end = c.end_of_batches-end.result in
+    let tells_read = c.shut.ensures.told tells in
+    let there = still_there before read name file at (c.in_ok-file.ensures.same tells_read) in
+    let items = c.in_ok-file.ensures.octets tells_read file at in
+    let ends = ends_here file c.deref.result.now bodies end (c.deref.ensures.value ∙ items) has c.end_of_batches-end.ensures.ends in
+    let is = c.deref-2.ensures.value ∙ items in
+    let at_octets = subst (IsOnDisk read name) (sym is) there in
+    let ends_octets = subst (λ (l : List ℕ). EndsAt l bodies end) (sym is) ends in
+    c.in_err-shut.ensures.leaves tells bodies at_octets ends_octets
+
+pub returns-in_err-cut_behind-clause-any_moment : goal.returns-in_err-cut_behind-clause-any_moment
+returns-in_err-cut_behind-clause-any_moment g c tells file bodies at has =
+    let before = g.D.Disk.state c.args.disk.now in
+    let read = g.D.Disk.state c.read_all.new.disk in
+    let name = c.args.name in
+    let octets = c.deref-2.result.now in
+    let end = c.end_of_batches-end.result in
+    let tells_shut = c.cut_behind.ensures.told tells in
+    let tells_read = c.shut.ensures.told tells_shut in
+    let there = still_there before read name file at (c.in_ok-file.ensures.same tells_read) in
+    let items = c.in_ok-file.ensures.octets tells_read file at in
+    let ends = ends_here file c.deref.result.now bodies end (c.deref.ensures.value ∙ items) has c.end_of_batches-end.ensures.ends in
+    let is = c.deref-2.ensures.value ∙ items in
+    let at_octets = subst (IsOnDisk read name) (sym is) there in
+    let ends_octets = subst (λ (l : List ℕ). EndsAt l bodies end) (sym is) ends in
+    c.in_err-cut_behind.ensures.leaves tells bodies (c.in_ok-shut.ensures.closing tells_shut bodies at_octets ends_octets) ends.end_is
+
+pub returns-clause-any_moment : goal.returns-clause-any_moment
+returns-clause-any_moment g c tells file bodies at has =
+    let before = g.D.Disk.state c.args.disk.now in
+    let read = g.D.Disk.state c.read_all.new.disk in
+    let name = c.args.name in
+    let octets = c.deref-2.result.now in
+    let end = c.end_of_batches-end.result in
+    let tells_shut = c.cut_behind.ensures.told tells in
+    let tells_read = c.shut.ensures.told tells_shut in
+    let there = still_there before read name file at (c.in_ok-file.ensures.same tells_read) in
+    let items = c.in_ok-file.ensures.octets tells_read file at in
+    let ends = ends_here file c.deref.result.now bodies end (c.deref.ensures.value ∙ items) has c.end_of_batches-end.ensures.ends in
+    let is = c.deref-2.ensures.value ∙ items in
+    let at_octets = subst (IsOnDisk read name) (sym is) there in
+    let ends_octets = subst (λ (l : List ℕ). EndsAt l bodies end) (sym is) ends in
+    c.in_ok-cut_behind.ensures.leaves tells bodies (c.in_ok-shut.ensures.closing tells_shut bodies at_octets ends_octets) ends.end_is

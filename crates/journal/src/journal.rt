@@ -1,0 +1,95 @@
+//! A journal that is written.
+ghost use Rattle.std.specs.Prelude.{◌≡◌, ◌⊎◌, ◌^◌, ◌<◌, ◌≤◌, ◌++◌, ◌∷◌, [], length, List, ℕ};
+ghost use Rattle.std.specs.Prelude.{IfOk, IsErrOf, OnOk};
+ghost use Rattle.journal.specs.Batches.{closed_batch};
+
+use disk::{Disk, DiskFault, FileName};
+use std::alloc::{AllocError, Global};
+
+/// The most octets of a journal before a batch.
+pub const LENGTH_MAX: u64 = 1 << 62;
+
+// what opens a batch, and what stands in its place before
+const OPEN: u8 = 1;
+
+const CLOSED: u8 = 0;
+
+// the octets before those of a batch
+const HEAD: u64 = 5;
+
+/// A journal to which batches are added.
+#[derive(Drop)]
+pub struct Journal {
+    pub(crate) name: FileName,
+    pub(crate) end: u64,
+}
+
+// a batch without the octet that opens it, and a closed octet behind it
+fn written(alloc: Global, body: &[u8]) -> Result<Vec<u8>, AllocError>
+    requires { length body.now < 2 ^ 32 }
+    ensures { IfOk result (λ octets. octets.items ≡ closed_batch body.now) }
+{
+    let mut octets = Vec::new(alloc);
+    octets.extend_from_slice(&(body.len() as u32).to_le_bytes())?;
+    octets.extend_from_slice(body)?;
+    octets.push(CLOSED)?;
+    Ok(octets)
+}
+
+impl Journal {
+    ghost use Rattle.journal.specs.Journals.{end_of, name_of, IsSound, Stands};
+    ghost use Rattle.journal.specs.Journals.{LeavesBatches, WithOrWithout};
+
+    /// Makes an empty journal under a name that has no file. Once it has returned `Ok`, every crash
+    /// leaves it.
+    pub fn create<D: Disk>(disk: &mut D, name: FileName) -> Result<Journal, DiskFault>
+        ensures created { IfOk result (λ journal. D.tells disk.new
+            → IsSound (D.state disk.old) → Stands journal (D.state disk.new) []) }
+        ensures name { IfOk result (λ journal. name_of journal ≡ name) }
+        ensures told { D.tells disk.new → D.tells disk.old }
+        ensures failed { IsErrOf result DiskFault.Failed → D.has_failed disk.new }
+    {
+        disk.create(&name)?;
+        disk.append(&name, &[CLOSED])?;
+        disk.sync(&name)?;
+        disk.sync_names()?;
+        Ok(Journal { name, end: 0 })
+    }
+
+    /// Adds a batch. Once it has returned `Ok`, every crash leaves it; a crash at any moment leaves
+    /// the batches from before, with this one or without it. After an `Err` open the journal again.
+    pub fn commit<D: Disk>(
+        &mut self,
+        alloc: Global,
+        disk: &mut D,
+        body: &[u8],
+    ) -> Result<(), DiskFault>
+        requires { length body.now < 2 ^ 32 }
+
+        ensures committed { OnOk result (D.tells disk.new → (bodies : List (List ℕ))
+            → Stands self.old (D.state disk.old) bodies
+            → Stands self.new (D.state disk.new) (bodies ++ body.now ∷ [])) }
+
+        // whatever the result is: so at every moment
+        ensures any_moment { D.tells disk.new → (bodies : List (List ℕ))
+            → Stands self.old (D.state disk.old) bodies
+            → LeavesBatches (D.state disk.new) (name_of self.old)
+            (WithOrWithout bodies body.now) }
+
+        ensures told { D.tells disk.new → D.tells disk.old }
+        ensures failed { IsErrOf result DiskFault.Failed → D.has_failed disk.new }
+        ensures full { IsErrOf result DiskFault.Full
+            → D.has_failed disk.new ⊎ (2 ^ 62 ≤ end_of self.old) }
+    {
+        if self.end >= LENGTH_MAX {
+            return Err(DiskFault::Full);
+        }
+        let octets = written(alloc, body)?;
+        disk.append(&self.name, &octets)?;
+        disk.sync(&self.name)?; // whole
+        disk.overwrite(&self.name, self.end, OPEN)?;
+        disk.sync(&self.name)?; // and open
+        self.end += HEAD + body.len() as u64;
+        Ok(())
+    }
+}

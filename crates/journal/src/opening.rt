@@ -1,0 +1,114 @@
+//! A journal is opened.
+ghost use Rattle.std.specs.Prelude.{◌≡◌, ◌≤◌, ◌<◌, ◌^◌, length, List, ℕ, IfOk, IsErrOf, OnOk};
+ghost use Rattle.std.specs.Prelude.{◌⊎◌, Option, Some};
+ghost use Rattle.disk.specs.Files.{File};
+ghost use Rattle.disk.specs.States.{NameMayLeave};
+ghost use Rattle.journal.specs.Batches.{batches_text, HasBatches};
+ghost use Rattle.journal.specs.Journals.{EndsAt, IsAtRest, IsClosing, IsOnDisk};
+ghost use Rattle.journal.specs.Journals.{LeavesThese, OpensOn, Shows};
+
+use crate::reading::{end_of_batches, read_all};
+use crate::{Journal, JournalFault};
+use disk::{Disk, DiskFault, FileName};
+use std::alloc::Global;
+
+// what opens a batch, and what stands in its place before
+const OPEN: u8 = 1;
+
+const CLOSED: u8 = 0;
+
+// Puts a closed octet behind the batches, if there is none.
+fn shut<D: Disk>(disk: &mut D, name: &FileName, file: &[u8], end: usize) -> Result<(), DiskFault>
+    requires { end ≤ length file.now }
+    ensures closing { OnOk result (D.tells disk.new → (bodies : List (List ℕ))
+        → IsOnDisk (D.state disk.old) name.now file.now → EndsAt file.now bodies end
+        → IsClosing (D.state disk.new) name.now bodies) }
+    ensures leaves { D.tells disk.new → (bodies : List (List ℕ))
+        → IsOnDisk (D.state disk.old) name.now file.now → EndsAt file.now bodies end
+        → LeavesThese (D.state disk.new) name.now bodies }
+    ensures told { D.tells disk.new → D.tells disk.old }
+    ensures failed { IsErrOf result DiskFault.Failed → D.has_failed disk.new }
+{
+    if end == file.len() {
+        disk.append(name, &[CLOSED])?;
+        return Ok(());
+    }
+    if file[end] == OPEN {
+        disk.overwrite(name, end as u64, CLOSED)?;
+        return Ok(());
+    }
+    Ok(())
+}
+
+// Cuts what is behind the closed octet.
+fn cut_behind<D: Disk>(disk: &mut D, name: &FileName, end: u64) -> Result<(), DiskFault>
+    requires { end < 2 ^ 63 }
+    ensures at_rest { OnOk result (D.tells disk.new → (bodies : List (List ℕ))
+        → IsClosing (D.state disk.old) name.now bodies → end ≡ length (batches_text bodies)
+        → IsAtRest (D.state disk.new) name.now bodies) }
+    ensures leaves { D.tells disk.new → (bodies : List (List ℕ))
+        → IsClosing (D.state disk.old) name.now bodies → end ≡ length (batches_text bodies)
+        → LeavesThese (D.state disk.new) name.now bodies }
+    ensures told { D.tells disk.new → D.tells disk.old }
+    ensures failed { IsErrOf result DiskFault.Failed → D.has_failed disk.new }
+{
+    // The closed octet has to be on the disk first: a crash in the cut may leave anything behind it.
+    disk.sync(name)?;
+    disk.cut(name, end + 1)?;
+    disk.sync(name)?;
+    Ok(())
+}
+
+/// Brings to the disk what a read of a journal shows, so that it can be opened where the process
+/// alone has ended. A crash at any moment leaves what it might have left before, or what is shown.
+pub fn settle<D: Disk>(disk: &mut D, name: &FileName) -> Result<(), DiskFault>
+    ensures on_disk { OnOk result (D.tells disk.new → (file : File)
+        → Shows (D.state disk.old) name.now file
+        → IsOnDisk (D.state disk.new) name.now file.shown) }
+
+    // whatever the result is: so at every moment
+    ensures leaves { D.tells disk.new → (file : File) (octets : Option (List ℕ))
+        → Shows (D.state disk.old) name.now file
+        → NameMayLeave ((D.state disk.new).entries name.now) octets
+        → NameMayLeave ((D.state disk.old).entries name.now) octets ⊎ (octets ≡ Some file.shown) }
+
+    ensures told { D.tells disk.new → D.tells disk.old }
+    ensures failed { IsErrOf result DiskFault.Failed → D.has_failed disk.new }
+{
+    disk.sync(name)?;
+    disk.sync_names()?;
+    Ok(())
+}
+
+/// Opens the journal under a name, and gives the text of its batches (`batch_len` finds them), all
+/// of which are on the disk then. What a crash left behind them is cut. A crash at any moment leaves
+/// the same batches. It says so of a file that is on the disk as a read shows it, as after a restart
+/// of the machine; where the process alone has ended, `settle` it before.
+pub fn open<D: Disk>(
+    alloc: Global,
+    disk: &mut D,
+    name: FileName,
+) -> Result<(Journal, Vec<u8>), JournalFault>
+    ensures opened { IfOk result (λ r. D.tells disk.new → (file : List ℕ)
+        → IsOnDisk (D.state disk.old) name file
+        → OpensOn r.0 (D.state disk.new) file r.1.items) }
+
+    // whatever the result is: so at every moment
+    ensures any_moment { D.tells disk.new → (file : List ℕ) (bodies : List (List ℕ))
+        → IsOnDisk (D.state disk.old) name file → HasBatches file bodies
+        → LeavesThese (D.state disk.new) name bodies }
+
+    ensures told { D.tells disk.new → D.tells disk.old }
+    ensures failed { IsErrOf result (JournalFault.Disk DiskFault.Failed) → D.has_failed disk.new }
+{
+    let mut file = read_all(alloc, disk, &name)?;
+    let end = end_of_batches(&file);
+    shut(disk, &name, &file, end)?;
+    cut_behind(disk, &name, end as u64)?;
+    file.truncate(end);
+    let journal = Journal {
+        name,
+        end: end as u64,
+    };
+    Ok((journal, file))
+}

@@ -1,2 +1,0 @@
-pub mod RequestLemmas
-pub mod FileLemmas
