@@ -74,13 +74,7 @@ pub joined_fronts : (dl el dr er : InputState) (t0 t1 : Option (List ℕ)) (n : 
     → IfSome dl.left (λ x. IfSome dr.left (λ y. WritesFronts x y t0 t1))
 joined_fronts dl el dr er t0 t1 n j =
     both_whole dl el dr er t0 t1 n (λ x y. WritesFronts x y t0 t1) j (record {
-      left_read = text_of j.xs;
-      left_unread = [];
-      right_read = text_of j.ys;
-      right_unread = [];
       written = text_of j.zs;
-      left_parts = sym (append-nil (text_of j.xs));
-      right_parts = sym (append-nil (text_of j.ys));
       taken = j.written;
       prefix =
           prefix_of_union (text_of j.xs) (text_of j.ys) j.xs j.ys j.zs (whole_side j.xs j.zs j.left_archive)
@@ -105,17 +99,7 @@ pub stopped_fronts : (fault : MergeFault) (dl el dr er : InputState) (t0 t1 : Op
     → IfSome dl.left (λ x. IfSome dr.left (λ y. WritesFronts x y t0 t1))
 stopped_fronts fault dl el dr er t0 t1 s =
     both_some dl.left dr.left el.left er.left s.x s.y (λ x y. WritesFronts x y t0 t1) s.left s.right
-    (λ u v at_end also. record {
-      left_read = s.x;
-      left_unread = u;
-      right_read = s.y;
-      right_unread = v;
-      written = s.written;
-      left_parts = refl;
-      right_parts = refl;
-      taken = s.taken;
-      prefix = s.prefix;
-    })
+    (λ u v at_end also. record { written = s.written; taken = s.taken; prefix = s.prefix u v at_end also })
 
 -- the front of a text is that of the octets that it begins with
 up_to_front : (x y text written : List ℕ) (fault : ArchiveFault) → HasFaultOf x text fault → IsUpToFirst x y written

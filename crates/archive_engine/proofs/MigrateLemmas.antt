@@ -123,15 +123,15 @@ ran_unread read.Endless r r_new w n n_new status cause few told =
     nothing_read r r_new w n n_new (Some Endless) status
     (told, record { calls = cause.calls; no_failure = cause.no_failure; no_end = cause.no_end }, refl) few
 ran_unread read.Memory r r_new w n n_new status cause few told =
-    nothing_read r r_new w n n_new (Some Memory) status (told, refl) few
+    nothing_read r r_new w n n_new (Some Memory) status (told, cause.no_failure, refl) few
 
 -- the text is no old archive
 pub ran_refused : (text : List ℕ) (fault : ArchiveFault) (r r_new : InputState) (w n n_new : OutputState) (status : ℕ)
-    → IsRead r.left text → ReadsFew r r_new → IsOldArchiveFault ENTRY_MAX text fault
+    → IsRead r.left text → ReadsFew r r_new → r_new.failures ≡ r.failures → IsOldArchiveFault ENTRY_MAX text fault
     → Reports (fault_line (codes "old") fault) REFUSED n n_new status
     ⊎ Reports (codes "want of memory\n") NO_MEMORY n n_new status
     → RanMigrate (devices r w n) (devices r_new w n_new) status
-ran_refused text fault r r_new w n n_new status is few bad (inl (inl (one, wrote))) =
+ran_refused text fault r r_new w n n_new status is few sound bad (inl (inl (one, wrote))) =
     nothing_read r r_new w n n_new None status
     (record {
       input = text;
@@ -139,26 +139,27 @@ ran_refused text fault r r_new w n n_new status is few bad (inl (inl (one, wrote
       is_input = left_of r.left text is;
       comes = inr (fault, bad, refl);
       wrote = record { to_output = record { octets = Appends-nil w.taken; no_failure = refl }; to_diagnostics = wrote };
+      no_failure = sound;
       status_is = one;
     }) few
-ran_refused text fault r r_new w n n_new status is few bad (inl (inr (two, failed))) =
-    nothing_read r r_new w n n_new (Some Diagnostics) status (two, failed, refl) few
-ran_refused text fault r r_new w n n_new status is few bad (inr told) =
-    nothing_read r r_new w n n_new (Some Memory) status (told, refl) few
+ran_refused text fault r r_new w n n_new status is few sound bad (inl (inr (two, failed))) =
+    nothing_read r r_new w n n_new (Some Diagnostics) status (two, failed, sound, refl) few
+ran_refused text fault r r_new w n n_new status is few sound bad (inr told) =
+    nothing_read r r_new w n n_new (Some Memory) status (told, sound, refl) few
 
 -- memory ran out for the archive
 pub ran_out : (r r_new : InputState) (w n n_new : OutputState) (status : ℕ) → ReadsFew r r_new
-    → Reports (codes "want of memory\n") NO_MEMORY n n_new status
+    → r_new.failures ≡ r.failures → Reports (codes "want of memory\n") NO_MEMORY n n_new status
     → RanMigrate (devices r w n) (devices r_new w n_new) status
-ran_out r r_new w n n_new status few told =
-    nothing_read r r_new w n n_new (Some Memory) status (told, refl) few
+ran_out r r_new w n n_new status few sound told =
+    nothing_read r r_new w n n_new (Some Memory) status (told, sound, refl) few
 
 -- the archive was written
 pub ran_whole : (text octets : List ℕ) (r r_new : InputState) (w w_new n : OutputState) → IsRead r.left text
-    → ReadsFew r r_new
+    → ReadsFew r r_new → r_new.failures ≡ r.failures
     → (es : List Entry) × IsArchive ENTRY_MAX es × Migrates text [] es × (octets ≡ text_of es)
     → WroteAll w w_new octets → RanMigrate (devices r w n) (devices r_new w_new n) DONE
-ran_whole text octets r r_new w w_new n is few (es, a, h, e) wrote = record {
+ran_whole text octets r r_new w w_new n is few sound (es, a, h, e) wrote = record {
   ending = None;
   outcome = record {
     input = text;
@@ -169,6 +170,7 @@ ran_whole text octets r r_new w w_new n is few (es, a, h, e) wrote = record {
       to_output = subst (WroteAll w w_new) e wrote;
       to_diagnostics = record { octets = Appends-nil n.taken; no_failure = refl };
     };
+    no_failure = sound;
     status_is = refl;
   };
   begins = migrated_whole r.left w.taken w_new.taken text octets is (es, a, h, e) wrote.octets;
@@ -177,13 +179,13 @@ ran_whole text octets r r_new w w_new n is few (es, a, h, e) wrote = record {
 
 -- the output failed behind a part of it
 pub ran_part : (text octets : List ℕ) (sent : ℕ) (r r_new : InputState) (w w_new n n_new : OutputState) (status : ℕ)
-    → IsRead r.left text → ReadsFew r r_new
+    → IsRead r.left text → ReadsFew r r_new → r_new.failures ≡ r.failures
     → (es : List Entry) × IsArchive ENTRY_MAX es × Migrates text [] es × (octets ≡ text_of es)
     → WrotePart w w_new octets sent → Reports (codes "write fault\n") FAULT n n_new status
     → RanMigrate (devices r w n) (devices r_new w_new n_new) status
-ran_part text octets sent r r_new w w_new n n_new status is few done part told = record {
+ran_part text octets sent r r_new w w_new n n_new status is few sound done part told = record {
   ending = Some Write;
-  outcome = (told, part.cause);
+  outcome = (told, sound, part.cause);
   begins = migrated_prefix r.left w.taken w_new.taken text octets sent is done part.octets;
   few = few;
 }

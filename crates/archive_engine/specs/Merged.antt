@@ -61,17 +61,11 @@ MergeDone x y d =
     IsMerged x y d
     ⊎ (IsRefused IsFirstWithin (codes "left") x y d ⊎ IsRefused IsSecondAbove (codes "right") y x d)
 
--- a prefix of the text of the union of the fronts of what was read of two inputs was written
+-- a prefix of the text of the union of the fronts of two inputs was written: where both are archives, of their union
 pub record WritesFronts (x y : List ℕ) (taken_old taken_new : Option (List ℕ)) : Type 0 where
-  pub left_read : List ℕ
-  pub left_unread : List ℕ
-  pub right_read : List ℕ
-  pub right_unread : List ℕ
   pub written : List ℕ
-  pub left_parts : x ≡ left_read ++ left_unread
-  pub right_parts : y ≡ right_read ++ right_unread
   pub taken : Appends taken_old taken_new written
-  pub prefix : IsPrefixOfUnion left_read right_read written
+  pub prefix : IsPrefixOfUnion x y written
 
 -- the line on what stopped the joining
 abbrev pub merge_line : MergeFault → List ℕ
@@ -135,6 +129,6 @@ pub record RanMerge (old new : MergeDevices) (status : ℕ) : Type 0 where
   -- the text of the union, or the line on why an input is no archive, behind the entries that come before its fault
   pub answer : status < FAULT → IfSome old.left.left (λ x. AnswersWith (MergeDone x) old.right.left status
       old.output.taken new.output.taken old.diagnostics.taken new.diagnostics.taken)
-  -- a prefix of the text of the union of the fronts of what was read
+  -- a prefix of the text of the union of the fronts, whatever was read
   pub begins : IfSome old.left.left (λ x. IfSome old.right.left (λ y.
       WritesFronts x y old.output.taken new.output.taken))

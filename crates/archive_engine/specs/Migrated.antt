@@ -33,6 +33,7 @@ pub record Migrated (old new : Devices) (status : ℕ) : Type 0 where
   pub is_input : IsLeft old.input.left input
   pub comes : MigrateDone input done
   pub wrote : Wrote old new done.output done.diagnostics
+  pub no_failure : new.input.failures ≡ old.input.failures
   pub status_is : status ≡ status_of done
 
 -- how a migration ended: with what comes of the old archive; or by a stop, which a line tells
@@ -45,11 +46,14 @@ MigrateEndsAs (Some Endless) old new status =
     Reports (codes "old endless input\n") FAULT old.diagnostics new.diagnostics status
     × IsEndless old.input new.input × (new.output ≡ old.output)
 MigrateEndsAs (Some Write) old new status =
-    Reports (codes "write fault\n") FAULT old.diagnostics new.diagnostics status × OutputFailed old.output new.output
+    Reports (codes "write fault\n") FAULT old.diagnostics new.diagnostics status
+    × (new.input.failures ≡ old.input.failures) × OutputFailed old.output new.output
 MigrateEndsAs (Some Diagnostics) old new status =
-    (status ≡ FAULT) × OutputFailed old.diagnostics new.diagnostics × (new.output ≡ old.output)
+    (status ≡ FAULT) × OutputFailed old.diagnostics new.diagnostics × (new.input.failures ≡ old.input.failures)
+    × (new.output ≡ old.output)
 MigrateEndsAs (Some Memory) old new status =
-    Reports (codes "want of memory\n") NO_MEMORY old.diagnostics new.diagnostics status × (new.output ≡ old.output)
+    Reports (codes "want of memory\n") NO_MEMORY old.diagnostics new.diagnostics status
+    × (new.input.failures ≡ old.input.failures) × (new.output ≡ old.output)
 
 -- what a migration does, whatever the devices do
 pub record RanMigrate (old new : Devices) (status : ℕ) : Type 0 where

@@ -15,7 +15,7 @@ use Rattle.octet_devices.specs.Held.{Carries, Held, StopsWithin}
 use Rattle.octet_devices.specs.declared.loops.TheConstants.{READ_MAX, READER_CALLS}
 use Rattle.archive_streams.specs.EntryTexts.{entry_in}
 use Rattle.archive_streams.specs.Halted.{Halted, IsUnderWay}
-use Rattle.archive_streams.specs.Joining.{IsUnion, IsWithin}
+use Rattle.archive_streams.specs.Joining.{IsUnion, IsWithin, MayFollow}
 use Rattle.archive_streams.specs.Joins.{BothDue, Joins, LeftDue, Merging, RightDue}
 use Rattle.archive_streams.specs.Merging.{HasRoom}
 use Rattle.octet_devices.specs.Device.{InputState}
@@ -32,11 +32,11 @@ use Rattle.archive_streams.specs.declared.fault.SideFault.{SideFault}
 use Rattle.archive_streams.specs.declared.fault.SideFault.TheVariants.{Archive, Input}
 use Rattle.archive_streams.specs.declared.merge.Merge.{Merge}
 use Rattle.archive_streams.specs.declared.side.ArchiveReader.{ArchiveReader}
-use Rattle.archive_streams.proofs.Joining.{AllWithin, SideAt, first_above, first_within, prefix_of_union}
+use Rattle.archive_streams.proofs.Joining.{AllWithin, SideAt, first_above, first_within, prefix_of_any, side_on}
 use Rattle.archive_streams.proofs.Joining.{up_to_first}
-use Rattle.archive_streams.proofs.Merges.{HasNext, has_next, longer_both, longer_left, longer_right, still_side}
+use Rattle.archive_streams.proofs.Merges.{HasNext, has_next, longer_both, longer_left, longer_right, still_on}
 use Rattle.archive_streams.proofs.SideSteps.{few_calls}
-use Rattle.archive_streams.proofs.Unions.{IsAhead, all_within, side_ahead, side_due, side_ready, turned, union_both}
+use Rattle.archive_streams.proofs.Unions.{IsAhead, all_within, due_on, ready_on, side_ahead, side_due, side_ready, turned, union_both}
 use Rattle.archive_streams.proofs.Unions.{union_left, union_right}
 
 -- ---- what is joined is short
@@ -91,6 +91,14 @@ stopped_side fault s d e ls ws last t of_side of_all_joined up =
       stands =
           inr (inr (refl, all_within ls ws last of_side of_all_joined up));
     }
+
+stopped_on : (fault : SideFault) (s : ArchiveReader) (d e : InputState) (ls ws : List Entry) (last : EntryText)
+    → (t : IsSideStop fault s d e ls) → EndsWith ls last → EndsWith ws last → IsAscending ws → (more : List ℕ)
+    → SideAt (t.x ++ more) ls ws
+unfolding stopped_side
+stopped_on fault s d e ls ws last t of_side of_all_joined up more =
+    side_on t.x more ls ws (stopped_side fault s d e ls ws last t of_side of_all_joined up)
+    (inr (inr (refl, all_within ls ws last of_side of_all_joined up)))
 
 -- its end was given
 side_ended : (fault : SideFault) (s : ArchiveReader) (d e : InputState) (ls : List Entry) → IsSideStop fault s d e ls
@@ -183,10 +191,11 @@ right_input (Input input_Endless) s dl el dr er ls rs ws x t a ahead b u all = (
 -- the left stops
 left_stops : (fault : SideFault) (s : ArchiveReader) (m : Merge) (dl el dr er : InputState) (ls rs ws : List Entry)
     (y : List ℕ) (start now : Option (List ℕ)) → IsSideStop fault s dl el ls → EndsWith ls m.last
-    → SideAt y rs ws → Consumes dr.left er.left y → HasFewCalls dr er y → Joins m ls rs ws start now
+    → SideAt y rs ws → ((more : List ℕ) → MayFollow er.left more → SideAt (y ++ more) rs ws)
+    → Consumes dr.left er.left y → HasFewCalls dr er y → Joins m ls rs ws start now
     → length (text_of ws) < 2 ^ 64
     → Halted (left_fault fault) m.held dl el dr er start now
-left_stops fault s m dl el dr er ls rs ws y start now t ends b consumed few j short =
+left_stops fault s m dl el dr er ls rs ws y start now t ends b on consumed few j short =
     let a : SideAt t.x ls ws = stopped_side fault s dl el ls ws m.last t ends j.last_is j.union.ascending in
     let all : AllWithin ls ws = record { within = all_within ls ws m.last ends j.last_is j.union.ascending } in
     record {
@@ -197,7 +206,8 @@ left_stops fault s m dl el dr er ls rs ws y start now t ends b consumed few j sh
       right = consumed;
       left_calls = few_calls s dl el t.x t.calls t.far;
       right_calls = few;
-      prefix = prefix_of_union t.x y ls rs ws a b j.union;
+      prefix = prefix_of_any el.left er.left t.x y ls rs ws
+          (λ more _. stopped_on fault s dl el ls ws m.last t ends j.last_is j.union.ascending more) on j.union;
       short = short;
       under_way = left_under_way fault m.held start now (text_of ws) j.carries;
       input = left_input fault s dl el dr er ls rs ws y t a b j.union all;
@@ -212,7 +222,8 @@ left_halts fault found s m dl el fl dr er start now room same stop h =
     let right = ready_short m.right dr er h.rs h.ws room.right_near h.right in
     left_stops fault s m dl fl dr er h.ls h.rs h.ws h.right.x start now
     (subst (λ (f : SideFault). IsSideStop f s dl fl h.ls) same (stop dl h.ls h.left)) h.left.ends
-    (side_ready m.right dr er h.rs h.ws h.right) h.right.read.consumed (few_calls m.right dr er h.right.x h.right.read.calls h.right.read.far)
+    (side_ready m.right dr er h.rs h.ws h.right) (ready_on m.right dr er h.rs h.ws h.right) h.right.read.consumed
+    (few_calls m.right dr er h.right.x h.right.read.calls h.right.read.far)
     h.joins
     (both_short h.ls h.rs h.ws h.joins.short left right)
 
@@ -225,7 +236,9 @@ left_halts_first fault found s m dl el fl dr er start now room same stop h =
     let right = due_short m.right dr er h.rs m.last room.right_near h.right in
     left_stops fault s m dl fl dr er h.ls h.rs h.ws h.right.x start now
     (subst (λ (f : SideFault). IsSideStop f s dl fl h.ls) same (stop dl h.ls h.left)) h.left.ends
-    (side_due m.right dr er h.rs h.ws m.last h.right h.joins.last_is h.joins.union.ascending) h.right.read.consumed
+    (side_due m.right dr er h.rs h.ws m.last h.right h.joins.last_is h.joins.union.ascending)
+    (λ more _. due_on m.right dr er h.rs h.ws m.last h.right h.joins.last_is h.joins.union.ascending more)
+    h.right.read.consumed
     (few_calls m.right dr er h.right.x h.right.read.calls h.right.read.far) h.joins (both_short h.ls h.rs h.ws h.joins.short left right)
 
 -- the right stops, and the left is ahead
@@ -253,7 +266,9 @@ right_halts fault found s m dl el dr er fr start now room same stop h =
       right = t.consumed;
       left_calls = few_calls m.left dl el h.left.x h.left.read.calls h.left.read.far;
       right_calls = few_calls s dr fr t.x t.calls t.far;
-      prefix = prefix_of_union h.left.x t.x h.ls h.rs h.ws a b h.joins.union;
+      prefix = prefix_of_any el.left fr.left h.left.x t.x h.ls h.rs h.ws (ready_on m.left dl el h.ls h.ws h.left)
+          (λ more _. stopped_on fault s dr fr h.rs h.ws m.last t h.right.ends h.joins.last_is
+          h.joins.union.ascending more) h.joins.union;
       short = both_short h.ls h.rs h.ws h.joins.short left right;
       under_way = right_under_way fault m.held start now (text_of h.ws) h.joins.carries;
       input = right_input fault s dl el dr fr h.ls h.rs h.ws h.left.x t a (side_ahead m.left dl el h.ls h.ws h.left) b
@@ -261,6 +276,19 @@ right_halts fault found s m dl el dr er fr start now room same stop h =
     }
 
 -- ---- the writer fails
+
+-- all that is joined is not above the entry that is written
+written_within : (s : ArchiveReader) (d e : InputState) (ls ws : List Entry) → HasNext s d e ls ws → (v : Entry)
+    → Has (ws ++ entry_in s.entry ∷ []) v → IsWithin (ls ++ entry_in s.entry ∷ []) v
+written_within s d e ls ws n v h = (
+  entry_in s.entry,
+  has_right ls (entry_in s.entry ∷ []) (entry_in s.entry) (inl refl),
+  elim (has_either ws (entry_in s.entry ∷ []) v h) [ inl k ↦ inr (n.below v k) | inr k ↦ alone k ],
+)
+  where
+    alone : Has (entry_in s.entry ∷ []) v → (v ≡ entry_in s.entry) ⊎ IsBelow v (entry_in s.entry)
+    alone (inl same) = inl (sym same)
+    alone (inr none) = absurd none
 
 -- all entries of a side whose next one is written are joined
 written_side : (s : ArchiveReader) (d e : InputState) (ls ws : List Entry) → (n : HasNext s d e ls ws)
@@ -271,23 +299,15 @@ written_side s d e ls ws n = record {
   parts =
       n.read.parts;
   archive = n.read.archive;
-  stands = inr (inr (refl, within));
+  stands = inr (inr (refl, written_within s d e ls ws n));
 }
-  where
-    here : Has (ls ++ entry_in s.entry ∷ []) (entry_in s.entry)
-    here = has_right ls (entry_in s.entry ∷ []) (entry_in s.entry) (inl refl)
 
-    alone : (v : Entry) → Has (entry_in s.entry ∷ []) v → (v ≡ entry_in s.entry) ⊎ IsBelow v (entry_in s.entry)
-    alone v (inl same) = inl (sym same)
-    alone v (inr none) = absurd none
-
-    within : (v : Entry) → Has (ws ++ entry_in s.entry ∷ []) v → IsWithin (ls ++ entry_in s.entry ∷ []) v
-    within v h = (
-      entry_in s.entry,
-      here,
-      elim (has_either ws (entry_in s.entry ∷ []) v h)
-          [ inl k ↦ inr (n.below v k) | inr k ↦ alone v k ],
-    )
+written_on : (s : ArchiveReader) (d e : InputState) (ls ws : List Entry) → (n : HasNext s d e ls ws) → (more : List ℕ)
+    → SideAt (n.x ++ more) (ls ++ entry_in s.entry ∷ []) (ws ++ entry_in s.entry ∷ [])
+unfolding written_side
+written_on s d e ls ws n more =
+    side_on n.x more (ls ++ entry_in s.entry ∷ []) (ws ++ entry_in s.entry ∷ []) (written_side s d e ls ws n)
+    (inr (inr (refl, written_within s d e ls ws n)))
 
 -- the text goes on with the entry
 written_text : (s : ArchiveReader) (d e : InputState) (ls ws : List Entry) → HasNext s d e ls ws
@@ -305,7 +325,6 @@ less_halts m held dl el dr er start a b sent room some above stops s =
     let w = entry_in m.left.entry in
     let next = has_next m.left dl el s.ls s.ws some s.left in
     let union = union_left s.ls s.rs s.ws w s.joins.union next.below in
-    let other : SideAt s.right.x s.rs (s.ws ++ w ∷ []) = still_side m.right dr er s.rs s.ws w above s.right in
     record {
       x = next.x;
       y = s.right.x;
@@ -314,8 +333,9 @@ less_halts m held dl el dr er start a b sent room some above stops s =
       right = s.right.read.consumed;
       left_calls = few_calls m.left dl el next.x next.read.calls next.read.far;
       right_calls = few_calls m.right dr er s.right.x s.right.read.calls s.right.read.far;
-      prefix = prefix_of_union next.x s.right.x (s.ls ++ w ∷ []) s.rs (s.ws ++ w ∷ [])
-          (written_side m.left dl el s.ls s.ws next) other union;
+      prefix = prefix_of_any el.left er.left next.x s.right.x (s.ls ++ w ∷ []) s.rs (s.ws ++ w ∷ [])
+          (λ more _. written_on m.left dl el s.ls s.ws next more)
+          (still_on m.right dr er s.rs s.ws w above s.right) union;
       short = both_short (s.ls ++ w ∷ []) s.rs (s.ws ++ w ∷ []) (longer_left s.ls s.rs s.ws w s.joins.short)
           (next_short m.left dl el s.ls s.ws room.left_near next)
           (ready_short m.right dr er s.rs s.ws room.right_near s.right);
@@ -334,7 +354,6 @@ greater_halts m held dl el dr er start a b sent room some above stops s =
     let w = entry_in m.right.entry in
     let next = has_next m.right dr er s.rs s.ws some s.right in
     let union = union_right s.ls s.rs s.ws w s.joins.union next.below in
-    let other : SideAt s.left.x s.ls (s.ws ++ w ∷ []) = still_side m.left dl el s.ls s.ws w above s.left in
     record {
       x = s.left.x;
       y = next.x;
@@ -343,8 +362,8 @@ greater_halts m held dl el dr er start a b sent room some above stops s =
       right = next.read.consumed;
       left_calls = few_calls m.left dl el s.left.x s.left.read.calls s.left.read.far;
       right_calls = few_calls m.right dr er next.x next.read.calls next.read.far;
-      prefix = prefix_of_union s.left.x next.x s.ls (s.rs ++ w ∷ []) (s.ws ++ w ∷ []) other
-          (written_side m.right dr er s.rs s.ws next) union;
+      prefix = prefix_of_any el.left er.left s.left.x next.x s.ls (s.rs ++ w ∷ []) (s.ws ++ w ∷ [])
+          (still_on m.left dl el s.ls s.ws w above s.left) (λ more _. written_on m.right dr er s.rs s.ws next more) union;
       short = both_short s.ls (s.rs ++ w ∷ []) (s.ws ++ w ∷ []) (longer_right s.ls s.rs s.ws w s.joins.short)
           (ready_short m.left dl el s.ls s.ws room.left_near s.left)
           (next_short m.right dr er s.rs s.ws room.right_near next);
@@ -364,9 +383,6 @@ equal_halts m held dl el dr er start a b sent room some also same stops s =
     let next = has_next m.left dl el s.ls s.ws some s.left in
     let other = has_next m.right dr er s.rs s.ws also s.right in
     let union = union_both s.ls s.rs s.ws w s.joins.union next.below in
-    let side : SideAt other.x (s.rs ++ w ∷ []) (s.ws ++ w ∷ []) =
-    subst (λ (e : Entry). SideAt other.x (s.rs ++ e ∷ []) (s.ws ++ e ∷ [])) (sym same)
-    (written_side m.right dr er s.rs s.ws other) in
     let right : length (text_of (s.rs ++ w ∷ [])) ≤ READ_MAX * READER_CALLS =
     subst (λ (e : Entry). length (text_of (s.rs ++ e ∷ [])) ≤ READ_MAX * READER_CALLS) (sym same)
     (next_short m.right dr er s.rs s.ws room.right_near other) in
@@ -378,8 +394,10 @@ equal_halts m held dl el dr er start a b sent room some also same stops s =
       right = other.read.consumed;
       left_calls = few_calls m.left dl el next.x next.read.calls next.read.far;
       right_calls = few_calls m.right dr er other.x other.read.calls other.read.far;
-      prefix = prefix_of_union next.x other.x (s.ls ++ w ∷ []) (s.rs ++ w ∷ []) (s.ws ++ w ∷ [])
-          (written_side m.left dl el s.ls s.ws next) side union;
+      prefix = prefix_of_any el.left er.left next.x other.x (s.ls ++ w ∷ []) (s.rs ++ w ∷ []) (s.ws ++ w ∷ [])
+          (λ more _. written_on m.left dl el s.ls s.ws next more)
+          (λ more _. subst (λ (e : Entry). SideAt (other.x ++ more) (s.rs ++ e ∷ []) (s.ws ++ e ∷ [])) (sym same)
+          (written_on m.right dr er s.rs s.ws other more)) union;
       short = both_short (s.ls ++ w ∷ []) (s.rs ++ w ∷ []) (s.ws ++ w ∷ []) (longer_both s.ls s.rs s.ws w s.joins.short)
           (next_short m.left dl el s.ls s.ws room.left_near next) right;
       under_way = subst (λ (u : List ℕ). StopsWithin start b u sent) (written_text m.left dl el s.ls s.ws next)
@@ -399,8 +417,8 @@ end_halts m held dl el dr er start a b sent room stops s = record {
   right = s.right.read.consumed;
   left_calls = few_calls m.left dl el s.left.x s.left.read.calls s.left.read.far;
   right_calls = few_calls m.right dr er s.right.x s.right.read.calls s.right.read.far;
-  prefix = prefix_of_union s.left.x s.right.x s.ls s.rs s.ws (side_ready m.left dl el s.ls s.ws s.left)
-      (side_ready m.right dr er s.rs s.ws s.right) s.joins.union;
+  prefix = prefix_of_any el.left er.left s.left.x s.right.x s.ls s.rs s.ws (ready_on m.left dl el s.ls s.ws s.left)
+      (ready_on m.right dr er s.rs s.ws s.right) s.joins.union;
   short = both_short s.ls s.rs s.ws s.joins.short (ready_short m.left dl el s.ls s.ws room.left_near s.left)
       (ready_short m.right dr er s.rs s.ws room.right_near s.right);
   under_way = stops (text_of s.ws) s.joins.carries;

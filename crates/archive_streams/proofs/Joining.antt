@@ -1,5 +1,5 @@
 -- Two archives that are joined, as lists of entries.
-use Rattle.std.proofs.Common.{◌≡◌, ℕ, List, [], ◌∷◌, ◌++◌, length, refl, sym, ap, subst, ◌∙◌, append_assoc, arith, inl}
+use Rattle.std.proofs.Common.{◌≡◌, ℕ, List, [], ◌∷◌, ◌++◌, length, refl, sym, ap, subst, ◌∙◌, append_assoc, arith, inl, Option}
 use Rattle.std.proofs.Common.{inr}
 use Rattle.std.specs.Prelude.{◌⊎◌}
 use Rattle.std.proofs.lemmas.List.{append-nil, length-append}
@@ -13,7 +13,8 @@ use Rattle.archive_text.proofs.Members.{has_either, has_left, has_right, of_memb
 use Rattle.archive_text.proofs.Ascending.{ascending_across}
 use Rattle.archive_text.proofs.Texts.{no_text, one_begins, text_append, text_length, text_some}
 use Rattle.archive_text.proofs.Prefixes.{archive_has_no_fault, longest_faulty, one_longest}
-use Rattle.archive_streams.specs.Joining.{IsFirstAbove, IsFirstWithin, IsPrefixOfUnion, IsUnion, IsUpToFirst, IsWithin}
+use Rattle.archive_streams.specs.Joining.{IsFirstAbove, IsFirstWithin, IsPrefixOfAnyUnion, IsPrefixOfUnion, IsUnion, IsUpToFirst, IsWithin}
+use Rattle.archive_streams.specs.Joining.{MayFollow}
 
 -- an entry is above all of a list
 abbrev pub AllBelow : List Entry → Entry → Type 0
@@ -181,11 +182,35 @@ prefix_of_union x y ls rs ws a b u xs ys zs r s f g v =
     (λ e h. either_side x y ls rs ws xs ys r s e a b u f g ((v.members e).0 h)) in
     (text_of rest.0, ap text_of rest.1 ∙ text_append ws rest.0)
 
+-- with more octets behind those that were read of a side
+pub side_on : (x more : List ℕ) (ls ws : List Entry) → (s : SideAt x ls ws) → Standing s.es ls ws (s.rest ++ more)
+    → SideAt (x ++ more) ls ws
+side_on x more ls ws s stands = record {
+  es = s.es;
+  rest = s.rest ++ more;
+  parts = ap (λ (t : List ℕ). t ++ more) s.parts ∙ append_assoc (text_of s.es) s.rest more;
+  archive = s.archive;
+  stands = stands;
+}
+
+-- what was joined begins the union, whatever follows
+pub prefix_of_any : (left right : Option (List ℕ)) (x y : List ℕ) (ls rs ws : List Entry)
+    → ((more : List ℕ) → MayFollow left more → SideAt (x ++ more) ls ws)
+    → ((others : List ℕ) → MayFollow right others → SideAt (y ++ others) rs ws) → IsUnion ls rs ws
+    → IsPrefixOfAnyUnion left right x y (text_of ws)
+prefix_of_any left right x y ls rs ws a b u more others may also =
+    prefix_of_union (x ++ more) (y ++ others) ls rs ws (a more may) (b others also) u
+
 -- a prefix of it too
-pub shorter_prefix : (x y written more : List ℕ) → IsPrefixOfUnion x y (written ++ more) → IsPrefixOfUnion x y written
+shorter_prefix : (x y written more : List ℕ) → IsPrefixOfUnion x y (written ++ more) → IsPrefixOfUnion x y written
 shorter_prefix x y written more p xs ys zs r s f g u =
     let k = p xs ys zs r s f g u in
     (more ++ k.0, k.1 ∙ append_assoc written more k.0)
+
+pub shorter_any : (left right : Option (List ℕ)) (x y written rest : List ℕ)
+    → IsPrefixOfAnyUnion left right x y (written ++ rest) → IsPrefixOfAnyUnion left right x y written
+shorter_any left right x y written rest p more others may also =
+    shorter_prefix (x ++ more) (y ++ others) written rest (p more others may also)
 
 -- ---- a fault of the first side
 

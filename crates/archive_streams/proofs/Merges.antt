@@ -16,7 +16,7 @@ use Rattle.archive_streams.specs.Merging.{rank}
 use Rattle.archive_text.proofs.Texts.{text_length, text_push}
 use Rattle.octet_devices.specs.Held.{Carries, Held}
 use Rattle.archive_streams.specs.EntryTexts.{entry_in, HoldsEntry}
-use Rattle.archive_streams.specs.Joining.{IsUnion}
+use Rattle.archive_streams.specs.Joining.{IsUnion, MayFollow}
 use Rattle.archive_streams.specs.Joins.{BothDue, Joins, LeftDue, Merging, RightDue}
 use Rattle.octet_devices.specs.Device.{InputState}
 use Rattle.archive_streams.specs.Pieces.{HasFewCalls, unused}
@@ -27,7 +27,7 @@ use Rattle.archive_streams.specs.declared.pieces.Pieces.{Pieces}
 use Rattle.archive_streams.specs.declared.side.ArchiveReader.{ArchiveReader}
 use Rattle.archive_streams.proofs.Joining.{AllBelow, SideAt}
 use Rattle.archive_streams.proofs.SideSteps.{few_calls}
-use Rattle.archive_streams.proofs.Unions.{below_more_joined, side_ready, union_both, union_left, union_nil, union_right}
+use Rattle.archive_streams.proofs.Unions.{below_more_joined, ready_on, union_both, union_left, union_nil, union_right}
 
 -- what was read does not hang on the room of the entry
 pub read_same : (s t : ArchiveReader) (d e : InputState) (x : List ℕ) (es : List Entry) → t.pieces ≡ s.pieces
@@ -102,10 +102,11 @@ still_ready s d e ls ws w above r = record { x = r.x; es = r.es; read = r.read; 
     )
     placed (inr end) = inr end
 
-pub still_side : (s : ArchiveReader) (d e : InputState) (ls ws : List Entry) (w : Entry)
-    → (s.entry.text.items ≢ [] → IsBelow w (entry_in s.entry)) → (r : Ready s d e ls ws) → SideAt r.x ls (ws ++ w ∷ [])
+pub still_on : (s : ArchiveReader) (d e : InputState) (ls ws : List Entry) (w : Entry)
+    → (s.entry.text.items ≢ [] → IsBelow w (entry_in s.entry)) → (r : Ready s d e ls ws) → (more : List ℕ)
+    → MayFollow e.left more → SideAt (r.x ++ more) ls (ws ++ w ∷ [])
 unfolding still_ready
-still_side s d e ls ws w above r = side_ready s d e ls (ws ++ w ∷ []) (still_ready s d e ls ws w above r)
+still_on s d e ls ws w above r = ready_on s d e ls (ws ++ w ∷ []) (still_ready s d e ls ws w above r)
 
 -- with one entry more the text is no longer than those of the two sides
 pub longer_left : (ls rs ws : List Entry) (w : Entry) → length (text_of ws) ≤ length (text_of ls) + length (text_of rs)

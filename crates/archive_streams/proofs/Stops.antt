@@ -5,12 +5,12 @@ use Rattle.std.proofs.lemmas.List.{length-take, take-append-drop}
 use Rattle.octet_devices.specs.Held.{Carries, Held, StopsWithin}
 use Rattle.octet_devices.proofs.Carrying.{StopsWithin-take}
 use Rattle.archive_streams.specs.Halted.{Halted, IsNotWrite, IsUnderWay}
-use Rattle.archive_streams.specs.Joining.{IsPrefixOfUnion}
+use Rattle.archive_streams.specs.Joining.{IsPrefixOfAnyUnion}
 use Rattle.octet_devices.specs.Device.{InputState}
 use Rattle.archive_streams.specs.Stopped.{IsSent, Stopped}
 use Rattle.archive_streams.specs.declared.fault.MergeFault.{MergeFault}
 use Rattle.archive_streams.specs.declared.fault.MergeFault.TheVariants.{Left, Right, Read, Endless, Write, Memory}
-use Rattle.archive_streams.proofs.Joining.{shorter_prefix}
+use Rattle.archive_streams.proofs.Joining.{shorter_any}
 
 -- the writer took so many octets
 pub stopped_sent : (sent : ℕ) (held : Held) (dl el dr er : InputState) (start now : Option (List ℕ))
@@ -26,8 +26,8 @@ stopped_sent sent held dl el dr er start now h =
       left_calls = h.left_calls;
       right_calls = h.right_calls;
       taken = taken.1;
-      prefix = shorter_prefix h.x h.y (take sent h.text) (drop sent h.text)
-          (subst (IsPrefixOfUnion h.x h.y) (sym (take-append-drop sent h.text)) h.prefix);
+      prefix = shorter_any el.left er.left h.x h.y (take sent h.text) (drop sent h.text)
+          (subst (IsPrefixOfAnyUnion el.left er.left h.x h.y) (sym (take-append-drop sent h.text)) h.prefix);
       input = tt;
       sent = omega (arith, length-take sent h.text, taken.0);
     }

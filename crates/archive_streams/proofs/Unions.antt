@@ -1,17 +1,17 @@
 -- What is joined, entry by entry.
-use Rattle.std.proofs.Common.{◌≡◌, ℕ, List, [], ◌∷◌, ◌++◌, refl, sym, subst, inl, inr}
+use Rattle.std.proofs.Common.{◌≡◌, ℕ, List, [], ◌∷◌, ◌++◌, refl, sym, ap, ◌∙◌, subst, inl, inr}
 use Rattle.std.specs.Prelude.{◌⊎◌}
 use Rattle.archive_text.specs.Entries.{Entry, Has, IsAscending, IsBelow}
 use Rattle.archive_text.proofs.Ascending.{ascending_appended, below_last}
 use Rattle.archive_text.proofs.Members.{has_either, has_left, has_right, of_all, of_member}
 use Rattle.archive_streams.specs.EntryTexts.{entry_in}
-use Rattle.archive_streams.specs.Joining.{IsUnion, IsWithin}
+use Rattle.archive_streams.specs.Joining.{IsUnion, IsWithin, MayFollow}
 use Rattle.octet_devices.specs.Device.{InputState}
 use Rattle.archive_streams.specs.Pieces.{unused}
 use Rattle.archive_streams.specs.Sides.{Due, EndsWith, IsNextOrEnd, Ready}
 use Rattle.archive_streams.specs.declared.entry.EntryText.{EntryText}
 use Rattle.archive_streams.specs.declared.side.ArchiveReader.{ArchiveReader}
-use Rattle.archive_streams.proofs.Joining.{AllBelow, SideAt, Standing}
+use Rattle.archive_streams.proofs.Joining.{AllBelow, SideAt, Standing, side_on}
 use Rattle.archive_streams.proofs.NextEntries.{some_or_none}
 
 -- the members of both, and no other
@@ -82,6 +82,16 @@ side_ready s d e ls ws r = record {
     placed (inl next) = inl (entry_in s.entry, next.1, next.2)
     placed (inr end) = inr (inl (end.1, end.2))
 
+-- and whatever follows what was read of it
+pub ready_on : (s : ArchiveReader) (d e : InputState) (ls ws : List Entry) → (r : Ready s d e ls ws) → (more : List ℕ)
+    → MayFollow e.left more → SideAt (r.x ++ more) ls ws
+unfolding side_ready
+ready_on s d e ls ws r more may = side_on r.x more ls ws (side_ready s d e ls ws r) (placed r.place)
+  where
+    placed : IsNextOrEnd s r.es ls ws → Standing r.es ls ws (unused s.pieces ++ more)
+    placed (inl next) = inl (entry_in s.entry, next.1, next.2)
+    placed (inr end) = inr (inl (end.1, ap (λ (t : List ℕ). t ++ more) end.2 ∙ may (r.read.at_end end.3)))
+
 -- the next entry of a side was read, or its end
 abbrev pub IsAhead : List Entry → List Entry → List Entry → List ℕ → Type 0
 IsAhead es ls ws rest = ((e : Entry) × (es ≡ ls ++ e ∷ []) × AllBelow ws e) ⊎ ((es ≡ ls) × (rest ≡ []))
@@ -133,3 +143,10 @@ side_due s d e ls ws last r of_all_joined up = record {
   archive = r.read.archive;
   stands = inr (inr (refl, all_within ls ws last r.ends of_all_joined up));
 }
+
+pub due_on : (s : ArchiveReader) (d e : InputState) (ls ws : List Entry) (last : EntryText) → (r : Due s d e ls last)
+    → EndsWith ws last → IsAscending ws → (more : List ℕ) → SideAt (r.x ++ more) ls ws
+unfolding side_due
+due_on s d e ls ws last r of_all_joined up more =
+    side_on r.x more ls ws (side_due s d e ls ws last r of_all_joined up)
+    (inr (inr (refl, all_within ls ws last r.ends of_all_joined up)))

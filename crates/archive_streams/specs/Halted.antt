@@ -2,7 +2,7 @@
 use Rattle.std.specs.Prelude.{ℕ, ◌^◌, ◌<◌, List, Option, length}
 use Rattle.std.specs.Io.KnownBytes.{Consumes}
 use Rattle.octet_devices.specs.Held.{Carries, Held, StopsWithin}
-use Rattle.archive_streams.specs.Joining.{IsPrefixOfUnion}
+use Rattle.archive_streams.specs.Joining.{IsPrefixOfAnyUnion}
 use Rattle.octet_devices.specs.Device.{InputState}
 use Rattle.archive_streams.specs.Pieces.{HasFewCalls}
 use Rattle.archive_streams.specs.Stopped.{IsInputFault}
@@ -36,7 +36,7 @@ pub record Halted (fault : MergeFault) (held : Held) (dl el dr er : InputState) 
   pub right : Consumes dr.left er.left y
   pub left_calls : HasFewCalls dl el x
   pub right_calls : HasFewCalls dr er y
-  pub prefix : IsPrefixOfUnion x y text
+  pub prefix : IsPrefixOfAnyUnion el.left er.left x y text
   pub short : length text < 2 ^ 64
   pub under_way : IsUnderWay fault held start now text
   pub input : IsInputFault fault dl el dr er x y text

@@ -1,5 +1,6 @@
 -- What becomes of two archives that are joined. The front of octets is their longest prefix that is an archive.
-use Rattle.std.specs.Prelude.{◌≡◌, ℕ, ◌↔◌, ◌⊎◌, List, ◌++◌}
+use Rattle.std.specs.Prelude.{◌≡◌, ℕ, ◌↔◌, ◌⊎◌, List, [], ◌++◌, Option}
+use Rattle.std.specs.Io.KnownBytes.{IsAtEnd}
 use Rattle.archive_text.specs.Entries.{Entry, Has, IsAscending, IsBelow}
 use Rattle.archive_text.specs.Faults.{IsLongestArchive}
 use Rattle.archive_text.specs.Sets.{IsUnionOfEntries}
@@ -20,6 +21,16 @@ abbrev pub IsPrefixOfUnion : List ℕ → List ℕ → List ℕ → Type 0
 IsPrefixOfUnion x y written =
     (xs ys zs : List Entry) (r s : List ℕ) → IsLongestArchive ENTRY_MAX x xs r → IsLongestArchive ENTRY_MAX y ys s
     → IsUnion xs ys zs → (more : List ℕ) × (text_of zs ≡ written ++ more)
+
+-- what may follow octets that were read of an input that has this left: nothing behind its end
+abbrev pub MayFollow : Option (List ℕ) → List ℕ → Type 0
+MayFollow left more = IsAtEnd left → more ≡ []
+
+-- a prefix of the text of the union of the two fronts, whatever follows what was read of two inputs that have these left
+abbrev pub IsPrefixOfAnyUnion : Option (List ℕ) → Option (List ℕ) → List ℕ → List ℕ → List ℕ → Type 0
+IsPrefixOfAnyUnion left right x y written =
+    (more others : List ℕ) → MayFollow left more → MayFollow right others
+    → IsPrefixOfUnion (x ++ more) (y ++ others) written
 
 -- the text of the members of the two fronts that are not above the greatest of the first; no octets
 -- where the first is empty

@@ -5,7 +5,7 @@ use Rattle.octet_devices.specs.declared.loops.TheConstants.{READER_CALLS}
 use Rattle.archive_text.specs.Faults.{IsArchiveFault}
 use Rattle.archive_text.specs.declared.fault.ArchiveFault.{ArchiveFault}
 use Rattle.archive_text.specs.declared.limits.TheConstants.{ENTRY_MAX}
-use Rattle.archive_streams.specs.Joining.{IsFirstAbove, IsFirstWithin, IsPrefixOfUnion, IsUpToFirst}
+use Rattle.archive_streams.specs.Joining.{IsFirstAbove, IsFirstWithin, IsPrefixOfAnyUnion, IsUpToFirst}
 use Rattle.archive_text.specs.Positions.{position_of}
 use Rattle.octet_devices.specs.Device.{InputState}
 use Rattle.archive_streams.specs.Pieces.{HasFewCalls}
@@ -60,7 +60,7 @@ abbrev pub IsSent : MergeFault → List ℕ → Type 0
 IsSent (Write sent) written = sent ≡ length written
 IsSent fault written = Unit {0}
 
--- the readers gave `x` and `y`; the writer took a prefix of the text of the union of their fronts
+-- the readers gave `x` and `y`; the writer took a prefix of the text of the union of the fronts of all that they have
 pub record Stopped (fault : MergeFault) (dl el dr er : InputState) (taken_old taken_new : Option (List ℕ)) : Type 0 where
   pub x : List ℕ
   pub y : List ℕ
@@ -70,6 +70,6 @@ pub record Stopped (fault : MergeFault) (dl el dr er : InputState) (taken_old ta
   pub left_calls : HasFewCalls dl el x
   pub right_calls : HasFewCalls dr er y
   pub taken : Appends taken_old taken_new written
-  pub prefix : IsPrefixOfUnion x y written
+  pub prefix : IsPrefixOfAnyUnion el.left er.left x y written
   pub input : IsInputFault fault dl el dr er x y written
   pub sent : IsSent fault written

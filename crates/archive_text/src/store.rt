@@ -53,7 +53,7 @@ pub trait Store {
         ensures long { IsErrOf result AddFault.TooLong →
             (e : Entry) → IsEntryOf record.now e → ENTRY_MAX < length e.octets };
 
-    /// Adds the record that a view shows, without a copy of its parts, as `add` does.
+    /// Adds the record that a view shows, as `add` does. A store may do so without a copy of its parts.
     fn add_view(&mut self, alloc: Global, view: &RecordView<'_>) -> Result<Added, AddFault>
         ensures ok { IfOk result (λ added. (b : List ℕ) → IsViewOf b (view_parts view.now) →
             (r : Parts ℤ) × WellFormed r b
@@ -62,7 +62,13 @@ pub trait Store {
         ensures long { IsErrOf result AddFault.TooLong →
             (b : List ℕ) → IsViewOf b (view_parts view.now) →
             (r : Parts ℤ) (e : Entry) → WellFormed r b → IsEntryOf r e
-            → ENTRY_MAX < length e.octets };
+            → ENTRY_MAX < length e.octets }
+    {
+        match view.to_record(alloc) {
+            Ok(record) => self.add(alloc, &record),
+            Err(_) => Err(AddFault::Memory),
+        }
+    }
 
     /// Whether a record is held.
     fn holds(&self, alloc: Global, record: &Record) -> Result<bool, AllocError>

@@ -1,5 +1,5 @@
 -- Steps that are served, one after the other.
-use Rattle.std.proofs.Common.{◌≡◌, ◌⊎◌, ℕ, ◌+◌, suc, List, [], ◌∷◌, ◌++◌, length, refl, sym, ◌∙◌}
+use Rattle.std.proofs.Common.{◌≡◌, ◌⊎◌, ℕ, ◌+◌, ◌-◌, ◌^◌, ◌<◌, ◌≤◌, suc, List, [], ◌∷◌, ◌++◌, length, refl, sym, ◌∙◌}
 use Rattle.std.proofs.Common.{append_assoc, ap, subst, inl, inr, arith, Bool, true, false}
 use Rattle.std.specs.Prelude.{◌||◌, Option, Some, None, Result, Ok, Err, OnOk}
 use Rattle.std.specs.Io.KnownBytes.{Appends}
@@ -11,7 +11,15 @@ use Rattle.collect_engine.specs.Lines.{NotesAs, NotesFail, counted, has_some, li
 use Rattle.collect_engine.specs.Receiving.{IfNotMemory, ReceivesAs, TakesPartOf}
 use Rattle.collect_engine.specs.Serving.{AreFirst, Come, EventServed, GoesOn, ServesAll, ServesStep, ServesToEnd}
 use Rattle.collect_engine.specs.Serving.{StepServed, StepsServed, StopsAtStep, UnlessMemory}
-use Rattle.collect_engine.specs.Steps.{Comes, Given}
+use Rattle.collect_engine.specs.Serving.{GaveNext, GaveSteps}
+use Rattle.collect_engine.specs.Steps.{Comes, Datagram, Ended, FailuresAfter, Failed, Finished, FinishesAfter, GaveStep, Given}
+use Rattle.collect_engine.specs.Steps.{Opened, Piece, SourceState, given_of, how_often, says_failed, says_finished}
+use Rattle.collect_engine.specs.declared.serving.TheConstants.{SERVE_TURNS}
+use Rattle.collect_engine.specs.declared.step.Step.{Step}
+use Rattle.collect_engine.specs.declared.step.Step.TheVariants.{Opened as step_Opened, Piece as step_Piece}
+use Rattle.collect_engine.specs.declared.step.Step.TheVariants.{Ended as step_Ended, Datagram as step_Datagram}
+use Rattle.collect_engine.specs.declared.step.Step.TheVariants.{Finished as step_Finished, Failed as step_Failed}
+use Rattle.syslog_frame.specs.declared.limits.TheConstants.{FRAME_MAX}
 use Rattle.collect_engine.specs.declared.receiving.Received.{Received}
 use Rattle.collect_engine.specs.declared.receiving.Received.TheVariants as received
 use Rattle.collect_engine.specs.declared.serve_end.Stopped.{Stopped}
@@ -137,7 +145,7 @@ first_push coming (x ∷ gs) g are is =
     (are.0, first_push (λ (k : ℕ). coming (k + 1)) gs g are.1 (ap coming (next_place (length gs)) ∙ is))
 
 -- one step more came
-pub come_push : (a b c : Option (ℕ → Given)) (gs : List Given) (g : Given) → Come a b gs → Comes b c g
+come_push : (a b c : Option (ℕ → Given)) (gs : List Given) (g : Given) → Come a b gs → Comes b c g
     → Come a c (gs ++ g ∷ [])
 come_push None b c gs g come comes = tt
 come_push (Some old) None c gs g come comes = absurd come
@@ -147,9 +155,95 @@ come_push (Some old) (Some mid) (Some new) gs g (are, later) (is, next) = (
   λ k. next k ∙ later (k + 1) ∙ ap old (place k (length gs) (length (gs ++ g ∷ [])) (length-append gs (g ∷ []))),
 )
 
-pub come_none : (a : Option (ℕ → Given)) → Come a a []
+come_none : (a : Option (ℕ → Given)) → Come a a []
 come_none None = tt
 come_none (Some old) = (tt, λ k. ap old (no_more k))
+
+fails_as : (step : Step) (buf : List ℕ) (a b : ℕ) → FailuresAfter step a b → a < 2 ^ 64 - 1
+    → b ≡ a + says_failed (given_of step buf)
+fails_as (step_Opened framing) buf a b h few = omega (arith, h)
+fails_as (step_Piece n) buf a b h few = omega (arith, h)
+fails_as step_Ended buf a b h few = omega (arith, h)
+fails_as (step_Datagram n) buf a b h few = omega (arith, h)
+fails_as step_Finished buf a b h few = omega (arith, h)
+fails_as step_Failed buf a b h few = omega (arith, h, few)
+
+finishes_as : (step : Step) (buf : List ℕ) (a b : ℕ) → FinishesAfter step a b → a < 2 ^ 64 - 1
+    → b ≡ a + says_finished (given_of step buf)
+finishes_as (step_Opened framing) buf a b h few = omega (arith, h)
+finishes_as (step_Piece n) buf a b h few = omega (arith, h)
+finishes_as step_Ended buf a b h few = omega (arith, h)
+finishes_as (step_Datagram n) buf a b h few = omega (arith, h)
+finishes_as step_Finished buf a b h few = omega (arith, h, few)
+finishes_as step_Failed buf a b h few = omega (arith, h)
+
+-- a step of a source
+pub gave_next : (old new : SourceState) (step : Step) (buf : List ℕ) → GaveStep old new step buf
+    → GaveNext old new (length buf) (given_of step buf)
+gave_next old new step buf g = record {
+  counted = λ few. omega (arith, g.counted, few);
+  failures = λ few. fails_as step buf old.failures new.failures g.failures few;
+  finishes = λ few. finishes_as step buf old.finishes new.finishes g.finishes few;
+  comes = g.comes;
+}
+
+often_push : (says : Given → ℕ) (gs : List Given) (g : Given)
+    → how_often says (gs ++ g ∷ []) ≡ how_often says gs + says g
+often_push says [] g = omega arith
+often_push says (x ∷ gs) g = omega (arith, often_push says gs g)
+
+often_few : (says : Given → ℕ) → ((g : Given) → says g ≤ 1) → (gs : List Given) → how_often says gs ≤ length gs
+often_few says one [] = omega arith
+often_few says one (g ∷ gs) = omega (arith, one g, often_few says one gs)
+
+failed_once : (g : Given) → says_failed g ≤ 1
+failed_once (Opened framing) = omega arith
+failed_once (Piece octets) = omega arith
+failed_once Ended = omega arith
+failed_once (Datagram octets) = omega arith
+failed_once Finished = omega arith
+failed_once Failed = omega arith
+
+finished_once : (g : Given) → says_finished g ≤ 1
+finished_once (Opened framing) = omega arith
+finished_once (Piece octets) = omega arith
+finished_once Ended = omega arith
+finished_once (Datagram octets) = omega arith
+finished_once Finished = omega arith
+finished_once Failed = omega arith
+
+-- no step was asked
+pub gave_none : (s : SourceState) → GaveSteps s s []
+gave_none s = record {
+  few = omega arith;
+  counted = λ few. omega arith;
+  failures = λ few. omega arith;
+  finishes = λ few. omega arith;
+  come = λ few. come_none s.coming;
+}
+
+-- one step more was
+pub gave_push : (a b c : SourceState) (room : ℕ) (gs : List Given) (g : Given) → length gs < SERVE_TURNS
+    → FRAME_MAX < room → GaveSteps a b gs → GaveNext b c room g → GaveSteps a c (gs ++ g ∷ [])
+gave_push a b c room gs g more has_room all next =
+    let len = length-append gs (g ∷ []) in
+    record {
+      few = omega (arith, len, more);
+      counted = λ few.
+          let so_far = all.counted few in
+          omega (arith, so_far, len, next.counted (omega (arith, so_far, few, more)));
+      failures = λ few.
+          let so_far = all.failures few in
+          omega (arith, so_far, often_push says_failed gs g,
+          next.failures (omega (arith, so_far, few, more, often_few says_failed failed_once gs)));
+      finishes = λ few.
+          let so_far = all.finishes few in
+          omega (arith, so_far, often_push says_finished gs g,
+          next.finishes (omega (arith, so_far, few, more, often_few says_finished finished_once gs)));
+      come = λ few.
+          come_push a.coming b.coming c.coming gs g (all.come few)
+          (next.comes (omega (arith, all.counted few, few, more)) has_room);
+    }
 
 pub history_push : (h : History) (es fs : List AcceptedEvent)
     → history_after h (es ++ fs) ≡ history_after (history_after h es) fs

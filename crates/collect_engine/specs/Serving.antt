@@ -1,5 +1,5 @@
 -- Which events the steps of a source are served as, and which lines are noted.
-use Rattle.std.specs.Prelude.{◌≡◌, ◌⊎◌, ℕ, ◌+◌, ◌<◌, List, [], ◌∷◌, ◌++◌, length, take, Bool, true, false}
+use Rattle.std.specs.Prelude.{◌≡◌, ◌⊎◌, ℕ, ◌+◌, ◌-◌, ◌^◌, ◌<◌, ◌≤◌, List, [], ◌∷◌, ◌++◌, length, take, Bool, true, false}
 use Rattle.std.specs.Prelude.{Option, Some, None, Result, Ok, Err, ⊤}
 use Rattle.syslog_legacy.specs.FrameReadings.{Clock}
 use Rattle.syslog_collect.specs.History.{AcceptedEvent, Opened as event_Opened, Piece as event_Piece}
@@ -7,7 +7,9 @@ use Rattle.syslog_collect.specs.History.{Ended as event_Ended, Datagram as event
 use Rattle.syslog_collect.specs.declared.outcome.Outcome.{Outcome}
 use Rattle.collect_engine.specs.Lines.{Rises, counted, has_some, lines_on}
 use Rattle.collect_engine.specs.Receiving.{MayNotCome, ReceivesAs, TakesPartOf}
-use Rattle.collect_engine.specs.Steps.{Given, Opened, Piece, Ended, Datagram, Finished, Failed}
+use Rattle.syslog_frame.specs.declared.limits.TheConstants.{FRAME_MAX}
+use Rattle.collect_engine.specs.Steps.{Comes, Given, Opened, Piece, Ended, Datagram, Finished, Failed, SourceState}
+use Rattle.collect_engine.specs.Steps.{how_often, says_failed, says_finished}
 use Rattle.collect_engine.specs.declared.serving.TheConstants.{SERVE_TURNS}
 use Rattle.collect_engine.specs.declared.receiving.Received.{Received}
 use Rattle.collect_engine.specs.declared.receiving.Received.TheVariants as received
@@ -111,6 +113,21 @@ abbrev pub Come : Option (ℕ → Given) → Option (ℕ → Given) → List Giv
 Come None new gs = ⊤
 Come (Some old) None gs = ⊥
 Come (Some old) (Some new) gs = AreFirst old gs × ((k : ℕ) → new k ≡ old (k + length gs))
+
+-- a source gave one step, by its counts and by what it reports, into a slice of this length
+pub record GaveNext (old new : SourceState) (room : ℕ) (g : Given) : Type 0 where
+  pub counted : old.steps < 2 ^ 64 - 1 → new.steps ≡ old.steps + 1
+  pub failures : old.failures < 2 ^ 64 - 1 → new.failures ≡ old.failures + says_failed g
+  pub finishes : old.finishes < 2 ^ 64 - 1 → new.finishes ≡ old.finishes + says_finished g
+  pub comes : old.steps < 2 ^ 64 - 1 → FRAME_MAX < room → Comes old.coming new.coming g
+
+-- a source gave these steps, and no others: so its counts say, and what it reports. They are no more than are asked for
+pub record GaveSteps (old new : SourceState) (gs : List Given) : Type 0 where
+  pub few : length gs ≤ SERVE_TURNS
+  pub counted : old.steps < 2 ^ 63 → new.steps ≡ old.steps + length gs
+  pub failures : old.failures < 2 ^ 63 → new.failures ≡ old.failures + how_often says_failed gs
+  pub finishes : old.finishes < 2 ^ 63 → new.finishes ≡ old.finishes + how_often says_finished gs
+  pub come : old.steps < 2 ^ 63 → Come old.coming new.coming gs
 
 -- ---- how serving ends, after these steps
 

@@ -5,7 +5,7 @@ ghost use Rattle.archive_text.specs.Text.{text_of};
 ghost use Rattle.syslog_collect.specs.History.{AcceptedEvent};
 ghost use Rattle.collect_engine.specs.Collecting.{Collects, IfArchived, IsArchiveOf, NotesBehind, NotesOut, NotesThen};
 ghost use Rattle.collect_engine.specs.Collecting.{Served, Takes, WritesOut, WritesText};
-ghost use Rattle.collect_engine.specs.Serving.{Come};
+ghost use Rattle.collect_engine.specs.Serving.{GaveSteps};
 ghost use Rattle.collect_engine.specs.Steps.{Given};
 
 use crate::collect_words::CollectWords;
@@ -125,7 +125,7 @@ fn collect_into<S: Store + Drop, R: Source, W: Output, N: Output>(
     requires { S.entries store ≡ [] }
     ensures { (end : Served) × (given : List Given) × (accepted : List AcceptedEvent) × (told : List ℕ)
         × (kept : List Entry) × (lines : List ℕ)
-        × (R.steps source.old < 2 ^ 63 → Come (R.coming source.old) (R.coming source.new) given)
+        × GaveSteps (R.state source.old) (R.state source.new) given
         × Collects clock end given accepted told × IfArchived end (IsArchiveOf clock accepted kept)
         × WritesOut end (text_of kept) result
         (W.state writer.old).failures (W.state writer.new).failures (W.state writer.old).taken (W.state writer.new).taken lines
@@ -163,7 +163,7 @@ pub fn run_collect<R: Source, W: Output, N: Output>(
     // its first octets where the writer failed; and by all this the status and the lines that were noted then.
     ensures collected { (end : Served) × (given : List Given) × (accepted : List AcceptedEvent) × (told : List ℕ)
         × (kept : List Entry) × (lines : List ℕ)
-        × (R.steps source.old < 2 ^ 63 → Come (R.coming source.old) (R.coming source.new) given)
+        × GaveSteps (R.state source.old) (R.state source.new) given
         × Collects words.now.clock end given accepted told × IfArchived end (IsArchiveOf words.now.clock accepted kept)
         × WritesOut end (text_of kept) result
         (W.state writer.old).failures (W.state writer.new).failures (W.state writer.old).taken (W.state writer.new).taken lines

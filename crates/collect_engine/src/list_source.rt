@@ -53,10 +53,10 @@ impl ListSource {
     /// A source that gives these steps. Of a piece and of a datagram the octets count, and not the
     /// number in the step. Without any step the source fails.
     pub fn new(steps: Vec<(Step, Vec<u8>)>) -> ListSource
-        ensures steps { ⟦<ListSource as Source>⟧.steps result ≡ 0 }
-        ensures failures { ⟦<ListSource as Source>⟧.failures result ≡ 0 }
-        ensures finishes { ⟦<ListSource as Source>⟧.finishes result ≡ 0 }
-        ensures coming { IsSomeAnd (⟦<ListSource as Source>⟧.coming result) (λ coming.
+        ensures steps { (⟦<ListSource as Source>⟧.state result).steps ≡ 0 }
+        ensures failures { (⟦<ListSource as Source>⟧.state result).failures ≡ 0 }
+        ensures finishes { (⟦<ListSource as Source>⟧.state result).finishes ≡ 0 }
+        ensures coming { IsSomeAnd (⟦<ListSource as Source>⟧.state result).coming (λ coming.
             (n : ℕ) → coming n ≡ step_after (map listed_item steps.items) n) }
     {
         ListSource {
@@ -84,14 +84,12 @@ impl Source for ListSource {
     ghost use Rattle.std.specs.Prelude.{◌+◌, Some, map};
     ghost use Rattle.collect_engine.specs.Listed.{listed_item, step_after};
 
-    ghost steps = { λ s. s.counts.steps };
-
-    ghost failures = { λ s. s.counts.failures };
-
-    ghost finishes = { λ s. s.counts.finishes };
-
-    ghost coming = { λ s. Some (λ n.
-        step_after (map listed_item s.steps.items) (n + s.counts.steps)) };
+    ghost state = { λ s. record {
+      steps = s.counts.steps;
+      failures = s.counts.failures;
+      finishes = s.counts.finishes;
+      coming = Some (λ n. step_after (map listed_item s.steps.items) (n + s.counts.steps));
+    } };
 
     fn next(&mut self, buf: &mut [u8]) -> Step {
         let step = self.give_next(buf);

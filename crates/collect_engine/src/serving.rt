@@ -10,9 +10,9 @@ ghost use Rattle.syslog_collect.specs.Runs.{accepted_event};
 ghost use Rattle.octet_devices.specs.Device.{count_on};
 ghost use Rattle.collect_engine.specs.Ends.{FinishesBy, IfEndDone, IsEventStep};
 ghost use Rattle.collect_engine.specs.Lines.{NotesFail, has_some, memory_after};
-ghost use Rattle.collect_engine.specs.Serving.{Come, EventServed, IfEnough, ServesTo, StepServed, StepsServed};
-ghost use Rattle.collect_engine.specs.Serving.{UnlessMemory, event_of};
-ghost use Rattle.collect_engine.specs.Steps.{Comes, Given, IsWithin, given_of};
+ghost use Rattle.collect_engine.specs.Serving.{EventServed, GaveNext, GaveSteps, IfEnough, ServesTo, StepServed};
+ghost use Rattle.collect_engine.specs.Serving.{StepsServed, UnlessMemory, event_of};
+ghost use Rattle.collect_engine.specs.Steps.{Given, IsWithin, given_of};
 
 use crate::lines::EventLines;
 use crate::receiving::{Received, receive};
@@ -150,8 +150,7 @@ fn serve_next<S: Store, R: Source, N: Output>(
     ensures served { (first : List Entry) (before : List AcceptedEvent)
         → Stands S.entries collector.old first before
         → (given : Given) × (accepted : List AcceptedEvent) × (told : List ℕ)
-        × (R.steps source.old < 2 ^ 64 - 1 → FRAME_MAX < length buf.new
-        → Comes (R.coming source.old) (R.coming source.new) given)
+        × GaveNext (R.state source.old) (R.state source.new) (length buf.new) given
         × Stands S.entries collector.new first (before ++ accepted)
         × Appends (N.state notes.old).taken (N.state notes.new).taken told
         × StepServed (clock_of collector.old) (history_of before) (waits_of collector.old)
@@ -162,8 +161,8 @@ fn serve_next<S: Store, R: Source, N: Output>(
         → NoneWaits collector.old
         → UnlessMemory result (NoneWaits collector.new) }
     ensures failures { NotesFail result (N.state notes.old).failures (N.state notes.new).failures }
-    ensures steps { R.steps source.new ≡ count_on (R.steps source.old) }
-    ensures finishes { FinishesBy result (R.finishes source.old) (R.finishes source.new) }
+    ensures steps { (R.state source.new).steps ≡ count_on (R.state source.old).steps }
+    ensures finishes { FinishesBy result (R.state source.old).finishes (R.state source.new).finishes }
     ensures going { ¬ (IsErrOf result Stopped.Endless) }
     ensures clock { clock_of collector.new ≡ clock_of collector.old }
 {
@@ -190,7 +189,7 @@ pub(crate) fn serve_steps<S: Store, R: Source, N: Output>(
     ensures served { (first : List Entry) (before : List AcceptedEvent)
         → Stands S.entries collector.old first before
         → (given : List Given) × (accepted : List AcceptedEvent) × (told : List ℕ)
-        × (R.steps source.old < 2 ^ 63 → Come (R.coming source.old) (R.coming source.new) given)
+        × GaveSteps (R.state source.old) (R.state source.new) given
         × Stands S.entries collector.new first (before ++ accepted)
         × Appends (N.state notes.old).taken (N.state notes.new).taken told
         × StepsServed (clock_of collector.old) (history_of before) (waits_of collector.old)
@@ -200,11 +199,11 @@ pub(crate) fn serve_steps<S: Store, R: Source, N: Output>(
         → NoneWaits collector.old
         → UnlessMemory result (NoneWaits collector.new) }
     ensures failures { NotesFail result (N.state notes.old).failures (N.state notes.new).failures }
-    ensures endless { R.steps source.old < 2 ^ 63 → IsErrOf result Stopped.Endless
-        → (R.steps source.new ≡ R.steps source.old + SERVE_TURNS)
-        × (R.finishes source.new ≡ R.finishes source.old) }
-    ensures finished { R.finishes source.old < 2 ^ 63
-        → OnOk result (R.finishes source.old < R.finishes source.new) }
+    ensures endless { (R.state source.old).steps < 2 ^ 63 → IsErrOf result Stopped.Endless
+        → ((R.state source.new).steps ≡ (R.state source.old).steps + SERVE_TURNS)
+        × ((R.state source.new).finishes ≡ (R.state source.old).finishes) }
+    ensures finished { (R.state source.old).finishes < 2 ^ 63
+        → OnOk result ((R.state source.old).finishes < (R.state source.new).finishes) }
     ensures clock { clock_of collector.new ≡ clock_of collector.old }
 {
     let Ok(mut buf) = make_room(alloc) else {
@@ -234,12 +233,12 @@ pub fn serve<S: Store, R: Source, N: Output>(
     source: &mut R,
     notes: &mut N,
 ) -> ServeEnd
-    // Which steps came, which events they were accepted as, and which lines were noted: all that the steps ask for,
-    // unless the notes failed or memory ran out.
+    // Which steps came, as the counts of the source say, which events they were accepted as, and which lines were noted:
+    // all that the steps ask for, unless the notes failed or memory ran out.
     ensures served { (first : List Entry) (before : List AcceptedEvent)
         → Stands S.entries collector.old first before
         → (given : List Given) × (accepted : List AcceptedEvent) × (told : List ℕ)
-        × (R.steps source.old < 2 ^ 63 → Come (R.coming source.old) (R.coming source.new) given)
+        × GaveSteps (R.state source.old) (R.state source.new) given
         × Stands S.entries collector.new first (before ++ accepted)
         × Appends (N.state notes.old).taken (N.state notes.new).taken told
         × ServesTo (clock_of collector.old) (history_of before) (waits_of collector.old)
@@ -250,11 +249,11 @@ pub fn serve<S: Store, R: Source, N: Output>(
         → Stands S.entries collector.old first before
         → NoneWaits collector.old
         → IfEnough result (NoneWaits collector.new) }
-    ensures endless { R.steps source.old < 2 ^ 63 → result ≡ ServeEnd.Endless
-        → (R.steps source.new ≡ R.steps source.old + SERVE_TURNS)
-        × (R.finishes source.new ≡ R.finishes source.old) }
-    ensures finished { R.finishes source.old < 2 ^ 63
-        → IfEndDone result (R.finishes source.old < R.finishes source.new) }
+    ensures endless { (R.state source.old).steps < 2 ^ 63 → result ≡ ServeEnd.Endless
+        → ((R.state source.new).steps ≡ (R.state source.old).steps + SERVE_TURNS)
+        × ((R.state source.new).finishes ≡ (R.state source.old).finishes) }
+    ensures finished { (R.state source.old).finishes < 2 ^ 63
+        → IfEndDone result ((R.state source.old).finishes < (R.state source.new).finishes) }
     ensures clock { clock_of collector.new ≡ clock_of collector.old }
 {
     match serve_steps(alloc, collector, source, notes) {

@@ -1,8 +1,7 @@
 //! Connections to a socket.
-ghost use Rattle.std.specs.Prelude.{◌≡◌, IsNone, length};
-ghost use Rattle.octet_devices.specs.Device.{count_on};
+ghost use Rattle.std.specs.Prelude.{◌≡◌, IsNone, None, length};
 ghost use Rattle.collect_engine.specs.Sockets.{IsOfConnections};
-ghost use Rattle.collect_engine.specs.Steps.{FailuresAfter, FinishesAfter, IsWithin};
+ghost use Rattle.collect_engine.specs.Steps.{GaveStep, IsWithin};
 
 use crate::counts::StepCounts;
 use crate::source::Source;
@@ -26,9 +25,8 @@ impl TcpSource {
     /// The next `count` connections to a bound socket, whose streams have this framing, and then
     /// the end.
     pub fn new(listener: TcpListener, framing: Framing, count: u32) -> TcpSource
-        ensures steps { ⟦<TcpSource as Source>⟧.steps result ≡ 0 }
-        ensures failures { ⟦<TcpSource as Source>⟧.failures result ≡ 0 }
-        ensures finishes { ⟦<TcpSource as Source>⟧.finishes result ≡ 0 }
+        ensures state { ⟦<TcpSource as Source>⟧.state result
+            ≡ record { steps = 0; failures = 0; finishes = 0; coming = None } }
         ensures framing { result.framing ≡ framing }
         ensures left { result.left ≡ count }
         ensures none { IsNone result.stream }
@@ -87,19 +85,16 @@ impl TcpSource {
 impl Source for TcpSource {
     ghost use Rattle.std.specs.Prelude.{None};
 
-    ghost steps = { λ s. s.counts.steps };
-
-    ghost failures = { λ s. s.counts.failures };
-
-    ghost finishes = { λ s. s.counts.finishes };
-
-    ghost coming = { λ _. None };
+    ghost state = { λ s. record {
+      steps = s.counts.steps;
+      failures = s.counts.failures;
+      finishes = s.counts.finishes;
+      coming = None;
+    } };
 
     fn next(&mut self, buf: &mut [u8]) -> Step
-        ensures bound { IsWithin (length buf.new) result }
-        ensures steps { self.new.counts.steps ≡ count_on self.old.counts.steps }
-        ensures failures { FailuresAfter result self.old.counts.failures self.new.counts.failures }
-        ensures finishes { FinishesAfter result self.old.counts.finishes self.new.counts.finishes }
+        ensures gave { GaveStep (⟦<TcpSource as Source>⟧.state self.old) (⟦<TcpSource as Source>⟧.state self.new)
+            result buf.new }
 
         // a connection while one is asked for, octets and the end of the open one, and then the end
         ensures framing { self.new.framing ≡ self.old.framing }

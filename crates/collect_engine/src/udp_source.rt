@@ -1,8 +1,7 @@
 //! Datagrams from a socket.
-ghost use Rattle.std.specs.Prelude.{◌≡◌, length};
-ghost use Rattle.octet_devices.specs.Device.{count_on};
+ghost use Rattle.std.specs.Prelude.{◌≡◌, None, length};
 ghost use Rattle.collect_engine.specs.Sockets.{IsOfDatagrams};
-ghost use Rattle.collect_engine.specs.Steps.{FailuresAfter, FinishesAfter, IsWithin};
+ghost use Rattle.collect_engine.specs.Steps.{GaveStep, IsWithin};
 
 use crate::counts::StepCounts;
 use crate::source::Source;
@@ -20,9 +19,8 @@ pub struct UdpSource {
 impl UdpSource {
     /// The next `count` datagrams of a bound socket, and then the end.
     pub fn new(socket: UdpSocket, count: u32) -> UdpSource
-        ensures steps { ⟦<UdpSource as Source>⟧.steps result ≡ 0 }
-        ensures failures { ⟦<UdpSource as Source>⟧.failures result ≡ 0 }
-        ensures finishes { ⟦<UdpSource as Source>⟧.finishes result ≡ 0 }
+        ensures state { ⟦<UdpSource as Source>⟧.state result
+            ≡ record { steps = 0; failures = 0; finishes = 0; coming = None } }
         ensures left { result.left ≡ count }
     {
         UdpSource {
@@ -52,19 +50,16 @@ impl UdpSource {
 impl Source for UdpSource {
     ghost use Rattle.std.specs.Prelude.{None};
 
-    ghost steps = { λ s. s.counts.steps };
-
-    ghost failures = { λ s. s.counts.failures };
-
-    ghost finishes = { λ s. s.counts.finishes };
-
-    ghost coming = { λ _. None };
+    ghost state = { λ s. record {
+      steps = s.counts.steps;
+      failures = s.counts.failures;
+      finishes = s.counts.finishes;
+      coming = None;
+    } };
 
     fn next(&mut self, buf: &mut [u8]) -> Step
-        ensures bound { IsWithin (length buf.new) result }
-        ensures steps { self.new.counts.steps ≡ count_on self.old.counts.steps }
-        ensures failures { FailuresAfter result self.old.counts.failures self.new.counts.failures }
-        ensures finishes { FinishesAfter result self.old.counts.finishes self.new.counts.finishes }
+        ensures gave { GaveStep (⟦<UdpSource as Source>⟧.state self.old) (⟦<UdpSource as Source>⟧.state self.new)
+            result buf.new }
 
         // a datagram while one is asked for, and then the end
         ensures left { IsOfDatagrams self.old.left self.new.left result }

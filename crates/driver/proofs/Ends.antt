@@ -1,22 +1,22 @@
 -- Ends of a run.
-use Rattle.std.proofs.Common.{◌≡◌, ℕ, ◌+◌, ◌≤◌, List, [], ◌++◌, refl, ap, sym, subst, ◌∙◌, append_assoc, append-nil, Some, Ok, Err}
-use Rattle.std.proofs.Common.{inl, inr, None, ◌<◌, ◌^◌, Result, take, drop, Bool, true, false, arith, ◌⊎◌}
+use Rattle.std.proofs.Common.{◌≡◌, ℕ, List, [], ◌++◌, refl, ap, sym, subst, ◌∙◌, append_assoc, append-nil, Some, Ok, Err}
+use Rattle.std.proofs.Common.{inl, inr, None, ◌<◌, ◌^◌, Result, take, drop, length, Bool, true, false, arith}
 use Rattle.std.specs.Prelude.{◌||◌, if◌then◌else◌}
 use Rattle.std.proofs.KnownBytes.{Appends-nil, Appends-trans, Consumes-nil}
-use Rattle.octet_devices.specs.Device.{InputState, OutputState}
-use Rattle.octet_devices.specs.Transfers.{WritesAll, WroteAll}
+use Rattle.octet_devices.specs.Device.{OutputState}
+use Rattle.octet_devices.specs.Transfers.{WritesAll, WroteAll, WrotePart}
 use Rattle.octet_devices.specs.declared.loops.WriteFault.{WriteFault}
-use Rattle.std.proofs.lemmas.List.{take-append-drop}
+use Rattle.std.proofs.lemmas.List.{length-append, length-take-le, take-append-drop}
 use Rattle.std.specs.Io.KnownBytes.{Appends}
 use Rattle.driver.specs.Devices.{Devices, Reports}
 use Rattle.driver.specs.Effects.{Done, IsPrefixOf, IsWrittenOut, nothing, status_of, then_done, written}
-use Rattle.driver.specs.Holding.{Closes, FailsAs, FlushFailed, Flushed, HoldsAnswer, Pumped, ReadThrough, Reached, StopsHolding}
-use Rattle.driver.specs.Run.{AnswersPart, ComesOf, EndsAs, IsStopped, Ran, Used, WriteFailedWith, WritesPrefix, line_of, stop_status}
+use Rattle.driver.specs.Holding.{Closes, FailsAs, FlushFailed, Flushed, HoldsAnswer, Pumped, Reached, StopsHolding}
+use Rattle.driver.specs.Run.{AnswersPart, ComesOf, IsStopped, Ran, Used, WriteFailedWith, WritesPrefix, line_of, stop_status}
 use Rattle.driver.specs.Sessions.{HasOneOutput, Meaning, with_rest}
 use Rattle.driver.specs.declared.stopped.Stopped.{Stopped}
 use Rattle.driver.specs.declared.stopped.Stopped.TheVariants.{Diagnostics, Endless, Memory, Read, Write}
 use Rattle.driver.proofs.Known.{wrote_nothing, wrote_then}
-use Rattle.driver.proofs.Turns.{Leads, flush_stops, leads_answer, leads_part, leads_so_far, prefix_from}
+use Rattle.driver.proofs.Turns.{Leads, flush_stops, leads_answer, prefix_from}
 
 -- the devices of a run after a flush
 abbrev pub flushed_to : Devices → OutputState → OutputState → Devices
@@ -96,10 +96,10 @@ pumped_answer M old mid o d o_rest held kept rest status h f k w s used =
 -- all of it, and a part of the rest
 pub pumped_short : (M : Meaning) (old mid : Devices) (o d o_rest : OutputState) (held kept : Done)
     (rest sent unsent : List ℕ) → HoldsAnswer M old mid held rest → Flushed mid.output mid.diagnostics o d held kept
-    → IsWrittenOut kept → rest ≡ sent ++ unsent → Appends o.taken o_rest.taken sent
+    → IsWrittenOut kept → rest ≡ sent ++ unsent → 0 < length unsent → Appends o.taken o_rest.taken sent
     → (o.failures < 2 ^ 63 → o.failures < o_rest.failures) → Used M old.input mid.input
     → Pumped M old (flushed_to mid o_rest d) (Err Write)
-pumped_short M old mid o d o_rest held kept rest sent unsent h f k split w failed used =
+pumped_short M old mid o d o_rest held kept rest sent unsent h f k split left w failed used =
     let base : Done = then_done (written h.output h.diagnostics) held in
     let total : Done = with_rest base rest in
     let to_output = output_after _ _ _ _ _ held kept h.output h.wrote.to_output f k in
@@ -108,7 +108,13 @@ pumped_short M old mid o d o_rest held kept rest sent unsent h f k split w faile
       outcome = record {
         failed = λ small. omega (arith, to_output.no_failure, failed (omega (arith, to_output.no_failure, small)));
         done = total;
+        sent = (h.output ++ held.output) ++ sent;
+        unsent = unsent;
         comes = inl (h.input, h.is_input, h.means);
+        parts = ap (λ (xs : List ℕ). (h.output ++ held.output) ++ xs) split
+            ∙ sym (append_assoc (h.output ++ held.output) sent unsent);
+        some_left = left;
+        to_output = Appends-trans _ _ _ _ _ to_output.octets w;
         to_diagnostics = subst (WroteAll old.diagnostics d)
             (sym (append-nil ((h.diagnostics ++ held.diagnostics) ++ []) ∙ append-nil (h.diagnostics ++ held.diagnostics)))
             to_diagnostics;
@@ -147,26 +153,28 @@ part_begins M P old mid o d held kept h leads f k =
 
 -- a flush fails only as the output or the diagnostics do
 stop_of : (stop : Stopped) (M : Meaning) (old new : Devices) (o o_new n n_new : OutputState) (held : Done)
-    → FailsAs stop o o_new n n_new held.diagnostics → StopsHolding stop M old new held → IsStopped stop M [] old new
-stop_of Read M old new o o_new n n_new held f h = absurd f
-stop_of Endless M old new o o_new n n_new held f h = absurd f
-stop_of Write M old new o o_new n n_new held f h = h
-stop_of Diagnostics M old new o o_new n n_new held f h = h
-stop_of Memory M old new o o_new n n_new held f h = absurd f
+    (rest : List ℕ) → FailsAs stop o o_new n n_new held.diagnostics rest → StopsHolding stop M old new held
+    → IsStopped stop M [] old new
+stop_of Read M old new o o_new n n_new held rest f h = absurd f
+stop_of Endless M old new o o_new n n_new held rest f h = absurd f
+stop_of Write M old new o o_new n n_new held rest f h = h
+stop_of Diagnostics M old new o o_new n n_new held rest f h = h
+stop_of Memory M old new o o_new n n_new held rest f h = absurd f
 
 pub pumped_fails : (M : Meaning) (old mid : Devices) (o d : OutputState) (held total : Done) (stop : Stopped)
-    (out notes : List ℕ)
+    (out notes more : List ℕ)
     → (HasOneOutput M → (input : List ℕ) (x : Done) → old.input.left ≡ Some input → M.whole input x
     → IsPrefixOf (out ++ held.output) x.output)
     → WroteAll old.output mid.output out → WroteAll old.diagnostics mid.diagnostics notes
-    → ComesOf M old.input mid.input total → total.diagnostics ≡ notes ++ held.diagnostics
+    → ComesOf M old.input mid.input total → total.output ≡ (out ++ held.output) ++ more
+    → total.diagnostics ≡ notes ++ held.diagnostics
     → FlushFailed mid.output mid.diagnostics o d held stop → Used M old.input mid.input
     → Pumped M old (flushed_to mid o d) (Err stop)
-pumped_fails M old mid o d held total stop out notes leads a b comes lines f used =
+pumped_fails M old mid o d held total stop out notes more leads a b comes whole lines f used =
     let new : Devices = flushed_to mid o d in
     record {
-      outcome = stop_of stop M old new mid.output o mid.diagnostics d held f.cause
-          (flush_stops M old new mid.output mid.diagnostics held held total stop out notes a b comes lines f);
+      outcome = stop_of stop M old new mid.output o mid.diagnostics d held f.rest f.cause
+          (flush_stops M old new mid.output mid.diagnostics held held total stop out notes more a b comes whole lines f);
       begins = prefix_from M old new (then_done (written out notes) held) (out ++ f.sent) f.rest leads
           (ap (λ xs. out ++ xs) f.begins ∙ sym (append_assoc out f.sent f.rest))
           (Appends-trans _ _ _ _ _ a.octets f.to_output);
@@ -196,7 +204,12 @@ failed_lined : (M : Meaning) (line : List ℕ) (old mid : Devices) (d : OutputSt
 failed_lined M line old mid d h w = record {
   failed = h.failed;
   done = h.done;
+  sent = h.sent;
+  unsent = h.unsent;
   comes = h.comes;
+  parts = h.parts;
+  some_left = h.some_left;
+  to_output = h.to_output;
   to_diagnostics = wrote_then _ _ _ _ _
       (subst (WroteAll old.diagnostics mid.diagnostics) (append-nil h.done.diagnostics) h.to_diagnostics) w;
 }
@@ -253,6 +266,24 @@ pub written_part : {A : Type 0} (r : Result A WriteFault) (o o_new : OutputState
 written_part (Ok x) o o_new text w = (text, [], sym (append-nil text), w.octets)
 written_part (Err fault) o o_new text w =
     (take fault.sent text, drop fault.sent text, sym (take-append-drop fault.sent text), w.octets)
+
+-- of a text a part was written, and not all
+pub unsent_part : (fault : WriteFault) (o o_new : OutputState) (text : List ℕ) → WrotePart o o_new text fault.sent
+    → (sent : List ℕ) × (rest : List ℕ) × (text ≡ sent ++ rest) × Appends o.taken o_new.taken sent × (0 < length rest)
+unsent_part fault o o_new text w =
+    let parts : take fault.sent text ++ drop fault.sent text ≡ text = take-append-drop fault.sent text in (
+      take fault.sent text,
+      drop fault.sent text,
+      sym parts,
+      w.octets,
+      omega (
+        arith,
+        w.some_left,
+        length-take-le fault.sent text (omega (arith, w.some_left)),
+        ap length parts,
+        length-append (take fault.sent text) (drop fault.sent text),
+      ),
+    )
 
 -- ---- a run that stopped before it read anything
 

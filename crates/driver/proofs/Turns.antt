@@ -1,20 +1,20 @@
 -- Steps of the loop over an input.
-use Rattle.std.proofs.Common.{◌≡◌, ℕ, ◌+◌, ◌*◌, ◌≤◌, ◌<◌, ◌^◌, List, [], ◌++◌, length, take, refl, ap, sym, subst, ◌∙◌}
+use Rattle.std.proofs.Common.{◌≡◌, ℕ, ◌+◌, ◌*◌, ◌≤◌, ◌<◌, List, [], ◌++◌, length, take, refl, ap, sym, subst, ◌∙◌}
 use Rattle.std.proofs.Common.{append_assoc, append-nil, arith, inl, inr, Option, Some, Ok, Err}
 use Rattle.std.proofs.KnownBytes.{Appends-trans, Consumes-kept, Consumes-nil, Consumes-trans}
 use Rattle.std.proofs.lemmas.List.{length-append, length-take-le}
 use Rattle.std.specs.Io.KnownBytes.{Appends, Consumes}
-use Rattle.octet_devices.specs.Device.{AreSmall, Gave, InputState, OutputState, ReadFailed, count_on}
+use Rattle.octet_devices.specs.Device.{AreSmall, Gave, InputState, OutputState, ReadFailed}
 use Rattle.octet_devices.specs.Transfers.{WroteAll}
 use Rattle.octet_devices.specs.declared.loops.TheConstants.{READ_MAX, READER_CALLS}
 use Rattle.driver.specs.Devices.{Devices, IsLeft}
-use Rattle.driver.specs.Effects.{Done, IsPrefixOf, IsWrittenOut, nothing, then_done, written}
-use Rattle.driver.specs.Holding.{FlushFailed, Flushed, HoldsAnswer, IsCalledWrittenOut, ReadThrough, Reached, StopsHolding}
-use Rattle.driver.specs.Run.{ComesOf, Used, WentOn, WritesPrefix}
+use Rattle.driver.specs.Effects.{Done, IsPrefixOf, nothing, then_done, written}
+use Rattle.driver.specs.Holding.{FlushFailed, Flushed, ReadThrough, Reached, StopsHolding}
+use Rattle.driver.specs.Run.{ComesOf, Used, WritesPrefix}
 use Rattle.driver.specs.Sessions.{HasOneOutput, Meaning, most_octets, with_rest}
 use Rattle.driver.specs.declared.stopped.Stopped.{Stopped}
 use Rattle.driver.specs.declared.stopped.Stopped.TheVariants.{Diagnostics, Endless, Memory, Read, Write}
-use Rattle.driver.proofs.Known.{call_more, call_next, consumes_split, is_left_at_end, is_left_more, is_left_same, wrote_nothing, wrote_then}
+use Rattle.driver.proofs.Known.{call_more, consumes_split, is_left_at_end, is_left_more, is_left_same, wrote_nothing, wrote_then}
 
 -- ---- what was written is a prefix of the right output
 
@@ -393,24 +393,34 @@ turned M S R old mid i o d held after kept turn n buf r room gave some stands me
   };
 }
 
+-- a text in the middle is cut in two
+regrouped : (a b c d e : List ℕ) → b ≡ c ++ d → (a ++ b) ++ e ≡ (a ++ c) ++ (d ++ e)
+regrouped a b c d e is = rw is (simp append_assoc)
+
 -- what a failed flush is as a stop, where this comes of the octets that were read
 pub flush_stops : (M : Meaning) (old new : Devices) (o n : OutputState) (held kept total : Done) (stop : Stopped)
-    (out notes : List ℕ) → WroteAll old.output o out → WroteAll old.diagnostics n notes
-    → ComesOf M old.input new.input total → total.diagnostics ≡ notes ++ held.diagnostics
+    (out notes more : List ℕ) → WroteAll old.output o out → WroteAll old.diagnostics n notes
+    → ComesOf M old.input new.input total → total.output ≡ (out ++ held.output) ++ more
+    → total.diagnostics ≡ notes ++ held.diagnostics
     → FlushFailed o n new.output new.diagnostics held stop → StopsHolding stop M old new kept
-flush_stops M old new o n held kept total Read out notes a b comes lines f = absurd f.cause
-flush_stops M old new o n held kept total Endless out notes a b comes lines f = absurd f.cause
-flush_stops M old new o n held kept total Write out notes a b comes lines f = record {
+flush_stops M old new o n held kept total Read out notes more a b comes whole lines f = absurd f.cause
+flush_stops M old new o n held kept total Endless out notes more a b comes whole lines f = absurd f.cause
+flush_stops M old new o n held kept total Write out notes more a b comes whole lines f = record {
   failed = λ small. omega (arith, a.no_failure, f.cause.0 (omega (arith, a.no_failure, small)));
   done = total;
+  sent = out ++ f.sent;
+  unsent = f.rest ++ more;
   comes = comes;
+  parts = whole ∙ regrouped out held.output f.sent f.rest more f.begins;
+  some_left = omega (arith, length-append f.rest more, f.cause.2);
+  to_output = Appends-trans _ _ _ _ _ a.octets f.to_output;
   to_diagnostics = subst (WroteAll old.diagnostics new.diagnostics)
       (sym (ap (λ (xs : List ℕ). xs ++ []) lines ∙ append-nil (notes ++ held.diagnostics)))
       (wrote_then _ _ _ _ _ b f.cause.1);
 }
-flush_stops M old new o n held kept total Diagnostics out notes a b comes lines f =
+flush_stops M old new o n held kept total Diagnostics out notes more a b comes whole lines f =
     λ small. omega (arith, b.no_failure, f.cause (omega (arith, b.no_failure, small)))
-flush_stops M old new o n held kept total Memory out notes a b comes lines f = absurd f.cause
+flush_stops M old new o n held kept total Memory out notes more a b comes whole lines f = absurd f.cause
 
 -- the session goes on, and what is held back cannot be written
 pub flush_fails : {A : Type 0} (M : Meaning) (S : List ℕ → Type 0) (old mid : Devices) (i : InputState)
@@ -425,8 +435,9 @@ flush_fails {A} M S old mid i o d held after kept turn n buf rest stop r in_time
     let all = piece_given _ _ _ _ _ _ r.consumed gave in
     record {
       outcome = flush_stops M old (record { input = i; output = o; diagnostics = d }) mid.output mid.diagnostics after
-          kept (then_done (written r.output r.diagnostics) after) stop r.output r.diagnostics r.wrote.to_output
-          r.wrote.to_diagnostics (inr (r.given ++ take n buf, all, inl means)) refl f;
+          kept (then_done (written r.output r.diagnostics) after) stop r.output r.diagnostics [] r.wrote.to_output
+          r.wrote.to_diagnostics (inr (r.given ++ take n buf, all, inl means))
+          (sym (append-nil (r.output ++ after.output))) refl f;
       begins = prefix_from M old (record { input = i; output = o; diagnostics = d })
           (then_done (written r.output r.diagnostics) after) (r.output ++ f.sent) f.rest
           (leads_so_far M _ i.left (r.given ++ take n buf) (then_done (written r.output r.diagnostics) after) all means)

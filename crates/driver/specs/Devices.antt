@@ -1,9 +1,8 @@
 -- The devices of a run.
-use Rattle.std.specs.Prelude.{◌≡◌, ℕ, ◌+◌, ◌^◌, ◌<◌, ◌≤◌, ◌⊎◌, List, [], ◌++◌, length, Option, Some, None, ⊤, Result, MatchResult}
-use Rattle.std.specs.Io.KnownBytes.{Appends, Consumes}
+use Rattle.std.specs.Prelude.{◌≡◌, ℕ, ◌+◌, ◌^◌, ◌<◌, ◌⊎◌, List, Option, Some, None, ⊤}
 use Rattle.octet_devices.specs.Device.{InputState, OutputState, AreSmall}
 use Rattle.octet_devices.specs.Transfers.{WroteAll}
-use Rattle.octet_devices.specs.declared.loops.TheConstants.{READ_MAX, READER_CALLS}
+use Rattle.octet_devices.specs.declared.loops.TheConstants.{READER_CALLS}
 use Rattle.driver.specs.declared.status.TheConstants.{FAULT}
 
 -- an input, an output, and what the diagnostics are written to

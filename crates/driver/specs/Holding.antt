@@ -1,11 +1,11 @@
 -- A run whose output is held back.
-use Rattle.std.specs.Prelude.{◌≡◌, ℕ, ◌+◌, ◌≤◌, ◌<◌, ◌⊎◌, List, [], ◌++◌, length, Result, MatchResult}
+use Rattle.std.specs.Prelude.{◌≡◌, ℕ, ◌+◌, ◌<◌, ◌⊎◌, List, [], ◌++◌, length, Result, MatchResult}
 use Rattle.std.specs.Io.KnownBytes.{Appends, Consumes}
-use Rattle.octet_devices.specs.Device.{InputState, OutputState, AreSmall}
+use Rattle.octet_devices.specs.Device.{InputState, OutputState}
 use Rattle.octet_devices.specs.Transfers.{WroteAll}
 use Rattle.octet_devices.specs.declared.loops.TheConstants.{READ_MAX}
 use Rattle.driver.specs.Devices.{Devices, InputFailed, IsEndless, IsLeft, OutputFailed, Reports, Wrote}
-use Rattle.driver.specs.Effects.{Done, IsWrittenOut, status_of, then_done, written}
+use Rattle.driver.specs.Effects.{Done, IsWrittenOut, then_done, written}
 use Rattle.driver.specs.Run.{Answers, IsStopped, Used, WritesPrefix, line_of, stop_status}
 use Rattle.driver.specs.Sessions.{HasOneOutput, Meaning, with_rest}
 use Rattle.driver.specs.declared.stopped.Stopped.{Stopped}
@@ -54,21 +54,23 @@ pub record Pumped (M : Meaning) (old new : Devices) (r : Result ℕ Stopped) : T
   pub used : Used M old.input new.input
 
 -- an input's last call gave a piece; where that came short of the room that it was given, so that the next call may wait
--- for a sender, nothing is held back
-pub record WaitsWrittenOut (now : InputState) (held : Done) : Type 0 where
-  pub before : InputState
+-- for a sender, nothing is held back. The input before that call is a device, not a state that anybody may name
+pub record WaitsWrittenOut {R : Type 0} (state : R → InputState) (now : R) (held : Done) : Type 0 where
+  pub before : R
   pub piece : List ℕ
-  pub call : now.calls ≡ before.calls + 1
-  pub gave : Consumes before.left now.left piece
+  pub call : (state now).calls ≡ (state before).calls + 1
+  pub gave : Consumes (state before).left (state now).left piece
   pub written : length piece < READ_MAX → IsWrittenOut held
 
 -- an input is called for the first time, and nothing is held back; or its last call was such a one
-abbrev pub IsCalledWrittenOut : InputState → InputState → Done → Type 0
-IsCalledWrittenOut old now held = ((now.calls ≡ old.calls) × IsWrittenOut held) ⊎ WaitsWrittenOut now held
+abbrev pub IsCalledWrittenOut : {R : Type 0} → (R → InputState) → R → R → Done → Type 0
+IsCalledWrittenOut state old now held =
+    (((state now).calls ≡ (state old).calls) × IsWrittenOut held) ⊎ WaitsWrittenOut state now held
 
--- an input failed at a call, before which it was such an input: each call may fail, so this is said of each
-abbrev pub FailsWrittenOut : InputState → InputState → Done → Type 0
-FailsWrittenOut old new held = (called : InputState) × (new.calls ≡ called.calls + 1) × IsCalledWrittenOut old called held
+-- an input failed at a call, before which it was such a device: each call may fail, so this is said of each
+abbrev pub FailsWrittenOut : {R : Type 0} → (R → InputState) → R → R → Done → Type 0
+FailsWrittenOut {R} state old new held =
+    (called : R) × ((state new).calls ≡ (state called).calls + 1) × IsCalledWrittenOut state old called held
 
 -- some of what was held back was written, and this is kept
 pub record Flushed (o n o_new n_new : OutputState) (held kept : Done) : Type 0 where
@@ -78,11 +80,11 @@ pub record Flushed (o n o_new n_new : OutputState) (held kept : Done) : Type 0 w
   pub to_diagnostics : WroteAll n n_new diagnostics
   pub whole : held ≡ then_done (written output diagnostics) kept
 
--- a device failed: the output, and these lines were written; or the diagnostics
-abbrev pub FailsAs : Stopped → OutputState → OutputState → OutputState → OutputState → List ℕ → Type 0
-FailsAs Write o o_new n n_new lines = OutputFailed o o_new × WroteAll n n_new lines
-FailsAs Diagnostics o o_new n n_new lines = OutputFailed n n_new
-FailsAs _ o o_new n n_new lines = ⊥
+-- a device failed: the output, behind which some is left, and these lines were written; or the diagnostics
+abbrev pub FailsAs : Stopped → OutputState → OutputState → OutputState → OutputState → List ℕ → List ℕ → Type 0
+FailsAs Write o o_new n n_new lines rest = OutputFailed o o_new × WroteAll n n_new lines × (0 < length rest)
+FailsAs Diagnostics o o_new n n_new lines rest = OutputFailed n n_new
+FailsAs _ o o_new n n_new lines rest = ⊥
 
 -- a prefix of the output that was held back was written, and a device failed
 pub record FlushFailed (o n o_new n_new : OutputState) (held : Done) (stop : Stopped) : Type 0 where
@@ -90,7 +92,7 @@ pub record FlushFailed (o n o_new n_new : OutputState) (held : Done) (stop : Sto
   pub rest : List ℕ
   pub begins : held.output ≡ sent ++ rest
   pub to_output : Appends o.taken o_new.taken sent
-  pub cause : FailsAs stop o o_new n n_new held.diagnostics
+  pub cause : FailsAs stop o o_new n n_new held.diagnostics rest
 
 abbrev pub Flushes : {A : Type 0} → OutputState → OutputState → OutputState → OutputState → Done → Done
     → Result A Stopped → Type 0

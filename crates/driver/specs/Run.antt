@@ -1,10 +1,10 @@
 -- What a run of a session over devices does.
 use Rattle.std.specs.Prelude.{◌≡◌, ℕ, ◌+◌, ◌≤◌, ◌<◌, ◌⊎◌, List, [], ◌++◌, length, Option, Some, None, codes}
 use Rattle.std.specs.Io.KnownBytes.{Appends, Consumes}
-use Rattle.octet_devices.specs.Device.{InputState, OutputState, AreSmall}
+use Rattle.octet_devices.specs.Device.{InputState, AreSmall}
 use Rattle.octet_devices.specs.Transfers.{WroteAll}
 use Rattle.octet_devices.specs.declared.loops.TheConstants.{READ_MAX, READER_CALLS}
-use Rattle.driver.specs.Devices.{Devices, InputFailed, IsEndless, IsLeft, IsSound, NoneFailed, OutputFailed, Wrote}
+use Rattle.driver.specs.Devices.{Devices, InputFailed, IsEndless, IsLeft, OutputFailed, Wrote}
 use Rattle.driver.specs.Effects.{Done, IsPrefixOf, status_of}
 use Rattle.driver.specs.Sessions.{Meaning, HasOneOutput}
 use Rattle.driver.specs.declared.stopped.Stopped.{Stopped}
@@ -62,12 +62,17 @@ ComesOf M old new d =
     ((input : List ℕ) × IsLeft old.left input × M.whole input d)
     ⊎ ((given : List ℕ) × Consumes old.left new.left given × (M.so_far given d ⊎ M.part given d))
 
--- the output failed; the diagnostics did not, and all of what comes of the octets that were read stands there before a
--- line
+-- the output failed: of what comes of the octets that were read it took a part, and not all. The diagnostics did not
+-- fail, and all that comes of these octets stands there before a line
 pub record WriteFailedWith (M : Meaning) (line : List ℕ) (old new : Devices) : Type 0 where
   pub failed : OutputFailed old.output new.output
   pub done : Done
+  pub sent : List ℕ
+  pub unsent : List ℕ
   pub comes : ComesOf M old.input new.input done
+  pub parts : done.output ≡ sent ++ unsent
+  pub some_left : 0 < length unsent
+  pub to_output : Appends old.output.taken new.output.taken sent
   pub to_diagnostics : WroteAll old.diagnostics new.diagnostics (done.diagnostics ++ line)
 
 -- the cause of a stop, and what was written

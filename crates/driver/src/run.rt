@@ -78,7 +78,7 @@ fn read_through<S: Session, R: Input, W: Output, N: Output>(
         (devices (R.state input.new) (W.state output.new) (N.state diagnostics.new))
         (done_of effects.new) (S.rest session.new) result }
     ensures due { AreSmall (R.state input.old) → IsErrOf result Stopped.Read →
-        FailsWrittenOut (R.state input.old) (R.state input.new) (done_of effects.new) }
+        FailsWrittenOut R.state input.old input.new (done_of effects.new) }
 {
     let mut piece = [0u8; READ_MAX];
     for _turn in 0..READER_CALLS {

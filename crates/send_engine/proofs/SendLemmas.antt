@@ -403,7 +403,16 @@ ran_sent t v x m (Err fault.Memory) w w_new n n_new status h (l, s, kept) told =
 ran_sent t v x m (Err (fault.Write sent)) w w_new n n_new status h (l, (octets, canonical, (frame, part)), kept) told =
     record {
       ending = WriteFailed;
-      outcome = (part.cause, told);
+      outcome = (
+        goes_out (framed x.framing octets),
+        done_with t v x m octets (goes_out (framed x.framing octets)) h l canonical (inl (
+          subst (λ (k : Framing). IsFrame k octets) h.made.framing frame,
+          ap (λ (k : Framing). goes_out (framed k octets)) h.made.framing,
+        )),
+        sent,
+        part,
+        told,
+      );
       begins = prefix_sent t v x m (Err (fault.Write sent)) w w_new h (l, (octets, canonical, (frame, part)), kept);
     }
 

@@ -3,7 +3,7 @@ use Rattle.std.specs.Prelude.{◌≡◌, ℕ, ℤ, ◌+◌, ◌*◌, ◌<◌, �
 use Rattle.std.specs.Io.KnownBytes.{Appends}
 use Rattle.std.specs.Str.{IsAscii, IsNotAscii}
 use Rattle.octet_devices.specs.Device.{OutputState}
-use Rattle.octet_devices.specs.Transfers.{WroteAll}
+use Rattle.octet_devices.specs.Transfers.{WroteAll, WrotePart}
 use Rattle.syslog_frame.specs.Frames.{framed}
 use Rattle.syslog_frame.specs.declared.framing.Framing.{Framing}
 use Rattle.syslog_frame.specs.declared.limits.TheConstants.{FRAME_MAX}
@@ -14,7 +14,7 @@ use Rattle.syslog_grammar.specs.Canonical.{Canonical}
 use Rattle.syslog_sender.specs.Senders.{own_facility}
 use Rattle.syslog_sender.specs.Sent.{Carries, IsFrame}
 use Rattle.frame_engine.specs.Converted.{goes_out}
-use Rattle.driver.specs.Devices.{OutputFailed, Reports}
+use Rattle.driver.specs.Devices.{Reports}
 use Rattle.driver.specs.Effects.{Done, nothing, status_of}
 use Rattle.driver.specs.declared.status.TheConstants.{FAULT, NO_MEMORY}
 use Rattle.send_engine.specs.Options.{Name, NameNothing, OptionTexts, OptionValues}
@@ -76,7 +76,8 @@ SendEndsAs ValueRefused texts w w_new n n_new status =
 SendEndsAs OutOfMemory texts w w_new n n_new status =
     (w_new ≡ w) × Reports (codes "want of memory\n") NO_MEMORY n n_new status
 SendEndsAs WriteFailed texts w w_new n n_new status =
-    OutputFailed w w_new × Reports (codes "write fault\n") FAULT n n_new status
+    (d : Done) × SendDone texts d × (sent : ℕ) × WrotePart w w_new d.output sent
+    × Reports (codes "write fault\n") FAULT n n_new status
 
 -- what `send` does, whatever the devices do; a prefix of the right output was written
 pub record RanSend (texts : OptionTexts) (w w_new n n_new : OutputState) (status : ℕ) : Type 0 where

@@ -9,12 +9,13 @@ use Rattle.syslog_frame.proofs.Calls.{none_unless_frame}
 use Rattle.syslog_frame.proofs.FrameLaws.{unique_frames}
 use Rattle.syslog_frame.proofs.Reading.{frames_read}
 use Rattle.archive_text.specs.Entries.{Entry, Has}
+use Rattle.archive_text.specs.Sets.{IsUnionOfEntries}
 use Rattle.archive_text.specs.Text.{IsArchive}
 use Rattle.archive_text.proofs.Ascending.{same_members}
 use Rattle.syslog_legacy.specs.FrameReadings.{Clock}
 use Rattle.syslog_collect.specs.declared.connection.Connection.{Connection}
 use Rattle.syslog_collect.specs.Frames.{AreFramesOf, HasFrames, IsFramesOf, IsReceived, IsSpelled, all_of}
-use Rattle.syslog_collect.specs.Headline.{IsSettled, IsUnion, ReceivedBoth, ReceivedSame}
+use Rattle.syslog_collect.specs.Headline.{IsSettled, ReceivedBoth, ReceivedSame}
 use Rattle.syslog_collect.specs.History.{AcceptedEvent, Ended, History, Stream, history_of}
 use Rattle.syslog_collect.specs.Logs.{ready_count, waiting}
 use Rattle.syslog_collect.specs.Standing.{AreAt, IsAt, Stands}
@@ -146,7 +147,7 @@ pub union_entries : (clock : Clock) (most : ℕ) (cs ds bs : List Connection) (k
     (es fs gs : List AcceptedEvent) → IsArchive most all → IsArchive most merged
     → Stands clock cs kept [] es → Stands clock ds other [] fs → Stands clock bs all [] gs → IsSettled cs → IsSettled ds
     → IsSettled bs
-    → ReceivedBoth clock gs es fs → IsUnion merged kept other → merged ≡ all
+    → ReceivedBoth clock gs es fs → IsUnionOfEntries kept other merged → merged ≡ all
 union_entries clock most cs ds bs kept other all merged es fs gs a b one two three settled settled_too settled_three
     received union =
     same_members merged all b.ascending a.ascending

@@ -15,10 +15,6 @@ IsSettled cs = (d : ℕ) → waiting cs d ≡ 0
 abbrev pub ReceivedSame : Clock → List AcceptedEvent → List AcceptedEvent → Type 0
 ReceivedSame clock es fs = (x : Entry) → IsReceived clock es x ↔ IsReceived clock fs x
 
--- the entries are those of the first list and of the second
-abbrev pub IsUnion : List Entry → List Entry → List Entry → Type 0
-IsUnion both a b = (x : Entry) → Has both x ↔ (Has a x ⊎ Has b x)
-
 -- the received set of a list of events is that of two others together
 abbrev pub ReceivedBoth : Clock → List AcceptedEvent → List AcceptedEvent → List AcceptedEvent → Type 0
 ReceivedBoth clock all es fs = (x : Entry) → IsReceived clock all x ↔ (IsReceived clock es x ⊎ IsReceived clock fs x)

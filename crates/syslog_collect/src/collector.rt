@@ -3,6 +3,7 @@
 ghost use Rattle.std.specs.Prelude.{◌≡◌, ◌≤◌, ◌⊎◌, ◌↔◌, ◌++◌, ◌==◌, ℕ, List, [], IfErr, IfOk, IfSome, OnErr, OnOk};
 ghost use Rattle.std.specs.List.{position_from};
 ghost use Rattle.archive_text.specs.Entries.{Entry, Has};
+ghost use Rattle.archive_text.specs.Sets.{IsUnionOfEntries};
 ghost use Rattle.archive_text.specs.Text.{IsArchive, text_of};
 ghost use Rattle.syslog_collect.specs.Answers.{IfRefused, IfUnreleased, IsAnswerAt, IsEnding, IsOpening, IsTaken};
 ghost use Rattle.syslog_collect.specs.Answers.{IsUsedWithin, accepted_octets, dropped_octets, used_octets};
@@ -10,7 +11,7 @@ ghost use Rattle.syslog_collect.specs.Answers.{accepted_datagram, accepted_endin
 ghost use Rattle.syslog_collect.specs.Collectors.{GoesOn, HaveSameConnections, NoneWaits, Stands, WaitAlike};
 ghost use Rattle.syslog_collect.specs.Collectors.{clock_of, room_of, store_of, waits_of};
 ghost use Rattle.syslog_collect.specs.Frames.{IsReceived};
-ghost use Rattle.syslog_collect.specs.Headline.{IsUnion, ReceivedBoth, ReceivedSame};
+ghost use Rattle.syslog_collect.specs.Headline.{ReceivedBoth, ReceivedSame};
 ghost use Rattle.syslog_collect.specs.History.{AcceptedEvent, history_of, stream_of};
 ghost use Rattle.syslog_collect.specs.Logs.{Reports, waiting_then};
 ghost use Rattle.syslog_collect.specs.Outcomes.{IsOutcome, IsRecordFrame, outcomes_of};
@@ -258,6 +259,6 @@ pub fn merged_archives<S: Store, T: Store, U: Store>(
         → Stands U.entries all.now [] both
         → NoneWaits one.now → NoneWaits two.now → NoneWaits all.now
         → ReceivedBoth (clock_of one.now) both events others → IsArchive ENTRY_MAX merged
-        → IsUnion merged (S.entries (store_of one.now)) (T.entries (store_of two.now))
+        → IsUnionOfEntries (S.entries (store_of one.now)) (T.entries (store_of two.now)) merged
         → merged ≡ U.entries (store_of all.now) }
 {}

@@ -1,10 +1,12 @@
 -- A scanner's phase and numbers, whatever the octets are.
-use Rattle.std.specs.Prelude.{◌≡◌, ℕ, ◌<◌, List, length, slice_index}
+use Rattle.std.specs.Prelude.{◌≡◌, ◌≢◌, ℕ, ◌+◌, ◌<◌, ◌≤◌, List, length, slice_index, Vec, vec_capacity, vec_len}
 use Rattle.syslog_frame.specs.Count.{IsRefused}
 use Rattle.syslog_frame.specs.declared.framing.Framing.{Framing}
 use Rattle.syslog_frame.specs.declared.framing.Framing.TheVariants.{Counted, Lf}
+use Rattle.syslog_frame.specs.declared.limits.TheConstants.{COUNT_MAX, FRAME_MAX}
 use Rattle.syslog_frame.specs.declared.phase.Phase.{Phase}
 use Rattle.syslog_frame.specs.declared.phase.Phase.TheVariants.{Counting, Inside, Ended, BadCount, Failed}
+use Rattle.syslog_frame.specs.declared.record.Progress.{Progress}
 
 -- a phase in which octets are taken
 abbrev pub IsOpen : Phase → Type 0
@@ -31,3 +33,17 @@ IsProgress BadCount count piece n = (n < length piece) × IsRefused count (slice
 IsProgress Inside count piece n = n ≡ length piece
 IsProgress Counting count piece n = n ≡ length piece
 IsProgress Failed count piece n = ⊥
+
+-- what is kept of a record of which so many octets came: all, unless they are too many, and there is room
+pub record HasRoom {Z : Type 0} (size : ℕ) (kept : Vec ℕ Z) : Type 0 where
+  pub room : FRAME_MAX ≤ vec_capacity kept
+  pub known : size ≤ FRAME_MAX → vec_len kept ≡ size
+
+-- a piece advances a frame of which so many octets of its record came
+pub record Advances (framing : Framing) (size : ℕ) (piece : List ℕ) (to : Progress) : Type 0 where
+  pub within : to.used ≤ length piece
+  pub some : 0 < length piece → to.phase ≢ BadCount → 0 < to.used
+  pub far : to.size ≤ size + to.used
+  pub taken : IsProgress to.phase to.count piece to.used
+  pub state : IsState framing to.phase to.count to.size
+  pub small : to.count ≤ COUNT_MAX

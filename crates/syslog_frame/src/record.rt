@@ -1,11 +1,10 @@
 //! What a piece holds of one frame. The octets of a record are copied by slices and never looked
 //! at one by one.
 
-ghost use Rattle.std.specs.Prelude.{◌≡◌, ◌≢◌, ◌≤◌, ◌<◌, ◌+◌, ◌++◌, ◌^◌, ℕ, List, length, take};
-ghost use Rattle.std.specs.Prelude.{vec_capacity, vec_len};
+ghost use Rattle.std.specs.Prelude.{◌≡◌, ◌≤◌, ◌<◌, ◌+◌, ◌++◌, ◌^◌, ℕ, List, length, take};
 ghost use Rattle.syslog_frame.specs.Count.{IsCount};
 ghost use Rattle.syslog_frame.specs.Scan.{Holds, Keeps};
-ghost use Rattle.syslog_frame.specs.State.{IsOpen, IsState, IsProgress};
+ghost use Rattle.syslog_frame.specs.State.{Advances, HasRoom, IsOpen, IsState};
 ghost use Rattle.syslog_frame.specs.declared.framing.Framing.TheVariants.{Counted, Lf};
 
 use crate::count::{CountStep, count_on};
@@ -30,14 +29,11 @@ pub struct Progress {
 /// Appends octets of a record of which `size` came, unless it gets too long.
 #[inline(always)]
 fn keep(kept: &mut Vec<u8>, size: u64, octets: &[u8])
-    requires room { FRAME_MAX ≤ vec_capacity kept.old }
-    requires known { size ≤ FRAME_MAX → vec_len kept.old ≡ size }
+    requires room { HasRoom size kept.old }
     requires fits { size + length octets.now < 2 ^ 64 }
-    ensures room { FRAME_MAX ≤ vec_capacity kept.new }
+    ensures room { HasRoom (size + length octets.now) kept.new }
     ensures keeps { (r : List ℕ) → Keeps FRAME_MAX size kept.old.items r
         → Keeps FRAME_MAX (size + length octets.now) kept.new.items (r ++ octets.now) }
-    ensures known { size + length octets.now ≤ FRAME_MAX
-        → vec_len kept.new ≡ size + length octets.now }
 {
     if size + octets.len() as u64 <= FRAME_MAX as u64 {
         let _ = kept.extend_from_slice(octets);
@@ -46,17 +42,10 @@ fn keep(kept: &mut Vec<u8>, size: u64, octets: &[u8])
 
 /// Takes a piece of a line, up to its line feed.
 fn take_line(kept: &mut Vec<u8>, size: u64, piece: &[u8]) -> Progress
-    requires room { FRAME_MAX ≤ vec_capacity kept.old }
-    requires known { size ≤ FRAME_MAX → vec_len kept.old ≡ size }
+    requires room { HasRoom size kept.old }
     requires fits { size + length piece.now < 2 ^ 64 }
-    ensures room { FRAME_MAX ≤ vec_capacity kept.new }
-    ensures known { result.size ≤ FRAME_MAX → vec_len kept.new ≡ result.size }
-    ensures within { result.used ≤ length piece.now }
-    ensures some { 0 < length piece.now → result.phase ≢ Phase.BadCount → 0 < result.used }
-    ensures far { result.size ≤ size + result.used }
-    ensures taken { IsProgress result.phase result.count piece.now result.used }
-    ensures state { IsState Lf result.phase result.count result.size }
-    ensures small { result.count ≤ COUNT_MAX }
+    ensures room { HasRoom result.size kept.new }
+    ensures advances { Advances Lf size piece.now result }
     ensures holds { (p : List ℕ) → Holds FRAME_MAX Lf Phase.Inside 0 size kept.old.items p
         → Holds FRAME_MAX Lf result.phase 0 result.size kept.new.items
         (p ++ take result.used piece.now) }
@@ -86,17 +75,11 @@ fn take_line(kept: &mut Vec<u8>, size: u64, piece: &[u8]) -> Progress
 /// Takes a piece of a record that was counted, up to its last octet.
 #[inline(always)]
 fn take_record(kept: &mut Vec<u8>, count: u64, size: u64, piece: &[u8]) -> Progress
-    requires room { FRAME_MAX ≤ vec_capacity kept.old }
-    requires known { size ≤ FRAME_MAX → vec_len kept.old ≡ size }
+    requires room { HasRoom size kept.old }
     requires small { count ≤ COUNT_MAX }
     requires less { size < count }
-    ensures room { FRAME_MAX ≤ vec_capacity kept.new }
-    ensures known { result.size ≤ FRAME_MAX → vec_len kept.new ≡ result.size }
-    ensures within { result.used ≤ length piece.now }
-    ensures some { 0 < length piece.now → result.phase ≢ Phase.BadCount → 0 < result.used }
-    ensures far { result.size ≤ size + result.used }
-    ensures taken { IsProgress result.phase result.count piece.now result.used }
-    ensures state { IsState Counted result.phase result.count result.size }
+    ensures room { HasRoom result.size kept.new }
+    ensures advances { Advances Counted size piece.now result }
     ensures same { result.count ≡ count }
     ensures holds { (p : List ℕ) → Holds FRAME_MAX Counted Phase.Inside count size kept.old.items p
         → Holds FRAME_MAX Counted result.phase count result.size kept.new.items
@@ -124,17 +107,10 @@ fn take_record(kept: &mut Vec<u8>, count: u64, size: u64, piece: &[u8]) -> Progr
 
 /// Takes a piece that begins in a count.
 fn take_count(kept: &mut Vec<u8>, count: u64, piece: &[u8]) -> Progress
-    requires room { FRAME_MAX ≤ vec_capacity kept.old }
-    requires empty { vec_len kept.old ≡ 0 }
+    requires room { HasRoom 0 kept.old }
     requires small { count ≤ COUNT_MAX }
-    ensures room { FRAME_MAX ≤ vec_capacity kept.new }
-    ensures known { result.size ≤ FRAME_MAX → vec_len kept.new ≡ result.size }
-    ensures within { result.used ≤ length piece.now }
-    ensures some { 0 < length piece.now → result.phase ≢ Phase.BadCount → 0 < result.used }
-    ensures far { result.size ≤ result.used }
-    ensures taken { IsProgress result.phase result.count piece.now result.used }
-    ensures state { IsState Counted result.phase result.count result.size }
-    ensures small { result.count ≤ COUNT_MAX }
+    ensures room { HasRoom result.size kept.new }
+    ensures advances { Advances Counted 0 piece.now result }
     ensures holds { (p : List ℕ) → IsCount count p
         → Holds FRAME_MAX Counted result.phase result.count result.size kept.new.items
         (p ++ take result.used piece.now) }
@@ -173,20 +149,13 @@ pub fn take_piece(
     size: u64,
     piece: &[u8],
 ) -> Progress
-    requires room { FRAME_MAX ≤ vec_capacity kept.old }
-    requires known { size ≤ FRAME_MAX → vec_len kept.old ≡ size }
+    requires room { HasRoom size kept.old }
     requires small { count ≤ COUNT_MAX }
     requires fits { size + length piece.now < 2 ^ 64 }
     requires open { IsOpen phase }
     requires state { IsState framing phase count size }
-    ensures room { FRAME_MAX ≤ vec_capacity kept.new }
-    ensures known { result.size ≤ FRAME_MAX → vec_len kept.new ≡ result.size }
-    ensures within { result.used ≤ length piece.now }
-    ensures some { 0 < length piece.now → result.phase ≢ Phase.BadCount → 0 < result.used }
-    ensures far { result.size ≤ size + result.used }
-    ensures state { IsState framing result.phase result.count result.size }
-    ensures small { result.count ≤ COUNT_MAX }
-    ensures taken { IsProgress result.phase result.count piece.now result.used }
+    ensures room { HasRoom result.size kept.new }
+    ensures advances { Advances framing size piece.now result }
     ensures holds { (p : List ℕ) → Holds FRAME_MAX framing phase count size kept.old.items p
         → Holds FRAME_MAX framing result.phase result.count result.size kept.new.items
         (p ++ take result.used piece.now) }

@@ -26,11 +26,11 @@ returns-in-Err-Bad g c =
     let whole = subst (λ (t : List ℕ). IfSome (g.R.Input.state c.args.old.now).left (λ input. t ≡ input))
     (sym c.as_slice.ensures.value) (kept_whole _ _ _ c.in-Ok.ensures.outcome.first few) in
     ran_refused _ c.in-Err-Bad.fault _ _ _ _ _ _ whole c.read_all.ensures.few
-    (rw c.in-Err-Bad.field-0-is at c.in-Err-Bad.ensures.err) c.report_fault.ensures
+    c.in-Ok.ensures.outcome.no_failure (rw c.in-Err-Bad.field-0-is at c.in-Err-Bad.ensures.err) c.report_fault.ensures
 
 pub returns-in-Err-Memory-migrate : goal.returns-in-Err-Memory-migrate
 returns-in-Err-Memory-migrate g c =
-    ran_out _ _ _ _ _ _ c.read_all.ensures.few c.report-in-Err-Memory-migrate.ensures.reports
+    ran_out _ _ _ _ _ _ c.read_all.ensures.few c.in-Ok.ensures.outcome.no_failure c.report-in-Err-Memory-migrate.ensures.reports
 
 pub returns-in-Ok-write_all : goal.returns-in-Ok-write_all
 returns-in-Ok-write_all g c =
@@ -39,7 +39,8 @@ returns-in-Ok-write_all g c =
     (sym c.as_slice.ensures.value) (kept_whole _ _ _ c.in-Ok.ensures.outcome.first few) in
     let written = subst (WroteAll (g.W.Output.state c.args.output.now) (g.W.Output.state c.write_all.new.writer))
     c.as_slice-2.ensures.value c.in-Ok-write_all.ensures in
-    ran_whole _ c.in-Ok-migrate.archive.items _ _ _ _ _ whole c.read_all.ensures.few c.in-Ok-migrate.ensures.ok written
+    ran_whole _ c.in-Ok-migrate.archive.items _ _ _ _ _ whole c.read_all.ensures.few
+    c.in-Ok.ensures.outcome.no_failure c.in-Ok-migrate.ensures.ok written
 
 pub returns : goal.returns
 returns g c =
@@ -49,5 +50,5 @@ returns g c =
     let sent = c.in-Err.field-0.sent in
     let written = subst (λ (t : List ℕ). WrotePart (g.W.Output.state c.args.output.now)
     (g.W.Output.state c.write_all.new.writer) t sent) c.as_slice-2.ensures.value c.in-Err.ensures in
-    ran_part _ c.in-Ok-migrate.archive.items sent _ _ _ _ _ _ _ whole c.read_all.ensures.few c.in-Ok-migrate.ensures.ok
-    written c.report-in-Err.ensures.reports
+    ran_part _ c.in-Ok-migrate.archive.items sent _ _ _ _ _ _ _ whole c.read_all.ensures.few
+    c.in-Ok.ensures.outcome.no_failure c.in-Ok-migrate.ensures.ok written c.report-in-Err.ensures.reports

@@ -6,7 +6,7 @@ use Rattle.syslog_collect.specs.Standing.{Stands}
 use Rattle.collect_engine.specs.Collecting.{IfArchived, IsArchiveOf, Served, WritesText}
 use Rattle.collect_engine.specs.declared.serve_end.Stopped.TheVariants as stopped
 use Rattle.collect_engine.proofs.Collected.{archived, from_nothing, nothing_served, notes_out}
-use Rattle.collect_engine.proofs.Serves.{come_none}
+use Rattle.collect_engine.proofs.Serves.{gave_none}
 use Rattle.collect_engine.proofs.collecting.collect_into.Goals as goal
 
 pub returns-in_default : goal.returns-in_default
@@ -17,7 +17,7 @@ returns-in_default g c = (
   [],
   [],
   codes "want of memory\n",
-  λ few. come_none (g.R.Source.coming c.args.source.now),
+  gave_none (g.R.Source.state c.args.source.now),
   nothing_served c.args.clock,
   tt,
   ((c.tell_memory.ensures.status, refl, refl), refl),

@@ -3,7 +3,7 @@ use Rattle.std.proofs.lemmas.List.{append-nil}
 use Rattle.syslog_collect.specs.History.{AcceptedEvent}
 use Rattle.syslog_collect.specs.Standing.{Stands}
 use Rattle.collect_engine.specs.Steps.{Failed, Finished, given_of}
-use Rattle.collect_engine.proofs.Serves.{appends_none, same_flag}
+use Rattle.collect_engine.proofs.Serves.{appends_none, gave_next, same_flag}
 use Rattle.collect_engine.proofs.serving.serve_next.Goals as goal
 
 pub returns-in-Failed-clause-served : goal.returns-in-Failed-clause-served
@@ -11,7 +11,7 @@ returns-in-Failed-clause-served g c first before was = (
   Failed,
   [],
   [],
-  c.in-Failed.ensures.comes,
+  gave_next _ _ _ _ (rw c.in-Failed.is at c.next-step.ensures),
   subst (λ (es : List AcceptedEvent). Stands c.args.collector.now.clock c.args.collector.now.connections.items
       (g.S.Store.entries c.args.collector.now.store) first es) (sym (append-nil before)) was,
   appends_none (g.N.Output.state c.args.notes.now).taken,
@@ -24,7 +24,7 @@ returns-in-Finished-clause-served g c first before was = (
   Finished,
   [],
   [],
-  c.in-Finished.ensures.comes,
+  gave_next _ _ _ _ (rw c.in-Finished.is at c.next-step.ensures),
   subst (λ (es : List AcceptedEvent). Stands c.args.collector.now.clock c.args.collector.now.connections.items
       (g.S.Store.entries c.args.collector.now.store) first es) (sym (append-nil before)) was,
   appends_none (g.N.Output.state c.args.notes.now).taken,
@@ -38,7 +38,7 @@ returns-in-Ok-clause-served g c first before was =
       given_of c.next-step.result c.next-step.new.buf,
       made.1,
       made.2,
-      c.next-step.ensures.comes,
+      gave_next _ _ _ _ c.next-step.ensures,
       made.4,
       made.5,
       (made.0, made.3, made.6),
@@ -51,7 +51,7 @@ returns-in-Err-clause-served g c first before was =
       given_of c.next-step.result c.next-step.new.buf,
       made.1,
       made.2,
-      c.next-step.ensures.comes,
+      gave_next _ _ _ _ c.next-step.ensures,
       made.4,
       made.5,
       inr (made.0, made.3, made.6),

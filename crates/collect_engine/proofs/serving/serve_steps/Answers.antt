@@ -8,7 +8,7 @@ use Rattle.syslog_collect.specs.History.{AcceptedEvent, history_of}
 use Rattle.syslog_collect.specs.Logs.{waiting}
 use Rattle.syslog_collect.specs.Standing.{Stands}
 use Rattle.collect_engine.specs.Lines.{has_some}
-use Rattle.collect_engine.proofs.Serves.{appends_none, come_none, come_push, fails_later, has_some_append, one_more}
+use Rattle.collect_engine.proofs.Serves.{appends_none, gave_none, gave_push, fails_later, has_some_append, one_more}
 use Rattle.collect_engine.proofs.Serves.{serves_end, serves_one_more, serves_stop, step_here}
 use Rattle.collect_engine.proofs.serving.serve_steps.Goals as goal
 
@@ -17,13 +17,12 @@ returns-in-Err-clause-served g c first before was =
     let so_far = c.loop-turn.invariant.served first before was in
     let es = so_far.1 in
     let made = c.in-Err.ensures.served first (before ++ es) so_far.4 in
-    let fewer : g.R.Source.steps c.args.source.now < 2 ^ 63 → g.R.Source.steps c.loop-turn.source < 2 ^ 64 - 1 =
-    λ few. omega (arith, few, c.loop-turn.invariant.steps few) in
     let room : FRAME_MAX < length c.serve_next.new.buf = search rules in (
       so_far.0 ++ made.0 ∷ [],
       es ++ made.1,
       so_far.2 ++ made.2,
-      λ few. come_push _ _ _ so_far.0 made.0 (so_far.3 few) (made.3 (fewer few) room),
+      gave_push _ _ _ (length c.serve_next.new.buf) so_far.0 made.0 (omega (arith, so_far.7, c.loop-turn-test.true)) room
+          so_far.3 made.3,
       subst (λ (fs : List AcceptedEvent). Stands c.serve_next.new.collector.clock
           c.serve_next.new.collector.connections.items (g.S.Store.entries c.serve_next.new.collector.store) first fs)
           (append_assoc before es made.1) made.4,
@@ -52,13 +51,12 @@ returns-in-Ok-true-clause-served g c first before was =
     let so_far = c.loop-turn.invariant.served first before was in
     let es = so_far.1 in
     let made = c.in-Ok-true.ensures.served first (before ++ es) so_far.4 in
-    let fewer : g.R.Source.steps c.args.source.now < 2 ^ 63 → g.R.Source.steps c.loop-turn.source < 2 ^ 64 - 1 =
-    λ few. omega (arith, few, c.loop-turn.invariant.steps few) in
     let room : FRAME_MAX < length c.serve_next.new.buf = search rules in (
       so_far.0 ++ made.0 ∷ [],
       es ++ made.1,
       so_far.2 ++ made.2,
-      λ few. come_push _ _ _ so_far.0 made.0 (so_far.3 few) (made.3 (fewer few) room),
+      gave_push _ _ _ (length c.serve_next.new.buf) so_far.0 made.0 (omega (arith, so_far.7, c.loop-turn-test.true)) room
+          so_far.3 made.3,
       subst (λ (fs : List AcceptedEvent). Stands c.serve_next.new.collector.clock
           c.serve_next.new.collector.connections.items (g.S.Store.entries c.serve_next.new.collector.store) first fs)
           (append_assoc before es made.1) made.4,
@@ -85,7 +83,7 @@ returns-in_default-clause-served g c first before was = (
   [],
   [],
   [],
-  λ few. come_none (g.R.Source.coming c.args.source.now),
+  gave_none (g.R.Source.state c.args.source.now),
   subst (λ (es : List AcceptedEvent). Stands c.args.collector.now.clock c.args.collector.now.connections.items
       (g.S.Store.entries c.args.collector.now.store) first es) (sym (append-nil before)) was,
   appends_none (g.N.Output.state c.args.notes.now).taken,
@@ -103,7 +101,7 @@ loop-turn-init g c = record {
     [],
     [],
     [],
-    λ few. come_none (g.R.Source.coming c.args.source.now),
+    gave_none (g.R.Source.state c.args.source.now),
     subst (λ (es : List AcceptedEvent). Stands c.args.collector.now.clock c.args.collector.now.connections.items
         (g.S.Store.entries c.args.collector.now.store) first es) (sym (append-nil before)) was,
     appends_none (g.N.Output.state c.args.notes.now).taken,
@@ -125,13 +123,12 @@ loop-turn-preserved g c = record {
       let so_far = c.loop-turn.invariant.served first before was in
       let es = so_far.1 in
       let made = c.in-Ok-false.ensures.served first (before ++ es) so_far.4 in
-      let fewer : g.R.Source.steps c.args.source.now < 2 ^ 63 → g.R.Source.steps c.loop-turn.source < 2 ^ 64 - 1 =
-      λ few. omega (arith, few, c.loop-turn.invariant.steps few) in
       let room : FRAME_MAX < length c.serve_next.new.buf = search rules in (
         so_far.0 ++ made.0 ∷ [],
         es ++ made.1,
         so_far.2 ++ made.2,
-        λ few. come_push _ _ _ so_far.0 made.0 (so_far.3 few) (made.3 (fewer few) room),
+        gave_push _ _ _ (length c.serve_next.new.buf) so_far.0 made.0 (omega (arith, so_far.7, c.loop-turn-test.true)) room
+          so_far.3 made.3,
         subst (λ (fs : List AcceptedEvent). Stands c.serve_next.new.collector.clock
             c.serve_next.new.collector.connections.items (g.S.Store.entries c.serve_next.new.collector.store) first fs)
             (append_assoc before es made.1) made.4,

@@ -8,15 +8,16 @@ use Rattle.syslog_collect.specs.History.{AcceptedEvent, history_of}
 use Rattle.syslog_collect.specs.Logs.{waiting}
 use Rattle.syslog_collect.specs.Standing.{Stands}
 use Rattle.collect_engine.specs.Lines.{has_some}
-use Rattle.collect_engine.specs.Serving.{Come, ServesAll}
+use Rattle.collect_engine.specs.Serving.{GaveSteps, ServesAll}
 use Rattle.collect_engine.specs.Steps.{Given}
 use Rattle.collect_engine.proofs.serving.serve_steps.Given as goal
 
 -- so far each step was served
 abbrev pub invariant-loop-turn : goal.invariant-loop-turn
 invariant-loop-turn g l = record {
-  steps : g.R.Source.steps l.fn.source < 2 ^ 63 → g.R.Source.steps l.source ≡ g.R.Source.steps l.fn.source + l._turn;
-  finishes : g.R.Source.finishes l.source ≡ g.R.Source.finishes l.fn.source;
+  steps : (g.R.Source.state l.fn.source).steps < 2 ^ 63
+      → (g.R.Source.state l.source).steps ≡ (g.R.Source.state l.fn.source).steps + l._turn;
+  finishes : (g.R.Source.state l.source).finishes ≡ (g.R.Source.state l.fn.source).finishes;
   clock : l.collector.clock ≡ l.fn.collector.clock;
   room : FRAME_MAX < vec_len l.buf;
   failures : (g.N.Output.state l.notes).failures ≡ (g.N.Output.state l.fn.notes).failures;
@@ -28,8 +29,7 @@ invariant-loop-turn g l = record {
       → Stands l.fn.collector.clock l.fn.collector.connections.items (g.S.Store.entries l.fn.collector.store) first
       before
       → (given : List Given) × (accepted : List AcceptedEvent) × (told : List ℕ)
-      × (g.R.Source.steps l.fn.source < 2 ^ 63 → Come (g.R.Source.coming l.fn.source)
-      (g.R.Source.coming l.source) given)
+      × GaveSteps (g.R.Source.state l.fn.source) (g.R.Source.state l.source) given
       × Stands l.collector.clock l.collector.connections.items (g.S.Store.entries l.collector.store) first
       (before ++ accepted)
       × Appends (g.N.Output.state l.fn.notes).taken (g.N.Output.state l.notes).taken told

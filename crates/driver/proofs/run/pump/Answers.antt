@@ -1,8 +1,8 @@
-use Rattle.std.proofs.Common.{◌++◌, ◌∙◌, append-nil, append_assoc, inl, inr, refl}
+use Rattle.std.proofs.Common.{[], ◌++◌, ◌∙◌, append-nil, append_assoc, inl, inr, refl, sym}
 use Rattle.std.proofs.lemmas.Result.{err_from_is_err_and}
 use Rattle.driver.specs.Effects.{done_of, then_done, written}
 use Rattle.driver.proofs.Turns.{leads_answer, leads_part, leads_so_far}
-use Rattle.driver.proofs.Ends.{part_begins, part_written, pumped_answer, pumped_fails, pumped_short, written_part}
+use Rattle.driver.proofs.Ends.{part_begins, part_written, pumped_answer, pumped_fails, pumped_short, unsent_part}
 use Rattle.driver.specs.Sessions.{with_rest}
 use Rattle.driver.proofs.run.pump.Goals as goal
 
@@ -15,10 +15,11 @@ returns-in_err-flush-in-Ok g c = λ begun.
     let total = with_rest (then_done (written h.output h.diagnostics) held) (g.S.Session.rest c.read_through.new.session) in
     let p = err_from_is_err_and c.from_residual.result c.from_residual.ensures.1 in
     rw p.1 (pumped_fails M _ _ _ _ held total p.0 h.output h.diagnostics
+    (g.S.Session.rest c.read_through.new.session)
     (λ laws input x known whole.
     let begins = leads_answer M _ h.input total h.is_input h.means laws input x known whole in
     (_ ++ begins.0, begins.1 ∙ append_assoc (h.output ++ held.output) _ begins.0))
-    h.wrote.to_output h.wrote.to_diagnostics (inl (h.input, h.is_input, h.means))
+    h.wrote.to_output h.wrote.to_diagnostics (inl (h.input, h.is_input, h.means)) refl
     (append-nil (h.diagnostics ++ held.diagnostics)) (rw p.2 c.in_err-flush-in-Ok.ensures.flushes) t.used)
 
 pub returns-in-Ok-write_rest : goal.returns-in-Ok-write_rest
@@ -31,10 +32,10 @@ returns-in-Ok-write_rest g c = λ begun.
 pub returns-in-Ok : goal.returns-in-Ok
 returns-in-Ok g c = λ begun.
     let t = c.in-Ok.ensures.ran begun in
-    let part = written_part c.write_rest.result _ _ _ c.write_rest.ensures in
+    let part = unsent_part _ _ _ _ c.in-Err.ensures in
     pumped_short (g.S.Session.means c.args.session.now) _ _ _ _ _ (done_of c.read_through.new.effects)
     (done_of c.flush.new.effects) _ part.0 part.1 t.outcome c.in_ok-flush-in-Ok.ensures.flushes
-    c.in_ok-flush-in-Ok.ensures.clear part.2 part.3 c.in-Err.ensures.cause t.used
+    c.in_ok-flush-in-Ok.ensures.clear part.2 part.4 part.3 c.in-Err.ensures.cause t.used
 
 pub returns-in_err-flush-in-Err-Read : goal.returns-in_err-flush-in-Err-Read
 returns-in_err-flush-in-Err-Read g c = λ begun.
@@ -44,9 +45,9 @@ returns-in_err-flush-in-Err-Read g c = λ begun.
     let held = done_of c.read_through.new.effects in
     let p = err_from_is_err_and c.from_residual-in_err-flush-in-Err-Read.result
     c.from_residual-in_err-flush-in-Err-Read.ensures.1 in
-    rw p.1 (pumped_fails M _ _ _ _ held (then_done (written h.output h.diagnostics) held) p.0 h.output h.diagnostics
+    rw p.1 (pumped_fails M _ _ _ _ held (then_done (written h.output h.diagnostics) held) p.0 h.output h.diagnostics []
     (leads_so_far M _ _ h.given (then_done (written h.output h.diagnostics) held) h.consumed h.means) h.wrote.to_output
-    h.wrote.to_diagnostics (inr (h.given, h.consumed, inl h.means)) refl
+    h.wrote.to_diagnostics (inr (h.given, h.consumed, inl h.means)) (sym (append-nil (h.output ++ held.output))) refl
     (rw p.2 c.in_err-flush-in-Err-Read.ensures.flushes) t.used)
 
 pub returns-in-Err-Read : goal.returns-in-Err-Read
@@ -73,9 +74,9 @@ returns-in_err-flush-in-Err-Endless g c = λ begun.
     let held = done_of c.read_through.new.effects in
     let p = err_from_is_err_and c.from_residual-in_err-flush-in-Err-Endless.result
     c.from_residual-in_err-flush-in-Err-Endless.ensures.1 in
-    rw p.1 (pumped_fails M _ _ _ _ held (then_done (written h.output h.diagnostics) held) p.0 h.output h.diagnostics
+    rw p.1 (pumped_fails M _ _ _ _ held (then_done (written h.output h.diagnostics) held) p.0 h.output h.diagnostics []
     (leads_so_far M _ _ h.given (then_done (written h.output h.diagnostics) held) h.consumed h.means) h.wrote.to_output
-    h.wrote.to_diagnostics (inr (h.given, h.consumed, inl h.means)) refl
+    h.wrote.to_diagnostics (inr (h.given, h.consumed, inl h.means)) (sym (append-nil (h.output ++ held.output))) refl
     (rw p.2 c.in_err-flush-in-Err-Endless.ensures.flushes) t.used)
 
 pub returns-in-Err-Endless : goal.returns-in-Err-Endless
@@ -102,9 +103,9 @@ returns-in_err-flush-in-Err-Memory g c = λ begun.
     let held = done_of c.read_through.new.effects in
     let p = err_from_is_err_and c.from_residual-in_err-flush-in-Err-Memory.result
     c.from_residual-in_err-flush-in-Err-Memory.ensures.1 in
-    rw p.1 (pumped_fails M _ _ _ _ held (then_done (written h.output h.diagnostics) held) p.0 h.output h.diagnostics
+    rw p.1 (pumped_fails M _ _ _ _ held (then_done (written h.output h.diagnostics) held) p.0 h.output h.diagnostics []
     (leads_part M _ _ h.given (then_done (written h.output h.diagnostics) held) h.consumed h.means) h.wrote.to_output
-    h.wrote.to_diagnostics (inr (h.given, h.consumed, inr h.means)) refl
+    h.wrote.to_diagnostics (inr (h.given, h.consumed, inr h.means)) (sym (append-nil (h.output ++ held.output))) refl
     (rw p.2 c.in_err-flush-in-Err-Memory.ensures.flushes) t.used)
 
 pub returns-in-Err-Memory : goal.returns-in-Err-Memory

@@ -1,11 +1,9 @@
-use Rattle.std.proofs.Common.{◌∙◌, arith, inl, inr, refl, rules, take}
-use Rattle.std.proofs.lemmas.Grind.{common_steps}
+use Rattle.std.proofs.Common.{◌∙◌, arith, inr, take}
 use Rattle.std.proofs.lemmas.Result.{err_from_is_err_and}
 use Rattle.octet_devices.specs.declared.loops.TheConstants.{READ_MAX}
-use Rattle.driver.specs.Devices.{devices}
 use Rattle.driver.specs.Effects.{done_of, written}
 use Rattle.driver.proofs.Known.{call_next, came_short}
-use Rattle.driver.proofs.Turns.{at_end, at_end_memory, at_failure, at_finish, at_last, at_memory, few_octets, flush_fails, started, turned}
+use Rattle.driver.proofs.Turns.{at_end, at_end_memory, at_failure, at_finish, at_last, at_memory, few_octets, flush_fails, turned}
 use Rattle.driver.proofs.run.read_through.Goals as goal
 
 pub returns-in_default-clause-ran : goal.returns-in_default-clause-ran
@@ -16,7 +14,7 @@ returns-in_default-clause-ran g c = λ begun.
 
 pub returns-in_default-clause-due : goal.returns-in_default-clause-due
 returns-in_default-clause-due g c = λ small is. (
-  g.R.Input.state c.loop-turn.input,
+  c.loop-turn.input,
   call_next _ _ _ _ small.0 (omega (arith, c.loop-turn-test.true)) (c.loop-turn.invariant.calls small)
       c.in_default.ensures.counted,
   c.loop-turn.invariant.due small,
@@ -98,7 +96,7 @@ loop-turn-preserved g c =
       ends = c.in-Ok.ensures.no_end (omega (arith, c.if-n-eq0.false)) ∙ i.ends;
       due = λ small.
           inr (record {
-            before = g.R.Input.state c.loop-turn.input;
+            before = c.loop-turn.input;
             piece = take c.in-Ok.n c.read.new.buf;
             call = call_next _ _ _ _ small.0 (omega (arith, c.loop-turn-test.true)) (i.calls small)
                 c.in-Ok.ensures.counted;

@@ -21,5 +21,5 @@ invariant-loop-turn g l =
       sound : (g.R.Input.state l.input).failures ≡ (g.R.Input.state l.fn.input).failures;
       ends : (g.R.Input.state l.input).ends ≡ (g.R.Input.state l.fn.input).ends;
       due : AreSmall (g.R.Input.state l.fn.input)
-          → IsCalledWrittenOut (g.R.Input.state l.fn.input) (g.R.Input.state l.input) (done_of l.effects);
+          → IsCalledWrittenOut g.R.Input.state l.fn.input l.input (done_of l.effects);
     }

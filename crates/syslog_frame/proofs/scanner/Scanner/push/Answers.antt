@@ -8,12 +8,12 @@ returns-else-piece-self-clause-takes c = λ kind position p h other.
     let t = c.take_piece-taken in
     moved_takes _ _ _ kind position p c.args.piece.now t.result.used
     (record {
-      within = t.ensures.within;
+      within = t.ensures.advances.within;
       framing_is = refl;
       position_is = refl;
       start_is = refl;
       taken =
-          t.ensures.taken;
+          t.ensures.advances.taken;
       holds = t.ensures.holds;
     }) s
 
@@ -23,11 +23,11 @@ returns-else-piece-self-clause-reads c = λ kind first octets frames rest r othe
     let t = c.take_piece-taken in
     moved_reads _ _ _ kind first octets frames rest c.args.piece.now t.result.used
     (record {
-      within = t.ensures.within;
+      within = t.ensures.advances.within;
       framing_is = refl;
       position_is = refl;
       start_is = refl;
       taken =
-          t.ensures.taken;
+          t.ensures.advances.taken;
       holds = t.ensures.holds;
     }) s
