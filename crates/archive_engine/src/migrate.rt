@@ -4,7 +4,7 @@ ghost use Rattle.driver.specs.Devices.{devices};
 ghost use Rattle.archive_engine.specs.Migrated.{RanMigrate};
 
 use crate::faults::report_fault;
-use archive_migration::{MigrateFault, migrate};
+use archive_migration::{ReadFault, migrate};
 use driver::{DONE, FAULT, NO_MEMORY, report};
 use octet_devices::{Input, Output, ReadAllFault, read_all, write_all};
 use std::alloc::Global;
@@ -30,8 +30,8 @@ pub fn migrate_archive<R: Input, W: Output, N: Output>(
     };
     let archive = match migrate(alloc, text.as_slice()) {
         Ok(archive) => archive,
-        Err(MigrateFault::Bad(fault)) => return report_fault(alloc, b"old", fault, diagnostics),
-        Err(MigrateFault::Memory) => return report(diagnostics, b"want of memory\n", NO_MEMORY),
+        Err(ReadFault::Bad(fault)) => return report_fault(alloc, b"old", fault, diagnostics),
+        Err(ReadFault::Memory) => return report(diagnostics, b"want of memory\n", NO_MEMORY),
     };
     match write_all(output, archive.as_slice()) {
         Ok(()) => DONE,

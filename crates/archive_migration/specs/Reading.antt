@@ -8,8 +8,8 @@ use Rattle.archive_text.specs.declared.entry.EntryView.{EntryView}
 use Rattle.archive_text.specs.declared.fault.ArchiveFault.{ArchiveFault}
 use Rattle.archive_text.specs.declared.limits.TheConstants.{ENTRY_MAX}
 use Rattle.archive_migration.specs.OldFaults.{IsOldArchiveFault, IsOldFaultBehind}
-use Rattle.archive_migration.specs.declared.fault.MigrateFault.{MigrateFault}
-use Rattle.archive_migration.specs.declared.fault.MigrateFault.TheVariants.{Bad, Memory}
+use Rattle.archive_vec.specs.declared.reading.ReadFault.{ReadFault}
+use Rattle.archive_vec.specs.declared.reading.ReadFault.TheVariants.{Bad, Memory}
 use Rattle.archive_migration.specs.declared.old_entry.OldEntry.{OldEntry}
 
 -- an old entry, without where it lies in memory
@@ -37,6 +37,6 @@ IsFaultAfter last offset rest fault =
     → IsOldFaultBehind ENTRY_MAX es rest fault
 
 -- the text is no old archive, for this fault; or a growth was refused
-abbrev pub IsMigrateFault : List ℕ → MigrateFault → Type 0
+abbrev pub IsMigrateFault : List ℕ → ReadFault → Type 0
 IsMigrateFault text (Bad fault) = IsOldArchiveFault ENTRY_MAX text fault
 IsMigrateFault text Memory = ⊤

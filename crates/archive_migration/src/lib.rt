@@ -5,13 +5,12 @@
 //! the new archive.
 #![tactic(auto)]
 
-mod fault;
 mod law;
 mod migrating;
 mod old_entry;
 mod text;
 
-pub use fault::MigrateFault;
+pub use archive_vec::ReadFault;
 pub use law::{
     migrated_octets_are_as_many, migrating_a_union_is_the_union, old_texts_give_the_migrated_set,
     records_have_one_new_form, sets_by_id_are_migrated_already,

@@ -7,9 +7,9 @@ ghost use Rattle.archive_migration.specs.OldEntries.{IsOldEntry};
 ghost use Rattle.archive_migration.specs.OldTexts.{BeginsWithOldEntry};
 ghost use Rattle.archive_migration.specs.Reading.{IsAboveLast, IsFaultAfter, IsMigrateFault, ShowsIt, old_entry_of};
 
-use crate::fault::MigrateFault;
 use crate::old_entry::{OldEntry, read_old_entry};
 use archive_text::{AddFault, ArchiveFault, ENTRY_MAX, EntryView, Store, compare};
+use archive_vec::ReadFault;
 use std::alloc::{AllocError, Global};
 use std::cmp::Ordering;
 
@@ -74,7 +74,7 @@ fn add_old<S: Store>(alloc: Global, store: &mut S, old: &OldEntry<'_>) -> Result
 /// # Errors
 ///
 /// The fault of the text, by the rules of old archives, or that a growth was refused.
-pub fn migrate_into<S: Store>(alloc: Global, text: &[u8], store: &mut S) -> Result<(), MigrateFault>
+pub fn migrate_into<S: Store>(alloc: Global, text: &[u8], store: &mut S) -> Result<(), ReadFault>
     ensures ok { OnOk result (Migrates text.now (S.entries store.old) (S.entries store.new)) }
     ensures err { IfErr result (IsMigrateFault text.now) }
 {
@@ -84,10 +84,10 @@ pub fn migrate_into<S: Store>(alloc: Global, text: &[u8], store: &mut S) -> Resu
         let offset = (text.len() - rest.len()) as u64;
         let (old, behind) = match next_old(rest, offset, &last) {
             Ok(read) => read,
-            Err(fault) => return Err(MigrateFault::Bad(fault)),
+            Err(fault) => return Err(ReadFault::Bad(fault)),
         };
         if add_old(alloc, store, &old).is_err() {
-            return Err(MigrateFault::Memory);
+            return Err(ReadFault::Memory);
         }
         last = Some(old.entry);
         rest = behind;

@@ -7,9 +7,8 @@ ghost use Rattle.archive_text.specs.declared.limits.TheConstants.{ENTRY_MAX};
 ghost use Rattle.archive_migration.specs.Migration.{Migrates};
 ghost use Rattle.archive_migration.specs.Reading.{IsMigrateFault};
 
-use crate::fault::MigrateFault;
 use crate::migrating::migrate_into;
-use archive_vec::VecArchive;
+use archive_vec::{ReadFault, VecArchive};
 use octet_devices::ToWrite;
 use std::alloc::Global;
 
@@ -18,7 +17,7 @@ use std::alloc::Global;
 /// # Errors
 ///
 /// The fault of the text, by the rules of old archives, or that a growth was refused.
-pub fn migrate(alloc: Global, text: &[u8]) -> Result<Vec<u8>, MigrateFault>
+pub fn migrate(alloc: Global, text: &[u8]) -> Result<Vec<u8>, ReadFault>
     ensures ok { IfOk result (λ octets. (es : List Entry) × IsArchive ENTRY_MAX es
         × Migrates text.now [] es × (octets.items ≡ text_of es)) }
     ensures err { IfErr result (IsMigrateFault text.now) }
@@ -31,6 +30,6 @@ pub fn migrate(alloc: Global, text: &[u8]) -> Result<Vec<u8>, MigrateFault>
     let mut writer = ToWrite::new(Vec::new(alloc));
     match archive.write(&mut writer) {
         Ok(()) => Ok(writer.into_inner()),
-        Err(_) => Err(MigrateFault::Memory),
+        Err(_) => Err(ReadFault::Memory),
     }
 }

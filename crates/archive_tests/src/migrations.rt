@@ -1,7 +1,7 @@
 //! Archives whose elements were kept in the order of the octets.
 
 use crate::support::ARCHIVE;
-use archive_migration::{MigrateFault, migrate};
+use archive_migration::{ReadFault, migrate};
 use archive_text::ArchiveFault;
 use std::test::Fail;
 
@@ -42,7 +42,7 @@ fn a_text_that_is_no_old_archive_is_refused(rt: HostRuntime) {
         ),
     ] {
         let refused = migrate(rt.alloc(), old).err();
-        let expected = Some(MigrateFault::Bad(fault));
+        let expected = Some(ReadFault::Bad(fault));
         assert_eq!(rt; refused, expected);
     }
 }

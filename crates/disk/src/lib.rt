@@ -2,7 +2,8 @@
 //!
 //! The model is the usual one. Octets that were written since the last sync of their file may be
 //! there in part, or be any others, in place of what was there too; nothing is longer than it was
-//! made. A name that was made, taken or removed since the last sync of the folder may be as it was
+//! made. A write harms no octet beside it that is on the disk, also where a crash tears it: a drive
+//! that loses the whole of a sector of which it writes a part is none of these. A name that was made, taken or removed since the last sync of the folder may be as it was
 //! before, each name on its own. Once a sync has failed, no later sync promises anything: what was
 //! written before is written again to another file, or the process begins anew.
 //!

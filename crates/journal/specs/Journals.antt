@@ -2,7 +2,7 @@
 use Rattle.std.specs.Prelude.{◌≡◌, ◌≢◌, ◌⊎◌, ℕ, false, List, [], ◌∷◌, ◌++◌, length, Option, Some, IsSomeAnd}
 use Rattle.std.specs.List.{AllByRecursion}
 use Rattle.disk.specs.Files.{File, MayBecome, settled}
-use Rattle.disk.specs.States.{Entry, State, NameMayLeave}
+use Rattle.disk.specs.States.{Entry, State, NameMayLeave, kept}
 use Rattle.journal.specs.Batches.{batches_text, HasBatches, IsBody, IsClosed}
 use Rattle.journal.specs.declared.journal.Journal.{Journal}
 
@@ -85,3 +85,17 @@ pub record OpensOn (journal : Journal) (state : State) (file text : List ℕ) : 
   pub has : HasBatches file bodies
   pub stands : Stands journal state bodies
   pub text_is : text ≡ batches_text bodies
+
+-- each other name is as it was
+abbrev pub KeepsOthers : State → State → List ℕ → Type 0
+KeepsOthers old new name = (other : List ℕ) → other ≢ name → new.entries other ≡ old.entries other
+
+-- each other name is as it was, but that what is there may be on the disk now
+abbrev pub KeepsOrSettlesOthers : State → State → List ℕ → Type 0
+KeepsOrSettlesOthers old new name = (other : List ℕ) → other ≢ name
+    → (new.entries other ≡ old.entries other) ⊎ (new.entries other ≡ kept (old.entries other))
+
+-- a crash leaves under a name what it might have left there before, or a journal without batches
+abbrev pub LeavesNoBatch : State → State → List ℕ → Type 0
+LeavesNoBatch old new name = (octets : Option (List ℕ)) → NameMayLeave (new.entries name) octets
+    → NameMayLeave (old.entries name) octets ⊎ IsSomeAnd octets (λ file. HasBatches file [])

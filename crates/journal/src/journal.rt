@@ -38,7 +38,8 @@ fn written(alloc: Global, body: &[u8]) -> Result<Vec<u8>, AllocError>
 
 impl Journal {
     ghost use Rattle.journal.specs.Journals.{end_of, name_of, IsSound, Stands};
-    ghost use Rattle.journal.specs.Journals.{LeavesBatches, WithOrWithout};
+    ghost use Rattle.journal.specs.Journals.{KeepsOrSettlesOthers, KeepsOthers, LeavesBatches};
+    ghost use Rattle.journal.specs.Journals.{LeavesNoBatch, WithOrWithout};
 
     /// Makes an empty journal under a name that has no file. Once it has returned `Ok`, every crash
     /// leaves it.
@@ -46,6 +47,13 @@ impl Journal {
         ensures created { IfOk result (λ journal. D.tells disk.new
             → IsSound (D.state disk.old) → Stands journal (D.state disk.new) []) }
         ensures name { IfOk result (λ journal. name_of journal ≡ name) }
+
+        // whatever the result is: so at every moment
+        ensures any_moment { D.tells disk.new → IsSound (D.state disk.old)
+            → LeavesNoBatch (D.state disk.old) (D.state disk.new) name }
+        ensures others { D.tells disk.new
+            → KeepsOrSettlesOthers (D.state disk.old) (D.state disk.new) name }
+
         ensures told { D.tells disk.new → D.tells disk.old }
         ensures failed { IsErrOf result DiskFault.Failed → D.has_failed disk.new }
     {
@@ -75,7 +83,10 @@ impl Journal {
             → Stands self.old (D.state disk.old) bodies
             → LeavesBatches (D.state disk.new) (name_of self.old)
             (WithOrWithout bodies body.now) }
+        ensures others { D.tells disk.new
+            → KeepsOthers (D.state disk.old) (D.state disk.new) (name_of self.old) }
 
+        ensures name { name_of self.new ≡ name_of self.old }
         ensures told { D.tells disk.new → D.tells disk.old }
         ensures failed { IsErrOf result DiskFault.Failed → D.has_failed disk.new }
         ensures full { IsErrOf result DiskFault.Full

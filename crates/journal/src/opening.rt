@@ -4,8 +4,8 @@ ghost use Rattle.std.specs.Prelude.{◌⊎◌, Option, Some};
 ghost use Rattle.disk.specs.Files.{File};
 ghost use Rattle.disk.specs.States.{NameMayLeave};
 ghost use Rattle.journal.specs.Batches.{batches_text, HasBatches};
-ghost use Rattle.journal.specs.Journals.{EndsAt, IsAtRest, IsClosing, IsOnDisk};
-ghost use Rattle.journal.specs.Journals.{LeavesThese, OpensOn, Shows};
+ghost use Rattle.journal.specs.Journals.{EndsAt, IsAtRest, IsClosing, IsOnDisk, KeepsOrSettlesOthers};
+ghost use Rattle.journal.specs.Journals.{KeepsOthers, LeavesThese, OpensOn, Shows, name_of};
 
 use crate::reading::{end_of_batches, read_all};
 use crate::{Journal, JournalFault};
@@ -26,6 +26,7 @@ fn shut<D: Disk>(disk: &mut D, name: &FileName, file: &[u8], end: usize) -> Resu
     ensures leaves { D.tells disk.new → (bodies : List (List ℕ))
         → IsOnDisk (D.state disk.old) name.now file.now → EndsAt file.now bodies end
         → LeavesThese (D.state disk.new) name.now bodies }
+    ensures others { D.tells disk.new → KeepsOthers (D.state disk.old) (D.state disk.new) name.now }
     ensures told { D.tells disk.new → D.tells disk.old }
     ensures failed { IsErrOf result DiskFault.Failed → D.has_failed disk.new }
 {
@@ -49,6 +50,7 @@ fn cut_behind<D: Disk>(disk: &mut D, name: &FileName, end: u64) -> Result<(), Di
     ensures leaves { D.tells disk.new → (bodies : List (List ℕ))
         → IsClosing (D.state disk.old) name.now bodies → end ≡ length (batches_text bodies)
         → LeavesThese (D.state disk.new) name.now bodies }
+    ensures others { D.tells disk.new → KeepsOthers (D.state disk.old) (D.state disk.new) name.now }
     ensures told { D.tells disk.new → D.tells disk.old }
     ensures failed { IsErrOf result DiskFault.Failed → D.has_failed disk.new }
 {
@@ -71,6 +73,8 @@ pub fn settle<D: Disk>(disk: &mut D, name: &FileName) -> Result<(), DiskFault>
         → Shows (D.state disk.old) name.now file
         → NameMayLeave ((D.state disk.new).entries name.now) octets
         → NameMayLeave ((D.state disk.old).entries name.now) octets ⊎ (octets ≡ Some file.shown) }
+    ensures others { D.tells disk.new
+        → KeepsOrSettlesOthers (D.state disk.old) (D.state disk.new) name.now }
 
     ensures told { D.tells disk.new → D.tells disk.old }
     ensures failed { IsErrOf result DiskFault.Failed → D.has_failed disk.new }
@@ -97,7 +101,9 @@ pub fn open<D: Disk>(
     ensures any_moment { D.tells disk.new → (file : List ℕ) (bodies : List (List ℕ))
         → IsOnDisk (D.state disk.old) name file → HasBatches file bodies
         → LeavesThese (D.state disk.new) name bodies }
+    ensures others { D.tells disk.new → KeepsOthers (D.state disk.old) (D.state disk.new) name }
 
+    ensures name { IfOk result (λ r. name_of r.0 ≡ name) }
     ensures told { D.tells disk.new → D.tells disk.old }
     ensures failed { IsErrOf result (JournalFault.Disk DiskFault.Failed) → D.has_failed disk.new }
 {

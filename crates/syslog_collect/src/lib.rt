@@ -45,3 +45,4 @@ pub use fault::{Advance, CollectFault};
 pub use law::{frames_have_one_reading, received_records};
 pub use limits::CONNECTIONS_MAX;
 pub use outcome::Outcome;
+pub use syslog_sender::{SendFault, Sender};

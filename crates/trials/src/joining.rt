@@ -3,7 +3,7 @@
 
 use crate::room::Room;
 use crate::rows::{AB, ABC, AC};
-use archive_migration::{MigrateFault, migrate, migrate_into};
+use archive_migration::{ReadFault, migrate, migrate_into};
 use archive_pages::PagedArchive;
 use archive_streams::{MergeFault, merge_streams};
 use archive_text::Store;
@@ -75,7 +75,7 @@ fn into_store<S: Store + Drop>(
 ) -> io::Result<()> {
     let mut room = Room::new(alloc)?;
     let (note, answer) = match migrate_into(alloc, OLD, &mut store) {
-        Err(MigrateFault::Memory) => ("memory; ", migrate_into(alloc, OLD, &mut store)),
+        Err(ReadFault::Memory) => ("memory; ", migrate_into(alloc, OLD, &mut store)),
         answer => ("", answer),
     };
     let is_right = room.is_text(&store, MIGRATED);
@@ -85,7 +85,7 @@ fn into_store<S: Store + Drop>(
 /// Every call that migrates.
 pub fn migration(rt: &impl Print, alloc: Global) -> io::Result<()> {
     let (note, answer) = match migrate(alloc, OLD) {
-        Err(MigrateFault::Memory) => ("memory; ", migrate(alloc, OLD)),
+        Err(ReadFault::Memory) => ("memory; ", migrate(alloc, OLD)),
         answer => ("", answer),
     };
     let is_right = answer.is_ok_and(|text| text.as_slice() == MIGRATED);

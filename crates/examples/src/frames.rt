@@ -1,0 +1,72 @@
+//! The octets of a stream are read as frames, in whatever pieces they come.
+
+use std::alloc::{AllocError, Global};
+use syslog::{Framing, Ready, Scanner, Severity, view};
+
+/// The severest of the records of a stream (RFC 6587) that comes in these pieces; none where it has
+/// no record.
+///
+/// # Errors
+/// Out of memory.
+pub fn severest(
+    alloc: Global,
+    framing: Framing,
+    pieces: &[&[u8]],
+) -> Result<Option<Severity>, AllocError> {
+    let mut scanner = Scanner::new(alloc, framing)?;
+    let mut found = None;
+    for &piece in pieces {
+        found = severer(found, of_piece(&mut scanner, piece));
+    }
+    Ok(found)
+}
+
+// The severest of the records that a piece completes.
+fn of_piece(scanner: &mut Scanner, piece: &[u8]) -> Option<Severity> {
+    let mut rest = piece;
+    let mut found = None;
+    while !rest.is_empty() {
+        let Ok(used) = scanner.push(rest) else {
+            return found;
+        };
+        if let Some(Ready::Frame(frame)) = scanner.ready() {
+            found = severer(found, of_frame(frame));
+        }
+        if !scanner.release() && used == 0 {
+            return found;
+        }
+        rest = &rest[used..];
+    }
+    found
+}
+
+// The severity of a frame that is a record.
+fn of_frame(frame: &[u8]) -> Option<Severity> {
+    match view(frame) {
+        Ok(record) => Some(record.priority().severity()),
+        Err(_) => None,
+    }
+}
+
+// The severer of two: the lower its code, the severer (RFC 5424, table 2).
+fn severer(left: Option<Severity>, right: Option<Severity>) -> Option<Severity> {
+    match (left, right) {
+        (None, other) | (other, None) => other,
+        (Some(left), Some(right)) if left.code() <= right.code() => Some(left),
+        (Some(_), right) => right,
+    }
+}
+
+#[cfg(test)]
+mod tests {
+    use super::*;
+    use std::test::Fail;
+
+    #[test]
+    fn a_frame_may_be_cut_anywhere(rt: HostRuntime) -> Result<(), Fail> {
+        let pieces = [b"15 <14>1 - h".as_slice(), b" a - - -15 <10>1".as_slice(), b" - h a - - -".as_slice()];
+        let found = severest(rt.alloc(), Framing::Counted, pieces.as_slice())?;
+        assert_eq!(rt; found, Some(Severity::Critical));
+        Ok(())
+    }
+}

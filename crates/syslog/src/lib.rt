@@ -1,0 +1,48 @@
+//! Syslog: records, frames, archives, collectors and senders, behind one door.
+//!
+//! - Octets as a record: [`view`] lends its parts, [`decode`] owns them, and a refusal tells the
+//!   field and the octet ([`Fault`]). [`canon`] is the one canonical form of a record.
+//! - Octets of a stream as frames, in whatever pieces they come: [`Scanner`].
+//! - Records as a set with one text: [`VecArchive`], [`PagedArchive`], [`merge`],
+//!   [`merge_streams`].
+//! - Many connections and datagrams into one set: [`Collector`].
+//! - Records of one origin: [`Sender`].
+//! - Legacy packets (RFC 3164): [`LegacyClock`], [`read_legacy`].
+//! - The program's commands over any devices: [`run`], [`serve`], [`run_collect`].
+//!
+//! The crate `examples` has one example of each.
+#![tactic(auto)]
+
+pub use collect_engine::{
+    CollectWords, ListSource, SERVE_TURNS, ServeEnd, Source, Step, TcpSource, Transport, UdpSource,
+    run_collect, serve,
+};
+pub use commands::{Files, MemoryFile, MemoryFiles, run};
+pub use syslog_archive::{
+    AddFault, Added, ArchiveFault, ENTRY_MAX, EntryFault, EntryView, MergeFault, PagedArchive,
+    ReadFault, Side, Store, VecArchive, entry_order_is_total, merge, merge_streams,
+    merging_is_associative, merging_is_commutative, merging_is_idempotent, merging_is_union,
+    migrate, one_set_has_one_text, one_text_has_one_set, read_entry, same_records_have_one_text,
+};
+pub use syslog_collect::{
+    Advance, CONNECTIONS_MAX, CollectFault, Collector, Event, Outcome, RunEnd, SendFault, Sender,
+    frames_have_one_reading, merged_archives, received_records, same_archives,
+};
+pub use syslog_frame::{
+    COUNT_MAX, EndFault, FRAME_MAX, Framing, MsgLen, POSITION_MAX, PiecesFault, PutFault, Ready,
+    ScanFault, Scanner, StartFault, frames_of_pieces, msg_len, put_frame,
+};
+pub use syslog_grammar::{
+    DecodeFault, ElementView, Fault, Field, ParamView, RecordView, canon, canonical_is_injective,
+    canonical_timestamp, decode, fault_of, is_canon, is_canon_unsorted, octets_are_one_record,
+    octets_have_one_fault, put_canonical, same_value, utf8, view, view_and_form,
+};
+pub use syslog_legacy::{
+    LegacyClock, LegacyFault, LegacyView, has_new_form, legacy_view, packets_have_one_answer,
+    read_legacy,
+};
+pub use syslog_value::{
+    Civil, DeviceFault, Element, Facility, FromRead, Fuse, Input, Instant, Mask, Message, Output,
+    Param, Priority, PushFault, READ_MAX, READER_CALLS, Record, SdName, Severity, StructuredData,
+    TimeFault, ToWrite, Word, WordFault, WriteFault,
+};

@@ -1,0 +1,23 @@
+//! Archives: finite sets of records, each as one text. Two archives of equal sets are equal octets,
+//! and merging is set union.
+//!
+//! A [`Store`] is a set of records: [`VecArchive`] keeps its entries as one vector,
+//! [`PagedArchive`] in pages for millions of records. [`merge_streams`] joins two archives as they
+//! are read, with room for three entries. [`merging_is_union`] and its fellows are the laws.
+#![tactic(auto)]
+
+pub use archive_laws::{
+    archive_or_fault, archives_have_no_fault, entry_order_is_total, larger_limits_keep_archives,
+    larger_limits_keep_faults, merging_is_associative, merging_is_commutative,
+    merging_is_idempotent, merging_is_union, one_set_has_one_text, one_text_has_one_set,
+    records_have_canonical_octets, same_records_have_one_text, sets_that_fit_have_a_text,
+    texts_have_one_fault,
+};
+pub use archive_migration::{migrate, migrate_into};
+pub use archive_pages::PagedArchive;
+pub use archive_streams::{MergeFault, Side, merge_streams};
+pub use archive_text::{
+    AddFault, Added, ArchiveFault, ENTRY_MAX, EntryFault, EntryView, Store, entry_of_octets,
+    put_entry, read_entry,
+};
+pub use archive_vec::{ReadFault, VecArchive, merge};
