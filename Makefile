@@ -3,7 +3,7 @@
 PREFIX = /usr/local
 DESTDIR =
 
-.PHONY: all proved trials check release dist mutants bench soak install clean
+.PHONY: all proved fault-injection check release dist mutants bench soak install clean
 
 # Links build/syslogbox from the object in release/, and says of which sources that is.
 all:
@@ -15,11 +15,11 @@ proved:
 	sh scripts/keep.sh
 	sh scripts/compare.sh || [ $$? -eq 2 ]
 
-# Proves and builds the trials of the libraries, which tests/ and bench/ run.
-trials:
+# Proves and builds the program that makes each allocation of the libraries fail, which tests/ and bench/ run.
+fault-injection:
 	@mkdir -p build
-	cd crates/trials && rt run > ../../build/first-trial
-	@cmp -s crates/trials/out/trials build/trials || cp crates/trials/out/trials build/trials
+	cd crates/fault_injection && rt run > ../../build/first-trial
+	@cmp -s crates/fault_injection/out/fault_injection build/fault_injection || cp crates/fault_injection/out/fault_injection build/fault_injection
 
 # Proves every crate from nothing, runs every test and the real program, and compares release/ with what was built.
 check:

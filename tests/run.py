@@ -1,14 +1,15 @@
 #!/usr/bin/env python3
 """Tries the real program.
 
-usage: tests/run.py PROGRAM TRIALS [PART..]
+usage: tests/run.py PROGRAM INJECTION [PART..]
        tests/run.py soak PROGRAM [--seconds N | --cases N] [--seed N] [--jobs N]
        tests/run.py mutants [--jobs N] [CRATE..]
        tests/run.py senders PROGRAM [--tools FOLDER]
        tests/run.py load PROGRAM [--tools FOLDER] [--records N] [--rounds N]
 
-PROGRAM is syslogbox, TRIALS the program of trials of the libraries. The first form runs it on tables of inputs, with devices
-that fail and with allocations that fail: all parts, or those that are named. The others tell about themselves with --help.
+PROGRAM is syslogbox, INJECTION the program `fault_injection` of the libraries. The first form runs them on tables of inputs,
+with devices that fail and with allocations that fail: all parts, or those that are named. The others tell about themselves with
+--help.
 Each prints what fails, and last `N passed, M failed`; `mutants` prints how many were refused for a goal, for a name alone, let
 through or unreadable. The status is 0 exactly where nothing failed.
 """
@@ -45,10 +46,10 @@ def main(words):
         return 2
     results = Results()
     with tempfile.TemporaryDirectory() as path:
-        program, trials = (Program(word, Folder(path)) for word in words[:2])
+        program, injection = (Program(word, Folder(path)) for word in words[:2])
         for name, part in PARTS.items():
             if name in (words[2:] or PARTS):
-                part(trials if part is libraries else program, results)
+                part(injection if part is libraries else program, results)
     return results.end()
 
 

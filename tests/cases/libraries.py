@@ -26,16 +26,16 @@ WRONG_VALUE = re.compile(r"memory|other|another|refused|syntax")
 FAILED_ALLOCATION = re.compile(r": (memory(, unchanged( at 7 octets)?| for .*)?|ok, memory for its copy)$")
 
 
-def headline(trials, results, seed=5424, rounds=1_000):
+def headline(program, results, seed=5424, rounds=1_000):
     """Random sets of records over random routes: two collectors have archives of equal octets."""
-    status, output, _ = trials.run(["headline", str(seed), str(rounds)])
+    status, output, _ = program.run(["headline", str(seed), str(rounds)])
     right = status == 0 and output.startswith(b"%d rounds are right: " % rounds)
     results.check("collectors of one set have one archive", right, f"{status} {output[-200:]!r}")
 
 
-def turns(trials, results, seed=5424):
+def turns(program, results, seed=5424):
     """Two connections in many turns: the log and the archive are always those of the frames."""
-    status, output, _ = trials.run(["turns", str(seed)])
+    status, output, _ = program.run(["turns", str(seed)])
     expected = "".join(
         f"size {size}, at most three changes: {changes} are right\n"
         f"size {size}, even turns: {EVEN} are right\n"
@@ -56,24 +56,24 @@ def outcome(lines, ample):
     return refused
 
 
-def refusals(trials, results, part, wrong):
+def refusals(program, results, part, wrong):
     """What the trials of a part print with ample memory, how many allocations they make, and what they print where each fails."""
     words = ["grow", part]
-    status, ample, _ = trials.run(words)
+    status, ample, _ = program.run(words)
     ample = ample.decode().splitlines()
     results.check(f"trials of {part} run", status == 0 and not any(wrong.search(line) for line in ample), str(ample))
-    allocations = trials.counts(words).malloc
+    allocations = program.counts(words).malloc
     seen = []
     for n in range(1, allocations + 3):
-        status, output, _ = trials.run(words, environment=trials.failing(malloc=n))
+        status, output, _ = program.run(words, environment=program.failing(malloc=n))
         seen.append((n, status, output.decode().splitlines()))
     return ample, allocations, seen
 
 
-def growths(trials, results):
+def growths(program, results):
     """Each growth is refused in turn: the call answers so and leaves the set, and made again it gives all."""
     for part, calls in GROWTHS.items():
-        ample, allocations, runs = refusals(trials, results, part, WRONG)
+        ample, allocations, runs = refusals(program, results, part, WRONG)
         seen = set()
         for n, status, lines in runs:
             # what the trial itself cannot have ends it
@@ -85,10 +85,10 @@ def growths(trials, results):
         results.check(f"trials of {part}: each call is refused once", seen == calls, str(seen ^ calls))
 
 
-def values(trials, results):
+def values(program, results):
     """Each allocation of values, frames and the grammar fails in turn: `memory`, or what ample memory gives."""
     for part in ["frame", "value", "grammar"]:
-        ample, allocations, runs = refusals(trials, results, part, WRONG_VALUE)
+        ample, allocations, runs = refusals(program, results, part, WRONG_VALUE)
         reported = 0
         for n, status, lines in runs:
             others = [line for line in lines if line not in ample and not FAILED_ALLOCATION.search(line)]
@@ -99,8 +99,8 @@ def values(trials, results):
         results.check(f"trials of {part}: an allocation that fails is reported", reported > 0)
 
 
-def libraries(trials, results):
-    headline(trials, results)
-    turns(trials, results)
-    growths(trials, results)
-    values(trials, results)
+def libraries(program, results):
+    headline(program, results)
+    turns(program, results)
+    growths(program, results)
+    values(program, results)

@@ -27,13 +27,13 @@ use std::alloc::Global;
 use std::process::ExitCode;
 use std::{env, io};
 
-const USAGE: &str = "usage: trials time scan counted|lf SIZE ROUNDS
-       trials time copy SIZE ROUNDS
-       trials time collect run|scan|add plain|elements ROUNDS
-       trials grow frame|value|grammar|archive|streams|migrate|collect
-       trials headline SEED ROUNDS
-       trials turns SEED
-       trials turns every PART PARTS";
+const USAGE: &str = "usage: fault_injection time scan counted|lf SIZE ROUNDS
+       fault_injection time copy SIZE ROUNDS
+       fault_injection time collect run|scan|add plain|elements ROUNDS
+       fault_injection grow frame|value|grammar|archive|streams|migrate|collect
+       fault_injection headline SEED ROUNDS
+       fault_injection turns SEED
+       fault_injection turns every PART PARTS";
 
 /// The word at an index, or an empty word where there is none.
 fn word(words: &[String], index: usize) -> &str {
