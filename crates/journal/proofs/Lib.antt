@@ -1,4 +1,5 @@
 mod Batches
+mod Begun
 mod Commit
 mod Create
 mod Files
