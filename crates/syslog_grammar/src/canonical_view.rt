@@ -1,23 +1,23 @@
 //! The canonical octets of a view.
 
 ghost use Rattle.std.specs.Prelude.{◌≡◌, ℕ, List, IfOk, IsTrue, OnOk, OnErr};
-ghost use Rattle.syslog_grammar.specs.Appending.{Adds, Anything, Puts};
+ghost use Rattle.syslog_fields.specs.Appending.{Adds, Anything, Puts};
 ghost use Rattle.syslog_grammar.specs.Verbatim.{HasOneMessageForm, ShownHeader, VerbatimForm};
 ghost use Rattle.syslog_grammar.specs.Reescaped.{IsUnordered, StructuredDataOf};
-ghost use Rattle.syslog_grammar.specs.ViewParts.{IsViewOf, view_parts};
+ghost use Rattle.syslog_reading.specs.ViewParts.{IsViewOf, view_parts};
 ghost use Rattle.syslog_grammar.specs.ShownRecords.{AddsShown};
-ghost use Rattle.syslog_grammar.specs.Views.{message_parts};
-ghost use Rattle.syslog_grammar.specs.WellFormed.{AddsCanonical};
+ghost use Rattle.syslog_reading.specs.Views.{message_parts};
+ghost use Rattle.syslog_reading.specs.WellFormed.{AddsCanonical};
 
-use crate::appending::put;
 use crate::canonical::{
     HeaderValues, put_header, put_message_part, put_priority_version, put_record, put_time,
 };
-use crate::message::MessageView;
-use crate::record_view::RecordView;
 use crate::reescaped::put_elements;
 use crate::sorted::put_sorted;
 use std::alloc::{AllocError, Global};
+use syslog_fields::appending::put;
+use syslog_reading::MessageView;
+use syslog_reading::RecordView;
 
 /// Whether a message, where there is one, has one tail alone: an empty one may have a space or
 /// none.
@@ -176,7 +176,7 @@ fn put_view(alloc: Global, view: &RecordView<'_>, out: &mut Vec<u8>) -> Result<(
 ///
 /// Where a growth is refused, the vector is unchanged. The allocator is used where elements have to
 /// be sorted and cannot be sorted on the stack.
-pub fn put_canonical(
+pub fn write_canonical_view(
     alloc: Global,
     view: &RecordView<'_>,
     out: &mut Vec<u8>,
