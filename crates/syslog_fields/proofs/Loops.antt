@@ -6,7 +6,7 @@ use Rattle.octet_language.specs.Reading.{Fails, Follows}
 use Rattle.octet_language.proofs.Lists.{heads}
 use Rattle.octet_language.proofs.Chain.{Follows-then}
 use Rattle.octet_language.proofs.Many.{Apart, Many, many_none, many_more, item_fails, behind_item}
-use Rattle.std.proofs.Common.{◌+◌, ◌-◌, ◌++◌, drop}
+use Rattle.std.proofs.Common.{◌-◌, ◌++◌, drop}
 use Rattle.std.proofs.Common.{sym}
 use Rattle.std.proofs.lemmas.List.{drop_at}
 

@@ -24,12 +24,10 @@ ghost use Rattle.syslog_reading.specs.WellFormed.{WellFormed};
 use crate::civil_text::TIME_LEN;
 use syslog_fields::reading::both;
 use syslog_fields::timestamp::Timestamp;
-use syslog_reading::Fault;
-use syslog_reading::MessageView;
-use syslog_reading::RecordView;
 use syslog_reading::repeated::first_repeated;
 use syslog_reading::syntax::{Parsed, parse};
 use syslog_reading::whole::{OutOfRange, micros_of, view_of};
+use syslog_reading::{Fault, MessageView, RecordView};
 
 /// The order that is asked of elements.
 #[derive(Clone, Copy)]

@@ -16,8 +16,7 @@ use crate::reescaped::put_elements;
 use crate::sorted::put_sorted;
 use std::alloc::{AllocError, Global};
 use syslog_fields::appending::put;
-use syslog_reading::MessageView;
-use syslog_reading::RecordView;
+use syslog_reading::{MessageView, RecordView};
 
 /// Whether a message, where there is one, has one tail alone: an empty one may have a space or
 /// none.
@@ -58,10 +57,10 @@ fn put_view_header(view: &RecordView<'_>, out: &mut Vec<u8>) -> Result<(), Alloc
     let fields = HeaderValues {
         priority: view.priority(),
         instant: view.instant(),
-        hostname: view.hostname,
-        app_name: view.app_name,
-        proc_id: view.proc_id,
-        msg_id: view.msg_id,
+        hostname: view.hostname(),
+        app_name: view.app_name(),
+        proc_id: view.proc_id(),
+        msg_id: view.msg_id(),
     };
     put_header(&fields, out)
 }
@@ -75,7 +74,8 @@ fn put_parts(view: &RecordView<'_>, out: &mut Vec<u8>) -> Result<(), AllocError>
 {
     put_view_header(view, out)?;
     put_structured_data(view, out)?;
-    put_message_part(view.message, view.has_mark, out)?;
+    let message = view.message_view();
+    put_message_part(message.octets, message.has_mark, out)?;
     Ok(())
 }
 
@@ -126,7 +126,8 @@ fn put_resorted(view: &RecordView<'_>, out: &mut Vec<u8>) -> Result<bool, AllocE
     if !put_sorted(view.structured_data, view.is_form, out)? {
         return Ok(false);
     }
-    put_message_part(view.message, view.has_mark, out)?;
+    let message = view.message_view();
+    put_message_part(message.octets, message.has_mark, out)?;
     Ok(true)
 }
 

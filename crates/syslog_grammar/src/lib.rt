@@ -30,5 +30,6 @@ pub use record_fields::{RecordFields, write_canonical_fields};
 pub use syslog_fields::text::utf8;
 pub use syslog_reading::whole::{fault_of, view};
 pub use syslog_reading::{
-    DecodeFault, ElementView, Elements, Fault, Field, ParamView, Params, RecordView, decode, same_value,
+    DecodeFault, ElementView, Elements, Fault, Field, ParamView, Params, RecordView, decode,
+    same_value,
 };

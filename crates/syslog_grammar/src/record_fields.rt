@@ -41,7 +41,10 @@ fn put_parts(fields: &RecordFields<'_>, out: &mut Vec<u8>) -> Result<(), AllocEr
 /// Appends the canonical octets of the record of these parts, of which none is copied first.
 ///
 /// Where a growth is refused, the vector is unchanged.
-pub fn write_canonical_fields(fields: &RecordFields<'_>, out: &mut Vec<u8>) -> Result<(), AllocError>
+pub fn write_canonical_fields(
+    fields: &RecordFields<'_>,
+    out: &mut Vec<u8>,
+) -> Result<(), AllocError>
     ensures { Appends (Canonical (field_parts fields.now)) out.old.items out.new.items result }
 {
     let start = out.len();

@@ -14,18 +14,19 @@ use syslog_value::{Instant, Priority};
 /// A well-formed record that lends its parts from the octets. It takes no memory.
 #[derive(Clone, Copy, Debug, PartialEq, Eq)]
 pub struct RecordView<'a> {
-    priority: u8,
-    micros: Option<i64>,
-    pub hostname: Option<&'a [u8]>,
-    pub app_name: Option<&'a [u8]>,
-    pub proc_id: Option<&'a [u8]>,
-    pub msg_id: Option<&'a [u8]>,
+    pub(crate) priority: u8,
+    pub(crate) micros: Option<i64>,
+    pub(crate) hostname: Option<&'a [u8]>,
+    pub(crate) app_name: Option<&'a [u8]>,
+    pub(crate) proc_id: Option<&'a [u8]>,
+    pub(crate) msg_id: Option<&'a [u8]>,
+    /// The octets of the structured data.
     pub structured_data: &'a [u8],
-    pub message: &'a [u8],
+    pub(crate) message: &'a [u8],
     /// What follows the timestamp and its space.
     pub behind_time: &'a [u8],
     /// Whether the message starts with the BOM, which `message` is without.
-    pub has_mark: bool,
+    pub(crate) has_mark: bool,
     /// Whether the structured data is canonical but for the order of its elements.
     pub is_form: bool,
     /// Whether the ids of the elements ascend.
@@ -120,7 +121,7 @@ impl<'a> RecordView<'a> {
     }
 
     /// The message with whether it starts with the BOM.
-    pub(crate) fn message_view(&self) -> MessageView<'a>
+    pub fn message_view(&self) -> MessageView<'a>
         ensures { message_parts result ≡ (view_parts self.now).message }
     {
         MessageView {

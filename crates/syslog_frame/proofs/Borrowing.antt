@@ -60,10 +60,10 @@ none_counted_short most count used octets small digits less f rest carries e =
     let is = behind_count count used octets f rest small digits carries e in
     absurd (omega (arith, is.0, less, ap length is.1, length-append f rest))
 
-pub counted_lent : (count used : ℕ) (octets : List ℕ) → 0 < count → count ≤ COUNT_MAX → used ≤ length octets
+pub counted_borrowed : (count used : ℕ) (octets : List ℕ) → 0 < count → count ≤ COUNT_MAX → used ≤ length octets
     → take used octets ≡ decimal count ++ 32 ∷ [] → count ≤ length (drop used octets)
     → Frame Counted (take count (drop used octets)) (take (used + count) octets)
-counted_lent count used octets some small within digits le =
+counted_borrowed count used octets some small within digits le =
     let f = take count (drop used octets) in
     let n : length f ≡ count = omega (arith, length-take count (drop used octets), le) in (
       (omega (arith, n, some), omega (arith, n, small)),
@@ -79,9 +79,9 @@ none_line most octets none = none_lent most Lf octets
     (none_in_line octets (subst IsLine (take_all (length octets) octets (omega arith))
     (nowhere octets (length octets) (omega arith) none)))
 
-pub line_lent : (octets : List ℕ) (at : ℕ) → at < length octets → Nowhere (Passes (is_byte 10) octets) 0 at
+pub line_borrowed : (octets : List ℕ) (at : ℕ) → at < length octets → Nowhere (Passes (is_byte 10) octets) 0 at
     → get_or octets at 0 ≡ 10 → Frame Lf (take at octets) (take (at + 1) octets)
-line_lent octets at less none is = (
+line_borrowed octets at less none is = (
   nowhere octets at (omega arith) none,
   one_taken [] octets at less ∙ ap (λ (k : ℕ). take at octets ++ k ∷ []) is,
 )
@@ -89,7 +89,7 @@ line_lent octets at less none is = (
 pub none_line_long : (most at : ℕ) (octets : List ℕ) → at < length octets
     → Nowhere (Passes (is_byte 10) octets) 0 at → get_or octets at 0 ≡ 10 → most < at → NoneLent most Lf octets
 none_line_long most at octets less none is more f rest carries e =
-    let lent = line_lent octets at less none is in
-    let same = one_frame Lf f (take at octets) rest (drop (at + 1) octets) carries lent.0
-    (sym e ∙ sym (take-append-drop (at + 1) octets) ∙ ap (λ (u : List ℕ). u ++ drop (at + 1) octets) lent.1) in
+    let borrowed = line_borrowed octets at less none is in
+    let same = one_frame Lf f (take at octets) rest (drop (at + 1) octets) carries borrowed.0
+    (sym e ∙ sym (take-append-drop (at + 1) octets) ∙ ap (λ (u : List ℕ). u ++ drop (at + 1) octets) borrowed.1) in
     omega (arith, ap length same, length-take at octets, less, more)

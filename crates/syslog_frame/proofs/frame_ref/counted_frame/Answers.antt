@@ -1,6 +1,6 @@
 use Rattle.std.proofs.Common.{[], refl, inl}
-use Rattle.syslog_frame.proofs.Lending.{none_broken, none_unfinished}
-use Rattle.syslog_frame.proofs.lent.counted_frame.Goals as goal
+use Rattle.syslog_frame.proofs.Borrowing.{none_broken, none_unfinished}
+use Rattle.syslog_frame.proofs.frame_ref.counted_frame.Goals as goal
 
 pub counted_record-requires-in-Read-clause-digits : goal.counted_record-requires-in-Read-clause-digits
 counted_record-requires-in-Read-clause-digits c = c.in-Read.ensures.counts [] (inl (refl, refl))

@@ -1,7 +1,7 @@
 //! A frame that lies whole in octets, lent from them.
 
 ghost use Rattle.std.specs.Prelude.{◌≡◌, ◌<◌, ◌≤◌, ◌++◌, ◌∷◌, [], IfSome, decimal, length, take};
-ghost use Rattle.syslog_frame.specs.Lent.{IsLent};
+ghost use Rattle.syslog_frame.specs.FrameRefs.{IsFrameRef};
 ghost use Rattle.syslog_frame.specs.declared.framing.Framing.TheVariants.{Counted, Lf};
 
 use crate::count::{CountStep, count_on};
@@ -14,7 +14,7 @@ const COUNT_LEN: usize = 4;
 
 /// A frame that lies whole in octets of a stream.
 #[derive(Clone, Copy, Debug, PartialEq, Eq)]
-pub struct LentFrame<'a> {
+pub struct FrameRef<'a> {
     /// The frame.
     pub frame: &'a [u8],
     /// So many octets it takes on the stream.
@@ -23,12 +23,12 @@ pub struct LentFrame<'a> {
 
 /// The record of so many octets behind its count, which takes the first `used` octets.
 #[inline(always)]
-fn counted_record(count: u64, used: usize, octets: &[u8]) -> Option<LentFrame<'_>>
+fn counted_record(count: u64, used: usize, octets: &[u8]) -> Option<FrameRef<'_>>
     requires some { 0 < count }
     requires small { count ≤ COUNT_MAX }
     requires within { used ≤ length octets.now }
     requires digits { take used octets.now ≡ decimal count ++ 32 ∷ [] }
-    ensures { IsLent FRAME_MAX Counted octets.now result }
+    ensures { IsFrameRef FRAME_MAX Counted octets.now result }
 {
     let (_, behind) = octets.split_at(used);
     if count > FRAME_MAX as u64 {
@@ -39,7 +39,7 @@ fn counted_record(count: u64, used: usize, octets: &[u8]) -> Option<LentFrame<'_
         return None;
     }
     let (frame, _) = behind.split_at(len);
-    Some(LentFrame {
+    Some(FrameRef {
         frame,
         used: used + len,
     })
@@ -70,8 +70,8 @@ fn three_digits(octets: &[u8]) -> Option<u64>
 
 /// The counted frame that comes first.
 #[inline(always)]
-fn counted_frame(octets: &[u8]) -> Option<LentFrame<'_>>
-    ensures { IsLent FRAME_MAX Counted octets.now result }
+fn counted_frame(octets: &[u8]) -> Option<FrameRef<'_>>
+    ensures { IsFrameRef FRAME_MAX Counted octets.now result }
 {
     if let Some(count) = three_digits(octets) {
         return counted_record(count, COUNT_LEN, octets);
@@ -85,8 +85,8 @@ fn counted_frame(octets: &[u8]) -> Option<LentFrame<'_>>
 
 /// The line that comes first.
 #[inline(always)]
-fn line(octets: &[u8]) -> Option<LentFrame<'_>>
-    ensures { IsLent FRAME_MAX Lf octets.now result }
+fn line(octets: &[u8]) -> Option<FrameRef<'_>>
+    ensures { IsFrameRef FRAME_MAX Lf octets.now result }
 {
     let Some(at) = memchr(b'\n', octets) else {
         return None;
@@ -95,7 +95,7 @@ fn line(octets: &[u8]) -> Option<LentFrame<'_>>
         return None;
     }
     let (frame, _) = octets.split_at(at);
-    Some(LentFrame {
+    Some(FrameRef {
         frame,
         used: at + 1,
     })
@@ -103,8 +103,8 @@ fn line(octets: &[u8]) -> Option<LentFrame<'_>>
 
 /// The frame that comes first, where all of it is there and it is no longer than a frame may be.
 #[inline(always)]
-pub fn lent_frame(framing: Framing, octets: &[u8]) -> Option<LentFrame<'_>>
-    ensures { IsLent FRAME_MAX framing octets.now result }
+pub fn borrowed_frame(framing: Framing, octets: &[u8]) -> Option<FrameRef<'_>>
+    ensures { IsFrameRef FRAME_MAX framing octets.now result }
 {
     match framing {
         Framing::Counted => counted_frame(octets),

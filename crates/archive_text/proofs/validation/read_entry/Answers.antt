@@ -2,7 +2,7 @@ use Rattle.std.proofs.Common.{refl, subst, drop}
 use Rattle.archive_text.specs.Faults.{IsEntryFault}
 use Rattle.archive_text.specs.declared.fault.EntryFault.TheVariants.{Bad}
 use Rattle.archive_text.proofs.Reading.{behind_length, counted}
-use Rattle.archive_text.proofs.judge.read_entry.Goals as goal
+use Rattle.archive_text.proofs.validation.read_entry.Goals as goal
 
 pub returns-then-count-most : goal.returns-then-count-most
 returns-then-count-most c =

@@ -1,7 +1,7 @@
 use Rattle.std.proofs.Common.{◌≤◌, length, drop, ap, arith}
 use Rattle.std.proofs.lemmas.List.{length-drop, length-take}
-use Rattle.syslog_frame.proofs.Lending.{counted_lent, none_counted_long, none_counted_short}
-use Rattle.syslog_frame.proofs.lent.counted_record.Goals as goal
+use Rattle.syslog_frame.proofs.Borrowing.{counted_borrowed, none_counted_long, none_counted_short}
+use Rattle.syslog_frame.proofs.frame_ref.counted_record.Goals as goal
 
 pub returns-then-count : goal.returns-then-count
 returns-then-count c =
@@ -16,10 +16,10 @@ pub returns : goal.returns
 returns c =
     let le : c.args.count ≤ length (drop c.args.used c.args.octets.now) =
     omega (arith, c.if-len-behind.false, ap length c.split_at.ensures.back) in
-    let lent = counted_lent c.args.count c.args.used c.args.octets.now c.requires.some c.requires.small
+    let borrowed = counted_borrowed c.args.count c.args.used c.args.octets.now c.requires.some c.requires.small
     c.requires.within c.requires.digits le in
     rw (c.split_at-2.ensures.front, c.split_at.ensures.back) (
-      lent,
+      borrowed,
       omega (arith, le, length-drop c.args.used c.args.octets.now, c.requires.within, c.requires.some),
       omega (arith, c.if-count.false, length-take c.args.count (drop c.args.used c.args.octets.now)),
     )

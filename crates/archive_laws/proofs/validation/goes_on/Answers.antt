@@ -2,7 +2,7 @@ use Rattle.std.proofs.Common.{◌≢◌, Less, subst}
 use Rattle.archive_text.specs.EntryViews.{entry_of}
 use Rattle.archive_laws.specs.Judging.{IsLast}
 use Rattle.archive_laws.proofs.Judged.{less_goes_on, other_does_not}
-use Rattle.archive_laws.proofs.judge.goes_on.Goals as goal
+use Rattle.archive_laws.proofs.validation.goes_on.Goals as goal
 
 pub returns-in-Less-clause-above : goal.returns-in-Less-clause-above
 returns-in-Less-clause-above c = λ t es last ascending.

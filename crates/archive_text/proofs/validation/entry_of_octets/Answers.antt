@@ -1,8 +1,8 @@
 use Rattle.std.proofs.Common.{◌≡◌, ◌∙◌, false, refl, subst, sym, true}
-use Rattle.syslog_grammar.specs.Canonical.{Canonical}
-use Rattle.syslog_grammar.specs.ViewParts.{view_parts}
+use Rattle.syslog_fields.specs.Canonical.{Canonical}
+use Rattle.syslog_reading.specs.ViewParts.{view_parts}
 use Rattle.archive_text.proofs.Reading.{canonical_entry}
-use Rattle.archive_text.proofs.judge.entry_of_octets.Goals as goal
+use Rattle.archive_text.proofs.validation.entry_of_octets.Goals as goal
 
 pub returns-clause-entry : goal.returns-clause-entry
 returns-clause-entry c = (
