@@ -9,7 +9,6 @@ use Rattle.octet_language.proofs.Chain.{Fails-first, Fails-later, Follows-then}
 use Rattle.octet_language.proofs.Many.{Many, many_none, item_fails, behind_item}
 use Rattle.octet_language.proofs.Whole.{Misses-field, Misses-behind, Misses-many}
 use Rattle.syslog_value.specs.Parts.{ElementParts, AnyOctets}
-use Rattle.std.proofs.Common.{◌-◌}
 use Rattle.std.proofs.Common.{take, drop}
 use Rattle.std.specs.List.{AllByRecursion}
 use Rattle.std.proofs.lemmas.List.{take_at}
