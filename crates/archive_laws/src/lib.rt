@@ -3,14 +3,14 @@
 #![tactic(auto)]
 
 mod faults;
-mod judge;
+mod validation;
 mod merging;
 mod order;
 mod sets;
 mod stores;
 
 pub use faults::{archives_have_no_fault, larger_limits_keep_faults, texts_have_one_fault};
-pub use judge::archive_or_fault;
+pub use validation::archive_or_fault;
 pub use merging::{
     merging_is_associative, merging_is_commutative, merging_is_idempotent, merging_is_union,
 };

@@ -7,7 +7,7 @@
 mod entry;
 mod fault;
 mod join;
-mod judging;
+mod validation;
 mod merge;
 mod pieces;
 mod reading;

@@ -11,7 +11,7 @@ ghost use Rattle.archive_streams.specs.Faults.{IsSideFault, SideFailures};
 
 use crate::entry::{COUNT_TEXT, EntryText, TEXT_MAX};
 use crate::fault::SideFault;
-use crate::judging::instant_of;
+use crate::validation::instant_of;
 use crate::pieces::Pieces;
 use archive_text::{ArchiveFault, ENTRY_MAX};
 use octet_devices::Input;

@@ -7,14 +7,14 @@
 
 mod entry;
 mod fault;
-mod judge;
+mod validation;
 mod limits;
 mod store;
 mod writing;
 
 pub use entry::{EntryView, compare};
 pub use fault::{ArchiveFault, EntryFault};
-pub use judge::{entry_of_octets, read_entry};
+pub use validation::{entry_of_octets, read_entry};
 pub use limits::ENTRY_MAX;
 pub use store::{AddFault, Added, Store};
 pub use writing::put_entry;

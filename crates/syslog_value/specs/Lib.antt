@@ -1,9 +1,7 @@
 pub mod Calendar
-pub mod Device
 pub mod Equality
 pub mod EqualityLaws
 pub mod Facilities
-pub mod Fuses
 pub mod Instants
 pub mod Masks
 pub mod Messages

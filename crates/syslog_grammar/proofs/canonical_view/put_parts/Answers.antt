@@ -1,5 +1,5 @@
-use Rattle.syslog_grammar.specs.ViewParts.{view_parts}
-use Rattle.syslog_grammar.proofs.ReadData.{kept_by_id}
+use Rattle.syslog_reading.specs.ViewParts.{view_parts}
+use Rattle.syslog_grammar.proofs.DataForms.{kept_by_id}
 use Rattle.syslog_grammar.proofs.Rewritten.{record_written}
 use Rattle.syslog_grammar.proofs.canonical_view.put_parts.Goals as goal
 

@@ -1,5 +1,5 @@
-use Rattle.syslog_grammar.specs.ViewParts.{view_parts}
-use Rattle.syslog_grammar.proofs.ReadData.{kept_form}
+use Rattle.syslog_reading.specs.ViewParts.{view_parts}
+use Rattle.syslog_grammar.proofs.DataForms.{kept_form}
 use Rattle.syslog_grammar.proofs.Rewritten.{record_sorted}
 use Rattle.syslog_grammar.proofs.canonical_view.put_resorted.Goals as goal
 
