@@ -234,12 +234,20 @@ gave_push a b c room gs g more has_room all next =
           omega (arith, so_far, len, next.counted (omega (arith, so_far, few, more)));
       failures = λ few.
           let so_far = all.failures few in
-          omega (arith, so_far, often_push says_failed gs g,
-          next.failures (omega (arith, so_far, few, more, often_few says_failed failed_once gs)));
+          omega (
+            arith,
+            so_far,
+            often_push says_failed gs g,
+            next.failures (omega (arith, so_far, few, more, often_few says_failed failed_once gs)),
+          );
       finishes = λ few.
           let so_far = all.finishes few in
-          omega (arith, so_far, often_push says_finished gs g,
-          next.finishes (omega (arith, so_far, few, more, often_few says_finished finished_once gs)));
+          omega (
+            arith,
+            so_far,
+            often_push says_finished gs g,
+            next.finishes (omega (arith, so_far, few, more, often_few says_finished finished_once gs)),
+          );
       come = λ few.
           come_push a.coming b.coming c.coming gs g (all.come few)
           (next.comes (omega (arith, all.counted few, few, more)) has_room);

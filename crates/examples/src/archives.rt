@@ -1,7 +1,7 @@
 //! Two archives are merged.
 
 use std::alloc::Global;
-use syslog::{MergeFault, ToWrite, FromRead, merge_streams};
+use syslog::{FromRead, MergeFault, ToWrite, merge_streams};
 
 /// The text of the union of two archives.
 ///

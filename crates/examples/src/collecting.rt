@@ -8,10 +8,7 @@ use syslog::{Collector, Event, RunEnd, Store, ToWrite, VecArchive};
 ///
 /// # Errors
 /// Out of memory.
-pub fn archive_of_datagrams(
-    alloc: Global,
-    datagrams: &[&[u8]],
-) -> Result<Vec<u8>, AllocError> {
+pub fn archive_of_datagrams(alloc: Global, datagrams: &[&[u8]]) -> Result<Vec<u8>, AllocError> {
     let Ok(mut collector) = Collector::new(alloc, VecArchive::new(alloc), None) else {
         return Err(AllocError);
     };

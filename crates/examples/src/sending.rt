@@ -18,7 +18,16 @@ pub fn notice<W: Output>(
 ) -> Result<bool, SendFault> {
     let priority = Priority::new(Facility::User, Severity::Notice);
     let data = StructuredData::empty(alloc);
-    sender.send(alloc, priority, None, None, &data, message, Framing::Lf, output)
+    sender.send(
+        alloc,
+        priority,
+        None,
+        None,
+        &data,
+        message,
+        Framing::Lf,
+        output,
+    )
 }
 
 #[cfg(test)]
@@ -35,7 +44,10 @@ mod tests {
         let mut output = ToWrite::new(Vec::new(alloc));
         assert!(rt; notice(alloc, &sender, &message, &mut output)?);
         let line = output.into_inner();
-        assert_eq!(rt; line.as_slice(), b"<13>1 - - - - - - \xEF\xBB\xBFdone\n".as_slice());
+        assert_eq!(rt;
+            line.as_slice(),
+            b"<13>1 - - - - - - \xEF\xBB\xBFdone\n".as_slice()
+        );
         Ok(())
     }
 }

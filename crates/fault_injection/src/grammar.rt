@@ -65,7 +65,9 @@ fn put_of(rt: &impl Print, alloc: Global) -> io::Result<()> {
         Err(AllocError) if out.as_slice() == BEFORE => {
             println!(rt; "write_canonical_octets: memory, unchanged at {octets} octets")
         }
-        Err(AllocError) => println!(rt; "write_canonical_octets: memory, changed to {octets} octets"),
+        Err(AllocError) => println!(rt;
+            "write_canonical_octets: memory, changed to {octets} octets"
+        ),
     }
 }
 

@@ -3,7 +3,8 @@
 use std::alloc::Global;
 use std::test::Fail;
 use syslog_grammar::{
-    DecodeFault, Fault, canon, decode, fault_of, is_canon, is_canon_unsorted, view, view_and_form, write_canonical_octets, write_canonical_view,
+    DecodeFault, Fault, canon, decode, fault_of, is_canon, is_canon_unsorted, view, view_and_form,
+    write_canonical_octets, write_canonical_view,
 };
 
 /// The canonical octets by way of the record, which are those of the view, with what stood before;

@@ -128,7 +128,7 @@ loop-turn-preserved g c = record {
         es ++ made.1,
         so_far.2 ++ made.2,
         gave_push _ _ _ (length c.serve_next.new.buf) so_far.0 made.0 (omega (arith, so_far.7, c.loop-turn-test.true)) room
-          so_far.3 made.3,
+            so_far.3 made.3,
         subst (λ (fs : List AcceptedEvent). Stands c.serve_next.new.collector.clock
             c.serve_next.new.collector.connections.items (g.S.Store.entries c.serve_next.new.collector.store) first fs)
             (append_assoc before es made.1) made.4,
