@@ -1,15 +1,16 @@
 #!/bin/sh
 # Prints the time of `view` over three usual records, those of memchr, `decode`, `to_record`, `canon` and
-# `put_canonical` as ratios to it, and the times of records with 13,000 ids in ascending, descending and scattered
-# order beside a record of as many octets with one id. Elapsed times, each the least of seven runs. `to_record` of the
-# descending ids is to take at most 5 times their `view`, and that at most 20 times the view of one id.
+# `write_canonical_view` as ratios to it, and the times of records with 13,000 ids in ascending, descending and
+# scattered order beside a record of as many octets with one id. Elapsed times, each the least of seven runs.
+# `to_record` of the descending ids is to take at most 5 times their `view`, and that at most 20 times the view of one
+# id.
 # The program is proved and built in a copy of the crates.
 set -eu
 top=$(cd "$(dirname "$0")/../.." && pwd)
 copy=$(mktemp -d)
 trap 'rm -rf "$copy"' EXIT
 mkdir "$copy/crates"
-for crate in octet_language syslog_value syslog_grammar; do
+for crate in octet_language octet_devices syslog_value syslog_fields syslog_reading syslog_grammar; do
     cp -r "$top/crates/$crate" "$copy/crates"
     grep "^$crate:" "$top/crates.txt" >> "$copy/crates.txt"
 done

@@ -2,8 +2,8 @@
 use Rattle.std.proofs.Common.{ℕ, List, [], ◌∷◌, ◌++◌, refl}
 use Rattle.std.specs.Prelude.{ℤ, Option, Some, None, IfSome}
 use Rattle.syslog_value.specs.Parts.{IsInstant, IsRecord, Parts}
-use Rattle.syslog_grammar.specs.Canonical.{Canonical, HeaderForm, SpacedWord, TimeForm, civil_text, message_form}
-use Rattle.syslog_grammar.specs.Canonical.{priority_version_form, structured_data_form, word_form}
+use Rattle.syslog_fields.specs.Canonical.{Canonical, HeaderForm, SpacedWord, TimeForm, civil_text, message_form}
+use Rattle.syslog_fields.specs.Canonical.{priority_version_form, structured_data_form, word_form}
 use Rattle.archive_laws.proofs.Civils.{civil_of}
 
 time_text : (t : Option ℤ) → IfSome t IsInstant → (b : List ℕ) × TimeForm t b

@@ -3,7 +3,7 @@ use Rattle.std.proofs.Common.{◌≡◌, ℕ, ◌≤◌, inl, inr, refl, ap, Lis
 use Rattle.std.specs.Prelude.{ℤ, ◌⊎◌, ◌↔◌}
 use Rattle.std.specs.List.{AllByRecursion}
 use Rattle.syslog_value.specs.Parts.{IsRecord, Parts}
-use Rattle.syslog_grammar.specs.Canonical.{Canonical}
+use Rattle.syslog_fields.specs.Canonical.{Canonical}
 use Rattle.archive_text.specs.Entries.{Entry, Has, IsBelow, IsEntry, IsEntryOf}
 use Rattle.archive_text.specs.Sets.{ArchiveText, AreEntriesOf}
 use Rattle.archive_text.specs.Stores.{AddsEntry}

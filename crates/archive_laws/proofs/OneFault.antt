@@ -10,9 +10,9 @@ use Rattle.syslog_frame.specs.MsgLen.{MsgLen}
 use Rattle.syslog_frame.specs.declared.framing.Framing.TheVariants.{Counted}
 use Rattle.syslog_frame.specs.declared.limits.TheConstants.{COUNT_MAX}
 use Rattle.syslog_frame.proofs.FrameLaws.{one_frame, same_count}
-use Rattle.syslog_grammar.specs.Faults.{FaultOf}
-use Rattle.syslog_grammar.specs.WellFormed.{WellFormed}
-use Rattle.syslog_grammar.specs.declared.fault.Fault.{Fault}
+use Rattle.syslog_reading.specs.Faults.{FaultOf}
+use Rattle.syslog_reading.specs.WellFormed.{WellFormed}
+use Rattle.syslog_reading.specs.declared.fault.Fault.{Fault}
 use Rattle.syslog_grammar.proofs.CanonicalParses.{canonical_well_formed}
 use Rattle.archive_text.specs.Entries.{Entry, IsEntry}
 use Rattle.archive_text.specs.Faults.{BeginsWithOctets, IsArchiveFault, IsBadFrame, IsFaultBehind, IsTooLong}

@@ -12,9 +12,10 @@ use Rattle.syslog_value.specs.Parts.{ElementParts, IsById, IsInstant, IsMessage,
 use Rattle.syslog_value.specs.Parts.{Utf8Text, Parts}
 use Rattle.syslog_value.specs.declared.civil.Civil.{Civil}
 use Rattle.syslog_value.proofs.CivilTimes.{civil-injective}
-use Rattle.syslog_grammar.specs.Canonical.{Canonical, HeaderForm, SpacedWord, TimeForm, civil_text, message_form}
-use Rattle.syslog_grammar.specs.Canonical.{priority_version_form, structured_data_form, word_form}
-use Rattle.syslog_grammar.proofs.CanonicalParses.{canonical_injective, canonical_once, once}
+use Rattle.syslog_fields.specs.Canonical.{Canonical, HeaderForm, SpacedWord, TimeForm, civil_text, message_form}
+use Rattle.syslog_fields.specs.Canonical.{priority_version_form, structured_data_form, word_form}
+use Rattle.syslog_grammar.proofs.CanonicalParses.{canonical_injective, canonical_once}
+use Rattle.syslog_reading.proofs.Props.{once}
 use Rattle.archive_text.specs.Entries.{Entry, InstantBelow, IsAscending, IsBelow, IsEntry, IsEntryOf}
 use Rattle.archive_text.specs.Text.{IsArchive}
 use Rattle.archive_text.proofs.Orders.{instant_irreflexive}

@@ -3,14 +3,13 @@
 #![tactic(auto)]
 
 mod faults;
-mod judge;
 mod merging;
 mod order;
 mod sets;
 mod stores;
+mod validation;
 
 pub use faults::{archives_have_no_fault, larger_limits_keep_faults, texts_have_one_fault};
-pub use judge::archive_or_fault;
 pub use merging::{
     merging_is_associative, merging_is_commutative, merging_is_idempotent, merging_is_union,
 };
@@ -20,6 +19,7 @@ pub use sets::{
     records_have_canonical_octets, sets_that_fit_have_a_text,
 };
 pub use stores::same_records_have_one_text;
+pub use validation::archive_or_fault;
 
 #[cfg(test)]
 mod tests;

@@ -4,7 +4,7 @@ ghost use Rattle.std.specs.Prelude.{◌≡◌, ◌≤◌, ℕ, ℤ, List, length
 ghost use Rattle.std.specs.List.{AllByRecursion};
 ghost use Rattle.syslog_frame.specs.declared.limits.TheConstants.{COUNT_MAX};
 ghost use Rattle.syslog_value.specs.Parts.{IsRecord, Parts};
-ghost use Rattle.syslog_grammar.specs.Canonical.{Canonical};
+ghost use Rattle.syslog_fields.specs.Canonical.{Canonical};
 ghost use Rattle.archive_text.specs.Sets.{ArchiveText, AreSame};
 
 /// One set has one text at most.

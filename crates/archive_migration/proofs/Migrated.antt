@@ -5,9 +5,9 @@ use Rattle.std.specs.List.{AllByRecursion}
 use Rattle.std.proofs.lemmas.List.Sorted.{IsPermutation-refl}
 use Rattle.syslog_frame.specs.declared.limits.TheConstants.{COUNT_MAX}
 use Rattle.syslog_value.specs.Parts.{IsElement, IsRecord, Parts}
-use Rattle.syslog_grammar.specs.Canonical.{Canonical}
+use Rattle.syslog_fields.specs.Canonical.{Canonical}
 use Rattle.syslog_grammar.specs.Unsorted.{IsUnsortedRecord}
-use Rattle.syslog_grammar.proofs.ById.{all_permuted, one_order}
+use Rattle.syslog_reading.proofs.ById.{all_permuted, one_order}
 use Rattle.syslog_grammar.proofs.CanonicalParses.{canonical_once}
 use Rattle.archive_text.specs.Entries.{Entry, Has, IsAscending, IsEntry, IsEntryOf}
 use Rattle.archive_text.specs.Sets.{ArchiveText, AreEntriesOf, AreSame, IsAmong}

@@ -7,10 +7,10 @@ use Rattle.std.proofs.lemmas.List.{length-append}
 use Rattle.std.proofs.lemmas.List.Concat.{length-flat_map}
 use Rattle.std.proofs.lemmas.List.Sorted.{length_permutation, sum_by-IsPermutation}
 use Rattle.syslog_value.specs.Parts.{ElementParts, Parts}
-use Rattle.syslog_grammar.specs.Canonical.{Canonical, element_form, message_form, structured_data_form}
-use Rattle.syslog_grammar.specs.ViewParts.{IsViewOf, ViewParts}
-use Rattle.syslog_grammar.specs.WellFormed.{WellFormed}
-use Rattle.syslog_grammar.proofs.Valid.{well_formed_valid}
+use Rattle.syslog_fields.specs.Canonical.{Canonical, element_form, message_form, structured_data_form}
+use Rattle.syslog_reading.specs.ViewParts.{IsViewOf, ViewParts}
+use Rattle.syslog_reading.specs.WellFormed.{WellFormed}
+use Rattle.syslog_reading.proofs.Valid.{well_formed_valid}
 use Rattle.archive_text.specs.Entries.{Entry, IsEntryOf}
 use Rattle.archive_migration.specs.Migration.{IsNewForm}
 use Rattle.archive_migration.specs.OldEntries.{IsOldEntry}

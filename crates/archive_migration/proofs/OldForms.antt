@@ -3,13 +3,13 @@ use Rattle.std.proofs.Common.{◌≡◌, ℕ, ◌∙◌, refl, sym, subst, List}
 use Rattle.std.specs.Prelude.{ℤ, Option}
 use Rattle.std.specs.List.Sorted.{IsPermutation}
 use Rattle.syslog_value.specs.Parts.{ElementParts, IsRecord, MessageParts, Parts}
-use Rattle.syslog_grammar.specs.Canonical.{Canonical}
+use Rattle.syslog_fields.specs.Canonical.{Canonical}
 use Rattle.syslog_grammar.specs.Unsorted.{IsUnsortedRecord}
-use Rattle.syslog_grammar.specs.ViewParts.{IsViewOf, ViewParts}
-use Rattle.syslog_grammar.specs.WellFormed.{WellFormed}
-use Rattle.syslog_grammar.proofs.ById.{distinct_by_id, sorted}
+use Rattle.syslog_reading.specs.ViewParts.{IsViewOf, ViewParts}
+use Rattle.syslog_reading.specs.WellFormed.{WellFormed}
+use Rattle.syslog_reading.proofs.ById.{distinct_by_id, sorted}
 use Rattle.syslog_grammar.proofs.CanonicalParses.{canonical_spelled, record_parts, timed}
-use Rattle.syslog_grammar.proofs.Laws.{same_parts}
+use Rattle.syslog_reading.proofs.Laws.{same_parts}
 use Rattle.archive_text.specs.Entries.{Entry, IsEntryOf}
 use Rattle.archive_text.proofs.Orders.{same_entry}
 use Rattle.archive_migration.specs.Migration.{IsNewForm}

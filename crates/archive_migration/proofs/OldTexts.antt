@@ -8,7 +8,7 @@ use Rattle.syslog_frame.specs.declared.framing.Framing.TheVariants.{Counted}
 use Rattle.syslog_frame.specs.declared.limits.TheConstants.{COUNT_MAX}
 use Rattle.syslog_frame.proofs.FrameLaws.{one_frame}
 use Rattle.syslog_value.specs.Parts.{Parts}
-use Rattle.syslog_grammar.specs.Canonical.{Canonical, HeaderForm}
+use Rattle.syslog_fields.specs.Canonical.{Canonical, HeaderForm}
 use Rattle.archive_text.specs.Entries.{Entry, IsAscending}
 use Rattle.archive_text.specs.Text.{entry_text, text_of}
 use Rattle.archive_text.proofs.Ascending.{ascending_right}

@@ -5,9 +5,9 @@ use Rattle.std.specs.Prelude.{ℤ, OnOk, Option, Some, None, Result, Ok, Err}
 use Rattle.std.specs.Result.{is_err}
 use Rattle.std.proofs.lemmas.List.{append-nil, length-append}
 use Rattle.syslog_value.specs.Parts.{Parts}
-use Rattle.syslog_grammar.specs.ViewParts.{IsViewOf, ViewParts}
-use Rattle.syslog_grammar.specs.WellFormed.{WellFormed}
-use Rattle.syslog_grammar.proofs.Laws.{one_meaning}
+use Rattle.syslog_reading.specs.ViewParts.{IsViewOf, ViewParts}
+use Rattle.syslog_reading.specs.WellFormed.{WellFormed}
+use Rattle.syslog_reading.proofs.Laws.{one_meaning}
 use Rattle.archive_text.specs.Entries.{Entry, IsAscending, IsEntryOf}
 use Rattle.archive_text.specs.EntryViews.{entry_of}
 use Rattle.archive_text.specs.Positions.{later, position_of}

@@ -1,6 +1,6 @@
 -- What the reading of an old archive answers.
 use Rattle.std.specs.Prelude.{◌≡◌, ℕ, List, [], ◌∷◌, ◌++◌, length, Option, Some, None, ⊤}
-use Rattle.syslog_grammar.specs.ViewParts.{IsViewOf, view_parts}
+use Rattle.syslog_reading.specs.ViewParts.{IsViewOf, view_parts}
 use Rattle.archive_text.specs.Entries.{Entry, IsAscending, IsBelow}
 use Rattle.archive_text.specs.EntryViews.{entry_of}
 use Rattle.archive_text.specs.Text.{text_of}

@@ -3,7 +3,7 @@
 ghost use Rattle.std.specs.Prelude.{◌≡◌, ◌↔◌, ◌++◌, ◌≤◌, [], List, ℕ, ℤ, length};
 ghost use Rattle.syslog_frame.specs.declared.limits.TheConstants.{COUNT_MAX};
 ghost use Rattle.syslog_value.specs.Parts.{IsRecord, Parts};
-ghost use Rattle.syslog_grammar.specs.Canonical.{Canonical};
+ghost use Rattle.syslog_fields.specs.Canonical.{Canonical};
 ghost use Rattle.syslog_grammar.specs.Unsorted.{IsUnsortedRecord};
 ghost use Rattle.archive_text.specs.Entries.{Entry, IsAscending};
 ghost use Rattle.archive_text.specs.Sets.{ArchiveText, AreEntriesOf, AreSame};

@@ -16,7 +16,7 @@ use crate::writing::write_pages;
 use archive_text::{AddFault, Added, ENTRY_MAX, EntryView, Store};
 use octet_devices::{Output, WriteFault};
 use std::alloc::{AllocError, Global};
-use syslog_grammar::{RecordView, canon, put_canonical};
+use syslog_grammar::{RecordView, canon, write_canonical_view};
 use syslog_value::Record;
 
 // more records than any memory holds
@@ -123,7 +123,7 @@ impl Store for PagedArchive {
 
     fn add_view(&mut self, alloc: Global, view: &RecordView<'_>) -> Result<Added, AddFault> {
         self.scratch.clear();
-        if put_canonical(alloc, view, &mut self.scratch).is_err() {
+        if write_canonical_view(alloc, view, &mut self.scratch).is_err() {
             return Err(AddFault::Memory);
         }
         let entry = EntryView {

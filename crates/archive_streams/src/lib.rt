@@ -7,13 +7,13 @@
 mod entry;
 mod fault;
 mod join;
-mod judging;
 mod merge;
 mod pieces;
 mod reading;
 mod side;
 #[cfg(test)]
 mod tests;
+mod validation;
 
 pub use fault::{MergeFault, Side};
 pub use join::merge_streams;

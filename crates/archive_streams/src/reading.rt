@@ -11,8 +11,8 @@ ghost use Rattle.archive_streams.specs.Faults.{IsSideFault, SideFailures};
 
 use crate::entry::{COUNT_TEXT, EntryText, TEXT_MAX};
 use crate::fault::SideFault;
-use crate::judging::instant_of;
 use crate::pieces::Pieces;
+use crate::validation::instant_of;
 use archive_text::{ArchiveFault, ENTRY_MAX};
 use octet_devices::Input;
 use syslog_frame::{MsgLen, msg_len};

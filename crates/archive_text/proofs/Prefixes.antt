@@ -10,7 +10,7 @@ use Rattle.syslog_frame.specs.MsgLen.{MsgLen}
 use Rattle.syslog_frame.specs.declared.framing.Framing.TheVariants.{Counted}
 use Rattle.syslog_frame.specs.declared.limits.TheConstants.{COUNT_MAX}
 use Rattle.syslog_frame.proofs.FrameLaws.{one_frame, same_count}
-use Rattle.syslog_grammar.specs.WellFormed.{WellFormed}
+use Rattle.syslog_reading.specs.WellFormed.{WellFormed}
 use Rattle.syslog_grammar.proofs.CanonicalParses.{canonical_well_formed}
 use Rattle.archive_text.specs.Entries.{Entry, IsAscending}
 use Rattle.archive_text.specs.Faults.{BeginsWithOctets, IsArchiveFault, IsBadFrame, IsFaultBehind, IsLongestArchive}

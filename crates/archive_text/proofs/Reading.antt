@@ -5,11 +5,11 @@ use Rattle.std.proofs.lemmas.List.{length-take-le, take-append-drop}
 use Rattle.octet_language.specs.Reading.{Follows}
 use Rattle.syslog_frame.specs.MsgLen.{MsgLen}
 use Rattle.syslog_value.specs.Parts.{Parts, IsRecord}
-use Rattle.syslog_grammar.specs.Canonical.{Canonical}
-use Rattle.syslog_grammar.specs.ViewParts.{IsViewOf, ViewParts}
-use Rattle.syslog_grammar.specs.WellFormed.{WellFormed}
+use Rattle.syslog_fields.specs.Canonical.{Canonical}
+use Rattle.syslog_reading.specs.ViewParts.{IsViewOf, ViewParts}
+use Rattle.syslog_reading.specs.WellFormed.{WellFormed}
 use Rattle.syslog_grammar.proofs.CanonicalParses.{canonical_well_formed}
-use Rattle.syslog_grammar.proofs.Laws.{same_parts}
+use Rattle.syslog_reading.proofs.Laws.{same_parts}
 use Rattle.archive_text.specs.Entries.{Entry, IsEntry}
 use Rattle.archive_text.specs.Faults.{BeginsWithOctets}
 

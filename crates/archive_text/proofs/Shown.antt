@@ -4,12 +4,12 @@ use Rattle.std.specs.Prelude.{ℤ, false, Err, Ok, OnOk, Option, Result}
 use Rattle.std.specs.Result.{is_err}
 use Rattle.std.proofs.lemmas.Bool.{false≢true}
 use Rattle.syslog_value.specs.Parts.{Parts}
-use Rattle.syslog_grammar.specs.Canonical.{Canonical}
-use Rattle.syslog_grammar.specs.ShownParts.{IsViewOf, ViewParts}
+use Rattle.syslog_fields.specs.Canonical.{Canonical}
+use Rattle.syslog_reading.specs.ShownParts.{IsViewOf, ViewParts}
 use Rattle.syslog_grammar.specs.ShownRecords.{AddsShown}
-use Rattle.syslog_grammar.specs.WellFormed.{WellFormed}
+use Rattle.syslog_reading.specs.WellFormed.{WellFormed}
 use Rattle.syslog_grammar.proofs.CanonicalParses.{canonical_once}
-use Rattle.syslog_grammar.proofs.Laws.{one_meaning}
+use Rattle.syslog_reading.proofs.Laws.{one_meaning}
 use Rattle.archive_text.specs.Entries.{Entry, IsEntryOf}
 use Rattle.archive_text.specs.Stores.{AddsEntry, AddsRecord}
 use Rattle.archive_text.specs.declared.store.Added.{Added}

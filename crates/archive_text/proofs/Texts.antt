@@ -9,7 +9,7 @@ use Rattle.syslog_frame.specs.declared.framing.Framing.TheVariants.{Counted}
 use Rattle.syslog_frame.specs.declared.limits.TheConstants.{COUNT_MAX}
 use Rattle.syslog_frame.proofs.FrameLaws.{one_frame}
 use Rattle.syslog_value.specs.Parts.{Parts}
-use Rattle.syslog_grammar.specs.Canonical.{Canonical, HeaderForm}
+use Rattle.syslog_fields.specs.Canonical.{Canonical, HeaderForm}
 use Rattle.syslog_grammar.proofs.CanonicalParses.{canonical_injective, canonical_once}
 use Rattle.archive_text.specs.Entries.{Entry, IsEntry, IsEntryOf}
 use Rattle.archive_text.specs.Text.{BeginsWithEntry, IsArchive, entry_text, text_of}

@@ -5,7 +5,7 @@ use Rattle.std.specs.declared.cmp.Ordering.{Ordering}
 use Rattle.std.specs.declared.cmp.Ordering.TheVariants.{Less, Equal, Greater}
 use Rattle.syslog_value.specs.Order.{OctetsBelow}
 use Rattle.syslog_value.specs.Parts.{IsRecord, Parts}
-use Rattle.syslog_grammar.specs.Canonical.{Canonical}
+use Rattle.syslog_fields.specs.Canonical.{Canonical}
 
 -- an instant or none, and the canonical octets of a record
 pub record Entry : Type 0 where

@@ -5,8 +5,8 @@ use Rattle.octet_language.specs.Reading.{Follows}
 use Rattle.syslog_frame.specs.Frames.{CanCarry, framed}
 use Rattle.syslog_frame.specs.MsgLen.{MsgLen}
 use Rattle.syslog_frame.specs.declared.framing.Framing.TheVariants.{Counted}
-use Rattle.syslog_grammar.specs.Faults.{FaultOf}
-use Rattle.syslog_grammar.specs.WellFormed.{WellFormed}
+use Rattle.syslog_reading.specs.Faults.{FaultOf}
+use Rattle.syslog_reading.specs.WellFormed.{WellFormed}
 use Rattle.archive_text.specs.Entries.{Entry, IsAscending, IsEntry}
 use Rattle.archive_text.specs.Text.{IsArchive, text_of}
 use Rattle.archive_text.specs.declared.fault.ArchiveFault.{ArchiveFault}

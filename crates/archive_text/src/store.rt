@@ -3,8 +3,8 @@
 ghost use Rattle.std.specs.Prelude.{◌≡◌, ◌<◌, ◌≤◌, ◌↔◌, List, ℕ, ℤ, length, IfOk, IsErrOf, IsTrue, OnErr};
 ghost use Rattle.octet_devices.specs.Transfers.{WritesAll};
 ghost use Rattle.syslog_value.specs.Parts.{Parts};
-ghost use Rattle.syslog_grammar.specs.ViewParts.{IsViewOf, view_parts};
-ghost use Rattle.syslog_grammar.specs.WellFormed.{WellFormed};
+ghost use Rattle.syslog_reading.specs.ViewParts.{IsViewOf, view_parts};
+ghost use Rattle.syslog_reading.specs.WellFormed.{WellFormed};
 ghost use Rattle.archive_text.specs.Entries.{Entry, Has, IsEntryOf};
 ghost use Rattle.archive_text.specs.Text.{IsArchive, text_of};
 ghost use Rattle.archive_text.specs.Stores.{AddsRecord};

@@ -6,7 +6,7 @@ use Rattle.std.specs.List.{insert, slice_get}
 use Rattle.std.proofs.lemmas.Bool.{false≢true}
 use Rattle.syslog_value.specs.Parts.{IsRecord, Parts}
 use Rattle.std.specs.Prelude.{ℤ}
-use Rattle.syslog_grammar.specs.Canonical.{Canonical}
+use Rattle.syslog_fields.specs.Canonical.{Canonical}
 use Rattle.archive_text.specs.Entries.{Entry, Has, IsEntryOf}
 use Rattle.archive_text.specs.Stores.{AddsEntry, AddsRecord}
 use Rattle.archive_text.specs.declared.store.Added.{Added}

@@ -4,8 +4,8 @@ ghost use Rattle.std.specs.Prelude.{◌≡◌, ◌<◌, ◌≤◌, ◌↔◌, Li
 ghost use Rattle.std.specs.Prelude.{IfErr, IfOk, IsErrOf, IsTrue, OnErr};
 ghost use Rattle.octet_devices.specs.Transfers.{WritesAll};
 ghost use Rattle.syslog_value.specs.Parts.{Parts};
-ghost use Rattle.syslog_grammar.specs.ViewParts.{IsViewOf, view_parts};
-ghost use Rattle.syslog_grammar.specs.WellFormed.{WellFormed};
+ghost use Rattle.syslog_reading.specs.ViewParts.{IsViewOf, view_parts};
+ghost use Rattle.syslog_reading.specs.WellFormed.{WellFormed};
 ghost use Rattle.archive_text.specs.Entries.{Entry, Has, IsEntryOf};
 ghost use Rattle.archive_text.specs.Sets.{IsUnionOfEntries};
 ghost use Rattle.archive_text.specs.Text.{IsArchive, text_of};
@@ -19,7 +19,7 @@ use crate::reading::ReadFault;
 use archive_text::{AddFault, Added, ENTRY_MAX, EntryView};
 use octet_devices::{Output, WriteFault};
 use std::alloc::{AllocError, Global};
-use syslog_grammar::{RecordView, canon, put_canonical};
+use syslog_grammar::{RecordView, canon, write_canonical_view};
 use syslog_value::Record;
 
 /// A finite set of records: the entries of an archive, in order.
@@ -83,7 +83,7 @@ impl VecArchive {
             → ENTRY_MAX < length e.octets }
     {
         self.scratch.clear();
-        if put_canonical(alloc, view, &mut self.scratch).is_err() {
+        if write_canonical_view(alloc, view, &mut self.scratch).is_err() {
             return Err(AddFault::Memory);
         }
         self.list.add(&EntryView {

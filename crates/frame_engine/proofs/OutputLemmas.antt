@@ -14,8 +14,8 @@ use Rattle.syslog_value.specs.declared.facility.TheConstants.Facility as facilit
 use Rattle.syslog_value.specs.declared.severity.Severity.{Severity}
 use Rattle.syslog_value.specs.declared.severity.Severity.TheVariants.{Emergency}
 use Rattle.syslog_value.specs.declared.severity.TheConstants.Severity as severities
-use Rattle.syslog_grammar.proofs.CanonicalParses.{once}
-use Rattle.syslog_grammar.specs.Canonical.{TimeForm, civil_text}
+use Rattle.syslog_reading.proofs.Props.{once}
+use Rattle.syslog_fields.specs.Canonical.{TimeForm, civil_text}
 use Rattle.syslog_legacy.specs.FrameReadings.{Clock}
 use Rattle.frame_engine.specs.Checked.{check_handling}
 use Rattle.driver.specs.Effects.{Done}

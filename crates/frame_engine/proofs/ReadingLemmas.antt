@@ -3,8 +3,8 @@ use Rattle.std.proofs.Common.{◌≡◌, ◌≤◌, ℕ, ℤ, List, length, sym,
 use Rattle.std.specs.Prelude.{Some}
 use Rattle.syslog_frame.specs.declared.limits.TheConstants.{FRAME_MAX}
 use Rattle.syslog_value.specs.Parts.{Parts}
-use Rattle.syslog_grammar.specs.WellFormed.{AddsCanonical, WellFormed}
-use Rattle.syslog_grammar.specs.declared.fault.Fault.{Fault}
+use Rattle.syslog_reading.specs.WellFormed.{AddsCanonical, WellFormed}
+use Rattle.syslog_reading.specs.declared.fault.Fault.{Fault}
 use Rattle.syslog_grammar.proofs.OneFault.{one_fault}
 use Rattle.syslog_legacy.proofs.FrameReadings.{fault_not_read, not_utf8, not_utf8_legacy, one_offset, one_reading}
 use Rattle.syslog_legacy.specs.FrameReadings.{Clock, IsReadAs}

@@ -5,7 +5,7 @@ use Rattle.syslog_frame.specs.declared.framing.Framing.{Framing}
 use Rattle.syslog_frame.specs.declared.framing.Framing.TheVariants.{Counted, Lf}
 use Rattle.syslog_frame.specs.declared.limits.TheConstants.{FRAME_MAX}
 use Rattle.syslog_value.specs.Parts.{Parts}
-use Rattle.syslog_grammar.specs.Canonical.{Canonical}
+use Rattle.syslog_fields.specs.Canonical.{Canonical}
 use Rattle.syslog_legacy.specs.FrameReadings.{Clock}
 use Rattle.driver.specs.Effects.{Done}
 use Rattle.frame_engine.specs.Handling.{Handling}

@@ -1,9 +1,9 @@
 -- The lines that are printed.
 use Rattle.std.specs.Prelude.{ℕ, List, ◌++◌, codes, decimal}
-use Rattle.syslog_grammar.specs.declared.fault.Fault.{Fault}
-use Rattle.syslog_grammar.specs.declared.fault.Fault.TheVariants.{Syntax, InstantRange, RepeatedId}
-use Rattle.syslog_grammar.specs.declared.fault.Field.{Field}
-use Rattle.syslog_grammar.specs.declared.fault.Field.TheVariants as field
+use Rattle.syslog_reading.specs.declared.fault.Fault.{Fault}
+use Rattle.syslog_reading.specs.declared.fault.Fault.TheVariants.{Syntax, InstantRange, RepeatedId}
+use Rattle.syslog_reading.specs.declared.fault.Field.{Field}
+use Rattle.syslog_reading.specs.declared.fault.Field.TheVariants as field
 use Rattle.frame_engine.specs.declared.line.Line.{Line}
 use Rattle.frame_engine.specs.declared.line.Line.TheVariants.{Accepted, LegacyNotUtf8, Refused, TooLong, BadCount}
 use Rattle.frame_engine.specs.declared.line.Line.TheVariants.{HasLf, CanonicalTooLong, Unterminated}

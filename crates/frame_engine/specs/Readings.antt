@@ -2,12 +2,12 @@
 use Rattle.std.specs.Prelude.{◌≡◌, ◌≤◌, ◌<◌, ℕ, ℤ, List, ◌⊎◌, Option, None, Some, length}
 use Rattle.syslog_frame.specs.declared.limits.TheConstants.{FRAME_MAX}
 use Rattle.syslog_value.specs.Parts.{Parts}
-use Rattle.syslog_grammar.specs.Appending.{Adds}
-use Rattle.syslog_grammar.specs.Canonical.{Canonical}
-use Rattle.syslog_grammar.specs.Faults.{FaultOf}
-use Rattle.syslog_grammar.specs.ViewParts.{IsViewOf, view_parts}
-use Rattle.syslog_grammar.specs.WellFormed.{WellFormed}
-use Rattle.syslog_grammar.specs.declared.fault.Fault.{Fault}
+use Rattle.syslog_fields.specs.Appending.{Adds}
+use Rattle.syslog_fields.specs.Canonical.{Canonical}
+use Rattle.syslog_reading.specs.Faults.{FaultOf}
+use Rattle.syslog_reading.specs.ViewParts.{IsViewOf, view_parts}
+use Rattle.syslog_reading.specs.WellFormed.{WellFormed}
+use Rattle.syslog_reading.specs.declared.fault.Fault.{Fault}
 use Rattle.syslog_legacy.specs.FrameReadings.{Clock, IsLegacy, IsNotUtf8At, IsReadAs}
 use Rattle.syslog_legacy.specs.Views.{legacy_view_parts}
 use Rattle.frame_engine.specs.declared.line.Line.{Line}

@@ -8,7 +8,7 @@ use Rattle.syslog_value.specs.Parts.{ElementParts, MessageParts, AnyOctets, Utf8
 use Rattle.syslog_value.specs.Severities.{severity_code, severity_name}
 use Rattle.syslog_value.specs.declared.facility.Facility.{Facility}
 use Rattle.syslog_value.specs.declared.severity.Severity.{Severity}
-use Rattle.syslog_grammar.specs.Canonical.{TimeForm, word_form}
+use Rattle.syslog_fields.specs.Canonical.{TimeForm, word_form}
 use Rattle.syslog_legacy.specs.FrameReadings.{Clock}
 use Rattle.frame_engine.specs.Converted.{goes_out, noted_line}
 use Rattle.frame_engine.specs.Handling.{Handling}

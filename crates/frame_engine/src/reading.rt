@@ -2,8 +2,8 @@
 
 ghost use Rattle.std.specs.Prelude.{◌≡◌, ◌≤◌, ℤ, List, ℕ, IfErr, IfOk, MatchOption, OnErr, OnOk, Some, length};
 ghost use Rattle.syslog_value.specs.Parts.{Parts};
-ghost use Rattle.syslog_grammar.specs.ViewParts.{IsViewOf, view_parts};
-ghost use Rattle.syslog_grammar.specs.Faults.{FaultOf};
+ghost use Rattle.syslog_reading.specs.ViewParts.{IsViewOf, view_parts};
+ghost use Rattle.syslog_reading.specs.Faults.{FaultOf};
 ghost use Rattle.syslog_legacy.specs.FrameReadings.{Clock};
 ghost use Rattle.syslog_legacy.specs.NewForm.{HasNewForm};
 ghost use Rattle.frame_engine.specs.Readings.{IsReadNew, IsReadingOf, IsRecordOf, IsRefusedWith};
@@ -13,7 +13,7 @@ ghost use Rattle.frame_engine.specs.declared.line.Line.TheVariants.{LegacyNotUtf
 use crate::line::Line;
 use std::alloc::{AllocError, Global};
 use syslog_frame::FRAME_MAX;
-use syslog_grammar::{RecordView, fault_of, put_canonical_of, view};
+use syslog_grammar::{RecordView, fault_of, view, write_canonical_octets};
 use syslog_legacy::{
     LegacyClock, LegacyView, MessageNotUtf8, has_new_form, legacy_view, put_legacy_canonical,
 };
@@ -166,7 +166,7 @@ pub fn put_reading(
     if let Some(clock) = legacy_clock(clock, frame) {
         return put_legacy(&clock, number, frame, out);
     }
-    match put_canonical_of(alloc, frame, out)? {
+    match write_canonical_octets(alloc, frame, out)? {
         None => Ok(None),
         Some(fault) => Ok(Some(Line::Refused { number, fault })),
     }

@@ -84,9 +84,9 @@ pub fn feed<D: FrameHandler>(
 {
     let mut rest = piece;
     while !rest.is_empty() {
-        if let Some(lent) = scanner.lend(rest) {
-            handler.on_frame(*number, lent.frame, effects)?;
-            rest = &rest[lent.used..];
+        if let Some(borrowed) = scanner.next_borrowed(rest) {
+            handler.on_frame(*number, borrowed.frame, effects)?;
+            rest = &rest[borrowed.used..];
             *number += 1;
             continue;
         }

@@ -3,8 +3,8 @@
 use std::alloc::Global;
 use std::test::Fail;
 use syslog_grammar::{
-    DecodeFault, Fault, canon, decode, fault_of, is_canon, is_canon_unsorted, put_canonical,
-    put_canonical_of, view, view_and_form,
+    DecodeFault, Fault, canon, decode, fault_of, is_canon, is_canon_unsorted, view, view_and_form,
+    write_canonical_octets, write_canonical_view,
 };
 
 /// The canonical octets by way of the record, which are those of the view, with what stood before;
@@ -13,7 +13,7 @@ fn canonical(alloc: Global, octets: &[u8]) -> Result<Vec<u8>, Fail> {
     let seen = view(octets).ok().ok_or("a fault")?;
     let record = seen.to_record(alloc)?;
     let mut appended = b"old ".to_vec(alloc)?;
-    put_canonical(alloc, &seen, &mut appended)?;
+    write_canonical_view(alloc, &seen, &mut appended)?;
     let by_record = canon(alloc, &record)?;
     let mut expected = b"old ".to_vec(alloc)?;
     expected.extend_from_slice(by_record.as_slice())?;
@@ -24,7 +24,7 @@ fn canonical(alloc: Global, octets: &[u8]) -> Result<Vec<u8>, Fail> {
         return Err(Fail::from("canonical octets are not known as such"));
     }
     let mut direct = b"old ".to_vec(alloc)?;
-    let fault = put_canonical_of(alloc, octets, &mut direct)?;
+    let fault = write_canonical_octets(alloc, octets, &mut direct)?;
     if fault.is_some() || fault_of(octets).is_some() || direct.as_slice() != expected.as_slice() {
         return Err(Fail::from("the octets and the record differ"));
     }
@@ -187,7 +187,7 @@ fn octets_that_are_no_record_are_refused_with_their_fault(rt: HostRuntime) -> Re
         assert_eq!(rt; refused, Some(DecodeFault::Bad(fault)));
         let mut out = b"old ".to_vec(rt.alloc())?;
         assert_eq!(rt;
-            put_canonical_of(rt.alloc(), octets, &mut out)?,
+            write_canonical_octets(rt.alloc(), octets, &mut out)?,
             Some(fault)
         );
         assert_eq!(rt; out.as_slice(), b"old ".as_slice());

@@ -2,14 +2,14 @@
 
 use std::alloc::{AllocError, Global};
 use std::test::Fail;
-use syslog_grammar::{Fault, put_canonical, view};
+use syslog_grammar::{Fault, view, write_canonical_view};
 
 /// Appends the canonical form of a record to `out`. The answer is the fault of octets that are no
 /// record; out of memory leaves `out` as it was.
 fn normalize(alloc: Global, octets: &[u8], out: &mut Vec<u8>) -> Result<Option<Fault>, AllocError> {
     match view(octets) {
         Ok(record) => {
-            put_canonical(alloc, &record, out)?;
+            write_canonical_view(alloc, &record, out)?;
             Ok(None)
         }
         Err(fault) => Ok(Some(fault)),

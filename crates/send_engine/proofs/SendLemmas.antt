@@ -13,7 +13,7 @@ use Rattle.syslog_frame.specs.declared.framing.Framing.{Framing}
 use Rattle.syslog_frame.specs.declared.framing.Framing.TheVariants.{Counted, Lf}
 use Rattle.syslog_frame.specs.declared.limits.TheConstants.{FRAME_MAX}
 use Rattle.syslog_grammar.proofs.CanonicalParses.{canonical_once}
-use Rattle.syslog_grammar.specs.Canonical.{Canonical}
+use Rattle.syslog_fields.specs.Canonical.{Canonical}
 use Rattle.syslog_sender.specs.Answers.{IsFrameFault, IsSendFault, IsWriteFault, SendsRecord}
 use Rattle.syslog_sender.specs.Senders.{LetsThrough, SenderParts, own_facility, own_priority}
 use Rattle.syslog_sender.specs.Sent.{Carries, IsFrame}

@@ -10,7 +10,7 @@ use Rattle.syslog_frame.specs.declared.limits.TheConstants.{FRAME_MAX}
 use Rattle.syslog_value.specs.Facilities.{facility_code}
 use Rattle.syslog_value.specs.Parts.{AnyOctets, MessageParts, Parts, Utf8Text}
 use Rattle.syslog_value.specs.Severities.{severity_code}
-use Rattle.syslog_grammar.specs.Canonical.{Canonical}
+use Rattle.syslog_fields.specs.Canonical.{Canonical}
 use Rattle.syslog_sender.specs.Senders.{own_facility}
 use Rattle.syslog_sender.specs.Sent.{Carries, IsFrame}
 use Rattle.frame_engine.specs.Converted.{goes_out}

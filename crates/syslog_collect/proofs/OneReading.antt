@@ -3,10 +3,10 @@ use Rattle.std.proofs.Common.{◌≡◌, ◌≤◌, ℕ, List, length, inl, inr,
 use Rattle.std.specs.Prelude.{ℤ, Some, None}
 use Rattle.octet_language.specs.Language.{AnyOf}
 use Rattle.syslog_value.specs.Parts.{Parts}
-use Rattle.syslog_grammar.specs.Canonical.{Canonical}
-use Rattle.syslog_grammar.specs.WellFormed.{WellFormed}
+use Rattle.syslog_fields.specs.Canonical.{Canonical}
+use Rattle.syslog_reading.specs.WellFormed.{WellFormed}
 use Rattle.syslog_grammar.proofs.CanonicalParses.{canonical_once}
-use Rattle.syslog_grammar.proofs.Laws.{one_meaning}
+use Rattle.syslog_reading.proofs.Laws.{one_meaning}
 use Rattle.syslog_legacy.specs.NewForm.{HasNewForm}
 use Rattle.syslog_legacy.specs.Readings.{Legacy, NotUtf8At, ReadAs}
 use Rattle.syslog_legacy.specs.declared.clock.LegacyClock.{LegacyClock}

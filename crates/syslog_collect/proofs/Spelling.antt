@@ -5,14 +5,14 @@ use Rattle.octet_language.specs.Language.{Language, ◌⋅◌, Only}
 use Rattle.syslog_value.specs.Parts.{Parts}
 use Rattle.syslog_value.specs.declared.civil.Civil.{Civil}
 use Rattle.syslog_value.specs.Instants.{IsCivil, instant_of}
-use Rattle.syslog_grammar.specs.Canonical.{Canonical, HeaderForm, SpacedWord, TimeForm, civil_text, message_form}
-use Rattle.syslog_grammar.specs.Canonical.{priority_version_form, structured_data_form, word_form}
-use Rattle.syslog_grammar.specs.ViewParts.{IsViewOf, ViewParts}
-use Rattle.syslog_grammar.specs.WellFormed.{WellFormed}
+use Rattle.syslog_fields.specs.Canonical.{Canonical, HeaderForm, SpacedWord, TimeForm, civil_text, message_form}
+use Rattle.syslog_fields.specs.Canonical.{priority_version_form, structured_data_form, word_form}
+use Rattle.syslog_reading.specs.ViewParts.{IsViewOf, ViewParts}
+use Rattle.syslog_reading.specs.WellFormed.{WellFormed}
 use Rattle.syslog_grammar.proofs.Bounded.{canonical_bounded}
-use Rattle.syslog_grammar.proofs.Laws.{same_parts}
-use Rattle.syslog_grammar.proofs.RecordsOf.{some_record}
-use Rattle.syslog_grammar.proofs.Valid.{well_formed_valid}
+use Rattle.syslog_reading.proofs.Laws.{same_parts}
+use Rattle.syslog_reading.proofs.RecordsOf.{some_record}
+use Rattle.syslog_reading.proofs.Valid.{well_formed_valid}
 use Rattle.syslog_value.specs.Instants.{IsOffset}
 use Rattle.syslog_legacy.specs.Clocks.{IsYear}
 use Rattle.syslog_legacy.specs.Readings.{Legacy, ReadAs}

@@ -6,8 +6,8 @@ use Rattle.syslog_frame.specs.Reads.{Reads}
 use Rattle.syslog_frame.specs.Scan.{Scan, HasBadCount, HasFrame, IsFailed, IsReading}
 use Rattle.syslog_frame.specs.declared.framing.Framing.{Framing}
 use Rattle.syslog_value.specs.Parts.{Parts}
-use Rattle.syslog_grammar.specs.Faults.{FaultOf}
-use Rattle.syslog_grammar.specs.WellFormed.{WellFormed}
+use Rattle.syslog_reading.specs.Faults.{FaultOf}
+use Rattle.syslog_reading.specs.WellFormed.{WellFormed}
 use Rattle.syslog_frame.specs.declared.limits.TheConstants.{FRAME_MAX}
 use Rattle.archive_text.specs.Entries.{Entry, IsEntryOf}
 use Rattle.archive_text.specs.declared.limits.TheConstants.{ENTRY_MAX}

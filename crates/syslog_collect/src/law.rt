@@ -2,7 +2,7 @@
 
 ghost use Rattle.std.specs.Prelude.{◌≡◌, ◌↔◌, ◌≤◌, ℕ, ℤ, List, None, length};
 ghost use Rattle.syslog_value.specs.Parts.{Parts};
-ghost use Rattle.syslog_grammar.specs.WellFormed.{WellFormed};
+ghost use Rattle.syslog_reading.specs.WellFormed.{WellFormed};
 ghost use Rattle.syslog_frame.specs.declared.limits.TheConstants.{FRAME_MAX};
 ghost use Rattle.archive_text.specs.Entries.{Entry, IsEntryOf};
 ghost use Rattle.syslog_collect.specs.Frames.{IsFrameOf, IsReceived};

@@ -4,7 +4,7 @@ pub mod Counts
 pub mod Standing
 pub mod Calls
 pub mod Lines
-pub mod Lending
+pub mod Borrowing
 pub mod Reading
 pub mod Delivered
 pub mod Existence

@@ -1,5 +1,5 @@
 pub mod Frames
-pub mod Lent
+pub mod FrameRefs
 pub mod MsgLen
 pub mod Count
 pub mod Scan

@@ -3,14 +3,14 @@
 //!
 //! A [`Scanner`] keeps one unfinished frame. Feed it by [`Scanner::push`] until the piece is empty,
 //! look at [`Scanner::ready`] after each call, and drop what was ready by [`Scanner::release`].
-//! [`Scanner::lend`] gives a frame that lies whole in the piece without a copy.
+//! [`Scanner::next_borrowed`] gives a frame that lies whole in the piece without a copy.
 #![tactic(auto)]
 
 mod count;
 mod fault;
+mod frame_ref;
 mod framing;
 mod laws;
-mod lent;
 mod limits;
 mod phase;
 mod pieces;
@@ -21,12 +21,12 @@ mod scanner;
 
 pub use count::{MsgLen, msg_len};
 pub use fault::{EndFault, PiecesFault, PutFault, ScanFault, StartFault};
+pub use frame_ref::FrameRef;
 pub use framing::Framing;
 pub use laws::{
     bad_counts_end_streams, frames_are_unique, frames_begin, frames_go_on,
     frames_of_a_concatenation, streams_have_frames,
 };
-pub use lent::LentFrame;
 pub use limits::{COUNT_MAX, FRAME_MAX, POSITION_MAX};
 pub use pieces::{StreamEnd, StreamFrames, frames_of_pieces};
 pub use put::put_frame;

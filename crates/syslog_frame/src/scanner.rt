@@ -3,7 +3,7 @@
 ghost use Rattle.std.specs.Prelude.{◌≡◌, ◌≤◌, ◌<◌, ◌+◌, ◌++◌, ◌∷◌, ◌↔◌, ℕ, List, [], length, take};
 ghost use Rattle.std.specs.Prelude.{IfOk, IfSome, IsNone, OnErr, OnOk, OnSome, IsTrue, false};
 ghost use Rattle.syslog_frame.specs.Frames.{Frame, Whole};
-ghost use Rattle.syslog_frame.specs.Lent.{IsLent};
+ghost use Rattle.syslog_frame.specs.FrameRefs.{IsFrameRef};
 ghost use Rattle.syslog_frame.specs.Ready.{IsEnd, IsReady, ImpliedOf};
 ghost use Rattle.syslog_frame.specs.Reads.{IsReadyBehind, Reads, ReadsOn, StopsBehind};
 ghost use Rattle.syslog_frame.specs.Scan.{HasBadCount, HasFrame, HasReady};
@@ -13,8 +13,8 @@ ghost use Rattle.syslog_frame.specs.Takes.{Takes};
 ghost use Rattle.syslog_frame.specs.declared.framing.Framing.{Framing};
 
 use crate::fault::{EndFault, ScanFault, StartFault};
+use crate::frame_ref::{FrameRef, borrowed_frame};
 use crate::framing::Framing;
-use crate::lent::{LentFrame, lent_frame};
 use crate::limits::{FRAME_MAX, POSITION_MAX};
 use crate::phase::Phase;
 use crate::ready::Ready;
@@ -154,24 +154,24 @@ impl Scanner {
     /// this one lies in the piece: what `push`, `ready` and `release` do together, without a copy.
     /// Otherwise nothing is taken, and the piece is for `push`.
     #[inline]
-    pub fn lend<'a>(&mut self, piece: &'a [u8]) -> Option<LentFrame<'a>>
-        // What is lent, and where the scanner is then.
+    pub fn next_borrowed<'a>(&mut self, piece: &'a [u8]) -> Option<FrameRef<'a>>
+        // What is borrowed, and where the scanner is then.
         ensures lends { IsReading self.old → (kind : Framing) (position : ℕ)
             → Stands FRAME_MAX self.old kind position [] → position + length piece.now ≤ POSITION_MAX
-            → IsLent FRAME_MAX kind piece.now result }
+            → IsFrameRef FRAME_MAX kind piece.now result }
         ensures reading { OnSome result (IsReading self.old × IsReading self.new) }
-        ensures progress { IfSome result (λ lent. 0 < lent.used × (lent.used ≤ length piece.now)) }
-        ensures position { IfSome result (λ lent. self.new.position ≡ self.old.position + lent.used) }
+        ensures progress { IfSome result (λ borrowed. 0 < borrowed.used × (borrowed.used ≤ length piece.now)) }
+        ensures position { IfSome result (λ borrowed. self.new.position ≡ self.old.position + borrowed.used) }
         ensures bound { OnSome result (self.new.position ≤ POSITION_MAX) }
-        ensures stands { IfSome result (λ lent. (kind : Framing) (position : ℕ) (p : List ℕ)
+        ensures stands { IfSome result (λ borrowed. (kind : Framing) (position : ℕ) (p : List ℕ)
             → Stands FRAME_MAX self.old kind position p
-            → (p ≡ []) × Stands FRAME_MAX self.new kind (position + lent.used) []) }
-        ensures reads { IfSome result (λ lent. (kind : Framing) (first : ℕ) (octets : List ℕ)
+            → (p ≡ []) × Stands FRAME_MAX self.new kind (position + borrowed.used) []) }
+        ensures reads { IfSome result (λ borrowed. (kind : Framing) (first : ℕ) (octets : List ℕ)
             (frames : List (List ℕ)) (rest : List ℕ)
             → Reads FRAME_MAX self.old kind first octets frames rest
-            → Frame kind lent.frame.now (take lent.used piece.now)
-            × Reads FRAME_MAX self.new kind first (octets ++ take lent.used piece.now)
-            (frames ++ lent.frame.now ∷ []) []) }
+            → Frame kind borrowed.frame.now (take borrowed.used piece.now)
+            × Reads FRAME_MAX self.new kind first (octets ++ take borrowed.used piece.now)
+            (frames ++ borrowed.frame.now ∷ []) []) }
 
         // What else is left.
         ensures same { IsNone result → self.new ≡ self.old }
@@ -185,13 +185,13 @@ impl Scanner {
                 if POSITION_MAX - self.position < piece.len() as u64 {
                     return None;
                 }
-                let Some(lent) = lent_frame(self.framing, piece) else {
+                let Some(borrowed) = borrowed_frame(self.framing, piece) else {
                     return None;
                 };
-                let behind = self.position + lent.used as u64;
+                let behind = self.position + borrowed.used as u64;
                 self.position = behind;
                 self.start = behind;
-                Some(lent)
+                Some(borrowed)
             }
         }
     }

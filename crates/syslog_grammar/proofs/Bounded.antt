@@ -11,17 +11,18 @@ use Rattle.std.proofs.lemmas.List.Sorted.{sum_by-IsPermutation}
 use Rattle.octet_language.specs.Language.{Only, ◌⋅◌, Each}
 use Rattle.syslog_value.specs.declared.civil.Civil.{Civil}
 use Rattle.syslog_value.specs.Parts.{ParamParts, ElementParts, MessageParts, AnyOctets, Utf8Text, Parts}
-use Rattle.syslog_grammar.specs.Canonical.{civil_text, TimeForm, priority_version_form, word_form, needs_escape}
-use Rattle.syslog_grammar.specs.Canonical.{escaped, param_form, element_form, structured_data_form, message_form}
-use Rattle.syslog_grammar.specs.Canonical.{SpacedWord, HeaderForm, Canonical}
-use Rattle.syslog_grammar.specs.Grammar.{HeaderParts, Header, header_of, Priority, Nilable, Word, Spaced, Version}
-use Rattle.syslog_grammar.specs.Grammar.{Param, Element, StructuredDataText, Message, MessagePart}
-use Rattle.syslog_grammar.specs.Time.{CivilTime, TimeText, ZoneText, FractionText, instant, padded}
-use Rattle.syslog_grammar.specs.Values.{Piece, Spells}
-use Rattle.syslog_grammar.specs.WellFormed.{WellFormed, IsMeaning}
-use Rattle.syslog_grammar.proofs.CanonicalParses.{bare, special}
-use Rattle.syslog_grammar.proofs.OneMeaning.{fixed}
-use Rattle.syslog_grammar.proofs.Unescaped.{plain_bare}
+use Rattle.syslog_fields.specs.Canonical.{civil_text, TimeForm, priority_version_form, word_form, needs_escape, escaped}
+use Rattle.syslog_fields.specs.Canonical.{param_form, element_form, structured_data_form, message_form, SpacedWord}
+use Rattle.syslog_fields.specs.Canonical.{HeaderForm, Canonical}
+use Rattle.syslog_fields.specs.Grammar.{HeaderParts, Header, header_of, Priority, Nilable, Word, Spaced, Version, Param}
+use Rattle.syslog_fields.specs.Grammar.{Element, StructuredDataText, Message, MessagePart}
+use Rattle.syslog_fields.specs.Time.{CivilTime, TimeText, ZoneText, FractionText, instant, padded}
+use Rattle.syslog_fields.specs.Values.{Piece, Spells}
+use Rattle.syslog_fields.proofs.EscapedRuns.{bare}
+use Rattle.syslog_fields.proofs.Unescaped.{plain_bare}
+use Rattle.syslog_reading.specs.WellFormed.{WellFormed, IsMeaning}
+use Rattle.syslog_reading.proofs.OneMeaning.{fixed}
+use Rattle.syslog_grammar.proofs.CanonicalParses.{special}
 
 -- ---- values
 

@@ -4,52 +4,45 @@ use Rattle.std.proofs.Common.{append_assoc, arith, Bool, true, false, not}
 use Rattle.std.specs.Prelude.{◌↔◌, IsTrue, ℤ, Option, Some, None, IfSome, MatchOption, option_map, decimal}
 use Rattle.std.specs.Option.{is_some}
 use Rattle.std.proofs.lemmas.List.{length-append, append_cancel_right}
-use Rattle.std.proofs.Math.Seq.{drop-append_seam, take-append_seam}
-use Rattle.octet_language.specs.Language.{Language, ◌⋅◌, AnyOf}
+use Rattle.std.proofs.Math.Seq.{take-append_seam}
+use Rattle.octet_language.specs.Language.{Language, AnyOf}
 use Rattle.octet_language.specs.Reading.{Follows}
-use Rattle.octet_language.proofs.Sequence.{IsPrefixFree-then}
 use Rattle.syslog_value.specs.Parts.{ElementParts, Parts, IsInstant}
-use Rattle.syslog_grammar.specs.Canonical.{priority_version_form, structured_data_form, message_form, SpacedWord}
-use Rattle.syslog_grammar.specs.Canonical.{HeaderForm, Canonical}
-use Rattle.syslog_grammar.specs.Dates.{time_of}
+use Rattle.syslog_fields.specs.Canonical.{priority_version_form, structured_data_form, message_form, SpacedWord}
+use Rattle.syslog_fields.specs.Canonical.{HeaderForm, Canonical}
+use Rattle.syslog_fields.specs.Dates.{time_of}
+use Rattle.syslog_fields.specs.Grammar.{HeaderParts, Header, Priority, Version, Spaced, Nilable, Word}
+use Rattle.syslog_fields.specs.Grammar.{StructuredDataText, MessagePart}
+use Rattle.syslog_fields.specs.Time.{TimeText, instant}
+use Rattle.syslog_fields.specs.declared.timestamp.Timestamp.{Timestamp}
+use Rattle.syslog_fields.proofs.Fractions.{AnyTime, IsPrefixFree-nilable_time}
+use Rattle.syslog_reading.specs.Faults.{AreDistinct}
+use Rattle.syslog_reading.specs.Fields.{header_parts}
+use Rattle.syslog_reading.specs.Ids.{HoldsDistinct, HoldsRepeated}
+use Rattle.syslog_reading.specs.Instants.{IsOutOfRange, IsTimeInRange}
+use Rattle.syslog_reading.specs.Parsing.{IsParsed, IsSyntaxFault}
+use Rattle.syslog_reading.specs.WellFormed.{HasRecordParts}
+use Rattle.syslog_reading.specs.Views.{message_parts}
+use Rattle.syslog_reading.specs.declared.fault.Fault.{Fault}
+use Rattle.syslog_reading.specs.declared.fault.Fault.TheVariants.{Syntax, InstantRange, RepeatedId}
+use Rattle.syslog_reading.specs.declared.syntax.Parsed.{Parsed}
+use Rattle.syslog_reading.proofs.Excluded.{not_distinct, same_range}
+use Rattle.syslog_reading.proofs.Headers.{IsPrefixFree-header, IsPrefixFree-prefix, Prefix, stands_at}
+use Rattle.syslog_reading.proofs.Laws.{header_same, same_parts}
+use Rattle.syslog_reading.proofs.OneMeaning.{by_prefix, data_same, tail_same, tail_prefix}
+use Rattle.syslog_reading.proofs.Valid.{parsed_valid}
+use Rattle.syslog_reading.proofs.Viewing.{parts_of, parsed_by, in_range_by, out_of_range}
 use Rattle.syslog_grammar.specs.ElementOrders.{IsInOrder}
-use Rattle.syslog_grammar.specs.Faults.{AreDistinct}
-use Rattle.syslog_grammar.specs.Fields.{header_parts, TimeStands}
-use Rattle.syslog_grammar.specs.Grammar.{HeaderParts, Header, Priority, Version, Spaced, Nilable, Word}
-use Rattle.syslog_grammar.specs.Grammar.{StructuredDataText, MessagePart}
-use Rattle.syslog_grammar.specs.Ids.{HoldsDistinct, HoldsRepeated}
-use Rattle.syslog_grammar.specs.Instants.{IsOutOfRange, IsTimeInRange}
-use Rattle.syslog_grammar.specs.Parsing.{IsParsed, IsSyntaxFault}
-use Rattle.syslog_grammar.specs.Time.{TimeText, instant}
-use Rattle.syslog_grammar.specs.Unsorted.{HasRecordParts, IsUnsortedRecord, IsFormOf, HoldsForm}
-use Rattle.syslog_grammar.specs.Views.{message_parts}
-use Rattle.syslog_grammar.specs.declared.fault.Fault.{Fault}
-use Rattle.syslog_grammar.specs.declared.fault.Fault.TheVariants.{Syntax, InstantRange, RepeatedId}
+use Rattle.syslog_grammar.specs.Unsorted.{IsUnsortedRecord, IsFormOf, HoldsForm}
 use Rattle.syslog_grammar.specs.declared.canonical_form.ElementOrder.{ElementOrder}
 use Rattle.syslog_grammar.specs.declared.canonical_form.ElementOrder.TheVariants.{AsGiven}
-use Rattle.syslog_grammar.specs.declared.syntax.Parsed.{Parsed}
-use Rattle.syslog_grammar.specs.declared.timestamp.Timestamp.{Timestamp}
 use Rattle.syslog_grammar.proofs.Bounded.{word_len}
 use Rattle.syslog_grammar.proofs.CanonicalParses.{named, header_parsed, data_parsed, tail_parsed, canonical_spelled}
 use Rattle.syslog_grammar.proofs.CanonicalParses.{timed}
 use Rattle.syslog_grammar.proofs.DataForms.{DataAnswer}
-use Rattle.syslog_grammar.proofs.Excluded.{not_distinct, same_range}
-use Rattle.syslog_grammar.proofs.Fractions.{AnyTime, IsPrefixFree-nilable_time}
-use Rattle.syslog_grammar.proofs.Headers.{IsPrefixFree-header}
-use Rattle.syslog_grammar.proofs.Laws.{header_same, same_parts}
-use Rattle.syslog_grammar.proofs.Numbers.{IsPrefixFree-priority, IsPrefixFree-version}
-use Rattle.syslog_grammar.proofs.OneMeaning.{by_prefix, data_same, tail_same, tail_prefix}
 use Rattle.syslog_grammar.proofs.TimeForms.{TimeSpace, Begins, any_time}
-use Rattle.syslog_grammar.proofs.Valid.{parsed_valid}
-use Rattle.syslog_grammar.proofs.Viewing.{parts_of, parsed_by, in_range_by, out_of_range}
 
 -- ---- the time in a header
-
-abbrev Prefix : Language
-Prefix = AnyOf Priority ⋅ Spaced Version
-
-IsPrefixFree-prefix : (p s q t : List ℕ) → Prefix p → Prefix q → p ++ s ≡ q ++ t → p ≡ q
-IsPrefixFree-prefix = IsPrefixFree-then (AnyOf Priority) (Spaced Version) IsPrefixFree-priority IsPrefixFree-version
 
 -- the header of these fields with an instant in the offset of the time
 abbrev FormOf : HeaderParts → Language
@@ -121,13 +114,6 @@ time_at h header rest from b (
         ),
       );
     }
-
--- what follows PRI and VERSION, by its length
-pub stands_at : (b from : List ℕ) (remaining : ℕ) (t : TimeStands b remaining) → from ≡ drop (length b - remaining) b
-    → from ≡ t.0
-stands_at b from remaining (rest, (t, e, h), n) f =
-    let count : length b - remaining ≡ length t = omega (arith, ap length e, length-append t rest, n) in
-    f ∙ ap (λ (k : ℕ). drop k b) count ∙ ap (drop (length t)) e ∙ drop-append_seam t rest
 
 -- ---- a spelling in its form
 
@@ -298,19 +284,6 @@ TimeTest r s from = IsTrue r ↔ Begins (TimeSpace (option_map (λ t. instant (t
 time_test : (b from : List ℕ) (s : Parsed) (k : IsParsed b s) (r : Bool)
     → from ≡ drop (length b - s.fields.time_remaining) b → TimeTest r s from → TimeTest r s k.time.0
 time_test b from s k r e test = subst (TimeTest r s) (stands_at b from s.fields.time_remaining k.time e) test
-
--- PRI and VERSION of a record, the timestamp, and what follows it
-pub time_follows : (b from : List ℕ) (s : Parsed) → IsParsed b s → from ≡ drop (length b - s.fields.time_remaining) b
-    → Follows (Spaced (Nilable TimeText (option_map time_of s.fields.time))) from s.fields.behind_time.now
-time_follows b from s k e =
-    let (x, whole, (p, y, f, pri, (v, d, g, version, time))) = k.behind in
-    let behind = s.fields.behind_time.now in
-    let parted : b ≡ (p ++ v) ++ (d ++ behind) =
-    whole ∙ ap (λ (u : List ℕ). u ++ behind) (f ∙ ap (λ (u : List ℕ). p ++ u) g ∙ sym (append_assoc p v d))
-    ∙ append_assoc (p ++ v) d behind in
-    let both = by_prefix Prefix k.time.1.0 k.time.0 (p ++ v) (d ++ behind) IsPrefixFree-prefix k.time.1.2
-    (p, v, refl, ((header_parts s.fields).priority, pri), version) (sym k.time.1.1 ∙ parted) in
-    (d, stands_at b from s.fields.time_remaining k.time e ∙ both.1, time)
 
 -- what comes before the timestamp is canonical
 pub prefix_read : (b : List ℕ) (s : Parsed) → IsParsed b s

@@ -1,35 +1,33 @@
 -- The canonical octets of a record that is canonical behind its timestamp.
 use Rattle.std.proofs.Common.{◌≡◌, ℕ, ◌+◌, ◌-◌, ◌≤◌, List, [], ◌∷◌, ◌++◌, length, take, drop, refl, sym, ap, subst, ◌∙◌}
 use Rattle.std.proofs.Common.{append_assoc, arith, true}
-use Rattle.std.specs.Prelude.{ℤ, pos, IfSome, Option, None, Some, Result, option_map}
+use Rattle.std.specs.Prelude.{ℤ, pos, Option, None, Some, Result, option_map}
 use Rattle.std.proofs.lemmas.List.{length-append, take-append-drop}
 use Rattle.std.proofs.Math.Seq.{drop-append_seam, take-add}
-use Rattle.octet_language.specs.Language.{AnyOf, Only, ◌⋅◌}
+use Rattle.octet_language.specs.Language.{Only, ◌⋅◌}
 use Rattle.octet_language.specs.Reading.{Follows}
-use Rattle.syslog_value.specs.Instants.{IsCivil, IsOffset}
-use Rattle.syslog_value.specs.Parts.{IsInstant}
-use Rattle.syslog_grammar.specs.Appending.{Adds, Puts}
-use Rattle.syslog_grammar.specs.Canonical.{TimeForm, civil_text}
-use Rattle.syslog_grammar.specs.CanonicalOctets.{IsInUtc, shown_parts, utc_fraction}
-use Rattle.syslog_grammar.specs.Dates.{time_of}
-use Rattle.syslog_grammar.specs.Grammar.{Nilable, Spaced}
-use Rattle.syslog_grammar.specs.Parsing.{IsParsed}
-use Rattle.syslog_grammar.specs.Time.{CivilTime, TimeText, instant}
+use Rattle.syslog_fields.specs.Appending.{Adds, Puts}
+use Rattle.syslog_fields.specs.Canonical.{TimeForm, civil_text}
+use Rattle.syslog_fields.specs.Dates.{time_of}
+use Rattle.syslog_fields.specs.Grammar.{Nilable, Spaced}
+use Rattle.syslog_fields.specs.Time.{CivilTime, TimeText, instant}
+use Rattle.syslog_fields.specs.declared.timestamp.Timestamp.{Timestamp}
+use Rattle.syslog_fields.proofs.Appends.{puts_as, puts_then}
+use Rattle.syslog_reading.specs.CanonicalOctets.{IsInUtc, shown_parts, utc_fraction}
+use Rattle.syslog_reading.specs.Parsing.{IsParsed}
+use Rattle.syslog_reading.specs.Views.{message_parts}
+use Rattle.syslog_reading.specs.WellFormed.{AddsCanonical}
+use Rattle.syslog_reading.specs.declared.syntax.Parsed.{Parsed}
+use Rattle.syslog_reading.proofs.ById.{distinct_by_id}
+use Rattle.syslog_reading.proofs.Headers.{time_follows}
+use Rattle.syslog_reading.proofs.Viewing.{time_exists, view_of}
+use Rattle.syslog_reading.proofs.InnerTimes.{IsInnerTime, parsed_range}
 use Rattle.syslog_grammar.specs.Verbatim.{HasOneMessageForm, VerbatimForm}
-use Rattle.syslog_grammar.specs.Views.{message_parts}
-use Rattle.syslog_grammar.specs.WellFormed.{AddsCanonical, WellFormed}
-use Rattle.syslog_grammar.specs.declared.syntax.Parsed.{Parsed}
-use Rattle.syslog_grammar.specs.declared.timestamp.Timestamp.{Timestamp}
-use Rattle.syslog_value.proofs.InnerYears.{in_range}
-use Rattle.syslog_grammar.proofs.Appends.{puts_as, puts_then}
-use Rattle.syslog_grammar.proofs.ById.{distinct_by_id}
-use Rattle.syslog_grammar.proofs.CanonicalForms.{prefix_read, time_follows}
-use Rattle.syslog_grammar.proofs.ReadData.{kept_by_id, kept_form}
-use Rattle.syslog_grammar.proofs.RecordsOf.{some_record}
+use Rattle.syslog_grammar.proofs.CanonicalForms.{prefix_read}
+use Rattle.syslog_grammar.proofs.DataForms.{kept_by_id, kept_form}
 use Rattle.syslog_grammar.proofs.Rewritten.{record_verbatim}
 use Rattle.syslog_grammar.proofs.TimeForms.{TimeSpace}
 use Rattle.syslog_grammar.proofs.UtcTimes.{SpacedTime, least_time, most_micros, utc_text}
-use Rattle.syslog_grammar.proofs.Viewing.{time_exists, view_of}
 
 -- ---- the timestamp
 
@@ -86,34 +84,6 @@ pub utc_within : (time : Option Timestamp) (micros : ℕ) (octets rest : List �
 utc_within None micros octets rest at utc within h = absurd utc
 utc_within (Some t) micros octets rest at (utc, is) within h =
     (least_time t octets rest at within h, omega (arith, is, most_micros t (drop at octets) rest h))
-
--- ---- the year
-
--- a time of an inner year, if there is one
-abbrev pub IsInnerTime : Option Timestamp → Type 0
-IsInnerTime time = IfSome time (λ t. (1 ≤ t.civil.year) × (t.civil.year ≤ 9998))
-
--- it exists
-pub inner_exists : (time : Option Timestamp) (octets rest : List ℕ)
-    → Follows (Spaced (Nilable TimeText (option_map time_of time))) octets rest
-    → IfSome time (λ t. IsCivil t.civil × IsOffset t.offset_minutes)
-inner_exists None octets rest h = tt
-inner_exists (Some t) octets rest (x, e, (s, y, f, h, k)) = time_exists (time_of t) s h
-
--- it names an instant in range
-pub inner_range : (time : Option Timestamp) → IsInnerTime time
-    → IfSome time (λ t. IsCivil t.civil × IsOffset t.offset_minutes)
-    → IfSome (option_map (λ t. instant (time_of t)) time) IsInstant
-inner_range None inner h = tt
-inner_range (Some t) inner h = in_range t.civil t.offset_minutes inner h.0 h.1
-
--- the time of a record
-pub parsed_range : (b : List ℕ) (s : Parsed) → IsParsed b s → IsInnerTime s.fields.time
-    → IfSome (option_map (λ t. instant (time_of t)) s.fields.time) IsInstant
-parsed_range b s k inner =
-    inner_range s.fields.time inner
-    (inner_exists s.fields.time (drop (length b - s.fields.time_remaining) b) s.fields.behind_time.now
-    (time_follows b (drop (length b - s.fields.time_remaining) b) s k refl))
 
 -- ---- the record
 
@@ -181,12 +151,3 @@ verbatim_canonical b old new s k inner form order one adds =
     record_verbatim (shown_parts s i) old new one (kept_form s.is_form s.ascends text ∣ k.forms ∣₁ form) by_id adds b
     (view_of b s i k refl (parsed_range b s k inner)
     (k.elements.0, k.elements.1, distinct_by_id k.elements.0 (by_id k.elements.0 k.elements.1)))
-
--- octets whose ids differ, and whose time is of an inner year, are a record
-pub inner_record : (b : List ℕ) (s : Parsed) → IsParsed b s → s.differ ≡ true → IsInnerTime s.fields.time
-    → AnyOf WellFormed b
-inner_record b s k differ inner =
-    let i : Option ℤ = option_map (λ t. instant (time_of t)) s.fields.time in
-    some_record b (shown_parts s i)
-    (view_of b s i k refl (parsed_range b s k inner)
-    (k.elements.0, k.elements.1, k.differ differ k.elements.0 k.elements.1))

@@ -1,5 +1,5 @@
 -- The canonical text of a record spells it.
-use Rattle.std.proofs.Common.{◌≡◌, ℕ, ◌≤◌, true, List, [], ◌∷◌, ◌++◌, refl, sym, ap, subst, ◌∙◌, append_assoc, arith}
+use Rattle.std.proofs.Common.{◌≡◌, ℕ, ◌≤◌, List, [], ◌∷◌, ◌++◌, refl, sym, ap, subst, ◌∙◌, append_assoc, arith}
 use Rattle.std.proofs.Common.{inl, inr}
 use Rattle.std.specs.Prelude.{◌↔◌, if◌then◌else◌, ℤ, pos, Option, Some, None, IfSome, option_map, decimal, IsUtf8}
 use Rattle.std.specs.List.{AllByRecursion, flat_map}
@@ -11,23 +11,23 @@ use Rattle.syslog_value.specs.Instants.{IsCivil}
 use Rattle.syslog_value.specs.Parts.{ParamParts, ElementParts, MessageParts, AnyOctets, Utf8Text, Parts, IsWord}
 use Rattle.syslog_value.specs.Parts.{IsParam, IsElement, IsMessage, IsInstant, IsRecord, bom}
 use Rattle.syslog_value.specs.declared.civil.Civil.{Civil}
-use Rattle.syslog_grammar.specs.Canonical.{civil_text, TimeForm, priority_version_form, word_form, needs_escape}
-use Rattle.syslog_grammar.specs.Canonical.{escaped, param_form, element_form, structured_data_form, message_form}
-use Rattle.syslog_grammar.specs.Canonical.{SpacedWord, HeaderForm, Canonical}
-use Rattle.syslog_grammar.specs.Faults.{IsInRange}
-use Rattle.syslog_grammar.specs.Grammar.{Header, Spaced, Nilable, Word, Param, Element, StructuredDataText, MessagePart}
-use Rattle.syslog_grammar.specs.Grammar.{SyslogMsg}
-use Rattle.syslog_grammar.specs.Time.{CivilTime, TimeText, Decimals, instant, padded}
-use Rattle.syslog_grammar.specs.Unsorted.{HasRecordParts}
-use Rattle.syslog_grammar.specs.Utf8.{Character, IsCharacter}
-use Rattle.syslog_grammar.specs.Values.{IsSpecial, Piece, Spells}
-use Rattle.syslog_grammar.specs.WellFormed.{WellFormed}
-use Rattle.syslog_grammar.proofs.ById.{distinct_by_id}
-use Rattle.syslog_grammar.proofs.EscapedRuns.{kept}
-use Rattle.syslog_grammar.proofs.Laws.{one_meaning}
-use Rattle.syslog_grammar.proofs.Unescaped.{plain_bare, special_test}
-use Rattle.syslog_grammar.proofs.Utf8Text.{IsText-utf8}
-use Rattle.syslog_grammar.proofs.Values.{plain_or}
+use Rattle.syslog_fields.specs.Canonical.{civil_text, TimeForm, priority_version_form, word_form, needs_escape, escaped}
+use Rattle.syslog_fields.specs.Canonical.{param_form, element_form, structured_data_form, message_form, SpacedWord}
+use Rattle.syslog_fields.specs.Canonical.{HeaderForm, Canonical}
+use Rattle.syslog_fields.specs.Grammar.{Header, Spaced, Nilable, Word, Param, Element, StructuredDataText, MessagePart}
+use Rattle.syslog_fields.specs.Grammar.{SyslogMsg}
+use Rattle.syslog_fields.specs.Time.{CivilTime, TimeText, Decimals, instant, padded}
+use Rattle.syslog_fields.specs.Utf8.{Character, IsCharacter}
+use Rattle.syslog_fields.specs.Values.{IsSpecial, Piece, Spells}
+use Rattle.syslog_fields.proofs.Unescaped.{plain_bare, special_test}
+use Rattle.syslog_fields.proofs.Utf8Text.{IsText-utf8}
+use Rattle.syslog_fields.proofs.Values.{plain_or}
+use Rattle.syslog_fields.proofs.EscapedRuns.{bare}
+use Rattle.syslog_reading.specs.Faults.{IsInRange}
+use Rattle.syslog_reading.specs.WellFormed.{HasRecordParts, WellFormed}
+use Rattle.syslog_reading.proofs.ById.{distinct_by_id}
+use Rattle.syslog_reading.proofs.Laws.{one_meaning}
+use Rattle.syslog_reading.proofs.Props.{once}
 
 -- ---- the header
 
@@ -187,10 +187,6 @@ header_parsed r t time rest b k text e (x3, y3, e3, h3, (x4, y4, e4, h4, (x5, y5
 )
 
 -- ---- values
-
-pub bare : (c : List ℕ) → AllByRecursion (λ x. ¬ (needs_escape x ≡ true)) c → escaped c ≡ c
-bare [] h = refl
-bare (x ∷ c) h = kept x c h.0 ∙ ap (λ (s : List ℕ). x ∷ s) (bare c h.1)
 
 pub special : (x : ℕ) → IsSpecial x → escaped (x ∷ []) ≡ 92 ∷ x ∷ []
 special x h = rw (special_test x h) refl
@@ -390,11 +386,6 @@ time_once : (i : Option ℤ) (b c : List ℕ) → TimeForm i b → TimeForm i c 
 time_once None b c h k = h ∙ sym k
 time_once (Some i) b c (u, uc, ui, ub) (v, vc, vi, vb) =
     ub ∙ ap civil_text (civil-injective u v uc vc (ui ∙ sym vi)) ∙ sym vb
-
-pub once : (A B : Language) (b c : List ℕ) → ((s t : List ℕ) → A s → A t → s ≡ t) → ((s t : List ℕ) → B s → B t → s ≡ t)
-    → (A ⋅ B) b → (A ⋅ B) c → b ≡ c
-once A B b c one two (x, y, e, h, k) (u, v, f, i, j) =
-    e ∙ ap (λ (s : List ℕ). s ++ y) (one x u h i) ∙ ap (λ (s : List ℕ). u ++ s) (two y v k j) ∙ sym f
 
 only_once : (a s t : List ℕ) → Only a s → Only a t → s ≡ t
 only_once a s t h k = h ∙ sym k

@@ -1,21 +1,24 @@
 -- Items that are read one by one, their canonical texts, and elements by id.
-use Rattle.std.proofs.Common.{◌≡◌, ℕ, List, [], ◌∷◌, ◌++◌, refl, sym, ap, subst, ◌∙◌, append_assoc, inl, inr, Bool}
-use Rattle.std.specs.Prelude.{◌↔◌, IsTrue, Option, Some, None}
-use Rattle.std.specs.List.{AllByRecursion, flat_map}
+use Rattle.std.proofs.Common.{◌≡◌, ℕ, List, [], ◌∷◌, ◌++◌, refl, sym, ap, subst, ◌∙◌, append_assoc, Bool}
+use Rattle.std.specs.Prelude.{◌↔◌, IsTrue}
 use Rattle.octet_language.specs.Language.{Language, AnyOf, Each, IsPrefixFree}
 use Rattle.octet_language.specs.Reading.{Follows}
-use Rattle.syslog_value.specs.Order.{OctetsBelow}
-use Rattle.syslog_value.specs.Parts.{ParamParts, ElementParts, IsById}
-use Rattle.syslog_value.proofs.Octets.{below_itself, below_trans}
-use Rattle.syslog_grammar.specs.Canonical.{escaped, param_form, element_form, structured_data_form}
+use Rattle.syslog_value.specs.Parts.{ParamParts, ElementParts}
+use Rattle.std.specs.Prelude.{◌&&◌, true, false}
+use Rattle.std.proofs.Math.Logic.{∥∥₁_elim}
+use Rattle.syslog_value.specs.Parts.{IsById}
+use Rattle.syslog_fields.specs.Canonical.{escaped, param_form, structured_data_form}
+use Rattle.syslog_fields.specs.Grammar.{Element, StructuredDataText}
+use Rattle.syslog_fields.specs.FirstElements.{SplitsElement}
+use Rattle.syslog_fields.specs.Spans.{ElementSpan, SpannedElement}
+use Rattle.syslog_fields.proofs.ParamTexts.{IsPrefixFree-element, spanned_element}
+use Rattle.syslog_reading.proofs.OneMeaning.{by_prefix}
+use Rattle.syslog_reading.specs.DataForms.{HasDataForms}
+use Rattle.syslog_reading.proofs.Props.{by_id_prop, texts_set}
 use Rattle.syslog_grammar.specs.ElementOrders.{IsInOrder}
-use Rattle.syslog_grammar.specs.Grammar.{Element, StructuredDataText}
-use Rattle.syslog_grammar.specs.Ids.{IsAbove, IsAtMost, IsRisingFrom, ids_of}
-use Rattle.syslog_grammar.specs.FirstElements.{SplitsElement}
-use Rattle.syslog_grammar.specs.Spans.{ElementSpan, SpannedElement}
 use Rattle.syslog_grammar.specs.declared.canonical_form.ElementOrder.{ElementOrder}
-use Rattle.syslog_grammar.proofs.OneMeaning.{by_prefix}
-use Rattle.syslog_grammar.proofs.ParamTexts.{IsPrefixFree-element, spanned_element}
+use Rattle.syslog_grammar.specs.Reescaped.{ElementsOf, StructuredDataOf}
+use Rattle.syslog_grammar.specs.declared.canonical_form.ElementOrder.TheVariants.{ById, AsGiven}
 
 -- ---- one item
 
@@ -33,42 +36,7 @@ item A S one from v vs w rest behind (x, y, e, h, k) (t, f, s) =
 pub form_raw : (p : ParamParts) → param_form p ≡ 32 ∷ (p.name ++ 61 ∷ 34 ∷ (escaped p.value ++ 34 ∷ []))
 form_raw p = ap (λ (s : List ℕ). 32 ∷ s) (append_assoc p.name (61 ∷ 34 ∷ escaped p.value) (34 ∷ []))
 
--- ---- elements by id
-
-abbrev pub AllAbove : Option (List ℕ) → List ElementParts → Type 0
-AllAbove met es = AllByRecursion (λ e. IsAbove e.id met) es
-
-pub rising_of : (met : Option (List ℕ)) (es : List ElementParts) → AllAbove met es → IsById es
-    → IsRisingFrom met (ids_of es)
-rising_of met [] above by_id = tt
-rising_of met (e ∷ es) above by_id = (above.0, rising_of (Some e.id) es by_id.0 by_id.1)
-
-pub none_met : (es : List ElementParts) → AllAbove None es
-none_met [] = tt
-none_met (e ∷ es) = (tt, none_met es)
-
-further : (met : Option (List ℕ)) (id : List ℕ) (es : List ElementParts) → IsAbove id met → AllAbove (Some id) es
-    → AllAbove met es
-further None id es a h = none_met es
-further (Some g) id [] a h = tt
-further (Some g) id (e ∷ es) a h = (below_trans g id e.id a h.0, further (Some g) id es a h.1)
-
-pub of_rising : (met : Option (List ℕ)) (es : List ElementParts) → IsRisingFrom met (ids_of es)
-    → AllAbove met es × IsById es
-of_rising met [] h = (tt, tt)
-of_rising met (e ∷ es) h =
-    let deeper = of_rising (Some e.id) es h.1 in
-    ((h.0, further met e.id es h.0 deeper.0), (deeper.0, deeper.1))
-
-pub not_above : (id : List ℕ) (met : Option (List ℕ)) → IsAtMost id met → ¬ (IsAbove id met)
-not_above id None h a = h
-not_above id (Some g) (inl same) a = below_itself id (subst (λ (l : List ℕ). OctetsBelow l id) (sym same) a)
-not_above id (Some g) (inr less) a = below_itself id (below_trans id g id less a)
-
 -- ---- elements
-
-pub form_text : (d : ElementParts) → element_form d ≡ 91 ∷ (d.id ++ (flat_map param_form d.params ++ 93 ∷ []))
-form_text d = ap (λ (s : List ℕ). 91 ∷ s) (append_assoc d.id (flat_map param_form d.params) (93 ∷ []))
 
 -- the first of the elements that are left
 pub record Item (v : ElementSpan) (rest behind : List ℕ) (todo : List ElementParts) : Type 0 where
@@ -95,3 +63,44 @@ first_item rest behind after x v (d ∷ todo) e f k =
 abbrev pub DataAnswer : ElementOrder → Bool → List ℕ → Type 0
 DataAnswer order r text = (es : List ElementParts) → StructuredDataText es text
     → IsTrue r ↔ ((text ≡ structured_data_form es) × IsInOrder order es)
+
+both_iff : (a b : Bool) (P Q : Type 0) → (IsTrue a ↔ P) → (IsTrue b ↔ Q) → IsTrue (a && b) ↔ (P × Q)
+both_iff true true P Q h k = (λ u. (h.0 refl, k.0 refl), λ p. refl)
+both_iff true false P Q h k = (λ u. absurd cc, λ p. k.1 p.1)
+both_iff false true P Q h k = (λ u. absurd cc, λ p. h.1 p.0)
+both_iff false false P Q h k = (λ u. absurd cc, λ p. h.1 p.0)
+
+pub forms_by_id : (a ascends r : Bool) → r ≡ (a && ascends) → (text : List ℕ) → HasDataForms a ascends text
+    → DataAnswer ById r text
+forms_by_id a ascends r e text h es d =
+    subst (λ (x : Bool). IsTrue x ↔ ((text ≡ structured_data_form es) × IsById es)) (sym e)
+    (both_iff a ascends (text ≡ structured_data_form es) (IsById es) (h es d).0 (h es d).1)
+
+pub forms_any : (a ascends : Bool) (text : List ℕ) → HasDataForms a ascends text → DataAnswer AsGiven a text
+forms_any a ascends text h es d = (λ u. ((h es d).0.0 u, tt), λ p. (h es d).0.1 p.0)
+
+-- canonical as it lies, but for the order
+pub kept_form : (a ascends : Bool) (text : List ℕ) → ∥ HasDataForms a ascends text ∥₁ → a ≡ true
+    → StructuredDataOf text text
+kept_form a ascends text h f es d =
+    ∥∥₁_elim h (texts_set text (structured_data_form es)) (λ k. (k es d).0.0 f)
+
+-- not canonical as it lies, so there are elements
+pub kept_elements : (a ascends : Bool) (text : List ℕ) → ∥ HasDataForms a ascends text ∥₁ → a ≡ false
+    → (b : List ℕ) → ElementsOf text b → StructuredDataOf text b
+kept_elements a ascends text h f b k [] d =
+    absurd (∥∥₁_elim h (λ x y. absurd x) (λ g. let i : a ≡ true = (g [] d).0.1 d in
+    let j : false ≡ true = sym f ∙ i in absurd cc))
+kept_elements a ascends text h f b k (e ∷ es) d = k (e ∷ es) d
+
+-- by id
+pub kept_by_id : (a ascends : Bool) (text : List ℕ) → ∥ HasDataForms a ascends text ∥₁ → ascends ≡ true
+    → (es : List ElementParts) → StructuredDataText es text → IsById es
+kept_by_id a ascends text h f es d = ∥∥₁_elim h (by_id_prop es) (λ k. (k es d).1.0 f)
+
+-- not by id
+pub kept_unordered : (a ascends : Bool) (text : List ℕ) → ∥ HasDataForms a ascends text ∥₁ → ascends ≡ false
+    → (es : List ElementParts) → StructuredDataText es text → ¬ (IsById es)
+kept_unordered a ascends text h f es d by_id =
+    ∥∥₁_elim h (λ x y. absurd x) (λ k. let g : ascends ≡ true = (k es d).1.1 by_id in let i : false ≡ true = sym f ∙ g
+    in absurd cc)

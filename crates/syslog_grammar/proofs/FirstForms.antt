@@ -6,27 +6,27 @@ use Rattle.std.specs.Prelude.{IsTrue, MatchResult, Some, None, Result, Ok, Err}
 use Rattle.std.specs.List.{AllByRecursion, flat_map}
 use Rattle.std.proofs.lemmas.Bool.{cases_eq, false≢true}
 use Rattle.std.proofs.lemmas.Bool.Decides.{nat_tests}
-use Rattle.std.proofs.lemmas.List.{append-nil, drop_at, length-append, take-append-drop, take_at}
+use Rattle.std.proofs.lemmas.List.{append-nil, drop_at, length-append, take-append-drop}
 use Rattle.memchr.specs.Find.{IsFirstByte, is_byte2}
 use Rattle.octet_language.specs.Language.{Each, IfFirst, Only}
 use Rattle.octet_language.proofs.Lists.{heads, parted, tails}
 use Rattle.syslog_value.specs.Parts.{IsNameOctet, ParamParts}
-use Rattle.syslog_grammar.specs.Appending.{Adds, Anything}
-use Rattle.syslog_grammar.specs.Canonical.{escaped, param_form}
-use Rattle.syslog_grammar.specs.Escapes.{BeginsSpecial}
-use Rattle.syslog_grammar.specs.FirstElements.{IsFirstId, IsIdLength, IsNameLength, IsPaired, takes_next}
-use Rattle.syslog_grammar.specs.Grammar.{Param}
-use Rattle.syslog_grammar.specs.Reescaped.{FirstElement, FirstParam, FirstParams, FirstValue, KeptTo}
-use Rattle.syslog_grammar.specs.Reescaped.{RunForm}
-use Rattle.syslog_grammar.specs.Values.{AreEscapes, IsSpecial, PassesEscapes, Piece}
-use Rattle.syslog_grammar.proofs.Appends.{adds_some}
-use Rattle.syslog_grammar.proofs.Characters.{character_some}
-use Rattle.syslog_grammar.proofs.DataForms.{form_raw, form_text}
-use Rattle.syslog_grammar.proofs.FirstElements.{id_ends, is_test, paired_takes, paired_value}
-use Rattle.syslog_grammar.proofs.ParamTexts.{param_prefix}
-use Rattle.syslog_grammar.proofs.Repeating.{prefix_is}
-use Rattle.syslog_grammar.proofs.ValueForms.{all_plain, escape, escaped_join, escaped_special, joined, lone_more, no_plain}
-use Rattle.syslog_grammar.proofs.ValueForms.{runs}
+use Rattle.syslog_fields.specs.Appending.{Adds, Anything}
+use Rattle.syslog_fields.specs.Canonical.{escaped, param_form}
+use Rattle.syslog_fields.specs.Escapes.{BeginsSpecial}
+use Rattle.syslog_fields.specs.FirstElements.{IsIdLength, IsNameLength, IsPaired, takes_next}
+use Rattle.syslog_fields.specs.Grammar.{Param}
+use Rattle.syslog_fields.specs.Values.{AreEscapes, IsSpecial, PassesEscapes, Piece}
+use Rattle.syslog_fields.proofs.Appends.{adds_some}
+use Rattle.syslog_fields.proofs.Characters.{character_some}
+use Rattle.syslog_fields.proofs.ReadForms.{form_text}
+use Rattle.syslog_fields.proofs.FirstElements.{id_ends, is_test, paired_takes, paired_value}
+use Rattle.syslog_fields.proofs.ParamTexts.{param_prefix}
+use Rattle.syslog_fields.proofs.ValueForms.{all_plain, escape, escaped_join, escaped_special, joined, lone_more}
+use Rattle.syslog_fields.proofs.ValueForms.{no_plain, runs}
+use Rattle.syslog_reading.proofs.Repeating.{prefix_is}
+use Rattle.syslog_grammar.specs.Reescaped.{FirstElement, FirstParam, FirstParams, FirstValue, KeptTo, RunForm}
+use Rattle.syslog_grammar.proofs.DataForms.{form_raw}
 
 -- ---- the marks of a value
 
@@ -497,19 +497,6 @@ element_begun octets behind params head rest old mid new n b len p t (x, xs, xe)
       ),
   ye ∙ ap (λ (s : List ℕ). s ++ y) xe ∙ append_assoc old x y,
 )
-
--- the id of the first element
-pub id_first : (octets behind id : List ℕ) (n : ℕ) → behind ≡ drop 1 octets → IsIdLength behind n
-    → id ≡ take n behind → IsFirstId octets id
-id_first octets behind id n b len t d after
-    (text, parts, (a, c, e, h, (w, z, f, (valid, name), (u, v, g, each, close)))) =
-    let inside : octets ≡ 91 ∷ (w ++ (u ++ 93 ∷ after)) =
-    parts ∙ rw (e, f, g, h, close) (ap (λ (s : List ℕ). 91 ∷ s)
-    (append_assoc w (u ++ 93 ∷ []) after ∙ ap (λ (s : List ℕ). w ++ s) (append_assoc u (93 ∷ []) after))) in
-    let behind_is : behind ≡ w ++ (u ++ 93 ∷ after) = b ∙ ap (drop 1) inside in
-    let n_is : n ≡ length w = id_ends d.params u after w behind behind_is
-    (subst (AllByRecursion IsNameOctet) (sym name) valid.octets) each n len in
-    t ∙ rw (n_is, behind_is) (take_at w (u ++ 93 ∷ after) (length w) refl) ∙ name
 
 -- ---- what is put at last
 

@@ -7,17 +7,17 @@ use Rattle.octet_language.specs.Language.{Language, Only, ◌⋅◌, AnyOf, Each
 use Rattle.octet_language.proofs.Chain.{IsPrefixFree-only}
 use Rattle.octet_language.proofs.Sequence.{IsPrefixFree-then}
 use Rattle.syslog_value.specs.Parts.{ElementParts}
-use Rattle.syslog_grammar.specs.Faults.{AreDistinct, EndsIn, FaultOf, HoldsStructuredData, PrefixEnds, Repeats, times}
-use Rattle.syslog_grammar.specs.Grammar.{HeaderParts, Header, Priority, Version, Spaced, Element, SyslogMsg}
-use Rattle.syslog_grammar.specs.declared.fault.Field.{Field}
-use Rattle.syslog_grammar.specs.declared.fault.Field.TheVariants as field
-use Rattle.syslog_grammar.specs.declared.fault.Fault.{Fault}
-use Rattle.syslog_grammar.specs.declared.fault.Fault.TheVariants.{Syntax, InstantRange, RepeatedId}
-use Rattle.syslog_grammar.proofs.Excluded.{not_distinct, same_range}
-use Rattle.syslog_grammar.proofs.Headers.{IsPrefixFree-header}
-use Rattle.syslog_grammar.proofs.Laws.{same_parts}
-use Rattle.syslog_grammar.proofs.Numbers.{IsPrefixFree-priority, IsPrefixFree-version}
-use Rattle.syslog_grammar.proofs.ParamTexts.{IsPrefixFree-element}
+use Rattle.syslog_reading.specs.declared.fault.Field.TheVariants as field
+use Rattle.syslog_fields.specs.Grammar.{HeaderParts, Header, Priority, Version, Spaced, Element, SyslogMsg}
+use Rattle.syslog_fields.proofs.Numbers.{IsPrefixFree-priority, IsPrefixFree-version}
+use Rattle.syslog_fields.proofs.ParamTexts.{IsPrefixFree-element}
+use Rattle.syslog_reading.specs.Faults.{AreDistinct, EndsIn, FaultOf, HoldsStructuredData, PrefixEnds, Repeats, times}
+use Rattle.syslog_reading.specs.declared.fault.Field.{Field}
+use Rattle.syslog_reading.specs.declared.fault.Fault.{Fault}
+use Rattle.syslog_reading.specs.declared.fault.Fault.TheVariants.{Syntax, InstantRange, RepeatedId}
+use Rattle.syslog_reading.proofs.Excluded.{not_distinct, same_range}
+use Rattle.syslog_reading.proofs.Headers.{IsPrefixFree-header}
+use Rattle.syslog_reading.proofs.Laws.{same_parts}
 
 -- ---- the octets that count
 

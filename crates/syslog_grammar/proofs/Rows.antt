@@ -5,10 +5,10 @@ use Rattle.std.specs.Fmt.{digits}
 use Rattle.octet_language.specs.Language.{Language, Only, ◌⋅◌}
 use Rattle.syslog_value.specs.Calendar.{day_number, days_of_years, days_of_months}
 use Rattle.syslog_value.specs.Parts.{Parts, AnyOctets}
-use Rattle.syslog_grammar.specs.Utf8.{IsCharacter}
-use Rattle.syslog_grammar.specs.Values.{Spells, IsPlain}
-use Rattle.syslog_grammar.specs.Time.{CivilTime, instant, TimeText, OffsetText}
-use Rattle.syslog_grammar.specs.Grammar.{Priority, SyslogMsg, Header, header_of}
+use Rattle.syslog_fields.specs.Utf8.{IsCharacter}
+use Rattle.syslog_fields.specs.Values.{Spells, IsPlain}
+use Rattle.syslog_fields.specs.Time.{CivilTime, instant, TimeText, OffsetText}
+use Rattle.syslog_fields.specs.Grammar.{Priority, SyslogMsg, Header, header_of}
 
 abbrev at : ℕ → ℕ → ℕ → ℕ → ℕ → ℕ → ℕ → ℤ → CivilTime
 at y mo d h mi s us o = record {

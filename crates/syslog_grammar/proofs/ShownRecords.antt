@@ -5,16 +5,16 @@ use Rattle.std.proofs.Math.Logic.{∥∥₁_elim}
 use Rattle.std.proofs.Props.{props}
 use Rattle.std.proofs.lemmas.List.{append_cancel_left}
 use Rattle.syslog_value.specs.Parts.{Parts, IsRecord}
-use Rattle.syslog_grammar.specs.Appending.{Adds}
-use Rattle.syslog_grammar.specs.Canonical.{Canonical}
-use Rattle.syslog_grammar.specs.ShownParts.{ViewParts, IsViewOf, IsSpelled}
-use Rattle.syslog_grammar.specs.ShownRecords.{AddsShown}
-use Rattle.syslog_grammar.specs.WellFormed.{AddsCanonical, WellFormed}
-use Rattle.syslog_grammar.proofs.CanonicalParses.{canonical_injective}
-use Rattle.syslog_grammar.proofs.Laws.{same_parts}
-use Rattle.syslog_grammar.proofs.Props.{canonical_prop, record_prop, texts_set, unique_prop}
-use Rattle.syslog_grammar.proofs.Valid.{well_formed_valid}
 use mathlib.Core.HLevel.{×_prop}
+use Rattle.syslog_fields.specs.Appending.{Adds}
+use Rattle.syslog_fields.specs.Canonical.{Canonical}
+use Rattle.syslog_reading.specs.ShownParts.{ViewParts, IsViewOf, IsSpelled}
+use Rattle.syslog_reading.specs.WellFormed.{AddsCanonical, WellFormed}
+use Rattle.syslog_reading.proofs.Laws.{same_parts}
+use Rattle.syslog_reading.proofs.Props.{canonical_prop, record_prop, texts_set, unique_prop}
+use Rattle.syslog_reading.proofs.Valid.{well_formed_valid}
+use Rattle.syslog_grammar.specs.ShownRecords.{AddsShown}
+use Rattle.syslog_grammar.proofs.CanonicalParses.{canonical_injective}
 
 -- a record of this instant whose canonical text was added
 AddsRecordAt : ViewParts → List ℕ → List ℕ → Type 0

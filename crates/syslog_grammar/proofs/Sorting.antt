@@ -4,27 +4,29 @@ use Rattle.std.proofs.Common.{refl, sym, ap, subst, ◌∙◌, append_assoc, add
 use Rattle.std.specs.Prelude.{Option, Some, None, Bool, true, false, IsTrue, Result, Ok, Err, ⊤}
 use Rattle.std.specs.List.{flat_map, swap}
 use Rattle.std.specs.List.Sorted.{IsPermutation}
-use Rattle.std.proofs.lemmas.List.{append-nil, drop_at, length-append, take_more_set}
+use Rattle.std.proofs.lemmas.List.{append-nil, take_more_set}
 use Rattle.std.proofs.lemmas.List.Sorted.{IsPermutation-keeps, IsPermutation-refl, IsPermutation-swap}
 use Rattle.std.proofs.lemmas.List.Sorted.{IsPermutation-trans, length_permutation}
 use Rattle.octet_language.specs.Language.{AnyOf}
 use Rattle.octet_language.proofs.Lists.{heads}
 use Rattle.syslog_value.specs.Parts.{ElementParts, IsById}
-use Rattle.syslog_grammar.specs.Appending.{Adds, Anything}
-use Rattle.syslog_grammar.specs.Canonical.{element_form, structured_data_form}
-use Rattle.syslog_grammar.specs.FirstElements.{IsFirstId, SplitsElement}
-use Rattle.syslog_grammar.specs.Grammar.{Element}
-use Rattle.syslog_grammar.specs.Ids.{IsAbove, IsRisingFrom, ids_of}
+use Rattle.syslog_fields.specs.Appending.{Adds, Anything}
+use Rattle.syslog_fields.specs.Canonical.{element_form, structured_data_form}
+use Rattle.syslog_fields.specs.FirstElements.{IsFirstId, SplitsElement}
+use Rattle.syslog_fields.specs.Grammar.{Element}
+use Rattle.syslog_fields.specs.Spans.{ElementSpan, SpannedElement}
+use Rattle.syslog_fields.proofs.ParamTexts.{IsPrefixFree-element, element_prefix, spanned_element}
+use Rattle.syslog_fields.proofs.Loops.{left_at}
+use Rattle.syslog_reading.specs.Ids.{IsAbove, IsRisingFrom, ids_of}
+use Rattle.syslog_reading.proofs.Rising.{of_rising}
+use Rattle.syslog_reading.proofs.OneMeaning.{by_prefix}
+use Rattle.syslog_reading.proofs.Repeating.{prefix_is, split}
+use Rattle.syslog_reading.proofs.Valid.{valid_element}
 use Rattle.syslog_grammar.specs.Reescaped.{FirstElement, PutsUnless}
 use Rattle.syslog_grammar.specs.Sorting.{AreElementsOf, FirstOf, FormInOrder, IsKeyOf, IsTextOf, Pairs, SortedDataOf}
 use Rattle.syslog_grammar.specs.Sorting.{SortedElementsOf, TextForm, offset_of}
-use Rattle.syslog_grammar.specs.Spans.{ElementSpan, SpannedElement}
-use Rattle.syslog_grammar.proofs.DataForms.{item, of_rising}
+use Rattle.syslog_grammar.proofs.DataForms.{item}
 use Rattle.syslog_grammar.proofs.CanonicalParses.{element_parsed}
-use Rattle.syslog_grammar.proofs.OneMeaning.{by_prefix}
-use Rattle.syslog_grammar.proofs.ParamTexts.{IsPrefixFree-element, element_prefix, spanned_element}
-use Rattle.syslog_grammar.proofs.Repeating.{prefix_is, split}
-use Rattle.syslog_grammar.proofs.Valid.{valid_element}
 
 -- ---- what stands for the elements
 
@@ -83,12 +85,6 @@ fills_more {K} R elements rest behind after x count key keys v e f room stands f
               (pairs_end (R a) done (take count keys) d key k (stands a d todo s.prefix s.parts l one)),
           (s.others, λ u. (form u).1),
         )
-
--- what is left of a text is what it has from the offset on where that begins
-pub left_at : (text prefix rest : List ℕ) → text ≡ prefix ++ rest → rest ≡ drop (length text - length rest) text
-left_at text prefix rest e =
-    let n : length text - length rest ≡ length prefix = omega (arith, ap length e, length-append prefix rest) in
-    rw (n, e) (sym (drop_at prefix rest (length prefix) refl))
 
 -- a key
 pub keys_more : (elements rest behind after prefix : List ℕ) (x count key : ℕ) (keys : List ℕ) (v : ElementSpan)

@@ -7,13 +7,13 @@ use Rattle.octet_language.specs.Language.{Language, Only, ◌⋅◌}
 use Rattle.octet_language.specs.Reading.{Follows}
 use Rattle.syslog_value.specs.Instants.{IsCivil}
 use Rattle.syslog_value.specs.declared.civil.Civil.{Civil}
-use Rattle.syslog_grammar.specs.Canonical.{civil_text, TimeForm}
-use Rattle.syslog_grammar.specs.Grammar.{Nilable, Spaced}
-use Rattle.syslog_grammar.specs.Time.{CivilTime, TimeText, instant}
+use Rattle.syslog_fields.specs.Canonical.{civil_text, TimeForm}
+use Rattle.syslog_fields.specs.Grammar.{Nilable, Spaced}
+use Rattle.syslog_fields.specs.Time.{CivilTime, TimeText, instant}
+use Rattle.syslog_fields.proofs.Fractions.{AnyTime, IsPrefixFree-nilable_time}
+use Rattle.syslog_reading.proofs.OneMeaning.{time_same}
+use Rattle.syslog_reading.proofs.Viewing.{time_exists}
 use Rattle.syslog_grammar.proofs.CanonicalParses.{named, at_utc, civil_parsed}
-use Rattle.syslog_grammar.proofs.Fractions.{AnyTime, IsPrefixFree-nilable_time}
-use Rattle.syslog_grammar.proofs.OneMeaning.{time_same}
-use Rattle.syslog_grammar.proofs.Viewing.{time_exists}
 
 abbrev pub TimeSpace : Option ℤ → Language
 TimeSpace i = TimeForm i ⋅ Only (32 ∷ [])

@@ -8,16 +8,16 @@ use Rattle.octet_language.specs.Digits.{IsDigit, read_on}
 use Rattle.octet_language.specs.Language.{Only, ◌⋅◌}
 use Rattle.octet_language.specs.Reading.{Follows}
 use Rattle.syslog_value.specs.declared.civil.Civil.{Civil}
-use Rattle.syslog_grammar.specs.Canonical.{civil_text}
-use Rattle.syslog_grammar.specs.CanonicalOctets.{utc_fraction}
-use Rattle.syslog_grammar.specs.Dates.{time_of}
-use Rattle.syslog_grammar.specs.Grammar.{Nilable, Spaced}
-use Rattle.syslog_grammar.specs.Time.{CivilTime, FractionText, OffsetText, TimeText, ZoneText, instant, padded}
-use Rattle.syslog_grammar.specs.declared.timestamp.Timestamp.{Timestamp}
+use Rattle.syslog_fields.specs.Canonical.{civil_text}
+use Rattle.syslog_fields.specs.Dates.{time_of}
+use Rattle.syslog_fields.specs.Grammar.{Nilable, Spaced}
+use Rattle.syslog_fields.specs.Time.{CivilTime, FractionText, OffsetText, TimeText, ZoneText, instant, padded}
+use Rattle.syslog_fields.specs.declared.timestamp.Timestamp.{Timestamp}
+use Rattle.syslog_reading.specs.CanonicalOctets.{utc_fraction}
+use Rattle.syslog_reading.proofs.OneMeaning.{fixed}
+use Rattle.syslog_reading.proofs.Viewing.{time_exists}
 use Rattle.syslog_grammar.proofs.Bounded.{civil_len, time_some}
-use Rattle.syslog_grammar.proofs.OneMeaning.{fixed}
 use Rattle.syslog_grammar.proofs.TimeForms.{TimeSpace, formed, unformed}
-use Rattle.syslog_grammar.proofs.Viewing.{time_exists}
 
 -- digits are the number that they spell, in so many digits
 digits_padded : (b : List ℕ) (w n : ℕ) → AllByRecursion IsDigit b

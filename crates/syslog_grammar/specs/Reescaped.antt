@@ -1,13 +1,13 @@
 -- The canonical form of structured data by any spelling of it.
-use Rattle.std.specs.Prelude.{◌≡◌, ℕ, List, [], ◌∷◌, ◌++◌, ◌<◌, length, Bool, true, false, Result, Ok, Err}
+use Rattle.std.specs.Prelude.{◌≡◌, ℕ, List, [], ◌∷◌, ◌++◌, Bool, true, false, Result, Ok, Err}
 use Rattle.std.specs.List.{flat_map}
 use Rattle.octet_language.specs.Language.{Language, Only, ◌⋅◌, Each}
 use Rattle.octet_language.specs.Reading.{Follows}
 use Rattle.syslog_value.specs.Parts.{ElementParts, IsById}
-use Rattle.syslog_grammar.specs.Appending.{Anything, Adds}
-use Rattle.syslog_grammar.specs.Canonical.{escaped, param_form, element_form, structured_data_form}
-use Rattle.syslog_grammar.specs.Grammar.{Param, Element, StructuredDataText}
-use Rattle.syslog_grammar.specs.Values.{Piece, Spells}
+use Rattle.syslog_fields.specs.Appending.{Anything, Adds}
+use Rattle.syslog_fields.specs.Canonical.{escaped, param_form, element_form, structured_data_form}
+use Rattle.syslog_fields.specs.Grammar.{Param, Element, StructuredDataText}
+use Rattle.syslog_fields.specs.Values.{Piece, Spells}
 
 -- where a text of some value comes first, this is the form of that value, and the rest follows the text
 abbrev pub FirstForm : {V : Type 0} → (V → Language) → (V → List ℕ) → List ℕ → List ℕ → Language
@@ -68,11 +68,3 @@ abbrev pub PutsUnless : {E : Type 0} → Language → Type 0 → List ℕ → Li
 PutsUnless L Cause old new (Ok true) = Adds L old new
 PutsUnless L Cause old new (Ok false) = Adds Anything old new × Cause
 PutsUnless L Cause old new (Err e) = Adds Anything old new
-
--- the spelling is its own canonical form
-abbrev pub IsOwnForm : List ℕ → Type 0
-IsOwnForm raw = (ms : List (List ℕ)) → Each Piece ms raw → escaped (flat_map (λ m. m) ms) ≡ raw
-
--- the canonical form is longer than the spelling
-abbrev pub HasLongerForm : List ℕ → Type 0
-HasLongerForm raw = (ms : List (List ℕ)) → Each Piece ms raw → length raw < length (escaped (flat_map (λ m. m) ms))

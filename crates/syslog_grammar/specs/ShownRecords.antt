@@ -1,9 +1,9 @@
 -- The record that a view shows, and its canonical text.
 use Rattle.std.specs.Prelude.{◌≡◌, ℕ, ℤ, List, ◌++◌}
 use Rattle.syslog_value.specs.Parts.{Parts, IsRecord}
-use Rattle.syslog_grammar.specs.Canonical.{Canonical}
-use Rattle.syslog_grammar.specs.ShownParts.{ViewParts, IsViewOf}
-use Rattle.syslog_grammar.specs.WellFormed.{WellFormed}
+use Rattle.syslog_fields.specs.Canonical.{Canonical}
+use Rattle.syslog_reading.specs.ShownParts.{ViewParts, IsViewOf}
+use Rattle.syslog_reading.specs.WellFormed.{WellFormed}
 
 -- the canonical text of one record follows the old octets: of the record that all octets spell of which this is shown
 pub record AddsShown (s : ViewParts) (old new : List ℕ) : Type 0 where

@@ -5,8 +5,8 @@ use Rattle.std.specs.List.{flat_map}
 use Rattle.std.specs.List.Sorted.{IsPermutation}
 use Rattle.octet_language.specs.Language.{Language, Each}
 use Rattle.syslog_value.specs.Parts.{ElementParts, IsById}
-use Rattle.syslog_grammar.specs.Canonical.{element_form, structured_data_form}
-use Rattle.syslog_grammar.specs.Grammar.{Element, StructuredDataText}
+use Rattle.syslog_fields.specs.Canonical.{element_form, structured_data_form}
+use Rattle.syslog_fields.specs.Grammar.{Element, StructuredDataText}
 
 -- the text is that of the elements, and the canonical one where the answer is true
 abbrev pub AreElementsOf : Bool → List ElementParts → Language

@@ -1,23 +1,12 @@
 -- Canonical octets whose elements are in any order.
-use Rattle.std.specs.Prelude.{ℕ, ℤ, ◌≤◌, List, IfSome}
-use Rattle.std.specs.List.{AllByRecursion}
-use Rattle.syslog_value.specs.Parts.{Parts, IsElement, IsInstant, IsMessage, IsWord}
-use Rattle.syslog_grammar.specs.Canonical.{Canonical}
+use Rattle.std.specs.Prelude.{ℕ, ℤ, List}
+use Rattle.syslog_value.specs.Parts.{Parts}
+use Rattle.syslog_fields.specs.Canonical.{Canonical}
+use Rattle.syslog_fields.specs.Grammar.{StructuredDataText}
+use Rattle.syslog_reading.specs.Faults.{AreDistinct}
+use Rattle.syslog_reading.specs.WellFormed.{HasRecordParts}
 use Rattle.syslog_grammar.specs.ElementOrders.{IsInOrder}
-use Rattle.syslog_grammar.specs.Faults.{AreDistinct}
-use Rattle.syslog_grammar.specs.Grammar.{StructuredDataText}
 use Rattle.syslog_grammar.specs.declared.canonical_form.ElementOrder.{ElementOrder}
-
--- each part is one that a record may have, whatever the order of the elements
-pub record HasRecordParts (r : Parts ℤ) : Type 0 where
-  pub priority : r.priority ≤ 191
-  pub time : IfSome r.time IsInstant
-  pub hostname : IfSome r.hostname (IsWord 255)
-  pub app_name : IfSome r.app_name (IsWord 48)
-  pub proc_id : IfSome r.proc_id (IsWord 128)
-  pub msg_id : IfSome r.msg_id (IsWord 32)
-  pub elements : AllByRecursion IsElement r.elements
-  pub message : IsMessage r.message
 
 -- a record whose elements have distinct ids, in any order
 abbrev pub IsUnsortedRecord : Parts ℤ → Type 0

@@ -2,9 +2,9 @@
 use Rattle.std.specs.Prelude.{◌≡◌, ℕ, List, [], ◌∷◌}
 use Rattle.octet_language.specs.Language.{Language, Only, ◌⋅◌}
 use Rattle.syslog_value.specs.Parts.{MessageParts}
-use Rattle.syslog_grammar.specs.Canonical.{HeaderForm, TimeForm, priority_version_form, message_form}
-use Rattle.syslog_grammar.specs.Grammar.{MessagePart}
-use Rattle.syslog_grammar.specs.ViewParts.{ViewParts}
+use Rattle.syslog_fields.specs.Canonical.{HeaderForm, TimeForm, priority_version_form, message_form}
+use Rattle.syslog_fields.specs.Grammar.{MessagePart}
+use Rattle.syslog_reading.specs.ViewParts.{ViewParts}
 
 -- each tail of the message is the canonical one
 abbrev pub HasOneMessageForm : MessageParts → Type 0

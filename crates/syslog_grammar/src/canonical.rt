@@ -5,16 +5,16 @@ ghost use Rattle.std.specs.Option.{option_copied};
 ghost use Rattle.octet_language.specs.Language.{◌⋅◌, Only};
 ghost use Rattle.syslog_value.specs.Instants.{IsCivil};
 ghost use Rattle.syslog_value.specs.Parts.{AnyOctets, Utf8Text};
-ghost use Rattle.syslog_grammar.specs.Appending.{Puts};
-ghost use Rattle.syslog_grammar.specs.Canonical.{Canonical, HeaderForm, SpacedWord, TimeForm};
-ghost use Rattle.syslog_grammar.specs.Canonical.{priority_version_form, message_form};
+ghost use Rattle.syslog_fields.specs.Appending.{Puts};
+ghost use Rattle.syslog_fields.specs.Canonical.{Canonical, HeaderForm, SpacedWord, TimeForm};
+ghost use Rattle.syslog_fields.specs.Canonical.{priority_version_form, message_form};
 
-use crate::appending::put;
 use crate::canonical_data::put_elements;
 use crate::canonical_len::canonical_len;
 use crate::civil_text::civil_text;
 use itoa::Buffer;
 use std::alloc::{AllocError, Global};
+use syslog_fields::appending::put;
 use syslog_value::{Instant, Priority, Record, Word};
 
 /// The fields before the structured data, as a record or its octets lend them.

@@ -1,13 +1,13 @@
 //! The canonical octets of structured data.
 
 ghost use Rattle.octet_language.specs.Language.{Only};
-ghost use Rattle.syslog_grammar.specs.Appending.{Puts};
-ghost use Rattle.syslog_grammar.specs.Canonical.{structured_data_form, element_form, escaped};
-ghost use Rattle.syslog_grammar.specs.Canonical.{param_form};
+ghost use Rattle.syslog_fields.specs.Appending.{Puts};
+ghost use Rattle.syslog_fields.specs.Canonical.{structured_data_form, element_form, escaped};
+ghost use Rattle.syslog_fields.specs.Canonical.{param_form};
 
-use crate::appending::put;
 use memchr::memchr3;
 use std::alloc::AllocError;
+use syslog_fields::appending::put;
 use syslog_value::{Element, Param};
 
 /// Appends a value with a backslash before each octet that needs one.

@@ -5,27 +5,27 @@ ghost use Rattle.std.specs.Prelude.{IfOk, IfSome, IsTrue, OnErr, option_map};
 ghost use Rattle.octet_language.specs.Language.{◌⋅◌, Only};
 ghost use Rattle.octet_language.specs.Reading.{Follows};
 ghost use Rattle.syslog_value.specs.Instants.{IsCivil, IsOffset};
-ghost use Rattle.syslog_grammar.specs.Appending.{Puts};
-ghost use Rattle.syslog_grammar.specs.Canonical.{TimeForm};
-ghost use Rattle.syslog_grammar.specs.CanonicalOctets.{IsInUtc, PutsCanonical, shown_parts, utc_fraction};
-ghost use Rattle.syslog_grammar.specs.Dates.{time_of};
-ghost use Rattle.syslog_grammar.specs.Grammar.{Nilable, Spaced};
-ghost use Rattle.syslog_grammar.specs.Parsing.{IsParsed};
-ghost use Rattle.syslog_grammar.specs.Time.{TimeText, instant};
+ghost use Rattle.syslog_fields.specs.Appending.{Puts};
+ghost use Rattle.syslog_fields.specs.Canonical.{TimeForm};
+ghost use Rattle.syslog_reading.specs.CanonicalOctets.{IsInUtc, PutsCanonical, shown_parts, utc_fraction};
+ghost use Rattle.syslog_fields.specs.Dates.{time_of};
+ghost use Rattle.syslog_fields.specs.Grammar.{Nilable, Spaced};
+ghost use Rattle.syslog_reading.specs.Parsing.{IsParsed};
+ghost use Rattle.syslog_fields.specs.Time.{TimeText, instant};
 ghost use Rattle.syslog_grammar.specs.Verbatim.{HasOneMessageForm, VerbatimForm};
-ghost use Rattle.syslog_grammar.specs.Views.{message_parts};
+ghost use Rattle.syslog_reading.specs.Views.{message_parts};
 
-use crate::appending::put;
 use crate::canonical::put_time;
 use crate::canonical_form::has_time_form;
-use crate::canonical_view::{has_one_message_form, put_canonical};
+use crate::canonical_view::{has_one_message_form, write_canonical_view};
 use crate::civil_text::utc_fraction;
-use crate::fault::Fault;
-use crate::reading::both;
-use crate::syntax::{Parsed, parse};
-use crate::timestamp::{STAMP_LEN, Timestamp, has_inner_year};
-use crate::whole::view_of;
 use std::alloc::{AllocError, Global};
+use syslog_fields::appending::put;
+use syslog_fields::reading::both;
+use syslog_fields::timestamp::{STAMP_LEN, Timestamp, has_inner_year};
+use syslog_reading::Fault;
+use syslog_reading::syntax::{Parsed, parse};
+use syslog_reading::whole::view_of;
 use syslog_value::Instant;
 
 /// Whether all that follows the timestamp is canonical as it lies in the octets, and the timestamp
@@ -159,7 +159,7 @@ fn put_by_view(
 {
     match view_of(octets, parsed) {
         Ok(view) => {
-            put_canonical(alloc, &view, out)?;
+            write_canonical_view(alloc, &view, out)?;
             Ok(None)
         }
         Err(fault) => Ok(Some(fault)),
@@ -167,12 +167,12 @@ fn put_by_view(
 }
 
 /// Appends the canonical octets of the record that the octets are: what [`view`](crate::view) and
-/// [`put_canonical`] do together, and faster. Where the octets are no record, nothing is appended, and
+/// [`write_canonical_view`] do together, and faster. Where the octets are no record, nothing is appended, and
 /// the answer is their fault.
 ///
 /// Where a growth is refused, the vector is unchanged. The allocator is used where elements have to
 /// be sorted and cannot be sorted on the stack.
-pub fn put_canonical_of(
+pub fn write_canonical_octets(
     alloc: Global,
     octets: &[u8],
     out: &mut Vec<u8>,

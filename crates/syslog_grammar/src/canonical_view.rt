@@ -1,23 +1,22 @@
 //! The canonical octets of a view.
 
 ghost use Rattle.std.specs.Prelude.{◌≡◌, ℕ, List, IfOk, IsTrue, OnOk, OnErr};
-ghost use Rattle.syslog_grammar.specs.Appending.{Adds, Anything, Puts};
+ghost use Rattle.syslog_fields.specs.Appending.{Adds, Anything, Puts};
 ghost use Rattle.syslog_grammar.specs.Verbatim.{HasOneMessageForm, ShownHeader, VerbatimForm};
 ghost use Rattle.syslog_grammar.specs.Reescaped.{IsUnordered, StructuredDataOf};
-ghost use Rattle.syslog_grammar.specs.ViewParts.{IsViewOf, view_parts};
+ghost use Rattle.syslog_reading.specs.ViewParts.{IsViewOf, view_parts};
 ghost use Rattle.syslog_grammar.specs.ShownRecords.{AddsShown};
-ghost use Rattle.syslog_grammar.specs.Views.{message_parts};
-ghost use Rattle.syslog_grammar.specs.WellFormed.{AddsCanonical};
+ghost use Rattle.syslog_reading.specs.Views.{message_parts};
+ghost use Rattle.syslog_reading.specs.WellFormed.{AddsCanonical};
 
-use crate::appending::put;
 use crate::canonical::{
     HeaderValues, put_header, put_message_part, put_priority_version, put_record, put_time,
 };
-use crate::message::MessageView;
-use crate::record_view::RecordView;
 use crate::reescaped::put_elements;
 use crate::sorted::put_sorted;
 use std::alloc::{AllocError, Global};
+use syslog_fields::appending::put;
+use syslog_reading::{MessageView, RecordView};
 
 /// Whether a message, where there is one, has one tail alone: an empty one may have a space or
 /// none.
@@ -58,10 +57,10 @@ fn put_view_header(view: &RecordView<'_>, out: &mut Vec<u8>) -> Result<(), Alloc
     let fields = HeaderValues {
         priority: view.priority(),
         instant: view.instant(),
-        hostname: view.hostname,
-        app_name: view.app_name,
-        proc_id: view.proc_id,
-        msg_id: view.msg_id,
+        hostname: view.hostname(),
+        app_name: view.app_name(),
+        proc_id: view.proc_id(),
+        msg_id: view.msg_id(),
     };
     put_header(&fields, out)
 }
@@ -75,7 +74,8 @@ fn put_parts(view: &RecordView<'_>, out: &mut Vec<u8>) -> Result<(), AllocError>
 {
     put_view_header(view, out)?;
     put_structured_data(view, out)?;
-    put_message_part(view.message, view.has_mark, out)?;
+    let message = view.message_view();
+    put_message_part(message.octets, message.has_mark, out)?;
     Ok(())
 }
 
@@ -126,7 +126,8 @@ fn put_resorted(view: &RecordView<'_>, out: &mut Vec<u8>) -> Result<bool, AllocE
     if !put_sorted(view.structured_data, view.is_form, out)? {
         return Ok(false);
     }
-    put_message_part(view.message, view.has_mark, out)?;
+    let message = view.message_view();
+    put_message_part(message.octets, message.has_mark, out)?;
     Ok(true)
 }
 
@@ -176,7 +177,7 @@ fn put_view(alloc: Global, view: &RecordView<'_>, out: &mut Vec<u8>) -> Result<(
 ///
 /// Where a growth is refused, the vector is unchanged. The allocator is used where elements have to
 /// be sorted and cannot be sorted on the stack.
-pub fn put_canonical(
+pub fn write_canonical_view(
     alloc: Global,
     view: &RecordView<'_>,
     out: &mut Vec<u8>,

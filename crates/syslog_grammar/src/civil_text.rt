@@ -2,9 +2,9 @@
 
 ghost use Rattle.std.specs.Prelude.{◌≡◌, ◌≤◌, Some};
 ghost use Rattle.syslog_value.specs.Instants.{IsCivil};
-ghost use Rattle.syslog_grammar.specs.Canonical.{TimeForm, civil_text};
-ghost use Rattle.syslog_grammar.specs.CanonicalOctets.{utc_fraction};
-ghost use Rattle.syslog_grammar.specs.Time.{padded};
+ghost use Rattle.syslog_fields.specs.Canonical.{TimeForm, civil_text};
+ghost use Rattle.syslog_reading.specs.CanonicalOctets.{utc_fraction};
+ghost use Rattle.syslog_fields.specs.Time.{padded};
 
 use syslog_value::{Civil, Instant};
 

@@ -2,16 +2,16 @@
 
 ghost use Rattle.std.specs.Prelude.{◌≤◌, Bool, List, IfSome, length, take, ⊤};
 ghost use Rattle.syslog_value.specs.Parts.{ElementParts};
-ghost use Rattle.syslog_grammar.specs.Appending.{Puts};
+ghost use Rattle.syslog_fields.specs.Appending.{Puts};
 ghost use Rattle.syslog_grammar.specs.Reescaped.{PutsUnless};
 ghost use Rattle.syslog_grammar.specs.Sorting.{AreElementsOf, AreTextsOf, SortedElementsOf, TextForm, TextsForm};
 
-use crate::appending::put;
-use crate::first_element::{first_element, first_id};
-use crate::reading::next;
 use crate::reescaped::put_element;
-use crate::repeated::is_above;
 use std::alloc::AllocError;
+use syslog_fields::appending::put;
+use syslog_fields::reading::next;
+use syslog_reading::first_element::{first_element, first_id};
+use syslog_reading::repeated::is_above;
 
 /// So many elements are few.
 const FEW: usize = 8;

@@ -1,8 +1,7 @@
 //! Readers and writers of single fields, on which other forms of a record rest too.
 
 pub use crate::canonical::{HeaderValues, put_header, put_message_part};
-pub use crate::message::MessageView;
-pub use crate::owned::{to_message, to_word};
-pub use crate::priority::{priority, version};
-pub use crate::reading::Stop;
-pub use crate::timestamp::{clock, last_day};
+pub use syslog_fields::priority::{priority, version};
+pub use syslog_fields::reading::Stop;
+pub use syslog_fields::timestamp::{clock, last_day};
+pub use syslog_reading::{MessageView, to_message, to_word};

@@ -3,11 +3,11 @@
 ghost use Rattle.std.specs.Prelude.{◌≡◌, ◌↔◌, ◌+◌, ◌*◌, ◌≤◌, ℤ, IsUtf8, List, ℕ, length};
 ghost use Rattle.octet_language.specs.Language.{AnyOf};
 ghost use Rattle.syslog_value.specs.Parts.{IsRecord, Parts};
-ghost use Rattle.syslog_grammar.specs.Canonical.{Canonical};
-ghost use Rattle.syslog_grammar.specs.Faults.{FaultOf};
-ghost use Rattle.syslog_grammar.specs.Utf8.{IsText};
-ghost use Rattle.syslog_grammar.specs.WellFormed.{WellFormed};
-ghost use Rattle.syslog_grammar.specs.declared.fault.Fault.{Fault};
+ghost use Rattle.syslog_fields.specs.Canonical.{Canonical};
+ghost use Rattle.syslog_reading.specs.Faults.{FaultOf};
+ghost use Rattle.syslog_fields.specs.Utf8.{IsText};
+ghost use Rattle.syslog_reading.specs.WellFormed.{WellFormed};
+ghost use Rattle.syslog_reading.specs.declared.fault.Fault.{Fault};
 
 /// Octets are one record at most.
 pub fn octets_are_one_record()

@@ -3,17 +3,17 @@
 
 ghost use Rattle.std.specs.Prelude.{◌≤◌, ◌<◌, IfOk, IsTrue, MatchResult, length};
 ghost use Rattle.octet_language.specs.Language.{Only};
-ghost use Rattle.syslog_grammar.specs.Appending.{Adds, Anything, Puts};
+ghost use Rattle.syslog_fields.specs.Appending.{Adds, Anything, Puts};
 ghost use Rattle.syslog_grammar.specs.Reescaped.{ElementsOf, FirstElement, FirstParam, FirstParams, FirstValue};
 ghost use Rattle.syslog_grammar.specs.Reescaped.{KeptTo, RunForm};
 
-use crate::appending::put;
-use crate::backslash::behind_escapes;
-use crate::first_element::{begins_with, id_len, name_len};
-use crate::near::near_either;
-use crate::reading::{behind_first, next};
-use crate::unescape::begins_special;
 use std::alloc::AllocError;
+use syslog_fields::appending::put;
+use syslog_fields::backslash::behind_escapes;
+use syslog_fields::near::near_either;
+use syslog_fields::reading::{behind_first, next};
+use syslog_fields::unescape::begins_special;
+use syslog_reading::first_element::{begins_with, id_len, name_len};
 
 /// What follows the octets that a canonical record has as they are, where a value and its quotation
 /// mark come first: up to the mark, which ends them, or up to a backslash that is no escape. It

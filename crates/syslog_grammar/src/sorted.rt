@@ -4,18 +4,18 @@
 ghost use Rattle.std.specs.Prelude.{◌≡◌, ◌≤◌, ◌<◌, Bool, List, IfSome, length, take, ⊤};
 ghost use Rattle.std.specs.List.Sorted.{IsPermutation};
 ghost use Rattle.syslog_value.specs.Parts.{ElementParts};
-ghost use Rattle.syslog_grammar.specs.Appending.{Puts};
+ghost use Rattle.syslog_fields.specs.Appending.{Puts};
 ghost use Rattle.syslog_grammar.specs.Reescaped.{PutsUnless};
 ghost use Rattle.syslog_grammar.specs.Sorting.{AreElementsOf, AreKeysOf, FirstOf, KeysForm, SortedDataOf};
 ghost use Rattle.syslog_grammar.specs.Sorting.{SortedElementsOf, offset_of};
 
-use crate::appending::put;
 use crate::few_elements::put_few;
-use crate::first_element::{first_element, first_id};
-use crate::reading::next;
 use crate::reescaped::put_element;
-use crate::repeated::is_above;
 use std::alloc::AllocError;
+use syslog_fields::appending::put;
+use syslog_fields::reading::next;
+use syslog_reading::first_element::{first_element, first_id};
+use syslog_reading::repeated::is_above;
 
 /// The offset that a key has in its lower 24 bits.
 #[inline(always)]

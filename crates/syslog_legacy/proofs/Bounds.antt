@@ -5,8 +5,8 @@ use Rattle.std.proofs.lemmas.List.{length-append}
 use Rattle.octet_language.specs.Reading.{Follows}
 use Rattle.octet_language.proofs.Decimal.{next_digit, one_digit}
 use Rattle.syslog_value.specs.Parts.{MessageParts, AnyOctets, Utf8Text, Parts}
-use Rattle.syslog_grammar.specs.Canonical.{Canonical, HeaderForm, SpacedWord, TimeForm, message_form, word_form}
-use Rattle.syslog_grammar.specs.Grammar.{Message, Priority}
+use Rattle.syslog_fields.specs.Canonical.{Canonical, HeaderForm, SpacedWord, TimeForm, message_form, word_form}
+use Rattle.syslog_fields.specs.Grammar.{Message, Priority}
 use Rattle.syslog_grammar.proofs.Bounded.{civil_len}
 use Rattle.syslog_legacy.specs.declared.clock.LegacyClock.{LegacyClock}
 use Rattle.syslog_legacy.specs.Hosts.{Host, IsNilable}

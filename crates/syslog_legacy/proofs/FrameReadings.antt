@@ -2,10 +2,10 @@
 use Rattle.std.proofs.Common.{◌≡◌, ℕ, List, inl, inr}
 use Rattle.std.specs.Prelude.{ℤ, Some, None}
 use Rattle.syslog_value.specs.Parts.{Parts}
-use Rattle.syslog_grammar.proofs.Excluded.{fault_excludes}
-use Rattle.syslog_grammar.proofs.Laws.{one_meaning}
-use Rattle.syslog_grammar.specs.Faults.{FaultOf}
-use Rattle.syslog_grammar.specs.declared.fault.Fault.{Fault}
+use Rattle.syslog_reading.proofs.Excluded.{fault_excludes}
+use Rattle.syslog_reading.proofs.Laws.{one_meaning}
+use Rattle.syslog_reading.specs.Faults.{FaultOf}
+use Rattle.syslog_reading.specs.declared.fault.Fault.{Fault}
 use Rattle.syslog_legacy.specs.FrameReadings.{Clock, IsLegacy, IsNotUtf8At, IsReadAs}
 use Rattle.syslog_legacy.specs.Readings.{NotUtf8At, ReadAs}
 use Rattle.syslog_legacy.proofs.OneAnswer.{legacy_one}

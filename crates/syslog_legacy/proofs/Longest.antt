@@ -5,7 +5,7 @@ use Rattle.std.specs.List.{AllByRecursion}
 use Rattle.std.proofs.lemmas.List.{append_cancel_left}
 use Rattle.octet_language.specs.Language.{IfFirst}
 use Rattle.octet_language.proofs.Lists.{heads, tails}
-use Rattle.syslog_grammar.specs.Spans.{IsRun}
+use Rattle.syslog_fields.specs.Spans.{IsRun}
 use Rattle.syslog_legacy.specs.Hosts.{IsNilable, SplitsRun}
 
 -- the octets of a class that come first, n at most, are the longest such prefix

@@ -8,7 +8,7 @@ use Rattle.octet_language.specs.Language.{AnyOf, IsPrefixFree, NoPrefix}
 use Rattle.octet_language.specs.Reading.{Follows}
 use Rattle.octet_language.proofs.Lists.{heads, tails, same_prefix}
 use Rattle.syslog_value.specs.Calendar.{month_length}
-use Rattle.syslog_grammar.proofs.Separated.{IsPrefixFree-length}
+use Rattle.syslog_fields.proofs.Separated.{IsPrefixFree-length}
 use Rattle.syslog_legacy.specs.Timestamps.{DateText, DayText, MonthText, month_name}
 
 -- ---- months

@@ -6,11 +6,11 @@ use Rattle.octet_language.specs.Language.{Language, AnyOf, IsFaultOffset, IsPref
 use Rattle.octet_language.specs.Reading.{Follows}
 use Rattle.octet_language.proofs.FaultOffset.{IsFaultOffset-unique}
 use Rattle.syslog_value.specs.Parts.{MessageParts, AnyOctets, Utf8Text, Parts, bom}
-use Rattle.syslog_grammar.specs.Grammar.{Message, Priority}
-use Rattle.syslog_grammar.specs.Utf8.{IsText}
-use Rattle.syslog_grammar.proofs.Numbers.{IsPrefixFree-priority}
-use Rattle.syslog_grammar.proofs.OneMeaning.{by_prefix, message_same, priority_same}
-use Rattle.syslog_grammar.proofs.Separated.{OneValue}
+use Rattle.syslog_fields.specs.Grammar.{Message, Priority}
+use Rattle.syslog_fields.specs.Utf8.{IsText}
+use Rattle.syslog_fields.proofs.Numbers.{IsPrefixFree-priority}
+use Rattle.syslog_reading.proofs.OneMeaning.{by_prefix, message_same, priority_same}
+use Rattle.syslog_fields.proofs.Separated.{OneValue}
 use Rattle.syslog_legacy.specs.declared.clock.LegacyClock.{LegacyClock}
 use Rattle.syslog_legacy.specs.Timestamps.{TimestampText}
 use Rattle.syslog_legacy.specs.Hosts.{Host}

@@ -4,7 +4,7 @@ use Rattle.std.proofs.Common.{append_assoc}
 use Rattle.std.specs.Prelude.{ℤ, Option, Some, None, IfSome}
 use Rattle.octet_language.specs.Language.{AnyOf, NoPrefix}
 use Rattle.octet_language.specs.Reading.{Follows}
-use Rattle.syslog_grammar.specs.Grammar.{Priority}
+use Rattle.syslog_fields.specs.Grammar.{Priority}
 use Rattle.syslog_legacy.specs.declared.clock.LegacyClock.{LegacyClock}
 use Rattle.syslog_legacy.specs.Timestamps.{TimestampText}
 use Rattle.syslog_legacy.specs.Hosts.{Host}

@@ -5,7 +5,7 @@ use Rattle.std.specs.Prelude.{Option, None}
 use Rattle.octet_language.specs.Language.{AnyOf, IfFirst, NoPrefix}
 use Rattle.octet_language.specs.Reading.{Follows}
 use Rattle.octet_language.proofs.Lists.{heads, tails}
-use Rattle.syslog_grammar.specs.Spans.{IsRun}
+use Rattle.syslog_fields.specs.Spans.{IsRun}
 use Rattle.syslog_legacy.specs.Hosts.{IsNilable, SplitsRun}
 use Rattle.syslog_legacy.specs.Splits.{Lacks}
 use Rattle.syslog_legacy.specs.Tags.{BehindSpace, Bracketed, IsProcOctet, IsTagOctet, ProcText, Tag, TagParts, TagText}

@@ -8,10 +8,10 @@ use Rattle.octet_language.proofs.Sequence.{IsPrefixFree-then, NoPrefix-first, No
 use Rattle.syslog_value.specs.declared.civil.Civil.{Civil}
 use Rattle.syslog_value.specs.Calendar.{month_length}
 use Rattle.syslog_value.specs.Instants.{IsCivil, instant_of}
-use Rattle.syslog_grammar.specs.Dates.{Clock}
-use Rattle.syslog_grammar.specs.Time.{ClockText, padded}
-use Rattle.syslog_grammar.proofs.OneMeaning.{by_prefix}
-use Rattle.syslog_grammar.proofs.Times.{IsPrefixFree-clock}
+use Rattle.syslog_fields.specs.Dates.{Clock}
+use Rattle.syslog_fields.specs.Time.{ClockText, padded}
+use Rattle.syslog_reading.proofs.OneMeaning.{by_prefix}
+use Rattle.syslog_fields.proofs.Times.{IsPrefixFree-clock}
 use Rattle.syslog_legacy.specs.declared.clock.LegacyClock.{LegacyClock}
 use Rattle.syslog_legacy.specs.Clocks.{IsYear}
 use Rattle.syslog_legacy.specs.Timestamps.{DateText, DayText, TimestampText}

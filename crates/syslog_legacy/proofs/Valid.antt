@@ -7,9 +7,9 @@ use Rattle.octet_language.proofs.Lists.{AllByRecursion-weaker}
 use Rattle.syslog_value.specs.Instants.{IsOffset}
 use Rattle.syslog_value.specs.Parts.{IsInstant, IsMessage, IsPrintable, IsRecord, IsWord, MessageParts, AnyOctets}
 use Rattle.syslog_value.specs.Parts.{Utf8Text, Parts}
-use Rattle.syslog_grammar.specs.Grammar.{Message, Priority}
-use Rattle.syslog_grammar.proofs.Props.{record_prop}
-use Rattle.syslog_grammar.proofs.Utf8Text.{IsUtf8-text}
+use Rattle.syslog_fields.specs.Grammar.{Message, Priority}
+use Rattle.syslog_reading.proofs.Props.{record_prop}
+use Rattle.syslog_fields.proofs.Utf8Text.{IsUtf8-text}
 use Rattle.syslog_legacy.specs.declared.clock.LegacyClock.{LegacyClock}
 use Rattle.syslog_legacy.specs.Clocks.{IsYear}
 use Rattle.syslog_legacy.specs.Hosts.{Host, NilableRun}

@@ -2,7 +2,7 @@
 -- packet.
 use Rattle.std.specs.Prelude.{ℕ, ℤ, List, ◌⊎◌, Option, Some, None}
 use Rattle.syslog_value.specs.Parts.{Parts}
-use Rattle.syslog_grammar.specs.WellFormed.{WellFormed}
+use Rattle.syslog_reading.specs.WellFormed.{WellFormed}
 use Rattle.syslog_legacy.specs.NewForm.{HasNewForm}
 use Rattle.syslog_legacy.specs.Readings.{Legacy, NotUtf8At, ReadAs}
 use Rattle.syslog_legacy.specs.declared.clock.LegacyClock.{LegacyClock}

@@ -3,7 +3,7 @@ use Rattle.std.specs.Prelude.{◌≡◌, ◌≢◌, ℕ, List, [], ◌∷◌, �
 use Rattle.std.specs.List.{AllByRecursion}
 use Rattle.octet_language.specs.Language.{Language, IfFirst}
 use Rattle.syslog_value.specs.Parts.{IsPrintable}
-use Rattle.syslog_grammar.specs.Spans.{IsRun}
+use Rattle.syslog_fields.specs.Spans.{IsRun}
 
 -- what octets say: the one octet "-" is NILVALUE
 abbrev pub IsNilable : Option (List ℕ) → List ℕ → Type 0

@@ -2,7 +2,7 @@
 use Rattle.std.specs.Prelude.{◌≡◌, ℕ, ◌+◌, List, ◌++◌}
 use Rattle.octet_language.specs.Language.{IsFaultOffset}
 use Rattle.syslog_value.specs.Parts.{bom}
-use Rattle.syslog_grammar.specs.Utf8.{IsText}
+use Rattle.syslog_fields.specs.Utf8.{IsText}
 
 -- the BOM and no text, and no text goes on at this offset
 abbrev pub MessageStops : List ℕ → ℕ → Type 0

@@ -2,7 +2,7 @@
 use Rattle.std.specs.Prelude.{ℕ, List}
 use Rattle.octet_language.specs.Language.{◌⋅◌, AnyOf}
 use Rattle.octet_language.specs.Reading.{Follows}
-use Rattle.syslog_grammar.specs.Grammar.{Priority, Spaced, Version}
+use Rattle.syslog_fields.specs.Grammar.{Priority, Spaced, Version}
 
 -- PRI, VERSION and a space come first (RFC 5424, 6.2)
 abbrev pub HasNewForm : List ℕ → Type 0

@@ -2,8 +2,8 @@
 use Rattle.std.specs.Prelude.{◌≡◌, ℕ, ◌+◌, ℤ, List, [], ◌++◌, None, length}
 use Rattle.octet_language.specs.Language.{Language, IsFaultOffset}
 use Rattle.syslog_value.specs.Parts.{MessageParts, Parts, bom}
-use Rattle.syslog_grammar.specs.Grammar.{Message}
-use Rattle.syslog_grammar.specs.Utf8.{IsText}
+use Rattle.syslog_fields.specs.Grammar.{Message}
+use Rattle.syslog_fields.specs.Utf8.{IsText}
 use Rattle.syslog_legacy.specs.declared.clock.LegacyClock.{LegacyClock}
 use Rattle.syslog_legacy.specs.Splits.{FrontParts, Splits}
 

@@ -1,7 +1,7 @@
 -- How a legacy packet splits into PRI, time, host, tag and message (RFC 3164, section 4).
 use Rattle.std.specs.Prelude.{◌≡◌, ℕ, ℤ, List, ◌⊎◌, Option, Some, None}
 use Rattle.octet_language.specs.Reading.{Follows}
-use Rattle.syslog_grammar.specs.Grammar.{Priority}
+use Rattle.syslog_fields.specs.Grammar.{Priority}
 use Rattle.syslog_legacy.specs.declared.clock.LegacyClock.{LegacyClock}
 use Rattle.syslog_legacy.specs.Timestamps.{TimestampText}
 use Rattle.syslog_legacy.specs.Hosts.{Host}

@@ -4,7 +4,7 @@ use Rattle.octet_language.specs.Language.{Language, Only, ◌⋅◌}
 use Rattle.syslog_value.specs.Calendar.{month_length}
 use Rattle.syslog_value.specs.Instants.{instant_of}
 use Rattle.syslog_value.specs.declared.civil.Civil.{Civil}
-use Rattle.syslog_grammar.specs.Time.{ClockText, Two}
+use Rattle.syslog_fields.specs.Time.{ClockText, Two}
 use Rattle.syslog_legacy.specs.declared.clock.LegacyClock.{LegacyClock}
 
 -- Mmm of each month, in their order

@@ -1,7 +1,7 @@
 -- What views and faults show.
 use Rattle.std.specs.Prelude.{ℕ, ℤ, List}
 use Rattle.syslog_value.specs.Parts.{Parts}
-use Rattle.syslog_grammar.specs.Views.{message_parts}
+use Rattle.syslog_reading.specs.Views.{message_parts}
 use Rattle.syslog_legacy.specs.declared.clock.LegacyClock.{LegacyClock}
 use Rattle.syslog_legacy.specs.declared.view.LegacyView.{LegacyView}
 use Rattle.syslog_legacy.specs.declared.fault.LegacyFault.{LegacyFault}

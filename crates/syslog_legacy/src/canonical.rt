@@ -1,8 +1,8 @@
 //! The canonical octets of a legacy packet's record.
 
 ghost use Rattle.std.specs.Prelude.{◌≡◌};
-ghost use Rattle.syslog_grammar.specs.Appending.{Appends, Puts};
-ghost use Rattle.syslog_grammar.specs.Canonical.{Canonical};
+ghost use Rattle.syslog_fields.specs.Appending.{Appends, Puts};
+ghost use Rattle.syslog_fields.specs.Canonical.{Canonical};
 ghost use Rattle.syslog_legacy.specs.Views.{legacy_view_parts};
 
 use crate::view::LegacyView;

@@ -3,7 +3,7 @@
 ghost use Rattle.std.specs.Prelude.{◌≡◌, ◌+◌, ◌≤◌, ℤ, List, ℕ, length};
 ghost use Rattle.octet_language.specs.Language.{AnyOf};
 ghost use Rattle.syslog_value.specs.Parts.{IsRecord, Parts};
-ghost use Rattle.syslog_grammar.specs.Canonical.{Canonical};
+ghost use Rattle.syslog_fields.specs.Canonical.{Canonical};
 ghost use Rattle.syslog_value.specs.Instants.{IsOffset};
 ghost use Rattle.syslog_legacy.specs.Clocks.{IsYear};
 ghost use Rattle.syslog_legacy.specs.Readings.{Answer, Legacy, ReadAs};

@@ -1,7 +1,7 @@
 //! A legacy packet's record as it lies in its octets.
 
 ghost use Rattle.syslog_value.specs.Parts.{IsRecord};
-ghost use Rattle.syslog_grammar.specs.Views.{message_parts};
+ghost use Rattle.syslog_reading.specs.Views.{message_parts};
 ghost use Rattle.syslog_legacy.specs.FrontViews.{front_parts};
 ghost use Rattle.syslog_legacy.specs.Readings.{legacy_parts};
 
@@ -19,7 +19,7 @@ pub struct LegacyView<'a> {
 
 impl<'a> LegacyView<'a> {
     ghost use Rattle.std.specs.Prelude.{◌≡◌, ◌↔◌, IsTrue, option_map};
-    ghost use Rattle.syslog_grammar.specs.ViewParts.{HasBom, octets_of};
+    ghost use Rattle.syslog_reading.specs.ViewParts.{HasBom, octets_of};
     ghost use Rattle.syslog_legacy.specs.Views.{legacy_view_parts};
 
     /// Facility and severity.

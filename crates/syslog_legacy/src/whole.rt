@@ -4,8 +4,8 @@ ghost use Rattle.std.specs.Prelude.{MatchResult};
 ghost use Rattle.syslog_legacy.specs.Messages.{MessageStops};
 ghost use Rattle.syslog_legacy.specs.Readings.{Legacy, NotUtf8At, ReadAs};
 ghost use Rattle.syslog_legacy.specs.Views.{legacy_view_parts};
-ghost use Rattle.syslog_grammar.specs.Grammar.{Message};
-ghost use Rattle.syslog_grammar.specs.Views.{message_parts};
+ghost use Rattle.syslog_fields.specs.Grammar.{Message};
+ghost use Rattle.syslog_reading.specs.Views.{message_parts};
 
 use crate::clock::LegacyClock;
 use crate::fault::MessageNotUtf8;

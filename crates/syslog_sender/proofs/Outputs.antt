@@ -4,7 +4,7 @@ use Rattle.std.proofs.Common.{inl, inr}
 use Rattle.std.specs.Io.KnownBytes.{Appends}
 use Rattle.std.proofs.KnownBytes.{Appends-nil, Appends-trans}
 use Rattle.syslog_value.specs.Parts.{Parts}
-use Rattle.syslog_grammar.specs.Canonical.{Canonical, HeaderForm, priority_version_form}
+use Rattle.syslog_fields.specs.Canonical.{Canonical, HeaderForm, priority_version_form}
 use Rattle.syslog_grammar.proofs.CanonicalParses.{canonical_once}
 use Rattle.syslog_frame.specs.Frames.{framed}
 use Rattle.syslog_frame.specs.declared.framing.Framing.{Framing}

@@ -3,7 +3,7 @@ use Rattle.std.specs.Prelude.{◌≡◌, ℕ, ℤ, ◌<◌, List, length, Bool, 
 use Rattle.octet_devices.specs.Device.{OutputState}
 use Rattle.octet_devices.specs.Transfers.{WroteAll, WrotePart}
 use Rattle.syslog_value.specs.Parts.{Parts}
-use Rattle.syslog_grammar.specs.Canonical.{Canonical}
+use Rattle.syslog_fields.specs.Canonical.{Canonical}
 use Rattle.syslog_frame.specs.Frames.{IsLine, framed}
 use Rattle.syslog_frame.specs.declared.framing.Framing.{Framing}
 use Rattle.syslog_frame.specs.declared.framing.Framing.TheVariants.{Lf}

@@ -1,7 +1,7 @@
 -- What a call of a sender is about, and what is written for it.
 use Rattle.std.specs.Prelude.{◌≡◌, ℕ, ℤ, ◌≤◌, ◌⊎◌, List, [], length, Option}
 use Rattle.syslog_value.specs.Parts.{Parts, ElementParts, MessageParts}
-use Rattle.syslog_grammar.specs.Canonical.{Canonical}
+use Rattle.syslog_fields.specs.Canonical.{Canonical}
 use Rattle.syslog_frame.specs.Frames.{IsLine, framed}
 use Rattle.syslog_frame.specs.declared.framing.Framing.{Framing}
 use Rattle.syslog_frame.specs.declared.framing.Framing.TheVariants.{Counted, Lf}

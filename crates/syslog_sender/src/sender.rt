@@ -3,9 +3,9 @@
 ghost use Rattle.std.specs.Prelude.{◌≡◌, ◌↔◌, IfErr, IfOk, IfSome, IsSome, IsTrue, MatchBool, OnErr};
 ghost use Rattle.std.specs.Option.{option_copied};
 ghost use Rattle.syslog_value.specs.Parts.{IsInstant, IsRecord, IsWord};
-ghost use Rattle.syslog_grammar.specs.Appending.{Adds, Appends};
-ghost use Rattle.syslog_grammar.specs.Canonical.{Canonical};
-ghost use Rattle.syslog_grammar.specs.Lent.{lent_parts};
+ghost use Rattle.syslog_fields.specs.Appending.{Adds, Appends};
+ghost use Rattle.syslog_fields.specs.Canonical.{Canonical};
+ghost use Rattle.syslog_grammar.specs.RecordFields.{field_parts};
 ghost use Rattle.syslog_sender.specs.Answers.{IsAnswered, IsSendFault, IsWriteFault, SendsRecord};
 ghost use Rattle.syslog_sender.specs.Calls.{Step, Send};
 ghost use Rattle.syslog_sender.specs.Senders.{IsNew, LetsThrough, SetsMask, own_priority};
@@ -17,7 +17,7 @@ use octet_devices::Output;
 use std::alloc::{AllocError, Global};
 use std::marker::Model;
 use syslog_frame::Framing;
-use syslog_grammar::{LentRecord, put_lent};
+use syslog_grammar::{RecordFields, write_canonical_fields};
 use syslog_value::{Facility, Instant, Mask, Message, Priority, StructuredData, Word};
 
 // octets of a record beside its message that have room from the start
@@ -72,17 +72,17 @@ fn look_at_word<const N: usize>(word: Option<&Word<N>>)
 }
 
 // a look at each part of a record, which is valid by its type
-fn look_at_record(lent: &LentRecord<'_>)
-    ensures { IsRecord (lent_parts lent.now) }
+fn look_at_record(fields: &RecordFields<'_>)
+    ensures { IsRecord (field_parts fields.now) }
 {
-    let _ = lent.priority.value();
-    look_at_instant(lent.instant);
-    look_at_word(lent.hostname);
-    look_at_word(lent.app_name);
-    look_at_word(lent.proc_id);
-    look_at_word(lent.msg_id);
-    let _ = lent.structured.elements();
-    let _ = lent.message.octets();
+    let _ = fields.priority.value();
+    look_at_instant(fields.instant);
+    look_at_word(fields.hostname);
+    look_at_word(fields.app_name);
+    look_at_word(fields.proc_id);
+    look_at_word(fields.msg_id);
+    let _ = fields.structured.elements();
+    let _ = fields.message.octets();
 }
 
 impl Sender {
@@ -153,7 +153,7 @@ impl Sender {
         ensures valid { IsRecord (record_of self.now (event_of priority instant
             (option_copied msg_id.entry) structured.now message.now)) }
     {
-        let lent = LentRecord {
+        let fields = RecordFields {
             priority: own_priority_of(self.facility, priority),
             instant,
             hostname: self.hostname.as_ref(),
@@ -163,8 +163,8 @@ impl Sender {
             structured,
             message,
         };
-        look_at_record(&lent);
-        put_lent(&lent, out)
+        look_at_record(&fields);
+        write_canonical_fields(&fields, out)
     }
 
     /// Appends the canonical octets of the record of an event to `out`, of any length. The answer

@@ -23,8 +23,8 @@ pub use mask::{Mask, masks_are_their_severities};
 pub use message::Message;
 pub use name::SdName;
 pub use octet_devices::{
-    DeviceFault, FromRead, Fuse, Input, Output, READ_MAX, READER_CALLS, ReadAllFault, ToWrite, WriteFault, read_all,
-    write_all,
+    DeviceFault, FromRead, Fuse, Input, Output, READ_MAX, READER_CALLS, ReadAllFault, ToWrite,
+    WriteFault, read_all, write_all,
 };
 pub use priority::Priority;
 pub use record::Record;

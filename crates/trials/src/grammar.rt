@@ -4,7 +4,7 @@
 use std::alloc::{AllocError, Global};
 use std::io;
 use syslog_grammar::{
-    DecodeFault, RecordView, canon, decode, put_canonical, put_canonical_of, view,
+    DecodeFault, RecordView, canon, decode, view, write_canonical_octets, write_canonical_view,
 };
 use syslog_value::Record;
 
@@ -36,36 +36,38 @@ fn whole(rt: &impl Print, alloc: Global, record: &Record) -> io::Result<()> {
     }
 }
 
-/// `put_canonical` after octets that were there before.
+/// `write_canonical_view` after octets that were there before.
 fn put(rt: &impl Print, alloc: Global, seen: &RecordView<'_>) -> io::Result<()> {
     let Ok(mut out) = BEFORE.to_vec(alloc) else {
-        return println!(rt; "put_canonical: memory for the octets before");
+        return println!(rt; "write_canonical_view: memory for the octets before");
     };
-    let outcome = put_canonical(alloc, seen, &mut out);
+    let outcome = write_canonical_view(alloc, seen, &mut out);
     let octets = out.len();
     match outcome {
-        Ok(()) => println!(rt; "put_canonical: ok, {octets} octets"),
+        Ok(()) => println!(rt; "write_canonical_view: ok, {octets} octets"),
         Err(AllocError) if out.as_slice() == BEFORE => {
-            println!(rt; "put_canonical: memory, unchanged at {octets} octets")
+            println!(rt; "write_canonical_view: memory, unchanged at {octets} octets")
         }
-        Err(AllocError) => println!(rt; "put_canonical: memory, changed to {octets} octets"),
+        Err(AllocError) => println!(rt; "write_canonical_view: memory, changed to {octets} octets"),
     }
 }
 
-/// `put_canonical_of` after octets that were there before.
+/// `write_canonical_octets` after octets that were there before.
 fn put_of(rt: &impl Print, alloc: Global) -> io::Result<()> {
     let Ok(mut out) = BEFORE.to_vec(alloc) else {
-        return println!(rt; "put_canonical_of: memory for the octets before");
+        return println!(rt; "write_canonical_octets: memory for the octets before");
     };
-    let outcome = put_canonical_of(alloc, OCTETS, &mut out);
+    let outcome = write_canonical_octets(alloc, OCTETS, &mut out);
     let octets = out.len();
     match outcome {
-        Ok(None) => println!(rt; "put_canonical_of: ok, {octets} octets"),
-        Ok(Some(_)) => println!(rt; "put_canonical_of: refused"),
+        Ok(None) => println!(rt; "write_canonical_octets: ok, {octets} octets"),
+        Ok(Some(_)) => println!(rt; "write_canonical_octets: refused"),
         Err(AllocError) if out.as_slice() == BEFORE => {
-            println!(rt; "put_canonical_of: memory, unchanged at {octets} octets")
+            println!(rt; "write_canonical_octets: memory, unchanged at {octets} octets")
         }
-        Err(AllocError) => println!(rt; "put_canonical_of: memory, changed to {octets} octets"),
+        Err(AllocError) => println!(rt;
+            "write_canonical_octets: memory, changed to {octets} octets"
+        ),
     }
 }
 

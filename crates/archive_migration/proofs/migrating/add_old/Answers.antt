@@ -1,6 +1,6 @@
 use Rattle.std.proofs.Common.{ap}
 use Rattle.std.specs.Prelude.{Err}
-use Rattle.syslog_grammar.specs.ViewParts.{view_parts}
+use Rattle.syslog_reading.specs.ViewParts.{view_parts}
 use Rattle.archive_text.specs.declared.limits.TheConstants.{ENTRY_MAX}
 use Rattle.archive_migration.specs.Reading.{old_entry_of}
 use Rattle.archive_migration.proofs.NewOctets.{never_too_long}

@@ -1,6 +1,6 @@
 use Rattle.std.proofs.Common.{◌≡◌, ◌∙◌, false, subst, sym, true}
-use Rattle.syslog_grammar.specs.Canonical.{Canonical}
-use Rattle.syslog_grammar.specs.ViewParts.{view_parts}
+use Rattle.syslog_fields.specs.Canonical.{Canonical}
+use Rattle.syslog_reading.specs.ViewParts.{view_parts}
 use Rattle.archive_migration.proofs.OldForms.{canonical_old_entry}
 use Rattle.archive_migration.proofs.old_entry.old_entry_of_octets.Goals as goal
 

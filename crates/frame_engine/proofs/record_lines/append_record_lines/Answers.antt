@@ -2,7 +2,7 @@ use Rattle.octet_language.specs.Language.{Only, ◌⋅◌, Language}
 use Rattle.std.specs.List.{flat_map}
 use Rattle.frame_engine.specs.Showing.{PriorityLine, RecordLines, TimeLine, element_lines, message_line, number_line}
 use Rattle.frame_engine.specs.Showing.{word_lines}
-use Rattle.syslog_grammar.proofs.Appends.{puts_as, puts_then}
+use Rattle.syslog_fields.proofs.Appends.{puts_as, puts_then}
 use Rattle.frame_engine.proofs.ShowLemmas.{same_lines, same_message}
 use Rattle.std.proofs.Common.{◌∙◌, subst, sym}
 use Rattle.std.specs.Prelude.{if◌then◌else◌, ◌↔◌, IsTrue}

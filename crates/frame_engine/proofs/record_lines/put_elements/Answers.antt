@@ -2,7 +2,7 @@ use Rattle.std.proofs.Common.{take}
 use Rattle.std.specs.List.{flat_map}
 use Rattle.octet_language.specs.Language.{Only}
 use Rattle.frame_engine.specs.Showing.{element_lines}
-use Rattle.syslog_grammar.proofs.Appends.{puts_failed}
+use Rattle.syslog_fields.proofs.Appends.{puts_failed}
 use Rattle.frame_engine.proofs.record_lines.put_elements.Goals as goal
 
 pub returns-in_err-put_element : goal.returns-in_err-put_element

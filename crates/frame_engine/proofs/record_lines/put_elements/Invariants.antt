@@ -1,7 +1,7 @@
 use Rattle.std.proofs.Common.{take}
 use Rattle.std.specs.List.{flat_map}
 use Rattle.octet_language.specs.Language.{Only}
-use Rattle.syslog_grammar.specs.Appending.{Adds}
+use Rattle.syslog_fields.specs.Appending.{Adds}
 use Rattle.frame_engine.specs.Showing.{element_lines}
 use Rattle.frame_engine.proofs.record_lines.put_elements.Given as goal
 

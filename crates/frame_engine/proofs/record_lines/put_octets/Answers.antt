@@ -1,7 +1,7 @@
 use Rattle.std.proofs.Common.{take}
 use Rattle.octet_language.specs.Language.{Only}
 use Rattle.frame_engine.specs.Showing.{hex_escaped}
-use Rattle.syslog_grammar.proofs.Appends.{puts_failed}
+use Rattle.syslog_fields.proofs.Appends.{puts_failed}
 use Rattle.frame_engine.proofs.record_lines.put_octets.Goals as goal
 
 pub returns-in_err-put_octet : goal.returns-in_err-put_octet

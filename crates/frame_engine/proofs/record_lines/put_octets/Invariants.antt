@@ -1,6 +1,6 @@
 use Rattle.std.proofs.Common.{take}
 use Rattle.octet_language.specs.Language.{Only}
-use Rattle.syslog_grammar.specs.Appending.{Adds}
+use Rattle.syslog_fields.specs.Appending.{Adds}
 use Rattle.frame_engine.specs.Showing.{hex_escaped}
 use Rattle.frame_engine.proofs.record_lines.put_octets.Given as goal
 

@@ -1,7 +1,7 @@
 use Rattle.std.proofs.Common.{ℕ, ap, ◌∙◌, arith}
 use Rattle.octet_language.specs.Language.{Only}
 use Rattle.frame_engine.specs.Showing.{PriorityLine, priority_line}
-use Rattle.syslog_grammar.proofs.Appends.{puts_as}
+use Rattle.syslog_fields.proofs.Appends.{puts_as}
 use Rattle.frame_engine.proofs.record_lines.put_priority.Goals as goal
 
 pub returns : goal.returns

@@ -1,7 +1,7 @@
 use Rattle.std.proofs.Common.{◌≡◌, ◌∙◌, ℕ, ap, take, length, rules}
 use Rattle.frame_engine.specs.Showing.{RecordLines}
-use Rattle.syslog_grammar.proofs.Appends.{adds_prefix, puts_begun}
-use Rattle.syslog_grammar.specs.Appending.{Anything}
+use Rattle.syslog_fields.proofs.Appends.{adds_prefix, puts_begun}
+use Rattle.syslog_fields.specs.Appending.{Anything}
 use Rattle.frame_engine.proofs.ShowLemmas.{always_err}
 use Rattle.frame_engine.proofs.record_lines.put_record_lines.Goals as goal
 

@@ -2,7 +2,7 @@ use Rattle.std.proofs.Common.{None, ◌∷◌, [], refl}
 use Rattle.std.specs.Prelude.{codes}
 use Rattle.octet_language.specs.Language.{Only}
 use Rattle.frame_engine.specs.Showing.{TimeLine}
-use Rattle.syslog_grammar.proofs.Appends.{puts_as}
+use Rattle.syslog_fields.proofs.Appends.{puts_as}
 use Rattle.frame_engine.proofs.record_lines.put_time.Goals as goal
 
 pub returns-in-None : goal.returns-in-None

@@ -20,7 +20,7 @@ returns-in_err-handle_next-clause-err g c =
 
 pub loop-rest-preserved-in-Nothing : goal.loop-rest-preserved-in-Nothing
 loop-rest-preserved-in-Nothing g c =
-    let same : c.lend.new.self ≡ c.loop-rest.scanner = c.in_default.ensures.same refl in
+    let same : c.next_borrowed.new.self ≡ c.loop-rest.scanner = c.in_default.ensures.same refl in
     let reading = subst IsReading (sym same) c.loop-rest.invariant.reading in
     let rest = c.loop-rest.rest.now in
     let n = c.in-Ok.used in
@@ -45,13 +45,13 @@ loop-rest-preserved-in-Nothing g c =
           (λ b. reading.0 (inr b)) in
           let same = rw c.in-Nothing.is at (c.in_ok-handle_next.ensures.handles kind ((octets ++ d.0) ++ take n rest)
           d.2.frames (d.2.rest ++ take n rest) on.reads) in
-          handled_nothing _ c.lend.new.self c.push.new.self kind octets c.args.piece.now rest _ n _ _ d on
+          handled_nothing _ c.next_borrowed.new.self c.push.new.self kind octets c.args.piece.now rest _ n _ _ d on
           (ap (then_done before) same);
     })
 
 pub returns-in-Bad-clause-handles : goal.returns-in-Bad-clause-handles
 returns-in-Bad-clause-handles g c = λ kind octets before h more.
-    let same : c.lend.new.self ≡ c.loop-rest.scanner = c.in_default.ensures.same refl in
+    let same : c.next_borrowed.new.self ≡ c.loop-rest.scanner = c.in_default.ensures.same refl in
     let reading = subst IsReading (sym same) c.loop-rest.invariant.reading in
     let rest = c.loop-rest.rest.now in
     let n = c.in-Ok.used in
@@ -62,12 +62,12 @@ returns-in-Bad-clause-handles g c = λ kind octets before h more.
     (λ b. reading.0 (inr b)) in
     let reported = rw c.in-Bad.is at (c.in_ok-handle_next.ensures.handles kind ((octets ++ d.0) ++ take n rest)
     d.2.frames (d.2.rest ++ take n rest) on.reads) in
-    handled_bad _ c.lend.new.self c.push.new.self kind octets c.args.piece.now rest _ n c.in-Bad.at _ _ d on
+    handled_bad _ c.next_borrowed.new.self c.push.new.self kind octets c.args.piece.now rest _ n c.in-Bad.at _ _ d on
     (rw c.in-Bad.is at c.in_ok-handle_next.ensures.reports) reported.1 (ap (then_done before) reported.0) more
 
 pub loop-rest-preserved : goal.loop-rest-preserved
 loop-rest-preserved g c =
-    let same : c.lend.new.self ≡ c.loop-rest.scanner = c.in_default.ensures.same refl in
+    let same : c.next_borrowed.new.self ≡ c.loop-rest.scanner = c.in_default.ensures.same refl in
     let reading = subst IsReading (sym same) c.loop-rest.invariant.reading in
     let rest = c.loop-rest.rest.now in
     let n = c.in-Ok.used in
@@ -99,31 +99,31 @@ loop-rest-preserved g c =
           d.2.frames (d.2.rest ++ take n rest) on.reads) in
           let begun = c.release.ensures.reads kind 0 ((octets ++ d.0) ++ take n rest) d.2.frames
           (d.2.rest ++ take n rest) f.0 on.reads f.1 in
-          handled_frame _ c.lend.new.self c.release.new.self kind octets c.args.piece.now rest _ n f.0 before _ _ d
-          begun f.2;
+          handled_frame _ c.next_borrowed.new.self c.release.new.self kind octets c.args.piece.now rest _ n f.0 before _ _
+          d begun f.2;
     })
 
 pub loop-rest-preserved-in-Some : goal.loop-rest-preserved-in-Some
 loop-rest-preserved-in-Some g c =
     let rest = c.loop-rest.rest.now in
-    let n = c.in-Some.lent.used in
-    let lent = c.in-Some.ensures in
+    let n = c.in-Some.borrowed.used in
+    let borrowed = c.in-Some.ensures in
     rw (take_rest rest n)
     (record {
-      reading = lent.reading.1;
+      reading = borrowed.reading.1;
       position = omega (
         arith,
-        lent.position,
-        lent.progress.1,
+        borrowed.position,
+        borrowed.progress.1,
         c.loop-rest.invariant.position,
         length-drop n rest,
       );
-      few = omega (arith, c.loop-rest.invariant.few, length-drop n rest, lent.progress.0, lent.progress.1);
+      few = omega (arith, c.loop-rest.invariant.few, length-drop n rest, borrowed.progress.0, borrowed.progress.1);
       handled = λ kind octets before h.
           let d = c.loop-rest.invariant.handled kind octets before h in
-          let begun = lent.reads kind 0 (octets ++ d.0) d.2.frames d.2.rest d.2.reads in
-          handled_frame _ c.loop-rest.scanner c.lend.new.self kind octets c.args.piece.now rest _ n
-          c.in-Some.lent.frame.now before _ _ d begun.1 c.in_ok-on_frame.ensures.ok;
+          let begun = borrowed.reads kind 0 (octets ++ d.0) d.2.frames d.2.rest d.2.reads in
+          handled_frame _ c.loop-rest.scanner c.next_borrowed.new.self kind octets c.args.piece.now rest _ n
+          c.in-Some.borrowed.frame.now before _ _ d begun.1 c.in_ok-on_frame.ensures.ok;
     })
 
 pub returns-in_err-on_frame-clause-err : goal.returns-in_err-on_frame-clause-err

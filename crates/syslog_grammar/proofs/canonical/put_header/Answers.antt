@@ -1,8 +1,8 @@
 use Rattle.std.proofs.Common.{◌∷◌, []}
 use Rattle.std.specs.Prelude.{option_map}
 use Rattle.octet_language.specs.Language.{Only, ◌⋅◌, Language}
-use Rattle.syslog_grammar.specs.Canonical.{HeaderForm, SpacedWord, TimeForm, priority_version_form}
-use Rattle.syslog_grammar.proofs.Appends.{adds_then, puts_then}
+use Rattle.syslog_fields.specs.Canonical.{HeaderForm, SpacedWord, TimeForm, priority_version_form}
+use Rattle.syslog_fields.proofs.Appends.{adds_then, puts_then}
 use Rattle.syslog_grammar.proofs.canonical.put_header.Goals as goal
 
 pub returns : goal.returns

@@ -2,9 +2,9 @@ use Rattle.std.proofs.Common.{subst, List, ◌∷◌, ◌++◌, []}
 use Rattle.std.specs.List.{flat_map}
 use Rattle.octet_language.specs.Language.{Only}
 use Rattle.syslog_value.specs.Parts.{ParamParts}
-use Rattle.syslog_grammar.specs.Appending.{Puts}
-use Rattle.syslog_grammar.specs.Canonical.{param_form}
-use Rattle.syslog_grammar.proofs.Appends.{items_end}
+use Rattle.syslog_fields.specs.Appending.{Puts}
+use Rattle.syslog_fields.specs.Canonical.{param_form}
+use Rattle.syslog_fields.proofs.Appends.{items_end}
 use Rattle.syslog_grammar.proofs.canonical_data.put_element.Goals as goal
 
 pub returns : goal.returns

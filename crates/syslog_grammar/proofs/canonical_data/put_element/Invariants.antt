@@ -1,8 +1,8 @@
 use Rattle.std.proofs.Common.{◌++◌, ◌∷◌, take}
 use Rattle.std.specs.List.{flat_map}
 use Rattle.octet_language.specs.Language.{Only}
-use Rattle.syslog_grammar.specs.Appending.{Adds}
-use Rattle.syslog_grammar.specs.Canonical.{param_form}
+use Rattle.syslog_fields.specs.Appending.{Adds}
+use Rattle.syslog_fields.specs.Canonical.{param_form}
 use Rattle.syslog_grammar.proofs.canonical_data.put_element.Given as goal
 
 abbrev pub invariant-loop-param : goal.invariant-loop-param

@@ -1,8 +1,8 @@
 use Rattle.std.proofs.Common.{take}
 use Rattle.std.specs.List.{flat_map}
 use Rattle.octet_language.specs.Language.{Only}
-use Rattle.syslog_grammar.specs.Canonical.{structured_data_form, element_form}
-use Rattle.syslog_grammar.proofs.Appends.{puts_failed}
+use Rattle.syslog_fields.specs.Canonical.{structured_data_form, element_form}
+use Rattle.syslog_fields.proofs.Appends.{puts_failed}
 use Rattle.syslog_grammar.proofs.canonical_data.put_elements.Goals as goal
 
 pub returns-in_err-put_element : goal.returns-in_err-put_element

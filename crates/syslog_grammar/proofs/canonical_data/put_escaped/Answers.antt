@@ -1,4 +1,4 @@
-use Rattle.syslog_grammar.proofs.EscapedRuns.{escapes_more, escapes_end}
+use Rattle.syslog_fields.proofs.EscapedRuns.{escapes_more, escapes_end}
 use Rattle.syslog_grammar.proofs.canonical_data.put_escaped.Goals as goal
 
 pub loop-offset-preserved : goal.loop-offset-preserved

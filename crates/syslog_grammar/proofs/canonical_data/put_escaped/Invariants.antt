@@ -1,5 +1,5 @@
 use Rattle.std.proofs.Common.{length}
-use Rattle.syslog_grammar.proofs.EscapedRuns.{Escapes}
+use Rattle.syslog_fields.proofs.EscapedRuns.{Escapes}
 use Rattle.syslog_grammar.proofs.canonical_data.put_escaped.Given as goal
 
 abbrev pub invariant-loop-offset : goal.invariant-loop-offset

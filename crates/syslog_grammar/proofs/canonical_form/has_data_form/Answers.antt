@@ -1,4 +1,4 @@
-use Rattle.syslog_grammar.proofs.ReadData.{forms_by_id, forms_any}
+use Rattle.syslog_grammar.proofs.DataForms.{forms_by_id, forms_any}
 use Rattle.syslog_grammar.proofs.canonical_form.has_data_form.Goals as goal
 
 pub returns-in-ById : goal.returns-in-ById

@@ -1,5 +1,6 @@
 use Rattle.std.proofs.lemmas.Bool.{false_from_ne_true}
-use Rattle.syslog_grammar.proofs.CanonicalForms.{begins_test, form_data, form_tail, form_time, form_whole, time_follows}
+use Rattle.syslog_grammar.proofs.CanonicalForms.{begins_test, form_data, form_tail, form_time, form_whole}
+use Rattle.syslog_reading.proofs.Headers.{time_follows}
 use Rattle.syslog_grammar.proofs.canonical_form.has_form.Goals as goal
 
 pub has_time_form-requires : goal.has_time_form-requires

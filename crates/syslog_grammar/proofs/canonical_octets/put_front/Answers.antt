@@ -1,4 +1,5 @@
-use Rattle.syslog_grammar.proofs.CanonicalOctets.{inner_exists, utc_put, utc_within}
+use Rattle.syslog_reading.proofs.InnerTimes.{inner_exists}
+use Rattle.syslog_grammar.proofs.CanonicalOctets.{utc_put, utc_within}
 use Rattle.syslog_grammar.proofs.canonical_octets.put_front.Goals as goal
 
 pub put_utc-requires-clause-within : goal.put_utc-requires-clause-within

@@ -1,10 +1,10 @@
 use Rattle.std.proofs.Common.{take}
 use Rattle.std.specs.Prelude.{option_map}
 use Rattle.octet_language.specs.Language.{Only}
-use Rattle.syslog_grammar.specs.Canonical.{TimeForm}
-use Rattle.syslog_grammar.specs.Dates.{time_of}
-use Rattle.syslog_grammar.specs.Time.{instant}
-use Rattle.syslog_grammar.proofs.Appends.{puts_then}
+use Rattle.syslog_fields.specs.Canonical.{TimeForm}
+use Rattle.syslog_fields.specs.Dates.{time_of}
+use Rattle.syslog_fields.specs.Time.{instant}
+use Rattle.syslog_fields.proofs.Appends.{puts_then}
 use Rattle.syslog_grammar.proofs.canonical_octets.put_shifted.Goals as goal
 
 pub returns : goal.returns

@@ -1,12 +1,12 @@
 use Rattle.std.proofs.Common.{refl}
 use Rattle.std.specs.Prelude.{option_map}
 use Rattle.octet_language.specs.Language.{Only}
-use Rattle.syslog_grammar.specs.CanonicalOctets.{shown_parts}
-use Rattle.syslog_grammar.specs.Dates.{time_of}
-use Rattle.syslog_grammar.specs.Time.{instant}
+use Rattle.syslog_reading.specs.CanonicalOctets.{shown_parts}
+use Rattle.syslog_fields.specs.Dates.{time_of}
+use Rattle.syslog_fields.specs.Time.{instant}
 use Rattle.syslog_grammar.specs.Verbatim.{VerbatimForm}
-use Rattle.syslog_grammar.proofs.Appends.{puts_as}
-use Rattle.syslog_grammar.proofs.CanonicalForms.{time_follows}
+use Rattle.syslog_fields.proofs.Appends.{puts_as}
+use Rattle.syslog_reading.proofs.Headers.{time_follows}
 use Rattle.syslog_grammar.proofs.CanonicalOctets.{parts_verbatim, whole_verbatim}
 use Rattle.syslog_grammar.proofs.canonical_octets.put_verbatim.Goals as goal
 

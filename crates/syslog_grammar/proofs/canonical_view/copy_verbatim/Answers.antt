@@ -1,9 +1,9 @@
 use Rattle.std.proofs.Common.{[], ◌∷◌}
 use Rattle.octet_language.specs.Language.{Language, Only, ◌⋅◌}
-use Rattle.syslog_grammar.specs.Canonical.{TimeForm, priority_version_form}
+use Rattle.syslog_fields.specs.Canonical.{TimeForm, priority_version_form}
 use Rattle.syslog_grammar.specs.Verbatim.{VerbatimForm}
-use Rattle.syslog_grammar.specs.ViewParts.{view_parts}
-use Rattle.syslog_grammar.proofs.Appends.{puts_then}
+use Rattle.syslog_reading.specs.ViewParts.{view_parts}
+use Rattle.syslog_fields.proofs.Appends.{puts_then}
 use Rattle.syslog_grammar.proofs.canonical_view.copy_verbatim.Goals as goal
 
 pub returns : goal.returns

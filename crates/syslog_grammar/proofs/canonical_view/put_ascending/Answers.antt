@@ -1,7 +1,7 @@
 use Rattle.std.proofs.Common.{subst}
 use Rattle.syslog_grammar.specs.Verbatim.{HasOneMessageForm}
-use Rattle.syslog_grammar.specs.ViewParts.{view_parts}
-use Rattle.syslog_grammar.proofs.ReadData.{kept_by_id, kept_form}
+use Rattle.syslog_reading.specs.ViewParts.{view_parts}
+use Rattle.syslog_grammar.proofs.DataForms.{kept_by_id, kept_form}
 use Rattle.syslog_grammar.proofs.Rewritten.{record_verbatim}
 use Rattle.syslog_grammar.proofs.canonical_view.put_ascending.Goals as goal
 

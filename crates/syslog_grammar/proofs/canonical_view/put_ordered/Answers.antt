@@ -1,4 +1,4 @@
-use Rattle.syslog_grammar.proofs.ReadData.{kept_unordered}
+use Rattle.syslog_grammar.proofs.DataForms.{kept_unordered}
 use Rattle.syslog_grammar.proofs.canonical_view.put_ordered.Goals as goal
 
 pub returns-then-not-ascends-clause-order : goal.returns-then-not-ascends-clause-order

@@ -1,5 +1,5 @@
-use Rattle.syslog_grammar.specs.Canonical.{Canonical}
-use Rattle.syslog_grammar.proofs.Appends.{puts_begun}
+use Rattle.syslog_fields.specs.Canonical.{Canonical}
+use Rattle.syslog_fields.proofs.Appends.{puts_begun}
 use Rattle.syslog_grammar.proofs.canonical_view.put_owned.Goals as goal
 
 pub returns-clause-begun : goal.returns-clause-begun

@@ -1,8 +1,8 @@
 use Rattle.std.proofs.Common.{◌∙◌}
 use Rattle.octet_language.specs.Language.{Only}
 use Rattle.syslog_grammar.specs.Reescaped.{ElementsOf, StructuredDataOf}
-use Rattle.syslog_grammar.proofs.Appends.{puts_as}
-use Rattle.syslog_grammar.proofs.ReadData.{kept_form, kept_elements}
+use Rattle.syslog_fields.proofs.Appends.{puts_as}
+use Rattle.syslog_grammar.proofs.DataForms.{kept_form, kept_elements}
 use Rattle.syslog_grammar.proofs.canonical_view.put_structured_data.Goals as goal
 
 pub returns-then-is_form : goal.returns-then-is_form

@@ -1,8 +1,8 @@
 use Rattle.std.proofs.Common.{◌≡◌, ◌∙◌, ℕ, List, ap, subst, take, length, rules, vec_len}
 use Rattle.std.specs.Prelude.{OnOk}
-use Rattle.syslog_grammar.specs.Appending.{Anything}
-use Rattle.syslog_grammar.specs.WellFormed.{AddsCanonical}
-use Rattle.syslog_grammar.proofs.Appends.{adds_prefix}
+use Rattle.syslog_fields.specs.Appending.{Anything}
+use Rattle.syslog_reading.specs.WellFormed.{AddsCanonical}
+use Rattle.syslog_fields.proofs.Appends.{adds_prefix}
 use Rattle.syslog_grammar.proofs.canonical_view.put_view.Goals as goal
 
 pub returns-clause-ok : goal.returns-clause-ok

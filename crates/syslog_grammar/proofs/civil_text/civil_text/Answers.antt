@@ -1,5 +1,5 @@
 use Rattle.std.proofs.Common.{refl}
-use Rattle.syslog_grammar.specs.Canonical.{civil_text}
+use Rattle.syslog_fields.specs.Canonical.{civil_text}
 use Rattle.syslog_grammar.proofs.civil_text.civil_text.Goals as goal
 
 pub returns : goal.returns

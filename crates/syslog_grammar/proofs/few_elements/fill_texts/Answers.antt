@@ -1,6 +1,6 @@
 use Rattle.std.proofs.Common.{arith, rules}
 use Rattle.syslog_grammar.specs.Sorting.{IsTextOf}
-use Rattle.syslog_grammar.specs.Views.{element_span}
+use Rattle.syslog_reading.specs.Views.{element_span}
 use Rattle.syslog_grammar.proofs.Sorting.{fills_none, fills_whole, texts_more}
 use Rattle.syslog_grammar.proofs.few_elements.fill_texts.Goals as goal
 

@@ -1,6 +1,6 @@
 use Rattle.syslog_grammar.specs.Reescaped.{FirstElement}
 use Rattle.syslog_grammar.specs.Sorting.{TextForm}
-use Rattle.syslog_grammar.proofs.Appends.{adds_as}
+use Rattle.syslog_fields.proofs.Appends.{adds_as}
 use Rattle.syslog_grammar.proofs.Sorting.{text_put}
 use Rattle.syslog_grammar.proofs.few_elements.put_text.Goals as goal
 

@@ -1,9 +1,9 @@
 use Rattle.std.proofs.Common.{◌≡◌, ◌∙◌, rules, ◌+◌, ℕ, List, [], ap, arith, drop, get_or, length, Bor}
 use Rattle.std.specs.Prelude.{option_map}
 use Rattle.std.proofs.lemmas.Result.{err_from_is_err_and}
-use Rattle.syslog_grammar.specs.Appending.{Anything}
+use Rattle.syslog_fields.specs.Appending.{Anything}
 use Rattle.syslog_grammar.specs.Sorting.{IsTextOf, TextForm}
-use Rattle.syslog_grammar.proofs.Appends.{adds_some}
+use Rattle.syslog_fields.proofs.Appends.{adds_some}
 use Rattle.syslog_grammar.proofs.Sorting.{of_text, written_none, written_begun, written_more, written_end, key_left}
 use Rattle.syslog_grammar.proofs.Sorting.{none_left}
 use Rattle.syslog_grammar.proofs.few_elements.put_texts.Goals as goal

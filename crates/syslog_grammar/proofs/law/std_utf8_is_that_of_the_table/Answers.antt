@@ -1,4 +1,4 @@
-use Rattle.syslog_grammar.proofs.Utf8Text.{IsText-utf8, IsUtf8-text}
+use Rattle.syslog_fields.proofs.Utf8Text.{IsText-utf8, IsUtf8-text}
 use Rattle.syslog_grammar.proofs.law.std_utf8_is_that_of_the_table.Goals as goal
 
 pub returns : goal.returns

@@ -1,4 +1,4 @@
-use Rattle.syslog_grammar.proofs.Valid.{well_formed_valid}
+use Rattle.syslog_reading.proofs.Valid.{well_formed_valid}
 use Rattle.syslog_grammar.proofs.law.well_formed_is_a_record.Goals as goal
 
 pub returns : goal.returns

@@ -2,7 +2,7 @@ use Rattle.std.proofs.Common.{arith, length, ap, sym, ◌∙◌}
 use Rattle.std.proofs.lemmas.Bool.{false≢true}
 use Rattle.std.proofs.lemmas.List.{length-drop}
 use Rattle.syslog_grammar.proofs.FirstForms.{kept_ends, kept_escapes, kept_lone, kept_missing, kept_more, kept_none}
-use Rattle.syslog_grammar.proofs.Values.{escapes_take}
+use Rattle.syslog_fields.proofs.Values.{escapes_take}
 use Rattle.syslog_grammar.proofs.reescaped.behind_kept.Goals as goal
 
 pub loop-offset-init : goal.loop-offset-init

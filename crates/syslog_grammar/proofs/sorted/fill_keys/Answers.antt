@@ -1,6 +1,6 @@
 use Rattle.std.proofs.Common.{[], ◌++◌, ◌∙◌, ap, arith, refl, rules, sym, append_assoc}
 use Rattle.syslog_grammar.specs.Sorting.{IsKeyOf}
-use Rattle.syslog_grammar.specs.Views.{element_span}
+use Rattle.syslog_reading.specs.Views.{element_span}
 use Rattle.syslog_grammar.proofs.Sorting.{fills_none, keys_more, fills_whole}
 use Rattle.syslog_grammar.proofs.sorted.fill_keys.Goals as goal
 

@@ -1,10 +1,10 @@
 use Rattle.std.proofs.Common.{◌≡◌, ◌∙◌, ℕ, List, ap, subst, take, length, rules, vec_len}
 use Rattle.std.specs.Prelude.{⊤}
 use Rattle.std.specs.declared.alloc.AllocError.{AllocError}
-use Rattle.syslog_grammar.specs.Appending.{Anything}
+use Rattle.syslog_fields.specs.Appending.{Anything}
 use Rattle.syslog_grammar.specs.Reescaped.{PutsUnless}
 use Rattle.syslog_grammar.specs.Sorting.{SortedElementsOf}
-use Rattle.syslog_grammar.proofs.Appends.{adds_prefix}
+use Rattle.syslog_fields.proofs.Appends.{adds_prefix}
 use Rattle.syslog_grammar.proofs.Sorting.{unless_begun}
 use Rattle.syslog_grammar.proofs.sorted.put_elements.Goals as goal
 

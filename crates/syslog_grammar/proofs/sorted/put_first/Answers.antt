@@ -1,8 +1,8 @@
 use Rattle.octet_language.specs.Language.{Only}
 use Rattle.syslog_grammar.specs.Reescaped.{FirstElement}
 use Rattle.syslog_grammar.specs.Sorting.{FirstOf}
-use Rattle.syslog_grammar.specs.Views.{element_span}
-use Rattle.syslog_grammar.proofs.Appends.{adds_as, puts_as}
+use Rattle.syslog_reading.specs.Views.{element_span}
+use Rattle.syslog_fields.proofs.Appends.{adds_as, puts_as}
 use Rattle.syslog_grammar.proofs.Sorting.{first_cut, first_put}
 use Rattle.syslog_grammar.proofs.sorted.put_first.Goals as goal
 

@@ -1,10 +1,11 @@
 use Rattle.std.proofs.Common.{◌≡◌, ◌∙◌, rules, ◌+◌, ℕ, [], ap, arith, drop, length}
 use Rattle.std.specs.Prelude.{option_map}
 use Rattle.std.proofs.lemmas.Result.{err_from_is_err_and}
-use Rattle.syslog_grammar.specs.Appending.{Anything}
+use Rattle.syslog_fields.specs.Appending.{Anything}
 use Rattle.syslog_grammar.specs.Sorting.{FirstOf, IsKeyOf}
-use Rattle.syslog_grammar.proofs.Appends.{adds_some}
-use Rattle.syslog_grammar.proofs.Sorting.{of_key, written_none, written_begun, written_more, written_end, key_left, none_left}
+use Rattle.syslog_fields.proofs.Appends.{adds_some}
+use Rattle.syslog_grammar.proofs.Sorting.{of_key, written_none, written_begun, written_more, written_end, key_left}
+use Rattle.syslog_grammar.proofs.Sorting.{none_left}
 use Rattle.syslog_grammar.proofs.sorted.put_rising.Goals as goal
 
 pub loop-i-init : goal.loop-i-init

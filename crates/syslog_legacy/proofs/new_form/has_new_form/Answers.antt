@@ -3,8 +3,8 @@ use Rattle.std.proofs.lemmas.Bool.{false≢true}
 use Rattle.octet_language.specs.Language.{AnyOf}
 use Rattle.octet_language.proofs.Chain.{Follows-then, some_value}
 use Rattle.octet_language.proofs.Sequence.{NoPrefix-first, NoPrefix-later}
-use Rattle.syslog_grammar.specs.Grammar.{Priority, Spaced, Version}
-use Rattle.syslog_grammar.proofs.Numbers.{IsPrefixFree-priority}
+use Rattle.syslog_fields.specs.Grammar.{Priority, Spaced, Version}
+use Rattle.syslog_fields.proofs.Numbers.{IsPrefixFree-priority}
 use Rattle.syslog_legacy.proofs.new_form.has_new_form.Goals as goal
 
 pub returns-in_default : goal.returns-in_default

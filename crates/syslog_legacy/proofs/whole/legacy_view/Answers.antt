@@ -1,6 +1,6 @@
 use Rattle.std.proofs.Common.{ap, arith, length, refl}
 use Rattle.std.proofs.lemmas.List.{length-append}
-use Rattle.syslog_grammar.specs.Views.{message_parts}
+use Rattle.syslog_reading.specs.Views.{message_parts}
 use Rattle.syslog_legacy.specs.FrontViews.{front_parts}
 use Rattle.syslog_legacy.specs.Readings.{legacy_parts}
 use Rattle.syslog_legacy.proofs.Splitting.{message_ends, message_stops}

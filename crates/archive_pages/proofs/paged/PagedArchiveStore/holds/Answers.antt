@@ -1,6 +1,6 @@
 use Rattle.std.proofs.Common.{subst, sym}
 use Rattle.std.specs.Prelude.{◌↔◌, IsTrue}
-use Rattle.syslog_grammar.specs.Canonical.{Canonical}
+use Rattle.syslog_fields.specs.Canonical.{Canonical}
 use Rattle.archive_text.specs.Entries.{Entry, Has, IsEntryOf}
 use Rattle.archive_pages.specs.Pages.{entries_of}
 use Rattle.archive_pages.specs.Spans.{blocks_of, lists_of}

@@ -1,5 +1,5 @@
 use Rattle.std.proofs.Common.{sym, subst}
-use Rattle.syslog_grammar.specs.Canonical.{Canonical}
+use Rattle.syslog_fields.specs.Canonical.{Canonical}
 use Rattle.archive_text.specs.Entries.{Entry}
 use Rattle.archive_vec.proofs.Adding.{entry_with, found_for_each}
 use Rattle.archive_vec.proofs.vec_archive.VecArchive.holds.Goals as goal

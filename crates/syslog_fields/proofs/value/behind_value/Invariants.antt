@@ -1,0 +1,15 @@
+use Rattle.std.proofs.Common.{◌∷◌, [], length}
+use Rattle.octet_language.specs.Language.{Each, Only}
+use Rattle.syslog_fields.specs.Forms.{ReadsForm, pieces_form}
+use Rattle.syslog_fields.specs.Values.{Piece}
+use Rattle.syslog_fields.proofs.Loops.{Carries}
+use Rattle.syslog_fields.proofs.value.behind_value.Given as goal
+
+abbrev pub invariant-loop-first : goal.invariant-loop-first
+invariant-loop-first l = record {
+  carries : Carries Piece (Only (34 ∷ [])) l.octets l.rest;
+  form : ReadsForm (Each Piece) pieces_form l.is_form l.octets l.rest;
+}
+
+abbrev pub decreases-loop-first : goal.decreases-loop-first
+decreases-loop-first l = length l.rest

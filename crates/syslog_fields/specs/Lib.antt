@@ -1,0 +1,13 @@
+pub mod Utf8
+pub mod Values
+pub mod Stops
+pub mod Time
+pub mod Dates
+pub mod Grammar
+pub mod Spans
+pub mod FirstElements
+pub mod Forms
+pub mod Lanes
+pub mod Canonical
+pub mod Appending
+pub mod Escapes

@@ -1,0 +1,61 @@
+//! What every reader builds on: where it stops, the next octet, an expected octet.
+
+ghost use Rattle.std.specs.Prelude.{◌≡◌, ◌∷◌, ◌&&◌, [], MatchOption, drop};
+ghost use Rattle.octet_language.specs.Language.{Only};
+ghost use Rattle.octet_language.specs.Reading.{Passes};
+ghost use Rattle.syslog_fields.specs.Stops.{remaining_of};
+
+/// Where no text can go on: so many octets are left there, which is the same number however many
+/// octets come first.
+#[derive(Clone, Copy, Debug, PartialEq, Eq)]
+pub struct Stop {
+    pub remaining: usize,
+}
+
+/// The first octet, and those after it.
+#[inline(always)]
+pub fn next(octets: &[u8]) -> Option<(u8, &[u8])>
+    ensures { MatchOption result (octets.now ≡ []) (λ x. octets.now ≡ x.0 ∷ x.1.now) }
+{
+    match octets {
+        [] => None,
+        [first, rest @ ..] => Some((*first, rest)),
+    }
+}
+
+/// What follows the first octet, if there is one.
+#[inline(always)]
+pub fn behind_first(octets: &[u8]) -> &[u8]
+    ensures { result.now ≡ drop 1 octets.now }
+{
+    match octets {
+        [] => octets,
+        [_first, rest @ ..] => rest,
+    }
+}
+
+/// Whether both hold.
+#[inline(always)]
+pub fn both(left: bool, right: bool) -> bool
+    ensures { result ≡ (left && right) }
+{
+    left && right
+}
+
+/// Reads one octet, which has to be the expected one.
+#[inline(always)]
+pub fn expect(expected: u8, octets: &[u8]) -> Result<&[u8], Stop>
+    ensures { Passes remaining_of (Only (expected ∷ [])) (λ x. x.now) octets.now result }
+{
+    let Some((octet, rest)) = next(octets) else {
+        return Err(Stop {
+            remaining: octets.len(),
+        });
+    };
+    if octet != expected {
+        return Err(Stop {
+            remaining: octets.len(),
+        });
+    }
+    Ok(rest)
+}

@@ -1,0 +1,64 @@
+//! Texts in UTF-8, and the exact offset where octets are none.
+
+ghost use Rattle.std.specs.Prelude.{◌≡◌, ◌↔◌, IsTrue, MatchResult};
+ghost use Rattle.octet_language.specs.Language.{IsFaultOffset};
+ghost use Rattle.octet_language.specs.Reading.{Misses};
+ghost use Rattle.syslog_fields.specs.Utf8.{IsText};
+
+use crate::character::behind_character;
+use crate::reading::{Stop, next};
+
+/// Reads characters up to the end.
+#[cold]
+fn characters(octets: &[u8]) -> Result<(), Stop>
+    ensures { MatchResult result (λ _. IsText octets.now)
+        (λ e. Misses IsText octets.now e.remaining) }
+{
+    let mut rest = octets;
+    while let Some((_octet, _after)) = next(rest) {
+        let behind = behind_character(rest)?;
+        rest = behind;
+    }
+    Ok(())
+}
+
+/// Whether octets are a text.
+#[inline]
+pub fn is_text(octets: &[u8]) -> bool
+    ensures { IsTrue result ↔ IsText octets.now }
+{
+    match simdutf8::basic::from_utf8(octets) {
+        Ok(_) => true,
+        Err(_) => false,
+    }
+}
+
+/// Reads a text up to the end.
+#[inline]
+pub fn text(octets: &[u8]) -> Result<&str, Stop>
+    ensures { MatchResult result (λ s. (s.now ≡ octets.now) × IsText octets.now)
+        (λ e. Misses IsText octets.now e.remaining) }
+{
+    match simdutf8::basic::from_utf8(octets) {
+        Ok(text) => Ok(text),
+        Err(_) => match characters(octets) {
+            Ok(()) => unreachable!(),
+            Err(stop) => Err(stop),
+        },
+    }
+}
+
+/// The octets as a text in UTF-8 (RFC 3629, section 4).
+///
+/// Where they are none, the answer is the length of their longest prefix that some text begins
+/// with: inside a character that is the offset of the first octet that cannot go on with it, or the
+/// end of the octets. It takes no memory.
+pub fn utf8(octets: &[u8]) -> Result<&str, usize>
+    ensures { MatchResult result (λ s. (s.now ≡ octets.now) × IsText octets.now)
+        (λ at. ¬ (IsText octets.now) × IsFaultOffset IsText octets.now at) }
+{
+    match text(octets) {
+        Ok(text) => Ok(text),
+        Err(stop) => Err(octets.len() - stop.remaining),
+    }
+}

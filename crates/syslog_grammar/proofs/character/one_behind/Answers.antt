@@ -1,7 +1,0 @@
-use Rattle.syslog_grammar.specs.Stops.{remaining_of}
-use Rattle.syslog_grammar.specs.Utf8.{tail}
-use Rattle.syslog_grammar.proofs.Characters.{Passes-last}
-use Rattle.syslog_grammar.proofs.character.one_behind.Goals as goal
-
-pub returns : goal.returns
-returns c = Passes-last remaining_of tail _ c.args.octets.now c.octet.result c.octet.ensures

@@ -1,6 +1,0 @@
-use Rattle.syslog_grammar.specs.ViewParts.{view_parts}
-use Rattle.syslog_grammar.proofs.RecordsOf.{some_record}
-use Rattle.syslog_grammar.proofs.decoding.decode.Goals as goal
-
-pub returns-in-Err-to_record : goal.returns-in-Err-to_record
-returns-in-Err-to_record c = some_record c.args.octets.now (view_parts c.in-Ok.seen) c.in-Ok.ensures.whole

@@ -1,7 +1,0 @@
-use Rattle.std.proofs.Common.{take}
-use Rattle.syslog_grammar.specs.FewIds.{IsNew}
-use Rattle.syslog_grammar.proofs.Rising.{texts}
-use Rattle.syslog_grammar.proofs.few_ids.FewIds.lacks.Given as goal
-
-abbrev pub invariant-loop-i : goal.invariant-loop-i
-invariant-loop-i l = IsNew l.id (texts (take l.i l.kept))

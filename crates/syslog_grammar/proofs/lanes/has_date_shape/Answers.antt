@@ -1,8 +1,0 @@
-use Rattle.std.proofs.Common.{refl}
-use Rattle.std.proofs.lemmas.Bool.{eqb-true}
-use Rattle.syslog_grammar.proofs.LaneRuns.{octets_between}
-use Rattle.syslog_grammar.specs.declared.lanes.TheConstants.{LEAST, MOST}
-use Rattle.syslog_grammar.proofs.lanes.has_date_shape.Goals as goal
-
-pub returns : goal.returns
-returns c = λ h. octets_between c.args.octets.now LEAST MOST c.requires refl refl (eqb-true _ _ h)

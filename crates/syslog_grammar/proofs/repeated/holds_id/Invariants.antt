@@ -1,9 +1,0 @@
-use Rattle.std.proofs.Common.{length}
-use Rattle.syslog_grammar.proofs.Repeating.{Seeks}
-use Rattle.syslog_grammar.proofs.repeated.holds_id.Given as goal
-
-abbrev pub invariant-loop-first : goal.invariant-loop-first
-invariant-loop-first l = Seeks l.elements l.id l.rest
-
-abbrev pub decreases-loop-first : goal.decreases-loop-first
-decreases-loop-first l = length l.rest

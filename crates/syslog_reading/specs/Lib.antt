@@ -1,0 +1,15 @@
+pub mod Views
+pub mod Fields
+pub mod Faults
+pub mod FewIds
+pub mod Parsing
+pub mod Ids
+pub mod ShownParts
+pub mod ViewParts
+pub mod PartsLeft
+pub mod Instants
+pub mod WellFormed
+pub mod CanonicalOctets
+pub mod DecodeFaults
+pub mod IdHashes
+pub mod DataForms
