@@ -4,7 +4,6 @@ use Rattle.std.specs.Prelude.{◌↔◌, IsTrue}
 use Rattle.octet_language.specs.Language.{Language, AnyOf, Each, IsPrefixFree}
 use Rattle.octet_language.specs.Reading.{Follows}
 use Rattle.syslog_value.specs.Parts.{ParamParts, ElementParts}
-use Rattle.std.proofs.Common.{◌-◌}
 use Rattle.std.specs.Prelude.{◌&&◌, true, false}
 use Rattle.std.proofs.Math.Logic.{∥∥₁_elim}
 use Rattle.syslog_value.specs.Parts.{IsById}

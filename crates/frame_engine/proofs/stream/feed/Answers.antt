@@ -99,8 +99,8 @@ loop-rest-preserved g c =
           d.2.frames (d.2.rest ++ take n rest) on.reads) in
           let begun = c.release.ensures.reads kind 0 ((octets ++ d.0) ++ take n rest) d.2.frames
           (d.2.rest ++ take n rest) f.0 on.reads f.1 in
-          handled_frame _ c.next_borrowed.new.self c.release.new.self kind octets c.args.piece.now rest _ n f.0 before _ _ d
-          begun f.2;
+          handled_frame _ c.next_borrowed.new.self c.release.new.self kind octets c.args.piece.now rest _ n f.0 before _ _
+          d begun f.2;
     })
 
 pub loop-rest-preserved-in-Some : goal.loop-rest-preserved-in-Some

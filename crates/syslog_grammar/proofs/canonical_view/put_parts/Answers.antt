@@ -9,4 +9,4 @@ returns-clause-ok c = λ b h.
     c.put_structured_data.new.out.items c.put_message_part.new.out.items
     c.in_ok-put_view_header.ensures c.in_ok-put_structured_data.ensures
     (λ es d. kept_by_id c.args.view.now.is_form c.args.view.now.ascends c.args.view.now.«structured_data».now
-    c.args.view.now.forms c.requires es d) c.in_ok-put_message_part.ensures b h
+    c.args.view.now.forms c.requires es d) (rw c.message_view-message.ensures at c.in_ok-put_message_part.ensures) b h

@@ -10,4 +10,4 @@ returns-clause-ok c = λ b h u.
     c.in_ok-put_view_header.ensures
     (rw c.if-not-branch.false at c.in_ok-put_sorted.ensures)
     (λ f es d. kept_form c.args.view.now.is_form c.args.view.now.ascends c.args.view.now.«structured_data».now
-    c.args.view.now.forms f es d) c.in_ok-put_message_part.ensures b h
+    c.args.view.now.forms f es d) (rw c.message_view-message.ensures at c.in_ok-put_message_part.ensures) b h
