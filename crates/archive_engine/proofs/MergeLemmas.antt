@@ -26,7 +26,7 @@ use Rattle.driver.specs.Effects.{Done, status_of}
 use Rattle.driver.specs.declared.status.TheConstants.{DONE, FAULT, NO_MEMORY}
 use Rattle.archive_engine.specs.Answered.{AnswersWith}
 use Rattle.archive_engine.specs.FaultLines.{fault_line}
-use Rattle.archive_engine.specs.Merged.{IsMerged, IsRefusal, IsRefused, IsSecondAbove, MergeDone, RanMerge, WritesFronts}
+use Rattle.archive_engine.specs.Merged.{IsMerged, IsRefusal, IsRefused, IsSecondAbove, MergeDone, RanMerge, RanOutOfMemory, WritesFronts}
 use Rattle.archive_engine.specs.Merged.{merge_devices, merge_line, merge_status, refused_behind}
 use Rattle.archive_engine.proofs.FaultLemmas.{HasFaultOf, goes_on}
 
@@ -209,6 +209,7 @@ unsaid_stop fault dl el dr er t0 t1 s = record {
   prefix = s.prefix;
   input = tt;
   sent = tt;
+  unsent = tt;
 }
 
 unsaid_failures : (fault : MergeFault) (dl el dr er : InputState) (w w_new : OutputState) → IsRefusal fault
@@ -254,6 +255,7 @@ pub ran_joined : (dl el dr er : InputState) (w w_new n : OutputState) (k : ℕ)
 ran_joined dl el dr er w w_new n k j f = record {
   ending = None;
   outcome = (refl, refl, (k, j));
+  memory = λ is. absurd (cc is);
   failures = told_joined k 0 dl el dr er w w_new f;
   answer = λ few. joined_answer dl el dr er w.taken w_new.taken n.taken k j;
   begins = joined_fronts dl el dr er w.taken w_new.taken k j;
@@ -261,12 +263,14 @@ ran_joined dl el dr er w w_new n k j f = record {
 
 -- a fault was told by its line
 ran_told : (fault : MergeFault) (dl el dr er : InputState) (w w_new n n_new : OutputState) (status : ℕ)
+    → (fault ≡ Memory → RanOutOfMemory (merge_devices dl dr w n) (merge_devices el er w_new n_new))
     → Stopped fault dl el dr er w.taken w_new.taken → TellsFailures {X = ℕ} (Err fault) dl el dr er w w_new
     → Reports (merge_line fault) (merge_status fault) n n_new status
     → RanMerge (merge_devices dl dr w n) (merge_devices el er w_new n_new) status
-ran_told fault dl el dr er w w_new n n_new status s f r = record {
+ran_told fault dl el dr er w w_new n n_new status out s f r = record {
   ending = Some fault;
   outcome = (r, s);
+  memory = λ is. out (cc is);
   failures = f;
   answer = λ few. told_answer fault dl el dr er w.taken w_new.taken n n_new status s r few;
   begins = stopped_fronts fault dl el dr er w.taken w_new.taken s;
@@ -278,15 +282,15 @@ unsaid : (fault : MergeFault) (dl el dr er : InputState) (w w_new n n_new : Outp
     → Reports (codes "want of memory\n") NO_MEMORY n n_new status
     → RanMerge (merge_devices dl dr w n) (merge_devices el er w_new n_new) status
 unsaid fault dl el dr er w w_new n n_new status is s f r =
-    ran_told Memory dl el dr er w w_new n n_new status (unsaid_stop fault dl el dr er w.taken w_new.taken s)
+    ran_told Memory dl el dr er w w_new n n_new status (λ _. inr (fault, is, s)) (unsaid_stop fault dl el dr er w.taken w_new.taken s)
     (unsaid_failures fault dl el dr er w w_new is f) r
 
 pub ran_stopped : (fault : MergeFault) (dl el dr er : InputState) (w w_new n n_new : OutputState) (status : ℕ)
-    → Stopped fault dl el dr er w.taken w_new.taken → TellsFailures {X = ℕ} (Err fault) dl el dr er w w_new
+    → (fault ≡ Memory → (el ≡ dl) × (er ≡ dr) × (w_new ≡ w)) → Stopped fault dl el dr er w.taken w_new.taken → TellsFailures {X = ℕ} (Err fault) dl el dr er w w_new
     → Reports (merge_line fault) (merge_status fault) n n_new status
     ⊎ (IsRefusal fault × Reports (codes "want of memory\n") NO_MEMORY n n_new status)
     → RanMerge (merge_devices dl dr w n) (merge_devices el er w_new n_new) status
-ran_stopped fault dl el dr er w w_new n n_new status s f (inl r) =
-    ran_told fault dl el dr er w w_new n n_new status s f r
-ran_stopped fault dl el dr er w w_new n n_new status s f (inr (is, r)) =
+ran_stopped fault dl el dr er w w_new n n_new status none s f (inl r) =
+    ran_told fault dl el dr er w w_new n n_new status (λ is. inl (none is)) s f r
+ran_stopped fault dl el dr er w w_new n n_new status none s f (inr (is, r)) =
     unsaid fault dl el dr er w w_new n n_new status is s f r

@@ -183,9 +183,18 @@ pub ran_part : (text octets : List ℕ) (sent : ℕ) (r r_new : InputState) (w w
     → (es : List Entry) × IsArchive ENTRY_MAX es × Migrates text [] es × (octets ≡ text_of es)
     → WrotePart w w_new octets sent → Reports (codes "write fault\n") FAULT n n_new status
     → RanMigrate (devices r w n) (devices r_new w_new n_new) status
-ran_part text octets sent r r_new w w_new n n_new status is few sound done part told = record {
+ran_part text octets sent r r_new w w_new n n_new status is few sound (es, a, h, e) part told = record {
   ending = Some Write;
-  outcome = (told, sound, part.cause);
-  begins = migrated_prefix r.left w.taken w_new.taken text octets sent is done part.octets;
+  outcome = (
+    told,
+    sound,
+    text,
+    goes_out (text_of es),
+    sent,
+    left_of r.left text is,
+    inl (es, a, h, refl),
+    subst (λ (t : List ℕ). WrotePart w w_new t sent) e part,
+  );
+  begins = migrated_prefix r.left w.taken w_new.taken text octets sent is (es, a, h, e) part.octets;
   few = few;
 }

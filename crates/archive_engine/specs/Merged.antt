@@ -120,10 +120,18 @@ MergeEndsAs (Some fault) old new status =
     Reports (merge_line fault) (merge_status fault) old.diagnostics new.diagnostics status
     × Stopped fault old.left new.left old.right new.right old.output.taken new.output.taken
 
+-- memory ran out before anything was touched; or for the line on an input that is no archive
+abbrev pub RanOutOfMemory : MergeDevices → MergeDevices → Type 0
+RanOutOfMemory old new =
+    ((new.left ≡ old.left) × (new.right ≡ old.right) × (new.output ≡ old.output))
+    ⊎ ((fault : MergeFault) × IsRefusal fault
+    × Stopped fault old.left new.left old.right new.right old.output.taken new.output.taken)
+
 -- what a merge does, whatever the devices do
 pub record RanMerge (old new : MergeDevices) (status : ℕ) : Type 0 where
   pub ending : Option MergeFault
   pub outcome : MergeEndsAs ending old new status
+  pub memory : ending ≡ Some Memory → RanOutOfMemory old new
   -- a device failed exactly where that is told
   pub failures : TellsFailures (result_of ending) old.left new.left old.right new.right old.output new.output
   -- the text of the union, or the line on why an input is no archive, behind the entries that come before its fault

@@ -1,6 +1,6 @@
 -- What comes of an old archive.
 use Rattle.std.specs.Prelude.{◌≡◌, ◌⊎◌, ℕ, List, [], Option, None, Some, true, codes}
-use Rattle.octet_devices.specs.Transfers.{ReadsFew}
+use Rattle.octet_devices.specs.Transfers.{ReadsFew, WrotePart}
 use Rattle.archive_text.specs.Entries.{Entry}
 use Rattle.archive_text.specs.Text.{IsArchive, text_of}
 use Rattle.archive_text.specs.declared.fault.ArchiveFault.{ArchiveFault}
@@ -47,7 +47,9 @@ MigrateEndsAs (Some Endless) old new status =
     × IsEndless old.input new.input × (new.output ≡ old.output)
 MigrateEndsAs (Some Write) old new status =
     Reports (codes "write fault\n") FAULT old.diagnostics new.diagnostics status
-    × (new.input.failures ≡ old.input.failures) × OutputFailed old.output new.output
+    × (new.input.failures ≡ old.input.failures)
+    × ((input : List ℕ) × (d : Done) × (sent : ℕ) × IsLeft old.input.left input × MigrateDone input d
+    × WrotePart old.output new.output d.output sent)
 MigrateEndsAs (Some Diagnostics) old new status =
     (status ≡ FAULT) × OutputFailed old.diagnostics new.diagnostics × (new.input.failures ≡ old.input.failures)
     × (new.output ≡ old.output)

@@ -14,7 +14,7 @@ use Rattle.archive_text.proofs.Ascending.{ascending_across}
 use Rattle.archive_text.proofs.Texts.{no_text, one_begins, text_append, text_length, text_some}
 use Rattle.archive_text.proofs.Prefixes.{archive_has_no_fault, longest_faulty, one_longest}
 use Rattle.archive_streams.specs.Joining.{IsFirstAbove, IsFirstWithin, IsPrefixOfAnyUnion, IsPrefixOfUnion, IsUnion, IsUpToFirst, IsWithin}
-use Rattle.archive_streams.specs.Joining.{MayFollow}
+use Rattle.archive_streams.specs.Joining.{IsShortOfAnyUnion, MayFollow}
 
 -- an entry is above all of a list
 abbrev pub AllBelow : List Entry → Entry → Type 0
@@ -211,6 +211,13 @@ pub shorter_any : (left right : Option (List ℕ)) (x y written rest : List ℕ)
     → IsPrefixOfAnyUnion left right x y (written ++ rest) → IsPrefixOfAnyUnion left right x y written
 shorter_any left right x y written rest p more others may also =
     shorter_prefix (x ++ more) (y ++ others) written rest (p more others may also)
+
+-- where a part of what was joined is cut off, not all of the union is there
+pub short_of_any : (left right : Option (List ℕ)) (x y written rest : List ℕ) → 0 < length rest
+    → IsPrefixOfAnyUnion left right x y (written ++ rest) → IsShortOfAnyUnion left right x y written
+short_of_any left right x y written rest some p more others may also xs ys zs r s f g u =
+    let k = p more others may also xs ys zs r s f g u in
+    (rest ++ k.0, omega (arith, length-append rest k.0, some), k.1 ∙ append_assoc written rest k.0)
 
 -- ---- a fault of the first side
 

@@ -1,16 +1,16 @@
 -- What a call did that a fault stopped.
 use Rattle.std.proofs.Common.{◌≡◌, ℕ, List, Option, take, drop, refl, sym, subst, arith}
 use Rattle.std.specs.Io.KnownBytes.{Appends}
-use Rattle.std.proofs.lemmas.List.{length-take, take-append-drop}
+use Rattle.std.proofs.lemmas.List.{length-drop, length-take, take-append-drop}
 use Rattle.octet_devices.specs.Held.{Carries, Held, StopsWithin}
 use Rattle.octet_devices.proofs.Carrying.{StopsWithin-take}
 use Rattle.archive_streams.specs.Halted.{Halted, IsNotWrite, IsUnderWay}
 use Rattle.archive_streams.specs.Joining.{IsPrefixOfAnyUnion}
 use Rattle.octet_devices.specs.Device.{InputState}
-use Rattle.archive_streams.specs.Stopped.{IsSent, Stopped}
+use Rattle.archive_streams.specs.Stopped.{IsSent, IsUnsent, Stopped}
 use Rattle.archive_streams.specs.declared.fault.MergeFault.{MergeFault}
 use Rattle.archive_streams.specs.declared.fault.MergeFault.TheVariants.{Left, Right, Read, Endless, Write, Memory}
-use Rattle.archive_streams.proofs.Joining.{shorter_any}
+use Rattle.archive_streams.proofs.Joining.{short_of_any, shorter_any}
 
 -- the writer took so many octets
 pub stopped_sent : (sent : ℕ) (held : Held) (dl el dr er : InputState) (start now : Option (List ℕ))
@@ -30,6 +30,9 @@ stopped_sent sent held dl el dr er start now h =
           (subst (IsPrefixOfAnyUnion el.left er.left h.x h.y) (sym (take-append-drop sent h.text)) h.prefix);
       input = tt;
       sent = omega (arith, length-take sent h.text, taken.0);
+      unsent = short_of_any el.left er.left h.x h.y (take sent h.text) (drop sent h.text)
+          (omega (arith, length-drop sent h.text, taken.0))
+          (subst (IsPrefixOfAnyUnion el.left er.left h.x h.y) (sym (take-append-drop sent h.text)) h.prefix);
     }
 
 pub stopped_write : (fault : MergeFault) (sent : ℕ) (held : Held) (dl el dr er : InputState) (start now : Option (List ℕ))
@@ -65,6 +68,15 @@ none_sent (Read side) written other = tt
 none_sent (Endless side) written other = tt
 none_sent Memory written other = tt
 
+none_unsent : (fault : MergeFault) (left right : Option (List ℕ)) (x y written : List ℕ) → IsNotWrite fault
+    → IsUnsent fault left right x y written
+none_unsent (Write sent) left right x y written other = absurd other
+none_unsent (Left fault) left right x y written other = tt
+none_unsent (Right fault) left right x y written other = tt
+none_unsent (Read side) left right x y written other = tt
+none_unsent (Endless side) left right x y written other = tt
+none_unsent Memory left right x y written other = tt
+
 -- what is held back is written before a fault is told
 pub stopped_whole : (fault : MergeFault) (held : Held) (dl el dr er : InputState) (start now after : Option (List ℕ))
     → IsNotWrite fault → ((text : List ℕ) → Carries start now held text → Appends start after text)
@@ -81,6 +93,7 @@ stopped_whole fault held dl el dr er start now after other whole h = record {
   prefix = h.prefix;
   input = h.input;
   sent = none_sent fault h.text other;
+  unsent = none_unsent fault el.left er.left h.x h.y h.text other;
 }
 
 -- or the writer fails before it is told

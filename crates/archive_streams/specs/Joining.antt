@@ -1,5 +1,5 @@
 -- What becomes of two archives that are joined. The front of octets is their longest prefix that is an archive.
-use Rattle.std.specs.Prelude.{◌≡◌, ℕ, ◌↔◌, ◌⊎◌, List, [], ◌++◌, Option}
+use Rattle.std.specs.Prelude.{◌≡◌, ℕ, ◌<◌, ◌↔◌, ◌⊎◌, List, [], ◌++◌, length, Option}
 use Rattle.std.specs.Io.KnownBytes.{IsAtEnd}
 use Rattle.archive_text.specs.Entries.{Entry, Has, IsAscending, IsBelow}
 use Rattle.archive_text.specs.Faults.{IsLongestArchive}
@@ -31,6 +31,13 @@ abbrev pub IsPrefixOfAnyUnion : Option (List ℕ) → Option (List ℕ) → List
 IsPrefixOfAnyUnion left right x y written =
     (more others : List ℕ) → MayFollow left more → MayFollow right others
     → IsPrefixOfUnion (x ++ more) (y ++ others) written
+
+-- and not all of it
+abbrev pub IsShortOfAnyUnion : Option (List ℕ) → Option (List ℕ) → List ℕ → List ℕ → List ℕ → Type 0
+IsShortOfAnyUnion left right x y written =
+    (more others : List ℕ) → MayFollow left more → MayFollow right others → (xs ys zs : List Entry) (r s : List ℕ)
+    → IsLongestArchive ENTRY_MAX (x ++ more) xs r → IsLongestArchive ENTRY_MAX (y ++ others) ys s → IsUnion xs ys zs
+    → (rest : List ℕ) × (0 < length rest) × (text_of zs ≡ written ++ rest)
 
 -- the text of the members of the two fronts that are not above the greatest of the first; no octets
 -- where the first is empty

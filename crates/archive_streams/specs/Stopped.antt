@@ -5,7 +5,7 @@ use Rattle.octet_devices.specs.declared.loops.TheConstants.{READER_CALLS}
 use Rattle.archive_text.specs.Faults.{IsArchiveFault}
 use Rattle.archive_text.specs.declared.fault.ArchiveFault.{ArchiveFault}
 use Rattle.archive_text.specs.declared.limits.TheConstants.{ENTRY_MAX}
-use Rattle.archive_streams.specs.Joining.{IsFirstAbove, IsFirstWithin, IsPrefixOfAnyUnion, IsUpToFirst}
+use Rattle.archive_streams.specs.Joining.{IsFirstAbove, IsFirstWithin, IsPrefixOfAnyUnion, IsShortOfAnyUnion, IsUpToFirst}
 use Rattle.archive_text.specs.Positions.{position_of}
 use Rattle.octet_devices.specs.Device.{InputState}
 use Rattle.archive_streams.specs.Pieces.{HasFewCalls}
@@ -60,6 +60,11 @@ abbrev pub IsSent : MergeFault → List ℕ → Type 0
 IsSent (Write sent) written = sent ≡ length written
 IsSent fault written = Unit {0}
 
+-- where the writer failed, it took not all of the text of that union
+abbrev pub IsUnsent : MergeFault → Option (List ℕ) → Option (List ℕ) → List ℕ → List ℕ → List ℕ → Type 0
+IsUnsent (Write sent) left right x y written = IsShortOfAnyUnion left right x y written
+IsUnsent fault left right x y written = Unit {0}
+
 -- the readers gave `x` and `y`; the writer took a prefix of the text of the union of the fronts of all that they have
 pub record Stopped (fault : MergeFault) (dl el dr er : InputState) (taken_old taken_new : Option (List ℕ)) : Type 0 where
   pub x : List ℕ
@@ -73,3 +78,4 @@ pub record Stopped (fault : MergeFault) (dl el dr er : InputState) (taken_old ta
   pub prefix : IsPrefixOfAnyUnion el.left er.left x y written
   pub input : IsInputFault fault dl el dr er x y written
   pub sent : IsSent fault written
+  pub unsent : IsUnsent fault el.left er.left x y written

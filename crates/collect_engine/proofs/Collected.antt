@@ -5,7 +5,7 @@ use Rattle.std.specs.Prelude.{◌^◌, Option, Result, Ok, Err, OnOk, OnErr, IfE
 use Rattle.std.specs.Io.KnownBytes.{Appends}
 use Rattle.std.proofs.KnownBytes.{Appends-trans}
 use Rattle.std.proofs.Math.Seq.{take-append-add}
-use Rattle.std.proofs.lemmas.List.{append-nil, take-append-le}
+use Rattle.std.proofs.lemmas.List.{append-nil, length-append, take-append-le}
 use Rattle.octet_devices.specs.Device.{OutputState}
 use Rattle.octet_devices.specs.Transfers.{WritesAll}
 use Rattle.octet_devices.specs.declared.loops.WriteFault.{WriteFault}
@@ -79,8 +79,8 @@ behind : (a b c : ℕ) (t0 t1 t2 : Option (List ℕ)) (told lines : List ℕ) �
     → NotesBehind b c t1 t2 [] lines → NotesBehind a c t0 t2 told lines
 behind a b c t0 t1 t2 told lines same before (inl (quiet, more)) =
     inl (quiet ∙ same, Appends-trans t0 t1 t2 told lines before more)
-behind a b c t0 t1 t2 told lines same before (inr (rises, n, more)) =
-    inr (later_rises a b c same rises, n, Appends-trans t0 t1 t2 told (take n lines) before more)
+behind a b c t0 t1 t2 told lines same before (inr (rises, n, less, more)) =
+    inr (later_rises a b c same rises, n, less, Appends-trans t0 t1 t2 told (take n lines) before more)
 
 nothing_more : (t0 t1 t2 : Option (List ℕ)) (told : List ℕ) → Appends t0 t1 told → Appends t1 t2 [] → Appends t0 t2 told
 nothing_more t0 t1 t2 told before more =
@@ -106,17 +106,19 @@ pub first_lines : (a b : ℕ) (t0 t1 : Option (List ℕ)) (line rest : List ℕ)
     → Appends t0 t1 (take n line) → NotesBehind a b t0 t1 [] (line ++ rest)
 first_lines a b t0 t1 line rest n rises less taken =
     let some : n ≤ length line = omega (arith, less) in
-    inr (rises, n, subst (Appends t0 t1) (sym (take-append-le n line rest some)) taken)
+    inr (rises, n, omega (arith, length-append line rest, less),
+    subst (Appends t0 t1) (sym (take-append-le n line rest some)) taken)
 
 -- a line, and then others
 pub then_lines : (a b c : ℕ) (t0 t1 t2 : Option (List ℕ)) (line lines : List ℕ) → b ≡ a → Appends t0 t1 line
     → NotesBehind b c t1 t2 [] lines → NotesBehind a c t0 t2 [] (line ++ lines)
 then_lines a b c t0 t1 t2 line lines same before (inl (quiet, more)) =
     inl (quiet ∙ same, Appends-trans t0 t1 t2 line lines before more)
-then_lines a b c t0 t1 t2 line lines same before (inr (rises, n, more)) =
+then_lines a b c t0 t1 t2 line lines same before (inr (rises, n, less, more)) =
     inr (
       later_rises a b c same rises,
       length line + n,
+      omega (arith, length-append line lines, less),
       subst (Appends t0 t2) (sym (take-append-add line lines n))
           (Appends-trans t0 t1 t2 line (take n lines) before more),
     )
@@ -143,7 +145,7 @@ took (Err f) o n text w = inr (w.cause, f.sent, w.some_left, w.octets)
 pub noted : (a b : ℕ) (t0 t1 : Option (List ℕ)) (lines : List ℕ) → Takes a b t0 t1 lines
     → NotesBehind a b t0 t1 [] lines
 noted a b t0 t1 lines (inl whole) = inl whole
-noted a b t0 t1 lines (inr (rises, n, less, taken)) = inr (rises, n, taken)
+noted a b t0 t1 lines (inr (rises, n, less, taken)) = inr (rises, n, less, taken)
 
 -- no line is due
 pub written_unnoted : (text : List ℕ) (status a b : ℕ) (t0 t1 : Option (List ℕ)) → Takes a b t0 t1 text → status ≡ 2
@@ -157,7 +159,7 @@ pub written_behind_part : (text line rest : List ℕ) (status a b : ℕ) (t0 t1 
     → Appends m0 m1 (take n line)
     → (lines : List ℕ) × WritesText text 2 line (line ++ rest) status a b t0 t1 lines × NotesBehind c d m0 m1 [] lines
 written_behind_part text line rest status a b t0 t1 c d n m0 m1 (inl taken) is rises less front =
-    (line, inl (is, taken, refl), inr (rises, n, front))
+    (line, inl (is, taken, refl), inr (rises, n, less, front))
 written_behind_part text line rest status a b t0 t1 c d n m0 m1 (inr taken) is rises less front =
     (line ++ rest, inr (is, taken, refl), first_lines c d m0 m1 line rest n rises less front)
 

@@ -68,10 +68,10 @@ WritesOut (Err stopped.Memory) text status was now old new lines =
 WritesOut (Err stopped.MemoryAndNotes) text status was now old new lines =
     WritesNothing status was now old new × (lines ≡ [])
 
--- lines are noted behind those of the serving: all; or only their first octets, since the notes failed
+-- lines are noted behind those of the serving: all; or only their first octets, and not all, since the notes failed
 abbrev pub NotesBehind : ℕ → ℕ → Option (List ℕ) → Option (List ℕ) → List ℕ → List ℕ → Type 0
 NotesBehind was now old new told lines = TakesWhole was now old new (told ++ lines)
-    ⊎ (Rises was now × (n : ℕ) × Appends old new (told ++ take n lines))
+    ⊎ (Rises was now × (n : ℕ) × (n < length lines) × Appends old new (told ++ take n lines))
 
 -- the same by how serving ended: nothing more is noted where the notes failed before
 abbrev pub NotesOut : Served → ℕ → ℕ → Option (List ℕ) → Option (List ℕ) → List ℕ → List ℕ → Type 0

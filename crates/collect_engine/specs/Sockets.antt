@@ -1,5 +1,5 @@
 -- What a source over a socket gives, by how much it is still asked for.
-use Rattle.std.specs.Prelude.{◌≡◌, ℕ, ◌+◌, ◌<◌, Option, IsNone, IsSome}
+use Rattle.std.specs.Prelude.{◌≡◌, ◌⊎◌, ℕ, ◌+◌, ◌<◌, Option, IsNone, IsSome}
 use Rattle.syslog_frame.specs.declared.framing.Framing.{Framing}
 use Rattle.collect_engine.specs.declared.step.Step.{Step}
 use Rattle.collect_engine.specs.declared.step.Step.TheVariants.{Opened, Piece, Ended, Datagram, Finished, Failed}
@@ -19,5 +19,6 @@ IsOfConnections kind old new was is (Opened framing) = (framing ≡ kind) × (ol
 IsOfConnections kind old new was is (Piece n) = (0 < n) × (new ≡ old) × IsSome was × IsSome is
 IsOfConnections kind old new was is Ended = (new ≡ old) × IsSome was × IsNone is
 IsOfConnections kind old new was is Finished = (old ≡ 0) × (new ≡ 0) × IsNone was × IsNone is
-IsOfConnections kind old new was is Failed = new ≡ old
+IsOfConnections kind old new was is Failed = (new ≡ old) × ((0 < old) ⊎ IsSome was) × (IsSome was → IsSome is)
+    × (IsNone was → IsNone is)
 IsOfConnections kind old new was is (Datagram n) = ⊥
