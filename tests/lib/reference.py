@@ -332,38 +332,93 @@ NEW_FORM = re.compile(PRIVAL + rb"1 ")
 PACKET = re.compile(PRIVAL + rb"(.*)", re.DOTALL)
 STAMPED = re.compile(rb"(%b) ( [1-9]|\d\d) ([01]\d|2[0-3]):([0-5]\d):([0-5]\d) (.*)" % b"|".join(MONTHS), re.DOTALL)
 HOSTED = re.compile(rb"([!-~]+)(?: (.*))?", re.DOTALL)
+NAMED = rb"([A-Za-z0-9_./-]{1,48})"
+BRACKETED = NAMED + rb"\[([!-\\^-~]{1,128})\]"
 TAGGED = re.compile(rb"([A-Za-z0-9_./-]{1,48})(?:\[([!-\\^-~]{1,128})\])?: ?(.*)", re.DOTALL)
+
+# the wide dialect: a time by its shape, whatever date and time of day it says
+OF_DAY = rb"(\d\d):(\d\d):(\d\d)"
+FRACTION = rb"(?:\.(\d{1,6}))?"
+OWN = re.compile(rb"[*.]?(%b):? (.*)" % re.sub(rb"\((?!\?)", b"(?:", TIME), re.DOTALL)
+MONTH_DAY = rb"(%b) ( \d|\d\d)" % b"|".join(MONTHS)
+WITH_MONTH = [(re.compile(rb"[*.]?%b %b%b:? (.*)" % (shape, OF_DAY, FRACTION), re.DOTALL), places) for shape, places in [
+    (MONTH_DAY, (None, 1, 2)), (MONTH_DAY + rb" (\d{4})", (3, 1, 2)), (rb"(\d{4}) " + MONTH_DAY, (1, 2, 3))]]
+WORD = re.compile(rb"[!-~]*")
+SPACED = re.compile(BRACKETED + rb" (.*)", re.DOTALL)
+
+
+def civil(year, month, day, clock, micros, ahead):
+    """The instant of a civil time so many minutes ahead of UTC, None where there is none or it is out of range."""
+    hour, minute, second = (int(part) for part in clock)
+    if not (1 <= day <= days_of(year, month) and hour < 24 and minute < 60 and second < 60):
+        return None
+    days = date(year or 400, month, day).toordinal() - EPOCH - (0 if year else CYCLE)
+    found = (((days * 24 + hour) * 60 + minute - ahead) * 60 + second) * 1_000_000 + micros
+    return found if LEAST <= found <= GREATEST else None
 
 
 def stamped(text, year, ahead):
     """The instant of a packet's time and what follows it; None and all of the text where it has no time."""
     seen = STAMPED.fullmatch(text)
+    micros = seen and civil(year, MONTHS.index(seen.group(1)) + 1, int(seen.group(2)), seen.groups()[2:5], 0, ahead)
+    return (None, text) if micros is None else (micros, seen.group(6))
+
+
+def stamped_wide(text, year, ahead):
+    """The same in the wide dialect."""
+    seen = OWN.fullmatch(text)
     if seen:
-        month, day = MONTHS.index(seen.group(1)) + 1, int(seen.group(2))
-        if 1 <= day <= days_of(year, month):
-            hour, minute, second = (int(part) for part in seen.groups()[2:5])
-            days = date(year, month, day).toordinal() - EPOCH
-            return (((days * 24 + hour) * 60 + minute - ahead) * 60 + second) * 1_000_000, seen.group(6)
+        micros = instant(seen.group(1))
+        return (micros, seen.group(2)) if micros is not None and LEAST <= micros <= GREATEST else (None, text)
+    for shape, (at_year, at_month, at_day) in WITH_MONTH:
+        seen = shape.fullmatch(text)
+        if seen:
+            *_, hour, minute, second, fraction, rest = seen.groups()
+            micros = civil(int(seen.group(at_year)) if at_year else year, MONTHS.index(seen.group(at_month)) + 1,
+                           int(seen.group(at_day)), (hour, minute, second), int((fraction or b"").ljust(6, b"0")), ahead)
+            return (None, text) if micros is None else (micros, rest)
     return None, text
 
 
-def addressed(text):
+def tagged(text):
+    """The name and the process id of a tag and the message behind it, or nil and all."""
+    tag = TAGGED.fullmatch(text)
+    return (tag.group(1), tag.group(2) or b"-", tag.group(3)) if tag else (b"-", b"-", text)
+
+
+def tagged_wide(text):
+    """The same in the wide dialect."""
+    tag = SPACED.fullmatch(text)
+    return tag.groups() if tag else tagged(text)
+
+
+def addressed(text, read_tag=tagged):
     """The host, the name and the process id of what follows the time, nil where there is none, and the message."""
     seen = HOSTED.fullmatch(text)
     if not seen or len(seen.group(1)) > 255:
         return b"-", b"-", b"-", text
-    host, rest = seen.group(1), seen.group(2) or b""
-    tag = TAGGED.fullmatch(rest)
-    return (host, tag.group(1), tag.group(2) or b"-", tag.group(3)) if tag else (host, b"-", b"-", rest)
+    return seen.group(1), *read_tag(seen.group(2) or b"")
 
 
-def legacy(octets, year, ahead):
+def addressed_wide(text):
+    """The same in the wide dialect."""
+    word = WORD.match(text).group()
+    if word.endswith(b":") or re.fullmatch(BRACKETED, word):
+        return b"-", *tagged_wide(text)
+    return addressed(text, tagged_wide)
+
+
+def legacy(octets, year, ahead, dialect="bsd"):
     """The record of a frame under a clock, ahead of UTC by so many minutes, or the refusal as `check` prints it."""
     if NEW_FORM.match(octets):
         return read(octets)
+    read_time, read_rest = (stamped, addressed) if dialect == "bsd" else (stamped_wide, addressed_wide)
     seen = PACKET.fullmatch(octets)
-    micros, rest = stamped(seen.group(2), year, ahead) if seen else (None, octets)
-    host, app, proc, message = addressed(rest) if micros is not None else (b"-", b"-", b"-", rest)
+    text = seen.group(2) if seen else octets
+    if seen and dialect == "wide" and text.startswith(b" "):
+        text = text[1:]
+    micros, rest = read_time(text, year, ahead) if seen else (None, octets)
+    host, app, proc, message = read_rest(rest) if micros is not None else (b"-", b"-", b"-", rest)
     if message.startswith(MARK) and not is_utf8(message[3:]):
         return b"legacy-not-utf8 %d" % utf8_offset(octets, len(octets) - len(message) + 3)
     return Record(int(seen.group(1)) if seen else 13, micros, (host, app, proc, b"-"), [], message)

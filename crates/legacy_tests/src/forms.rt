@@ -512,7 +512,7 @@ const DEVICES: [Form; 40] = [
 ];
 
 /// The canonical octets by way of the record, which are those of the view, with what stood before.
-fn canonical(alloc: Global, clock: &LegacyClock, packet: &[u8]) -> Result<Vec<u8>, Fail> {
+pub fn canonical(alloc: Global, clock: &LegacyClock, packet: &[u8]) -> Result<Vec<u8>, Fail> {
     let Ok(seen) = legacy_view(clock, packet) else {
         return Err(Fail::from("a fault"));
     };

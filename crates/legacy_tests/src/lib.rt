@@ -7,3 +7,5 @@ mod commands;
 mod faults;
 #[cfg(test)]
 mod forms;
+#[cfg(test)]
+mod wide;

@@ -95,7 +95,7 @@ pub use syslog_grammar::is_canon;
 pub use syslog_grammar::is_canon_unsorted;
 pub use syslog_grammar::octets_are_one_record;
 pub use syslog_grammar::octets_have_one_fault;
-pub use syslog_grammar::put_canonical;
+pub use syslog_grammar::write_canonical_view;
 pub use syslog_grammar::same_value;
 pub use syslog_grammar::utf8;
 pub use syslog_grammar::view;

@@ -8,12 +8,15 @@ use Rattle.syslog_value.specs.Parts.{MessageParts, AnyOctets, Utf8Text, Parts}
 use Rattle.syslog_fields.specs.Canonical.{Canonical, HeaderForm, SpacedWord, TimeForm, message_form, word_form}
 use Rattle.syslog_fields.specs.Grammar.{Message, Priority}
 use Rattle.syslog_grammar.proofs.Bounded.{civil_len}
+use Rattle.syslog_legacy.specs.declared.clock.Dialect.{Dialect}
+use Rattle.syslog_legacy.specs.declared.clock.Dialect.TheVariants.{Bsd, Wide}
 use Rattle.syslog_legacy.specs.declared.clock.LegacyClock.{LegacyClock}
 use Rattle.syslog_legacy.specs.Hosts.{Host, IsNilable}
 use Rattle.syslog_legacy.specs.Readings.{IsRead, legacy_parts}
-use Rattle.syslog_legacy.specs.Splits.{FrontParts, Splits}
-use Rattle.syslog_legacy.specs.Tags.{BehindSpace, ProcText}
-use Rattle.syslog_legacy.specs.Timestamps.{TimestampText}
+use Rattle.syslog_legacy.specs.Splits.{FrontParts, HostPart, PriorityPart, Splits, TagPart, TimePart}
+use Rattle.syslog_legacy.specs.Tags.{BehindSpace, ProcText, Tag, TagParts}
+use Rattle.syslog_legacy.proofs.Parts.{Ends}
+use Rattle.syslog_legacy.proofs.WideTimes.{wide_time_space}
 
 abbrev len : List ℕ → ℕ
 len b = length b
@@ -81,8 +84,58 @@ priority_len : (v : ℕ) (b rest : List ℕ) → Follows (Priority v) b rest →
 priority_len v b rest (t, e, (x, y, f, h, (u, w, g, (n, i), j))) =
     omega (arith, together t rest b e, together x y t f, together u w y g, ap length h, ap length i, ap length j)
 
-follows_len : {A : List ℕ → Type 0} (b rest : List ℕ) → Follows A b rest → len rest ≤ len b
-follows_len b rest (t, e, h) = omega (arith, together t rest b e)
+ends_len : (b rest : List ℕ) → Ends b rest → len rest ≤ len b
+ends_len b rest (x, e) = omega (arith, together x rest b e)
+
+-- ---- what the parts of each dialect take: where a tag stands in the host's place, the nil host takes an octet of the time
+
+abbrev spare : Dialect → ℕ
+spare Bsd = 0
+spare Wide = 1
+
+priority_part_len : (d : Dialect) (v : ℕ) (b rest : List ℕ) → PriorityPart d v b rest
+    → len (decimal v) + 2 + len rest ≤ len b
+priority_part_len Bsd v b rest h = priority_len v b rest h
+priority_part_len Wide v b rest (behind, h, k) = omega (arith, priority_len v b behind h, space_len behind rest k)
+
+time_part_len : (d : Dialect) (clock : LegacyClock) (t : ℤ) (b rest : List ℕ) → TimePart d clock t b rest
+    → len rest + spare d ≤ len b
+time_part_len Bsd clock t b rest (x, e, h) = omega (arith, together x rest b e)
+time_part_len Wide clock t b rest h = omega (arith, ends_len b (32 ∷ rest) (wide_time_space clock t b rest h))
+
+host_part_len : (d : Dialect) (w : Option (List ℕ)) (b rest : List ℕ) → HostPart d w b rest
+    → len (word_form w) + len rest ≤ len b + spare d
+host_part_len Bsd w b rest h = omega (arith, host_len w b rest h)
+host_part_len Wide w b rest (inl (l, e, k)) =
+    omega (arith, ap (λ (o : Option (List ℕ)). len (word_form o)) e, ap length k)
+host_part_len Wide w b rest (inr (l, h)) = omega (arith, host_len w b rest h)
+
+tag_len : (t : TagParts) (b rest : List ℕ) → Tag t b rest
+    → len (word_form t.app_name) + len (word_form t.proc_id) + len rest ≤ len b
+tag_len t b rest (behind, (x, g, (y, z, i, (a, n), j)), l) =
+    omega (
+      arith,
+      together x behind b g,
+      together y z x i,
+      nilable_len t.app_name y n,
+      proc_len t.proc_id z j,
+      space_len behind rest l,
+    )
+
+tag_part_len : (d : Dialect) (t : TagParts) (b rest : List ℕ) → TagPart d t b rest
+    → len (word_form t.app_name) + len (word_form t.proc_id) + len rest ≤ len b
+tag_part_len Bsd t b rest h = tag_len t b rest h
+tag_part_len Wide t b rest (inl h) = tag_len t b rest h
+tag_part_len Wide t b rest (inr (x, e, (y, z, f, (a, n), (u, v, g, k, (r, s, i, (c, m), l))))) =
+    omega (
+      arith,
+      together x (32 ∷ rest) b e,
+      together y z x f,
+      together u v z g,
+      together r s v i,
+      nilable_len t.app_name y n,
+      nilable_len t.proc_id r m,
+    )
 
 -- what a front and a message take of a packet
 abbrev taken : FrontParts → List ℕ → ℕ
@@ -103,43 +156,38 @@ front_taken : (clock : LegacyClock) (b : List ℕ) (f : FrontParts) (m : List �
 front_taken clock b f m (inl (none, (e, h))) =
     omega (arith, ap (λ (g : FrontParts). taken g m) e, ap length h, digits_13)
 front_taken clock b f m (inr (v, r, p, inl (none, (e, h)))) =
-    omega (arith, ap (λ (g : FrontParts). taken g m) e, ap length h, priority_len v b r p)
+    omega (
+      arith,
+      ap (λ (g : FrontParts). taken g m) e,
+      ap length h,
+      priority_part_len clock.dialect v b r p,
+    )
 front_taken clock b f m (inr (v, r, p, inr (t, s, q, inl (none, (e, h))))) =
     omega (
       arith,
       ap (λ (g : FrontParts). taken g m) e,
       ap length h,
-      priority_len v b r p,
-      follows_len {A = TimestampText clock t} r s q,
+      priority_part_len clock.dialect v b r p,
+      time_part_len clock.dialect clock t r s q,
     )
 front_taken clock b f m (inr (v, r, p, inr (t, s, q, inr (host, u, k, inl (none, (e, h)))))) =
     omega (
       arith,
       ap (λ (g : FrontParts). taken g m) e,
       ap length h,
-      priority_len v b r p,
-      follows_len {A = TimestampText clock t} r s q,
-      host_len host s u k,
+      priority_part_len clock.dialect v b r p,
+      time_part_len clock.dialect clock t r s q,
+      host_part_len clock.dialect host s u k,
     )
-front_taken clock b f m (inr (
-  v,
-  r,
-  p,
-  inr
-      (t, s, q, inr (host, u, k, inr (tag, w, (behind, (x, g, (y, z, i, (a, n), j)), l), (e, h)))),
-)) =
+front_taken clock b f m (inr (v, r, p, inr (t, s, q, inr (host, u, k, inr (tag, w, g, (e, h)))))) =
     omega (
       arith,
       ap (λ (g : FrontParts). taken g m) e,
       ap length h,
-      priority_len v b r p,
-      follows_len {A = TimestampText clock t} r s q,
-      host_len host s u k,
-      together x behind u g,
-      together y z x i,
-      nilable_len tag.app_name y n,
-      proc_len tag.proc_id z j,
-      space_len behind w l,
+      priority_part_len clock.dialect v b r p,
+      time_part_len clock.dialect clock t r s q,
+      host_part_len clock.dialect host s u k,
+      tag_part_len clock.dialect tag u w g,
     )
 
 message_len : (m : MessageParts) (b : List ℕ) → Message m b → len (message_form m) ≤ len b + 1

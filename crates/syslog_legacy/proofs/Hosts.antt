@@ -7,7 +7,7 @@ use Rattle.octet_language.proofs.Lists.{tails}
 use Rattle.syslog_value.specs.Parts.{IsPrintable}
 use Rattle.syslog_fields.specs.Spans.{IsRun}
 use Rattle.syslog_legacy.specs.Hosts.{Host, IsNilable, SplitsRun}
-use Rattle.syslog_legacy.specs.Splits.{Lacks}
+use Rattle.syslog_legacy.specs.Parts.{Lacks}
 use Rattle.syslog_legacy.proofs.Longest.{the_run, run_is, nil_one}
 
 space : ¬ (IsPrintable 32)

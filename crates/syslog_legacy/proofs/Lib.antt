@@ -1,8 +1,13 @@
+pub mod Parts
 pub mod Longest
 pub mod Hosts
 pub mod Tags
 pub mod Months
 pub mod Times
+pub mod WideTags
+pub mod WideTimes
+pub mod WideReads
+pub mod OneSplit
 pub mod Splitting
 pub mod OneAnswer
 pub mod Valid

@@ -1,63 +1,18 @@
 -- A packet has one answer at most.
-use Rattle.std.proofs.Common.{◌≡◌, ℕ, List, ◌++◌, length, take, sym, ap, subst, ◌∙◌, arith, inl, inr}
-use Rattle.std.specs.Prelude.{ℤ, Some, None, Result, Ok, Err, MatchResult}
+use Rattle.std.proofs.Common.{◌≡◌, ℕ, List, ◌++◌, length, take, sym, ap, subst, ◌∙◌, arith}
+use Rattle.std.specs.Prelude.{Result, Ok, Err, MatchResult}
 use Rattle.std.proofs.lemmas.List.{append_cancel_left, length-append}
-use Rattle.octet_language.specs.Language.{Language, AnyOf, IsFaultOffset, IsPrefixFree}
-use Rattle.octet_language.specs.Reading.{Follows}
+use Rattle.std.specs.Prelude.{ℤ}
+use Rattle.octet_language.specs.Language.{IsFaultOffset}
 use Rattle.octet_language.proofs.FaultOffset.{IsFaultOffset-unique}
 use Rattle.syslog_value.specs.Parts.{MessageParts, AnyOctets, Utf8Text, Parts, bom}
-use Rattle.syslog_fields.specs.Grammar.{Message, Priority}
+use Rattle.syslog_fields.specs.Grammar.{Message}
 use Rattle.syslog_fields.specs.Utf8.{IsText}
-use Rattle.syslog_fields.proofs.Numbers.{IsPrefixFree-priority}
-use Rattle.syslog_reading.proofs.OneMeaning.{by_prefix, message_same, priority_same}
-use Rattle.syslog_fields.proofs.Separated.{OneValue}
+use Rattle.syslog_reading.proofs.OneMeaning.{message_same}
 use Rattle.syslog_legacy.specs.declared.clock.LegacyClock.{LegacyClock}
-use Rattle.syslog_legacy.specs.Timestamps.{TimestampText}
-use Rattle.syslog_legacy.specs.Hosts.{Host}
-use Rattle.syslog_legacy.specs.Tags.{Tag}
 use Rattle.syslog_legacy.specs.Readings.{Answer, IsRead, Legacy, NotUtf8At, ReadAs, StopsIn, legacy_parts}
-use Rattle.syslog_legacy.specs.Splits.{AllMessage, BehindHost, BehindPriority, BehindTime, First, FrontParts, Part}
-use Rattle.syslog_legacy.specs.Splits.{Split, Splits, front_of, no_tag}
-use Rattle.syslog_legacy.proofs.Hosts.{host_one}
-use Rattle.syslog_legacy.proofs.Tags.{tag_one}
-use Rattle.syslog_legacy.proofs.Times.{IsPrefixFree-time, time_one}
-
--- octets begin with one part at most
-abbrev OnePart : {V : Type 0} → Part V → Type 0
-OnePart {V} P = (b : List ℕ) (v w : V) (s t : List ℕ) → P v b s → P w b t → (v ≡ w) × (s ≡ t)
-
--- octets split in one way at most
-abbrev OneSplit : Split → Type 0
-OneSplit S = (b : List ℕ) (f g : FrontParts) (m n : List ℕ) → S b f m → S b g n → (f ≡ g) × (m ≡ n)
-
-follows_one : {V : Type 0} (A : V → Language) → IsPrefixFree (AnyOf A) → OneValue A → OnePart (λ v. Follows (A v))
-follows_one A free one b v w s t (x, e, h) (y, f, k) =
-    let same = by_prefix (AnyOf A) x s y t free (v, h) (w, k) (sym e ∙ f) in
-    (one v w y (subst (A v) same.0 h) k, same.1)
-
-all_one : (front : FrontParts) → OneSplit (AllMessage front)
-all_one front b f g m n (e, h) (d, k) = (e ∙ sym d, h ∙ sym k)
-
-first_one : {V : Type 0} (P : Part V) (behind : V → Split) (front : FrontParts) → OnePart P
-    → ((v : V) → OneSplit (behind v)) → OneSplit (First P behind front)
-first_one P behind front part on b f g m n (inl (none, h)) (inl (other, k)) = all_one front b f g m n h k
-first_one P behind front part on b f g m n (inl (none, h)) (inr (v, rest, p, k)) = absurd (none v rest p)
-first_one P behind front part on b f g m n (inr (v, rest, p, k)) (inl (none, h)) = absurd (none v rest p)
-first_one {V} P behind front part on b f g m n (inr (v, s, p, h)) (inr (w, t, q, k)) =
-    let same = part b v w s t p q in
-    let value : behind w s f m = subst (λ (u : V). behind u s f m) same.0 h in
-    let both : behind w t f m = subst (λ (r : List ℕ). behind w r f m) same.1 value in
-    on w t f g m n both k
-
-pub split_one : (clock : LegacyClock) → OneSplit (Splits clock)
-split_one clock =
-    first_one (λ p. Follows (Priority p)) (BehindPriority clock) (front_of 13 None None no_tag)
-    (follows_one Priority IsPrefixFree-priority priority_same)
-    (λ p. first_one (λ t. Follows (TimestampText clock t)) (BehindTime p) (front_of p None None no_tag)
-    (follows_one (TimestampText clock) (IsPrefixFree-time clock) (time_one clock))
-    (λ t. first_one Host (BehindHost p t) (front_of p (Some t) None no_tag) host_one
-    (λ host. first_one Tag (λ tag. AllMessage (front_of p (Some t) host tag)) (front_of p (Some t) host no_tag) tag_one
-    (λ tag. all_one (front_of p (Some t) host tag)))))
+use Rattle.syslog_legacy.specs.Splits.{FrontParts}
+use Rattle.syslog_legacy.proofs.OneSplit.{split_one}
 
 -- a message is one that reads, or one that stops
 marked : (message : MessageParts) (text : List ℕ) → Message message (bom ++ text) → IsText text

@@ -7,9 +7,10 @@ use Rattle.octet_language.specs.Reading.{Follows}
 use Rattle.octet_language.proofs.Lists.{heads, tails}
 use Rattle.syslog_fields.specs.Spans.{IsRun}
 use Rattle.syslog_legacy.specs.Hosts.{IsNilable, SplitsRun}
-use Rattle.syslog_legacy.specs.Splits.{Lacks}
+use Rattle.syslog_legacy.specs.Parts.{Lacks}
 use Rattle.syslog_legacy.specs.Tags.{BehindSpace, Bracketed, IsProcOctet, IsTagOctet, ProcText, Tag, TagParts, TagText}
 use Rattle.syslog_legacy.proofs.Longest.{the_run, run_is, nil_one}
+use Rattle.syslog_legacy.proofs.Parts.{without_one}
 
 -- ---- the process id
 
@@ -17,13 +18,13 @@ closing : ¬ (IsProcOctet 93)
 closing h = h.1 refl
 
 -- a process id and its bracket, and what follows them
-record Closes (p : Option (List ℕ)) (b rest : List ℕ) : Type 0 where
+pub record Closes (p : Option (List ℕ)) (b rest : List ℕ) : Type 0 where
   pub text : List ℕ
   pub run : IsRun IsProcOctet 128 text
   pub nilable : IsNilable p text
   pub parts : b ≡ text ++ 93 ∷ rest
 
-closes : (p : Option (List ℕ)) (b rest : List ℕ) → Follows (Bracketed p) b rest → Closes p b rest
+pub closes : (p : Option (List ℕ)) (b rest : List ℕ) → Follows (Bracketed p) b rest → Closes p b rest
 closes p b rest (t, e, (x, y, f, (r, n), g)) =
     record { text = x; run = r; nilable = n; parts = e ∙ rw (f, g) (append_assoc x (93 ∷ []) rest) }
 
@@ -67,7 +68,7 @@ bracketed_read b run rest left p s some e n =
     })
 
 -- octets have one process id at most
-closes_one : (p q : Option (List ℕ)) (b s t : List ℕ) → Closes p b s → Closes q b t → (p ≡ q) × (s ≡ t)
+pub closes_one : (p q : Option (List ℕ)) (b s t : List ℕ) → Closes p b s → Closes q b t → (p ≡ q) × (s ≡ t)
 closes_one p q b s t c d =
     let k = closes_is b c.text (93 ∷ s) q t (record {
       parts = c.parts;
@@ -81,11 +82,11 @@ closes_one p q b s t c d =
 -- ---- what follows the name
 
 -- a colon, or a process id in brackets and a colon
-abbrev Behind : Option (List ℕ) → List ℕ → List ℕ → Type 0
+abbrev pub Behind : Option (List ℕ) → List ℕ → List ℕ → Type 0
 Behind p b rest = ((p ≡ None) × (b ≡ 58 ∷ rest))
     ⊎ ((inside : List ℕ) × (b ≡ 91 ∷ inside) × Follows (Bracketed p) inside (58 ∷ rest))
 
-proc_parts : (p : Option (List ℕ)) (b rest : List ℕ) → Follows (ProcText p) b rest → Behind p b rest
+pub proc_parts : (p : Option (List ℕ)) (b rest : List ℕ) → Follows (ProcText p) b rest → Behind p b rest
 proc_parts p b rest (t, e, inl (n, f)) = inl (n, e ∙ ap (λ (k : List ℕ). k ++ rest) f)
 proc_parts p b rest (t, e, inr (x, y, f, g, (u, v, h, i, j))) =
     inr (
@@ -118,7 +119,7 @@ no_proc_first b bracket colon =
     (λ p inside rest e h. (let f : IfFirst (λ x. x ≢ 91) (91 ∷ inside) = subst (IfFirst (λ x. x ≢ 91)) e bracket in
     f refl))
 
-not_both : (b s t : List ℕ) → b ≡ 91 ∷ s → b ≡ 58 ∷ t → ⊥
+pub not_both : (b s t : List ℕ) → b ≡ 91 ∷ s → b ≡ 58 ∷ t → ⊥
 not_both b s t e f = omega (arith, heads 91 58 s t (sym e ∙ f))
 
 pub no_proc_inside : (b inside : List ℕ) → b ≡ 91 ∷ inside → NoPrefix (AnyOf Bracketed) inside
@@ -153,15 +154,15 @@ proc_one p q b s t (inr (i, e, h)) (inr (j, f, k)) =
 colon : ¬ (IsTagOctet 58)
 colon h = omega (arith, h)
 
-bracket : ¬ (IsTagOctet 91)
+pub bracket : ¬ (IsTagOctet 91)
 bracket h = omega (arith, h)
 
-behind_ends : (p : Option (List ℕ)) (b rest : List ℕ) → Behind p b rest → IfFirst (λ x. ¬ (IsTagOctet x)) b
+pub behind_ends : (p : Option (List ℕ)) (b rest : List ℕ) → Behind p b rest → IfFirst (λ x. ¬ (IsTagOctet x)) b
 behind_ends p b rest (inl (n, e)) = subst (IfFirst (λ x. ¬ (IsTagOctet x))) (sym e) colon
 behind_ends p b rest (inr (i, e, h)) = subst (IfFirst (λ x. ¬ (IsTagOctet x))) (sym e) bracket
 
 -- a name, and what follows it
-record Names (t : TagParts) (b rest : List ℕ) : Type 0 where
+pub record Names (t : TagParts) (b rest : List ℕ) : Type 0 where
   pub name : List ℕ
   pub more : List ℕ
   pub run : IsRun IsTagOctet 48 name
@@ -169,7 +170,7 @@ record Names (t : TagParts) (b rest : List ℕ) : Type 0 where
   pub parts : b ≡ name ++ more
   pub behind : Follows (ProcText t.proc_id) more rest
 
-names : (t : TagParts) (b rest : List ℕ) → Follows (TagText t) b rest → Names t b rest
+pub names : (t : TagParts) (b rest : List ℕ) → Follows (TagText t) b rest → Names t b rest
 names t b rest (x, e, (n, y, f, (r, k), h)) =
     record {
       name = n;
@@ -213,14 +214,6 @@ tag_read b run rest behind left t s some n (x, e, h) k = (
   k,
 )
 
-space_one : (b s t : List ℕ) → BehindSpace b s → BehindSpace b t → s ≡ t
-space_one b s t (inl e) (inl f) = tails 32 32 s t (sym e ∙ f)
-space_one b s t (inl e) (inr (out, f)) = (let g : IfFirst (λ x. x ≢ 32) (32 ∷ s) = subst (IfFirst (λ x. x ≢ 32)) e out
-    in absurd (g refl))
-space_one b s t (inr (out, f)) (inl e) = (let g : IfFirst (λ x. x ≢ 32) (32 ∷ t) = subst (IfFirst (λ x. x ≢ 32)) e out
-    in absurd (g refl))
-space_one b s t (inr (out, e)) (inr (other, f)) = e ∙ sym f
-
 tag_made : Option (List ℕ) → Option (List ℕ) → TagParts
 tag_made a p = record { app_name = a; proc_id = p }
 
@@ -241,7 +234,7 @@ tag_one b t u x y (v, h, k) (w, l, m) =
     let proc = proc_one t.proc_id u.proc_id n.more v w (proc_parts t.proc_id n.more v n.behind)
     (proc_parts u.proc_id n.more w o.2) in
     let same : tag_made t.app_name t.proc_id ≡ tag_made u.app_name u.proc_id = rw (app, proc.0) refl in
-    (same, space_one w x y (subst (λ (i : List ℕ). BehindSpace i x) proc.1 k) m)
+    (same, without_one 32 w x y (subst (λ (i : List ℕ). BehindSpace i x) proc.1 k) m)
 
 pub tag_suffix : (b : List ℕ) (t : TagParts) (rest : List ℕ) → Tag t b rest → (x : List ℕ) × (b ≡ x ++ rest)
 tag_suffix b t rest (behind, (x, e, h), inl f) =

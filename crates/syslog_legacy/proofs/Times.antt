@@ -109,7 +109,7 @@ clock_text h m s b (a, c, g, (hl, hh, he), (v, w, i, k, (p, q, j, (ml, mh, me), 
 two_same : (n m : ℕ) → n ≤ 99 → m ≤ 99 → 48 + n / 10 % 10 ≡ 48 + m / 10 % 10 → 48 + n % 10 ≡ 48 + m % 10 → n ≡ m
 two_same n m h k a b = omega arith
 
-clock_one : (h m s h' m' s' : ℕ) (b : List ℕ) → ClockText h m s b → ClockText h' m' s' b
+pub clock_one : (h m s h' m' s' : ℕ) (b : List ℕ) → ClockText h m s b → ClockText h' m' s' b
     → (h ≡ h') × (m ≡ m') × (s ≡ s')
 clock_one h m s h' m' s' b k l =
     let i = clock_within h m s b k in

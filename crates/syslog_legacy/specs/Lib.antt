@@ -1,9 +1,12 @@
 pub mod Clocks
 pub mod NewForm
+pub mod Parts
 pub mod Timestamps
+pub mod WideTimes
 pub mod Hosts
 pub mod Tags
 pub mod TagViews
+pub mod WideTags
 pub mod Splits
 pub mod FrontViews
 pub mod Messages

@@ -2,10 +2,15 @@
 use Rattle.std.specs.Prelude.{◌≡◌, ℕ, ℤ, List, ◌⊎◌, Option, Some, None}
 use Rattle.octet_language.specs.Reading.{Follows}
 use Rattle.syslog_fields.specs.Grammar.{Priority}
+use Rattle.syslog_legacy.specs.declared.clock.Dialect.{Dialect}
+use Rattle.syslog_legacy.specs.declared.clock.Dialect.TheVariants.{Bsd, Wide}
 use Rattle.syslog_legacy.specs.declared.clock.LegacyClock.{LegacyClock}
 use Rattle.syslog_legacy.specs.Timestamps.{TimestampText}
 use Rattle.syslog_legacy.specs.Hosts.{Host}
-use Rattle.syslog_legacy.specs.Tags.{TagParts, Tag}
+use Rattle.syslog_legacy.specs.Parts.{Lacks, Part}
+use Rattle.syslog_legacy.specs.Tags.{BehindSpace, TagParts, Tag}
+use Rattle.syslog_legacy.specs.WideTags.{WideHost, WideTag}
+use Rattle.syslog_legacy.specs.WideTimes.{WideTime}
 
 -- what precedes the message
 pub record FrontParts : Type 0 where
@@ -31,14 +36,6 @@ no_tag = record { app_name = None; proc_id = None }
 abbrev pub Split : Type 1
 Split = List ℕ → FrontParts → List ℕ → Type 0
 
--- the first part of octets: its value, and what follows it
-abbrev pub Part : Type 0 → Type 1
-Part V = V → List ℕ → List ℕ → Type 0
-
--- the octets do not begin with such a part
-abbrev pub Lacks : {V : Type 0} → Part V → List ℕ → Type 0
-Lacks {V} P b = (v : V) (rest : List ℕ) → ¬ (P v b rest)
-
 -- this precedes the message, and all of the octets are the message
 abbrev pub AllMessage : FrontParts → Split
 AllMessage front b f message = (f ≡ front) × (message ≡ b)
@@ -50,19 +47,41 @@ First {V} P behind front b f message =
     ⊎ ((v : V) × (rest : List ℕ) × P v b rest × behind v rest f message)
 
 -- behind the host: a tag and the message, or the message
-abbrev pub BehindHost : ℕ → ℤ → Option (List ℕ) → Split
-BehindHost priority time host =
-    First Tag (λ tag. AllMessage (front_of priority (Some time) host tag)) (front_of priority (Some time) host no_tag)
+abbrev pub BehindHost : Part TagParts → ℕ → ℤ → Option (List ℕ) → Split
+BehindHost G priority time host =
+    First G (λ tag. AllMessage (front_of priority (Some time) host tag)) (front_of priority (Some time) host no_tag)
 
 -- behind the timestamp: a host, or the message
-abbrev pub BehindTime : ℕ → ℤ → Split
-BehindTime priority time = First Host (BehindHost priority time) (front_of priority (Some time) None no_tag)
+abbrev pub BehindTime : Part (Option (List ℕ)) → Part TagParts → ℕ → ℤ → Split
+BehindTime H G priority time = First H (BehindHost G priority time) (front_of priority (Some time) None no_tag)
 
 -- behind PRI: a timestamp, or the message; no time and no host is inserted
-abbrev pub BehindPriority : LegacyClock → ℕ → Split
-BehindPriority clock priority =
-    First (λ time. Follows (TimestampText clock time)) (BehindTime priority) (front_of priority None None no_tag)
+abbrev pub BehindPriority : Part ℤ → Part (Option (List ℕ)) → Part TagParts → ℕ → Split
+BehindPriority T H G priority = First T (BehindTime H G priority) (front_of priority None None no_tag)
 
--- PRI comes first; a packet without a valid one has the priority 13 (4.3.3), and all of it is the message
+-- by the parts of PRI, time, host and tag: a packet without a valid PRI has the priority 13 (4.3.3), and all of it is
+-- the message
+abbrev pub SplitsBy : Part ℕ → Part ℤ → Part (Option (List ℕ)) → Part TagParts → Split
+SplitsBy P T H G = First P (BehindPriority T H G) (front_of 13 None None no_tag)
+
+-- PRI; in the wide dialect also one space behind it, if one comes
+abbrev pub PriorityPart : Dialect → Part ℕ
+PriorityPart Bsd priority b rest = Follows (Priority priority) b rest
+PriorityPart Wide priority b rest = (behind : List ℕ) × Follows (Priority priority) b behind × BehindSpace behind rest
+
+abbrev pub TimePart : Dialect → LegacyClock → Part ℤ
+TimePart Bsd clock time b rest = Follows (TimestampText clock time) b rest
+TimePart Wide clock time b rest = WideTime clock time b rest
+
+abbrev pub HostPart : Dialect → Part (Option (List ℕ))
+HostPart Bsd host b rest = Host host b rest
+HostPart Wide host b rest = WideHost host b rest
+
+abbrev pub TagPart : Dialect → Part TagParts
+TagPart Bsd tag b rest = Tag tag b rest
+TagPart Wide tag b rest = WideTag tag b rest
+
+-- by the parts of the clock's dialect
 abbrev pub Splits : LegacyClock → Split
-Splits clock = First (λ priority. Follows (Priority priority)) (BehindPriority clock) (front_of 13 None None no_tag)
+Splits clock =
+    SplitsBy (PriorityPart clock.dialect) (TimePart clock.dialect clock) (HostPart clock.dialect) (TagPart clock.dialect)

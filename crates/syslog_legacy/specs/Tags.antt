@@ -1,9 +1,10 @@
 -- TAG of a legacy packet (RFC 3164, 4.1.3): NAME: or NAME[PROCID]: before the message.
 use Rattle.std.specs.Prelude.{◌≡◌, ◌≢◌, ℕ, ◌≤◌, List, [], ◌∷◌, ◌⊎◌, Option, None}
-use Rattle.octet_language.specs.Language.{Language, Only, ◌⋅◌, IfFirst}
+use Rattle.octet_language.specs.Language.{Language, Only, ◌⋅◌}
 use Rattle.octet_language.specs.Reading.{Follows}
 use Rattle.syslog_value.specs.Parts.{IsPrintable}
 use Rattle.syslog_legacy.specs.Hosts.{NilableRun}
+use Rattle.syslog_legacy.specs.Parts.{Without}
 
 -- a letter, a digit, "-", "_", "." or "/"
 abbrev pub IsTagOctet : ℕ → Type 0
@@ -34,7 +35,7 @@ TagText t = NilableRun IsTagOctet 48 t.app_name ⋅ ProcText t.proc_id
 
 -- without the space that comes first, if one does
 abbrev pub BehindSpace : List ℕ → List ℕ → Type 0
-BehindSpace b rest = (b ≡ 32 ∷ rest) ⊎ (IfFirst (λ x. x ≢ 32) b × (rest ≡ b))
+BehindSpace = Without 32
 
 -- a tag comes first, and what follows it and one space
 abbrev pub Tag : TagParts → List ℕ → List ℕ → Type 0

@@ -4,10 +4,7 @@ ghost use Rattle.syslog_legacy.specs.FrontViews.{front_parts};
 ghost use Rattle.syslog_legacy.specs.Splits.{Splits};
 
 use crate::clock::LegacyClock;
-use crate::host::host;
-use crate::tag::read_tag;
-use crate::timestamp::timestamp;
-use syslog_grammar::fields::priority;
+use crate::dialect_parts::{host_part, priority_part, tag_part, time_part};
 use syslog_value::{Facility, Instant, Priority, Severity};
 
 /// The fields before the message, as they lie in the octets.
@@ -34,19 +31,19 @@ pub fn split<'a>(clock: &LegacyClock, octets: &'a [u8]) -> (Front<'a>, &'a [u8])
         app_name: None,
         proc_id: None,
     };
-    let Ok((value, rest)) = priority(octets) else {
+    let Some((priority, rest)) = priority_part(clock, octets) else {
         return (front, octets);
     };
-    front.priority = Priority::from_value(value).unwrap();
-    let Some((instant, behind_time)) = timestamp(clock, rest) else {
+    front.priority = priority;
+    let Some((instant, behind_time)) = time_part(clock, rest) else {
         return (front, rest);
     };
     front.instant = Some(instant);
-    let Some((hostname, behind_host)) = host(behind_time) else {
+    let Some((hostname, behind_host)) = host_part(clock, behind_time) else {
         return (front, behind_time);
     };
     front.hostname = hostname;
-    let Some((tag, message)) = read_tag(behind_host) else {
+    let Some((tag, message)) = tag_part(clock, behind_host) else {
         return (front, behind_host);
     };
     front.app_name = tag.app_name;

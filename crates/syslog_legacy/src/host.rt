@@ -2,7 +2,7 @@
 
 ghost use Rattle.std.specs.Prelude.{MatchOption, option_map};
 ghost use Rattle.syslog_legacy.specs.Hosts.{Host};
-ghost use Rattle.syslog_legacy.specs.Splits.{Lacks};
+ghost use Rattle.syslog_legacy.specs.Parts.{Lacks};
 
 use crate::octets::behind;
 use crate::runs::{host_run, nilable};

@@ -7,6 +7,7 @@
 
 mod canonical;
 mod clock;
+mod dialect_parts;
 mod fault;
 mod front;
 mod host;
@@ -19,9 +20,11 @@ mod tag;
 mod timestamp;
 mod view;
 mod whole;
+mod wide_tag;
+mod wide_time;
 
 pub use canonical::put_legacy_canonical;
-pub use clock::LegacyClock;
+pub use clock::{Dialect, LegacyClock};
 pub use fault::{LegacyFault, MessageNotUtf8};
 pub use law::{legacy_canonical_is_bounded, legacy_is_a_record, packets_have_one_answer};
 pub use new_form::has_new_form;

@@ -1,7 +1,9 @@
-//! An expected octet.
+//! Expected octets.
 
 ghost use Rattle.std.specs.Prelude.{◌≡◌, ◌≢◌, ◌∷◌, MatchOption};
 ghost use Rattle.octet_language.specs.Language.{IfFirst};
+ghost use Rattle.syslog_legacy.specs.Parts.{Without};
+ghost use Rattle.syslog_legacy.specs.Tags.{BehindSpace};
 
 /// What follows the expected octet, where that comes first.
 #[inline(always)]
@@ -13,4 +15,23 @@ pub fn behind(expected: u8, octets: &[u8]) -> Option<&[u8]>
         [first, rest @ ..] if *first == expected => Some(rest),
         _ => None,
     }
+}
+
+/// What follows the octet, if that comes first; else all.
+#[inline(always)]
+pub fn without(octet: u8, octets: &[u8]) -> &[u8]
+    ensures { Without octet octets.now result.now }
+{
+    match behind(octet, octets) {
+        Some(rest) => rest,
+        None => octets,
+    }
+}
+
+/// What follows the space that comes first, if one does.
+#[inline(always)]
+pub fn behind_space(octets: &[u8]) -> &[u8]
+    ensures { BehindSpace octets.now result.now }
+{
+    without(b' ', octets)
 }

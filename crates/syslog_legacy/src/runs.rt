@@ -3,6 +3,7 @@
 ghost use Rattle.std.specs.Prelude.{◌≡◌, ◌≢◌, ◌≤◌, ◌<◌, ◌∷◌, ◌++◌, ◌↔◌, [], length, IsTrue};
 ghost use Rattle.std.specs.Prelude.{take, drop, option_map};
 ghost use Rattle.std.specs.List.{AllByRecursion};
+ghost use Rattle.octet_language.specs.Digits.{IsDigit};
 ghost use Rattle.octet_language.specs.Language.{IfFirst};
 ghost use Rattle.syslog_value.specs.Parts.{IsPrintable};
 ghost use Rattle.syslog_legacy.specs.Hosts.{IsNilable, SplitsRun};
@@ -27,6 +28,13 @@ fn is_proc_octet(octet: u8) -> bool
     ensures { IsTrue result ↔ IsProcOctet octet }
 {
     is_printable(octet) && octet != b']'
+}
+
+#[inline(always)]
+pub fn is_digit(octet: u8) -> bool
+    ensures { IsTrue result ↔ IsDigit octet }
+{
+    octet >= b'0' && octet <= b'9'
 }
 
 /// How many octets at the start are printable, up to 255.
@@ -80,6 +88,23 @@ fn proc_len(octets: &[u8]) -> usize
     most
 }
 
+/// How many octets at the start are digits, up to seven.
+#[inline]
+fn digit_len(octets: &[u8]) -> usize
+    ensures most { result ≤ 7 }
+    ensures within { result ≤ length octets.now }
+    ensures run { AllByRecursion IsDigit (take result octets.now) }
+    ensures ends { result < 7 → IfFirst (λ x. IsDigit x → ⊥) (drop result octets.now) }
+{
+    let most = octets.len().min(7);
+    for i in 0..most {
+        if !is_digit(octets[i]) {
+            return i;
+        }
+    }
+    most
+}
+
 /// The printable octets at the start, up to 255, and what follows them.
 pub fn host_run(octets: &[u8]) -> (&[u8], &[u8])
     ensures { SplitsRun IsPrintable 255 octets.now result.0.now result.1.now }
@@ -99,6 +124,13 @@ pub fn proc_run(octets: &[u8]) -> (&[u8], &[u8])
     ensures { SplitsRun IsProcOctet 128 octets.now result.0.now result.1.now }
 {
     octets.split_at(proc_len(octets))
+}
+
+/// The digits at the start, up to seven, and what follows them.
+pub fn digit_run(octets: &[u8]) -> (&[u8], &[u8])
+    ensures { SplitsRun IsDigit 7 octets.now result.0.now result.1.now }
+{
+    octets.split_at(digit_len(octets))
 }
 
 /// The octets, or nothing for the one octet "-".

@@ -3,11 +3,11 @@
 ghost use Rattle.std.specs.Prelude.{MatchOption, option_map};
 ghost use Rattle.octet_language.specs.Language.{AnyOf, NoPrefix};
 ghost use Rattle.octet_language.specs.Reading.{Follows};
-ghost use Rattle.syslog_legacy.specs.Splits.{Lacks};
-ghost use Rattle.syslog_legacy.specs.Tags.{BehindSpace, Bracketed, ProcText, Tag as TagPart};
+ghost use Rattle.syslog_legacy.specs.Parts.{Lacks};
+ghost use Rattle.syslog_legacy.specs.Tags.{Bracketed, ProcText, Tag as TagPart};
 ghost use Rattle.syslog_legacy.specs.TagViews.{tag_parts};
 
-use crate::octets::behind;
+use crate::octets::{behind, behind_space};
 use crate::runs::{nilable, proc_run, tag_run};
 
 /// The program and its process id, as they lie in the octets; None for NILVALUE.
@@ -18,7 +18,7 @@ pub struct Tag<'a> {
 }
 
 /// Reads a process id and the bracket that follows it.
-fn bracketed(octets: &[u8]) -> Option<(Option<&[u8]>, &[u8])>
+pub fn bracketed(octets: &[u8]) -> Option<(Option<&[u8]>, &[u8])>
     ensures { MatchOption result (NoPrefix (AnyOf Bracketed) octets.now)
         (λ x. Follows (Bracketed (option_map (λ s. s.now) x.0)) octets.now x.1.now) }
 {
@@ -42,16 +42,6 @@ fn proc_id(octets: &[u8]) -> Option<(Option<&[u8]>, &[u8])>
     let (proc_id, rest) = bracketed(inside)?;
     let rest = behind(b':', rest)?;
     Some((proc_id, rest))
-}
-
-/// What follows the space that comes first, if one does.
-fn behind_space(octets: &[u8]) -> &[u8]
-    ensures { BehindSpace octets.now result.now }
-{
-    match behind(b' ', octets) {
-        Some(rest) => rest,
-        None => octets,
-    }
 }
 
 /// Reads a tag, its colon and one space behind that.

@@ -52,7 +52,7 @@ fn day_of(last: u8, tens: u8, units: u8) -> Option<u8>
 }
 
 /// Reads a month and a day that the year has, and the spaces that follow them.
-fn date(year: u16, octets: &[u8]) -> Option<((u8, u8), &[u8])>
+pub fn date(year: u16, octets: &[u8]) -> Option<((u8, u8), &[u8])>
     ensures { MatchOption result (NoPrefix (AnyOf (DateText year)) octets.now)
         (λ x. Follows (DateText year x.0) octets.now x.1.now) }
 {
