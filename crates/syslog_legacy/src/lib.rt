@@ -8,6 +8,7 @@
 mod canonical;
 mod clock;
 mod fault;
+mod frame_reading;
 mod front;
 mod host;
 mod law;
@@ -23,6 +24,7 @@ mod whole;
 pub use canonical::put_legacy_canonical;
 pub use clock::LegacyClock;
 pub use fault::{LegacyFault, MessageNotUtf8};
+pub use frame_reading::FrameReading;
 pub use law::{legacy_canonical_is_bounded, legacy_is_a_record, packets_have_one_answer};
 pub use new_form::has_new_form;
 pub use owned::read_legacy;
