@@ -22,7 +22,7 @@ mod view;
 mod whole;
 
 pub use canonical::put_legacy_canonical;
-pub use clock::LegacyClock;
+pub use clock::{Dialect, LegacyClock};
 pub use fault::{LegacyFault, MessageNotUtf8};
 pub use frame_reading::FrameReading;
 pub use law::{legacy_canonical_is_bounded, legacy_is_a_record, packets_have_one_answer};
