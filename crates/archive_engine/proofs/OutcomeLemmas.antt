@@ -9,7 +9,7 @@ use Rattle.syslog_frame.specs.Frames.{Frames, framed}
 use Rattle.syslog_frame.specs.declared.framing.Framing.{Framing}
 use Rattle.syslog_frame.proofs.FrameLaws.{some}
 use Rattle.archive_text.specs.Entries.{Entry}
-use Rattle.syslog_legacy.specs.FrameReadings.{Clock}
+use Rattle.syslog_legacy.specs.declared.frame_reading.FrameReading.{FrameReading}
 use Rattle.syslog_collect.specs.Answers.{HoldsBadCountAt, ReportsBadCount}
 use Rattle.syslog_collect.specs.History.{HoldsBadCount, Stream}
 use Rattle.syslog_collect.specs.Outcomes.{AreReported, IsOutcome}
@@ -29,90 +29,90 @@ noted_good : (n : ℕ) (o : Outcome) (os : List Outcome) → is_bad_count o ≡ 
 noted_good n o os e =
     ap (λ (b : Bool). if b then noted_outcome n o else then_done (noted_outcome n o) (noted_outcomes (n + 1) os)) e
 
-pub outcome_handled : (clock : Clock) (n : ℕ) (old new : List Entry) (f : List ℕ) (o : Outcome)
-    → IsOutcome clock old new f o → archive_handling clock n f (noted_outcome n o)
-outcome_handled clock n old new f New (few, (r, spelled, added)) = inr (inl (few, (r, spelled), refl))
-outcome_handled clock n old new f Held (few, (r, spelled, added)) = inr (inl (few, (r, spelled), refl))
-outcome_handled clock n old new f (Refused fault) (few, quiet, bad, none, same) =
+pub outcome_handled : (way : FrameReading) (n : ℕ) (old new : List Entry) (f : List ℕ) (o : Outcome)
+    → IsOutcome way old new f o → archive_handling way n f (noted_outcome n o)
+outcome_handled way n old new f New (few, (r, spelled, added)) = inr (inl (few, (r, spelled), refl))
+outcome_handled way n old new f Held (few, (r, spelled, added)) = inr (inl (few, (r, spelled), refl))
+outcome_handled way n old new f (Refused fault) (few, quiet, bad, none, same) =
     inr (inr (inl (few, quiet, (fault, bad, refl))))
-outcome_handled clock n old new f (RefusedLegacy offset) (few, bad, same) = inr (inr (inr (few, (offset, bad, refl))))
-outcome_handled clock n old new f TooLong (long, same) = inl (long, refl)
-outcome_handled clock n old new f (BadCount at) h = absurd h
+outcome_handled way n old new f (RefusedLegacy offset) (few, bad, same) = inr (inr (inr (few, (offset, bad, refl))))
+outcome_handled way n old new f TooLong (long, same) = inl (long, refl)
+outcome_handled way n old new f (BadCount at) h = absurd h
 
 -- frames with an outcome each, in order
-pub record GoodOutcomes (clock : Clock) (n : ℕ) (fs : List (List ℕ)) (os : List Outcome) : Type 0 where
-  pub handled : HandledFrom (archive_handling clock) n fs (noted_outcomes n os)
+pub record GoodOutcomes (way : FrameReading) (n : ℕ) (fs : List (List ℕ)) (os : List Outcome) : Type 0 where
+  pub handled : HandledFrom (archive_handling way) n fs (noted_outcomes n os)
   pub as_many : length os ≡ length fs
 
 -- and a bad count behind them
-pub record BadOutcomes (clock : Clock) (n : ℕ) (fs : List (List ℕ)) (os : List Outcome) (s : Stream) : Type 0 where
+pub record BadOutcomes (way : FrameReading) (n : ℕ) (fs : List (List ℕ)) (os : List Outcome) (s : Stream) : Type 0 where
   pub of_frames : Done
   pub at : ℕ
-  pub handled : HandledFrom (archive_handling clock) n fs of_frames
+  pub handled : HandledFrom (archive_handling way) n fs of_frames
   pub bad : HoldsBadCountAt s at
   pub noted : noted_outcomes n os ≡ then_done of_frames (noted_line (line.BadCount (n + length fs) at))
   pub as_many : length os ≡ length fs + 1
 
 -- one frame more in front
-frame_first : (clock : Clock) (n : ℕ) (fs here later : List (List ℕ)) (f : List ℕ) (a b : Done) → fs ≡ here ++ later
-    → here ≡ f ∷ [] → archive_handling clock n f a → HandledFrom (archive_handling clock) (n + 1) later b
-    → HandledFrom (archive_handling clock) n fs (then_done a b)
-frame_first clock n fs here later f a b parts one h more =
+frame_first : (way : FrameReading) (n : ℕ) (fs here later : List (List ℕ)) (f : List ℕ) (a b : Done) → fs ≡ here ++ later
+    → here ≡ f ∷ [] → archive_handling way n f a → HandledFrom (archive_handling way) (n + 1) later b
+    → HandledFrom (archive_handling way) n fs (then_done a b)
+frame_first way n fs here later f a b parts one h more =
     let whole : fs ≡ f ∷ later = parts ∙ ap (λ (x : List (List ℕ)). x ++ later) one in
-    subst (λ (x : List (List ℕ)). HandledFrom (archive_handling clock) n x (then_done a b)) (sym whole)
+    subst (λ (x : List (List ℕ)). HandledFrom (archive_handling way) n x (then_done a b)) (sym whole)
     (a, b, h, more, refl)
 
 one_longer : (fs here later : List (List ℕ)) (f : List ℕ) → fs ≡ here ++ later → here ≡ f ∷ []
     → length fs ≡ length later + 1
 one_longer fs here later f parts one = omega (arith, ap length parts, ap length one, length-append here later)
 
-good_first : (clock : Clock) (n : ℕ) (old between : List Entry) (fs here later : List (List ℕ)) (f : List ℕ)
+good_first : (way : FrameReading) (n : ℕ) (old between : List Entry) (fs here later : List (List ℕ)) (f : List ℕ)
     (o : Outcome)
-    (os : List Outcome) → fs ≡ here ++ later → here ≡ f ∷ [] → IsOutcome clock old between f o → is_bad_count o ≡ false
-    → GoodOutcomes clock (n + 1) later os → GoodOutcomes clock n fs (o ∷ os)
-good_first clock n old between fs here later f o os parts one out good more = record {
-  handled = subst (HandledFrom (archive_handling clock) n fs) (sym (noted_good n o os good))
-      (frame_first clock n fs here later f (noted_outcome n o) (noted_outcomes (n + 1) os) parts one
-      (outcome_handled clock n old between f o out) more.handled);
+    (os : List Outcome) → fs ≡ here ++ later → here ≡ f ∷ [] → IsOutcome way old between f o → is_bad_count o ≡ false
+    → GoodOutcomes way (n + 1) later os → GoodOutcomes way n fs (o ∷ os)
+good_first way n old between fs here later f o os parts one out good more = record {
+  handled = subst (HandledFrom (archive_handling way) n fs) (sym (noted_good n o os good))
+      (frame_first way n fs here later f (noted_outcome n o) (noted_outcomes (n + 1) os) parts one
+      (outcome_handled way n old between f o out) more.handled);
   as_many = omega (arith, more.as_many, one_longer fs here later f parts one);
 }
 
-pub good_outcomes : (clock : Clock) (n : ℕ) (old new : List Entry) (fs : List (List ℕ)) (os : List Outcome)
-    → AreReported clock old new fs os → has_bad_count os ≡ false → GoodOutcomes clock n fs os
-good_outcomes clock n old new fs [] (e, same) good =
+pub good_outcomes : (way : FrameReading) (n : ℕ) (old new : List Entry) (fs : List (List ℕ)) (os : List Outcome)
+    → AreReported way old new fs os → has_bad_count os ≡ false → GoodOutcomes way n fs os
+good_outcomes way n old new fs [] (e, same) good =
     record {
-      handled = subst (λ (x : List (List ℕ)). HandledFrom (archive_handling clock) n x nothing) (sym e) refl;
+      handled = subst (λ (x : List (List ℕ)). HandledFrom (archive_handling way) n x nothing) (sym e) refl;
       as_many = sym (ap length e);
     }
-good_outcomes clock n old new fs (New ∷ os) (here, later, between, parts, (f, one, out), more) good =
-    good_first clock n old between fs here later f New os parts one out refl
-    (good_outcomes clock (n + 1) between new later os more good)
-good_outcomes clock n old new fs (Held ∷ os) (here, later, between, parts, (f, one, out), more) good =
-    good_first clock n old between fs here later f Held os parts one out refl
-    (good_outcomes clock (n + 1) between new later os more good)
-good_outcomes clock n old new fs (Refused fault ∷ os) (here, later, between, parts, (f, one, out), more) good =
-    good_first clock n old between fs here later f (Refused fault) os parts one out refl
-    (good_outcomes clock (n + 1) between new later os more good)
-good_outcomes clock n old new fs (RefusedLegacy offset ∷ os) (here, later, between, parts, (f, one, out), more) good =
-    good_first clock n old between fs here later f (RefusedLegacy offset) os parts one out refl
-    (good_outcomes clock (n + 1) between new later os more good)
-good_outcomes clock n old new fs (TooLong ∷ os) (here, later, between, parts, (f, one, out), more) good =
-    good_first clock n old between fs here later f TooLong os parts one out refl
-    (good_outcomes clock (n + 1) between new later os more good)
-good_outcomes clock n old new fs (BadCount at ∷ os) h good = absurd cc
+good_outcomes way n old new fs (New ∷ os) (here, later, between, parts, (f, one, out), more) good =
+    good_first way n old between fs here later f New os parts one out refl
+    (good_outcomes way (n + 1) between new later os more good)
+good_outcomes way n old new fs (Held ∷ os) (here, later, between, parts, (f, one, out), more) good =
+    good_first way n old between fs here later f Held os parts one out refl
+    (good_outcomes way (n + 1) between new later os more good)
+good_outcomes way n old new fs (Refused fault ∷ os) (here, later, between, parts, (f, one, out), more) good =
+    good_first way n old between fs here later f (Refused fault) os parts one out refl
+    (good_outcomes way (n + 1) between new later os more good)
+good_outcomes way n old new fs (RefusedLegacy offset ∷ os) (here, later, between, parts, (f, one, out), more) good =
+    good_first way n old between fs here later f (RefusedLegacy offset) os parts one out refl
+    (good_outcomes way (n + 1) between new later os more good)
+good_outcomes way n old new fs (TooLong ∷ os) (here, later, between, parts, (f, one, out), more) good =
+    good_first way n old between fs here later f TooLong os parts one out refl
+    (good_outcomes way (n + 1) between new later os more good)
+good_outcomes way n old new fs (BadCount at ∷ os) h good = absurd cc
 
-bad_first : (clock : Clock) (n : ℕ) (old between : List Entry) (fs here later : List (List ℕ)) (f : List ℕ)
+bad_first : (way : FrameReading) (n : ℕ) (old between : List Entry) (fs here later : List (List ℕ)) (f : List ℕ)
     (o : Outcome) (os : List Outcome)
-    (s : Stream) → fs ≡ here ++ later → here ≡ f ∷ [] → IsOutcome clock old between f o → is_bad_count o ≡ false
-    → BadOutcomes clock (n + 1) later os s → BadOutcomes clock n fs (o ∷ os) s
-bad_first clock n old between fs here later f o os s parts one out good more =
+    (s : Stream) → fs ≡ here ++ later → here ≡ f ∷ [] → IsOutcome way old between f o → is_bad_count o ≡ false
+    → BadOutcomes way (n + 1) later os s → BadOutcomes way n fs (o ∷ os) s
+bad_first way n old between fs here later f o os s parts one out good more =
     let longer : length fs ≡ length later + 1 = one_longer fs here later f parts one in
     let number : (n + 1) + length later ≡ n + length fs = omega (arith, longer) in
     record {
       of_frames = then_done (noted_outcome n o) more.of_frames;
       at = more.at;
-      handled = frame_first clock n fs here later f (noted_outcome n o) more.of_frames parts one
-          (outcome_handled clock n old between f o out) more.handled;
+      handled = frame_first way n fs here later f (noted_outcome n o) more.of_frames parts one
+          (outcome_handled way n old between f o out) more.handled;
       bad = more.bad;
       noted =
           noted_good n o os good ∙ ap (then_done (noted_outcome n o)) more.noted ∙ sym
@@ -123,51 +123,51 @@ bad_first clock n old between fs here later f o os s parts one out good more =
       as_many = omega (arith, more.as_many, longer);
     }
 
-bad_last : (clock : Clock) (n at : ℕ) (between new : List Entry) (fs here later : List (List ℕ)) (os : List Outcome)
-    (s : Stream) → fs ≡ here ++ later → here ≡ [] → AreReported clock between new later os → HoldsBadCountAt s at → os ≡
-    [] → BadOutcomes clock n fs (BadCount at ∷ os) s
-bad_last clock n at between new fs here later [] s parts none (empty, same) bad e =
+bad_last : (way : FrameReading) (n at : ℕ) (between new : List Entry) (fs here later : List (List ℕ)) (os : List Outcome)
+    (s : Stream) → fs ≡ here ++ later → here ≡ [] → AreReported way between new later os → HoldsBadCountAt s at → os ≡
+    [] → BadOutcomes way n fs (BadCount at ∷ os) s
+bad_last way n at between new fs here later [] s parts none (empty, same) bad e =
     let all : fs ≡ [] = parts ∙ ap (λ (x : List (List ℕ)). x ++ later) none ∙ empty in
     let number : n ≡ n + length fs = omega (arith, ap length all) in
     record {
       of_frames = nothing;
       at = at;
-      handled = subst (λ (x : List (List ℕ)). HandledFrom (archive_handling clock) n x nothing) (sym all) refl;
+      handled = subst (λ (x : List (List ℕ)). HandledFrom (archive_handling way) n x nothing) (sym all) refl;
       bad = bad;
       noted = ap (λ (k : ℕ). noted_line (line.BadCount k at)) number;
       as_many = omega (arith, ap length all);
     }
-bad_last clock n at between new fs here later (o ∷ os) s parts none h bad e = absurd cc
+bad_last way n at between new fs here later (o ∷ os) s parts none h bad e = absurd cc
 
-pub bad_outcomes : (clock : Clock) (n : ℕ) (old new : List Entry) (fs : List (List ℕ)) (os : List Outcome) (s : Stream)
-    → AreReported clock old new fs os → ReportsBadCount os s → has_bad_count os ≡ true → BadOutcomes clock n fs os s
-bad_outcomes clock n old new fs [] s h marks bad = absurd cc
-bad_outcomes clock n old new fs (New ∷ os) s (here, later, between, parts, (f, one, out), more) marks bad =
-    bad_first clock n old between fs here later f New os s parts one out refl
-    (bad_outcomes clock (n + 1) between new later os s more marks bad)
-bad_outcomes clock n old new fs (Held ∷ os) s (here, later, between, parts, (f, one, out), more) marks bad =
-    bad_first clock n old between fs here later f Held os s parts one out refl
-    (bad_outcomes clock (n + 1) between new later os s more marks bad)
-bad_outcomes clock n old new fs (Refused fault ∷ os) s (here, later, between, parts, (f, one, out), more) marks bad =
-    bad_first clock n old between fs here later f (Refused fault) os s parts one out refl
-    (bad_outcomes clock (n + 1) between new later os s more marks bad)
-bad_outcomes clock n old new fs (RefusedLegacy offset ∷ os) s (here, later, between, parts, (f, one, out), more) marks
-    bad = bad_first clock n old between fs here later f (RefusedLegacy offset) os s parts one out refl
-    (bad_outcomes clock (n + 1) between new later os s more marks bad)
-bad_outcomes clock n old new fs (TooLong ∷ os) s (here, later, between, parts, (f, one, out), more) marks bad =
-    bad_first clock n old between fs here later f TooLong os s parts one out refl
-    (bad_outcomes clock (n + 1) between new later os s more marks bad)
-bad_outcomes clock n old new fs (BadCount at ∷ os) s (here, later, between, parts, (none, same), more) marks bad =
-    bad_last clock n at between new fs here later os s parts none more marks.0 marks.1
+pub bad_outcomes : (way : FrameReading) (n : ℕ) (old new : List Entry) (fs : List (List ℕ)) (os : List Outcome) (s : Stream)
+    → AreReported way old new fs os → ReportsBadCount os s → has_bad_count os ≡ true → BadOutcomes way n fs os s
+bad_outcomes way n old new fs [] s h marks bad = absurd cc
+bad_outcomes way n old new fs (New ∷ os) s (here, later, between, parts, (f, one, out), more) marks bad =
+    bad_first way n old between fs here later f New os s parts one out refl
+    (bad_outcomes way (n + 1) between new later os s more marks bad)
+bad_outcomes way n old new fs (Held ∷ os) s (here, later, between, parts, (f, one, out), more) marks bad =
+    bad_first way n old between fs here later f Held os s parts one out refl
+    (bad_outcomes way (n + 1) between new later os s more marks bad)
+bad_outcomes way n old new fs (Refused fault ∷ os) s (here, later, between, parts, (f, one, out), more) marks bad =
+    bad_first way n old between fs here later f (Refused fault) os s parts one out refl
+    (bad_outcomes way (n + 1) between new later os s more marks bad)
+bad_outcomes way n old new fs (RefusedLegacy offset ∷ os) s (here, later, between, parts, (f, one, out), more) marks
+    bad = bad_first way n old between fs here later f (RefusedLegacy offset) os s parts one out refl
+    (bad_outcomes way (n + 1) between new later os s more marks bad)
+bad_outcomes way n old new fs (TooLong ∷ os) s (here, later, between, parts, (f, one, out), more) marks bad =
+    bad_first way n old between fs here later f TooLong os s parts one out refl
+    (bad_outcomes way (n + 1) between new later os s more marks bad)
+bad_outcomes way n old new fs (BadCount at ∷ os) s (here, later, between, parts, (none, same), more) marks bad =
+    bad_last way n at between new fs here later os s parts none more marks.0 marks.1
 
 -- the first outcomes are of the first frames
-pub reported_first : (clock : Clock) (old new : List Entry) (fs : List (List ℕ)) (first later : List Outcome)
-    → AreReported clock old new fs (first ++ later)
+pub reported_first : (way : FrameReading) (old new : List Entry) (fs : List (List ℕ)) (first later : List Outcome)
+    → AreReported way old new fs (first ++ later)
     → (here : List (List ℕ)) × (behind : List (List ℕ)) × (between : List Entry) × (fs ≡ here ++ behind)
-    × AreReported clock old between here first
-reported_first clock old new fs [] later h = ([], fs, old, refl, (refl, refl))
-reported_first clock old new fs (o ∷ first) later (here, behind, between, parts, one, more) =
-    let (h, l, b, p, m) = reported_first clock between new behind first later more in (
+    × AreReported way old between here first
+reported_first way old new fs [] later h = ([], fs, old, refl, (refl, refl))
+reported_first way old new fs (o ∷ first) later (here, behind, between, parts, one, more) =
+    let (h, l, b, p, m) = reported_first way between new behind first later more in (
       here ++ h,
       l,
       b,
@@ -267,13 +267,13 @@ marks_good (RefusedLegacy offset ∷ os) s marks good = marks_good os s marks go
 marks_good (TooLong ∷ os) s marks good = marks_good os s marks good
 marks_good (BadCount at ∷ os) s marks good = absurd cc
 
-pub few_outcomes : (clock : Clock) (old new : List Entry) (fs : List (List ℕ)) (os : List Outcome) (s : Stream)
-    → AreReported clock old new fs os → ReportsBadCount os s → length os ≤ length fs + 1
-few_outcomes clock old new fs os s h marks = decided (has_bad_count os) refl
+pub few_outcomes : (way : FrameReading) (old new : List Entry) (fs : List (List ℕ)) (os : List Outcome) (s : Stream)
+    → AreReported way old new fs os → ReportsBadCount os s → length os ≤ length fs + 1
+few_outcomes way old new fs os s h marks = decided (has_bad_count os) refl
   where
     decided : (b : Bool) → has_bad_count os ≡ b → length os ≤ length fs + 1
-    decided true e = omega (arith, (bad_outcomes clock 0 old new fs os s h marks e).as_many)
-    decided false e = omega (arith, (good_outcomes clock 0 old new fs os h e).as_many)
+    decided true e = omega (arith, (bad_outcomes way 0 old new fs os s h marks e).as_many)
+    decided false e = omega (arith, (good_outcomes way 0 old new fs os h e).as_many)
 
 -- ---- frames
 

@@ -19,7 +19,7 @@ use Rattle.syslog_collect.specs.History.{AcceptedEvent, Datagram, History, Holds
 use Rattle.syslog_collect.specs.History.{history_of, initial}
 use Rattle.syslog_collect.specs.Logs.{Grows, IsLogOf, LogsOctets}
 use Rattle.syslog_collect.specs.Outcomes.{IsOutcome}
-use Rattle.syslog_legacy.specs.FrameReadings.{Clock}
+use Rattle.syslog_legacy.specs.declared.frame_reading.FrameReading.{FrameReading}
 use Rattle.syslog_collect.specs.Standing.{AreAt, Stands}
 use Rattle.syslog_collect.specs.declared.connection.Connection.{Connection}
 use Rattle.syslog_collect.specs.declared.fault.CollectFault.{CollectFault}
@@ -40,21 +40,21 @@ use Rattle.archive_engine.specs.Receiving.{LogsPiece, Receives, ReceivesDatagram
 
 -- ---- what was heard
 
-pub receives_datagram : (clock : Clock) (cs : List Connection) (kept : List Entry) (octets : List ℕ)
-    → Stands clock cs kept [] (Datagram octets ∷ []) → IsSettled cs → Receives clock cs kept input.Datagram octets
-receives_datagram clock cs kept octets stands settled =
+pub receives_datagram : (way : FrameReading) (cs : List Connection) (kept : List Entry) (octets : List ℕ)
+    → Stands way cs kept [] (Datagram octets ∷ []) → IsSettled cs → Receives way cs kept input.Datagram octets
+receives_datagram way cs kept octets stands settled =
     record { events = Datagram octets ∷ []; stands = stands; settled = settled; history = refl }
 
-pub receives_opening : (clock : Clock) (cs : List Connection) (kept : List Entry) (kind : Framing)
-    → Stands clock cs kept [] (Opened 0 kind ∷ []) → IsSettled cs → Receives clock cs kept (input.Stream kind) []
-receives_opening clock cs kept kind stands settled =
+pub receives_opening : (way : FrameReading) (cs : List Connection) (kept : List Entry) (kind : Framing)
+    → Stands way cs kept [] (Opened 0 kind ∷ []) → IsSettled cs → Receives way cs kept (input.Stream kind) []
+receives_opening way cs kept kind stands settled =
     record { events = Opened 0 kind ∷ []; stands = stands; settled = settled; history = refl }
 
-pub receives_piece : (clock : Clock) (cs ds : List Connection) (kept now : List Entry) (kind : Framing)
-    (given octets : List ℕ) → (r : Receives clock cs kept (input.Stream kind) given)
-    → Stands clock ds now [] (r.events ++ Piece 0 octets ∷ []) → IsSettled ds
-    → Receives clock ds now (input.Stream kind) (given ++ octets)
-receives_piece clock cs ds kept now kind given octets r stands settled = record {
+pub receives_piece : (way : FrameReading) (cs ds : List Connection) (kept now : List Entry) (kind : Framing)
+    (given octets : List ℕ) → (r : Receives way cs kept (input.Stream kind) given)
+    → Stands way ds now [] (r.events ++ Piece 0 octets ∷ []) → IsSettled ds
+    → Receives way ds now (input.Stream kind) (given ++ octets)
+receives_piece way cs ds kept now kind given octets r stands settled = record {
   events = r.events ++ Piece 0 octets ∷ [];
   stands = stands;
   settled = settled;
@@ -68,10 +68,10 @@ none_of : (xs : List (List ℕ)) → length xs ≡ 0 → xs ≡ []
 none_of [] e = refl
 none_of (x ∷ xs) e = absurd (omega (arith, e))
 
-logs_octets : (clock : Clock) (kind : Framing) (given octets : List ℕ) (old new : List Entry) (os : List Outcome)
-    (waited : ℕ) → waited ≡ 0 → LogsOctets clock
-    (opening kind given) octets waited 0 old new os → LogsPiece clock kind given octets old new os
-logs_octets clock kind given octets old new os waited zero l =
+logs_octets : (way : FrameReading) (kind : Framing) (given octets : List ℕ) (old new : List Entry) (os : List Outcome)
+    (waited : ℕ) → waited ≡ 0 → LogsOctets way
+    (opening kind given) octets waited 0 old new os → LogsPiece way kind given octets old new os
+logs_octets way kind given octets old new os waited zero l =
     let none : l.waiting_before ≡ [] = none_of l.waiting_before (l.count_before ∙ zero) in
     let all : l.handled ++ l.waiting_before ≡ l.handled =
     ap (λ (x : List (List ℕ)). l.handled ++ x) none ∙ append-nil l.handled
@@ -93,47 +93,47 @@ logs_octets clock kind given octets old new os waited zero l =
       marks = l.bad_count;
     }
 
-logs_here : (clock : Clock) (kind : Framing) (given octets : List ℕ) (w v : ℕ → ℕ) (old new : List Entry)
-    (os : List Outcome) → w 0 ≡ 0 → IsLogOf clock (heard (input.Stream kind) given) w
-    (Piece 0 octets ∷ []) v old new os → LogsPiece clock kind given octets old new os
-logs_here clock kind given octets w v old new os zero (here, later, between, parts, logged, (none, same, waits)) =
+logs_here : (way : FrameReading) (kind : Framing) (given octets : List ℕ) (w v : ℕ → ℕ) (old new : List Entry)
+    (os : List Outcome) → w 0 ≡ 0 → IsLogOf way (heard (input.Stream kind) given) w
+    (Piece 0 octets ∷ []) v old new os → LogsPiece way kind given octets old new os
+logs_here way kind given octets w v old new os zero (here, later, between, parts, logged, (none, same, waits)) =
     let all : here ≡ os = sym (parts ∙ ap (λ (xs : List Outcome). here ++ xs) none ∙ append-nil here) in
-    subst (λ (es : List Entry). LogsPiece clock kind given octets old es os) (sym same) (subst
-    (LogsPiece clock kind given octets old between) all (logs_octets clock kind given octets old between here
+    subst (λ (es : List Entry). LogsPiece way kind given octets old es os) (sym same) (subst
+    (LogsPiece way kind given octets old between) all (logs_octets way kind given octets old between here
     (w 0) zero logged))
 
-pub logs_piece : (clock : Clock) (h : History) (kind : Framing) (given octets : List ℕ) (w v : ℕ → ℕ)
+pub logs_piece : (way : FrameReading) (h : History) (kind : Framing) (given octets : List ℕ) (w v : ℕ → ℕ)
     (old new : List Entry) (os : List Outcome) → h ≡ heard (input.Stream kind) given
-    → w 0 ≡ 0 → IsLogOf clock h w (Piece 0 octets ∷ []) v old new os → LogsPiece clock kind given octets old new os
-logs_piece clock h kind given octets w v old new os is zero logged =
-    logs_here clock kind given octets w v old new os zero
-    (subst (λ (x : History). IsLogOf clock x w (Piece 0 octets ∷ []) v old new os) is logged)
+    → w 0 ≡ 0 → IsLogOf way h w (Piece 0 octets ∷ []) v old new os → LogsPiece way kind given octets old new os
+logs_piece way h kind given octets w v old new os is zero logged =
+    logs_here way kind given octets w v old new os zero
+    (subst (λ (x : History). IsLogOf way x w (Piece 0 octets ∷ []) v old new os) is logged)
 
 -- the log of a run that began with none
-pub log_only : (clock : Clock) (h : History) (w v : ℕ → ℕ) (es : List AcceptedEvent) (a b : List Entry)
-    (l m : List Outcome) → l ≡ [] → Grows (IsLogOf clock h w es v a b) l m → IsLogOf clock h w es v a b m
-log_only clock h w v es a b l m none (os, grown, logged) =
+pub log_only : (way : FrameReading) (h : History) (w v : ℕ → ℕ) (es : List AcceptedEvent) (a b : List Entry)
+    (l m : List Outcome) → l ≡ [] → Grows (IsLogOf way h w es v a b) l m → IsLogOf way h w es v a b m
+log_only way h w v es a b l m none (os, grown, logged) =
     let all : os ≡ m = sym (grown ∙ ap (λ (xs : List Outcome). xs ++ os) none) in
-    subst (IsLogOf clock h w es v a b) all logged
+    subst (IsLogOf way h w es v a b) all logged
 
-pub logs_datagram : (clock : Clock) (octets : List ℕ) (w v : ℕ → ℕ) (old new : List Entry) (os : List Outcome)
-    → IsLogOf clock initial w (Datagram octets ∷ []) v old new os
-    → (x : Outcome) × (os ≡ x ∷ []) × IsOutcome clock old new octets x
-logs_datagram clock octets w v old new os (here, later, between, parts, (x, one, out), (none, same, waits)) = (
+pub logs_datagram : (way : FrameReading) (octets : List ℕ) (w v : ℕ → ℕ) (old new : List Entry) (os : List Outcome)
+    → IsLogOf way initial w (Datagram octets ∷ []) v old new os
+    → (x : Outcome) × (os ≡ x ∷ []) × IsOutcome way old new octets x
+logs_datagram way octets w v old new os (here, later, between, parts, (x, one, out), (none, same, waits)) = (
   x,
   parts ∙ ap (λ (xs : List Outcome). here ++ xs) none ∙ append-nil here ∙ one,
   subst
-      (λ (es : List Entry). IsOutcome clock old es octets x) (sym same) out,
+      (λ (es : List Entry). IsOutcome way old es octets x) (sym same) out,
 )
 
 -- a datagram was heard, of which one outcome is told
-pub receives_one : (clock : Clock) (ds : List Connection) (old kept : List Entry) (octets : List ℕ) (w v : ℕ → ℕ)
-    (os : List Outcome) → Stands clock ds kept [] (Datagram octets ∷ []) → IsSettled ds
-    → IsLogOf clock initial w (Datagram octets ∷ []) v old kept os → ReceivesDatagram clock ds old kept octets os
-receives_one clock ds old kept octets w v os stands settled logged =
-    let (x, only, out) = logs_datagram clock octets w v old kept os logged in
+pub receives_one : (way : FrameReading) (ds : List Connection) (old kept : List Entry) (octets : List ℕ) (w v : ℕ → ℕ)
+    (os : List Outcome) → Stands way ds kept [] (Datagram octets ∷ []) → IsSettled ds
+    → IsLogOf way initial w (Datagram octets ∷ []) v old kept os → ReceivesDatagram way ds old kept octets os
+receives_one way ds old kept octets w v os stands settled logged =
+    let (x, only, out) = logs_datagram way octets w v old kept os logged in
     record {
-      receives = receives_datagram clock ds kept octets stands settled;
+      receives = receives_datagram way ds kept octets stands settled;
       outcome = x;
       only = only;
       is_outcome = out;
@@ -182,10 +182,10 @@ heard_frames (input.Stream kind) octets frames (rest, are) = record {
 }
 
 -- the entries that are held are those of the received set
-pub holds_heard : (clock : Clock) (cs : List Connection) (kept : List Entry) (framing : InputFraming) (octets : List ℕ)
-    → Receives clock cs kept framing octets → (x : Entry) → Has kept x ↔ IsReceivedIn clock framing octets x
-holds_heard clock cs kept framing octets r x =
-    let held = holds_just clock cs kept r.events r.stands r.settled x in (
+pub holds_heard : (way : FrameReading) (cs : List Connection) (kept : List Entry) (framing : InputFraming) (octets : List ℕ)
+    → Receives way cs kept framing octets → (x : Entry) → Has kept x ↔ IsReceivedIn way framing octets x
+holds_heard way cs kept framing octets r x =
+    let held = holds_just way cs kept r.events r.stands r.settled x in (
       λ has. let (frames, are, spelled) = held.0 has in (
         frames,
         frames_heard framing octets frames (subst (λ (h : History). HasFrames h frames) r.history are),
@@ -235,10 +235,10 @@ begins_at (c ∷ cs) kind given (f ∷ fs) at settled good frames rest are = eli
   | inr broken ↦ absurd (good (f, broken.rest, broken.offset, broken.bad))
 ]
 
-pub begins_rest : (clock : Clock) (cs : List Connection) (kept : List Entry) (kind : Framing) (given : List ℕ)
-    → Receives clock cs kept (input.Stream kind) given → ¬ (HoldsBadCount (opening kind given))
+pub begins_rest : (way : FrameReading) (cs : List Connection) (kept : List Entry) (kind : Framing) (given : List ℕ)
+    → Receives way cs kept (input.Stream kind) given → ¬ (HoldsBadCount (opening kind given))
     → (frames : List (List ℕ)) (rest : List ℕ) → Frames kind given frames rest → Begins (Whole kind) rest
-begins_rest clock cs kept kind given r good =
+begins_rest way cs kept kind given r good =
     let at = r.stands.stands_at in
     begins_at cs kind given at.handled
     (subst (λ (h : History). AreAt cs h.streams at.handled) r.history at.follow) r.settled good
@@ -250,14 +250,14 @@ stops_whole U kind given u h is ending good =
     let here = subst (λ (k : History). IsEnding {U = U} 0 (Ok u) k) is ending in
     elim here [ inl bad ↦ absurd (good bad) | inr whole ↦ whole ]
 
-pub stops_inside : (clock : Clock) (U : Type 0) (cs : List Connection) (kept : List Entry) (kind : Framing)
-    (given : List ℕ) (start : ℕ) → (r : Receives clock cs kept (input.Stream kind) given)
+pub stops_inside : (way : FrameReading) (U : Type 0) (cs : List Connection) (kept : List Entry) (kind : Framing)
+    (given : List ℕ) (start : ℕ) → (r : Receives way cs kept (input.Stream kind) given)
     → IsEnding {U = U} 0 (Err (Unterminated start)) (history_of r.events)
     → ¬ (HoldsBadCount (opening kind given)) → StopsAt kind given (Some start)
-stops_inside clock U cs kept kind given start r ending good =
+stops_inside way U cs kept kind given start r ending good =
     let here = subst (λ (k : History). IsEnding {U = U} 0 (Err (Unterminated start)) k) r.history ending in
     let (frames, rest, are, some, place) = here.1 in
-    (frames, rest, are, some, begins_rest clock cs kept kind given r good frames rest are, place)
+    (frames, rest, are, some, begins_rest way cs kept kind given r good frames rest are, place)
 
 -- which is what is reported of it
 pub stop_reported : (kind : Framing) (given : List ℕ) (frames : List (List ℕ)) (rest : List ℕ) (stop : Option ℕ)

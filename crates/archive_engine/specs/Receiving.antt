@@ -3,7 +3,7 @@ use Rattle.std.specs.Prelude.{◌≡◌, ℕ, ◌+◌, ◌<◌, List, [], ◌∷
 use Rattle.octet_language.specs.Language.{Begins}
 use Rattle.syslog_frame.specs.Frames.{Frames, Whole}
 use Rattle.syslog_frame.specs.declared.framing.Framing.{Framing}
-use Rattle.syslog_legacy.specs.FrameReadings.{Clock}
+use Rattle.syslog_legacy.specs.declared.frame_reading.FrameReading.{FrameReading}
 use Rattle.archive_text.specs.Entries.{Entry}
 use Rattle.syslog_collect.specs.Answers.{ReportsBadCount}
 use Rattle.syslog_collect.specs.Headline.{IsSettled}
@@ -25,20 +25,20 @@ heard input.Datagram octets = record { streams = []; ended = []; datagrams = oct
 heard (input.Stream kind) octets = record { streams = opening kind octets ∷ []; ended = []; datagrams = [] }
 
 -- a collector over an empty store heard nothing
-pub record HeardNothing (clock : Clock) (cs : List Connection) (kept : List Entry) : Type 0 where
-  pub stands : Stands clock cs kept [] []
+pub record HeardNothing (way : FrameReading) (cs : List Connection) (kept : List Entry) : Type 0 where
+  pub stands : Stands way cs kept [] []
   pub settled : IsSettled cs
 
 -- a collector over an empty store received these octets of an input, and no frame is left ready
-pub record Receives (clock : Clock) (cs : List Connection) (kept : List Entry) (framing : InputFraming)
+pub record Receives (way : FrameReading) (cs : List Connection) (kept : List Entry) (framing : InputFraming)
     (octets : List ℕ) : Type 0 where
   pub events : List AcceptedEvent
-  pub stands : Stands clock cs kept [] events
+  pub stands : Stands way cs kept [] events
   pub settled : IsSettled cs
   pub history : history_of events ≡ heard framing octets
 
 -- the outcomes of octets that follow given ones on a stream: of the frames that they complete, and a bad count
-pub record LogsPiece (clock : Clock) (kind : Framing) (given octets : List ℕ) (old new : List Entry)
+pub record LogsPiece (way : FrameReading) (kind : Framing) (given octets : List ℕ) (old new : List Entry)
     (outcomes : List Outcome) : Type 0 where
   pub before : List (List ℕ)
   pub last : List (List ℕ)
@@ -46,7 +46,7 @@ pub record LogsPiece (clock : Clock) (kind : Framing) (given octets : List ℕ) 
   pub rest : List ℕ
   pub frames_before : Frames kind given before rest_before
   pub frames_are : Frames kind (given ++ octets) (before ++ last) rest
-  pub reported : AreReported clock old new last outcomes
+  pub reported : AreReported way old new last outcomes
   pub marks : ReportsBadCount outcomes (opening kind (given ++ octets))
 
 -- where a stream stops: behind whole frames, or inside the frame that begins here
@@ -57,9 +57,9 @@ StopsAt kind stream (Some start) = (frames : List (List ℕ)) × (rest : List �
 
 -- a collector over an empty store was given these octets of a stream, none of which is bad; the next frame has this
 -- number
-pub record StreamStands (clock : Clock) (kind : Framing) (cs : List Connection) (kept : List Entry) (number : ℕ)
+pub record StreamStands (way : FrameReading) (kind : Framing) (cs : List Connection) (kept : List Entry) (number : ℕ)
     (given : List ℕ) : Type 0 where
-  pub receives : Receives clock cs kept (input.Stream kind) given
+  pub receives : Receives way cs kept (input.Stream kind) given
   pub frames : List (List ℕ)
   pub rest : List ℕ
   pub frames_are : Frames kind given frames rest
@@ -67,9 +67,9 @@ pub record StreamStands (clock : Clock) (kind : Framing) (cs : List Connection) 
   pub number_is : number ≡ length frames + 1
 
 -- a collector over an empty store was given a datagram, of which one outcome is told
-pub record ReceivesDatagram (clock : Clock) (cs : List Connection) (old kept : List Entry) (octets : List ℕ)
+pub record ReceivesDatagram (way : FrameReading) (cs : List Connection) (old kept : List Entry) (octets : List ℕ)
     (outcomes : List Outcome) : Type 0 where
-  pub receives : Receives clock cs kept input.Datagram octets
+  pub receives : Receives way cs kept input.Datagram octets
   pub outcome : Outcome
   pub only : outcomes ≡ outcome ∷ []
-  pub is_outcome : IsOutcome clock old kept octets outcome
+  pub is_outcome : IsOutcome way old kept octets outcome

@@ -12,29 +12,28 @@ use driver::{NO_MEMORY, drive, report};
 use frame_engine::InputFraming;
 use octet_devices::{Input, Output};
 use std::alloc::Global;
-use syslog_legacy::LegacyClock;
+use syslog_legacy::FrameReading;
 
 /// Writes the records of the rest of the input as an archive: each once, in its canonical form, in
 /// the one order of archives. A line on each frame that is refused, and on an end or a count that
 /// is, goes to the diagnostics. Returns the exit status: `DONE` where nothing was refused, else
 /// `REFUSED`; `FAULT` where a device failed or the input has no end; `NO_MEMORY` where memory ran
 /// out. Of the last two no archive is written, unless the output failed behind a part of it. Behind
-/// a bad count no more is read. With a clock, frames without the front of RFC 5424 are read as legacy
-/// packets (RFC 3164).
+/// a bad count no more is read.
 pub fn archive_input<R: Input, W: Output, N: Output>(
     alloc: Global,
     input_framing: InputFraming,
-    clock: Option<LegacyClock>,
+    reading: FrameReading,
     input: &mut R,
     output: &mut W,
     diagnostics: &mut N,
 ) -> u8
-    ensures { Ran (archive_meaning clock input_framing)
+    ensures { Ran (archive_meaning reading input_framing)
         (devices (R.state input.old) (W.state output.old) (N.state diagnostics.old))
         (devices (R.state input.new) (W.state output.new) (N.state diagnostics.new))
         result }
 {
-    let Ok(reception) = Reception::new(alloc, PagedArchive::new(alloc), clock) else {
+    let Ok(reception) = Reception::new(alloc, PagedArchive::new(alloc), reading) else {
         return report(diagnostics, b"want of memory\n", NO_MEMORY);
     };
     match input_framing {

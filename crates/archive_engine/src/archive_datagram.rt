@@ -29,11 +29,11 @@ impl<S: Store + Drop> ArchiveDatagram<S> {
 
     /// A session before the first octet of a datagram.
     pub fn new(alloc: Global, reception: Reception<S>) -> ArchiveDatagram<S>
-        ensures begun { HeardNothing reception.collector.clock
+        ensures begun { HeardNothing reception.collector.reading
             reception.collector.connections.items (S.entries reception.collector.store) →
             HasBegun (⟦<ArchiveDatagram<S> as Session>⟧.stands result result)
             (⟦<ArchiveDatagram<S> as Session>⟧.means result) }
-        ensures clock { result.reception.collector.clock ≡ reception.collector.clock }
+        ensures reading { result.reception.collector.reading ≡ reception.collector.reading }
     {
         ArchiveDatagram {
             alloc,
@@ -49,13 +49,13 @@ impl<S: Store + Drop> Session for ArchiveDatagram<S> {
     ghost use Rattle.archive_engine.specs.Archived.{archive_meaning};
     ghost use Rattle.archive_engine.specs.Receiving.{HeardNothing};
 
-    ghost means = { λ s. archive_meaning s.reception.collector.clock Datagram };
+    ghost means = { λ s. archive_meaning s.reception.collector.reading Datagram };
 
     ghost rest = { λ s. text_of (S.entries s.reception.collector.store) };
 
     ghost stands = { λ first now given.
-        (now.reception.collector.clock ≡ first.reception.collector.clock)
-        × HeardNothing now.reception.collector.clock now.reception.collector.connections.items
+        (now.reception.collector.reading ≡ first.reception.collector.reading)
+        × HeardNothing now.reception.collector.reading now.reception.collector.connections.items
         (S.entries now.reception.collector.store)
         × (now.kept.items ≡ take (FRAME_MAX + 1) given) };
 

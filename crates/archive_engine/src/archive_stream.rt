@@ -36,13 +36,13 @@ impl<S: Store + Drop> ArchiveStream<S> {
         framing: Framing,
         mut reception: Reception<S>,
     ) -> Result<ArchiveStream<S>, AllocError>
-        ensures begun { HeardNothing reception.collector.clock
+        ensures begun { HeardNothing reception.collector.reading
             reception.collector.connections.items (S.entries reception.collector.store) →
             IfOk result (λ s. HasBegun (⟦<ArchiveStream<S> as Session>⟧.stands s s)
             (⟦<ArchiveStream<S> as Session>⟧.means s)) }
         ensures framing { IfOk result (λ s. s.framing ≡ framing) }
-        ensures clock { IfOk result (λ s.
-            s.reception.collector.clock ≡ reception.collector.clock) }
+        ensures reading { IfOk result (λ s.
+            s.reception.collector.reading ≡ reception.collector.reading) }
     {
         reception.open(alloc, framing)?;
         Ok(ArchiveStream {
@@ -60,13 +60,13 @@ impl<S: Store + Drop> Session for ArchiveStream<S> {
     ghost use Rattle.archive_engine.specs.Archived.{archive_meaning};
     ghost use Rattle.archive_engine.specs.Receiving.{StreamStands};
 
-    ghost means = { λ s. archive_meaning s.reception.collector.clock (Stream s.framing) };
+    ghost means = { λ s. archive_meaning s.reception.collector.reading (Stream s.framing) };
 
     ghost rest = { λ s. text_of (S.entries s.reception.collector.store) };
 
     ghost stands = { λ first now given. (now.framing ≡ first.framing)
-        × (now.reception.collector.clock ≡ first.reception.collector.clock)
-        × StreamStands first.reception.collector.clock first.framing
+        × (now.reception.collector.reading ≡ first.reception.collector.reading)
+        × StreamStands first.reception.collector.reading first.framing
         now.reception.collector.connections.items (S.entries now.reception.collector.store)
         now.number given };
 

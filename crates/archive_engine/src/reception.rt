@@ -15,7 +15,7 @@ use archive_text::Store;
 use std::alloc::{AllocError, Global};
 use syslog_collect::{CollectFault, Collector, Event, Outcome, RunEnd};
 use syslog_frame::Framing;
-use syslog_legacy::LegacyClock;
+use syslog_legacy::FrameReading;
 
 // the number of the one connection
 const CONN: u32 = 0;
@@ -28,17 +28,13 @@ pub struct Reception<S> {
 }
 
 impl<S: Store + Drop> Reception<S> {
-    /// Nothing was received. With a clock, legacy packets are read as such.
-    pub fn new(
-        alloc: Global,
-        store: S,
-        clock: Option<LegacyClock>,
-    ) -> Result<Reception<S>, AllocError>
-        ensures fresh { S.entries store ≡ [] → IfOk result (λ r. HeardNothing r.collector.clock
+    /// Nothing was received. Frames are to be read so.
+    pub fn new(alloc: Global, store: S, reading: FrameReading) -> Result<Reception<S>, AllocError>
+        ensures fresh { S.entries store ≡ [] → IfOk result (λ r. HeardNothing r.collector.reading
             r.collector.connections.items (S.entries r.collector.store)) }
-        ensures clock { IfOk result (λ r. r.collector.clock ≡ clock) }
+        ensures reading { IfOk result (λ r. r.collector.reading ≡ reading) }
     {
-        match Collector::new(alloc, store, clock) {
+        match Collector::with_reading(alloc, store, reading) {
             Ok(collector) => Ok(Reception {
                 collector,
                 outcomes: Vec::new(alloc),
@@ -50,24 +46,24 @@ impl<S: Store + Drop> Reception<S> {
     // Hands one event to the collector, and keeps its outcomes alone.
     fn run_event(&mut self, alloc: Global, event: Event<'_>) -> Result<(), AllocError>
         ensures stands { OnOk result ((first : List Entry) (before : List AcceptedEvent)
-            → Stands self.old.collector.clock self.old.collector.connections.items
+            → Stands self.old.collector.reading self.old.collector.connections.items
             (S.entries self.old.collector.store) first before
-            → Stands self.old.collector.clock self.new.collector.connections.items
+            → Stands self.old.collector.reading self.new.collector.connections.items
             (S.entries self.new.collector.store) first (before ++ accepted_event event.entry ∷ [])) }
         ensures settled { OnOk result ((first : List Entry) (before : List AcceptedEvent)
-            → Stands self.old.collector.clock self.old.collector.connections.items
+            → Stands self.old.collector.reading self.old.collector.connections.items
             (S.entries self.old.collector.store) first before
             → IsSettled self.old.collector.connections.items
             → IsSettled self.new.collector.connections.items) }
         ensures logged { OnOk result ((first : List Entry) (before : List AcceptedEvent)
-            → Stands self.old.collector.clock self.old.collector.connections.items
+            → Stands self.old.collector.reading self.old.collector.connections.items
             (S.entries self.old.collector.store) first before
             → IsSettled self.old.collector.connections.items
-            → IsLogOf self.old.collector.clock (history_of before)
+            → IsLogOf self.old.collector.reading (history_of before)
             (waiting self.old.collector.connections.items) (accepted_event event.entry ∷ [])
             (waiting self.new.collector.connections.items) (S.entries self.old.collector.store)
             (S.entries self.new.collector.store) self.new.outcomes.items) }
-        ensures clock { self.new.collector.clock ≡ self.old.collector.clock }
+        ensures reading { self.new.collector.reading ≡ self.old.collector.reading }
     {
         self.outcomes.clear();
         match self.collector.run(alloc, &[event], &mut self.outcomes) {
@@ -78,24 +74,24 @@ impl<S: Store + Drop> Reception<S> {
 
     /// Receives a datagram.
     pub fn datagram(&mut self, alloc: Global, octets: &[u8]) -> Result<(), AllocError>
-        ensures receives { HeardNothing self.old.collector.clock
+        ensures receives { HeardNothing self.old.collector.reading
             self.old.collector.connections.items
             (S.entries self.old.collector.store) → OnOk result (ReceivesDatagram
-            self.old.collector.clock self.new.collector.connections.items
+            self.old.collector.reading self.new.collector.connections.items
             (S.entries self.old.collector.store) (S.entries self.new.collector.store)
             octets.now self.new.outcomes.items) }
-        ensures clock { self.new.collector.clock ≡ self.old.collector.clock }
+        ensures reading { self.new.collector.reading ≡ self.old.collector.reading }
     {
         self.run_event(alloc, Event::Datagram { octets })
     }
 
     /// Begins to receive a stream.
     pub fn open(&mut self, alloc: Global, framing: Framing) -> Result<(), AllocError>
-        ensures receives { HeardNothing self.old.collector.clock
+        ensures receives { HeardNothing self.old.collector.reading
             self.old.collector.connections.items (S.entries self.old.collector.store) →
-            OnOk result (Receives self.old.collector.clock self.new.collector.connections.items
+            OnOk result (Receives self.old.collector.reading self.new.collector.connections.items
             (S.entries self.new.collector.store) (Stream framing) []) }
-        ensures clock { self.new.collector.clock ≡ self.old.collector.clock }
+        ensures reading { self.new.collector.reading ≡ self.old.collector.reading }
     {
         self.run_event(
             alloc,
@@ -110,17 +106,17 @@ impl<S: Store + Drop> Reception<S> {
     pub fn piece(&mut self, alloc: Global, octets: &[u8]) -> Result<(), AllocError>
         requires { 0 < length octets.now }
         ensures receives { OnOk result ((kind : Framing) (given : List ℕ)
-            → Receives self.old.collector.clock self.old.collector.connections.items
+            → Receives self.old.collector.reading self.old.collector.connections.items
             (S.entries self.old.collector.store) (Stream kind) given
-            → Receives self.old.collector.clock self.new.collector.connections.items
+            → Receives self.old.collector.reading self.new.collector.connections.items
             (S.entries self.new.collector.store) (Stream kind) (given ++ octets.now)) }
         ensures logs { OnOk result ((kind : Framing) (given : List ℕ)
-            → Receives self.old.collector.clock self.old.collector.connections.items
+            → Receives self.old.collector.reading self.old.collector.connections.items
             (S.entries self.old.collector.store) (Stream kind) given
-            → LogsPiece self.old.collector.clock kind given octets.now
+            → LogsPiece self.old.collector.reading kind given octets.now
             (S.entries self.old.collector.store) (S.entries self.new.collector.store)
             self.new.outcomes.items) }
-        ensures clock { self.new.collector.clock ≡ self.old.collector.clock }
+        ensures reading { self.new.collector.reading ≡ self.old.collector.reading }
     {
         self.run_event(alloc, Event::Piece { conn: CONN, octets })
     }
@@ -129,11 +125,11 @@ impl<S: Store + Drop> Reception<S> {
     /// has one.
     pub fn end(&mut self) -> Option<u64>
         ensures stops { (kind : Framing) (given : List ℕ)
-            → Receives self.old.collector.clock self.old.collector.connections.items
+            → Receives self.old.collector.reading self.old.collector.connections.items
             (S.entries self.old.collector.store) (Stream kind) given
             → ¬ (HoldsBadCount (opening kind given)) → StopsAt kind given result }
         ensures same { self.new.collector.store ≡ self.old.collector.store }
-        ensures clock { self.new.collector.clock ≡ self.old.collector.clock }
+        ensures reading { self.new.collector.reading ≡ self.old.collector.reading }
     {
         let Err(fault) = self.collector.end_conn(CONN) else {
             return None;

@@ -10,7 +10,7 @@ use Rattle.syslog_frame.specs.declared.framing.Framing.TheVariants.{Counted, Lf}
 use Rattle.syslog_frame.specs.declared.limits.TheConstants.{FRAME_MAX}
 use Rattle.syslog_value.specs.Parts.{Parts}
 use Rattle.syslog_fields.specs.Canonical.{Canonical, HeaderForm, priority_version_form}
-use Rattle.syslog_legacy.specs.FrameReadings.{Clock}
+use Rattle.syslog_legacy.specs.declared.frame_reading.FrameReading.{FrameReading}
 use Rattle.frame_engine.specs.Readings.{AddsRecord, IsRefusedWith}
 use Rattle.frame_engine.specs.Converted.{Carries, Converts, convert_handling, Framed, GoesOut, goes_out, noted_line}
 use Rattle.frame_engine.specs.declared.line.Line.{Line}
@@ -34,15 +34,15 @@ no_line Counted octets e h = absurd cc
 no_line Lf octets e h = h
 
 -- bare octets are appended to the output
-pub bare : (clock : Clock) (n : ℕ) (f : List ℕ) (old new : Done) → AddsRecord clock f old.output new.output
-    → new.refused ≡ old.refused → new.diagnostics ≡ old.diagnostics → Adds (Converts clock None n f) old new
-bare clock n f old new (r, h, (c, k, e)) same notes =
+pub bare : (way : FrameReading) (n : ℕ) (f : List ℕ) (old new : Done) → AddsRecord way f old.output new.output
+    → new.refused ≡ old.refused → new.diagnostics ≡ old.diagnostics → Adds (Converts way None n f) old new
+bare way n f old new (r, h, (c, k, e)) same notes =
     (goes_out c, (r, h, c, k, refl), adds_output old new c same e notes)
 
 -- the canonical octets in the scratch went out as a frame
-pub in_frame : (clock : Clock) (kind : Framing) (n : ℕ) (f c : List ℕ) (old mid new : Done) → AddsRecord clock f [] c
-    → mid ≡ old → Adds (Framed kind n c) mid new → Adds (Converts clock (Some kind) n f) old new
-in_frame clock kind n f c old mid new (r, h, (text, k, e)) same (d, out, whole) =
+pub in_frame : (way : FrameReading) (kind : Framing) (n : ℕ) (f c : List ℕ) (old mid new : Done) → AddsRecord way f [] c
+    → mid ≡ old → Adds (Framed kind n c) mid new → Adds (Converts way (Some kind) n f) old new
+in_frame way kind n f c old mid new (r, h, (text, k, e)) same (d, out, whole) =
     (d, (r, h, c, subst (Canonical r) (sym e) k, out), whole ∙ ap (λ (x : Done). then_done x d) same)
 
 -- octets went out as one frame
@@ -81,9 +81,9 @@ out_long kind n c s fault old new same is h e =
     )
 
 -- canonical octets begin with an angle bracket
-pub some_octets : (clock : Clock) (f c : List ℕ) → AddsRecord clock f [] c → 0 < length c
+pub some_octets : (way : FrameReading) (f c : List ℕ) → AddsRecord way f [] c → 0 < length c
 unfolding HeaderForm
-some_octets clock frame c (r, h, (text, (x, y, e, (prefix, following, f, g, w), t), whole)) =
+some_octets way frame c (r, h, (text, (x, y, e, (prefix, following, f, g, w), t), whole)) =
     let all : c ≡ (priority_version_form r.priority ++ following) ++ y =
     whole ∙ e ∙ ap (λ (s : List ℕ). s ++ y) (f ∙ ap (λ (s : List ℕ). s ++ following) g) in
     rw all (omega arith)
@@ -99,14 +99,14 @@ adds_after D old mid new r o n (d, h, e) = (
 )
 
 -- a record was converted
-pub converted : (clock : Clock) (to : Option Framing) (n : ℕ) (f : List ℕ) (old new : Done)
-    → Adds (Converts clock to n f) old new → Adds (convert_handling clock to n f) old new
-converted clock to n f old new (d, is, e) = (d, inl is, e)
+pub converted : (way : FrameReading) (to : Option Framing) (n : ℕ) (f : List ℕ) (old new : Done)
+    → Adds (Converts way to n f) old new → Adds (convert_handling way to n f) old new
+converted way to n f old new (d, is, e) = (d, inl is, e)
 
 -- the line on a frame was noted
-pub noted : (clock : Clock) (to : Option Framing) (n : ℕ) (f : List ℕ) (line : Line) (old new : Done)
-    → IsRefusedWith clock n f line → new ≡ then_done old (noted_line line) → Adds (convert_handling clock to n f) old new
-noted clock to n f line old new is e = (noted_line line, inr (line, is, refl), e)
+pub noted : (way : FrameReading) (to : Option Framing) (n : ℕ) (f : List ℕ) (line : Line) (old new : Done)
+    → IsRefusedWith way n f line → new ≡ then_done old (noted_line line) → Adds (convert_handling way to n f) old new
+noted way to n f line old new is e = (noted_line line, inr (line, is, refl), e)
 
 -- ---- a frame has one output
 
@@ -128,16 +128,16 @@ out_output : (to : Option Framing) (n : ℕ) (octets : List ℕ) (a b : Done) �
 out_output None n octets a b e f = ap (λ (d : Done). d.output) (e ∙ sym f)
 out_output (Some kind) n octets a b h k = framed_output kind n octets a b h k
 
-converts_output : (clock : Clock) (to : Option Framing) (n : ℕ) (f : List ℕ) (a b : Done) → Converts clock to n f a
-    → Converts clock to n f b → a.output ≡ b.output
-converts_output clock to n f a b (r, h, c, k, out) (r', h', c', k', out') =
-    let same : r ≡ r' = one_record clock f r r' h h' in
+converts_output : (way : FrameReading) (to : Option Framing) (n : ℕ) (f : List ℕ) (a b : Done) → Converts way to n f a
+    → Converts way to n f b → a.output ≡ b.output
+converts_output way to n f a b (r, h, c, k, out) (r', h', c', k', out') =
+    let same : r ≡ r' = one_record way f r r' h h' in
     let octets : c ≡ c' = canonical_once r' c c' (subst (λ (x : Parts ℤ). Canonical x c) same k) k' in
     out_output to n c' a b (subst (λ (x : List ℕ). GoesOut to n x a) octets out) out'
 
-pub convert_output : (clock : Clock) (to : Option Framing) → HasOneOutputEach (convert_handling clock to)
-convert_output clock to n f a b (inl h) (inl k) = converts_output clock to n f a b h k
-convert_output clock to n f a b (inl (r, h, c, is, out)) (inr (line, k, e)) = absurd (not_both clock n f r line k h)
-convert_output clock to n f a b (inr (line, k, e)) (inl (r, h, c, is, out)) = absurd (not_both clock n f r line k h)
-convert_output clock to n f a b (inr (l, h, e)) (inr (m, k, g)) =
+pub convert_output : (way : FrameReading) (to : Option Framing) → HasOneOutputEach (convert_handling way to)
+convert_output way to n f a b (inl h) (inl k) = converts_output way to n f a b h k
+convert_output way to n f a b (inl (r, h, c, is, out)) (inr (line, k, e)) = absurd (not_both way n f r line k h)
+convert_output way to n f a b (inr (line, k, e)) (inl (r, h, c, is, out)) = absurd (not_both way n f r line k h)
+convert_output way to n f a b (inr (l, h, e)) (inr (m, k, g)) =
     ap (λ (d : Done). d.output) e ∙ sym (ap (λ (d : Done). d.output) g)

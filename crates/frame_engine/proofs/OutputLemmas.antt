@@ -16,7 +16,7 @@ use Rattle.syslog_value.specs.declared.severity.Severity.TheVariants.{Emergency}
 use Rattle.syslog_value.specs.declared.severity.TheConstants.Severity as severities
 use Rattle.syslog_reading.proofs.Props.{once}
 use Rattle.syslog_fields.specs.Canonical.{TimeForm, civil_text}
-use Rattle.syslog_legacy.specs.FrameReadings.{Clock}
+use Rattle.syslog_legacy.specs.declared.frame_reading.FrameReading.{FrameReading}
 use Rattle.frame_engine.specs.Checked.{check_handling}
 use Rattle.driver.specs.Effects.{Done}
 use Rattle.frame_engine.specs.Handling.{HasOneOutputEach}
@@ -31,12 +31,12 @@ output_of d = d.output
 only_once : (a s t : List ℕ) → Only a s → Only a t → s ≡ t
 only_once a s t h k = h ∙ sym k
 
-pub check_output : (clock : Clock) → HasOneOutputEach (check_handling clock)
-check_output clock n f a b (inl (h, e)) (inl (k, g)) = ap output_of (e ∙ sym g)
-check_output clock n f a b (inl ((r, h), e)) (inr (line, k, g)) = absurd (not_both clock n f r line k h)
-check_output clock n f a b (inr (line, k, e)) (inl ((r, h), g)) = absurd (not_both clock n f r line k h)
-check_output clock n f a b (inr (l, h, e)) (inr (m, k, g)) =
-    ap output_of e ∙ ap line_text (one_line clock n f l m h k) ∙ sym (ap output_of g)
+pub check_output : (way : FrameReading) → HasOneOutputEach (check_handling way)
+check_output way n f a b (inl (h, e)) (inl (k, g)) = ap output_of (e ∙ sym g)
+check_output way n f a b (inl ((r, h), e)) (inr (line, k, g)) = absurd (not_both way n f r line k h)
+check_output way n f a b (inr (line, k, e)) (inl ((r, h), g)) = absurd (not_both way n f r line k h)
+check_output way n f a b (inr (l, h, e)) (inr (m, k, g)) =
+    ap output_of e ∙ ap line_text (one_line way n f l m h k) ∙ sym (ap output_of g)
 
 -- ---- the lines of a record
 
@@ -80,11 +80,11 @@ record_lines_once n r b c h k =
     (λ s t. once elements message s t (only_once (flat_map element_lines r.elements))
     (only_once (message_line r.message)))))) h k
 
-pub show_output : (clock : Clock) → HasOneOutputEach (show_handling clock)
-show_output clock n f a b (inl (r, h, s, lines, e)) (inl (q, k, t, lines', g)) =
-    let same : r ≡ q = one_record clock f r q h k in
+pub show_output : (way : FrameReading) → HasOneOutputEach (show_handling way)
+show_output way n f a b (inl (r, h, s, lines, e)) (inl (q, k, t, lines', g)) =
+    let same : r ≡ q = one_record way f r q h k in
     ap output_of e ∙ record_lines_once n q s t (subst (λ (x : Parts ℤ). RecordLines n x s) same lines) lines'
     ∙ sym (ap output_of g)
-show_output clock n f a b (inl (r, h, s, lines, e)) (inr (line, k, g)) = absurd (not_both clock n f r line k h)
-show_output clock n f a b (inr (line, k, e)) (inl (r, h, s, lines, g)) = absurd (not_both clock n f r line k h)
-show_output clock n f a b (inr (l, h, e)) (inr (m, k, g)) = ap output_of e ∙ sym (ap output_of g)
+show_output way n f a b (inl (r, h, s, lines, e)) (inr (line, k, g)) = absurd (not_both way n f r line k h)
+show_output way n f a b (inr (line, k, e)) (inl (r, h, s, lines, g)) = absurd (not_both way n f r line k h)
+show_output way n f a b (inr (l, h, e)) (inr (m, k, g)) = ap output_of e ∙ sym (ap output_of g)

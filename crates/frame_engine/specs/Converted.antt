@@ -6,7 +6,7 @@ use Rattle.syslog_frame.specs.declared.framing.Framing.TheVariants.{Counted, Lf}
 use Rattle.syslog_frame.specs.declared.limits.TheConstants.{FRAME_MAX}
 use Rattle.syslog_value.specs.Parts.{Parts}
 use Rattle.syslog_fields.specs.Canonical.{Canonical}
-use Rattle.syslog_legacy.specs.FrameReadings.{Clock}
+use Rattle.syslog_legacy.specs.declared.frame_reading.FrameReading.{FrameReading}
 use Rattle.driver.specs.Effects.{Done}
 use Rattle.frame_engine.specs.Handling.{Handling}
 use Rattle.frame_engine.specs.Line.{line_text}
@@ -41,12 +41,12 @@ GoesOut None n octets d = d ≡ goes_out octets
 GoesOut (Some kind) n octets d = Framed kind n octets d
 
 -- a frame is read as a record, whose canonical octets go out
-abbrev pub Converts : Clock → Option Framing → ℕ → List ℕ → Done → Type 0
-Converts clock to n f d =
-    (r : Parts ℤ) × IsRecordOf clock r f × (c : List ℕ) × Canonical r c × GoesOut to n c d
+abbrev pub Converts : FrameReading → Option Framing → ℕ → List ℕ → Done → Type 0
+Converts way to n f d =
+    (r : Parts ℤ) × IsRecordOf way r f × (c : List ℕ) × Canonical r c × GoesOut to n c d
 
 -- the canonical octets of a record go out, or it is noted why the frame is none
-abbrev pub convert_handling : Clock → Option Framing → Handling
-convert_handling clock to n f d =
-    Converts clock to n f d
-    ⊎ ((line : Line) × IsRefusedWith clock n f line × (d ≡ noted_line line))
+abbrev pub convert_handling : FrameReading → Option Framing → Handling
+convert_handling way to n f d =
+    Converts way to n f d
+    ⊎ ((line : Line) × IsRefusedWith way n f line × (d ≡ noted_line line))

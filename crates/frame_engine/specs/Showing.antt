@@ -9,7 +9,7 @@ use Rattle.syslog_value.specs.Severities.{severity_code, severity_name}
 use Rattle.syslog_value.specs.declared.facility.Facility.{Facility}
 use Rattle.syslog_value.specs.declared.severity.Severity.{Severity}
 use Rattle.syslog_fields.specs.Canonical.{TimeForm, word_form}
-use Rattle.syslog_legacy.specs.FrameReadings.{Clock}
+use Rattle.syslog_legacy.specs.declared.frame_reading.FrameReading.{FrameReading}
 use Rattle.frame_engine.specs.Converted.{goes_out, noted_line}
 use Rattle.frame_engine.specs.Handling.{Handling}
 use Rattle.frame_engine.specs.Readings.{IsRecordOf, IsRefusedWith}
@@ -77,7 +77,7 @@ RecordLines n r =
     ⋅ Only (flat_map element_lines r.elements) ⋅ Only (message_line r.message)
 
 -- the lines of the record that a frame is read as, or it is noted why it is none
-abbrev pub show_handling : Clock → Handling
-show_handling clock n f d =
-    ((r : Parts ℤ) × IsRecordOf clock r f × (b : List ℕ) × RecordLines n r b × (d ≡ goes_out b))
-    ⊎ ((line : Line) × IsRefusedWith clock n f line × (d ≡ noted_line line))
+abbrev pub show_handling : FrameReading → Handling
+show_handling way n f d =
+    ((r : Parts ℤ) × IsRecordOf way r f × (b : List ℕ) × RecordLines n r b × (d ≡ goes_out b))
+    ⊎ ((line : Line) × IsRefusedWith way n f line × (d ≡ noted_line line))

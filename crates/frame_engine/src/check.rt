@@ -10,13 +10,13 @@ use crate::line::{Line, put_line};
 use crate::reading::refusal;
 use driver::Effects;
 use std::alloc::AllocError;
-use syslog_legacy::LegacyClock;
+use syslog_legacy::FrameReading;
 
 /// Writes for each frame whether it is a record, and if not, why not. No frame is copied.
 #[derive(Clone, Copy, Debug)]
 pub struct Check {
-    /// The clock of legacy packets; None: every frame is read by RFC 5424.
-    pub clock: Option<LegacyClock>,
+    /// How frames are read.
+    pub reading: FrameReading,
 }
 
 // Reports a refusal on the output.
@@ -34,12 +34,12 @@ impl FrameHandler for Check {
     ghost use Rattle.frame_engine.specs.Checked.{check_handling};
     ghost use Rattle.frame_engine.specs.declared.line.Line.TheVariants.{TooLong};
 
-    ghost handles = { λ c. check_handling c.clock };
+    ghost handles = { λ c. check_handling c.reading };
 
     ghost reports = { λ _. refused_line };
 
     fn on_frame(&self, number: u64, frame: &[u8], effects: &mut Effects) -> Result<(), AllocError> {
-        match refusal(self.clock, number, frame) {
+        match refusal(self.reading, number, frame) {
             None => put_line(&mut effects.output, Line::Accepted { number }),
             Some(line) => refuse(line, effects),
         }

@@ -10,15 +10,15 @@ use crate::reading::put_reading;
 use driver::Effects;
 use std::alloc::{AllocError, Global};
 use syslog_frame::{Framing, PutFault, put_frame};
-use syslog_legacy::LegacyClock;
+use syslog_legacy::FrameReading;
 
 /// Writes the canonical octets of each record, and notes why a frame has none.
 #[derive(Clone, Copy, Debug)]
 pub struct Convert {
     /// The allocator for a record whose element ids do not ascend.
     pub alloc: Global,
-    /// The clock of legacy packets; None: every frame is read by RFC 5424.
-    pub clock: Option<LegacyClock>,
+    /// How frames are read.
+    pub reading: FrameReading,
     /// The framing of the output; None: bare octets.
     pub to: Option<Framing>,
 }
@@ -54,21 +54,21 @@ impl FrameHandler for Convert {
     ghost use Rattle.frame_engine.specs.Converted.{convert_handling, noted_line};
     ghost use Rattle.frame_engine.specs.declared.line.Line.TheVariants.{TooLong};
 
-    ghost handles = { λ c. convert_handling c.clock c.to };
+    ghost handles = { λ c. convert_handling c.reading c.to };
 
     ghost reports = { λ _. noted_line };
 
     fn on_frame(&self, number: u64, frame: &[u8], effects: &mut Effects) -> Result<(), AllocError> {
         let Some(framing) = self.to else {
             let out = &mut effects.output;
-            return match put_reading(self.clock, number, frame, self.alloc, out)? {
+            return match put_reading(self.reading, number, frame, self.alloc, out)? {
                 None => Ok(()),
                 Some(line) => add_refusal(line, effects),
             };
         };
         effects.scratch.clear();
         let out = &mut effects.scratch;
-        match put_reading(self.clock, number, frame, self.alloc, out)? {
+        match put_reading(self.reading, number, frame, self.alloc, out)? {
             None => put_framed(framing, number, effects),
             Some(line) => add_refusal(line, effects),
         }

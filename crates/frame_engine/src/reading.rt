@@ -4,10 +4,11 @@ ghost use Rattle.std.specs.Prelude.{◌≡◌, ◌≤◌, ℤ, List, ℕ, IfErr,
 ghost use Rattle.syslog_value.specs.Parts.{Parts};
 ghost use Rattle.syslog_reading.specs.ViewParts.{IsViewOf, view_parts};
 ghost use Rattle.syslog_reading.specs.Faults.{FaultOf};
-ghost use Rattle.syslog_legacy.specs.FrameReadings.{Clock};
+ghost use Rattle.syslog_legacy.specs.ClockReadings.{IsReadAs};
+ghost use Rattle.syslog_legacy.specs.declared.frame_reading.FrameReading.{FrameReading};
 ghost use Rattle.syslog_legacy.specs.NewForm.{HasNewForm};
-ghost use Rattle.frame_engine.specs.Readings.{IsReadNew, IsReadingOf, IsRecordOf, IsRefusedWith};
-ghost use Rattle.frame_engine.specs.Readings.{PutsReading};
+ghost use Rattle.frame_engine.specs.Readings.{IsNoRecord, IsReadNew, IsReadingIn, IsReadingOf, IsRecordOf};
+ghost use Rattle.frame_engine.specs.Readings.{IsRefusedWith, PutsOctets, PutsReading};
 ghost use Rattle.frame_engine.specs.declared.line.Line.TheVariants.{LegacyNotUtf8};
 
 use crate::line::Line;
@@ -15,7 +16,8 @@ use std::alloc::{AllocError, Global};
 use syslog_frame::FRAME_MAX;
 use syslog_grammar::{RecordView, fault_of, view, write_canonical_octets};
 use syslog_legacy::{
-    LegacyClock, LegacyView, MessageNotUtf8, has_new_form, legacy_view, put_legacy_canonical,
+    FrameReading, LegacyClock, LegacyView, MessageNotUtf8, has_new_form, legacy_view,
+    put_legacy_canonical,
 };
 use syslog_value::Record;
 
@@ -28,15 +30,15 @@ pub enum Reading<'a> {
     Legacy(LegacyView<'a>),
 }
 
-/// The clock by which a frame is read as a legacy packet, if it is read as one: there is a clock, and
-/// the frame does not have the front of RFC 5424.
+/// The clock by which octets are read as a legacy packet, if they are read as one: there is a clock, and
+/// the octets do not have the front of RFC 5424.
 #[inline(always)]
-fn legacy_clock(clock: Option<LegacyClock>, frame: &[u8]) -> Option<LegacyClock>
-    ensures { MatchOption result (IsReadNew clock frame.now)
-        (λ k. (clock ≡ Some k) × ¬ (HasNewForm frame.now)) }
+fn legacy_clock(clock: Option<LegacyClock>, octets: &[u8]) -> Option<LegacyClock>
+    ensures { MatchOption result (IsReadNew clock octets.now)
+        (λ k. (clock ≡ Some k) × ¬ (HasNewForm octets.now)) }
 {
     let clock = clock?;
-    if has_new_form(frame) {
+    if has_new_form(octets) {
         return None;
     }
     Some(clock)
@@ -52,6 +54,29 @@ fn legacy_line(number: u64, fault: MessageNotUtf8) -> Line
     }
 }
 
+/// Reads the octets of a frame, which has this number, under a clock, if there is one.
+#[inline(always)]
+fn read_octets<'a>(
+    clock: Option<LegacyClock>,
+    number: u64,
+    octets: &'a [u8],
+) -> Result<Reading<'a>, Line>
+    ensures some { OnOk result ((r : Parts ℤ) × IsReadAs clock r octets.now) }
+    ensures reading { IfOk result (λ read. IsReadingIn clock octets.now read) }
+    ensures refused { IfErr result (λ line. IsNoRecord clock number octets.now line) }
+{
+    if let Some(clock) = legacy_clock(clock, octets) {
+        return match legacy_view(&clock, octets) {
+            Ok(view) => Ok(Reading::Legacy(view)),
+            Err(fault) => Err(legacy_line(number, fault)),
+        };
+    }
+    match view(octets) {
+        Ok(view) => Ok(Reading::Record(view)),
+        Err(fault) => Err(Line::Refused { number, fault }),
+    }
+}
+
 /// Reads a frame, which has this number. With a clock, a frame without the front of RFC 5424 is a
 /// legacy packet. It takes no memory.
 ///
@@ -59,47 +84,47 @@ fn legacy_line(number: u64, fault: MessageNotUtf8) -> Line
 /// The line that says why the frame is no record.
 #[inline(always)]
 pub fn read_frame<'a>(
-    clock: Option<LegacyClock>,
+    reading: FrameReading,
     number: u64,
     frame: &'a [u8],
 ) -> Result<Reading<'a>, Line>
-    ensures some { OnOk result ((r : Parts ℤ) × IsRecordOf clock r frame.now) }
-    ensures reading { IfOk result (λ reading. IsReadingOf clock frame.now reading) }
-    ensures refused { IfErr result (λ line. IsRefusedWith clock number frame.now line) }
+    ensures some { OnOk result ((r : Parts ℤ) × IsRecordOf reading r frame.now) }
+    ensures reading { IfOk result (λ read. IsReadingOf reading frame.now read) }
+    ensures refused { IfErr result (λ line. IsRefusedWith reading number frame.now line) }
 {
     if frame.len() > FRAME_MAX {
         return Err(Line::TooLong { number });
     }
-    if let Some(clock) = legacy_clock(clock, frame) {
-        return match legacy_view(&clock, frame) {
-            Ok(view) => Ok(Reading::Legacy(view)),
-            Err(fault) => Err(legacy_line(number, fault)),
+    read_octets(reading.clock, number, reading.octets(frame))
+}
+
+/// Why the octets of a frame, which has this number, are no record under a clock, where they are none.
+#[inline(always)]
+fn octets_refusal(clock: Option<LegacyClock>, number: u64, octets: &[u8]) -> Option<Line>
+    ensures { MatchOption result ((r : Parts ℤ) × IsReadAs clock r octets.now)
+        (λ line. IsNoRecord clock number octets.now line) }
+{
+    if let Some(clock) = legacy_clock(clock, octets) {
+        return match legacy_view(&clock, octets) {
+            Ok(_view) => None,
+            Err(fault) => Some(legacy_line(number, fault)),
         };
     }
-    match view(frame) {
-        Ok(view) => Ok(Reading::Record(view)),
-        Err(fault) => Err(Line::Refused { number, fault }),
-    }
+    let fault = fault_of(octets)?;
+    Some(Line::Refused { number, fault })
 }
 
 /// Why a frame, which has this number, is no record, where it is none: the line that [`read_frame`]
 /// answers, without what is read.
 #[inline(always)]
-pub fn refusal(clock: Option<LegacyClock>, number: u64, frame: &[u8]) -> Option<Line>
-    ensures { MatchOption result ((r : Parts ℤ) × IsRecordOf clock r frame.now)
-        (λ line. IsRefusedWith clock number frame.now line) }
+pub fn refusal(reading: FrameReading, number: u64, frame: &[u8]) -> Option<Line>
+    ensures { MatchOption result ((r : Parts ℤ) × IsRecordOf reading r frame.now)
+        (λ line. IsRefusedWith reading number frame.now line) }
 {
     if frame.len() > FRAME_MAX {
         return Some(Line::TooLong { number });
     }
-    if let Some(clock) = legacy_clock(clock, frame) {
-        return match legacy_view(&clock, frame) {
-            Ok(_view) => None,
-            Err(fault) => Some(legacy_line(number, fault)),
-        };
-    }
-    let fault = fault_of(frame)?;
-    Some(Line::Refused { number, fault })
+    octets_refusal(reading.clock, number, reading.octets(frame))
 }
 
 impl<'a> Reading<'a> {
@@ -108,8 +133,8 @@ impl<'a> Reading<'a> {
     /// # Errors
     /// Out of memory.
     pub fn to_record(&self, alloc: Global) -> Result<Record, AllocError>
-        ensures { IfOk result (λ r. (clock : Clock) (f : List ℕ) → IsReadingOf clock f self.now
-            → IsRecordOf clock r f) }
+        ensures { IfOk result (λ r. (way : FrameReading) (f : List ℕ) → IsReadingOf way f self.now
+            → IsRecordOf way r f) }
     {
         match self {
             Reading::Record(view) => view.to_record(alloc),
@@ -123,21 +148,42 @@ impl<'a> Reading<'a> {
 fn put_legacy(
     clock: &LegacyClock,
     number: u64,
-    frame: &[u8],
+    octets: &[u8],
     out: &mut Vec<u8>,
 ) -> Result<Option<Line>, AllocError>
-    requires few { length frame.now ≤ FRAME_MAX }
-    requires legacy { ¬ (HasNewForm frame.now) }
-    ensures ok { IfOk result (λ line. PutsReading (Some clock.now) number frame.now
+    requires { ¬ (HasNewForm octets.now) }
+    ensures ok { IfOk result (λ line. PutsOctets (Some clock.now) number octets.now
         out.old.items out.new.items line) }
     ensures err { OnErr result (out.new.items ≡ out.old.items) }
 {
-    match legacy_view(clock, frame) {
+    match legacy_view(clock, octets) {
         Ok(view) => {
             put_legacy_canonical(&view, out)?;
             Ok(None)
         }
         Err(fault) => Ok(Some(legacy_line(number, fault))),
+    }
+}
+
+/// Appends the canonical octets of the record that the octets of a frame are read as under a clock,
+/// if there is one; or gives the line that says why there is none.
+fn put_octets(
+    clock: Option<LegacyClock>,
+    number: u64,
+    octets: &[u8],
+    alloc: Global,
+    out: &mut Vec<u8>,
+) -> Result<Option<Line>, AllocError>
+    ensures ok { IfOk result (λ line. PutsOctets clock number octets.now
+        out.old.items out.new.items line) }
+    ensures err { OnErr result (out.new.items ≡ out.old.items) }
+{
+    if let Some(clock) = legacy_clock(clock, octets) {
+        return put_legacy(&clock, number, octets, out);
+    }
+    match write_canonical_octets(alloc, octets, out)? {
+        None => Ok(None),
+        Some(fault) => Ok(Some(Line::Refused { number, fault })),
     }
 }
 
@@ -150,24 +196,18 @@ fn put_legacy(
 /// # Errors
 /// Out of memory: nothing is appended.
 pub fn put_reading(
-    clock: Option<LegacyClock>,
+    reading: FrameReading,
     number: u64,
     frame: &[u8],
     alloc: Global,
     out: &mut Vec<u8>,
 ) -> Result<Option<Line>, AllocError>
-    ensures ok { IfOk result (λ line. PutsReading clock number frame.now
+    ensures ok { IfOk result (λ line. PutsReading reading number frame.now
         out.old.items out.new.items line) }
     ensures err { OnErr result (out.new.items ≡ out.old.items) }
 {
     if frame.len() > FRAME_MAX {
         return Ok(Some(Line::TooLong { number }));
     }
-    if let Some(clock) = legacy_clock(clock, frame) {
-        return put_legacy(&clock, number, frame, out);
-    }
-    match write_canonical_octets(alloc, frame, out)? {
-        None => Ok(None),
-        Some(fault) => Ok(Some(Line::Refused { number, fault })),
-    }
+    put_octets(reading.clock, number, reading.octets(frame), alloc, out)
 }

@@ -10,15 +10,15 @@ use crate::reading::read_frame;
 use crate::record_lines::put_record_lines;
 use driver::Effects;
 use std::alloc::{AllocError, Global};
-use syslog_legacy::LegacyClock;
+use syslog_legacy::FrameReading;
 
 /// Writes the fields of each record, and notes why a frame is no record.
 #[derive(Clone, Copy, Debug)]
 pub struct Show {
     /// The allocator for a record.
     pub alloc: Global,
-    /// The clock of legacy packets; None: every frame is read by RFC 5424.
-    pub clock: Option<LegacyClock>,
+    /// How frames are read.
+    pub reading: FrameReading,
 }
 
 impl FrameHandler for Show {
@@ -27,12 +27,12 @@ impl FrameHandler for Show {
     ghost use Rattle.frame_engine.specs.Showing.{show_handling};
     ghost use Rattle.frame_engine.specs.declared.line.Line.TheVariants.{TooLong};
 
-    ghost handles = { λ c. show_handling c.clock };
+    ghost handles = { λ c. show_handling c.reading };
 
     ghost reports = { λ _. noted_line };
 
     fn on_frame(&self, number: u64, frame: &[u8], effects: &mut Effects) -> Result<(), AllocError> {
-        match read_frame(self.clock, number, frame) {
+        match read_frame(self.reading, number, frame) {
             Ok(reading) => {
                 let record = reading.to_record(self.alloc)?;
                 put_record_lines(number, &record, &mut effects.output)

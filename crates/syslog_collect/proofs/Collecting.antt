@@ -9,8 +9,8 @@ use Rattle.syslog_collect.proofs.Steps.{still}
 -- nothing was accepted
 pub stays : {S : Type 0} (entries : S → List Entry) (c : Collector S) → GoesOn entries c c []
 stays entries c = record {
-  stands = λ first events was. still c.clock c.connections.items _ _ first events refl was;
-  clock = refl;
+  stands = λ first events was. still c.reading c.connections.items _ _ first events refl was;
+  reading = refl;
   room = omega arith;
 }
 
@@ -21,6 +21,6 @@ goes_on_then entries a b c es fs one two = record {
   stands = λ first events was.
       subst (λ (ts : List AcceptedEvent). Stands entries c first ts) (append_assoc events es fs)
       (two.stands first (events ++ es) (one.stands first events was));
-  clock = two.clock ∙ one.clock;
+  reading = two.reading ∙ one.reading;
   room = omega (arith, one.room, two.room);
 }

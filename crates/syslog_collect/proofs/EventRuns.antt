@@ -6,7 +6,7 @@ use Rattle.std.proofs.lemmas.List.{append-nil}
 use denote.Bor.{Bor}
 use Rattle.syslog_frame.specs.declared.framing.Framing.{Framing}
 use Rattle.archive_text.specs.Entries.{Entry}
-use Rattle.syslog_legacy.specs.FrameReadings.{Clock}
+use Rattle.syslog_legacy.specs.declared.frame_reading.FrameReading.{FrameReading}
 use Rattle.syslog_collect.specs.declared.connection.Connection.{Connection}
 use Rattle.syslog_collect.specs.declared.event.Event.{Event}
 use Rattle.syslog_collect.specs.declared.event.Event.TheVariants.{Opened as event_Opened, Piece as event_Piece}
@@ -42,26 +42,26 @@ pub with_octets_none : (s : Stream) → with_octets s [] ≡ s
 with_octets_none s = ap (λ (z : List ℕ). let t : Stream = record { number = s.number; framing = s.framing; octets = z }
     in t) (append-nil s.octets)
 
-on_of : (clock : Clock) (x y : Connection) (a b : List Entry) (o : List ℕ) (l m : List Outcome) (s : Stream)
-    (d : List (List ℕ)) → IsAt x s d → Logs clock x y a b o l m s d → AdvancesOn clock x y a b o (drop (length l) m) s d
-on_of clock x y a b o l m s d at (os, log, inl (none, same, kept, quiet)) = record {
+on_of : (way : FrameReading) (x y : Connection) (a b : List Entry) (o : List ℕ) (l m : List Outcome) (s : Stream)
+    (d : List (List ℕ)) → IsAt x s d → Logs way x y a b o l m s d → AdvancesOn way x y a b o (drop (length l) m) s d
+on_of way x y a b o l m s d at (os, log, inl (none, same, kept, quiet)) = record {
   fresh = [];
   now_at = subst (λ (u : List ℕ). IsAt y (with_octets s u) (d ++ [])) (sym none)
       (subst (λ (t : Stream). IsAt y t (d ++ [])) (sym (with_octets_none s))
       (subst (λ (fs : List (List ℕ)). IsAt y s fs) (sym (append-nil d))
       (subst (λ (w : Connection). IsAt w s d) (sym same) at)));
-  reported = subst (λ (u : List Outcome). AreReported clock a b [] u) (sym quiet ∙ grown l m os log) (refl, kept);
+  reported = subst (λ (u : List Outcome). AreReported way a b [] u) (sym quiet ∙ grown l m os log) (refl, kept);
 }
-on_of clock x y a b o l m s d at (os, log, inr moves) = record {
+on_of way x y a b o l m s d at (os, log, inr moves) = record {
   fresh = moves.fresh;
   now_at = moves.now_at;
-  reported = subst (λ (u : List Outcome). AreReported clock a b moves.fresh u) (grown l m os log) moves.reported;
+  reported = subst (λ (u : List Outcome). AreReported way a b moves.fresh u) (grown l m os log) moves.reported;
 }
 
-may_of : (clock : Clock) (x y : Connection) (a b : List Entry) (z : ℕ) (zs : List ℕ) (l m : List Outcome) (s : Stream)
-    (d : List (List ℕ)) → Logs clock x y a b (z ∷ zs) l m s d → MayContinue (z ∷ zs) s
-may_of clock x y a b z zs l m s d (os, log, inl (none, same, kept, quiet)) = absurd (cc)
-may_of clock x y a b z zs l m s d (os, log, inr moves) = moves.may
+may_of : (way : FrameReading) (x y : Connection) (a b : List Entry) (z : ℕ) (zs : List ℕ) (l m : List Outcome) (s : Stream)
+    (d : List (List ℕ)) → Logs way x y a b (z ∷ zs) l m s d → MayContinue (z ∷ zs) s
+may_of way x y a b z zs l m s d (os, log, inl (none, same, kept, quiet)) = absurd (cc)
+may_of way x y a b z zs l m s d (os, log, inr moves) = moves.may
 
 with_empty_piece : (c : ℕ) (ss : List Stream) → with_piece c [] ss ≡ ss
 with_empty_piece c [] = refl
@@ -71,49 +71,49 @@ with_empty_piece c (s ∷ ss) =
       | false ↦ ap (λ (zs : List Stream). s ∷ zs) (with_empty_piece c ss)
     ]
 
-pub logged_found : (clock : Clock) (c n : ℕ) (x y : Connection) (ls : List Connection) (kept now first : List Entry)
+pub logged_found : (way : FrameReading) (c n : ℕ) (x y : Connection) (ls : List Connection) (kept now first : List Entry)
     (es : List AcceptedEvent) (o : List ℕ) (l m : List Outcome)
     → place_from c 0 ls ≡ Some n → x ≡ get_or ls n x
-    → ((s : Stream) (d : List (List ℕ)) → IsAt x s d → Logs clock x y kept now o l m s d)
-    → Stands clock ls kept first es → Stands clock (set_at ls n y) now first (es ++ nonempty_piece c o)
-logged_found clock c n x y ls kept now first es [] l m is item logs was =
+    → ((s : Stream) (d : List (List ℕ)) → IsAt x s d → Logs way x y kept now o l m s d)
+    → Stands way ls kept first es → Stands way (set_at ls n y) now first (es ++ nonempty_piece c o)
+logged_found way c n x y ls kept now first es [] l m is item logs was =
     let h = history_of es in
-    let next = moved clock c n x y ls kept now first h [] (drop (length l) m) (found_here c n x ls is item)
-    (λ s d at. on_of clock x y kept now [] l m s d at (logs s d at)) was.stands_at in
+    let next = moved way c n x y ls kept now first h [] (drop (length l) m) (found_here c n x ls is item)
+    (λ s d at. on_of way x y kept now [] l m s d at (logs s d at)) was.stands_at in
     let same : accept h (Piece c []) ≡ h = ap (λ (ss : List Stream). let g : History =
     record { streams = ss; ended = h.ended; datagrams = h.datagrams } in g) (with_empty_piece c h.streams) in
     rw append-nil (record {
       acceptable = was.acceptable;
       stands_at =
-          subst (λ (g : History). StandsAt clock (set_at ls n y) now first g) same next;
+          subst (λ (g : History). StandsAt way (set_at ls n y) now first g) same next;
     })
-logged_found clock c n x y ls kept now first es (z ∷ zs) l m is item logs was =
+logged_found way c n x y ls kept now first es (z ∷ zs) l m is item logs was =
     let h = history_of es in
     let at = found_here c n x ls is item in
     let there = opening_at c n x ls h.streams was.stands_at.handled was.stands_at.follow at in
-    step clock ls (set_at ls n y) kept now first es (Piece c (z ∷ zs)) was
-    (rw there.is (may_of clock x y kept now z zs l m there.opening there.handled
+    step way ls (set_at ls n y) kept now first es (Piece c (z ∷ zs)) was
+    (rw there.is (may_of way x y kept now z zs l m there.opening there.handled
     (logs there.opening there.handled there.at)))
-    (moved clock c n x y ls kept now first h (z ∷ zs) (drop (length l) m) at
-    (λ s d a. on_of clock x y kept now (z ∷ zs) l m s d a (logs s d a)) was.stands_at)
+    (moved way c n x y ls kept now first h (z ∷ zs) (drop (length l) m) at
+    (λ s d a. on_of way x y kept now (z ∷ zs) l m s d a (logs s d a)) was.stands_at)
 
 -- a piece of the connection that was found, as far as it went
-pub piece_found : (clock : Clock) (c n : ℕ) (x y : Connection) (ls : List Connection) (kept now first : List Entry)
+pub piece_found : (way : FrameReading) (c n : ℕ) (x y : Connection) (ls : List Connection) (kept now first : List Entry)
     (es : List AcceptedEvent) (o : List ℕ) (r : EventEnd) (l m : List Outcome)
     → place_from c 0 ls ≡ Some n → x ≡ get_or ls n x
-    → ((s : Stream) (d : List (List ℕ)) → IsAt x s d → Logs clock x y kept now (piece_octets o r) l m s d)
-    → ((s : Stream) (d : List (List ℕ)) → IsAt x s d → IfDone r (LogsAdvance clock x y kept now o l m s d))
-    → Stands clock ls kept first es → Stands clock (set_at ls n y) now first (es ++ accepted_piece_end c o r)
-piece_found clock c n x y ls kept now first es o end_Done l m is item logs accepted was =
-    advance_step clock c n x y ls kept now first es o (drop (length l) m) (found_here c n x ls is item)
+    → ((s : Stream) (d : List (List ℕ)) → IsAt x s d → Logs way x y kept now (piece_octets o r) l m s d)
+    → ((s : Stream) (d : List (List ℕ)) → IsAt x s d → IfDone r (LogsAdvance way x y kept now o l m s d))
+    → Stands way ls kept first es → Stands way (set_at ls n y) now first (es ++ accepted_piece_end c o r)
+piece_found way c n x y ls kept now first es o end_Done l m is item logs accepted was =
+    advance_step way c n x y ls kept now first es o (drop (length l) m) (found_here c n x ls is item)
     (λ s d at. adv s d (accepted s d at)) was
   where
-    adv : (s : Stream) (d : List (List ℕ)) → LogsAdvance clock x y kept now o l m s d
-        → Advances clock x y kept now o (drop (length l) m) s d
-    adv s d (os, log, moves) = subst (λ (u : List Outcome). Advances clock x y kept now o u s d) (grown l m os log)
+    adv : (s : Stream) (d : List (List ℕ)) → LogsAdvance way x y kept now o l m s d
+        → Advances way x y kept now o (drop (length l) m) s d
+    adv s d (os, log, moves) = subst (λ (u : List Outcome). Advances way x y kept now o u s d) (grown l m os log)
         moves
-piece_found clock c n x y ls kept now first es o (end_Stopped k fault) l m is item logs accepted was =
-    logged_found clock c n x y ls kept now first es (take k o) l m is item logs was
+piece_found way c n x y ls kept now first es o (end_Stopped k fault) l m is item logs accepted was =
+    logged_found way c n x y ls kept now first es (take k o) l m is item logs was
 
 -- ---- events
 

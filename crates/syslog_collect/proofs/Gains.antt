@@ -2,13 +2,14 @@
 use Rattle.std.proofs.Common.{◌≡◌, ℕ, List, [], ◌∷◌, ◌++◌, inl, inr, refl, sym, ap, ◌∙◌, subst, append_assoc, arith}
 use Rattle.std.specs.Prelude.{◌⊎◌, ◌↔◌}
 use Rattle.archive_text.specs.Entries.{Entry, Has, IsEntryOf}
-use Rattle.syslog_legacy.specs.FrameReadings.{Clock}
+use Rattle.syslog_legacy.specs.declared.frame_reading.FrameReading.{FrameReading}
 use Rattle.syslog_collect.specs.declared.outcome.Outcome.{Outcome}
 use Rattle.syslog_collect.specs.declared.outcome.Outcome.TheVariants.{New, Held, Refused, RefusedLegacy, TooLong}
 use Rattle.syslog_collect.specs.declared.outcome.Outcome.TheVariants.{BadCount}
 use Rattle.syslog_collect.specs.Frames.{Gains, IsEntryOfFrame, IsSpelled, all_of}
 use Rattle.syslog_collect.specs.Outcomes.{AreReported, IsOutcome, IsReported}
-use Rattle.syslog_collect.proofs.OneReading.{not_read, not_utf8, one_entry}
+use Rattle.syslog_legacy.proofs.FrameReadings.{not_utf8}
+use Rattle.syslog_collect.proofs.OneReading.{not_read, one_entry}
 
 -- ---- lists of entries
 
@@ -29,86 +30,86 @@ has_here (z ∷ a) b e = inr (has_here a b e)
 
 -- ---- lists of frames
 
-pub spelled_either : (clock : Clock) (fs gs : List (List ℕ)) (x : Entry) → IsSpelled clock (fs ++ gs) x
-    → IsSpelled clock fs x ⊎ IsSpelled clock gs x
-spelled_either clock [] gs x h = inr h
-spelled_either clock (f ∷ fs) gs x (inl h) = inl (inl h)
-spelled_either clock (f ∷ fs) gs x (inr h) =
-    elim (spelled_either clock fs gs x h) [ inl a ↦ inl (inr a) | inr b ↦ inr b ]
+pub spelled_either : (way : FrameReading) (fs gs : List (List ℕ)) (x : Entry) → IsSpelled way (fs ++ gs) x
+    → IsSpelled way fs x ⊎ IsSpelled way gs x
+spelled_either way [] gs x h = inr h
+spelled_either way (f ∷ fs) gs x (inl h) = inl (inl h)
+spelled_either way (f ∷ fs) gs x (inr h) =
+    elim (spelled_either way fs gs x h) [ inl a ↦ inl (inr a) | inr b ↦ inr b ]
 
-pub spelled_before : (clock : Clock) (fs gs : List (List ℕ)) (x : Entry) → IsSpelled clock fs x
-    → IsSpelled clock (fs ++ gs) x
-spelled_before clock [] gs x h = absurd h
-spelled_before clock (f ∷ fs) gs x (inl h) = inl h
-spelled_before clock (f ∷ fs) gs x (inr h) = inr (spelled_before clock fs gs x h)
+pub spelled_before : (way : FrameReading) (fs gs : List (List ℕ)) (x : Entry) → IsSpelled way fs x
+    → IsSpelled way (fs ++ gs) x
+spelled_before way [] gs x h = absurd h
+spelled_before way (f ∷ fs) gs x (inl h) = inl h
+spelled_before way (f ∷ fs) gs x (inr h) = inr (spelled_before way fs gs x h)
 
-pub spelled_after : (clock : Clock) (fs gs : List (List ℕ)) (x : Entry) → IsSpelled clock gs x
-    → IsSpelled clock (fs ++ gs) x
-spelled_after clock [] gs x h = h
-spelled_after clock (f ∷ fs) gs x h = inr (spelled_after clock fs gs x h)
+pub spelled_after : (way : FrameReading) (fs gs : List (List ℕ)) (x : Entry) → IsSpelled way gs x
+    → IsSpelled way (fs ++ gs) x
+spelled_after way [] gs x h = h
+spelled_after way (f ∷ fs) gs x h = inr (spelled_after way fs gs x h)
 
 -- the first list spells what the other two do
-abbrev pub Joins : Clock → List (List ℕ) → List (List ℕ) → List (List ℕ) → Type 0
-Joins clock gs fs fresh = (x : Entry) → IsSpelled clock gs x ↔ (IsSpelled clock fs x ⊎ IsSpelled clock fresh x)
+abbrev pub Joins : FrameReading → List (List ℕ) → List (List ℕ) → List (List ℕ) → Type 0
+Joins way gs fs fresh = (x : Entry) → IsSpelled way gs x ↔ (IsSpelled way fs x ⊎ IsSpelled way fresh x)
 
-pub joins_append : (clock : Clock) (fs fresh : List (List ℕ)) → Joins clock (fs ++ fresh) fs fresh
-joins_append clock fs fresh x = (
-  spelled_either clock fs fresh x,
+pub joins_append : (way : FrameReading) (fs fresh : List (List ℕ)) → Joins way (fs ++ fresh) fs fresh
+joins_append way fs fresh x = (
+  spelled_either way fs fresh x,
   λ h.
-      elim h [ inl a ↦ spelled_before clock fs fresh x a | inr b ↦ spelled_after clock fs fresh x b ],
+      elim h [ inl a ↦ spelled_before way fs fresh x a | inr b ↦ spelled_after way fs fresh x b ],
 )
 
-pub joins_before : (clock : Clock) (gs fs fresh past : List (List ℕ)) → Joins clock gs fs fresh
-    → Joins clock (gs ++ past) (fs ++ past) fresh
-joins_before clock gs fs fresh past j x = (
-  λ h. elim (spelled_either clock gs past x h) [
-    | inl g ↦ elim ((j x).0 g) [ inl f ↦ inl (spelled_before clock fs past x f) | inr n ↦ inr n ]
-    | inr p ↦ inl (spelled_after clock fs past x p)
+pub joins_before : (way : FrameReading) (gs fs fresh past : List (List ℕ)) → Joins way gs fs fresh
+    → Joins way (gs ++ past) (fs ++ past) fresh
+joins_before way gs fs fresh past j x = (
+  λ h. elim (spelled_either way gs past x h) [
+    | inl g ↦ elim ((j x).0 g) [ inl f ↦ inl (spelled_before way fs past x f) | inr n ↦ inr n ]
+    | inr p ↦ inl (spelled_after way fs past x p)
   ],
   λ h. elim h [
-    | inl a ↦ elim (spelled_either clock fs past x a)
-        [ inl f ↦ spelled_before clock gs past x ((j x).1 (inl f)) | inr p ↦ spelled_after clock gs past x p ]
-    | inr n ↦ spelled_before clock gs past x ((j x).1 (inr n))
+    | inl a ↦ elim (spelled_either way fs past x a)
+        [ inl f ↦ spelled_before way gs past x ((j x).1 (inl f)) | inr p ↦ spelled_after way gs past x p ]
+    | inr n ↦ spelled_before way gs past x ((j x).1 (inr n))
   ],
 )
 
-pub joins_after : (clock : Clock) (past gs fs fresh : List (List ℕ)) → Joins clock gs fs fresh
-    → Joins clock (past ++ gs) (past ++ fs) fresh
-joins_after clock past gs fs fresh j x = (
-  λ h. elim (spelled_either clock past gs x h) [
-    | inl p ↦ inl (spelled_before clock past fs x p)
-    | inr g ↦ elim ((j x).0 g) [ inl f ↦ inl (spelled_after clock past fs x f) | inr n ↦ inr n ]
+pub joins_after : (way : FrameReading) (past gs fs fresh : List (List ℕ)) → Joins way gs fs fresh
+    → Joins way (past ++ gs) (past ++ fs) fresh
+joins_after way past gs fs fresh j x = (
+  λ h. elim (spelled_either way past gs x h) [
+    | inl p ↦ inl (spelled_before way past fs x p)
+    | inr g ↦ elim ((j x).0 g) [ inl f ↦ inl (spelled_after way past fs x f) | inr n ↦ inr n ]
   ],
   λ h. elim h [
-    | inl a ↦ elim (spelled_either clock past fs x a)
-        [ inl p ↦ spelled_before clock past gs x p | inr f ↦ spelled_after clock past gs x ((j x).1 (inl f)) ]
-    | inr n ↦ spelled_after clock past gs x ((j x).1 (inr n))
+    | inl a ↦ elim (spelled_either way past fs x a)
+        [ inl p ↦ spelled_before way past gs x p | inr f ↦ spelled_after way past gs x ((j x).1 (inl f)) ]
+    | inr n ↦ spelled_after way past gs x ((j x).1 (inr n))
   ],
 )
 
 -- two lists spell the same
-abbrev pub SpellSame : Clock → List (List ℕ) → List (List ℕ) → Type 0
-SpellSame clock fs gs = (x : Entry) → IsSpelled clock fs x ↔ IsSpelled clock gs x
+abbrev pub SpellSame : FrameReading → List (List ℕ) → List (List ℕ) → Type 0
+SpellSame way fs gs = (x : Entry) → IsSpelled way fs x ↔ IsSpelled way gs x
 
 -- ---- what a store gains
 
-pub gains_nothing : (clock : Clock) (kept : List Entry) → Gains clock kept kept []
-gains_nothing clock kept x = (λ h. inl h, λ h. elim h [ inl a ↦ a | inr b ↦ absurd b ])
+pub gains_nothing : (way : FrameReading) (kept : List Entry) → Gains way kept kept []
+gains_nothing way kept x = (λ h. inl h, λ h. elim h [ inl a ↦ a | inr b ↦ absurd b ])
 
-pub gains_same : (clock : Clock) (old new : List Entry) → new ≡ old → Gains clock old new []
-gains_same clock old new same = subst (λ (z : List Entry). Gains clock old z []) (sym same) (gains_nothing clock old)
+pub gains_same : (way : FrameReading) (old new : List Entry) → new ≡ old → Gains way old new []
+gains_same way old new same = subst (λ (z : List Entry). Gains way old z []) (sym same) (gains_nothing way old)
 
-pub gains_also : (clock : Clock) (first kept : List Entry) (fs gs : List (List ℕ)) → Gains clock first kept fs
-    → SpellSame clock fs gs → Gains clock first kept gs
-gains_also clock first kept fs gs g same x = (
+pub gains_also : (way : FrameReading) (first kept : List Entry) (fs gs : List (List ℕ)) → Gains way first kept fs
+    → SpellSame way fs gs → Gains way first kept gs
+gains_also way first kept fs gs g same x = (
   λ h. elim ((g x).0 h) [ inl a ↦ inl a | inr b ↦ inr ((same x).0 b) ],
   λ h. elim h [ inl a ↦ (g x).1 (inl a) | inr b ↦ (g x).1 (inr ((same x).1 b)) ],
 )
 
 -- frames more
-pub gains_more : (clock : Clock) (first kept now : List Entry) (fs gs fresh : List (List ℕ)) → Gains clock first kept fs
-    → Gains clock kept now fresh → Joins clock gs fs fresh → Gains clock first now gs
-gains_more clock first kept now fs gs fresh g n j x = (
+pub gains_more : (way : FrameReading) (first kept now : List Entry) (fs gs fresh : List (List ℕ)) → Gains way first kept fs
+    → Gains way kept now fresh → Joins way gs fs fresh → Gains way first now gs
+gains_more way first kept now fs gs fresh g n j x = (
   λ h. elim ((n x).0 h) [
     | inl k ↦ elim ((g x).0 k) [ inl a ↦ inl a | inr b ↦ inr ((j x).1 (inl b)) ]
     | inr f ↦ inr ((j x).1 (inr f))
@@ -119,78 +120,78 @@ gains_more clock first kept now fs gs fresh g n j x = (
   ],
 )
 
-pub gains_then : (clock : Clock) (first kept now : List Entry) (fs fresh : List (List ℕ)) → Gains clock first kept fs
-    → Gains clock kept now fresh → Gains clock first now (fs ++ fresh)
-gains_then clock first kept now fs fresh g n =
-    gains_more clock first kept now fs (fs ++ fresh) fresh g n (joins_append clock fs fresh)
+pub gains_then : (way : FrameReading) (first kept now : List Entry) (fs fresh : List (List ℕ)) → Gains way first kept fs
+    → Gains way kept now fresh → Gains way first now (fs ++ fresh)
+gains_then way first kept now fs fresh g n =
+    gains_more way first kept now fs (fs ++ fresh) fresh g n (joins_append way fs fresh)
 
-one_of : (clock : Clock) (f : List ℕ) (x : Entry) → IsSpelled clock (f ∷ []) x → IsEntryOfFrame clock f x
-one_of clock f x (inl h) = h
-one_of clock f x (inr h) = absurd h
+one_of : (way : FrameReading) (f : List ℕ) (x : Entry) → IsSpelled way (f ∷ []) x → IsEntryOfFrame way f x
+one_of way f x (inl h) = h
+one_of way f x (inr h) = absurd h
 
 -- a frame's outcome
-pub gains_frame : (clock : Clock) (old new : List Entry) (f : List ℕ) (o : Outcome) → IsOutcome clock old new f o
-    → Gains clock old new (f ∷ [])
-gains_frame clock old new f New (le, (r, wf, (e, entry, (absent, (a, b, was, now))))) x = (
+pub gains_frame : (way : FrameReading) (old new : List Entry) (f : List ℕ) (o : Outcome) → IsOutcome way old new f o
+    → Gains way old new (f ∷ [])
+gains_frame way old new f New (le, (r, wf, (e, entry, (absent, (a, b, was, now))))) x = (
   λ h. elim (has_other a b e x (subst (λ (z : List Entry). Has z x) now h)) [
     | inl k ↦ inl (subst (λ (z : List Entry). Has z x) (sym was) k)
     | inr same ↦ inr (inl (le, (r, wf, subst (λ (z : Entry). IsEntryOf r z) same entry)))
   ],
   λ h. subst (λ (z : List Entry). Has z x) (sym now) (elim h [
     | inl k ↦ has_still a b e x (subst (λ (z : List Entry). Has z x) was k)
-    | inr s ↦ let w = one_of clock f x s in subst (λ (z : Entry). Has (a ++ e ∷ b) z)
-        (one_entry clock f r w.1.0 e x wf w.1.1 entry w.1.2) (has_here a b e)
+    | inr s ↦ let w = one_of way f x s in subst (λ (z : Entry). Has (a ++ e ∷ b) z)
+        (one_entry way f r w.1.0 e x wf w.1.1 entry w.1.2) (has_here a b e)
   ]),
 )
-gains_frame clock old new f Held (le, (r, wf, (e, entry, (held, same)))) x = (
+gains_frame way old new f Held (le, (r, wf, (e, entry, (held, same)))) x = (
   λ h. inl (subst (λ (z : List Entry). Has z x) same h),
   λ h. subst (λ (z : List Entry). Has z x) (sym same) (elim h [
     | inl k ↦ k
-    | inr s ↦ let w = one_of clock f x s in subst (λ (z : Entry). Has old z)
-        (one_entry clock f r w.1.0 e x wf w.1.1 entry w.1.2) held
+    | inr s ↦ let w = one_of way f x s in subst (λ (z : Entry). Has old z)
+        (one_entry way f r w.1.0 e x wf w.1.1 entry w.1.2) held
   ]),
 )
-gains_frame clock old new f (Refused fault) (le, form, is, none, same) x = (
+gains_frame way old new f (Refused fault) (le, form, is, none, same) x = (
   λ h. inl (subst (λ (z : List Entry). Has z x) same h),
   λ h. subst (λ (z : List Entry). Has z x) (sym same)
-      (elim h [ inl k ↦ k | inr s ↦ let w = one_of clock f x s in absurd (not_read clock f w.1.0 form none w.1.1) ]),
+      (elim h [ inl k ↦ k | inr s ↦ let w = one_of way f x s in absurd (not_read way f w.1.0 form none w.1.1) ]),
 )
-gains_frame clock old new f (RefusedLegacy offset) (le, stops, same) x = (
+gains_frame way old new f (RefusedLegacy offset) (le, stops, same) x = (
   λ h. inl (subst (λ (z : List Entry). Has z x) same h),
   λ h. subst (λ (z : List Entry). Has z x) (sym same)
-      (elim h [ inl k ↦ k | inr s ↦ let w = one_of clock f x s in absurd (not_utf8 clock f w.1.0 offset stops w.1.1) ]),
+      (elim h [ inl k ↦ k | inr s ↦ let w = one_of way f x s in absurd (not_utf8 way f w.1.0 offset stops w.1.1) ]),
 )
-gains_frame clock old new f TooLong (lt, same) x = (
+gains_frame way old new f TooLong (lt, same) x = (
   λ h. inl (subst (λ (z : List Entry). Has z x) same h),
   λ h. subst (λ (z : List Entry). Has z x) (sym same)
-      (elim h [ inl k ↦ k | inr s ↦ let w = one_of clock f x s in absurd (omega (arith, lt, w.0)) ]),
+      (elim h [ inl k ↦ k | inr s ↦ let w = one_of way f x s in absurd (omega (arith, lt, w.0)) ]),
 )
-gains_frame clock old new f (BadCount at) h x = absurd h
+gains_frame way old new f (BadCount at) h x = absurd h
 
-gains_one : (clock : Clock) (old new : List Entry) (fs : List (List ℕ)) (o : Outcome) → IsReported clock old new fs o
-    → Gains clock old new fs
-gains_one clock old new fs (BadCount at) (none, same) =
-    subst (λ (z : List (List ℕ)). Gains clock old new z) (sym none) (gains_same clock old new same)
-gains_one clock old new fs New (f, is, out) =
-    subst (λ (z : List (List ℕ)). Gains clock old new z) (sym is) (gains_frame clock old new f New out)
-gains_one clock old new fs Held (f, is, out) =
-    subst (λ (z : List (List ℕ)). Gains clock old new z) (sym is) (gains_frame clock old new f Held out)
-gains_one clock old new fs (Refused fault) (f, is, out) =
-    subst (λ (z : List (List ℕ)). Gains clock old new z) (sym is) (gains_frame clock old new f (Refused fault) out)
-gains_one clock old new fs (RefusedLegacy offset) (f, is, out) =
-    subst (λ (z : List (List ℕ)). Gains clock old new z) (sym is)
-    (gains_frame clock old new f (RefusedLegacy offset) out)
-gains_one clock old new fs TooLong (f, is, out) =
-    subst (λ (z : List (List ℕ)). Gains clock old new z) (sym is) (gains_frame clock old new f TooLong out)
+gains_one : (way : FrameReading) (old new : List Entry) (fs : List (List ℕ)) (o : Outcome) → IsReported way old new fs o
+    → Gains way old new fs
+gains_one way old new fs (BadCount at) (none, same) =
+    subst (λ (z : List (List ℕ)). Gains way old new z) (sym none) (gains_same way old new same)
+gains_one way old new fs New (f, is, out) =
+    subst (λ (z : List (List ℕ)). Gains way old new z) (sym is) (gains_frame way old new f New out)
+gains_one way old new fs Held (f, is, out) =
+    subst (λ (z : List (List ℕ)). Gains way old new z) (sym is) (gains_frame way old new f Held out)
+gains_one way old new fs (Refused fault) (f, is, out) =
+    subst (λ (z : List (List ℕ)). Gains way old new z) (sym is) (gains_frame way old new f (Refused fault) out)
+gains_one way old new fs (RefusedLegacy offset) (f, is, out) =
+    subst (λ (z : List (List ℕ)). Gains way old new z) (sym is)
+    (gains_frame way old new f (RefusedLegacy offset) out)
+gains_one way old new fs TooLong (f, is, out) =
+    subst (λ (z : List (List ℕ)). Gains way old new z) (sym is) (gains_frame way old new f TooLong out)
 
-pub gains_reported : (clock : Clock) (old new : List Entry) (fs : List (List ℕ)) (os : List Outcome)
-    → AreReported clock old new fs os → Gains clock old new fs
-gains_reported clock old new fs [] (none, same) =
-    subst (λ (z : List (List ℕ)). Gains clock old new z) (sym none) (gains_same clock old new same)
-gains_reported clock old new fs (o ∷ os) (here, later, mid, is, one, rest) =
-    subst (λ (z : List (List ℕ)). Gains clock old new z) (sym is)
-    (gains_then clock old mid new here later (gains_one clock old mid here o one)
-    (gains_reported clock mid new later os rest))
+pub gains_reported : (way : FrameReading) (old new : List Entry) (fs : List (List ℕ)) (os : List Outcome)
+    → AreReported way old new fs os → Gains way old new fs
+gains_reported way old new fs [] (none, same) =
+    subst (λ (z : List (List ℕ)). Gains way old new z) (sym none) (gains_same way old new same)
+gains_reported way old new fs (o ∷ os) (here, later, mid, is, one, rest) =
+    subst (λ (z : List (List ℕ)). Gains way old new z) (sym is)
+    (gains_then way old mid new here later (gains_one way old mid here o one)
+    (gains_reported way mid new later os rest))
 
 -- lists of lists, one after the other
 pub all_of-append : (fs gs : List (List (List ℕ))) → all_of (fs ++ gs) ≡ all_of fs ++ all_of gs

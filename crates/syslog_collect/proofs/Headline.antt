@@ -12,7 +12,7 @@ use Rattle.archive_text.specs.Entries.{Entry, Has}
 use Rattle.archive_text.specs.Sets.{IsUnionOfEntries}
 use Rattle.archive_text.specs.Text.{IsArchive}
 use Rattle.archive_text.proofs.Ascending.{same_members}
-use Rattle.syslog_legacy.specs.FrameReadings.{Clock}
+use Rattle.syslog_legacy.specs.declared.frame_reading.FrameReading.{FrameReading}
 use Rattle.syslog_collect.specs.declared.connection.Connection.{Connection}
 use Rattle.syslog_collect.specs.Frames.{AreFramesOf, HasFrames, IsFramesOf, IsReceived, IsSpelled, all_of}
 use Rattle.syslog_collect.specs.Headline.{IsSettled, ReceivedBoth, ReceivedSame}
@@ -57,17 +57,17 @@ first_settled x xs none = λ f. one_no (ready_count x.scanner.phase) (ready_some
     (first_waits x xs (none x.number))
 
 -- and since the open numbers differ, no other has
-each_settled : (clock : Clock) (cs : List Connection) (kept first : List Entry) (es : List AcceptedEvent)
-    → Stands clock cs kept first es → IsSettled cs → AreSettled cs
-each_settled clock [] kept first es was none = tt
-each_settled clock (x ∷ xs) kept first es was none =
+each_settled : (way : FrameReading) (cs : List Connection) (kept first : List Entry) (es : List AcceptedEvent)
+    → Stands way cs kept first es → IsSettled cs → AreSettled cs
+each_settled way [] kept first es was none = tt
+each_settled way (x ∷ xs) kept first es was none =
     let ready = first_waits x xs (none x.number) in
     let handled : IsHandled x = λ s d at. one_settled x s d at (first_settled x xs none) in
     let is = first_place x xs in
-    let later : (d : ℕ) → waiting xs d ≡ 0 = λ d. waiting_closed clock x.number 0 x (x ∷ xs) kept first es is refl ready
+    let later : (d : ℕ) → waiting xs d ≡ 0 = λ d. waiting_closed way x.number 0 x (x ∷ xs) kept first es is refl ready
     handled was d ∙ none d in
-    let stands = close_found clock x.number 0 x (x ∷ xs) kept first es is refl handled was in
-    (first_settled x xs none, each_settled clock xs kept first (es ++ Ended x.number ∷ []) stands later)
+    let stands = close_found way x.number 0 x (x ∷ xs) kept first es is refl handled was in
+    (first_settled x xs none, each_settled way xs kept first (es ++ Ended x.number ∷ []) stands later)
 
 all_settled : (cs : List Connection) (ss : List Stream) (ds : List (List (List ℕ))) → AreAt cs ss ds → AreSettled cs
     → AreFramesOf ss ds
@@ -99,9 +99,9 @@ one_history h fs gs a b =
     ∙ ap (λ (z : List (List (List ℕ))). all_of b.open_frames ++ (all_of z ++ h.datagrams))
     (one_each h.ended a.ended_frames b.ended_frames a.ended_are b.ended_are) ∙ sym b.all
 
-pub holds_received : (clock : Clock) (cs : List Connection) (kept first : List Entry) (es : List AcceptedEvent)
-    → Stands clock cs kept first es → IsSettled cs → (x : Entry) → Has kept x ↔ (Has first x ⊎ IsReceived clock es x)
-holds_received clock cs kept first es was settled x =
+pub holds_received : (way : FrameReading) (cs : List Connection) (kept first : List Entry) (es : List AcceptedEvent)
+    → Stands way cs kept first es → IsSettled cs → (x : Entry) → Has kept x ↔ (Has first x ⊎ IsReceived way es x)
+holds_received way cs kept first es was settled x =
     let h = history_of es in
     let sa = was.stands_at in
     let fs = all_of sa.handled ++ (all_of sa.ended_frames ++ h.datagrams) in
@@ -109,7 +109,7 @@ holds_received clock cs kept first es was settled x =
       open_frames = sa.handled;
       ended_frames = sa.ended_frames;
       open_are =
-          all_settled cs h.streams sa.handled sa.follow (each_settled clock cs kept first es was settled);
+          all_settled cs h.streams sa.handled sa.follow (each_settled way cs kept first es was settled);
       ended_are = sa.ended_are;
       all = refl;
     } in (
@@ -117,45 +117,45 @@ holds_received clock cs kept first es was settled x =
       λ k. elim k [
         | inl a ↦ (sa.gains x).1 (inl a)
         | inr (gs, others, b) ↦ (sa.gains x).1 (inr
-            (subst (λ (z : List (List ℕ)). IsSpelled clock z x) (one_history h gs fs others are) b))
+            (subst (λ (z : List (List ℕ)). IsSpelled way z x) (one_history h gs fs others are) b))
       ],
     )
 
 -- over an empty store, just what was received
-pub holds_just : (clock : Clock) (cs : List Connection) (kept : List Entry) (es : List AcceptedEvent)
-    → Stands clock cs kept [] es → IsSettled cs → (x : Entry) → Has kept x ↔ IsReceived clock es x
-holds_just clock cs kept es was settled x =
-    let h = holds_received clock cs kept [] es was settled x in (
+pub holds_just : (way : FrameReading) (cs : List Connection) (kept : List Entry) (es : List AcceptedEvent)
+    → Stands way cs kept [] es → IsSettled cs → (x : Entry) → Has kept x ↔ IsReceived way es x
+holds_just way cs kept es was settled x =
+    let h = holds_received way cs kept [] es was settled x in (
       λ k. elim (h.0 k) [ inl a ↦ absurd a | inr b ↦ b ],
       λ r. h.1 (inr r),
     )
 
 -- two settled collectors that received the same hold the same entries
-pub same_entries : (clock : Clock) (most : ℕ) (cs ds : List Connection) (kept other : List Entry)
+pub same_entries : (way : FrameReading) (most : ℕ) (cs ds : List Connection) (kept other : List Entry)
     (es fs : List AcceptedEvent) → IsArchive most kept → IsArchive most other
-    → Stands clock cs kept [] es → Stands clock ds other [] fs → IsSettled cs → IsSettled ds → ReceivedSame clock es fs
+    → Stands way cs kept [] es → Stands way ds other [] fs → IsSettled cs → IsSettled ds → ReceivedSame way es fs
     → kept ≡ other
-same_entries clock most cs ds kept other es fs a b one two settled settled_too same =
+same_entries way most cs ds kept other es fs a b one two settled settled_too same =
     same_members kept other a.ascending b.ascending
-    (λ x k. (holds_just clock ds other fs two settled_too x).1
-    ((same x).0 ((holds_just clock cs kept es one settled x).0 k)))
-    (λ x k. (holds_just clock cs kept es one settled x).1
-    ((same x).1 ((holds_just clock ds other fs two settled_too x).0 k)))
+    (λ x k. (holds_just way ds other fs two settled_too x).1
+    ((same x).0 ((holds_just way cs kept es one settled x).0 k)))
+    (λ x k. (holds_just way cs kept es one settled x).1
+    ((same x).1 ((holds_just way ds other fs two settled_too x).0 k)))
 
 -- the entries of two settled collectors together are those of a third that received what they did
-pub union_entries : (clock : Clock) (most : ℕ) (cs ds bs : List Connection) (kept other all merged : List Entry)
+pub union_entries : (way : FrameReading) (most : ℕ) (cs ds bs : List Connection) (kept other all merged : List Entry)
     (es fs gs : List AcceptedEvent) → IsArchive most all → IsArchive most merged
-    → Stands clock cs kept [] es → Stands clock ds other [] fs → Stands clock bs all [] gs → IsSettled cs → IsSettled ds
+    → Stands way cs kept [] es → Stands way ds other [] fs → Stands way bs all [] gs → IsSettled cs → IsSettled ds
     → IsSettled bs
-    → ReceivedBoth clock gs es fs → IsUnionOfEntries kept other merged → merged ≡ all
-union_entries clock most cs ds bs kept other all merged es fs gs a b one two three settled settled_too settled_three
+    → ReceivedBoth way gs es fs → IsUnionOfEntries kept other merged → merged ≡ all
+union_entries way most cs ds bs kept other all merged es fs gs a b one two three settled settled_too settled_three
     received union =
     same_members merged all b.ascending a.ascending
-    (λ x k. (holds_just clock bs all gs three settled_three x).1 ((received x).1 (elim ((union x).0 k) [
-      | inl p ↦ inl ((holds_just clock cs kept es one settled x).0 p)
-      | inr q ↦ inr ((holds_just clock ds other fs two settled_too x).0 q)
+    (λ x k. (holds_just way bs all gs three settled_three x).1 ((received x).1 (elim ((union x).0 k) [
+      | inl p ↦ inl ((holds_just way cs kept es one settled x).0 p)
+      | inr q ↦ inr ((holds_just way ds other fs two settled_too x).0 q)
     ])))
-    (λ x k. (union x).1 (elim ((received x).0 ((holds_just clock bs all gs three settled_three x).0 k)) [
-      | inl p ↦ inl ((holds_just clock cs kept es one settled x).1 p)
-      | inr q ↦ inr ((holds_just clock ds other fs two settled_too x).1 q)
+    (λ x k. (union x).1 (elim ((received x).0 ((holds_just way bs all gs three settled_three x).0 k)) [
+      | inl p ↦ inl ((holds_just way cs kept es one settled x).1 p)
+      | inr q ↦ inr ((holds_just way ds other fs two settled_too x).1 q)
     ]))

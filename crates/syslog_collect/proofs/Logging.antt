@@ -4,7 +4,7 @@ use Rattle.std.proofs.Common.{take, inl, inr, append_assoc, refl, sym, ◌∙◌
 use Rattle.std.specs.Prelude.{Some, Result, Ok, Err, IfOk, OnOk}
 use denote.Bor.{Bor}
 use Rattle.syslog_frame.specs.declared.framing.Framing.{Framing}
-use Rattle.syslog_legacy.specs.FrameReadings.{Clock}
+use Rattle.syslog_legacy.specs.declared.frame_reading.FrameReading.{FrameReading}
 use Rattle.syslog_collect.specs.declared.event.Event.{Event}
 use Rattle.syslog_collect.specs.declared.event.Event.TheVariants.{Opened as event_Opened, Piece as event_Piece}
 use Rattle.syslog_collect.specs.declared.event.Event.TheVariants.{Ended as event_Ended, Datagram as event_Datagram}
@@ -33,10 +33,10 @@ use Rattle.syslog_collect.proofs.Waiting.{frames_waiting, place_set, ready_none,
 
 -- ---- octets of one connection
 
-pub logs_octets : (clock : Clock) (x y : Connection) (a b : List Entry) (o : List ℕ) (os : List Outcome) (s : Stream)
-    (d : List (List ℕ)) → IsAt x s d → Advances clock x y a b o os s d
-    → LogsOctets clock s o (ready_count x.scanner.phase) (ready_count y.scanner.phase) a b os
-logs_octets clock x y a b o os s d at moves =
+pub logs_octets : (way : FrameReading) (x y : Connection) (a b : List Entry) (o : List ℕ) (os : List Outcome) (s : Stream)
+    (d : List (List ℕ)) → IsAt x s d → Advances way x y a b o os s d
+    → LogsOctets way s o (ready_count x.scanner.phase) (ready_count y.scanner.phase) a b os
+logs_octets way x y a b o os s d at moves =
     let before = frames_waiting x s d at in
     let now = frames_waiting y (with_octets s o) (d ++ moves.fresh) moves.now_at in
     record {
@@ -55,61 +55,61 @@ logs_octets clock x y a b o os s d at moves =
     }
 
 -- the same by the numbers
-logs_there : (clock : Clock) (c n : ℕ) (x y : Connection) (ls : List Connection) (a b : List Entry) (o : List ℕ)
+logs_there : (way : FrameReading) (c n : ℕ) (x y : Connection) (ls : List Connection) (a b : List Entry) (o : List ℕ)
     (os : List Outcome) (s : Stream) (d : List (List ℕ)) → AtPlace c ls n x → IsAt x s d
-    → Advances clock x y a b o os s d
-    → LogsOctets clock s o (waiting ls c) (ready_count y.scanner.phase) a b os
-logs_there clock c n x y ls a b o os s d here at moves =
-    subst (λ (w : ℕ). LogsOctets clock s o w (ready_count y.scanner.phase) a b os) (sym (waiting_at c n x ls here))
-    (logs_octets clock x y a b o os s d at moves)
+    → Advances way x y a b o os s d
+    → LogsOctets way s o (waiting ls c) (ready_count y.scanner.phase) a b os
+logs_there way c n x y ls a b o os s d here at moves =
+    subst (λ (w : ℕ). LogsOctets way s o w (ready_count y.scanner.phase) a b os) (sym (waiting_at c n x ls here))
+    (logs_octets way x y a b o os s d at moves)
 
 -- after an advance that answers Ok, its outcome is that of the frame that waited, or of the next
-pub reports_found : (clock : Clock) (c n : ℕ) (x y : Connection) (ls : List Connection) (kept now first : List Entry)
+pub reports_found : (way : FrameReading) (c n : ℕ) (x y : Connection) (ls : List Connection) (kept now first : List Entry)
     (es : List AcceptedEvent) (piece : List ℕ) (r : Result Advance CollectFault)
     → place_from c 0 ls ≡ Some n → x ≡ get_or ls n x
     → ((s : Stream) (d : List (List ℕ)) → IsAt x s d
-    → AdvancesBy clock (accepted_octets piece r) x y kept now (answered r) s d)
-    → OnOk r (¬ (HasReady y.scanner)) → Stands clock ls kept first es
-    → IfOk r (λ a. Reports clock c (used_octets piece a) (history_of es) (waiting ls c) kept now
+    → AdvancesBy way (accepted_octets piece r) x y kept now (answered r) s d)
+    → OnOk r (¬ (HasReady y.scanner)) → Stands way ls kept first es
+    → IfOk r (λ a. Reports way c (used_octets piece a) (history_of es) (waiting ls c) kept now
     (outcomes_of a.outcome))
-reports_found clock c n x y ls kept now first es piece (Ok a) is item moves quiet was =
+reports_found way c n x y ls kept now first es piece (Ok a) is item moves quiet was =
     let here = found_here c n x ls is item in
     let there = opening_at c n x ls (history_of es).streams was.stands_at.handled was.stands_at.follow here in
-    let logs = logs_there clock c n x y ls kept now (used_octets piece a) (outcomes_of a.outcome) there.opening
+    let logs = logs_there way c n x y ls kept now (used_octets piece a) (outcomes_of a.outcome) there.opening
     there.handled here there.at (moves there.opening there.handled there.at) in
-    rw there.is (subst (λ (k : ℕ). LogsOctets clock there.opening (used_octets piece a) (waiting ls c) k kept now
+    rw there.is (subst (λ (k : ℕ). LogsOctets way there.opening (used_octets piece a) (waiting ls c) k kept now
     (outcomes_of a.outcome)) (ready_none y.scanner.phase (λ f. quiet (inl f))) logs)
-reports_found clock c n x y ls kept now first es piece (Err fault) is item moves quiet was = tt
+reports_found way c n x y ls kept now first es piece (Err fault) is item moves quiet was = tt
 
 -- ---- a piece
 
-same_number : (clock : Clock) (x y : Connection) (a b : List Entry) (o : List ℕ) (os : List Outcome) (s : Stream)
-    (d : List (List ℕ)) → IsAt x s d → Advances clock x y a b o os s d → y.number ≡ x.number
-same_number clock x y a b o os s d at moves = moves.now_at.number ∙ sym at.number
+same_number : (way : FrameReading) (x y : Connection) (a b : List Entry) (o : List ℕ) (os : List Outcome) (s : Stream)
+    (d : List (List ℕ)) → IsAt x s d → Advances way x y a b o os s d → y.number ≡ x.number
+same_number way x y a b o os s d at moves = moves.now_at.number ∙ sym at.number
 
-pub piece_logged : (clock : Clock) (c n : ℕ) (x y : Connection) (ls : List Connection) (kept now first : List Entry)
+pub piece_logged : (way : FrameReading) (c n : ℕ) (x y : Connection) (ls : List Connection) (kept now first : List Entry)
     (es : List AcceptedEvent) (o : List ℕ) (r : EventEnd) (l m : List Outcome)
     → place_from c 0 ls ≡ Some n → x ≡ get_or ls n x
-    → ((s : Stream) (d : List (List ℕ)) → IsAt x s d → Logs clock x y kept now (piece_octets o r) l m s d)
-    → ((s : Stream) (d : List (List ℕ)) → IsAt x s d → IfDone r (LogsAdvance clock x y kept now o l m s d))
+    → ((s : Stream) (d : List (List ℕ)) → IsAt x s d → Logs way x y kept now (piece_octets o r) l m s d)
+    → ((s : Stream) (d : List (List ℕ)) → IsAt x s d → IfDone r (LogsAdvance way x y kept now o l m s d))
     → IfDone r (¬ (HasReady y.scanner))
-    → Stands clock ls kept first es → Grows (LogsPiece clock (history_of es) (waiting ls) (waiting (set_at ls n y)) c o
+    → Stands way ls kept first es → Grows (LogsPiece way (history_of es) (waiting ls) (waiting (set_at ls n y)) c o
     r kept now) l m
-piece_logged clock c n x y ls kept now first es o end_Done l m is item logs accepted quiet was =
+piece_logged way c n x y ls kept now first es o end_Done l m is item logs accepted quiet was =
     let here = found_here c n x ls is item in
     let there = opening_at c n x ls (history_of es).streams was.stands_at.handled was.stands_at.follow here in
     let done = accepted there.opening there.handled there.at in
     let none = ready_none y.scanner.phase (λ f. quiet (inl f)) in
-    let octets = logs_there clock c n x y ls kept now o done.0 there.opening there.handled here there.at done.2 in (
+    let octets = logs_there way c n x y ls kept now o done.0 there.opening there.handled here there.at done.2 in (
       done.0,
       done.1,
       (
-        rw there.is (subst (λ (k : ℕ). LogsOctets clock there.opening o (waiting ls c) k kept now done.0) none octets),
-        waiting_set c n 0 x y ls (same_number clock x y kept now o done.0 there.opening there.handled there.at done.2)
+        rw there.is (subst (λ (k : ℕ). LogsOctets way there.opening o (waiting ls c) k kept now done.0) none octets),
+        waiting_set c n 0 x y ls (same_number way x y kept now o done.0 there.opening there.handled there.at done.2)
             here none,
       ),
     )
-piece_logged clock c n x y ls kept now first es o (end_Stopped k fault) l m is item logs accepted quiet was =
+piece_logged way c n x y ls kept now first es o (end_Stopped k fault) l m is item logs accepted quiet was =
     let here = found_here c n x ls is item in
     let there = opening_at c n x ls (history_of es).streams was.stands_at.handled was.stands_at.follow here in
     let part = logs there.opening there.handled there.at in (
@@ -126,12 +126,12 @@ piece_logged clock c n x y ls kept now first es o (end_Stopped k fault) l m is i
           ),
         )
         | inr moves ↦
-            let number = same_number clock x y kept now (take k o) part.0 there.opening there.handled there.at moves in
-            let octets = logs_there clock c n x y ls kept now (take k o) part.0 there.opening there.handled here
+            let number = same_number way x y kept now (take k o) part.0 there.opening there.handled there.at moves in
+            let octets = logs_there way c n x y ls kept now (take k o) part.0 there.opening there.handled here
             there.at moves in
             let now_there = waiting_at c n y (set_at ls n y) (place_set c n x y ls number here) in
             inr (
-              rw there.is (subst (λ (v : ℕ). LogsOctets clock there.opening (take k o) (waiting ls c) v kept now
+              rw there.is (subst (λ (v : ℕ). LogsOctets way there.opening (take k o) (waiting ls c) v kept now
                   part.0) (sym now_there) octets),
               λ d ne. waiting_other c n d x y ls number here ne,
             )
@@ -139,49 +139,49 @@ piece_logged clock c n x y ls kept now first es o (end_Stopped k fault) l m is i
     )
 
 -- nothing of a piece
-pub nothing_of_piece : (clock : Clock) (h : History) (w : ℕ
+pub nothing_of_piece : (way : FrameReading) (h : History) (w : ℕ
     → ℕ) (c : ℕ) (o : List ℕ) (fault : CollectFault) (a : List Entry) (l : List Outcome)
-    → Grows (LogsPiece clock h w w c o (end_Stopped 0 fault) a a) l l
-nothing_of_piece clock h w c o fault a l = ([], sym (append-nil l), inl (refl, (refl, refl, λ d. refl)))
+    → Grows (LogsPiece way h w w c o (end_Stopped 0 fault) a a) l l
+nothing_of_piece way h w c o fault a l = ([], sym (append-nil l), inl (refl, (refl, refl, λ d. refl)))
 
 -- ---- an event
 
-pub opened_logged : (clock : Clock) (h : History) (w v : ℕ
+pub opened_logged : (way : FrameReading) (h : History) (w v : ℕ
     → ℕ) (c : ℕ) (k : Framing) (r : EventEnd) (a b : List Entry) (l m : List Outcome) → m ≡ l → b ≡ a
-    → ((d : ℕ) → v d ≡ w d) → Grows (LogsEventEnd clock h w v (event_Opened c k) r a b) l m
-opened_logged clock h w v c k end_Done a b l m same kept waits = ([], same ∙ sym (append-nil l), ((refl, kept), waits))
-opened_logged clock h w v c k (end_Stopped n fault) a b l m same kept waits =
+    → ((d : ℕ) → v d ≡ w d) → Grows (LogsEventEnd way h w v (event_Opened c k) r a b) l m
+opened_logged way h w v c k end_Done a b l m same kept waits = ([], same ∙ sym (append-nil l), ((refl, kept), waits))
+opened_logged way h w v c k (end_Stopped n fault) a b l m same kept waits =
     ([], same ∙ sym (append-nil l), (refl, kept, waits))
 
-pub ended_logged : (clock : Clock) (h : History) (w v : ℕ
+pub ended_logged : (way : FrameReading) (h : History) (w v : ℕ
     → ℕ) (c : ℕ) (r : EventEnd) (a b : List Entry) (l m : List Outcome) → m ≡ l → b ≡ a → ((d : ℕ) → v d ≡ w d)
-    → Grows (LogsEventEnd clock h w v (event_Ended c) r a b) l m
-ended_logged clock h w v c end_Done a b l m same kept waits = ([], same ∙ sym (append-nil l), ((refl, kept), waits))
-ended_logged clock h w v c (end_Stopped n fault) a b l m same kept waits =
+    → Grows (LogsEventEnd way h w v (event_Ended c) r a b) l m
+ended_logged way h w v c end_Done a b l m same kept waits = ([], same ∙ sym (append-nil l), ((refl, kept), waits))
+ended_logged way h w v c (end_Stopped n fault) a b l m same kept waits =
     ([], same ∙ sym (append-nil l), (refl, kept, waits))
 
-pub piece_event_logged : (clock : Clock) (h : History) (w v : ℕ
+pub piece_event_logged : (way : FrameReading) (h : History) (w v : ℕ
     → ℕ) (c : ℕ) (o : Bor (List ℕ)) (r : EventEnd) (a b : List Entry) (l m : List Outcome)
-    → Grows (LogsPiece clock h w v c o.now r a b) l m → Grows (LogsEventEnd clock h w v (event_Piece c o) r a b) l m
-piece_event_logged clock h w v c o end_Done a b l m logs = logs
-piece_event_logged clock h w v c o (end_Stopped n fault) a b l m logs = logs
+    → Grows (LogsPiece way h w v c o.now r a b) l m → Grows (LogsEventEnd way h w v (event_Piece c o) r a b) l m
+piece_event_logged way h w v c o end_Done a b l m logs = logs
+piece_event_logged way h w v c o (end_Stopped n fault) a b l m logs = logs
 
-pub datagram_logged : (clock : Clock) (h : History) (w v : ℕ
+pub datagram_logged : (way : FrameReading) (h : History) (w v : ℕ
     → ℕ) (o : Bor (List ℕ)) (r : EventEnd) (a b : List Entry) (l m : List Outcome) → ((d : ℕ) → v d ≡ w d)
-    → Grows (LogsDatagram clock o.now r a b) l m → Grows (LogsEventEnd clock h w v (event_Datagram o) r a b) l m
-datagram_logged clock h w v o end_Done a b l m waits (os, log, out) = (os, log, (out, waits))
-datagram_logged clock h w v o (end_Stopped n fault) a b l m waits (os, log, (none, same)) =
+    → Grows (LogsDatagram way o.now r a b) l m → Grows (LogsEventEnd way h w v (event_Datagram o) r a b) l m
+datagram_logged way h w v o end_Done a b l m waits (os, log, out) = (os, log, (out, waits))
+datagram_logged way h w v o (end_Stopped n fault) a b l m waits (os, log, (none, same)) =
     (os, log, (none, same, waits))
 
 -- nothing of an event
-pub nothing_logged : (clock : Clock) (h : History) (w : ℕ
+pub nothing_logged : (way : FrameReading) (h : History) (w : ℕ
     → ℕ) (e : Event) (fault : CollectFault) (a : List Entry) (l m : List Outcome) → m ≡ l
-    → Grows (LogsEventEnd clock h w w e (end_Stopped 0 fault) a a) l m
-nothing_logged clock h w (event_Opened c k) fault a l m same = ([], same ∙ sym (append-nil l), (refl, refl, λ d. refl))
-nothing_logged clock h w (event_Piece c o) fault a l m same =
+    → Grows (LogsEventEnd way h w w e (end_Stopped 0 fault) a a) l m
+nothing_logged way h w (event_Opened c k) fault a l m same = ([], same ∙ sym (append-nil l), (refl, refl, λ d. refl))
+nothing_logged way h w (event_Piece c o) fault a l m same =
     ([], same ∙ sym (append-nil l), inl (refl, (refl, refl, λ d. refl)))
-nothing_logged clock h w (event_Ended c) fault a l m same = ([], same ∙ sym (append-nil l), (refl, refl, λ d. refl))
-nothing_logged clock h w (event_Datagram o) fault a l m same = ([], same ∙ sym (append-nil l), (refl, refl, λ d. refl))
+nothing_logged way h w (event_Ended c) fault a l m same = ([], same ∙ sym (append-nil l), (refl, refl, λ d. refl))
+nothing_logged way h w (event_Datagram o) fault a l m same = ([], same ∙ sym (append-nil l), (refl, refl, λ d. refl))
 
 -- ---- one event after the other
 
@@ -190,52 +190,52 @@ pub history_after-append : (h : History) (es fs : List AcceptedEvent)
 history_after-append h [] fs = refl
 history_after-append h (e ∷ es) fs = history_after-append (accept h e) es fs
 
-log_push : (clock : Clock) (h : History) (w : ℕ → ℕ) (es : List AcceptedEvent) (e : AcceptedEvent) (u v : ℕ
-    → ℕ) (a b c : List Entry) (os ps : List Outcome) → IsLogOf clock h w es u a b os
-    → LogsEvent clock (history_after h es) u e b c ps → ((d : ℕ) → v d ≡ waiting_after u e d)
-    → IsLogOf clock h w (es ++ e ∷ []) v a c (os ++ ps)
-log_push clock h w [] e u v a b c os ps (none, same, is) logs waits =
+log_push : (way : FrameReading) (h : History) (w : ℕ → ℕ) (es : List AcceptedEvent) (e : AcceptedEvent) (u v : ℕ
+    → ℕ) (a b c : List Entry) (os ps : List Outcome) → IsLogOf way h w es u a b os
+    → LogsEvent way (history_after h es) u e b c ps → ((d : ℕ) → v d ≡ waiting_after u e d)
+    → IsLogOf way h w (es ++ e ∷ []) v a c (os ++ ps)
+log_push way h w [] e u v a b c os ps (none, same, is) logs waits =
     let all : u ≡ w = λ i d. is d i in (
       ps,
       [],
       c,
       ap (λ (z : List Outcome). z ++ ps) none ∙ sym (append-nil ps),
-      subst (λ (k : List Entry). LogsEvent clock h w e k c ps) same
-          (subst (λ (f : ℕ → ℕ). LogsEvent clock h f e b c ps) all logs),
+      subst (λ (k : List Entry). LogsEvent way h w e k c ps) same
+          (subst (λ (f : ℕ → ℕ). LogsEvent way h f e b c ps) all logs),
       (refl, refl, λ d. waits d ∙ ap (λ (f : ℕ → ℕ). waiting_after f e d) all),
     )
-log_push clock h w (f ∷ es) e u v a b c os ps (here, later, mid, is, one, more) logs waits = (
+log_push way h w (f ∷ es) e u v a b c os ps (here, later, mid, is, one, more) logs waits = (
   here,
   later ++ ps,
   mid,
   ap (λ (z : List Outcome). z ++ ps) is
       ∙ append_assoc here later ps,
   one,
-  log_push clock (accept h f) (waiting_after w f) es e u v mid b c later ps
+  log_push way (accept h f) (waiting_after w f) es e u v mid b c later ps
       more logs waits,
 )
 
-pub grows_push : (clock : Clock) (h : History) (w : ℕ → ℕ) (es : List AcceptedEvent) (e : Event) (u v : ℕ
-    → ℕ) (a b c : List Entry) (l m n : List Outcome) → Grows (IsLogOf clock h w es u a b) l m
-    → Grows (LogsEventEnd clock (history_after h es) u v e end_Done b c) m n
-    → Grows (IsLogOf clock h w (es ++ accepted_event e ∷ []) v a c) l n
-grows_push clock h w es e u v a b c l m n (os, log, is) (ps, more, (logs, waits)) = (
+pub grows_push : (way : FrameReading) (h : History) (w : ℕ → ℕ) (es : List AcceptedEvent) (e : Event) (u v : ℕ
+    → ℕ) (a b c : List Entry) (l m n : List Outcome) → Grows (IsLogOf way h w es u a b) l m
+    → Grows (LogsEventEnd way (history_after h es) u v e end_Done b c) m n
+    → Grows (IsLogOf way h w (es ++ accepted_event e ∷ []) v a c) l n
+grows_push way h w es e u v a b c l m n (os, log, is) (ps, more, (logs, waits)) = (
   os ++ ps,
   more ∙ ap (λ (z : List Outcome). z ++ ps) log
       ∙ append_assoc l os ps,
-  log_push clock h w es (accepted_event e) u v a b c os ps is logs waits,
+  log_push way h w es (accepted_event e) u v a b c os ps is logs waits,
 )
 
-pub grows_none : (clock : Clock) (h : History) (w : ℕ → ℕ) (a : List Entry) (l : List Outcome)
-    → Grows (IsLogOf clock h w [] w a a) l l
-grows_none clock h w a l = ([], sym (append-nil l), (refl, refl, λ d. refl))
+pub grows_none : (way : FrameReading) (h : History) (w : ℕ → ℕ) (a : List Entry) (l : List Outcome)
+    → Grows (IsLogOf way h w [] w a a) l l
+grows_none way h w a l = ([], sym (append-nil l), (refl, refl, λ d. refl))
 
 -- how many frames wait after events
-pub log_waits : (clock : Clock) (h : History) (w v : ℕ → ℕ) (es : List AcceptedEvent) (a b : List Entry)
-    (os : List Outcome) → IsLogOf clock h w es v a b os → (d : ℕ) → v d ≡ waiting_after_all w es d
-log_waits clock h w v [] a b os (none, same, is) d = is d
-log_waits clock h w v (e ∷ es) a b os (here, later, mid, is, one, more) d =
-    log_waits clock (accept h e) (waiting_after w e) v es mid b later more d
+pub log_waits : (way : FrameReading) (h : History) (w v : ℕ → ℕ) (es : List AcceptedEvent) (a b : List Entry)
+    (os : List Outcome) → IsLogOf way h w es v a b os → (d : ℕ) → v d ≡ waiting_after_all w es d
+log_waits way h w v [] a b os (none, same, is) d = is d
+log_waits way h w v (e ∷ es) a b os (here, later, mid, is, one, more) d =
+    log_waits way (accept h e) (waiting_after w e) v es mid b later more d
 
 none_after : (w : ℕ → ℕ) (e : AcceptedEvent) → ((d : ℕ) → w d ≡ 0) → (d : ℕ) → waiting_after w e d ≡ 0
 none_after w (Opened c k) none d = none d
@@ -249,20 +249,20 @@ pub none_after_all : (w : ℕ → ℕ) (es : List AcceptedEvent) → ((d : ℕ) 
 none_after_all w [] none d = none d
 none_after_all w (e ∷ es) none d = none_after_all (waiting_after w e) es (none_after w e none) d
 
-first_here : (clock : Clock) (h : History) (w v : ℕ
+first_here : (way : FrameReading) (h : History) (w v : ℕ
     → ℕ) (es : List Event) (n k : ℕ) (d : Event) (a b : List Entry) (os : List Outcome) → n < length es
-    → LogsRefused clock h w v (get_or es n d) k a b os → LogsFirst clock h w v (drop n es) k a b os
-first_here clock h w v [] n k d a b os lt logs = absurd (omega arith)
-first_here clock h w v (e ∷ es) zero k d a b os lt logs = logs
-first_here clock h w v (e ∷ es) (suc n) k d a b os lt logs = first_here clock h w v es n k d a b os (omega arith) logs
+    → LogsRefused way h w v (get_or es n d) k a b os → LogsFirst way h w v (drop n es) k a b os
+first_here way h w v [] n k d a b os lt logs = absurd (omega arith)
+first_here way h w v (e ∷ es) zero k d a b os lt logs = logs
+first_here way h w v (e ∷ es) (suc n) k d a b os lt logs = first_here way h w v es n k d a b os (omega arith) logs
 
-pub run_stopped : (clock : Clock) (h : History) (w u v : ℕ
+pub run_stopped : (way : FrameReading) (h : History) (w u v : ℕ
     → ℕ) (es : List Event) (n k : ℕ) (fault : CollectFault) (d : Event) (a b c : List Entry) (l m t : List Outcome)
-    → n < length es → Grows (IsLogOf clock h w (accepted_all (take n es)) u a b) l m
-    → Grows (LogsEventEnd clock (history_after h (accepted_all (take n es))) u v (get_or es n d) (end_Stopped k fault) b
-    c) m t → Grows (LogsRun clock h w v es (Stopped n k fault) a c) l t
-run_stopped clock h w u v es n k fault d a b c l m t lt (os, log, is) (ps, more, logs) = (
+    → n < length es → Grows (IsLogOf way h w (accepted_all (take n es)) u a b) l m
+    → Grows (LogsEventEnd way (history_after h (accepted_all (take n es))) u v (get_or es n d) (end_Stopped k fault) b
+    c) m t → Grows (LogsRun way h w v es (Stopped n k fault) a c) l t
+run_stopped way h w u v es n k fault d a b c l m t lt (os, log, is) (ps, more, logs) = (
   os ++ ps,
   more ∙ ap (λ (z : List Outcome). z ++ ps) log ∙ append_assoc l os ps,
-  (u, os, ps, b, refl, is, first_here clock (history_after h (accepted_all (take n es))) u v es n k d b c ps lt logs),
+  (u, os, ps, b, refl, is, first_here way (history_after h (accepted_all (take n es))) u v es n k d b c ps lt logs),
 )

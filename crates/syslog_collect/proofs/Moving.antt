@@ -23,7 +23,7 @@ use Rattle.syslog_frame.proofs.FrameLaws.{unique_frames}
 use Rattle.syslog_frame.proofs.Reading.{frames_read, frames_with}
 use Rattle.syslog_frame.proofs.Standing.{whole_ended}
 use Rattle.archive_text.specs.Entries.{Entry}
-use Rattle.syslog_legacy.specs.FrameReadings.{Clock}
+use Rattle.syslog_legacy.specs.declared.frame_reading.FrameReading.{FrameReading}
 use Rattle.syslog_collect.specs.declared.connection.Connection.{Connection}
 use Rattle.syslog_collect.specs.declared.outcome.Outcome.{Outcome}
 use Rattle.syslog_collect.specs.declared.outcome.Outcome.TheVariants.{New, Held, Refused, RefusedLegacy, TooLong}
@@ -179,14 +179,14 @@ take_past octets piece n m lt =
     ∙ ap (λ (u : List ℕ). octets ++ u) (sym (take_add (n + 1) (m - (n + 1)) piece)
     ∙ ap (λ (k : ℕ). take k piece) (sym e))
 
-module _ (clock : Clock) (old new : Connection) (kept_old kept_new : List Entry) (s : Stream) (handled : List (List ℕ))
+module _ (way : FrameReading) (old new : Connection) (kept_old kept_new : List Entry) (s : Stream) (handled : List (List ℕ))
     (piece : List ℕ) (n : ℕ) (number : new.number ≡ s.number) (at : IsOpenAt old.scanner s handled) where
   within_bound : (mid : Scan) → IsPushed old.scanner mid piece n → length s.octets + n ≤ POSITION_MAX
   within_bound mid p = omega (arith, position_of old.scanner s handled at, p.position, p.bound)
 
   -- octets were taken, and no frame was handled
   pub takes_octets : IsPushed old.scanner new.scanner piece n → ¬ (HasBadCount new.scanner) → kept_new ≡ kept_old
-      → Advances clock old new kept_old kept_new (take n piece) [] s handled
+      → Advances way old new kept_old kept_new (take n piece) [] s handled
   takes_octets p good kept = record {
     may = (good_open old.scanner s handled at, few s piece n (within_bound new.scanner p));
     fresh = [];
@@ -208,10 +208,10 @@ module _ (clock : Clock) (old new : Connection) (kept_old kept_new : List Entry)
 
   -- a frame was handled
   pub handles_frame : (mid : Scan) (o : Outcome) → IsPushed old.scanner mid piece n → IsReleased mid new.scanner
-      → HandlesFrame clock mid kept_old kept_new o
-      → ((f : List ℕ) → IsOutcome clock kept_old kept_new f o → IsReported clock kept_old kept_new (f ∷ []) o)
+      → HandlesFrame way mid kept_old kept_new o
+      → ((f : List ℕ) → IsOutcome way kept_old kept_new f o → IsReported way kept_old kept_new (f ∷ []) o)
       → ((t : Stream) → ¬ (HoldsBadCount t) → ReportsBadCount (o ∷ []) t)
-      → Advances clock old new kept_old kept_new (take n piece) (o ∷ []) s handled
+      → Advances way old new kept_old kept_new (take n piece) (o ∷ []) s handled
   handles_frame mid o p r (ready, h) reports unmarked =
       let on = (p.reads s.framing 0 s.octets handled at.rest at.reads at.good).reads in
       let f = h s.framing 0 (s.octets ++ take n piece) handled (at.rest ++ take n piece) on in
@@ -238,7 +238,7 @@ module _ (clock : Clock) (old new : Connection) (kept_old kept_new : List Entry)
   -- a bad count was met, and released; m octets are accepted
   pub breaks : (mid : Scan) (offset m : ℕ) → offset ≡ mid.position → IsPushed old.scanner mid piece n
       → IsReleased mid new.scanner → HasBadCount mid → n < m → m ≤ length piece → kept_new ≡ kept_old
-      → Advances clock old new kept_old kept_new (take m piece) (BadCount offset ∷ []) s handled
+      → Advances way old new kept_old kept_new (take m piece) (BadCount offset ∷ []) s handled
   breaks mid offset m at_is p r bad lt le kept =
       let on = p.reads s.framing 0 s.octets handled at.rest at.reads at.good in
       let more = take (m - (n + 1)) (drop (n + 1) piece) in
@@ -279,13 +279,13 @@ module _ (clock : Clock) (old new : Connection) (kept_old kept_new : List Entry)
       }
 
 -- what is ready after a push was handled and released
-pub advanced : (clock : Clock) (old new : Connection) (mid : Scan) (kept_old kept_new : List Entry) (piece : List ℕ)
+pub advanced : (way : FrameReading) (old new : Connection) (mid : Scan) (kept_old kept_new : List Entry) (piece : List ℕ)
     (n m : ℕ) (o : Option Outcome) (s : Stream) (handled : List (List ℕ))
-    → new.number ≡ old.number → IsPushed old.scanner mid piece n → HandlesReady clock mid kept_old kept_new o
+    → new.number ≡ old.number → IsPushed old.scanner mid piece n → HandlesReady way mid kept_old kept_new o
     → IsReleased mid new.scanner → (n < length piece → (n < m) × (m ≤ length piece))
-    → IsAt old s handled → Advances clock old new kept_old kept_new (take (accepted_count m n o) piece) (outcomes_of o)
+    → IsAt old s handled → Advances way old new kept_old kept_new (take (accepted_count m n o) piece) (outcomes_of o)
     s handled
-advanced clock old new mid kept_old kept_new piece n m None s handled number p (quiet, same) r bounds at =
+advanced way old new mid kept_old kept_new piece n m None s handled number p (quiet, same) r bounds at =
     let here = open_unless_failed old s handled p.live at in
     let unready : ¬ (HasReady mid) = λ ready. elim quiet [
       | inl reading ↦ reading.0 ready
@@ -295,7 +295,7 @@ advanced clock old new mid kept_old kept_new piece n m None s handled number p (
             (apart_bad mid.phase bad failed)
       ]
     ] in
-    takes_octets clock old new kept_old kept_new s handled piece n (number ∙ at.number) here
+    takes_octets way old new kept_old kept_new s handled piece n (number ∙ at.number) here
     (subst (λ (z : Scan). IsPushed old.scanner z piece n) (sym (r.same unready)) p)
     (λ z. unready (inr (subst HasBadCount (r.same unready) z))) same
   where
@@ -304,38 +304,38 @@ advanced clock old new mid kept_old kept_new piece n m None s handled number p (
 
     apart_bad : (phase : Phase) → phase ≡ phase_BadCount → phase ≡ Failed → ⊥
     apart_bad phase a b = absurd cc
-advanced clock old new mid kept_old kept_new piece n m (Some (BadCount offset)) s handled number p (bad, at_is, same) r
+advanced way old new mid kept_old kept_new piece n m (Some (BadCount offset)) s handled number p (bad, at_is, same) r
     bounds at =
     let here = open_unless_failed old s handled p.live at in
     let some = bounds (p.takes bad s.framing 0 s.octets handled here.rest here.reads here.good) in
-    breaks clock old new kept_old kept_new s handled piece n (number ∙ at.number) here mid offset m at_is p r bad some.0
+    breaks way old new kept_old kept_new s handled piece n (number ∙ at.number) here mid offset m at_is p r bad some.0
     some.1 same
-advanced clock old new mid kept_old kept_new piece n m (Some New) s handled number p h r bounds at =
-    handles_frame clock old new kept_old kept_new s handled piece n (number ∙ at.number)
+advanced way old new mid kept_old kept_new piece n m (Some New) s handled number p h r bounds at =
+    handles_frame way old new kept_old kept_new s handled piece n (number ∙ at.number)
     (open_unless_failed old s handled p.live at) mid New p r h (λ f out. (f, refl, out)) (λ t good. good)
-advanced clock old new mid kept_old kept_new piece n m (Some Held) s handled number p h r bounds at =
-    handles_frame clock old new kept_old kept_new s handled piece n (number ∙ at.number)
+advanced way old new mid kept_old kept_new piece n m (Some Held) s handled number p h r bounds at =
+    handles_frame way old new kept_old kept_new s handled piece n (number ∙ at.number)
     (open_unless_failed old s handled p.live at) mid Held p r h (λ f out. (f, refl, out)) (λ t good. good)
-advanced clock old new mid kept_old kept_new piece n m (Some (Refused fault)) s handled number p h r bounds at =
-    handles_frame clock old new kept_old kept_new s handled piece n (number ∙ at.number)
+advanced way old new mid kept_old kept_new piece n m (Some (Refused fault)) s handled number p h r bounds at =
+    handles_frame way old new kept_old kept_new s handled piece n (number ∙ at.number)
     (open_unless_failed old s handled p.live at) mid (Refused fault) p r h (λ f out. (f, refl, out))
     (λ t good. good)
-advanced clock old new mid kept_old kept_new piece n m (Some (RefusedLegacy offset)) s handled number p h r bounds at =
-    handles_frame clock old new kept_old kept_new s handled piece n (number ∙ at.number)
+advanced way old new mid kept_old kept_new piece n m (Some (RefusedLegacy offset)) s handled number p h r bounds at =
+    handles_frame way old new kept_old kept_new s handled piece n (number ∙ at.number)
     (open_unless_failed old s handled p.live at) mid (RefusedLegacy offset) p r h (λ f out. (f, refl, out))
     (λ t good. good)
-advanced clock old new mid kept_old kept_new piece n m (Some TooLong) s handled number p h r bounds at =
-    handles_frame clock old new kept_old kept_new s handled piece n (number ∙ at.number)
+advanced way old new mid kept_old kept_new piece n m (Some TooLong) s handled number p h r bounds at =
+    handles_frame way old new kept_old kept_new s handled piece n (number ∙ at.number)
     (open_unless_failed old s handled p.live at) mid TooLong p r h (λ f out. (f, refl, out)) (λ t good. good)
 
 -- octets were taken, and the memory of the frame that is ready was refused
-pub waiting : (clock : Clock) (old new : Connection) (kept_old kept_new : List Entry) (piece : List ℕ) (n : ℕ)
+pub waiting : (way : FrameReading) (old new : Connection) (kept_old kept_new : List Entry) (piece : List ℕ) (n : ℕ)
     (s : Stream) (handled : List (List ℕ))
     → new.number ≡ old.number → IsPushed old.scanner new.scanner piece n → HasFrame new.scanner → kept_new ≡ kept_old
     → IsAt old s handled
-    → Advances clock old new kept_old kept_new (take n piece) [] s handled
-waiting clock old new kept_old kept_new piece n s handled number p frame kept at =
-    takes_octets clock old new kept_old kept_new s handled piece n (number ∙ at.number)
+    → Advances way old new kept_old kept_new (take n piece) [] s handled
+waiting way old new kept_old kept_new piece n s handled number p frame kept at =
+    takes_octets way old new kept_old kept_new s handled piece n (number ∙ at.number)
     (open_unless_failed old s handled p.live at) p (λ bad. bad_not_frame new.scanner bad frame) kept
 
 -- why a piece is too long
@@ -352,10 +352,10 @@ pub good_unless_failed : (c : Connection) (s : Stream) (handled : List (List ℕ
 good_unless_failed c s handled live at = good_open c.scanner s handled (open_unless_failed c s handled live at)
 
 -- memory was refused for a record
-pub waiting_record : (clock : Clock) (c : Connection) (mid : Scan) (s : Stream) (handled : List (List ℕ))
-    (piece : List ℕ) (n : ℕ) → IsPushed c.scanner mid piece n → HasRecord clock mid → IsAt c s handled
-    → ¬ (HoldsBadCount s) × EndsInRecord clock s (take n piece)
-waiting_record clock c mid s handled piece n p record_ready at =
+pub waiting_record : (way : FrameReading) (c : Connection) (mid : Scan) (s : Stream) (handled : List (List ℕ))
+    (piece : List ℕ) (n : ℕ) → IsPushed c.scanner mid piece n → HasRecord way mid → IsAt c s handled
+    → ¬ (HoldsBadCount s) × EndsInRecord way s (take n piece)
+waiting_record way c mid s handled piece n p record_ready at =
     let here = open_unless_failed c s handled p.live at in
     let on = (p.reads s.framing 0 s.octets handled here.rest here.reads here.good).reads in
     let f = record_ready s.framing 0 (s.octets ++ take n piece) handled (here.rest ++ take n piece) on in (

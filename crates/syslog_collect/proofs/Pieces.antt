@@ -10,7 +10,7 @@ use Rattle.syslog_frame.specs.declared.phase.Phase.TheVariants.{Counting, Inside
 use Rattle.syslog_frame.specs.declared.phase.Phase.TheVariants.{BadCount as phase_BadCount, Failed}
 use Rattle.syslog_frame.proofs.Cuts.{take_add}
 use Rattle.archive_text.specs.Entries.{Entry}
-use Rattle.syslog_legacy.specs.FrameReadings.{Clock}
+use Rattle.syslog_legacy.specs.declared.frame_reading.FrameReading.{FrameReading}
 use Rattle.syslog_collect.specs.declared.connection.Connection.{Connection}
 use Rattle.syslog_collect.specs.declared.fault.CollectFault.{CollectFault}
 use Rattle.syslog_collect.specs.declared.fault.CollectFault.TheVariants.{AlreadyOpen, TooManyOpen, NotOpen, ConnFailed}
@@ -28,19 +28,19 @@ use Rattle.syslog_collect.specs.Standing.{IsAt}
 
 -- ---- reports, one after the other
 
-pub reported_then : (clock : Clock) (a b c : List Entry) (fs gs : List (List ℕ)) (os ps : List Outcome)
-    → AreReported clock a b fs os → AreReported clock b c gs ps → AreReported clock a c (fs ++ gs) (os ++ ps)
-reported_then clock a b c fs gs [] ps (none, same) later =
-    subst (λ (z : List (List ℕ)). AreReported clock a c (z ++ gs) ps) (sym none)
-    (subst (λ (z : List Entry). AreReported clock z c gs ps) same later)
-reported_then clock a b c fs gs (o ∷ os) ps (here, rest, mid, is, one, more) later = (
+pub reported_then : (way : FrameReading) (a b c : List Entry) (fs gs : List (List ℕ)) (os ps : List Outcome)
+    → AreReported way a b fs os → AreReported way b c gs ps → AreReported way a c (fs ++ gs) (os ++ ps)
+reported_then way a b c fs gs [] ps (none, same) later =
+    subst (λ (z : List (List ℕ)). AreReported way a c (z ++ gs) ps) (sym none)
+    (subst (λ (z : List Entry). AreReported way z c gs ps) same later)
+reported_then way a b c fs gs (o ∷ os) ps (here, rest, mid, is, one, more) later = (
   here,
   rest ++ gs,
   mid,
   ap (λ (z : List (List ℕ)). z ++ gs) is
       ∙ append_assoc here rest gs,
   one,
-  reported_then clock mid b c rest gs os ps more later,
+  reported_then way mid b c rest gs os ps more later,
 )
 
 -- ---- moves, one after the other
@@ -60,104 +60,104 @@ marks_then (Refused fault ∷ os) ps s t good h k = marks_then os ps s t good h 
 marks_then (RefusedLegacy offset ∷ os) ps s t good h k = marks_then os ps s t good h k
 marks_then (TooLong ∷ os) ps s t good h k = marks_then os ps s t good h k
 
-moves_then : (clock : Clock) (x y z : Connection) (a b c : List Entry) (o p : List ℕ) (os ps : List Outcome)
-    (s : Stream) (d : List (List ℕ)) → (m : Advances clock x y a b o os s d)
-    → Advances clock y z b c p ps (with_octets s o) (d ++ m.fresh) → Advances clock x z a c (o ++ p) (os ++ ps) s d
-moves_then clock x y z a b c o p os ps s d m n = record {
+moves_then : (way : FrameReading) (x y z : Connection) (a b c : List Entry) (o p : List ℕ) (os ps : List Outcome)
+    (s : Stream) (d : List (List ℕ)) → (m : Advances way x y a b o os s d)
+    → Advances way y z b c p ps (with_octets s o) (d ++ m.fresh) → Advances way x z a c (o ++ p) (os ++ ps) s d
+moves_then way x y z a b c o p os ps s d m n = record {
   may = (m.may.0, omega (arith, n.may.1, length-append s.octets o, length-append o p));
   fresh = m.fresh ++ n.fresh;
   now_at = subst (λ (t : Stream). IsAt z t (d ++ (m.fresh ++ n.fresh))) (with_octets_twice s o p)
       (subst (λ (fs : List (List ℕ)). IsAt z (with_octets (with_octets s o) p) fs) (append_assoc d m.fresh n.fresh)
       n.now_at);
-  reported = reported_then clock a b c m.fresh n.fresh os ps m.reported n.reported;
+  reported = reported_then way a b c m.fresh n.fresh os ps m.reported n.reported;
   marks = subst (λ (t : Stream). ReportsBadCount (os ++ ps) t) (with_octets_twice s o p)
       (marks_then os ps (with_octets s o) (with_octets (with_octets s o) p) n.may.0 m.marks n.marks);
 }
 
 -- what was logged of octets, and then of more that moved it
-logs_then_advance : (clock : Clock) (x y z : Connection) (a b c : List Entry) (o p : List ℕ) (l m n : List Outcome)
-    (s : Stream) (d : List (List ℕ)) → IsAt x s d → Logs clock x y a b o l m s d
-    → ((t : Stream) (e : List (List ℕ)) → IsAt y t e → LogsAdvance clock y z b c p m n t e)
-    → LogsAdvance clock x z a c (o ++ p) l n s d
-logs_then_advance clock x y z a b c o p l m n s d at (os, log, inl (none, same, kept, quiet)) next =
+logs_then_advance : (way : FrameReading) (x y z : Connection) (a b c : List Entry) (o p : List ℕ) (l m n : List Outcome)
+    (s : Stream) (d : List (List ℕ)) → IsAt x s d → Logs way x y a b o l m s d
+    → ((t : Stream) (e : List (List ℕ)) → IsAt y t e → LogsAdvance way y z b c p m n t e)
+    → LogsAdvance way x z a c (o ++ p) l n s d
+logs_then_advance way x y z a b c o p l m n s d at (os, log, inl (none, same, kept, quiet)) next =
     let second = next s d (subst (λ (w : Connection). IsAt w s d) (sym same) at) in (
       second.0,
       second.1 ∙ ap (λ (u : List Outcome). u ++ second.0)
           (log ∙ ap (λ (u : List Outcome). l ++ u) quiet ∙ append-nil l),
-      subst (λ (u : List ℕ). Advances clock x z a c (u ++ p) second.0 s d) (sym none)
-          (subst (λ (w : Connection). Advances clock w z a c p second.0 s d) same
-          (subst (λ (w : List Entry). Advances clock y z w c p second.0 s d) kept second.2)),
+      subst (λ (u : List ℕ). Advances way x z a c (u ++ p) second.0 s d) (sym none)
+          (subst (λ (w : Connection). Advances way w z a c p second.0 s d) same
+          (subst (λ (w : List Entry). Advances way y z w c p second.0 s d) kept second.2)),
     )
-logs_then_advance clock x y z a b c o p l m n s d at (os, log, inr moved) next =
+logs_then_advance way x y z a b c o p l m n s d at (os, log, inr moved) next =
     let second = next (with_octets s o) (d ++ moved.fresh) moved.now_at in (
       os ++ second.0,
       second.1 ∙ ap (λ (u : List Outcome). u ++ second.0) log ∙ append_assoc l os second.0,
-      moves_then clock x y z a b c o p os second.0 s d moved second.2,
+      moves_then way x y z a b c o p os second.0 s d moved second.2,
     )
 
-pub logs_on_advance : (clock : Clock) (x y z : Connection) (a b c : List Entry) (o p whole : List ℕ)
-    (l m n : List Outcome) (s : Stream) (d : List (List ℕ)) → o ++ p ≡ whole → IsAt x s d → Logs clock x y a b o l m s d
-    → ((t : Stream) (e : List (List ℕ)) → IsAt y t e → LogsAdvance clock y z b c p m n t e)
-    → LogsAdvance clock x z a c whole l n s d
-logs_on_advance clock x y z a b c o p whole l m n s d is at first next =
-    subst (λ (u : List ℕ). LogsAdvance clock x z a c u l n s d) is
-    (logs_then_advance clock x y z a b c o p l m n s d at first next)
+pub logs_on_advance : (way : FrameReading) (x y z : Connection) (a b c : List Entry) (o p whole : List ℕ)
+    (l m n : List Outcome) (s : Stream) (d : List (List ℕ)) → o ++ p ≡ whole → IsAt x s d → Logs way x y a b o l m s d
+    → ((t : Stream) (e : List (List ℕ)) → IsAt y t e → LogsAdvance way y z b c p m n t e)
+    → LogsAdvance way x z a c whole l n s d
+logs_on_advance way x y z a b c o p whole l m n s d is at first next =
+    subst (λ (u : List ℕ). LogsAdvance way x z a c u l n s d) is
+    (logs_then_advance way x y z a b c o p l m n s d at first next)
 
 -- what was logged of octets, and then of more
-pub logs_then : (clock : Clock) (x y z : Connection) (a b c : List Entry) (o p : List ℕ) (l m n : List Outcome)
-    (s : Stream) (d : List (List ℕ)) → IsAt x s d → Logs clock x y a b o l m s d
-    → ((t : Stream) (e : List (List ℕ)) → IsAt y t e → Logs clock y z b c p m n t e)
-    → Logs clock x z a c (o ++ p) l n s d
-logs_then clock x y z a b c o p l m n s d at (os, log, inl (none, same, kept, quiet)) next =
+pub logs_then : (way : FrameReading) (x y z : Connection) (a b c : List Entry) (o p : List ℕ) (l m n : List Outcome)
+    (s : Stream) (d : List (List ℕ)) → IsAt x s d → Logs way x y a b o l m s d
+    → ((t : Stream) (e : List (List ℕ)) → IsAt y t e → Logs way y z b c p m n t e)
+    → Logs way x z a c (o ++ p) l n s d
+logs_then way x y z a b c o p l m n s d at (os, log, inl (none, same, kept, quiet)) next =
     let second = next s d (subst (λ (w : Connection). IsAt w s d) (sym same) at) in (
       second.0,
       second.1 ∙ ap (λ (u : List Outcome). u ++ second.0)
           (log ∙ ap (λ (u : List Outcome). l ++ u) quiet ∙ append-nil l),
-      subst (λ (u : List ℕ). AdvancesOrStays clock x z a c (u ++ p) second.0 s d) (sym none)
-          (subst (λ (w : Connection). AdvancesOrStays clock w z a c p second.0 s d) same
-          (subst (λ (w : List Entry). AdvancesOrStays clock y z w c p second.0 s d) kept second.2)),
+      subst (λ (u : List ℕ). AdvancesOrStays way x z a c (u ++ p) second.0 s d) (sym none)
+          (subst (λ (w : Connection). AdvancesOrStays way w z a c p second.0 s d) same
+          (subst (λ (w : List Entry). AdvancesOrStays way y z w c p second.0 s d) kept second.2)),
     )
-logs_then clock x y z a b c o p l m n s d at (os, log, inr moved) next =
+logs_then way x y z a b c o p l m n s d at (os, log, inr moved) next =
     let second = next (with_octets s o) (d ++ moved.fresh) moved.now_at in (
       os ++ second.0,
       second.1 ∙ ap (λ (u : List Outcome). u ++ second.0) log ∙ append_assoc l os second.0,
       elim second.2 [
         | inl (none, same, kept, quiet) ↦
-            subst (λ (u : List ℕ). AdvancesOrStays clock x z a c u (os ++ second.0) s d)
+            subst (λ (u : List ℕ). AdvancesOrStays way x z a c u (os ++ second.0) s d)
             (sym (ap (λ (v : List ℕ). o ++ v) none ∙ append-nil o))
-            (subst (λ (u : List Outcome). AdvancesOrStays clock x z a c o u s d)
+            (subst (λ (u : List Outcome). AdvancesOrStays way x z a c o u s d)
             (sym (ap (λ (v : List Outcome). os ++ v) quiet ∙ append-nil os))
-            (subst (λ (w : Connection). AdvancesOrStays clock x w a c o os s d) (sym same)
-            (subst (λ (w : List Entry). AdvancesOrStays clock x y a w o os s d) (sym kept) (inr moved))))
-        | inr more ↦ inr (moves_then clock x y z a b c o p os second.0 s d moved more)
+            (subst (λ (w : Connection). AdvancesOrStays way x w a c o os s d) (sym same)
+            (subst (λ (w : List Entry). AdvancesOrStays way x y a w o os s d) (sym kept) (inr moved))))
+        | inr more ↦ inr (moves_then way x y z a b c o p os second.0 s d moved more)
       ],
     )
 
-pub logs_on : (clock : Clock) (x y z : Connection) (a b c : List Entry) (o p whole : List ℕ) (l m n : List Outcome)
-    (s : Stream) (d : List (List ℕ)) → o ++ p ≡ whole → IsAt x s d → Logs clock x y a b o l m s d
-    → ((t : Stream) (e : List (List ℕ)) → IsAt y t e → Logs clock y z b c p m n t e) → Logs clock x z a c whole l n s d
-logs_on clock x y z a b c o p whole l m n s d is at first next =
-    subst (λ (u : List ℕ). Logs clock x z a c u l n s d) is (logs_then clock x y z a b c o p l m n s d at first next)
+pub logs_on : (way : FrameReading) (x y z : Connection) (a b c : List Entry) (o p whole : List ℕ) (l m n : List Outcome)
+    (s : Stream) (d : List (List ℕ)) → o ++ p ≡ whole → IsAt x s d → Logs way x y a b o l m s d
+    → ((t : Stream) (e : List (List ℕ)) → IsAt y t e → Logs way y z b c p m n t e) → Logs way x z a c whole l n s d
+logs_on way x y z a b c o p whole l m n s d is at first next =
+    subst (λ (u : List ℕ). Logs way x z a c u l n s d) is (logs_then way x y z a b c o p l m n s d at first next)
 
-pub logs_of : (clock : Clock) (x y : Connection) (a b : List Entry) (o : List ℕ) (l m : List Outcome) (s : Stream)
-    (d : List (List ℕ)) → LogsAdvance clock x y a b o l m s d → Logs clock x y a b o l m s d
-logs_of clock x y a b o l m s d (os, log, moves) = (os, log, inr moves)
+pub logs_of : (way : FrameReading) (x y : Connection) (a b : List Entry) (o : List ℕ) (l m : List Outcome) (s : Stream)
+    (d : List (List ℕ)) → LogsAdvance way x y a b o l m s d → Logs way x y a b o l m s d
+logs_of way x y a b o l m s d (os, log, moves) = (os, log, inr moves)
 
 -- nothing came, and nothing changed
-pub logs_nothing : (clock : Clock) (x : Connection) (a : List Entry) (l m : List Outcome) (s : Stream)
-    (d : List (List ℕ)) → m ≡ l → Logs clock x x a a [] l m s d
-logs_nothing clock x a l m s d same = ([], same ∙ sym (append-nil l), inl (refl, refl, refl, refl))
+pub logs_nothing : (way : FrameReading) (x : Connection) (a : List Entry) (l m : List Outcome) (s : Stream)
+    (d : List (List ℕ)) → m ≡ l → Logs way x x a a [] l m s d
+logs_nothing way x a l m s d same = ([], same ∙ sym (append-nil l), inl (refl, refl, refl, refl))
 
 -- ---- one step
 
 -- an advance that was refused
-pub refused : (clock : Clock) (x y : Connection) (a b : List Entry) (rest : List ℕ) (l m : List Outcome)
+pub refused : (way : FrameReading) (x y : Connection) (a b : List Entry) (rest : List ℕ) (l m : List Outcome)
     (fault : CollectFault) (n : ℕ) (s : Stream) (d : List (List ℕ)) → n ≡ used_before fault → m ≡ l
-    → AdvancesBy clock (dropped_octets rest (Err fault)) x y a b [] s d → Logs clock x y a b (take n rest) l m s d
-refused clock x y a b rest l m fault n s d is log moves = ([], log ∙ sym (append-nil l), rw is (stays fault moves))
+    → AdvancesBy way (dropped_octets rest (Err fault)) x y a b [] s d → Logs way x y a b (take n rest) l m s d
+refused way x y a b rest l m fault n s d is log moves = ([], log ∙ sym (append-nil l), rw is (stays fault moves))
   where
-    stays : (f : CollectFault) → AdvancesBy clock (dropped_octets rest (Err f)) x y a b [] s d
-        → AdvancesOrStays clock x y a b (take (used_before f) rest) [] s d
+    stays : (f : CollectFault) → AdvancesBy way (dropped_octets rest (Err f)) x y a b [] s d
+        → AdvancesOrStays way x y a b (take (used_before f) rest) [] s d
     stays (Memory k) h = inr h
     stays AlreadyOpen h = inl (refl, h.0, h.1, refl)
     stays TooManyOpen h = inl (refl, h.0, h.1, refl)
@@ -207,25 +207,25 @@ accepted_used m n (Some (RefusedLegacy offset)) h = refl
 accepted_used m n (Some TooLong) h = refl
 accepted_used m n (Some (BadCount at)) h = absurd (h tt)
 
-pub step_ended : (clock : Clock) (x y : Connection) (a b : List Entry) (rest : List ℕ) (l m : List Outcome) (n : ℕ)
+pub step_ended : (way : FrameReading) (x y : Connection) (a b : List Entry) (rest : List ℕ) (l m : List Outcome) (n : ℕ)
     (o : Option Outcome) (s : Stream) (d : List (List ℕ)) → m ≡ l ++ outcomes_of o → IsBadCount o ⊎ (length rest ≤ n)
-    → Advances clock x y a b (take (accepted_count (length rest) n o) rest) (outcomes_of o) s d
-    → LogsAdvance clock x y a b rest l m s d
-step_ended clock x y a b rest l m n o s d log ends moves = (
+    → Advances way x y a b (take (accepted_count (length rest) n o) rest) (outcomes_of o) s d
+    → LogsAdvance way x y a b rest l m s d
+step_ended way x y a b rest l m n o s d log ends moves = (
   outcomes_of o,
   log,
-  subst (λ (u : List ℕ). Advances clock x y a b u (outcomes_of o) s d)
+  subst (λ (u : List ℕ). Advances way x y a b u (outcomes_of o) s d)
       (accepted_whole rest n o ends) moves,
 )
 
-pub step_on : (clock : Clock) (x y : Connection) (a b : List Entry) (rest : List ℕ) (l m : List Outcome) (n : ℕ)
+pub step_on : (way : FrameReading) (x y : Connection) (a b : List Entry) (rest : List ℕ) (l m : List Outcome) (n : ℕ)
     (o : Option Outcome) (s : Stream) (d : List (List ℕ)) → m ≡ l ++ outcomes_of o → ¬ (IsBadCount o)
-    → Advances clock x y a b (take (accepted_count (length rest) n o) rest) (outcomes_of o) s d
-    → LogsAdvance clock x y a b (take n rest) l m s d
-step_on clock x y a b rest l m n o s d log good moves = (
+    → Advances way x y a b (take (accepted_count (length rest) n o) rest) (outcomes_of o) s d
+    → LogsAdvance way x y a b (take n rest) l m s d
+step_on way x y a b rest l m n o s d log good moves = (
   outcomes_of o,
   log,
-  subst (λ (k : ℕ). Advances clock x y a b (take k rest) (outcomes_of o) s d)
+  subst (λ (k : ℕ). Advances way x y a b (take k rest) (outcomes_of o) s d)
       (accepted_used (length rest) n o good) moves,
 )
 

@@ -4,7 +4,7 @@ use Rattle.std.proofs.Common.{set as set_at, eqb, refl, sym, ◌∙◌, ap, subs
 use Rattle.std.specs.Prelude.{Option, Some, None, IsSome}
 use Rattle.std.specs.List.{position_from, remove}
 use Rattle.archive_text.specs.Entries.{Entry}
-use Rattle.syslog_legacy.specs.FrameReadings.{Clock}
+use Rattle.syslog_legacy.specs.declared.frame_reading.FrameReading.{FrameReading}
 use Rattle.syslog_collect.specs.declared.connection.Connection.{Connection}
 use Rattle.syslog_collect.specs.declared.outcome.Outcome.{Outcome}
 use Rattle.syslog_collect.specs.Frames.{AreFramesOf, IsFramesOf, all_of}
@@ -75,53 +75,53 @@ no_stream c n (l ∷ ls) [] (d ∷ ds) f e = absurd f
 no_stream c n (l ∷ ls) (s ∷ ss) [] f e = absurd f
 
 -- what a connection at an opening does with octets
-pub record AdvancesOn (clock : Clock) (old new : Connection) (kept now : List Entry) (octets : List ℕ)
+pub record AdvancesOn (way : FrameReading) (old new : Connection) (kept now : List Entry) (octets : List ℕ)
     (outcomes : List Outcome) (s : Stream) (handled : List (List ℕ)) : Type 0 where
   pub fresh : List (List ℕ)
   pub now_at : IsAt new (with_octets s octets) (handled ++ fresh)
-  pub reported : AreReported clock kept now fresh outcomes
+  pub reported : AreReported way kept now fresh outcomes
 
 -- what one connection's octets do to all
-pub record Advanced (clock : Clock) (c : ℕ) (ls : List Connection) (ss : List Stream) (ds : List (List (List ℕ)))
+pub record Advanced (way : FrameReading) (c : ℕ) (ls : List Connection) (ss : List Stream) (ds : List (List (List ℕ)))
     (kept now : List Entry) (o : List ℕ) (outcomes : List Outcome) : Type 0 where
   pub now_handled : List (List (List ℕ))
   pub fresh : List (List ℕ)
   pub follow : AreAt ls (with_piece c o ss) now_handled
-  pub joins : Joins clock (all_of now_handled) (all_of ds) fresh
-  pub reported : AreReported clock kept now fresh outcomes
+  pub joins : Joins way (all_of now_handled) (all_of ds) fresh
+  pub reported : AreReported way kept now fresh outcomes
 
-pub advance_at : (clock : Clock) (c i : ℕ) (x y : Connection) (ls : List Connection) (ss : List Stream)
+pub advance_at : (way : FrameReading) (c i : ℕ) (x y : Connection) (ls : List Connection) (ss : List Stream)
     (ds : List (List (List ℕ))) (kept now : List Entry) (o : List ℕ) (outcomes : List Outcome)
     → AreAt ls ss ds → AtPlace c ls i x → ((s : Stream) (d : List (List ℕ)) → IsAt x s d
-    → AdvancesOn clock x y kept now o outcomes s d)
-    → Advanced clock c (set_at ls i y) ss ds kept now o outcomes
-advance_at clock c zero x y (l ∷ ls) (s ∷ ss) (d ∷ ds) kept now o outcomes f at moves =
+    → AdvancesOn way x y kept now o outcomes s d)
+    → Advanced way c (set_at ls i y) ss ds kept now o outcomes
+advance_at way c zero x y (l ∷ ls) (s ∷ ss) (d ∷ ds) kept now o outcomes f at moves =
     let m = moves s d (subst (λ (z : Connection). IsAt z s d) at.0 f.0) in
     let here : eqb s.number c ≡ true = ap (λ (n : ℕ). eqb n c) (sym f.0.number) ∙ at.1 in
     record {
       now_handled = (d ++ m.fresh) ∷ ds;
       fresh = m.fresh;
       follow = rw here (m.now_at, f.1);
-      joins = joins_before clock (d ++ m.fresh) d m.fresh (all_of ds) (joins_append clock d m.fresh);
+      joins = joins_before way (d ++ m.fresh) d m.fresh (all_of ds) (joins_append way d m.fresh);
       reported = m.reported;
     }
-advance_at clock c (suc i) x y (l ∷ ls) (s ∷ ss) (d ∷ ds) kept now o outcomes f at moves =
-    let a = advance_at clock c i x y ls ss ds kept now o outcomes f.1 at.1 moves in
+advance_at way c (suc i) x y (l ∷ ls) (s ∷ ss) (d ∷ ds) kept now o outcomes f at moves =
+    let a = advance_at way c i x y ls ss ds kept now o outcomes f.1 at.1 moves in
     let not_here : eqb s.number c ≡ false = ap (λ (n : ℕ). eqb n c) (sym f.0.number) ∙ at.0 in
     record {
       now_handled = d ∷ a.now_handled;
       fresh = a.fresh;
       follow = rw not_here (f.0, a.follow);
-      joins = joins_after clock d (all_of a.now_handled) (all_of ds) a.fresh a.joins;
+      joins = joins_after way d (all_of a.now_handled) (all_of ds) a.fresh a.joins;
       reported = a.reported;
     }
-advance_at clock c i x y [] [] [] kept now o outcomes f at moves = absurd at
-advance_at clock c i x y [] [] (d ∷ ds) kept now o outcomes f at moves = absurd f
-advance_at clock c i x y [] (s ∷ ss) [] kept now o outcomes f at moves = absurd f
-advance_at clock c i x y [] (s ∷ ss) (d ∷ ds) kept now o outcomes f at moves = absurd f
-advance_at clock c i x y (l ∷ ls) [] [] kept now o outcomes f at moves = absurd f
-advance_at clock c i x y (l ∷ ls) [] (d ∷ ds) kept now o outcomes f at moves = absurd f
-advance_at clock c i x y (l ∷ ls) (s ∷ ss) [] kept now o outcomes f at moves = absurd f
+advance_at way c i x y [] [] [] kept now o outcomes f at moves = absurd at
+advance_at way c i x y [] [] (d ∷ ds) kept now o outcomes f at moves = absurd f
+advance_at way c i x y [] (s ∷ ss) [] kept now o outcomes f at moves = absurd f
+advance_at way c i x y [] (s ∷ ss) (d ∷ ds) kept now o outcomes f at moves = absurd f
+advance_at way c i x y (l ∷ ls) [] [] kept now o outcomes f at moves = absurd f
+advance_at way c i x y (l ∷ ls) [] (d ∷ ds) kept now o outcomes f at moves = absurd f
+advance_at way c i x y (l ∷ ls) (s ∷ ss) [] kept now o outcomes f at moves = absurd f
 
 -- a new connection after all, and its opening after all
 pub follow_push : (l : Connection) (s : Stream) (d : List (List ℕ)) (ls : List Connection) (ss : List Stream)
@@ -181,18 +181,18 @@ abbrev pub IsHandled : Connection → Type 0
 IsHandled x = (s : Stream) (d : List (List ℕ)) → IsAt x s d → IsFramesOf s d
 
 -- one connection is taken out
-pub record Closed (clock : Clock) (c : ℕ) (ls : List Connection) (ss : List Stream) (ds : List (List (List ℕ))) : Type 0
+pub record Closed (way : FrameReading) (c : ℕ) (ls : List Connection) (ss : List Stream) (ds : List (List (List ℕ))) : Type 0
   where
     pub was_open : IsSome (stream_of c ss)
     pub still : List (List (List ℕ))
     pub gone : List (List ℕ)
     pub follow : AreAt ls (without c ss) still
     pub gone_are : AreFramesOf (streams_of c ss) (gone ∷ [])
-    pub joins : Joins clock (all_of ds) (all_of still) gone
+    pub joins : Joins way (all_of ds) (all_of still) gone
 
-pub close_at : (clock : Clock) (c i : ℕ) (x : Connection) (ls : List Connection) (ss : List Stream)
-    (ds : List (List (List ℕ))) → AreAt ls ss ds → AtPlace c ls i x → IsHandled x → Closed clock c (remove ls i) ss ds
-close_at clock c zero x (l ∷ ls) (s ∷ ss) (d ∷ ds) f at none =
+pub close_at : (way : FrameReading) (c i : ℕ) (x : Connection) (ls : List Connection) (ss : List Stream)
+    (ds : List (List (List ℕ))) → AreAt ls ss ds → AtPlace c ls i x → IsHandled x → Closed way c (remove ls i) ss ds
+close_at way c zero x (l ∷ ls) (s ∷ ss) (d ∷ ds) f at none =
     let here : eqb s.number c ≡ true = ap (λ (n : ℕ). eqb n c) (sym f.0.number) ∙ at.1 in
     record {
       was_open = rw here refl;
@@ -201,12 +201,12 @@ close_at clock c zero x (l ∷ ls) (s ∷ ss) (d ∷ ds) f at none =
       follow = rw here f.1;
       gone_are = rw here (none s d (subst (λ (z : Connection). IsAt z s d) at.0 f.0), tt);
       joins = λ e. (
-        λ h. elim (spelled_either clock d (all_of ds) e h) [ inl a ↦ inr a | inr b ↦ inl b ],
-        λ h. elim h [ inl b ↦ spelled_after clock d (all_of ds) e b | inr a ↦ spelled_before clock d (all_of ds) e a ],
+        λ h. elim (spelled_either way d (all_of ds) e h) [ inl a ↦ inr a | inr b ↦ inl b ],
+        λ h. elim h [ inl b ↦ spelled_after way d (all_of ds) e b | inr a ↦ spelled_before way d (all_of ds) e a ],
       );
     }
-close_at clock c (suc i) x (l ∷ ls) (s ∷ ss) (d ∷ ds) f at none =
-    let rest = close_at clock c i x ls ss ds f.1 at.1 none in
+close_at way c (suc i) x (l ∷ ls) (s ∷ ss) (d ∷ ds) f at none =
+    let rest = close_at way c i x ls ss ds f.1 at.1 none in
     let not_here : eqb s.number c ≡ false = ap (λ (n : ℕ). eqb n c) (sym f.0.number) ∙ at.0 in
     record {
       was_open = rw not_here rest.was_open;
@@ -214,12 +214,12 @@ close_at clock c (suc i) x (l ∷ ls) (s ∷ ss) (d ∷ ds) f at none =
       gone = rest.gone;
       follow = rw not_here (f.0, rest.follow);
       gone_are = rw not_here rest.gone_are;
-      joins = joins_after clock d (all_of ds) (all_of rest.still) rest.gone rest.joins;
+      joins = joins_after way d (all_of ds) (all_of rest.still) rest.gone rest.joins;
     }
-close_at clock c i x [] [] [] f at none = absurd at
-close_at clock c i x [] [] (d ∷ ds) f at none = absurd f
-close_at clock c i x [] (s ∷ ss) [] f at none = absurd f
-close_at clock c i x [] (s ∷ ss) (d ∷ ds) f at none = absurd f
-close_at clock c i x (l ∷ ls) [] [] f at none = absurd f
-close_at clock c i x (l ∷ ls) [] (d ∷ ds) f at none = absurd f
-close_at clock c i x (l ∷ ls) (s ∷ ss) [] f at none = absurd f
+close_at way c i x [] [] [] f at none = absurd at
+close_at way c i x [] [] (d ∷ ds) f at none = absurd f
+close_at way c i x [] (s ∷ ss) [] f at none = absurd f
+close_at way c i x [] (s ∷ ss) (d ∷ ds) f at none = absurd f
+close_at way c i x (l ∷ ls) [] [] f at none = absurd f
+close_at way c i x (l ∷ ls) [] (d ∷ ds) f at none = absurd f
+close_at way c i x (l ∷ ls) (s ∷ ss) [] f at none = absurd f

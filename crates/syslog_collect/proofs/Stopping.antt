@@ -9,7 +9,7 @@ use Rattle.syslog_frame.specs.declared.framing.Framing.{Framing}
 use Rattle.syslog_frame.specs.declared.phase.Phase.{Phase}
 use Rattle.syslog_frame.specs.declared.phase.Phase.TheVariants.{Ended as phase_Ended}
 use Rattle.archive_text.specs.Entries.{Entry}
-use Rattle.syslog_legacy.specs.FrameReadings.{Clock}
+use Rattle.syslog_legacy.specs.declared.frame_reading.FrameReading.{FrameReading}
 use Rattle.syslog_collect.specs.declared.connection.Connection.{Connection}
 use Rattle.syslog_collect.specs.declared.event.Event.{Event}
 use Rattle.syslog_collect.specs.declared.event.Event.TheVariants.{Opened as event_Opened, Piece as event_Piece}
@@ -46,29 +46,29 @@ use Rattle.syslog_collect.proofs.Waiting.{place_set, waiting_at}
 -- ---- one step of a piece
 
 -- an advance that was refused
-pub step_cause : {T : Type 0} (clock : Clock) (rest : List ℕ) (used : ℕ) (x y : Connection) (was now : T)
-    (fault : CollectFault) (s : Stream) → used ≡ used_before fault → used ≤ length rest → IsCause clock rest (Err fault) s
+pub step_cause : {T : Type 0} (way : FrameReading) (rest : List ℕ) (used : ℕ) (x y : Connection) (was now : T)
+    (fault : CollectFault) (s : Stream) → used ≡ used_before fault → used ≤ length rest → IsCause way rest (Err fault) s
     → IfMemory {A = Advance} (Err fault) (y.scanner.phase ≡ phase_Ended)
     → IfRefused {A = Advance} (Err fault) ((y ≡ x) × (now ≡ was))
     → IsTaken rest (ready_count x.scanner.phase) (Err fault) s
-    → StopsStep clock rest used (ready_count x.scanner.phase) (ready_count y.scanner.phase) fault s
-step_cause clock rest used x y was now (Memory n) s is le cause frame same taken =
+    → StopsStep way rest used (ready_count x.scanner.phase) (ready_count y.scanner.phase) fault s
+step_cause way rest used x y was now (Memory n) s is le cause frame same taken =
     inr (
       (
-        subst (λ (k : ℕ). IsCause clock rest (Err (Memory k)) s) (sym is) cause,
+        subst (λ (k : ℕ). IsCause way rest (Err (Memory k)) s) (sym is) cause,
         subst (λ (k : ℕ). EndsFrameOf (take k rest) n s) (sym is) (ends_of rest n s (omega (arith, is)) taken.1),
         ap (λ (p : Phase). ready_count p) frame,
       ),
       omega (arith, is, taken.2),
     )
-step_cause clock rest used x y was now ConnFailed s is le cause frame same taken = inr ((cause, is), tt)
-step_cause clock rest used x y was now StreamTooLong s is le cause frame same taken =
+step_cause way rest used x y was now ConnFailed s is le cause frame same taken = inr ((cause, is), tt)
+step_cause way rest used x y was now StreamTooLong s is le cause frame same taken =
     inr ((cause, is, ap (λ (c : Connection). ready_count c.scanner.phase) same.0 ∙ taken), tt)
-step_cause clock rest used x y was now NotOpen s is le cause frame same taken = absurd cause
-step_cause clock rest used x y was now AlreadyOpen s is le cause frame same taken = absurd cause
-step_cause clock rest used x y was now TooManyOpen s is le cause frame same taken = absurd cause
-step_cause clock rest used x y was now Unreleased s is le cause frame same taken = absurd cause
-step_cause clock rest used x y was now (Unterminated start) s is le cause frame same taken = absurd cause
+step_cause way rest used x y was now NotOpen s is le cause frame same taken = absurd cause
+step_cause way rest used x y was now AlreadyOpen s is le cause frame same taken = absurd cause
+step_cause way rest used x y was now TooManyOpen s is le cause frame same taken = absurd cause
+step_cause way rest used x y was now Unreleased s is le cause frame same taken = absurd cause
+step_cause way rest used x y was now (Unterminated start) s is le cause frame same taken = absurd cause
 
 unmarked : (o : Option Outcome) (t : Stream) → ¬ (IsBadCount o) → ReportsBadCount (outcomes_of o) t
     → ¬ (HoldsBadCount t)
@@ -81,12 +81,12 @@ unmarked (Some TooLong) t good marks = marks
 unmarked (Some (BadCount at)) t good marks = absurd (good tt)
 
 -- one that was not, and met no bad count
-pub step_goes_on : (clock : Clock) (x y : Connection) (a b : List Entry) (rest : List ℕ) (n : ℕ) (o : Option Outcome)
+pub step_goes_on : (way : FrameReading) (x y : Connection) (a b : List Entry) (rest : List ℕ) (n : ℕ) (o : Option Outcome)
     (s : Stream) (d : List (List ℕ)) (waits : ℕ) → ¬ (IsBadCount o)
-    → ComesInTurn rest waits n s → Advances clock x y a b (take (accepted_count (length rest) n o) rest) (outcomes_of o)
+    → ComesInTurn rest waits n s → Advances way x y a b (take (accepted_count (length rest) n o) rest) (outcomes_of o)
     s d → MayGoOn rest n s
-step_goes_on clock x y a b rest n o s d waits good (inl (one, none)) moves = inl none
-step_goes_on clock x y a b rest n o s d waits good (inr (none, fits)) moves =
+step_goes_on way x y a b rest n o s d waits good (inl (one, none)) moves = inl none
+step_goes_on way x y a b rest n o s d waits good (inr (none, fits)) moves =
     inr (
       unmarked o (with_octets s (take n rest)) good
           (subst (λ (k : ℕ). ReportsBadCount (outcomes_of o) (with_octets s (take k rest)))
@@ -97,17 +97,17 @@ step_goes_on clock x y a b rest n o s d waits good (inr (none, fits)) moves =
 -- ---- the steps of a piece
 
 -- where a connection is after octets
-reached : (clock : Clock) (x y : Connection) (a b : List Entry) (o : List ℕ) (l m : List Outcome) (s : Stream)
-    (d : List (List ℕ)) → IsAt x s d → Logs clock x y a b o l m s d
+reached : (way : FrameReading) (x y : Connection) (a b : List Entry) (o : List ℕ) (l m : List Outcome) (s : Stream)
+    (d : List (List ℕ)) → IsAt x s d → Logs way x y a b o l m s d
     → (e : List (List ℕ)) × IsAt y (with_octets s o) e × ((o ≡ []) ⊎ ¬ (HoldsBadCount s))
-reached clock x y a b o l m s d at (os, log, inl (none, same, kept, quiet)) = (
+reached way x y a b o l m s d at (os, log, inl (none, same, kept, quiet)) = (
   d,
   subst (λ (u : List ℕ). IsAt y (with_octets s u) d) (sym none)
       (subst (λ (t : Stream). IsAt y t d) (sym (with_octets_none s))
       (subst (λ (w : Connection). IsAt w s d) (sym same) at)),
   inl none,
 )
-reached clock x y a b o l m s d at (os, log, inr moves) = (d ++ moves.fresh, moves.now_at, inr moves.may.0)
+reached way x y a b o l m s d at (os, log, inr moves) = (d ++ moves.fresh, moves.now_at, inr moves.may.0)
 
 -- with no octets more it is the opening
 of_none : (P : Stream → Type 0) (s : Stream) (o : List ℕ) → o ≡ [] → P (with_octets s o) → P s
@@ -129,12 +129,12 @@ lengths s p n le = omega (
 )
 
 -- a cause of the rest of a piece is one of the piece
-of_rest : (clock : Clock) (p : List ℕ) (n m waited waits : ℕ) (fault : CollectFault) (s : Stream) → n ≤ length p
+of_rest : (way : FrameReading) (p : List ℕ) (n m waited waits : ℕ) (fault : CollectFault) (s : Stream) → n ≤ length p
     → m ≤ length (take (length p - n) (drop n p)) → (take n p ≡ []) ⊎ ¬ (HoldsBadCount s) → MayGoOn p n s
     → IsBetween p n waited s → IfMemory {A = Unit {0}} (Err fault) (0 < waited + m)
-    → IsPieceCause clock (take (length p - n) (drop n p)) m waits fault (with_octets s (take n p))
-    → IsPieceCause clock p (n + m) waits fault s
-of_rest clock p n m waited waits (Memory k) s le lt was may between some
+    → IsPieceCause way (take (length p - n) (drop n p)) m waits fault (with_octets s (take n p))
+    → IsPieceCause way p (n + m) waits fault s
+of_rest way p n m waited waits (Memory k) s le lt was may between some
     ((good, (frames, f, are, spelled)), ends, one) =
     let before : ¬ (HoldsBadCount s) = elim was
     [ inl none ↦ of_none (λ (t : Stream). ¬ (HoldsBadCount t)) s (take n p) none good | inr sound ↦ sound ] in
@@ -144,11 +144,11 @@ of_rest clock p n m waited waits (Memory k) s le lt was may between some
       frame_of_rest p n m k s le lt (before_step p n m waited s between some) ends,
       one,
     )
-of_rest clock p n m waited waits ConnFailed s le lt was (inl none) between some (cause, zero_here) =
+of_rest way p n m waited waits ConnFailed s le lt was (inl none) between some (cause, zero_here) =
     (of_none (λ (t : Stream). HoldsBadCount t) s (take n p) (take_none n p none) cause, omega arith)
-of_rest clock p n m waited waits ConnFailed s le lt was (inr (good, fits)) between some (cause, zero_here) =
+of_rest way p n m waited waits ConnFailed s le lt was (inr (good, fits)) between some (cause, zero_here) =
     absurd (good cause)
-of_rest clock p n m waited waits StreamTooLong s le lt was (inl none) between some
+of_rest way p n m waited waits StreamTooLong s le lt was (inl none) between some
     ((good, long), zero_here, quiet) = (
       (
         of_none (λ (t : Stream). ¬ (HoldsBadCount t)) s (take n p) (take_none n p none) good,
@@ -157,44 +157,44 @@ of_rest clock p n m waited waits StreamTooLong s le lt was (inl none) between so
       omega arith,
       quiet,
     )
-of_rest clock p n m waited waits StreamTooLong s le lt was (inr (good, fits)) between some
+of_rest way p n m waited waits StreamTooLong s le lt was (inr (good, fits)) between some
     ((still, long), zero_here, quiet) = absurd (omega (arith, lengths s p n le, long, fits))
-of_rest clock p n m waited waits NotOpen s le lt was may between some cause = absurd cause
-of_rest clock p n m waited waits AlreadyOpen s le lt was may between some cause = absurd cause
-of_rest clock p n m waited waits TooManyOpen s le lt was may between some cause = absurd cause
-of_rest clock p n m waited waits Unreleased s le lt was may between some cause = absurd cause
-of_rest clock p n m waited waits (Unterminated start) s le lt was may between some cause = absurd cause
+of_rest way p n m waited waits NotOpen s le lt was may between some cause = absurd cause
+of_rest way p n m waited waits AlreadyOpen s le lt was may between some cause = absurd cause
+of_rest way p n m waited waits TooManyOpen s le lt was may between some cause = absurd cause
+of_rest way p n m waited waits Unreleased s le lt was may between some cause = absurd cause
+of_rest way p n m waited waits (Unterminated start) s le lt was may between some cause = absurd cause
 
-pub piece_stops : (clock : Clock) (x y : Connection) (a b : List Entry) (p : List ℕ) (n m waited waits : ℕ)
+pub piece_stops : (way : FrameReading) (x y : Connection) (a b : List Entry) (p : List ℕ) (n m waited waits : ℕ)
     (fault : CollectFault) (l k : List Outcome) (s : Stream) (d : List (List ℕ)) → n ≤ length p
-    → m ≤ length (take (length p - n) (drop n p)) → IsAt x s d → Logs clock x y a b (take n p) l k s d
+    → m ≤ length (take (length p - n) (drop n p)) → IsAt x s d → Logs way x y a b (take n p) l k s d
     → MayGoOn p n s → IsBetween p n waited s
     → ((t : Stream) (e : List (List ℕ)) → IsAt y t e
-    → StopsStep clock (take (length p - n) (drop n p)) m waited waits fault t)
-    → StopsPiece clock p (n + m) waits fault s
-piece_stops clock x y a b p n m waited waits fault l k s d le lt at logs may between cause =
-    let there = reached clock x y a b (take n p) l k s d at logs in
+    → StopsStep way (take (length p - n) (drop n p)) m waited waits fault t)
+    → StopsPiece way p (n + m) waits fault s
+piece_stops way x y a b p n m waited waits fault l k s d le lt at logs may between cause =
+    let there = reached way x y a b (take n p) l k s d at logs in
     elim (cause (with_octets s (take n p)) there.0 there.1) [
       | inl (room, none, same) ↦ inl (room, between_kept p n m waited waits s none same between)
-      | inr (why, some) ↦ inr (of_rest clock p n m waited waits fault s le lt there.2 may between some why)
+      | inr (why, some) ↦ inr (of_rest way p n m waited waits fault s le lt there.2 may between some why)
     ]
 
 -- a step that goes on ends a frame
-pub piece_between : (clock : Clock) (x y : Connection) (a b : List Entry) (p : List ℕ) (n m : ℕ) (l k : List Outcome)
-    (s : Stream) (d : List (List ℕ)) (waits : ℕ) → waits ≡ 0 → IsAt x s d → Logs clock x y a b (take n p) l k s d
+pub piece_between : (way : FrameReading) (x y : Connection) (a b : List Entry) (p : List ℕ) (n m : ℕ) (l k : List Outcome)
+    (s : Stream) (d : List (List ℕ)) (waits : ℕ) → waits ≡ 0 → IsAt x s d → Logs way x y a b (take n p) l k s d
     → ((t : Stream) (e : List (List ℕ)) → IsAt y t e → IsWholeWith (take m (take (length p - n) (drop n p))) t)
     → IsBetween p (n + m) waits s
-piece_between clock x y a b p n m l k s d waits quiet at logs next =
-    let there = reached clock x y a b (take n p) l k s d at logs in
+piece_between way x y a b p n m l k s d waits quiet at logs next =
+    let there = reached way x y a b (take n p) l k s d at logs in
     inr (quiet, whole_on p n m s (next (with_octets s (take n p)) there.0 there.1))
 
-pub piece_goes_on : (clock : Clock) (x y : Connection) (a b : List Entry) (p : List ℕ) (n m : ℕ) (l k : List Outcome)
+pub piece_goes_on : (way : FrameReading) (x y : Connection) (a b : List Entry) (p : List ℕ) (n m : ℕ) (l k : List Outcome)
     (s : Stream) (d : List (List ℕ)) → n ≤ length p
-    → IsAt x s d → Logs clock x y a b (take n p) l k s d → MayGoOn p n s
+    → IsAt x s d → Logs way x y a b (take n p) l k s d → MayGoOn p n s
     → ((t : Stream) (e : List (List ℕ)) → IsAt y t e → MayGoOn (take (length p - n) (drop n p)) m t)
     → MayGoOn p (n + m) s
-piece_goes_on clock x y a b p n m l k s d le at logs may next =
-    let there = reached clock x y a b (take n p) l k s d at logs in
+piece_goes_on way x y a b p n m l k s d le at logs may next =
+    let there = reached way x y a b (take n p) l k s d at logs in
     elim (next (with_octets s (take n p)) there.0 there.1) [
       | inl none ↦ let same : n ≡ n + m = omega arith in subst (λ (i : ℕ). MayGoOn p i s) same may
       | inr (good, fits) ↦
@@ -212,32 +212,32 @@ within_taken p n m le lt = omega (arith, length-take (length p - n) (drop n p), 
 
 -- ---- a piece of a number
 
-refused_at : (clock : Clock) (c : ℕ) (piece : List ℕ) (taken waits : ℕ) (fault : CollectFault) (h : History)
-    (s : Stream) → stream_of c h.streams ≡ Some s → IsPieceCause clock piece taken waits fault s
-    → IsPieceRefusal clock c piece taken waits fault h
-refused_at clock c piece taken waits (Memory n) h s is cause = rw is cause
-refused_at clock c piece taken waits ConnFailed h s is cause = rw is cause
-refused_at clock c piece taken waits StreamTooLong h s is cause = rw is cause
-refused_at clock c piece taken waits NotOpen h s is cause = absurd cause
-refused_at clock c piece taken waits AlreadyOpen h s is cause = absurd cause
-refused_at clock c piece taken waits TooManyOpen h s is cause = absurd cause
-refused_at clock c piece taken waits Unreleased h s is cause = absurd cause
-refused_at clock c piece taken waits (Unterminated start) h s is cause = absurd cause
+refused_at : (way : FrameReading) (c : ℕ) (piece : List ℕ) (taken waits : ℕ) (fault : CollectFault) (h : History)
+    (s : Stream) → stream_of c h.streams ≡ Some s → IsPieceCause way piece taken waits fault s
+    → IsPieceRefusal way c piece taken waits fault h
+refused_at way c piece taken waits (Memory n) h s is cause = rw is cause
+refused_at way c piece taken waits ConnFailed h s is cause = rw is cause
+refused_at way c piece taken waits StreamTooLong h s is cause = rw is cause
+refused_at way c piece taken waits NotOpen h s is cause = absurd cause
+refused_at way c piece taken waits AlreadyOpen h s is cause = absurd cause
+refused_at way c piece taken waits TooManyOpen h s is cause = absurd cause
+refused_at way c piece taken waits Unreleased h s is cause = absurd cause
+refused_at way c piece taken waits (Unterminated start) h s is cause = absurd cause
 
 -- a piece of the connection that was found
-pub piece_refused : (clock : Clock) (c n : ℕ) (x y : Connection) (ls : List Connection) (kept now first : List Entry)
+pub piece_refused : (way : FrameReading) (c n : ℕ) (x y : Connection) (ls : List Connection) (kept now first : List Entry)
     (es : List AcceptedEvent) (o : List ℕ) (r : EventEnd) (l m : List Outcome)
     → place_from c 0 ls ≡ Some n → x ≡ get_or ls n x
-    → ((s : Stream) (d : List (List ℕ)) → IsAt x s d → Logs clock x y kept now (piece_octets o r) l m s d)
+    → ((s : Stream) (d : List (List ℕ)) → IsAt x s d → Logs way x y kept now (piece_octets o r) l m s d)
     → ((s : Stream) (d : List (List ℕ)) → IsAt x s d
-    → IfStopped r (λ taken fault. StopsPiece clock o taken (ready_count y.scanner.phase) fault s))
-    → Stands clock ls kept first es
-    → IfStopped r (λ taken fault. StopsPieceAt clock c o taken (waiting (set_at ls n y) c) fault (history_of es))
-piece_refused clock c n x y ls kept now first es o end_Done l m is item logs cause was = tt
-piece_refused clock c n x y ls kept now first es o (end_Stopped taken fault) l m is item logs cause was =
+    → IfStopped r (λ taken fault. StopsPiece way o taken (ready_count y.scanner.phase) fault s))
+    → Stands way ls kept first es
+    → IfStopped r (λ taken fault. StopsPieceAt way c o taken (waiting (set_at ls n y) c) fault (history_of es))
+piece_refused way c n x y ls kept now first es o end_Done l m is item logs cause was = tt
+piece_refused way c n x y ls kept now first es o (end_Stopped taken fault) l m is item logs cause was =
     let here = found_here c n x ls is item in
     let there = opening_at c n x ls (history_of es).streams was.stands_at.handled was.stands_at.follow here in
-    let then = reached clock x y kept now (take taken o) l m there.opening there.handled there.at
+    let then = reached way x y kept now (take taken o) l m there.opening there.handled there.at
     (logs there.opening there.handled there.at) in
     let number : y.number ≡ x.number = then.1.number ∙ sym there.at.number in
     let one = waiting_at c n y (set_at ls n y) (place_set c n x y ls number here) in
@@ -249,46 +249,46 @@ piece_refused clock c n x y ls kept now first es o (end_Stopped taken fault) l m
                 (between_at c o taken (ready_count y.scanner.phase) (history_of es) there.opening there.is between),
           )
       | inr why ↦
-          inr (subst (λ (k : ℕ). IsPieceRefusal clock c o taken k fault (history_of es)) (sym one)
-          (refused_at clock c o taken (ready_count y.scanner.phase) fault (history_of es) there.opening there.is why))
+          inr (subst (λ (k : ℕ). IsPieceRefusal way c o taken k fault (history_of es)) (sym one)
+          (refused_at way c o taken (ready_count y.scanner.phase) fault (history_of es) there.opening there.is why))
     ]
 
 -- ---- events
 
-pub opening_refused : (clock : Clock) (h : History) (w : ℕ
+pub opening_refused : (way : FrameReading) (h : History) (w : ℕ
     → ℕ) (c : ℕ) (k : Framing) (r : Result (Unit {0}) CollectFault) → IsOpening c r h
-    → IfStopped (event_end r) (StopsAt clock h w (event_Opened c k))
-opening_refused clock h w c k (Ok u) cause = tt
-opening_refused clock h w c k (Err fault) cause = (omega arith, inr cause)
+    → IfStopped (event_end r) (StopsAt way h w (event_Opened c k))
+opening_refused way h w c k (Ok u) cause = tt
+opening_refused way h w c k (Err fault) cause = (omega arith, inr cause)
 
-pub ending_refused : (clock : Clock) (h : History) (w v : ℕ → ℕ) (c : ℕ) (r : Result (Unit {0}) CollectFault)
+pub ending_refused : (way : FrameReading) (h : History) (w v : ℕ → ℕ) (c : ℕ) (r : Result (Unit {0}) CollectFault)
     → IsEnding c r h → IfUnreleased r (w c ≡ 1) → v c ≡ w c
-    → IfStopped (event_end r) (StopsAt clock h v (event_Ended c))
-ending_refused clock h w v c (Ok u) cause ready same = tt
-ending_refused clock h w v c (Err fault) cause ready same =
+    → IfStopped (event_end r) (StopsAt way h v (event_Ended c))
+ending_refused way h w v c (Ok u) cause ready same = tt
+ending_refused way h w v c (Err fault) cause ready same =
     (omega arith, inr (cause, subst (λ (k : ℕ). IfUnreleased {U = Unit {0}} (Err fault) (k ≡ 1)) (sym same) ready))
 
-pub piece_event_refused : (clock : Clock) (h : History) (w : ℕ → ℕ) (c : ℕ) (o : Bor (List ℕ)) (r : EventEnd)
+pub piece_event_refused : (way : FrameReading) (h : History) (w : ℕ → ℕ) (c : ℕ) (o : Bor (List ℕ)) (r : EventEnd)
     → IfStopped r (λ taken fault. taken ≤ length o.now)
-    → IfStopped r (λ taken fault. StopsPieceAt clock c o.now taken (w c) fault h)
-    → IfStopped r (StopsAt clock h w (event_Piece c o))
-piece_event_refused clock h w c o end_Done within cause = tt
-piece_event_refused clock h w c o (end_Stopped taken fault) within cause = (within, cause)
+    → IfStopped r (λ taken fault. StopsPieceAt way c o.now taken (w c) fault h)
+    → IfStopped r (StopsAt way h w (event_Piece c o))
+piece_event_refused way h w c o end_Done within cause = tt
+piece_event_refused way h w c o (end_Stopped taken fault) within cause = (within, cause)
 
-pub datagram_refused : (clock : Clock) (h : History) (w : ℕ → ℕ) (o : Bor (List ℕ)) (r : EventEnd)
-    → IfStopped r (λ taken fault. (taken ≡ 0) × (fault ≡ Memory 0) × IsRecordFrame clock o.now)
-    → IfStopped r (StopsAt clock h w (event_Datagram o))
-datagram_refused clock h w o end_Done cause = tt
-datagram_refused clock h w o (end_Stopped taken fault) (none, memory, spelled) = (omega arith, inr (memory, spelled))
+pub datagram_refused : (way : FrameReading) (h : History) (w : ℕ → ℕ) (o : Bor (List ℕ)) (r : EventEnd)
+    → IfStopped r (λ taken fault. (taken ≡ 0) × (fault ≡ Memory 0) × IsRecordFrame way o.now)
+    → IfStopped r (StopsAt way h w (event_Datagram o))
+datagram_refused way h w o end_Done cause = tt
+datagram_refused way h w o (end_Stopped taken fault) (none, memory, spelled) = (omega arith, inr (memory, spelled))
 
-pub first_stops : (clock : Clock) (h : History) (w : ℕ
+pub first_stops : (way : FrameReading) (h : History) (w : ℕ
     → ℕ) (es : List Event) (n taken : ℕ) (fault : CollectFault) (d : Event) → n < length es
-    → StopsAt clock h w (get_or es n d) taken fault
-    → StopsAtFirst clock h w (drop n es) taken fault
-first_stops clock h w [] n taken fault d lt stops = absurd (omega arith)
-first_stops clock h w (e ∷ es) zero taken fault d lt stops = stops
-first_stops clock h w (e ∷ es) (suc n) taken fault d lt stops =
-    first_stops clock h w es n taken fault d (omega arith) stops
+    → StopsAt way h w (get_or es n d) taken fault
+    → StopsAtFirst way h w (drop n es) taken fault
+first_stops way h w [] n taken fault d lt stops = absurd (omega arith)
+first_stops way h w (e ∷ es) zero taken fault d lt stops = stops
+first_stops way h w (e ∷ es) (suc n) taken fault d lt stops =
+    first_stops way h w es n taken fault d (omega arith) stops
 
 pub done_any : (r : EventEnd) → IfDone r (Unit {0})
 done_any end_Done = tt
@@ -316,7 +316,7 @@ end_well-whole h (e ∷ es) (suc n) is all =
     (all.0, end_well-whole (accept h (accepted_event e)) es n (omega arith) all.1)
 
 -- a run of one event
-pub one_stops : (clock : Clock) (h : History) (w : ℕ → ℕ) (e : Event) (at taken : ℕ) (fault : CollectFault)
-    → StopsAs clock h w (e ∷ []) (Stopped at taken fault) → (at ≡ 0) × StopsAt clock h w e taken fault
-one_stops clock h w e zero taken fault (lt, stops) = (refl, stops)
-one_stops clock h w e (suc n) taken fault (lt, stops) = absurd (omega arith)
+pub one_stops : (way : FrameReading) (h : History) (w : ℕ → ℕ) (e : Event) (at taken : ℕ) (fault : CollectFault)
+    → StopsAs way h w (e ∷ []) (Stopped at taken fault) → (at ≡ 0) × StopsAt way h w e taken fault
+one_stops way h w e zero taken fault (lt, stops) = (refl, stops)
+one_stops way h w e (suc n) taken fault (lt, stops) = absurd (omega arith)

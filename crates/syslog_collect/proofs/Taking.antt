@@ -13,7 +13,7 @@ use Rattle.syslog_frame.specs.declared.phase.Phase.TheVariants.{Ended, BadCount 
 use Rattle.syslog_frame.proofs.Calls.{none_unless_frame}
 use Rattle.syslog_frame.proofs.Reading.{frames_with}
 use Rattle.archive_text.specs.Entries.{Entry}
-use Rattle.syslog_legacy.specs.FrameReadings.{Clock}
+use Rattle.syslog_legacy.specs.declared.frame_reading.FrameReading.{FrameReading}
 use Rattle.syslog_collect.specs.declared.connection.Connection.{Connection}
 use Rattle.syslog_collect.specs.declared.fault.Advance.{Advance}
 use Rattle.syslog_collect.specs.declared.fault.CollectFault.{CollectFault}
@@ -62,10 +62,10 @@ all_taken kind p piece n mid (inr (inl (breaks, bad))) (inl reading) = absurd (r
 all_taken kind p piece n mid (inr (inl (breaks, bad))) (inr failed) = absurd (apart_bad mid.phase failed bad)
 all_taken kind p piece n mid (inr (inr (goes, reading))) quiet = goes.all
 
-module _ (clock : Clock) (old : Connection) (mid : Scan) (a b : List Entry) (piece : List ℕ) (n : ℕ) (s : Stream)
+module _ (way : FrameReading) (old : Connection) (mid : Scan) (a b : List Entry) (piece : List ℕ) (n : ℕ) (s : Stream)
     (handled : List (List ℕ)) (here : IsOpenAt old.scanner s handled) (p : IsPushed old.scanner mid piece n) where
   -- a frame is ready, so that the octets are whole frames
-  whole_with : (o : Outcome) → HandlesFrame clock mid a b o → IsWholeWith (take n piece) s
+  whole_with : (o : Outcome) → HandlesFrame way mid a b o → IsWholeWith (take n piece) s
   whole_with o (ready, h) =
       let on = (p.reads s.framing 0 s.octets handled here.rest here.reads here.good).reads in
       let f = h s.framing 0 (s.octets ++ take n piece) handled (here.rest ++ take n piece) on in (
@@ -74,7 +74,7 @@ module _ (clock : Clock) (old : Connection) (mid : Scan) (a b : List Entry) (pie
             (here.rest ++ take n piece) f.0 on f.1,
       )
 
-  pub stops_open : (o : Option Outcome) → HandlesReady clock mid a b o
+  pub stops_open : (o : Option Outcome) → HandlesReady way mid a b o
       → ((kind : Framing) (position : ℕ) (q : List ℕ) → scanner_Stands FRAME_MAX old.scanner kind position q
       → ¬ (HasBadCount old.scanner) → Takes kind q piece n mid) → StopsRight piece n o s
   stops_open None (quiet, same) takes = all_taken s.framing here.rest piece n mid
@@ -88,19 +88,19 @@ module _ (clock : Clock) (old : Connection) (mid : Scan) (a b : List Entry) (pie
   stops_open (Some TooLong) h takes = whole_with TooLong h
 
 -- octets that were pushed stop where they should
-pub stops_right : (clock : Clock) (old : Connection) (mid : Scan) (a b : List Entry) (piece : List ℕ) (n : ℕ)
+pub stops_right : (way : FrameReading) (old : Connection) (mid : Scan) (a b : List Entry) (piece : List ℕ) (n : ℕ)
     (o : Option Outcome) (s : Stream) (handled : List (List ℕ)) → IsPushed old.scanner mid piece n
-    → HandlesReady clock mid a b o
+    → HandlesReady way mid a b o
     → ((kind : Framing) (position : ℕ) (q : List ℕ) → scanner_Stands FRAME_MAX old.scanner kind position q
     → ¬ (HasBadCount old.scanner) → Takes kind q piece n mid) → IsAt old s handled → StopsRight piece n o s
-stops_right clock old mid a b piece n o s handled p h takes at =
-    stops_open clock old mid a b piece n s handled (open_unless_failed old s handled p.live at) p o h takes
+stops_right way old mid a b piece n o s handled p h takes at =
+    stops_open way old mid a b piece n s handled (open_unless_failed old s handled p.live at) p o h takes
 
 -- octets that were pushed are all of the frame that is ready
-pub ends_frame : (clock : Clock) (c : Connection) (mid : Scan) (s : Stream) (handled : List (List ℕ))
-    (piece : List ℕ) (n : ℕ) → IsPushed c.scanner mid piece n → HasRecord clock mid → IsAt c s handled
+pub ends_frame : (way : FrameReading) (c : Connection) (mid : Scan) (s : Stream) (handled : List (List ℕ))
+    (piece : List ℕ) (n : ℕ) → IsPushed c.scanner mid piece n → HasRecord way mid → IsAt c s handled
     → EndsFrameWith (take n piece) s
-ends_frame clock c mid s handled piece n p record_ready at =
+ends_frame way c mid s handled piece n p record_ready at =
     let here = open_unless_failed c s handled p.live at in
     let on = (p.reads s.framing 0 s.octets handled here.rest here.reads here.good).reads in
     let f = record_ready s.framing 0 (s.octets ++ take n piece) handled (here.rest ++ take n piece) on in
@@ -113,10 +113,10 @@ ends_frame clock c mid s handled piece n p record_ready at =
     )
 
 -- where a frame is ready, one waited or an octet was taken
-pub some_taken : (clock : Clock) (c : Connection) (mid : Scan) (s : Stream) (handled : List (List ℕ))
-    (piece : List ℕ) (n : ℕ) → IsPushed c.scanner mid piece n → HasRecord clock mid → IsAt c s handled
+pub some_taken : (way : FrameReading) (c : Connection) (mid : Scan) (s : Stream) (handled : List (List ℕ))
+    (piece : List ℕ) (n : ℕ) → IsPushed c.scanner mid piece n → HasRecord way mid → IsAt c s handled
     → 0 < ready_count c.scanner.phase + n
-some_taken clock c mid s handled piece zero p record_ready at =
+some_taken way c mid s handled piece zero p record_ready at =
     let here = open_unless_failed c s handled p.live at in
     elim (ended_or_not c.scanner.phase) [
       | inl frame ↦ omega (arith, ap (λ (phase : Phase). ready_count phase) frame)
@@ -127,16 +127,16 @@ some_taken clock c mid s handled piece zero p record_ready at =
           here.reads.stands (here.rest ++ []) [] (sym (append-nil (here.rest ++ []) ∙ append-nil here.rest))
           (f.0, f.1))
     ]
-some_taken clock c mid s handled piece (suc n) p record_ready at = omega arith
+some_taken way c mid s handled piece (suc n) p record_ready at = omega arith
 
 -- what is taken at the connection that was found
-pub taken_found : (clock : Clock) (c n : ℕ) (x : Connection) (ls : List Connection) (kept first : List Entry)
+pub taken_found : (way : FrameReading) (c n : ℕ) (x : Connection) (ls : List Connection) (kept first : List Entry)
     (es : List AcceptedEvent) (piece : List ℕ) (r : Result Advance CollectFault)
     → place_from c 0 ls ≡ Some n → x ≡ get_or ls n x
     → ((s : Stream) (d : List (List ℕ)) → IsAt x s d → IsTaken piece (ready_count x.scanner.phase) r s)
-    → Stands clock ls kept first es
+    → Stands way ls kept first es
     → IfSome (stream_of c (history_of es).streams) (IsTaken piece (waiting ls c) r)
-taken_found clock c n x ls kept first es piece r is item taken was =
+taken_found way c n x ls kept first es piece r is item taken was =
     let here = found_here c n x ls is item in
     let there = opening_at c n x ls (history_of es).streams was.stands_at.handled was.stands_at.follow here in
     rw there.is (subst (λ (k : ℕ). IsTaken piece k r there.opening) (sym (waiting_at c n x ls here))

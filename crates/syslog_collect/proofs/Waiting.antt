@@ -15,7 +15,7 @@ use Rattle.syslog_frame.proofs.Calls.{none_unless_frame}
 use Rattle.syslog_frame.proofs.Reading.{frames_read, frames_with}
 use Rattle.syslog_frame.proofs.Standing.{whole_ended}
 use Rattle.archive_text.specs.Entries.{Entry}
-use Rattle.syslog_legacy.specs.FrameReadings.{Clock}
+use Rattle.syslog_legacy.specs.declared.frame_reading.FrameReading.{FrameReading}
 use Rattle.syslog_collect.specs.declared.connection.Connection.{Connection}
 use Rattle.syslog_collect.specs.declared.fault.Advance.{Advance}
 use Rattle.syslog_collect.specs.declared.fault.CollectFault.{CollectFault}
@@ -259,13 +259,13 @@ waiting_removed c (suc i) d x (l ∷ ls) at ne =
     ap (λ (m : ℕ). cond (eqb l.number d) (ready_count l.scanner.phase) m) (waiting_removed c i d x ls at.1 ne)
 
 -- no frame waits of a connection that was closed, and the others wait as before
-pub waiting_closed : (clock : Clock) (c n : ℕ) (x : Connection) (ls : List Connection) (kept first : List Entry)
+pub waiting_closed : (way : FrameReading) (c n : ℕ) (x : Connection) (ls : List Connection) (kept first : List Entry)
     (es : List AcceptedEvent) → place_from c 0 ls ≡ Some n → x ≡ get_or ls n x → ready_count x.scanner.phase ≡ 0
-    → IsHandled x → Stands clock ls kept first es → (d : ℕ) → waiting (remove ls n) d ≡ waiting ls d
-waiting_closed clock c n x ls kept first es is item none handled was d =
+    → IsHandled x → Stands way ls kept first es → (d : ℕ) → waiting (remove ls n) d ≡ waiting ls d
+waiting_closed way c n x ls kept first es is item none handled was d =
     let at = found_here c n x ls is item in
     let gone = absent_once c (history_of es).streams (distinct_after initial es tt was.acceptable) in
-    let h = (close_found clock c n x ls kept first es is item handled was).stands_at in
+    let h = (close_found way c n x ls kept first es is item handled was).stands_at in
     let absent = subst (λ (g : History). stream_of c g.streams ≡ None) (sym (history_after-push initial es (Ended c)))
     gone in
     elim (eqb_tells c d) [

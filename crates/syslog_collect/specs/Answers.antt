@@ -5,7 +5,7 @@ use Rattle.syslog_frame.specs.Frames.{Frames, IsBadAt, framed}
 use Rattle.syslog_frame.specs.declared.framing.Framing.{Framing}
 use Rattle.syslog_frame.specs.declared.limits.TheConstants.{POSITION_MAX}
 use Rattle.archive_text.specs.Entries.{Entry}
-use Rattle.syslog_legacy.specs.FrameReadings.{Clock}
+use Rattle.syslog_legacy.specs.declared.frame_reading.FrameReading.{FrameReading}
 use Rattle.syslog_collect.specs.declared.connection.Connection.{Connection}
 use Rattle.syslog_collect.specs.declared.fault.Advance.{Advance}
 use Rattle.syslog_collect.specs.declared.fault.CollectFault.{CollectFault}
@@ -95,38 +95,38 @@ ReportsBadCount (TooLong ∷ os) s = ReportsBadCount os s
 
 -- what a connection at an opening does with octets: it is at the opening with them, these frames more
 -- were handled, and these outcomes report them
-pub record Advances (clock : Clock) (old new : Connection) (kept_old kept_new : List Entry) (octets : List ℕ)
+pub record Advances (way : FrameReading) (old new : Connection) (kept_old kept_new : List Entry) (octets : List ℕ)
     (outcomes : List Outcome) (s : Stream) (handled : List (List ℕ)) : Type 0 where
   pub may : MayContinue octets s
   pub fresh : List (List ℕ)
   pub now_at : IsAt new (with_octets s octets) (handled ++ fresh)
-  pub reported : AreReported clock kept_old kept_new fresh outcomes
+  pub reported : AreReported way kept_old kept_new fresh outcomes
   pub marks : ReportsBadCount outcomes (with_octets s octets)
 
 -- by what was accepted: where nothing was, nothing changes
-abbrev pub AdvancesBy : Clock → Option (List ℕ) → Connection → Connection → List Entry → List Entry → List Outcome
+abbrev pub AdvancesBy : FrameReading → Option (List ℕ) → Connection → Connection → List Entry → List Entry → List Outcome
     → Stream → List (List ℕ) → Type 0
-AdvancesBy clock None old new kept_old kept_new outcomes s handled =
+AdvancesBy way None old new kept_old kept_new outcomes s handled =
     (new ≡ old) × (kept_new ≡ kept_old) × (outcomes ≡ [])
-AdvancesBy clock (Some octets) old new kept_old kept_new outcomes s handled =
-    Advances clock old new kept_old kept_new octets outcomes s handled
+AdvancesBy way (Some octets) old new kept_old kept_new outcomes s handled =
+    Advances way old new kept_old kept_new octets outcomes s handled
 
 -- with these octets the opening is whole frames, and the last of them spells a record
-abbrev pub EndsInRecord : Clock → Stream → List ℕ → Type 0
-EndsInRecord clock s octets = (frames : List (List ℕ)) × (f : List ℕ)
-    × Frames s.framing (s.octets ++ octets) (frames ++ f ∷ []) [] × IsRecordFrame clock f
+abbrev pub EndsInRecord : FrameReading → Stream → List ℕ → Type 0
+EndsInRecord way s octets = (frames : List (List ℕ)) × (f : List ℕ)
+    × Frames s.framing (s.octets ++ octets) (frames ++ f ∷ []) [] × IsRecordFrame way f
 
 -- why an advance of a connection at an opening is refused, the first cause that holds
-abbrev pub IsCause : Clock → List ℕ → Result Advance CollectFault → Stream → Type 0
-IsCause clock piece (Ok a) s = ¬ (HoldsBadCount s)
-IsCause clock piece (Err (Memory n)) s = ¬ (HoldsBadCount s) × EndsInRecord clock s (take n piece)
-IsCause clock piece (Err ConnFailed) s = HoldsBadCount s
-IsCause clock piece (Err StreamTooLong) s = ¬ (HoldsBadCount s) × (POSITION_MAX < length s.octets + length piece)
-IsCause clock piece (Err NotOpen) s = ⊥
-IsCause clock piece (Err AlreadyOpen) s = ⊥
-IsCause clock piece (Err TooManyOpen) s = ⊥
-IsCause clock piece (Err Unreleased) s = ⊥
-IsCause clock piece (Err (Unterminated start)) s = ⊥
+abbrev pub IsCause : FrameReading → List ℕ → Result Advance CollectFault → Stream → Type 0
+IsCause way piece (Ok a) s = ¬ (HoldsBadCount s)
+IsCause way piece (Err (Memory n)) s = ¬ (HoldsBadCount s) × EndsInRecord way s (take n piece)
+IsCause way piece (Err ConnFailed) s = HoldsBadCount s
+IsCause way piece (Err StreamTooLong) s = ¬ (HoldsBadCount s) × (POSITION_MAX < length s.octets + length piece)
+IsCause way piece (Err NotOpen) s = ⊥
+IsCause way piece (Err AlreadyOpen) s = ⊥
+IsCause way piece (Err TooManyOpen) s = ⊥
+IsCause way piece (Err Unreleased) s = ⊥
+IsCause way piece (Err (Unterminated start)) s = ⊥
 
 -- n octets of a piece come in their turn at an opening where so many frames wait: none, where one waits; else the piece
 -- is
@@ -187,17 +187,17 @@ IsUsedWithin piece (Err Unreleased) = ⊥
 IsUsedWithin piece (Err (Unterminated start)) = ⊥
 
 -- what an advance of a number answers after a history: the number is not open; or a cause at its opening
-abbrev pub IsAnswerAt : Clock → ℕ → List ℕ → Result Advance CollectFault → History → Type 0
-IsAnswerAt clock c piece (Err NotOpen) h = stream_of c h.streams ≡ None
-IsAnswerAt clock c piece (Ok a) h = IsSomeAnd (stream_of c h.streams) (IsCause clock piece (Ok a))
-IsAnswerAt clock c piece (Err (Memory n)) h = IsSomeAnd (stream_of c h.streams) (IsCause clock piece (Err (Memory n)))
-IsAnswerAt clock c piece (Err ConnFailed) h = IsSomeAnd (stream_of c h.streams) (IsCause clock piece (Err ConnFailed))
-IsAnswerAt clock c piece (Err StreamTooLong) h =
-    IsSomeAnd (stream_of c h.streams) (IsCause clock piece (Err StreamTooLong))
-IsAnswerAt clock c piece (Err AlreadyOpen) h = ⊥
-IsAnswerAt clock c piece (Err TooManyOpen) h = ⊥
-IsAnswerAt clock c piece (Err Unreleased) h = ⊥
-IsAnswerAt clock c piece (Err (Unterminated start)) h = ⊥
+abbrev pub IsAnswerAt : FrameReading → ℕ → List ℕ → Result Advance CollectFault → History → Type 0
+IsAnswerAt way c piece (Err NotOpen) h = stream_of c h.streams ≡ None
+IsAnswerAt way c piece (Ok a) h = IsSomeAnd (stream_of c h.streams) (IsCause way piece (Ok a))
+IsAnswerAt way c piece (Err (Memory n)) h = IsSomeAnd (stream_of c h.streams) (IsCause way piece (Err (Memory n)))
+IsAnswerAt way c piece (Err ConnFailed) h = IsSomeAnd (stream_of c h.streams) (IsCause way piece (Err ConnFailed))
+IsAnswerAt way c piece (Err StreamTooLong) h =
+    IsSomeAnd (stream_of c h.streams) (IsCause way piece (Err StreamTooLong))
+IsAnswerAt way c piece (Err AlreadyOpen) h = ⊥
+IsAnswerAt way c piece (Err TooManyOpen) h = ⊥
+IsAnswerAt way c piece (Err Unreleased) h = ⊥
+IsAnswerAt way c piece (Err (Unterminated start)) h = ⊥
 
 -- the event that an opening adds
 abbrev pub accepted_opening : {U : Type 0} → ℕ → Framing → Result U CollectFault → List AcceptedEvent

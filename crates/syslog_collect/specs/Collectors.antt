@@ -1,7 +1,7 @@
 -- What public calls say of a collector: where it stands, and which of its frames wait.
 use Rattle.std.specs.Prelude.{◌≡◌, ◌≤◌, ℕ, List, ◌++◌, vec_capacity}
 use Rattle.archive_text.specs.Entries.{Entry}
-use Rattle.syslog_legacy.specs.FrameReadings.{Clock}
+use Rattle.syslog_legacy.specs.declared.frame_reading.FrameReading.{FrameReading}
 use Rattle.syslog_collect.specs.declared.collector.Collector.{Collector}
 use Rattle.syslog_collect.specs.Headline.{IsSettled}
 use Rattle.syslog_collect.specs.History.{AcceptedEvent}
@@ -12,9 +12,9 @@ use Rattle.syslog_collect.specs.Standing.{Stands as StandsWith}
 abbrev pub store_of : {S : Type 0} → Collector S → S
 store_of c = c.store
 
--- its clock for legacy packets, or none
-abbrev pub clock_of : {S : Type 0} → Collector S → Clock
-clock_of c = c.clock
+-- how it reads frames
+abbrev pub reading_of : {S : Type 0} → Collector S → FrameReading
+reading_of c = c.reading
 
 -- for how many connections its list has room
 abbrev pub room_of : {S : Type 0} → Collector S → ℕ
@@ -38,12 +38,12 @@ HaveSameConnections old new = new.connections.items ≡ old.connections.items
 
 -- it stands where first entries and the events since lead; a store's entries are told by a function
 abbrev pub Stands : {S : Type 0} → (S → List Entry) → Collector S → List Entry → List AcceptedEvent → Type 0
-Stands entries c first events = StandsWith c.clock c.connections.items (entries c.store) first events
+Stands entries c first events = StandsWith c.reading c.connections.items (entries c.store) first events
 
--- wherever it stood, it stands there with these events more; its clock and its room are kept
+-- wherever it stood, it stands there with these events more; how it reads frames and its room are kept
 pub record GoesOn {S : Type 0} (entries : S → List Entry) (old new : Collector S) (accepted : List AcceptedEvent) : Type
     0 where
   pub stands : (first : List Entry) (events : List AcceptedEvent) → Stands entries old first events →
       Stands entries new first (events ++ accepted)
-  pub clock : clock_of new ≡ clock_of old
+  pub reading : reading_of new ≡ reading_of old
   pub room : room_of old ≤ room_of new

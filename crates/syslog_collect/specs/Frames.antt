@@ -1,7 +1,8 @@
 -- The frames of openings and datagrams, and the entries of the records that they spell.
 use Rattle.std.specs.Prelude.{◌≡◌, ℕ, ℤ, ◌≤◌, ◌⊎◌, ◌↔◌, List, [], ◌∷◌, ◌++◌, length}
 use Rattle.syslog_value.specs.Parts.{Parts}
-use Rattle.syslog_legacy.specs.FrameReadings.{Clock, IsReadAs}
+use Rattle.syslog_legacy.specs.FrameReadings.{IsReadAs}
+use Rattle.syslog_legacy.specs.declared.frame_reading.FrameReading.{FrameReading}
 use Rattle.syslog_frame.specs.Frames.{Frames}
 use Rattle.syslog_frame.specs.declared.limits.TheConstants.{FRAME_MAX}
 use Rattle.archive_text.specs.Entries.{Entry, Has, IsEntryOf}
@@ -41,18 +42,18 @@ abbrev pub IsFrameOf : List AcceptedEvent → List ℕ → Type 0
 IsFrameOf es f = (frames : List (List ℕ)) × HasFrames (history_of es) frames × IsAmong frames f
 
 -- the entry is that of the record as which a frame of at most `FRAME_MAX` octets is read
-abbrev pub IsEntryOfFrame : Clock → List ℕ → Entry → Type 0
-IsEntryOfFrame clock f x = (length f ≤ FRAME_MAX) × ((r : Parts ℤ) × IsReadAs clock r f × IsEntryOf r x)
+abbrev pub IsEntryOfFrame : FrameReading → List ℕ → Entry → Type 0
+IsEntryOfFrame way f x = (length f ≤ FRAME_MAX) × ((r : Parts ℤ) × IsReadAs way r f × IsEntryOf r x)
 
 -- the entry is that of one of the frames
-abbrev pub IsSpelled : Clock → List (List ℕ) → Entry → Type 0
-IsSpelled clock [] x = ⊥
-IsSpelled clock (f ∷ fs) x = IsEntryOfFrame clock f x ⊎ IsSpelled clock fs x
+abbrev pub IsSpelled : FrameReading → List (List ℕ) → Entry → Type 0
+IsSpelled way [] x = ⊥
+IsSpelled way (f ∷ fs) x = IsEntryOfFrame way f x ⊎ IsSpelled way fs x
 
 -- the received set: the entries of the records as which the frames of the events are read
-abbrev pub IsReceived : Clock → List AcceptedEvent → Entry → Type 0
-IsReceived clock es x = (frames : List (List ℕ)) × HasFrames (history_of es) frames × IsSpelled clock frames x
+abbrev pub IsReceived : FrameReading → List AcceptedEvent → Entry → Type 0
+IsReceived way es x = (frames : List (List ℕ)) × HasFrames (history_of es) frames × IsSpelled way frames x
 
 -- the entries are those before and those of the frames, and no other
-abbrev pub Gains : Clock → List Entry → List Entry → List (List ℕ) → Type 0
-Gains clock old new frames = (x : Entry) → Has new x ↔ (Has old x ⊎ IsSpelled clock frames x)
+abbrev pub Gains : FrameReading → List Entry → List Entry → List (List ℕ) → Type 0
+Gains way old new frames = (x : Entry) → Has new x ↔ (Has old x ⊎ IsSpelled way frames x)

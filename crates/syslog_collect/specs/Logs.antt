@@ -4,7 +4,7 @@ use Rattle.syslog_frame.specs.declared.phase.Phase.{Phase}
 use Rattle.syslog_frame.specs.declared.phase.Phase.TheVariants.{Counting, Inside, Ended as phase_Ended}
 use Rattle.syslog_frame.specs.declared.phase.Phase.TheVariants.{BadCount as phase_BadCount, Failed}
 use Rattle.archive_text.specs.Entries.{Entry}
-use Rattle.syslog_legacy.specs.FrameReadings.{Clock}
+use Rattle.syslog_legacy.specs.declared.frame_reading.FrameReading.{FrameReading}
 use Rattle.syslog_collect.specs.declared.connection.Connection.{Connection}
 use Rattle.syslog_collect.specs.declared.event.Event.{Event}
 use Rattle.syslog_collect.specs.declared.event.Event.TheVariants.{Opened as event_Opened, Piece as event_Piece}
@@ -70,7 +70,7 @@ waiting_then (Err (Unterminated start)) c w d = w d
 
 -- the outcomes of an opening's frames where octets come, no bad count before them: of the frames that waited, and of
 -- those that the octets complete, but for those that wait now
-pub record LogsOctets (clock : Clock) (s : Stream) (o : List ℕ) (waited waits : ℕ) (old new : List Entry)
+pub record LogsOctets (way : FrameReading) (s : Stream) (o : List ℕ) (waited waits : ℕ) (old new : List Entry)
     (os : List Outcome) : Type 0 where
   pub sound : ¬ (HoldsBadCount s)
   pub handled : List (List ℕ)
@@ -81,28 +81,28 @@ pub record LogsOctets (clock : Clock) (s : Stream) (o : List ℕ) (waited waits 
   pub count_before : length waiting_before ≡ waited
   pub now : IsFramesOf (with_octets s o) (handled ++ (logged ++ waiting_now))
   pub count_now : length waiting_now ≡ waits
-  pub outcomes : AreReported clock old new logged os
+  pub outcomes : AreReported way old new logged os
   pub bad_count : ReportsBadCount os (with_octets s o)
 
 -- octets of a number are handled, so that none of its frames waits
-abbrev pub Reports : Clock → ℕ → List ℕ → History → ℕ → List Entry → List Entry → List Outcome → Type 0
-Reports clock c o h waited old new os = IsSomeAnd (stream_of c h.streams)
-    (λ s. LogsOctets clock s o waited 0 old new os)
+abbrev pub Reports : FrameReading → ℕ → List ℕ → History → ℕ → List Entry → List Entry → List Outcome → Type 0
+Reports way c o h waited old new os = IsSomeAnd (stream_of c h.streams)
+    (λ s. LogsOctets way s o waited 0 old new os)
 
 -- the outcomes of an event, where so many frames waited
-abbrev pub LogsEvent : Clock → History → (ℕ → ℕ) → AcceptedEvent → List Entry → List Entry → List Outcome → Type 0
-LogsEvent clock h w (Opened c k) old new os = (os ≡ []) × (new ≡ old)
-LogsEvent clock h w (Ended c) old new os = (os ≡ []) × (new ≡ old)
-LogsEvent clock h w (Datagram o) old new os = (x : Outcome) × (os ≡ x ∷ []) × IsOutcome clock old new o x
-LogsEvent clock h w (Piece c o) old new os = Reports clock c o h (w c) old new os
+abbrev pub LogsEvent : FrameReading → History → (ℕ → ℕ) → AcceptedEvent → List Entry → List Entry → List Outcome → Type 0
+LogsEvent way h w (Opened c k) old new os = (os ≡ []) × (new ≡ old)
+LogsEvent way h w (Ended c) old new os = (os ≡ []) × (new ≡ old)
+LogsEvent way h w (Datagram o) old new os = (x : Outcome) × (os ≡ x ∷ []) × IsOutcome way old new o x
+LogsEvent way h w (Piece c o) old new os = Reports way c o h (w c) old new os
 
 -- the outcomes of events, one after the other: w waited before, and v wait after them
-abbrev pub IsLogOf : Clock → History → (ℕ → ℕ) → List AcceptedEvent → (ℕ → ℕ) → List Entry → List Entry → List Outcome
+abbrev pub IsLogOf : FrameReading → History → (ℕ → ℕ) → List AcceptedEvent → (ℕ → ℕ) → List Entry → List Entry → List Outcome
     → Type 0
-IsLogOf clock h w [] v old new os = (os ≡ []) × (new ≡ old) × ((d : ℕ) → v d ≡ w d)
-IsLogOf clock h w (e ∷ es) v old new os = (here : List Outcome) × (later : List Outcome) × (between : List Entry)
-    × (os ≡ here ++ later) × LogsEvent clock h w e old between here
-    × IsLogOf clock (accept h e) (waiting_after w e) es v between new later
+IsLogOf way h w [] v old new os = (os ≡ []) × (new ≡ old) × ((d : ℕ) → v d ≡ w d)
+IsLogOf way h w (e ∷ es) v old new os = (here : List Outcome) × (later : List Outcome) × (between : List Entry)
+    × (os ≡ here ++ later) × LogsEvent way h w e old between here
+    × IsLogOf way (accept h e) (waiting_after w e) es v between new later
 
 -- ---- the outcomes of a run
 
@@ -112,52 +112,52 @@ LogsNothing w v old new os = (os ≡ []) × (new ≡ old) × ((d : ℕ) → v d 
 
 -- the outcomes of the octets of a number that were taken before it was refused: nothing; or, where the number holds no
 -- bad count, a frame may wait now
-abbrev pub LogsPart : Clock → History → (ℕ → ℕ) → (ℕ → ℕ) → ℕ → List ℕ → List Entry → List Entry → List Outcome → Type 0
-LogsPart clock h w v c o old new os = ((o ≡ []) × LogsNothing w v old new os)
-    ⊎ (IsSomeAnd (stream_of c h.streams) (λ s. LogsOctets clock s o (w c) (v c) old new os)
+abbrev pub LogsPart : FrameReading → History → (ℕ → ℕ) → (ℕ → ℕ) → ℕ → List ℕ → List Entry → List Entry → List Outcome → Type 0
+LogsPart way h w v c o old new os = ((o ≡ []) × LogsNothing w v old new os)
+    ⊎ (IsSomeAnd (stream_of c h.streams) (λ s. LogsOctets way s o (w c) (v c) old new os)
     × ((d : ℕ) → ¬ (c ≡ d) → v d ≡ w d))
 
 -- the outcomes of a piece of a number
-abbrev pub LogsPiece : Clock → History → (ℕ → ℕ) → (ℕ → ℕ) → ℕ → List ℕ → EventEnd → List Entry → List Entry
+abbrev pub LogsPiece : FrameReading → History → (ℕ → ℕ) → (ℕ → ℕ) → ℕ → List ℕ → EventEnd → List Entry → List Entry
     → List Outcome → Type 0
-LogsPiece clock h w v c o end_Done old new os =
-    LogsEvent clock h w (Piece c o) old new os × ((d : ℕ) → v d ≡ waiting_after w (Piece c o) d)
-LogsPiece clock h w v c o (end_Stopped n fault) old new os = LogsPart clock h w v c (take n o) old new os
+LogsPiece way h w v c o end_Done old new os =
+    LogsEvent way h w (Piece c o) old new os × ((d : ℕ) → v d ≡ waiting_after w (Piece c o) d)
+LogsPiece way h w v c o (end_Stopped n fault) old new os = LogsPart way h w v c (take n o) old new os
 
 -- of a datagram
-abbrev pub LogsDatagram : Clock → List ℕ → EventEnd → List Entry → List Entry → List Outcome → Type 0
-LogsDatagram clock o end_Done old new os = (x : Outcome) × (os ≡ x ∷ []) × IsOutcome clock old new o x
-LogsDatagram clock o (end_Stopped n fault) old new os = (os ≡ []) × (new ≡ old)
+abbrev pub LogsDatagram : FrameReading → List ℕ → EventEnd → List Entry → List Entry → List Outcome → Type 0
+LogsDatagram way o end_Done old new os = (x : Outcome) × (os ≡ x ∷ []) × IsOutcome way old new o x
+LogsDatagram way o (end_Stopped n fault) old new os = (os ≡ []) × (new ≡ old)
 
 -- of an event that was refused after so many octets
-abbrev pub LogsRefused : Clock → History → (ℕ → ℕ) → (ℕ → ℕ) → Event → ℕ → List Entry → List Entry → List Outcome
+abbrev pub LogsRefused : FrameReading → History → (ℕ → ℕ) → (ℕ → ℕ) → Event → ℕ → List Entry → List Entry → List Outcome
     → Type 0
-LogsRefused clock h w v (event_Opened c k) n old new os = LogsNothing w v old new os
-LogsRefused clock h w v (event_Piece c o) n old new os = LogsPart clock h w v c (take n o.now) old new os
-LogsRefused clock h w v (event_Ended c) n old new os = LogsNothing w v old new os
-LogsRefused clock h w v (event_Datagram o) n old new os = LogsNothing w v old new os
+LogsRefused way h w v (event_Opened c k) n old new os = LogsNothing w v old new os
+LogsRefused way h w v (event_Piece c o) n old new os = LogsPart way h w v c (take n o.now) old new os
+LogsRefused way h w v (event_Ended c) n old new os = LogsNothing w v old new os
+LogsRefused way h w v (event_Datagram o) n old new os = LogsNothing w v old new os
 
 -- of an event, as far as it went
-abbrev pub LogsEventEnd : Clock → History → (ℕ → ℕ) → (ℕ → ℕ) → Event → EventEnd → List Entry → List Entry
+abbrev pub LogsEventEnd : FrameReading → History → (ℕ → ℕ) → (ℕ → ℕ) → Event → EventEnd → List Entry → List Entry
     → List Outcome → Type 0
-LogsEventEnd clock h w v e end_Done old new os =
-    LogsEvent clock h w (accepted_event e) old new os × ((d : ℕ) → v d ≡ waiting_after w (accepted_event e) d)
-LogsEventEnd clock h w v e (end_Stopped n fault) old new os = LogsRefused clock h w v e n old new os
+LogsEventEnd way h w v e end_Done old new os =
+    LogsEvent way h w (accepted_event e) old new os × ((d : ℕ) → v d ≡ waiting_after w (accepted_event e) d)
+LogsEventEnd way h w v e (end_Stopped n fault) old new os = LogsRefused way h w v e n old new os
 
 -- of the first event, which was refused
-abbrev pub LogsFirst : Clock → History → (ℕ → ℕ) → (ℕ → ℕ) → List Event → ℕ → List Entry → List Entry → List Outcome
+abbrev pub LogsFirst : FrameReading → History → (ℕ → ℕ) → (ℕ → ℕ) → List Event → ℕ → List Entry → List Entry → List Outcome
     → Type 0
-LogsFirst clock h w v [] n old new os = ⊥
-LogsFirst clock h w v (e ∷ es) n old new os = LogsRefused clock h w v e n old new os
+LogsFirst way h w v [] n old new os = ⊥
+LogsFirst way h w v (e ∷ es) n old new os = LogsRefused way h w v e n old new os
 
 -- the outcomes of a run: of all events; or of those before the one that was refused, and of what was taken there
-abbrev pub LogsRun : Clock → History → (ℕ → ℕ) → (ℕ → ℕ) → List Event → RunEnd → List Entry → List Entry → List Outcome
+abbrev pub LogsRun : FrameReading → History → (ℕ → ℕ) → (ℕ → ℕ) → List Event → RunEnd → List Entry → List Entry → List Outcome
     → Type 0
-LogsRun clock h w v es Done old new os = IsLogOf clock h w (accepted_all es) v old new os
-LogsRun clock h w v es (Stopped at n fault) old new os =
+LogsRun way h w v es Done old new os = IsLogOf way h w (accepted_all es) v old new os
+LogsRun way h w v es (Stopped at n fault) old new os =
     (u : ℕ → ℕ) × (here : List Outcome) × (later : List Outcome) × (between : List Entry)
-    × (os ≡ here ++ later) × IsLogOf clock h w (accepted_all (take at es)) u old between here
-    × LogsFirst clock (history_after h (accepted_all (take at es))) u v (drop at es) n between new later
+    × (os ≡ here ++ later) × IsLogOf way h w (accepted_all (take at es)) u old between here
+    × LogsFirst way (history_after h (accepted_all (take at es))) u v (drop at es) n between new later
 
 -- a log grew by such outcomes
 abbrev pub Grows : (List Outcome → Type 0) → List Outcome → List Outcome → Type 0

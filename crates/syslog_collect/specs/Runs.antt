@@ -4,7 +4,7 @@ use Rattle.syslog_frame.specs.declared.phase.Phase.{Phase}
 use Rattle.syslog_frame.specs.declared.phase.Phase.TheVariants.{Counting, Inside, Ended as phase_Ended}
 use Rattle.syslog_frame.specs.declared.phase.Phase.TheVariants.{BadCount as phase_BadCount, Failed}
 use Rattle.archive_text.specs.Entries.{Entry}
-use Rattle.syslog_legacy.specs.FrameReadings.{Clock}
+use Rattle.syslog_legacy.specs.declared.frame_reading.FrameReading.{FrameReading}
 use Rattle.syslog_collect.specs.declared.connection.Connection.{Connection}
 use Rattle.syslog_collect.specs.declared.event.Event.{Event}
 use Rattle.syslog_collect.specs.declared.event.Event.TheVariants.{Opened as event_Opened, Piece as event_Piece}
@@ -74,25 +74,25 @@ piece_octets piece end_Done = piece
 piece_octets piece (end_Stopped taken fault) = take taken piece
 
 -- a connection moved by octets; or there were none, and nothing changed
-abbrev pub AdvancesOrStays : Clock → Connection → Connection → List Entry → List Entry → List ℕ → List Outcome → Stream
+abbrev pub AdvancesOrStays : FrameReading → Connection → Connection → List Entry → List Entry → List ℕ → List Outcome → Stream
     → List (List ℕ) → Type 0
-AdvancesOrStays clock old new kept_old kept_new octets outcomes s handled =
+AdvancesOrStays way old new kept_old kept_new octets outcomes s handled =
     ((octets ≡ []) × (new ≡ old) × (kept_new ≡ kept_old) × (outcomes ≡ []))
-    ⊎ Advances clock old new kept_old kept_new octets outcomes s handled
+    ⊎ Advances way old new kept_old kept_new octets outcomes s handled
 
 -- octets moved it, and the log grew by the outcomes
-abbrev pub LogsAdvance : Clock → Connection → Connection → List Entry → List Entry → List ℕ → List Outcome
+abbrev pub LogsAdvance : FrameReading → Connection → Connection → List Entry → List Entry → List ℕ → List Outcome
     → List Outcome → Stream → List (List ℕ) → Type 0
-LogsAdvance clock old new kept_old kept_new octets log_old log_new s handled =
+LogsAdvance way old new kept_old kept_new octets log_old log_new s handled =
     (outcomes : List Outcome) × (log_new ≡ log_old ++ outcomes)
-    × Advances clock old new kept_old kept_new octets outcomes s handled
+    × Advances way old new kept_old kept_new octets outcomes s handled
 
 -- the same, or nothing came
-abbrev pub Logs : Clock → Connection → Connection → List Entry → List Entry → List ℕ → List Outcome → List Outcome
+abbrev pub Logs : FrameReading → Connection → Connection → List Entry → List Entry → List ℕ → List Outcome → List Outcome
     → Stream → List (List ℕ) → Type 0
-Logs clock old new kept_old kept_new octets log_old log_new s handled =
+Logs way old new kept_old kept_new octets log_old log_new s handled =
     (outcomes : List Outcome) × (log_new ≡ log_old ++ outcomes)
-    × AdvancesOrStays clock old new kept_old kept_new octets outcomes s handled
+    × AdvancesOrStays way old new kept_old kept_new octets outcomes s handled
 
 -- whether a frame or a bad count is ready, as a number
 abbrev pub pending : Phase → ℕ

@@ -5,7 +5,7 @@ use Rattle.syslog_frame.specs.Reads.{Reads}
 use Rattle.syslog_frame.specs.Scan.{Scan, HasBadCount, IsFailed}
 use Rattle.syslog_frame.specs.declared.limits.TheConstants.{FRAME_MAX}
 use Rattle.archive_text.specs.Entries.{Entry}
-use Rattle.syslog_legacy.specs.FrameReadings.{Clock}
+use Rattle.syslog_legacy.specs.declared.frame_reading.FrameReading.{FrameReading}
 use Rattle.syslog_collect.specs.declared.connection.Connection.{Connection}
 use Rattle.syslog_collect.specs.Frames.{AreFramesOf, Gains, all_of}
 use Rattle.syslog_collect.specs.History.{AreAcceptable, History, Stream, AcceptedEvent, history_of}
@@ -40,15 +40,15 @@ AreAt (c ∷ cs) [] (f ∷ fs) = ⊥
 AreAt (c ∷ cs) (s ∷ ss) [] = ⊥
 
 -- the connections are at a history, and the entries are the first and those of the frames handled
-pub record StandsAt (clock : Clock) (cs : List Connection) (kept first : List Entry) (h : History) : Type 0 where
+pub record StandsAt (way : FrameReading) (cs : List Connection) (kept first : List Entry) (h : History) : Type 0 where
   pub handled : List (List (List ℕ))
   pub ended_frames : List (List (List ℕ))
   pub follow : AreAt cs h.streams handled
   pub ended_are : AreFramesOf h.ended ended_frames
-  pub gains : Gains clock first kept (all_of handled ++ (all_of ended_frames ++ h.datagrams))
+  pub gains : Gains way first kept (all_of handled ++ (all_of ended_frames ++ h.datagrams))
 
 -- connections and entries stand at first entries and acceptable events
-pub record Stands (clock : Clock) (cs : List Connection) (kept first : List Entry) (events : List AcceptedEvent) : Type
+pub record Stands (way : FrameReading) (cs : List Connection) (kept first : List Entry) (events : List AcceptedEvent) : Type
     0 where
   pub acceptable : AreAcceptable events
-  pub stands_at : StandsAt clock cs kept first (history_of events)
+  pub stands_at : StandsAt way cs kept first (history_of events)

@@ -1,7 +1,7 @@
 -- Why a run stopped.
 use Rattle.std.specs.Prelude.{◌≡◌, ◌⊎◌, ℕ, ◌+◌, ◌<◌, ◌≤◌, List, [], ◌∷◌, length, take, drop, None, Err, IsSomeAnd}
 use Rattle.syslog_frame.specs.declared.limits.TheConstants.{POSITION_MAX}
-use Rattle.syslog_legacy.specs.FrameReadings.{Clock}
+use Rattle.syslog_legacy.specs.declared.frame_reading.FrameReading.{FrameReading}
 use Rattle.syslog_collect.specs.declared.event.Event.{Event}
 use Rattle.syslog_collect.specs.declared.event.Event.TheVariants.{Opened as event_Opened, Piece as event_Piece}
 use Rattle.syslog_collect.specs.declared.event.Event.TheVariants.{Ended as event_Ended, Datagram as event_Datagram}
@@ -24,40 +24,40 @@ use Rattle.syslog_collect.specs.Runs.{accepted_all, accepted_event}
 -- why a piece is refused at an opening, so many of its octets being taken, where so many frames wait then: memory is
 -- refused for the record of the frame that they complete, which waits, and n of them are of that frame; any other cause
 -- is there before the first octet, and a stream is too long only where no frame waits
-abbrev pub IsPieceCause : Clock → List ℕ → ℕ → ℕ → CollectFault → Stream → Type 0
-IsPieceCause clock piece taken waits (Memory n) s =
-    IsCause clock piece (Err (Memory taken)) s × EndsFrameOf (take taken piece) n s × (waits ≡ 1)
-IsPieceCause clock piece taken waits ConnFailed s = IsCause clock piece (Err ConnFailed) s × (taken ≡ 0)
-IsPieceCause clock piece taken waits StreamTooLong s =
-    IsCause clock piece (Err StreamTooLong) s × (taken ≡ 0) × (waits ≡ 0)
-IsPieceCause clock piece taken waits NotOpen s = ⊥
-IsPieceCause clock piece taken waits AlreadyOpen s = ⊥
-IsPieceCause clock piece taken waits TooManyOpen s = ⊥
-IsPieceCause clock piece taken waits Unreleased s = ⊥
-IsPieceCause clock piece taken waits (Unterminated start) s = ⊥
+abbrev pub IsPieceCause : FrameReading → List ℕ → ℕ → ℕ → CollectFault → Stream → Type 0
+IsPieceCause way piece taken waits (Memory n) s =
+    IsCause way piece (Err (Memory taken)) s × EndsFrameOf (take taken piece) n s × (waits ≡ 1)
+IsPieceCause way piece taken waits ConnFailed s = IsCause way piece (Err ConnFailed) s × (taken ≡ 0)
+IsPieceCause way piece taken waits StreamTooLong s =
+    IsCause way piece (Err StreamTooLong) s × (taken ≡ 0) × (waits ≡ 0)
+IsPieceCause way piece taken waits NotOpen s = ⊥
+IsPieceCause way piece taken waits AlreadyOpen s = ⊥
+IsPieceCause way piece taken waits TooManyOpen s = ⊥
+IsPieceCause way piece taken waits Unreleased s = ⊥
+IsPieceCause way piece taken waits (Unterminated start) s = ⊥
 
 -- why a piece of a number is refused after a history: the number is not open; or a cause at its opening
-abbrev pub IsPieceRefusal : Clock → ℕ → List ℕ → ℕ → ℕ → CollectFault → History → Type 0
-IsPieceRefusal clock c piece taken waits NotOpen h = (stream_of c h.streams ≡ None) × (taken ≡ 0)
-IsPieceRefusal clock c piece taken waits (Memory n) h =
-    IsSomeAnd (stream_of c h.streams) (IsPieceCause clock piece taken waits (Memory n))
-IsPieceRefusal clock c piece taken waits ConnFailed h =
-    IsSomeAnd (stream_of c h.streams) (IsPieceCause clock piece taken waits ConnFailed)
-IsPieceRefusal clock c piece taken waits StreamTooLong h =
-    IsSomeAnd (stream_of c h.streams) (IsPieceCause clock piece taken waits StreamTooLong)
-IsPieceRefusal clock c piece taken waits AlreadyOpen h = ⊥
-IsPieceRefusal clock c piece taken waits TooManyOpen h = ⊥
-IsPieceRefusal clock c piece taken waits Unreleased h = ⊥
-IsPieceRefusal clock c piece taken waits (Unterminated start) h = ⊥
+abbrev pub IsPieceRefusal : FrameReading → ℕ → List ℕ → ℕ → ℕ → CollectFault → History → Type 0
+IsPieceRefusal way c piece taken waits NotOpen h = (stream_of c h.streams ≡ None) × (taken ≡ 0)
+IsPieceRefusal way c piece taken waits (Memory n) h =
+    IsSomeAnd (stream_of c h.streams) (IsPieceCause way piece taken waits (Memory n))
+IsPieceRefusal way c piece taken waits ConnFailed h =
+    IsSomeAnd (stream_of c h.streams) (IsPieceCause way piece taken waits ConnFailed)
+IsPieceRefusal way c piece taken waits StreamTooLong h =
+    IsSomeAnd (stream_of c h.streams) (IsPieceCause way piece taken waits StreamTooLong)
+IsPieceRefusal way c piece taken waits AlreadyOpen h = ⊥
+IsPieceRefusal way c piece taken waits TooManyOpen h = ⊥
+IsPieceRefusal way c piece taken waits Unreleased h = ⊥
+IsPieceRefusal way c piece taken waits (Unterminated start) h = ⊥
 
 -- why the call for an event is refused after a history, so many octets of a piece being taken; w tells how many frames
 -- of each number wait then
-abbrev pub IsRefusal : Clock → History → (ℕ → ℕ) → Event → ℕ → CollectFault → Type 0
-IsRefusal clock h w (event_Opened c k) taken fault = IsOpening {U = Unit {0}} c (Err fault) h
-IsRefusal clock h w (event_Piece c o) taken fault = IsPieceRefusal clock c o.now taken (w c) fault h
-IsRefusal clock h w (event_Ended c) taken fault =
+abbrev pub IsRefusal : FrameReading → History → (ℕ → ℕ) → Event → ℕ → CollectFault → Type 0
+IsRefusal way h w (event_Opened c k) taken fault = IsOpening {U = Unit {0}} c (Err fault) h
+IsRefusal way h w (event_Piece c o) taken fault = IsPieceRefusal way c o.now taken (w c) fault h
+IsRefusal way h w (event_Ended c) taken fault =
     IsEnding {U = Unit {0}} c (Err fault) h × IfUnreleased {U = Unit {0}} (Err fault) (w c ≡ 1)
-IsRefusal clock h w (event_Datagram o) taken fault = (fault ≡ Memory 0) × IsRecordFrame clock o.now
+IsRefusal way h w (event_Datagram o) taken fault = (fault ≡ Memory 0) × IsRecordFrame way o.now
 
 -- the octets of a piece; other events have none
 abbrev pub octets_of : Event → List ℕ
@@ -81,20 +81,20 @@ IsBetweenFrames h w (event_Datagram o) taken = taken ≡ 0
 
 -- an event is refused after a history, so many octets of a piece being taken: the log has no room for an outcome,
 -- between frames; or the event's call is refused
-abbrev pub StopsAt : Clock → History → (ℕ → ℕ) → Event → ℕ → CollectFault → Type 0
-StopsAt clock h w e taken fault = (taken ≤ length (octets_of e))
-    × (((fault ≡ Memory 0) × IsBetweenFrames h w e taken) ⊎ IsRefusal clock h w e taken fault)
+abbrev pub StopsAt : FrameReading → History → (ℕ → ℕ) → Event → ℕ → CollectFault → Type 0
+StopsAt way h w e taken fault = (taken ≤ length (octets_of e))
+    × (((fault ≡ Memory 0) × IsBetweenFrames h w e taken) ⊎ IsRefusal way h w e taken fault)
 
 -- the first of the events is
-abbrev pub StopsAtFirst : Clock → History → (ℕ → ℕ) → List Event → ℕ → CollectFault → Type 0
-StopsAtFirst clock h w [] taken fault = ⊥
-StopsAtFirst clock h w (e ∷ es) taken fault = StopsAt clock h w e taken fault
+abbrev pub StopsAtFirst : FrameReading → History → (ℕ → ℕ) → List Event → ℕ → CollectFault → Type 0
+StopsAtFirst way h w [] taken fault = ⊥
+StopsAtFirst way h w (e ∷ es) taken fault = StopsAt way h w e taken fault
 
 -- why a run after a history stopped: one of its events is refused after those before it
-abbrev pub StopsAs : Clock → History → (ℕ → ℕ) → List Event → RunEnd → Type 0
-StopsAs clock h w es Done = Unit {0}
-StopsAs clock h w es (Stopped at taken fault) =
-    (at < length es) × StopsAtFirst clock (history_after h (accepted_all (take at es))) w (drop at es) taken fault
+abbrev pub StopsAs : FrameReading → History → (ℕ → ℕ) → List Event → RunEnd → Type 0
+StopsAs way h w es Done = Unit {0}
+StopsAs way h w es (Stopped at taken fault) =
+    (at < length es) × StopsAtFirst way (history_after h (accepted_all (take at es))) w (drop at es) taken fault
 
 -- an event that ends an opening ends it at whole frames, or behind a bad count
 abbrev pub EndsWell : History → Event → Type 0
@@ -132,20 +132,20 @@ abbrev pub IsBetween : List ℕ → ℕ → ℕ → Stream → Type 0
 IsBetween piece taken waits s = (taken ≡ 0) ⊎ ((waits ≡ 0) × IsWholeWith (take taken piece) s)
 
 -- a piece of an opening is refused: the log has no room, between frames; or there is a cause
-abbrev pub StopsPiece : Clock → List ℕ → ℕ → ℕ → CollectFault → Stream → Type 0
-StopsPiece clock piece taken waits fault s =
-    ((fault ≡ Memory 0) × IsBetween piece taken waits s) ⊎ IsPieceCause clock piece taken waits fault s
+abbrev pub StopsPiece : FrameReading → List ℕ → ℕ → ℕ → CollectFault → Stream → Type 0
+StopsPiece way piece taken waits fault s =
+    ((fault ≡ Memory 0) × IsBetween piece taken waits s) ⊎ IsPieceCause way piece taken waits fault s
 
 -- a step of a piece is refused where so many frames waited: the log has no room, and nothing was taken; or there is a
 -- cause, and where it is want of memory, a frame waited or an octet was taken
-abbrev pub StopsStep : Clock → List ℕ → ℕ → ℕ → ℕ → CollectFault → Stream → Type 0
-StopsStep clock rest used waited waits fault s = ((fault ≡ Memory 0) × (used ≡ 0) × (waits ≡ waited))
-    ⊎ (IsPieceCause clock rest used waits fault s × IfMemory {A = Unit {0}} (Err fault) (0 < waited + used))
+abbrev pub StopsStep : FrameReading → List ℕ → ℕ → ℕ → ℕ → CollectFault → Stream → Type 0
+StopsStep way rest used waited waits fault s = ((fault ≡ Memory 0) × (used ≡ 0) × (waits ≡ waited))
+    ⊎ (IsPieceCause way rest used waits fault s × IfMemory {A = Unit {0}} (Err fault) (0 < waited + used))
 
 -- a piece of a number is refused after a history: the log has no room, between frames; or there is a cause
-abbrev pub StopsPieceAt : Clock → ℕ → List ℕ → ℕ → ℕ → CollectFault → History → Type 0
-StopsPieceAt clock c piece taken waits fault h =
-    ((fault ≡ Memory 0) × IsBetweenAt c piece taken waits h) ⊎ IsPieceRefusal clock c piece taken waits fault h
+abbrev pub StopsPieceAt : FrameReading → ℕ → List ℕ → ℕ → ℕ → CollectFault → History → Type 0
+StopsPieceAt way c piece taken waits fault h =
+    ((fault ≡ Memory 0) × IsBetweenAt c piece taken waits h) ⊎ IsPieceRefusal way c piece taken waits fault h
 
 -- where octets of a piece were taken, they hold no bad count, and the piece is not too long for its opening
 abbrev pub MayGoOn : List ℕ → ℕ → Stream → Type 0

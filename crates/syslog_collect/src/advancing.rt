@@ -14,12 +14,12 @@ use crate::fault::{Advance, CollectFault};
 use archive_text::Store;
 use std::alloc::Global;
 use syslog_frame::ScanFault;
-use syslog_legacy::LegacyClock;
+use syslog_legacy::FrameReading;
 
 /// Takes octets of a piece up to the end of a frame at most, and handles the frame that is ready.
 pub fn advance_connection<S: Store>(
     alloc: Global,
-    clock: Option<LegacyClock>,
+    reading: FrameReading,
     connection: &mut Connection,
     store: &mut S,
     piece: &[u8],
@@ -39,15 +39,15 @@ pub fn advance_connection<S: Store>(
 
     // Why it is refused, and that nothing has changed then, but where memory was refused.
     ensures cause { (s : Stream) (handled : List (List ℕ)) → IsAt connection.old s handled
-        → IsCause clock piece.now result s }
+        → IsCause reading piece.now result s }
     ensures unchanged { IfRefused result
         ((connection.new ≡ connection.old) × (store.new ≡ store.old)) }
     // What was accepted, with the octets that follow a bad one or without them.
     ensures moves { (s : Stream) (handled : List (List ℕ)) → IsAt connection.old s handled
-        → AdvancesBy clock (accepted_octets piece.now result) connection.old connection.new
+        → AdvancesBy reading (accepted_octets piece.now result) connection.old connection.new
         (S.entries store.old) (S.entries store.new) (answered result) s handled }
     ensures drops { (s : Stream) (handled : List (List ℕ)) → IsAt connection.old s handled
-        → AdvancesBy clock (dropped_octets piece.now result) connection.old connection.new
+        → AdvancesBy reading (dropped_octets piece.now result) connection.old connection.new
         (S.entries store.old) (S.entries store.new) (answered result) s handled }
 {
     let used = match connection.scanner.push(piece) {
@@ -55,7 +55,7 @@ pub fn advance_connection<S: Store>(
         Err(ScanFault::Failed) => return Err(CollectFault::ConnFailed),
         Err(ScanFault::StreamTooLong) => return Err(CollectFault::StreamTooLong),
     };
-    let Ok(outcome) = handle_ready(alloc, clock, &connection.scanner, store) else {
+    let Ok(outcome) = handle_ready(alloc, reading, &connection.scanner, store) else {
         return Err(CollectFault::Memory { used });
     };
     let _ = connection.scanner.release();

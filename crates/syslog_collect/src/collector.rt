@@ -5,11 +5,12 @@ ghost use Rattle.std.specs.List.{position_from};
 ghost use Rattle.archive_text.specs.Entries.{Entry, Has};
 ghost use Rattle.archive_text.specs.Sets.{IsUnionOfEntries};
 ghost use Rattle.archive_text.specs.Text.{IsArchive, text_of};
+ghost use Rattle.syslog_legacy.specs.FrameReadings.{whole};
 ghost use Rattle.syslog_collect.specs.Answers.{IfRefused, IfUnreleased, IsAnswerAt, IsEnding, IsOpening, IsTaken};
 ghost use Rattle.syslog_collect.specs.Answers.{IsUsedWithin, accepted_octets, dropped_octets, used_octets};
 ghost use Rattle.syslog_collect.specs.Answers.{accepted_datagram, accepted_ending, accepted_opening, accepted_piece};
 ghost use Rattle.syslog_collect.specs.Collectors.{GoesOn, HaveSameConnections, NoneWaits, Stands, WaitAlike};
-ghost use Rattle.syslog_collect.specs.Collectors.{clock_of, room_of, store_of, waits_of};
+ghost use Rattle.syslog_collect.specs.Collectors.{reading_of, room_of, store_of, waits_of};
 ghost use Rattle.syslog_collect.specs.Frames.{IsReceived};
 ghost use Rattle.syslog_collect.specs.Headline.{ReceivedBoth, ReceivedSame};
 ghost use Rattle.syslog_collect.specs.History.{AcceptedEvent, history_of, stream_of};
@@ -24,18 +25,18 @@ use crate::outcome::Outcome;
 use archive_text::{ENTRY_MAX, Store};
 use std::alloc::{AllocError, Global};
 use syslog_frame::{EndFault, Framing, Scanner};
-use syslog_legacy::LegacyClock;
+use syslog_legacy::{FrameReading, LegacyClock};
 
 /// A collector: open connections, and the store into which the records of their frames go.
 ///
 /// A store with the records of all frames that came is reached in any cut of the streams into
-/// pieces, any order of the connections' pieces and any repetition. With a clock, frames without
-/// the front of RFC 5424 are read as legacy packets (RFC 3164).
+/// pieces, any order of the connections' pieces and any repetition. A [`FrameReading`] says how frames
+/// are read: with a clock, those without the front of RFC 5424 are legacy packets (RFC 3164).
 #[derive(Drop)]
 pub struct Collector<S> {
     pub(crate) store: S,
     pub(crate) connections: Vec<Connection>,
-    pub(crate) clock: Option<LegacyClock>,
+    pub(crate) reading: FrameReading,
 }
 
 /// Where the connection of a number is.
@@ -48,12 +49,23 @@ pub(crate) fn place(connections: &[Connection], number: u32) -> Option<usize>
 }
 
 impl<S: Store> Collector<S> {
-    /// A collector over a store, with room for `CONNECTIONS_MAX` connections. Where that is
-    /// refused, the store comes back.
+    /// A collector over a store, with room for `CONNECTIONS_MAX` connections, that reads frames whole.
+    /// Where that room is refused, the store comes back.
     pub fn new(alloc: Global, store: S, clock: Option<LegacyClock>) -> Result<Collector<S>, S>
         ensures stands { IfOk result (λ c. Stands S.entries c (S.entries store) []) }
         ensures settled { IfOk result (λ c. NoneWaits c) }
-        ensures clock { IfOk result (λ c. clock_of c ≡ clock) }
+        ensures reading { IfOk result (λ c. reading_of c ≡ whole clock) }
+        ensures back { IfErr result (λ s. s ≡ store) }
+        ensures room { IfOk result (λ c. CONNECTIONS_MAX ≤ room_of c) }
+    {
+        Collector::with_reading(alloc, store, FrameReading { trim: false, clock })
+    }
+
+    /// A collector as by [`Collector::new`], that reads frames so.
+    pub fn with_reading(alloc: Global, store: S, reading: FrameReading) -> Result<Collector<S>, S>
+        ensures stands { IfOk result (λ c. Stands S.entries c (S.entries store) []) }
+        ensures settled { IfOk result (λ c. NoneWaits c) }
+        ensures reading { IfOk result (λ c. reading_of c ≡ reading) }
         ensures back { IfErr result (λ s. s ≡ store) }
         ensures room { IfOk result (λ c. CONNECTIONS_MAX ≤ room_of c) }
     {
@@ -61,7 +73,7 @@ impl<S: Store> Collector<S> {
             Ok(connections) => Ok(Collector {
                 store,
                 connections,
-                clock,
+                reading,
             }),
             Err(_) => Err(store),
         }
@@ -139,7 +151,7 @@ impl<S: Store> Collector<S> {
         // none exactly where there is no such frame, and no bad count.
         ensures outcome { (first : List Entry) (events : List AcceptedEvent)
             → Stands S.entries self.old first events
-            → IfOk result (λ a. Reports (clock_of self.old) conn (used_octets piece.now a)
+            → IfOk result (λ a. Reports (reading_of self.old) conn (used_octets piece.now a)
             (history_of events) (waits_of self.old conn) (S.entries (store_of self.old))
             (S.entries (store_of self.new)) (outcomes_of a.outcome)) }
         // After Ok no frame of the connection waits; where memory was refused, one does.
@@ -147,7 +159,7 @@ impl<S: Store> Collector<S> {
         // Why the piece is refused.
         ensures cause { (first : List Entry) (events : List AcceptedEvent)
             → Stands S.entries self.old first events
-            → IsAnswerAt (clock_of self.old) conn piece.now result (history_of events) }
+            → IsAnswerAt (reading_of self.old) conn piece.now result (history_of events) }
         // A refusal changes nothing, but where memory was refused.
         ensures unchanged { IfRefused result ((HaveSameConnections self.old self.new)
             × (store_of self.new ≡ store_of self.old)) }
@@ -157,7 +169,7 @@ impl<S: Store> Collector<S> {
             None => Err(CollectFault::NotOpen),
             Some(at) => advance_connection(
                 alloc,
-                self.clock,
+                self.reading,
                 &mut self.connections[at],
                 &mut self.store,
                 piece,
@@ -169,13 +181,13 @@ impl<S: Store> Collector<S> {
     pub fn datagram(&mut self, alloc: Global, octets: &[u8]) -> Result<Outcome, AllocError>
         ensures goes_on { GoesOn S.entries self.old self.new (accepted_datagram octets.now result) }
         ensures outcome { IfOk result (λ o.
-            IsOutcome (clock_of self.old) (S.entries (store_of self.old)) (S.entries (store_of self.new))
+            IsOutcome (reading_of self.old) (S.entries (store_of self.old)) (S.entries (store_of self.new))
             octets.now o) }
         ensures err { OnErr result (S.entries (store_of self.new) ≡ S.entries (store_of self.old)) }
         ensures connections { HaveSameConnections self.old self.new }
-        ensures spelled { OnErr result (IsRecordFrame (clock_of self.old) octets.now) }
+        ensures spelled { OnErr result (IsRecordFrame (reading_of self.old) octets.now) }
     {
-        handle(alloc, self.clock, &mut self.store, octets)
+        handle(alloc, self.reading, &mut self.store, octets)
     }
 
     /// Ends a connection. It is closed after Ok, and after `Unterminated { start }` too, where the
@@ -225,7 +237,7 @@ impl<S: Store> Collector<S> {
         ensures received { (first : List Entry) (events : List AcceptedEvent)
             → Stands S.entries self.now first events → NoneWaits self.now
             → (x : Entry) → Has (S.entries result.now) x
-            ↔ (Has first x ⊎ IsReceived (clock_of self.now) events x) }
+            ↔ (Has first x ⊎ IsReceived (reading_of self.now) events x) }
     {
         &self.store
     }
@@ -234,31 +246,31 @@ impl<S: Store> Collector<S> {
 /// The headline: two collectors over stores that were empty, of any two kinds, whose received sets
 /// are equal, hold the same entries, in one order. So their archives, as `Store::write` writes them,
 /// are byte-equal, whatever the framings, cuts, orders, interleavings and repetitions were. Both
-/// have the same clock for legacy packets, or none.
+/// read frames in the same way.
 pub fn same_archives<S: Store, T: Store>(one: &Collector<S>, two: &Collector<T>)
-    ensures entries { (events others : List AcceptedEvent) → clock_of one.now ≡ clock_of two.now
+    ensures entries { (events others : List AcceptedEvent) → reading_of one.now ≡ reading_of two.now
         → Stands S.entries one.now [] events → Stands T.entries two.now [] others
-        → NoneWaits one.now → NoneWaits two.now → ReceivedSame (clock_of one.now) events others
+        → NoneWaits one.now → NoneWaits two.now → ReceivedSame (reading_of one.now) events others
         → S.entries (store_of one.now) ≡ T.entries (store_of two.now) }
-    ensures texts { (events others : List AcceptedEvent) → clock_of one.now ≡ clock_of two.now
+    ensures texts { (events others : List AcceptedEvent) → reading_of one.now ≡ reading_of two.now
         → Stands S.entries one.now [] events → Stands T.entries two.now [] others
-        → NoneWaits one.now → NoneWaits two.now → ReceivedSame (clock_of one.now) events others
+        → NoneWaits one.now → NoneWaits two.now → ReceivedSame (reading_of one.now) events others
         → text_of (S.entries (store_of one.now)) ≡ text_of (T.entries (store_of two.now)) }
 {}
 
 /// Merging: the union of the archives of two collectors is the archive of a collector that received
-/// what the two did. All have the same clock for legacy packets, or none.
+/// what the two did. All read frames in the same way.
 pub fn merged_archives<S: Store, T: Store, U: Store>(
     one: &Collector<S>,
     two: &Collector<T>,
     all: &Collector<U>,
 )
     ensures { (events others both : List AcceptedEvent) (merged : List Entry)
-        → clock_of one.now ≡ clock_of two.now → clock_of one.now ≡ clock_of all.now
+        → reading_of one.now ≡ reading_of two.now → reading_of one.now ≡ reading_of all.now
         → Stands S.entries one.now [] events → Stands T.entries two.now [] others
         → Stands U.entries all.now [] both
         → NoneWaits one.now → NoneWaits two.now → NoneWaits all.now
-        → ReceivedBoth (clock_of one.now) both events others → IsArchive ENTRY_MAX merged
+        → ReceivedBoth (reading_of one.now) both events others → IsArchive ENTRY_MAX merged
         → IsUnionOfEntries (S.entries (store_of one.now)) (T.entries (store_of two.now)) merged
         → merged ≡ U.entries (store_of all.now) }
 {}

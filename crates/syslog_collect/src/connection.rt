@@ -2,6 +2,7 @@
 
 ghost use Rattle.std.specs.Prelude.{◌≡◌, ◌≤◌, ◌<◌, ◌⊎◌, ℕ, List, length, IfOk, OnErr, OnOk};
 ghost use Rattle.syslog_reading.specs.ViewParts.{IsViewOf, view_parts};
+ghost use Rattle.syslog_legacy.specs.FrameReadings.{whole};
 ghost use Rattle.syslog_legacy.specs.NewForm.{HasNewForm};
 ghost use Rattle.syslog_legacy.specs.Readings.{Legacy, ReadAs};
 ghost use Rattle.syslog_legacy.specs.Views.{legacy_view_parts};
@@ -14,7 +15,7 @@ use archive_text::{AddFault, Added, Store};
 use std::alloc::{AllocError, Global};
 use syslog_frame::{FRAME_MAX, Ready, Scanner};
 use syslog_grammar::{RecordView, view};
-use syslog_legacy::{LegacyClock, LegacyView, has_new_form, legacy_view};
+use syslog_legacy::{FrameReading, LegacyClock, LegacyView, has_new_form, legacy_view};
 
 /// An open connection.
 #[derive(Drop)]
@@ -69,9 +70,9 @@ fn handle_legacy<S: Store>(
     requires within { length packet.now ≤ FRAME_MAX }
     requires legacy { ¬ (HasNewForm packet.now) }
     ensures outcome { IfOk result (λ o.
-        IsOutcome (Some clock.now) (S.entries store.old) (S.entries store.new) packet.now o) }
+        IsOutcome (whole (Some clock.now)) (S.entries store.old) (S.entries store.new) packet.now o) }
     ensures err { OnErr result (S.entries store.new ≡ S.entries store.old) }
-    ensures spelled { OnErr result (IsRecordFrame (Some clock.now) packet.now) }
+    ensures spelled { OnErr result (IsRecordFrame (whole (Some clock.now)) packet.now) }
 {
     let shown = match legacy_view(clock, packet) {
         Ok(shown) => shown,
@@ -94,15 +95,15 @@ fn handle_legacy<S: Store>(
     }
 }
 
-/// Adds the record of a frame in the form of RFC 5424 to a store.
-fn handle_new<S: Store>(alloc: Global, store: &mut S, frame: &[u8]) -> Result<Outcome, AllocError>
-    requires { length frame.now ≤ FRAME_MAX }
+/// Adds the record of octets in the form of RFC 5424 to a store.
+fn handle_new<S: Store>(alloc: Global, store: &mut S, octets: &[u8]) -> Result<Outcome, AllocError>
+    requires { length octets.now ≤ FRAME_MAX }
     ensures outcome { IfOk result (λ o.
-        IsOutcome None (S.entries store.old) (S.entries store.new) frame.now o) }
+        IsOutcome (whole None) (S.entries store.old) (S.entries store.new) octets.now o) }
     ensures err { OnErr result (S.entries store.new ≡ S.entries store.old) }
-    ensures spelled { OnErr result (IsRecordFrame None frame.now) }
+    ensures spelled { OnErr result (IsRecordFrame (whole None) octets.now) }
 {
-    let shown = match view(frame) {
+    let shown = match view(octets) {
         Ok(shown) => shown,
         Err(fault) => return Ok(Outcome::Refused(fault)),
     };
@@ -116,50 +117,66 @@ fn handle_new<S: Store>(alloc: Global, store: &mut S, frame: &[u8]) -> Result<Ou
     }
 }
 
-/// Adds the record of a frame to a store, if it is one. With a clock, a frame without the front of
-/// RFC 5424 is a legacy packet.
-pub fn handle<S: Store>(
+/// Adds the record of octets that are read whole to a store, if they are one. With a clock, octets
+/// without the front of RFC 5424 are a legacy packet.
+fn handle_octets<S: Store>(
     alloc: Global,
     clock: Option<LegacyClock>,
+    store: &mut S,
+    octets: &[u8],
+) -> Result<Outcome, AllocError>
+    requires { length octets.now ≤ FRAME_MAX }
+    ensures outcome { IfOk result (λ o.
+        IsOutcome (whole clock) (S.entries store.old) (S.entries store.new) octets.now o) }
+    ensures err { OnErr result (S.entries store.new ≡ S.entries store.old) }
+    ensures spelled { OnErr result (IsRecordFrame (whole clock) octets.now) }
+{
+    let Some(clock) = clock else {
+        return handle_new(alloc, store, octets);
+    };
+    if has_new_form(octets) {
+        return handle_new(alloc, store, octets);
+    }
+    handle_legacy(alloc, &clock, store, octets)
+}
+
+/// Adds the record of a frame to a store, if it is read as one.
+pub fn handle<S: Store>(
+    alloc: Global,
+    reading: FrameReading,
     store: &mut S,
     frame: &[u8],
 ) -> Result<Outcome, AllocError>
     ensures outcome { IfOk result (λ o.
-        IsOutcome clock (S.entries store.old) (S.entries store.new) frame.now o) }
+        IsOutcome reading (S.entries store.old) (S.entries store.new) frame.now o) }
     ensures err { OnErr result (S.entries store.new ≡ S.entries store.old) }
     // Memory is refused for records alone.
-    ensures spelled { OnErr result (IsRecordFrame clock frame.now) }
+    ensures spelled { OnErr result (IsRecordFrame reading frame.now) }
 {
     if frame.len() > FRAME_MAX {
         return Ok(Outcome::TooLong);
     }
-    let Some(clock) = clock else {
-        return handle_new(alloc, store, frame);
-    };
-    if has_new_form(frame) {
-        return handle_new(alloc, store, frame);
-    }
-    handle_legacy(alloc, &clock, store, frame)
+    handle_octets(alloc, reading.clock, store, reading.octets(frame))
 }
 
 /// Handles what a scanner has ready, and leaves it ready.
 pub fn handle_ready<S: Store>(
     alloc: Global,
-    clock: Option<LegacyClock>,
+    reading: FrameReading,
     scanner: &Scanner,
     store: &mut S,
 ) -> Result<Option<Outcome>, AllocError>
     ensures handles { IfOk result (λ o.
-        HandlesReady clock scanner.now (S.entries store.old) (S.entries store.new) o) }
+        HandlesReady reading scanner.now (S.entries store.old) (S.entries store.new) o) }
     ensures err { OnErr result (S.entries store.new ≡ S.entries store.old) }
     ensures waits { OnErr result (HasFrame scanner.now) }
-    ensures spelled { OnErr result (HasRecord clock scanner.now) }
+    ensures spelled { OnErr result (HasRecord reading scanner.now) }
 {
     match scanner.ready() {
         None => Ok(None),
         Some(Ready::BadCount { at }) => Ok(Some(Outcome::BadCount { at })),
         Some(Ready::TooLong) => Ok(Some(Outcome::TooLong)),
-        Some(Ready::Frame(frame)) => match handle(alloc, clock, store, frame) {
+        Some(Ready::Frame(frame)) => match handle(alloc, reading, store, frame) {
             Ok(outcome) => Ok(Some(outcome)),
             Err(fault) => Err(fault),
         },

@@ -7,31 +7,32 @@ ghost use Rattle.syslog_frame.specs.declared.limits.TheConstants.{FRAME_MAX};
 ghost use Rattle.archive_text.specs.Entries.{Entry, IsEntryOf};
 ghost use Rattle.syslog_collect.specs.Frames.{IsFrameOf, IsReceived};
 ghost use Rattle.syslog_collect.specs.History.{AcceptedEvent};
-ghost use Rattle.syslog_legacy.specs.FrameReadings.{Clock, IsLegacy, IsNotUtf8At, IsReadAs};
+ghost use Rattle.syslog_legacy.specs.FrameReadings.{IsLegacy, IsNotUtf8At, IsReadAs, whole};
+ghost use Rattle.syslog_legacy.specs.declared.frame_reading.FrameReading.{FrameReading};
 
 /// The received set is exactly the records as which some frame of at most `FRAME_MAX` octets is
 /// read.
 pub fn received_records()
     // Each of its entries is that of such a record.
-    ensures entries { (clock : Clock) (events : List AcceptedEvent) (x : Entry)
-        → IsReceived clock events x → (r : Parts ℤ) × IsEntryOf r x
-        × ((f : List ℕ) × IsFrameOf events f × (length f ≤ FRAME_MAX) × IsReadAs clock r f) }
+    ensures entries { (reading : FrameReading) (events : List AcceptedEvent) (x : Entry)
+        → IsReceived reading events x → (r : Parts ℤ) × IsEntryOf r x
+        × ((f : List ℕ) × IsFrameOf events f × (length f ≤ FRAME_MAX) × IsReadAs reading r f) }
     // A record is received exactly where some such frame is read as it.
-    ensures records { (clock : Clock) (events : List AcceptedEvent) (r : Parts ℤ) (x : Entry)
-        → IsEntryOf r x → IsReceived clock events x
-        ↔ ((f : List ℕ) × IsFrameOf events f × (length f ≤ FRAME_MAX) × IsReadAs clock r f) }
-    // Without a clock these are the records of RFC 5424 that some such frame spells.
+    ensures records { (reading : FrameReading) (events : List AcceptedEvent) (r : Parts ℤ) (x : Entry)
+        → IsEntryOf r x → IsReceived reading events x
+        ↔ ((f : List ℕ) × IsFrameOf events f × (length f ≤ FRAME_MAX) × IsReadAs reading r f) }
+    // Of whole frames without a clock these are the records of RFC 5424 that some such frame spells.
     ensures spelled { (events : List AcceptedEvent) (r : Parts ℤ) (x : Entry)
-        → IsEntryOf r x → IsReceived None events x
+        → IsEntryOf r x → IsReceived (whole None) events x
         ↔ ((f : List ℕ) × IsFrameOf events f × (length f ≤ FRAME_MAX) × WellFormed r f) }
 {}
 
-/// A frame is read as one record at most. Without a clock that is the record of RFC 5424 that it
-/// spells, and no frame is a legacy packet.
+/// A frame is read as one record at most. Where it is read whole and without a clock that is the record
+/// of RFC 5424 that it spells, and no frame is a legacy packet.
 pub fn frames_have_one_reading()
-    ensures one { (clock : Clock) (r : Parts ℤ) (q : Parts ℤ) (f : List ℕ)
-        → IsReadAs clock r f → IsReadAs clock q f → r ≡ q }
-    ensures spelled { (r : Parts ℤ) (f : List ℕ) → IsReadAs None r f ↔ WellFormed r f }
-    ensures never_legacy { (f : List ℕ) → ¬ (IsLegacy None f) }
-    ensures never_refused { (offset : ℕ) (f : List ℕ) → ¬ (IsNotUtf8At None offset f) }
+    ensures one { (reading : FrameReading) (r : Parts ℤ) (q : Parts ℤ) (f : List ℕ)
+        → IsReadAs reading r f → IsReadAs reading q f → r ≡ q }
+    ensures spelled { (r : Parts ℤ) (f : List ℕ) → IsReadAs (whole None) r f ↔ WellFormed r f }
+    ensures never_legacy { (f : List ℕ) → ¬ (IsLegacy (whole None) f) }
+    ensures never_refused { (offset : ℕ) (f : List ℕ) → ¬ (IsNotUtf8At (whole None) offset f) }
 {}

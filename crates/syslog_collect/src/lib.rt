@@ -5,16 +5,17 @@
 //! archives. That is the contract of [`same_archives`]; [`merged_archives`] says the same of the
 //! union of two archives, and [`Collector::store`] that the store is the received set.
 //!
-//! A collector with a `LegacyClock` reads each frame without the front of RFC 5424 as a legacy
-//! packet (RFC 3164); then both collectors have the same clock.
+//! A collector reads frames by its `FrameReading`: with a clock, each without the front of RFC 5424 is a
+//! legacy packet (RFC 3164), and a line end or a NUL may be dropped from their ends first. Then both
+//! collectors read frames in the same way.
 //!
 //! The words of these contracts stand in `specs/`:
 //!
 //! - History: what a list of events says, with no word of how a collector works. `AcceptedEvent` is
 //!   an event that was accepted, `AreAcceptable` says which events may come, and `history_of` folds
 //!   them into the openings with their octets and the datagrams.
-//! - FrameReadings, of `syslog_legacy`: `IsReadAs`, the record as which a frame is read. Without a
-//!   clock it is the record of RFC 5424 that the frame spells ([`frames_have_one_reading`]).
+//! - FrameReadings, of `syslog_legacy`: `IsReadAs`, the record as which a frame is read. Read whole
+//!   and without a clock it is the record of RFC 5424 that the frame spells ([`frames_have_one_reading`]).
 //! - Frames: `HasFrames`, the frames of all openings and datagrams; `IsReceived`, the received set:
 //!   the records as which a frame of at most `FRAME_MAX` octets is read, each as its entry
 //!   ([`received_records`]).

@@ -19,7 +19,7 @@ use crate::fault::CollectFault;
 use crate::outcome::Outcome;
 use archive_text::Store;
 use std::alloc::Global;
-use syslog_legacy::LegacyClock;
+use syslog_legacy::FrameReading;
 
 /// What one advance did with the rest of a piece.
 #[derive(Clone, Copy, Debug)]
@@ -60,7 +60,7 @@ pub fn note(log: &mut Vec<Outcome>, outcome: Option<Outcome>)
 /// Advances a connection once, and appends the outcome to the log, in which room is made first.
 fn take_step<S: Store>(
     alloc: Global,
-    clock: Option<LegacyClock>,
+    reading: FrameReading,
     connection: &mut Connection,
     store: &mut S,
     rest: &[u8],
@@ -70,24 +70,24 @@ fn take_step<S: Store>(
     ensures settled { IfAccepted result (¬ (HasReady connection.new.scanner)) }
     ensures progress { OnGoing result (λ used. (0 < used) ⊎ HasReady connection.old.scanner) }
     ensures moves { (s : Stream) (handled : List (List ℕ)) → IsAt connection.old s handled
-        → Logs clock connection.old connection.new (S.entries store.old) (S.entries store.new)
+        → Logs reading connection.old connection.new (S.entries store.old) (S.entries store.new)
         (step_octets rest.now result) log.old.items log.new.items s handled }
     ensures accepted { (s : Stream) (handled : List (List ℕ)) → IsAt connection.old s handled
-        → IfAccepted result (LogsAdvance clock connection.old connection.new (S.entries store.old)
+        → IfAccepted result (LogsAdvance reading connection.old connection.new (S.entries store.old)
         (S.entries store.new) (step_octets rest.now result) log.old.items log.new.items s handled) }
     ensures goes_on { (s : Stream) (handled : List (List ℕ)) → IsAt connection.old s handled
         → OnGoing result (λ used. MayGoOn rest.now used s) }
     ensures whole { (s : Stream) (handled : List (List ℕ)) → IsAt connection.old s handled
         → OnGoing result (λ used. IsWholeWith (take used rest.now) s) }
     ensures cause { (s : Stream) (handled : List (List ℕ)) → IsAt connection.old s handled
-        → OnStopped result (λ used fault. StopsStep clock rest.now used
+        → OnStopped result (λ used fault. StopsStep reading rest.now used
         (ready_count connection.old.scanner.phase) (ready_count connection.new.scanner.phase) fault s) }
 {
     if log.reserve(1).is_err() {
         let fault = CollectFault::Memory { used: 0 };
         return Step::Stopped { used: 0, fault };
     }
-    let advance = match advance_connection(alloc, clock, connection, store, rest) {
+    let advance = match advance_connection(alloc, reading, connection, store, rest) {
         Ok(advance) => advance,
         Err(fault) => {
             let used = used_of(fault);
@@ -104,7 +104,7 @@ fn take_step<S: Store>(
 /// Advances a connection until the piece is used up, and at least once.
 pub fn take_piece<S: Store>(
     alloc: Global,
-    clock: Option<LegacyClock>,
+    reading: FrameReading,
     connection: &mut Connection,
     store: &mut S,
     piece: &[u8],
@@ -113,19 +113,19 @@ pub fn take_piece<S: Store>(
     ensures within { IfStopped result (λ taken fault. taken ≤ length piece.now) }
     ensures settled { IfDone result (¬ (HasReady connection.new.scanner)) }
     ensures moves { (s : Stream) (handled : List (List ℕ)) → IsAt connection.old s handled
-        → Logs clock connection.old connection.new (S.entries store.old) (S.entries store.new)
+        → Logs reading connection.old connection.new (S.entries store.old) (S.entries store.new)
         (piece_octets piece.now result) log.old.items log.new.items s handled }
     ensures accepted { (s : Stream) (handled : List (List ℕ)) → IsAt connection.old s handled
-        → IfDone result (LogsAdvance clock connection.old connection.new (S.entries store.old)
+        → IfDone result (LogsAdvance reading connection.old connection.new (S.entries store.old)
         (S.entries store.new) piece.now log.old.items log.new.items s handled) }
     // Why it is refused.
     ensures cause { (s : Stream) (handled : List (List ℕ)) → IsAt connection.old s handled
-        → IfStopped result (λ taken fault. StopsPiece clock piece.now taken
+        → IfStopped result (λ taken fault. StopsPiece reading piece.now taken
         (ready_count connection.new.scanner.phase) fault s) }
 {
     let mut taken = 0;
     'pieces: loop {
-        match take_step(alloc, clock, connection, store, &piece[taken..], log) {
+        match take_step(alloc, reading, connection, store, &piece[taken..], log) {
             Step::Stopped { used, fault } => {
                 return EventEnd::Stopped {
                     taken: taken + used,

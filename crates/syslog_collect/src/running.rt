@@ -2,7 +2,7 @@
 
 ghost use Rattle.std.specs.Prelude.{◌≡◌, ◌++◌, ◌<◌, ◌≤◌, ◌+◌, ℕ, List, length, vec_capacity, vec_len};
 ghost use Rattle.archive_text.specs.Entries.{Entry};
-ghost use Rattle.syslog_collect.specs.Collectors.{GoesOn, HaveSameConnections, Stands, clock_of, store_of, waits_of};
+ghost use Rattle.syslog_collect.specs.Collectors.{GoesOn, HaveSameConnections, Stands, reading_of, store_of, waits_of};
 ghost use Rattle.syslog_collect.specs.History.{AcceptedEvent, history_of};
 ghost use Rattle.syslog_collect.specs.Logs.{Grows, LogsDatagram, LogsEventEnd, LogsPiece, LogsRun};
 ghost use Rattle.syslog_collect.specs.Logs.{waiting_after_all};
@@ -36,13 +36,13 @@ impl<S: Store> Collector<S> {
         ensures goes_on { GoesOn S.entries self.old self.new (accepted_piece_end conn octets.now result) }
         ensures logged { (first : List Entry) (events : List AcceptedEvent)
             → Stands S.entries self.old first events
-            → Grows (LogsPiece (clock_of self.old) (history_of events) (waits_of self.old)
+            → Grows (LogsPiece (reading_of self.old) (history_of events) (waits_of self.old)
             (waits_of self.new) conn octets.now result (S.entries (store_of self.old))
             (S.entries (store_of self.new))) log.old.items log.new.items }
         ensures within { IfStopped result (λ taken fault. taken ≤ length octets.now) }
         ensures cause { (first : List Entry) (events : List AcceptedEvent)
             → Stands S.entries self.old first events
-            → IfStopped result (λ taken fault. StopsPieceAt (clock_of self.old) conn octets.now taken
+            → IfStopped result (λ taken fault. StopsPieceAt (reading_of self.old) conn octets.now taken
             (waits_of self.new conn) fault (history_of events)) }
     {
         match place(&self.connections, conn) {
@@ -52,7 +52,7 @@ impl<S: Store> Collector<S> {
             },
             Some(at) => take_piece(
                 alloc,
-                self.clock,
+                self.reading,
                 &mut self.connections[at],
                 &mut self.store,
                 octets,
@@ -66,10 +66,10 @@ impl<S: Store> Collector<S> {
         requires { vec_len log.old < vec_capacity log.old }
         ensures goes_on { GoesOn S.entries self.old self.new (accepted_datagram_end octets.now result) }
         ensures connections { HaveSameConnections self.old self.new }
-        ensures logged { Grows (LogsDatagram (clock_of self.old) octets.now result
+        ensures logged { Grows (LogsDatagram (reading_of self.old) octets.now result
             (S.entries (store_of self.old)) (S.entries (store_of self.new))) log.old.items log.new.items }
         ensures cause { IfStopped result (λ taken fault. (taken ≡ 0) × (fault ≡ Memory 0)
-            × IsRecordFrame (clock_of self.old) octets.now) }
+            × IsRecordFrame (reading_of self.old) octets.now) }
     {
         match self.datagram(alloc, octets) {
             Ok(outcome) => {
@@ -88,12 +88,12 @@ impl<S: Store> Collector<S> {
         ensures goes_on { GoesOn S.entries self.old self.new (accepted_by event.entry result) }
         ensures logged { (first : List Entry) (events : List AcceptedEvent)
             → Stands S.entries self.old first events
-            → Grows (LogsEventEnd (clock_of self.old) (history_of events) (waits_of self.old)
+            → Grows (LogsEventEnd (reading_of self.old) (history_of events) (waits_of self.old)
             (waits_of self.new) event.entry result (S.entries (store_of self.old))
             (S.entries (store_of self.new))) log.old.items log.new.items }
         ensures cause { (first : List Entry) (events : List AcceptedEvent)
             → Stands S.entries self.old first events
-            → IfStopped result (StopsAt (clock_of self.old) (history_of events) (waits_of self.new)
+            → IfStopped result (StopsAt (reading_of self.old) (history_of events) (waits_of self.new)
             event.entry) }
         ensures ends { (first : List Entry) (events : List AcceptedEvent)
             → Stands S.entries self.old first events
@@ -129,7 +129,7 @@ impl<S: Store> Collector<S> {
         // how much of a piece was taken there.
         ensures cause { (first : List Entry) (before : List AcceptedEvent)
             → Stands S.entries self.old first before
-            → StopsAs (clock_of self.old) (history_of before) (waits_of self.new) events.now result }
+            → StopsAs (reading_of self.old) (history_of before) (waits_of self.new) events.now result }
         // It did not stop at an end: the connection's last frame is whole, or it held a bad count.
         ensures ends { (first : List Entry) (before : List AcceptedEvent)
             → Stands S.entries self.old first before
@@ -143,7 +143,7 @@ impl<S: Store> Collector<S> {
         // that stops too, where a frame for which memory was refused waits for the next call.
         ensures logged { (first : List Entry) (before : List AcceptedEvent)
             → Stands S.entries self.old first before
-            → Grows (LogsRun (clock_of self.old) (history_of before) (waits_of self.old)
+            → Grows (LogsRun (reading_of self.old) (history_of before) (waits_of self.old)
             (waits_of self.new) events.now result (S.entries (store_of self.old))
             (S.entries (store_of self.new))) log.old.items log.new.items }
     {

@@ -8,3 +8,4 @@ pub mod Borrowing
 pub mod Reading
 pub mod Delivered
 pub mod Existence
+pub mod Trimming

@@ -4,6 +4,7 @@ pub mod MsgLen
 pub mod Count
 pub mod Scan
 pub mod Takes
+pub mod Trimmed
 pub mod Reads
 pub mod Ready
 pub mod State

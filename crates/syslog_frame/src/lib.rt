@@ -18,6 +18,7 @@ mod put;
 mod ready;
 mod record;
 mod scanner;
+mod trim;
 
 pub use count::{MsgLen, msg_len};
 pub use fault::{EndFault, PiecesFault, PutFault, ScanFault, StartFault};
@@ -32,6 +33,7 @@ pub use pieces::{StreamEnd, StreamFrames, frames_of_pieces};
 pub use put::put_frame;
 pub use ready::Ready;
 pub use scanner::Scanner;
+pub use trim::{one_end_is_trimmed, trimmed};
 
 #[cfg(test)]
 mod tests;

@@ -1,6 +1,6 @@
 use crate::{
     EndFault, FRAME_MAX, Framing, MsgLen, PiecesFault, PutFault, Ready, ScanFault, Scanner,
-    StartFault, StreamEnd, frames_of_pieces, msg_len, put_frame,
+    StartFault, StreamEnd, frames_of_pieces, msg_len, put_frame, trimmed,
 };
 use std::test::Fail;
 
@@ -214,5 +214,27 @@ fn faults_have_their_texts(rt: HostRuntime) -> Result<(), Fail> {
     assert_eq!(rt; text.as_str(), "the frame at 7 is unfinished");
     let text = format!(in rt.alloc(); "{}", PiecesFault::Memory)?;
     assert_eq!(rt; text.as_str(), "out of memory");
+    Ok(())
+}
+
+#[test]
+fn one_line_end_or_nul_is_trimmed(rt: HostRuntime) -> Result<(), Fail> {
+    let rows: [(&[u8], &[u8]); 12] = [
+        (b"", b""),
+        (b"\n", b""),
+        (b"\r\n", b""),
+        (b"a", b"a"),
+        (b"a\n", b"a"),
+        (b"a\r\n", b"a"),
+        (b"a\r", b"a"),
+        (b"a\0", b"a"),
+        (b"a\n\n", b"a\n"),
+        (b"a\r\r\n", b"a\r"),
+        (b"a\n\r", b"a\n"),
+        (b"a\n\0", b"a\n"),
+    ];
+    for (frame, octets) in rows {
+        assert_eq!(rt; trimmed(frame), octets);
+    }
     Ok(())
 }

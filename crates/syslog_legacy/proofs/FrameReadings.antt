@@ -1,50 +1,34 @@
 -- A frame is read in one way.
-use Rattle.std.proofs.Common.{◌≡◌, ℕ, List, inl, inr}
-use Rattle.std.specs.Prelude.{ℤ, Some, None}
+use Rattle.std.proofs.Common.{◌≡◌, ◌≤◌, ℕ, List, Bool, true, false, length, refl, arith}
+use Rattle.std.specs.Prelude.{ℤ, if◌then◌else◌}
 use Rattle.syslog_value.specs.Parts.{Parts}
-use Rattle.syslog_reading.proofs.Excluded.{fault_excludes}
-use Rattle.syslog_reading.proofs.Laws.{one_meaning}
-use Rattle.syslog_reading.specs.Faults.{FaultOf}
+use Rattle.syslog_frame.specs.Trimmed.{trimmed}
+use Rattle.syslog_frame.proofs.Trimming.{trimmed_within}
 use Rattle.syslog_reading.specs.declared.fault.Fault.{Fault}
-use Rattle.syslog_legacy.specs.FrameReadings.{Clock, IsLegacy, IsNotUtf8At, IsReadAs}
-use Rattle.syslog_legacy.specs.Readings.{NotUtf8At, ReadAs}
-use Rattle.syslog_legacy.proofs.OneAnswer.{legacy_one}
+use Rattle.syslog_legacy.proofs.ClockReadings as under
+use Rattle.syslog_legacy.specs.FrameReadings.{HasFault, IsLegacy, IsNotUtf8At, IsReadAs, octets_read}
+use Rattle.syslog_legacy.specs.declared.frame_reading.FrameReading.{FrameReading}
 
-same_read : (r q : Parts ℤ) → ReadAs r ≡ ReadAs q → r ≡ q
-same_read r q e = cc
+-- no more octets are read than there are
+pub read_within : (way : FrameReading) (f : List ℕ) → length (octets_read way f) ≤ length f
+read_within way f = within way.trim where
+  within : (trim : Bool) → length (if trim then trimmed f else f) ≤ length f
+  within true = trimmed_within f
+  within false = omega arith
 
-same_offset : (m n : ℕ) → NotUtf8At m ≡ NotUtf8At n → m ≡ n
-same_offset m n e = cc
+pub one_reading : (way : FrameReading) (f : List ℕ) (r q : Parts ℤ) → IsReadAs way r f → IsReadAs way q f → r ≡ q
+one_reading way f r q a b = under.one_reading way.clock (octets_read way f) r q a b
 
--- it is one record
-pub one_reading : (clock : Clock) (f : List ℕ) (r q : Parts ℤ) → IsReadAs clock r f → IsReadAs clock q f → r ≡ q
-one_reading None f r q a b = one_meaning r q f a b
-one_reading (Some k) f r q (inl a) (inl b) = one_meaning r q f a.1 b.1
-one_reading (Some k) f r q (inl a) (inr b) = absurd (b.0 a.0)
-one_reading (Some k) f r q (inr a) (inl b) = absurd (a.0 b.0)
-one_reading (Some k) f r q (inr a) (inr b) = same_read r q (legacy_one k (ReadAs r) (ReadAs q) f a.1 b.1)
+pub one_offset : (way : FrameReading) (f : List ℕ) (m n : ℕ) → IsNotUtf8At way m f → IsNotUtf8At way n f → m ≡ n
+one_offset way f m n a b = under.one_offset way.clock (octets_read way f) m n a b
 
--- a message stops to be UTF-8 at one offset
-pub one_offset : (clock : Clock) (f : List ℕ) (m n : ℕ) → IsNotUtf8At clock m f → IsNotUtf8At clock n f → m ≡ n
-one_offset None f m n a b = absurd a
-one_offset (Some k) f m n a b = same_offset m n (legacy_one k (NotUtf8At m) (NotUtf8At n) f a.1 b.1)
+pub not_utf8 : (way : FrameReading) (f : List ℕ) (r : Parts ℤ) (offset : ℕ) → IsNotUtf8At way offset f
+    → IsReadAs way r f → ⊥
+not_utf8 way f r offset stops is = under.not_utf8 way.clock (octets_read way f) r offset stops is
 
--- and then the frame is no record
-pub not_utf8 : (clock : Clock) (f : List ℕ) (r : Parts ℤ) (offset : ℕ) → IsNotUtf8At clock offset f → IsReadAs clock r f
-    → ⊥
-not_utf8 None f r offset stops is = absurd stops
-not_utf8 (Some k) f r offset stops (inl is) = stops.0 is.0
-not_utf8 (Some k) f r offset stops (inr is) = let e = legacy_one k (ReadAs r) (NotUtf8At offset) f is.1 stops.1 in
-    absurd (cc)
+pub fault_not_read : (way : FrameReading) (f : List ℕ) (r : Parts ℤ) (fault : Fault) → ¬ (IsLegacy way f)
+    → HasFault way f fault → IsReadAs way r f → ⊥
+fault_not_read way f r fault form bad is = under.fault_not_read way.clock (octets_read way f) r fault form bad is
 
--- nor is a frame with a fault, unless it is a legacy packet
-pub fault_not_read : (clock : Clock) (f : List ℕ) (r : Parts ℤ) (fault : Fault) → ¬ (IsLegacy clock f) → FaultOf f fault
-    → IsReadAs clock r f → ⊥
-fault_not_read None f r fault form bad is = fault_excludes f fault r bad is
-fault_not_read (Some k) f r fault form bad (inl is) = fault_excludes f fault r bad is.1
-fault_not_read (Some k) f r fault form bad (inr is) = form is.0
-
--- and a legacy packet is no frame of the other kind
-pub not_utf8_legacy : (clock : Clock) (f : List ℕ) (offset : ℕ) → IsNotUtf8At clock offset f → IsLegacy clock f
-not_utf8_legacy None f offset stops = absurd stops
-not_utf8_legacy (Some k) f offset stops = stops.0
+pub not_utf8_legacy : (way : FrameReading) (f : List ℕ) (offset : ℕ) → IsNotUtf8At way offset f → IsLegacy way f
+not_utf8_legacy way f offset stops = under.not_utf8_legacy way.clock (octets_read way f) offset stops

@@ -12,4 +12,5 @@ pub mod Splitting
 pub mod OneAnswer
 pub mod Valid
 pub mod Bounds
+pub mod ClockReadings
 pub mod FrameReadings

@@ -12,4 +12,5 @@ pub mod FrontViews
 pub mod Messages
 pub mod Readings
 pub mod Views
+pub mod ClockReadings
 pub mod FrameReadings

@@ -5,10 +5,10 @@ use Rattle.archive_engine.proofs.archive.archive_input.Goals as goal
 
 pub returns-in_default : goal.returns-in_default
 returns-in_default g c =
-    let b = archive_begun c.args.clock c.args.input_framing in
-    unstarted (archive_meaning c.args.clock c.args.input_framing) _ _ _ b.0 b.1 c.report.ensures.reports
+    let b = archive_begun c.args.reading c.args.input_framing in
+    unstarted (archive_meaning c.args.reading c.args.input_framing) _ _ _ b.0 b.1 c.report.ensures.reports
 
 pub returns-in_default-new : goal.returns-in_default-new
 returns-in_default-new g c =
-    let b = archive_begun c.args.clock c.args.input_framing in
-    unstarted (archive_meaning c.args.clock c.args.input_framing) _ _ _ b.0 b.1 c.report-in_default-new.ensures.reports
+    let b = archive_begun c.args.reading c.args.input_framing in
+    unstarted (archive_meaning c.args.reading c.args.input_framing) _ _ _ b.0 b.1 c.report-in_default-new.ensures.reports

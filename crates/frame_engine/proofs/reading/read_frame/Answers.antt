@@ -1,12 +1,10 @@
-use Rattle.syslog_legacy.specs.Views.{legacy_view_parts}
-use Rattle.frame_engine.proofs.ReadingLemmas.{legacy_record}
+use Rattle.std.proofs.lemmas.Result.{IfOk-weaker}
+use Rattle.frame_engine.proofs.ReadingLemmas.{frame_reading}
 use Rattle.frame_engine.proofs.reading.read_frame.Goals as goal
 
-pub returns-in-Ok-clause-some : goal.returns-in-Ok-clause-some
-returns-in-Ok-clause-some c =
-    let f = c.args.frame.now in
-    let view = legacy_view_parts c.in-Ok.view in (
-      view,
-      legacy_record c.args.clock c.in-Some.clock view f c.in-Some.ensures.0 c.if-frame-gt-FRAME_MAX.false
-          c.in-Some.ensures.1 c.in-Ok.ensures,
-    )
+pub returns-clause-reading : goal.returns-clause-reading
+returns-clause-reading c =
+    IfOk-weaker c.read_octets.result _ _
+    (λ read is. frame_reading c.args.reading c.args.frame.now c.octets.result.now read c.if-frame-gt-FRAME_MAX.false
+    c.octets.ensures.value is)
+    c.read_octets.ensures.reading

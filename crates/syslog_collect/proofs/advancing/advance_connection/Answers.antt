@@ -13,21 +13,21 @@ returns-in-Err-StreamTooLong-clause-cause g c s handled at =
 pub returns-in_default-clause-cause : goal.returns-in_default-clause-cause
 returns-in_default-clause-cause g c s handled at =
     let e = c.in-Ok.ensures in
-    waiting_record c.args.clock c.args.connection.now c.push.new.self s handled c.args.piece.now c.in-Ok.used
+    waiting_record c.args.reading c.args.connection.now c.push.new.self s handled c.args.piece.now c.in-Ok.used
     (pushed _ _ c.args.piece.now c.in-Ok.used e.failed e.too_long e.waits e.within e.position e.bound e.reads e.takes)
     c.in_default.ensures.spelled at
 
 pub returns-in_default-clause-moves : goal.returns-in_default-clause-moves
 returns-in_default-clause-moves g c s handled at =
     let e = c.in-Ok.ensures in
-    waiting c.args.clock c.args.connection.now _ _ _ c.args.piece.now c.in-Ok.used s handled refl
+    waiting c.args.reading c.args.connection.now _ _ _ c.args.piece.now c.in-Ok.used s handled refl
     (pushed _ _ c.args.piece.now c.in-Ok.used e.failed e.too_long e.waits e.within e.position e.bound e.reads e.takes)
     c.in_default.ensures.waits c.in_default.ensures.err at
 
 pub returns-in_default-clause-drops : goal.returns-in_default-clause-drops
 returns-in_default-clause-drops g c s handled at =
     let e = c.in-Ok.ensures in
-    waiting c.args.clock c.args.connection.now _ _ _ c.args.piece.now c.in-Ok.used s handled refl
+    waiting c.args.reading c.args.connection.now _ _ _ c.args.piece.now c.in-Ok.used s handled refl
     (pushed _ _ c.args.piece.now c.in-Ok.used e.failed e.too_long e.waits e.within e.position e.bound e.reads e.takes)
     c.in_default.ensures.waits c.in_default.ensures.err at
 
@@ -42,7 +42,7 @@ pub returns-clause-moves : goal.returns-clause-moves
 returns-clause-moves g c s handled at =
     let e = c.in-Ok.ensures in
     let r = c.release.ensures in
-    advanced c.args.clock c.args.connection.now _ c.push.new.self _ _ c.args.piece.now c.in-Ok.used (c.in-Ok.used + 1)
+    advanced c.args.reading c.args.connection.now _ c.push.new.self _ _ c.args.piece.now c.in-Ok.used (c.in-Ok.used + 1)
     c.in-Ok-handle_ready.outcome s handled refl
     (pushed _ _ c.args.piece.now c.in-Ok.used e.failed e.too_long e.waits e.within e.position e.bound e.reads e.takes)
     c.in-Ok-handle_ready.ensures.handles
@@ -52,7 +52,7 @@ pub returns-clause-drops : goal.returns-clause-drops
 returns-clause-drops g c s handled at =
     let e = c.in-Ok.ensures in
     let r = c.release.ensures in
-    advanced c.args.clock c.args.connection.now _ c.push.new.self _ _ c.args.piece.now c.in-Ok.used
+    advanced c.args.reading c.args.connection.now _ c.push.new.self _ _ c.args.piece.now c.in-Ok.used
     (length c.args.piece.now) c.in-Ok-handle_ready.outcome s handled refl
     (pushed _ _ c.args.piece.now c.in-Ok.used e.failed e.too_long e.waits e.within e.position e.bound e.reads e.takes)
     c.in-Ok-handle_ready.ensures.handles
@@ -73,10 +73,10 @@ returns-in_default-clause-taken g c s handled at =
           (λ f. let e = c.in-Ok.ensures.failed.1 f in absurd (cc))
           (λ long. let e = c.in-Ok.ensures.too_long.1 long in absurd (cc))
           (λ ready. let e = (c.in-Ok.ensures.waits ready).0 in cc) at,
-      ends_frame c.args.clock c.args.connection.now c.push.new.self s handled c.args.piece.now c.in-Ok.used
+      ends_frame c.args.reading c.args.connection.now c.push.new.self s handled c.args.piece.now c.in-Ok.used
           (pushed _ _ c.args.piece.now c.in-Ok.used e.failed e.too_long e.waits e.within e.position e.bound e.reads
           e.takes) c.in_default.ensures.spelled at,
-      some_taken c.args.clock c.args.connection.now c.push.new.self s handled c.args.piece.now c.in-Ok.used
+      some_taken c.args.reading c.args.connection.now c.push.new.self s handled c.args.piece.now c.in-Ok.used
           (pushed _ _ c.args.piece.now c.in-Ok.used e.failed e.too_long e.waits e.within e.position e.bound e.reads
           e.takes) c.in_default.ensures.spelled at,
     )
@@ -88,7 +88,7 @@ returns-clause-taken g c s handled at =
           (λ f. let e = c.in-Ok.ensures.failed.1 f in absurd (cc))
           (λ long. let e = c.in-Ok.ensures.too_long.1 long in absurd (cc))
           (λ ready. let e = (c.in-Ok.ensures.waits ready).0 in cc) at,
-      stops_right c.args.clock c.args.connection.now c.push.new.self _ _ c.args.piece.now c.in-Ok.used
+      stops_right c.args.reading c.args.connection.now c.push.new.self _ _ c.args.piece.now c.in-Ok.used
           c.in-Ok-handle_ready.outcome s handled
           (pushed _ _ c.args.piece.now c.in-Ok.used e.failed e.too_long e.waits e.within e.position e.bound e.reads
           e.takes) c.in-Ok-handle_ready.ensures.handles e.takes at,

@@ -4,7 +4,7 @@ use Rattle.syslog_collect.proofs.connection.handle_ready.Goals as goal
 pub returns-in-Ok-clause-handles : goal.returns-in-Ok-clause-handles
 returns-in-Ok-clause-handles g c =
     let reported = rw c.in-Some-Frame.field-0-is at c.in-Some-Frame.ensures.reports in
-    handles_frame c.args.clock _ _ _ c.in-Some-Frame.frame.now c.in-Ok.outcome reported c.in-Ok.ensures.outcome
+    handles_frame c.args.reading _ _ _ c.in-Some-Frame.frame.now c.in-Ok.outcome reported c.in-Ok.ensures.outcome
     (λ kind first octets frames rest r. (rw c.in-Some-Frame.field-0-is at
     (c.in-Some-Frame.ensures.reads kind first octets frames rest r)).0)
 

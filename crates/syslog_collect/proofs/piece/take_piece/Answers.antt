@@ -11,7 +11,7 @@ returns-in-Stopped-clause-moves g c s d at =
     let p = c.args.piece.now in
     let n = c.pieces.taken in
     let m = c.in-Stopped.used in
-    logs_on c.args.clock c.args.connection.now c.pieces.connection c.take_step.new.connection
+    logs_on c.args.reading c.args.connection.now c.pieces.connection c.take_step.new.connection
     (g.S.Store.entries c.args.store.now) (g.S.Store.entries c.pieces.store)
     (g.S.Store.entries c.take_step.new.store)
     (take n p) (take m (take (length p - n) (drop n p))) (take (n + m) p) c.args.log.now.items c.pieces.log.items
@@ -22,7 +22,7 @@ pub returns-in-Ended-clause-accepted : goal.returns-in-Ended-clause-accepted
 returns-in-Ended-clause-accepted g c s d at =
     let p = c.args.piece.now in
     let n = c.pieces.taken in
-    logs_on_advance c.args.clock c.args.connection.now c.pieces.connection c.take_step.new.connection
+    logs_on_advance c.args.reading c.args.connection.now c.pieces.connection c.take_step.new.connection
     (g.S.Store.entries c.args.store.now) (g.S.Store.entries c.pieces.store)
     (g.S.Store.entries c.take_step.new.store)
     (take n p) (take (length p - n) (drop n p)) p c.args.log.now.items c.pieces.log.items c.take_step.new.log.items s d
@@ -31,7 +31,7 @@ returns-in-Ended-clause-accepted g c s d at =
 
 pub returns-in-Ended-clause-moves : goal.returns-in-Ended-clause-moves
 returns-in-Ended-clause-moves g c s d at =
-    logs_of c.args.clock _ _ _ _ _ _ _ s d (returns-in-Ended-clause-accepted g c s d at)
+    logs_of c.args.reading _ _ _ _ _ _ _ s d (returns-in-Ended-clause-accepted g c s d at)
 
 pub pieces-preserved : goal.pieces-preserved
 pieces-preserved g c =
@@ -41,19 +41,19 @@ pieces-preserved g c =
     record {
       within = omega (arith, within_rest p n m c.pieces.invariant.within c.in-On.ensures.within);
       so_far = λ s d at.
-          logs_on c.args.clock c.args.connection.now c.pieces.connection c.take_step.new.connection
+          logs_on c.args.reading c.args.connection.now c.pieces.connection c.take_step.new.connection
           (g.S.Store.entries c.args.store.now) (g.S.Store.entries c.pieces.store)
           (g.S.Store.entries c.take_step.new.store)
           (take n p) (take m (take (length p - n) (drop n p))) (take (n + m) p) c.args.log.now.items c.pieces.log.items
           c.take_step.new.log.items s d (taken_on p n m) at
           (c.pieces.invariant.so_far s d at) c.in-On.ensures.moves;
       goes_on = λ s d at.
-          piece_goes_on c.args.clock c.args.connection.now c.pieces.connection (g.S.Store.entries c.args.store.now)
+          piece_goes_on c.args.reading c.args.connection.now c.pieces.connection (g.S.Store.entries c.args.store.now)
           (g.S.Store.entries c.pieces.store) p n m c.args.log.now.items c.pieces.log.items s d
           c.pieces.invariant.within at (c.pieces.invariant.so_far s d at) (c.pieces.invariant.goes_on s d at)
           c.in-On.ensures.goes_on;
       between = λ s d at.
-          piece_between c.args.clock c.args.connection.now c.pieces.connection (g.S.Store.entries c.args.store.now)
+          piece_between c.args.reading c.args.connection.now c.pieces.connection (g.S.Store.entries c.args.store.now)
           (g.S.Store.entries c.pieces.store) p n m c.args.log.now.items c.pieces.log.items s d
           (ready_count c.take_step.new.connection.scanner.phase)
           (ready_none c.take_step.new.connection.scanner.phase (λ frame. c.in-On.ensures.settled (inl frame)))
@@ -72,7 +72,7 @@ returns-in-Stopped-clause-within g c = within_taken c.args.piece.now c.pieces.ta
 
 pub returns-in-Stopped-clause-cause : goal.returns-in-Stopped-clause-cause
 returns-in-Stopped-clause-cause g c s d at =
-    piece_stops c.args.clock c.args.connection.now c.pieces.connection (g.S.Store.entries c.args.store.now)
+    piece_stops c.args.reading c.args.connection.now c.pieces.connection (g.S.Store.entries c.args.store.now)
     (g.S.Store.entries c.pieces.store) c.args.piece.now c.pieces.taken c.in-Stopped.used
     (ready_count c.pieces.connection.scanner.phase) (ready_count c.take_step.new.connection.scanner.phase)
     c.in-Stopped.fault c.args.log.now.items c.pieces.log.items s d c.pieces.invariant.within

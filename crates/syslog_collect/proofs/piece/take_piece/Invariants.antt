@@ -11,7 +11,7 @@ abbrev pub invariant-pieces : goal.invariant-pieces
 invariant-pieces g l = record {
   within : l.taken ≤ length l.piece;
   so_far : (s : Stream) (d : List (List ℕ)) → IsAt l.fn.connection s d →
-      Logs l.fn.clock l.fn.connection l.connection (g.S.Store.entries l.fn.store) (g.S.Store.entries l.store)
+      Logs l.fn.reading l.fn.connection l.connection (g.S.Store.entries l.fn.store) (g.S.Store.entries l.store)
       (take l.taken l.piece) l.fn.log.items l.log.items s d;
   goes_on : (s : Stream) (d : List (List ℕ)) → IsAt l.fn.connection s d → MayGoOn l.piece l.taken s;
   between : (s : Stream) (d : List (List ℕ)) → IsAt l.fn.connection s d →

@@ -15,7 +15,7 @@ not_both : (b : Bool) → IsTrue b → b ≡ false → ⊥
 not_both b t f = both_ways b f t
 
 pub returns-then-is_err-clause-moves : goal.returns-then-is_err-clause-moves
-returns-then-is_err-clause-moves g c s d at = logs_nothing c.args.clock _ _ _ _ s d c.reserve.ensures.items
+returns-then-is_err-clause-moves g c s d at = logs_nothing c.args.reading _ _ _ _ s d c.reserve.ensures.items
 
 pub returns-in-Err-clause-within : goal.returns-in-Err-clause-within
 returns-in-Err-clause-within g c = rw c.used_of-used.ensures
@@ -23,7 +23,7 @@ returns-in-Err-clause-within g c = rw c.used_of-used.ensures
 
 pub returns-in-Err-clause-moves : goal.returns-in-Err-clause-moves
 returns-in-Err-clause-moves g c s d at =
-    refused c.args.clock _ _ _ _ c.args.rest.now _ _ c.in-Err.fault c.used_of-used.result s d c.used_of-used.ensures
+    refused c.args.reading _ _ _ _ c.args.rest.now _ _ c.in-Err.fault c.used_of-used.result s d c.used_of-used.ensures
     c.reserve.ensures.items (c.in-Err.ensures.drops s d at)
 
 pub returns-then-is_bad_count-clause-accepted : goal.returns-then-is_bad_count-clause-accepted
@@ -34,7 +34,7 @@ returns-then-is_bad_count-clause-accepted g c s d at =
       | then-is_bad_count-via-then-is_bad_count w ↦ inl (c.is_bad_count.ensures.0 w.if-is_bad_count.true)
       | then-is_bad_count-via-else-is_bad_count+then-advance-rest w ↦ inr (omega (arith, w.if-advance-rest.true))
     ] in
-    step_ended c.args.clock c.args.connection.now c.advance_connection.new.connection
+    step_ended c.args.reading c.args.connection.now c.advance_connection.new.connection
     (g.S.Store.entries c.args.store.now) (g.S.Store.entries c.advance_connection.new.store) rest
     c.args.log.now.items c.note.new.log.items
     c.in-Ok.advance.used o s d (c.note.ensures ∙ ap (λ (u : List Outcome). u ++ outcomes_of o) c.reserve.ensures.items)
@@ -42,7 +42,7 @@ returns-then-is_bad_count-clause-accepted g c s d at =
 
 pub returns-then-is_bad_count-clause-moves : goal.returns-then-is_bad_count-clause-moves
 returns-then-is_bad_count-clause-moves g c s d at =
-    logs_of c.args.clock _ _ _ _ _ _ _ s d (returns-then-is_bad_count-clause-accepted g c s d at)
+    logs_of c.args.reading _ _ _ _ _ _ _ s d (returns-then-is_bad_count-clause-accepted g c s d at)
 
 pub returns-clause-progress : goal.returns-clause-progress
 returns-clause-progress g c =
@@ -55,28 +55,28 @@ pub returns-clause-accepted : goal.returns-clause-accepted
 returns-clause-accepted g c s d at =
     let o = c.in-Ok.advance.outcome in
     let rest = c.args.rest.now in
-    step_on c.args.clock c.args.connection.now c.advance_connection.new.connection (g.S.Store.entries c.args.store.now)
+    step_on c.args.reading c.args.connection.now c.advance_connection.new.connection (g.S.Store.entries c.args.store.now)
     (g.S.Store.entries c.advance_connection.new.store) rest c.args.log.now.items c.note.new.log.items
     c.in-Ok.advance.used o s d (c.note.ensures ∙ ap (λ (u : List Outcome). u ++ outcomes_of o) c.reserve.ensures.items)
     (λ bad. not_both c.is_bad_count.result (c.is_bad_count.ensures.1 bad) c.if-is_bad_count.false)
     (c.in-Ok.ensures.drops s d at)
 
 pub returns-clause-moves : goal.returns-clause-moves
-returns-clause-moves g c s d at = logs_of c.args.clock _ _ _ _ _ _ _ s d (returns-clause-accepted g c s d at)
+returns-clause-moves g c s d at = logs_of c.args.reading _ _ _ _ _ _ _ s d (returns-clause-accepted g c s d at)
 
 pub returns-then-is_err-clause-cause : goal.returns-then-is_err-clause-cause
 returns-then-is_err-clause-cause g c s d at = inl (refl, refl, refl)
 
 pub returns-in-Err-clause-cause : goal.returns-in-Err-clause-cause
 returns-in-Err-clause-cause g c s d at =
-    step_cause c.args.clock c.args.rest.now c.used_of-used.result c.args.connection.now
+    step_cause c.args.reading c.args.rest.now c.used_of-used.result c.args.connection.now
     c.advance_connection.new.connection _ _ c.in-Err.fault s c.used_of-used.ensures
     (returns-in-Err-clause-within g c) (c.in-Err.ensures.cause s d at) c.in-Err.ensures.waits
     c.in-Err.ensures.unchanged (c.in-Err.ensures.taken s d at)
 
 pub returns-clause-goes_on : goal.returns-clause-goes_on
 returns-clause-goes_on g c s d at =
-    step_goes_on c.args.clock c.args.connection.now c.advance_connection.new.connection
+    step_goes_on c.args.reading c.args.connection.now c.advance_connection.new.connection
     (g.S.Store.entries c.args.store.now) (g.S.Store.entries c.advance_connection.new.store) c.args.rest.now
     c.in-Ok.advance.used c.in-Ok.advance.outcome s d _
     (λ bad. not_both c.is_bad_count.result (c.is_bad_count.ensures.1 bad) c.if-is_bad_count.false)

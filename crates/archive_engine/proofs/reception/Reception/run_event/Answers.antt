@@ -1,7 +1,7 @@
 use Rattle.std.proofs.Common.{◌∷◌, ◌++◌, ◌∙◌, [], subst}
 use Rattle.syslog_collect.specs.History.{history_of}
 use Rattle.syslog_collect.specs.Logs.{waiting}
-use Rattle.syslog_legacy.specs.FrameReadings.{Clock}
+use Rattle.syslog_legacy.specs.declared.frame_reading.FrameReading.{FrameReading}
 use Rattle.syslog_collect.specs.Runs.{accepted_event}
 use Rattle.syslog_collect.specs.Standing.{Stands}
 use Rattle.syslog_collect.proofs.Logging.{none_after_all}
@@ -11,9 +11,9 @@ use Rattle.archive_engine.proofs.reception.Reception.run_event.Goals as goal
 pub returns-in-Done-clause-stands : goal.returns-in-Done-clause-stands
 returns-in-Done-clause-stands g c = λ first before was.
     subst
-    (λ (k : Clock). Stands k c.run.new.self.connections.items (g.S.Store.entries c.run.new.self.store) first
+    (λ (k : FrameReading). Stands k c.run.new.self.connections.items (g.S.Store.entries c.run.new.self.store) first
     (before ++ accepted_event c.args.event ∷ []))
-    c.in-Done.ensures.goes_on.clock (c.in-Done.ensures.goes_on.stands first before was)
+    c.in-Done.ensures.goes_on.reading (c.in-Done.ensures.goes_on.stands first before was)
 
 pub returns-in-Done-clause-settled : goal.returns-in-Done-clause-settled
 returns-in-Done-clause-settled g c = λ first before was settled d.

@@ -9,7 +9,7 @@ pub returns-in_ok-record-in-Ok-clause-ok : goal.returns-in_ok-record-in-Ok-claus
 returns-in_ok-record-in-Ok-clause-ok c =
     on_ok_weaker c.put_record_lines.result
     (λ h. let (text, lines, e) = h in
-    let is = c.in_ok-record-in-Ok.ensures c.args.self.now.clock c.args.frame.now c.in-Ok.ensures.reading in (
+    let is = c.in_ok-record-in-Ok.ensures c.args.self.now.reading c.args.frame.now c.in-Ok.ensures.reading in (
       goes_out text,
       inl (c.in_ok-record-in-Ok.record, is, text, lines, refl),
       adds_output (done_of c.args.effects.now) _ text refl e refl,

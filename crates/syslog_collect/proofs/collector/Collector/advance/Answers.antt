@@ -26,18 +26,18 @@ pub returns-in-None-clause-cause : goal.returns-in-None-clause-cause
 returns-in-None-clause-cause g c first events was =
     let absent = subst (λ (ls : List Connection). place_from c.args.conn 0 ls ≡ None) c.deref.ensures.value
     (sym c.in-None.ensures) in
-    not_open c.args.self.now.clock c.args.conn c.args.self.now.connections.items _ first events absent was
+    not_open c.args.self.now.reading c.args.conn c.args.self.now.connections.items _ first events absent was
 
 pub returns-in-Some-clause-goes_on : goal.returns-in-Some-clause-goes_on
 returns-in-Some-clause-goes_on g c = record {
   stands = λ first events was.
       let is = subst (λ (ls : List Connection). place_from c.args.conn 0 ls ≡ Some c.in-Some.at) c.deref.ensures.value
       (sym c.in-Some.ensures) in
-      advance_found c.args.self.now.clock c.args.conn c.in-Some.at c.index_mut.result.now
+      advance_found c.args.self.now.reading c.args.conn c.in-Some.at c.index_mut.result.now
       c.advance_connection.new.connection c.args.self.now.connections.items _ _ first events
       (accepted_octets c.args.piece.now c.advance_connection.result) (answered c.advance_connection.result) is
       c.index_mut.ensures.value c.advance_connection.ensures.moves was;
-  clock = refl;
+  reading = refl;
   room = omega arith;
 }
 
@@ -46,11 +46,11 @@ returns-in-Some-clause-drops g c = record {
   stands = λ first events was.
       let is = subst (λ (ls : List Connection). place_from c.args.conn 0 ls ≡ Some c.in-Some.at) c.deref.ensures.value
       (sym c.in-Some.ensures) in
-      advance_found c.args.self.now.clock c.args.conn c.in-Some.at c.index_mut.result.now
+      advance_found c.args.self.now.reading c.args.conn c.in-Some.at c.index_mut.result.now
       c.advance_connection.new.connection c.args.self.now.connections.items _ _ first events
       (dropped_octets c.args.piece.now c.advance_connection.result) (answered c.advance_connection.result) is
       c.index_mut.ensures.value c.advance_connection.ensures.drops was;
-  clock = refl;
+  reading = refl;
   room = omega arith;
 }
 
@@ -58,7 +58,7 @@ pub returns-in-Some-clause-outcome : goal.returns-in-Some-clause-outcome
 returns-in-Some-clause-outcome g c first events was =
     let is = subst (λ (ls : List Connection). place_from c.args.conn 0 ls ≡ Some c.in-Some.at) c.deref.ensures.value
     (sym c.in-Some.ensures) in
-    reports_found c.args.self.now.clock c.args.conn c.in-Some.at c.index_mut.result.now
+    reports_found c.args.self.now.reading c.args.conn c.in-Some.at c.index_mut.result.now
     c.advance_connection.new.connection c.args.self.now.connections.items (g.S.Store.entries c.args.self.now.store)
     (g.S.Store.entries c.advance_connection.new.store) first events c.args.piece.now c.advance_connection.result is
     c.index_mut.ensures.value c.advance_connection.ensures.moves c.advance_connection.ensures.settled was
@@ -67,7 +67,7 @@ pub returns-in-Some-clause-cause : goal.returns-in-Some-clause-cause
 returns-in-Some-clause-cause g c first events was =
     let is = subst (λ (ls : List Connection). place_from c.args.conn 0 ls ≡ Some c.in-Some.at) c.deref.ensures.value
     (sym c.in-Some.ensures) in
-    cause_found c.args.self.now.clock c.args.conn c.in-Some.at c.index_mut.result.now c.args.self.now.connections.items
+    cause_found c.args.self.now.reading c.args.conn c.in-Some.at c.index_mut.result.now c.args.self.now.connections.items
     _ first events c.args.piece.now c.advance_connection.result is c.index_mut.ensures.value
     c.advance_connection.ensures.cause was
 
@@ -95,13 +95,13 @@ pub returns-in-None-clause-taken : goal.returns-in-None-clause-taken
 returns-in-None-clause-taken g c first events was =
     let absent = subst (λ (ls : List Connection). place_from c.args.conn 0 ls ≡ None) c.deref.ensures.value
     (sym c.in-None.ensures) in
-    taken_none _ _ (not_open c.args.self.now.clock c.args.conn c.args.self.now.connections.items _ first events absent
+    taken_none _ _ (not_open c.args.self.now.reading c.args.conn c.args.self.now.connections.items _ first events absent
     was)
 
 pub returns-in-Some-clause-taken : goal.returns-in-Some-clause-taken
 returns-in-Some-clause-taken g c first events was =
     let is = subst (λ (ls : List Connection). place_from c.args.conn 0 ls ≡ Some c.in-Some.at) c.deref.ensures.value
     (sym c.in-Some.ensures) in
-    taken_found c.args.self.now.clock c.args.conn c.in-Some.at c.index_mut.result.now c.args.self.now.connections.items
+    taken_found c.args.self.now.reading c.args.conn c.in-Some.at c.index_mut.result.now c.args.self.now.connections.items
     _ first events c.args.piece.now c.advance_connection.result is c.index_mut.ensures.value
     c.advance_connection.ensures.taken was

@@ -20,7 +20,7 @@ pub returns-in-None-clause-cause : goal.returns-in-None-clause-cause
 returns-in-None-clause-cause g c first events was =
     let absent = subst (λ (ls : List Connection). place_from c.args.conn 0 ls ≡ None) c.deref.ensures.value
     (sym c.in-None.ensures) in
-    not_open c.args.self.now.clock c.args.conn c.args.self.now.connections.items _ first events absent was
+    not_open c.args.self.now.reading c.args.conn c.args.self.now.connections.items _ first events absent was
 
 pub index-requires : goal.index-requires
 index-requires g c =
@@ -50,21 +50,21 @@ pub returns-in-Err-Unreleased-clause-cause : goal.returns-in-Err-Unreleased-clau
 returns-in-Err-Unreleased-clause-cause g c first events was =
     let is = subst (λ (ls : List Connection). place_from c.args.conn 0 ls ≡ Some c.in-Some.at) c.deref.ensures.value
     (sym c.in-Some.ensures) in
-    is_open c.args.self.now.clock c.args.conn c.in-Some.at c.args.self.now.connections.items _ first events is was
+    is_open c.args.self.now.reading c.args.conn c.in-Some.at c.args.self.now.connections.items _ first events is was
 
 pub returns-in-Err-Unterminated-clause-goes_on : goal.returns-in-Err-Unterminated-clause-goes_on
 returns-in-Err-Unterminated-clause-goes_on g c = record {
   stands = λ first events was.
       let is = subst (λ (ls : List Connection). place_from c.args.conn 0 ls ≡ Some c.in-Some.at) c.deref.ensures.value
       (sym c.in-Some.ensures) in
-      rw c.remove.ensures.items (close_found c.args.self.now.clock c.args.conn c.in-Some.at c.index.result.now
+      rw c.remove.ensures.items (close_found c.args.self.now.reading c.args.conn c.in-Some.at c.index.result.now
       c.args.self.now.connections.items _ first events is c.index.ensures
       (handled_by c.index.result.now (λ kind start octets frames rest r. (
         rest,
         (rw c.in-Err-Unterminated.field-0-is at
             (c.in-Err-Unterminated.ensures.reads kind start octets frames rest r)).0,
       ))) was);
-  clock = refl;
+  reading = refl;
   room = omega (arith, c.remove.ensures.capacity);
 }
 
@@ -72,7 +72,7 @@ pub returns-in-Err-Unterminated-clause-cause : goal.returns-in-Err-Unterminated-
 returns-in-Err-Unterminated-clause-cause g c first events was =
     let is = subst (λ (ls : List Connection). place_from c.args.conn 0 ls ≡ Some c.in-Some.at) c.deref.ensures.value
     (sym c.in-Some.ensures) in
-    unfinished_at c.args.self.now.clock c.args.conn c.in-Some.at c.in-Err-Unterminated.start c.index.result.now
+    unfinished_at c.args.self.now.reading c.args.conn c.in-Some.at c.in-Err-Unterminated.start c.index.result.now
     c.args.self.now.connections.items _ first events is c.index.ensures
     (λ f. let e = (rw c.in-Err-Unterminated.field-0-is at c.in-Err-Unterminated.ensures.failed).1 f in absurd (cc))
     (λ kind start octets frames rest r. let e =
@@ -84,11 +84,11 @@ returns-in-Err-Failed-clause-goes_on g c = record {
   stands = λ first events was.
       let is = subst (λ (ls : List Connection). place_from c.args.conn 0 ls ≡ Some c.in-Some.at) c.deref.ensures.value
       (sym c.in-Some.ensures) in
-      rw c.remove-in-Err-Failed.ensures.items (close_found c.args.self.now.clock c.args.conn c.in-Some.at
+      rw c.remove-in-Err-Failed.ensures.items (close_found c.args.self.now.reading c.args.conn c.in-Some.at
       c.index.result.now c.args.self.now.connections.items _ first events is c.index.ensures
       (handled_by c.index.result.now (λ kind start octets frames rest r.
       absurd (rw c.in-Err-Failed.field-0-is at (c.in-Err-Failed.ensures.reads kind start octets frames rest r)))) was);
-  clock = refl;
+  reading = refl;
   room = omega (arith, c.remove-in-Err-Failed.ensures.capacity);
 }
 
@@ -96,7 +96,7 @@ pub returns-in-Err-Failed-clause-cause : goal.returns-in-Err-Failed-clause-cause
 returns-in-Err-Failed-clause-cause g c first events was =
     let is = subst (λ (ls : List Connection). place_from c.args.conn 0 ls ≡ Some c.in-Some.at) c.deref.ensures.value
     (sym c.in-Some.ensures) in
-    ended_at c.args.self.now.clock c.args.conn c.in-Some.at c.index.result.now c.args.self.now.connections.items _ first
+    ended_at c.args.self.now.reading c.args.conn c.in-Some.at c.index.result.now c.args.self.now.connections.items _ first
     events is c.index.ensures
     (λ kind start octets frames rest r. absurd
     (rw c.in-Err-Failed.field-0-is at (c.in-Err-Failed.ensures.reads kind start octets frames rest r))) was
@@ -106,11 +106,11 @@ returns-in-Ok-clause-goes_on g c = record {
   stands = λ first events was.
       let is = subst (λ (ls : List Connection). place_from c.args.conn 0 ls ≡ Some c.in-Some.at) c.deref.ensures.value
       (sym c.in-Some.ensures) in
-      rw c.remove-in-Ok.ensures.items (close_found c.args.self.now.clock c.args.conn c.in-Some.at c.index.result.now
+      rw c.remove-in-Ok.ensures.items (close_found c.args.self.now.reading c.args.conn c.in-Some.at c.index.result.now
       c.args.self.now.connections.items _ first events is c.index.ensures
       (handled_by c.index.result.now (λ kind start octets frames rest r.
       ([], (c.in-Ok.ensures.reads kind start octets frames rest r).1))) was);
-  clock = refl;
+  reading = refl;
   room = omega (arith, c.remove-in-Ok.ensures.capacity);
 }
 
@@ -118,7 +118,7 @@ pub returns-in-Ok-clause-cause : goal.returns-in-Ok-clause-cause
 returns-in-Ok-clause-cause g c first events was =
     let is = subst (λ (ls : List Connection). place_from c.args.conn 0 ls ≡ Some c.in-Some.at) c.deref.ensures.value
     (sym c.in-Some.ensures) in
-    ended_at c.args.self.now.clock c.args.conn c.in-Some.at c.index.result.now c.args.self.now.connections.items _ first
+    ended_at c.args.self.now.reading c.args.conn c.in-Some.at c.index.result.now c.args.self.now.connections.items _ first
     events is c.index.ensures
     (λ kind start octets frames rest r. (c.in-Ok.ensures.reads kind start octets frames rest r).1) was
 
@@ -128,7 +128,7 @@ returns-in-Err-Unterminated-clause-waits g c first events was d =
     (sym c.in-Some.ensures) in
     let none = ready_none c.index.result.now.scanner.phase (λ f. let e =
     (rw c.in-Err-Unterminated.field-0-is at c.in-Err-Unterminated.ensures.unreleased).1 (inl f) in absurd (cc)) in
-    rw c.remove.ensures.items (waiting_closed c.args.self.now.clock c.args.conn c.in-Some.at c.index.result.now
+    rw c.remove.ensures.items (waiting_closed c.args.self.now.reading c.args.conn c.in-Some.at c.index.result.now
     c.args.self.now.connections.items _ first events is c.index.ensures none
     (handled_by c.index.result.now (λ kind start octets frames rest r. (
       rest,
@@ -142,7 +142,7 @@ returns-in-Err-Failed-clause-waits g c first events was d =
     (sym c.in-Some.ensures) in
     let none = ready_none c.index.result.now.scanner.phase (λ f. let e =
     (rw c.in-Err-Failed.field-0-is at c.in-Err-Failed.ensures.unreleased).1 (inl f) in absurd (cc)) in
-    rw c.remove-in-Err-Failed.ensures.items (waiting_closed c.args.self.now.clock c.args.conn c.in-Some.at
+    rw c.remove-in-Err-Failed.ensures.items (waiting_closed c.args.self.now.reading c.args.conn c.in-Some.at
     c.index.result.now c.args.self.now.connections.items _ first events is c.index.ensures none
     (handled_by c.index.result.now (λ kind start octets frames rest r.
     absurd (rw c.in-Err-Failed.field-0-is at (c.in-Err-Failed.ensures.reads kind start octets frames rest r)))) was
@@ -154,7 +154,7 @@ returns-in-Ok-clause-waits g c first events was d =
     (sym c.in-Some.ensures) in
     let none = ready_none c.index.result.now.scanner.phase (λ f. let e = (c.in-Ok.ensures.unreleased).1 (inl f) in
     absurd (cc)) in
-    rw c.remove-in-Ok.ensures.items (waiting_closed c.args.self.now.clock c.args.conn c.in-Some.at c.index.result.now
+    rw c.remove-in-Ok.ensures.items (waiting_closed c.args.self.now.reading c.args.conn c.in-Some.at c.index.result.now
     c.args.self.now.connections.items _ first events is c.index.ensures none
     (handled_by c.index.result.now (λ kind start octets frames rest r.
     ([], (c.in-Ok.ensures.reads kind start octets frames rest r).1))) was d)
@@ -164,7 +164,7 @@ returns-in-Err-Unreleased-clause-ready g c first events was =
     let is = subst (λ (ls : List Connection). place_from c.args.conn 0 ls ≡ Some c.in-Some.at) c.deref.ensures.value
     (sym c.in-Some.ensures) in
     let ready = c.in-Err-Unreleased.ensures.unreleased.0 (rw c.in-Err-Unreleased.field-0-is refl) in
-    let frame = ready_frame c.args.self.now.clock c.args.conn c.in-Some.at c.index.result.now
+    let frame = ready_frame c.args.self.now.reading c.args.conn c.in-Some.at c.index.result.now
     c.args.self.now.connections.items _ first events is c.index.ensures ready was in
     waiting_at c.args.conn c.in-Some.at c.index.result.now c.args.self.now.connections.items
     (found_here c.args.conn c.in-Some.at c.index.result.now c.args.self.now.connections.items is c.index.ensures)

@@ -23,17 +23,17 @@ returns-then-is_some-clause-cause g c first events was =
     let found = some_of c.place.result (sym c.is_some.ensures ∙ c.if-is_some.true) in
     let is = subst (λ (ls : List Connection). place_from c.args.conn 0 ls ≡ Some found.0) c.deref.ensures.value
     (sym c.place.ensures ∙ found.1) in
-    is_open c.args.self.now.clock c.args.conn found.0 c.args.self.now.connections.items _ first events is was
+    is_open c.args.self.now.reading c.args.conn found.0 c.args.self.now.connections.items _ first events is was
 
 pub returns-then-len-ge-CONNECTIONS_MAX-clause-cause : goal.returns-then-len-ge-CONNECTIONS_MAX-clause-cause
 returns-then-len-ge-CONNECTIONS_MAX-clause-cause g c first events was =
     let absent = subst (λ (ls : List Connection). place_from c.args.conn 0 ls ≡ None) c.deref.ensures.value
     (sym c.place.ensures ∙ none_of c.place.result (sym c.is_some.ensures ∙ c.if-is_some.false)) in (
-      not_open c.args.self.now.clock c.args.conn c.args.self.now.connections.items _ first events absent was,
+      not_open c.args.self.now.reading c.args.conn c.args.self.now.connections.items _ first events absent was,
       omega (
         arith,
         c.len.ensures,
-        count_open c.args.self.now.clock c.args.self.now.connections.items _ first events
+        count_open c.args.self.now.reading c.args.self.now.connections.items _ first events
             was,
       ),
     )
@@ -42,11 +42,11 @@ pub returns-in_default-clause-cause : goal.returns-in_default-clause-cause
 returns-in_default-clause-cause g c first events was =
     let absent = subst (λ (ls : List Connection). place_from c.args.conn 0 ls ≡ None) c.deref.ensures.value
     (sym c.place.ensures ∙ none_of c.place.result (sym c.is_some.ensures ∙ c.if-is_some.false)) in (
-      not_open c.args.self.now.clock c.args.conn c.args.self.now.connections.items _ first events absent was,
+      not_open c.args.self.now.reading c.args.conn c.args.self.now.connections.items _ first events absent was,
       omega (
         arith,
         c.len.ensures,
-        count_open c.args.self.now.clock c.args.self.now.connections.items _ first events
+        count_open c.args.self.now.reading c.args.self.now.connections.items _ first events
             was,
       ),
       refl,
@@ -64,9 +64,9 @@ returns-in_default-clause-goes_on g c = stays (g.S.Store.entries) c.args.self.no
 pub returns-in-Err-clause-goes_on : goal.returns-in-Err-clause-goes_on
 returns-in-Err-clause-goes_on g c = record {
   stands = λ first events was.
-      rw c.in-Err.ensures.items (still c.args.self.now.clock c.args.self.now.connections.items _ _ first events refl
+      rw c.in-Err.ensures.items (still c.args.self.now.reading c.args.self.now.connections.items _ _ first events refl
       was);
-  clock = refl;
+  reading = refl;
   room = omega (arith, c.in-Err.ensures.capacity);
 }
 
@@ -74,11 +74,11 @@ pub returns-in-Err-clause-cause : goal.returns-in-Err-clause-cause
 returns-in-Err-clause-cause g c first events was =
     let absent = subst (λ (ls : List Connection). place_from c.args.conn 0 ls ≡ None) c.deref.ensures.value
     (sym c.place.ensures ∙ none_of c.place.result (sym c.is_some.ensures ∙ c.if-is_some.false)) in (
-      not_open c.args.self.now.clock c.args.conn c.args.self.now.connections.items _ first events absent was,
+      not_open c.args.self.now.reading c.args.conn c.args.self.now.connections.items _ first events absent was,
       omega (
         arith,
         c.len.ensures,
-        count_open c.args.self.now.clock c.args.self.now.connections.items _ first events
+        count_open c.args.self.now.reading c.args.self.now.connections.items _ first events
             was,
       ),
       refl,
@@ -91,9 +91,9 @@ returns-clause-goes_on g c = record {
       (sym c.place.ensures ∙ none_of c.place.result (sym c.is_some.ensures ∙ c.if-is_some.false)) in
       let room : length c.args.self.now.connections.items < CONNECTIONS_MAX = omega (arith, c.len.ensures) in
       rw c.in_default-push.ensures.items
-      (open_step c.args.self.now.clock c.args.conn c.args.framing c.in-Ok.scanner c.args.self.now.connections.items _
+      (open_step c.args.self.now.reading c.args.conn c.args.framing c.in-Ok.scanner c.args.self.now.connections.items _
       first events absent room c.in-Ok.ensures.reads c.in-Ok.ensures.stands.1 was);
-  clock = refl;
+  reading = refl;
   room = omega (arith, c.in_default-push.ensures.capacity);
 }
 
@@ -101,11 +101,11 @@ pub returns-clause-cause : goal.returns-clause-cause
 returns-clause-cause g c first events was =
     let absent = subst (λ (ls : List Connection). place_from c.args.conn 0 ls ≡ None) c.deref.ensures.value
     (sym c.place.ensures ∙ none_of c.place.result (sym c.is_some.ensures ∙ c.if-is_some.false)) in (
-      not_open c.args.self.now.clock c.args.conn c.args.self.now.connections.items _ first events absent was,
+      not_open c.args.self.now.reading c.args.conn c.args.self.now.connections.items _ first events absent was,
       omega (
         arith,
         c.len.ensures,
-        count_open c.args.self.now.clock c.args.self.now.connections.items _ first events
+        count_open c.args.self.now.reading c.args.self.now.connections.items _ first events
             was,
       ),
     )

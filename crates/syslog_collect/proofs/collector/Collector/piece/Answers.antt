@@ -23,7 +23,7 @@ returns-in-None-clause-goes_on g c = stays (g.S.Store.entries) c.args.self.now
 
 pub returns-in-None-clause-logged : goal.returns-in-None-clause-logged
 returns-in-None-clause-logged g c first events was =
-    nothing_of_piece c.args.self.now.clock (history_of events) (waiting c.args.self.now.connections.items) c.args.conn
+    nothing_of_piece c.args.self.now.reading (history_of events) (waiting c.args.self.now.connections.items) c.args.conn
     c.args.octets.now NotOpen _ _
 
 pub returns-in-Some-clause-goes_on : goal.returns-in-Some-clause-goes_on
@@ -31,10 +31,10 @@ returns-in-Some-clause-goes_on g c = record {
   stands = λ first events was.
       let is = subst (λ (ls : List Connection). place_from c.args.conn 0 ls ≡ Some c.in-Some.at) c.deref.ensures.value
       (sym c.in-Some.ensures) in
-      piece_found c.args.self.now.clock c.args.conn c.in-Some.at c.index_mut.result.now c.take_piece.new.connection
+      piece_found c.args.self.now.reading c.args.conn c.in-Some.at c.index_mut.result.now c.take_piece.new.connection
       c.args.self.now.connections.items _ _ first events c.args.octets.now c.take_piece.result _ _
       is c.index_mut.ensures.value c.take_piece.ensures.moves c.take_piece.ensures.accepted was;
-  clock = refl;
+  reading = refl;
   room = omega arith;
 }
 
@@ -42,7 +42,7 @@ pub returns-in-Some-clause-logged : goal.returns-in-Some-clause-logged
 returns-in-Some-clause-logged g c first events was =
     let is = subst (λ (ls : List Connection). place_from c.args.conn 0 ls ≡ Some c.in-Some.at) c.deref.ensures.value
     (sym c.in-Some.ensures) in
-    piece_logged c.args.self.now.clock c.args.conn c.in-Some.at c.index_mut.result.now c.take_piece.new.connection
+    piece_logged c.args.self.now.reading c.args.conn c.in-Some.at c.index_mut.result.now c.take_piece.new.connection
     c.args.self.now.connections.items (g.S.Store.entries c.args.self.now.store)
     (g.S.Store.entries c.take_piece.new.store) first events c.args.octets.now c.take_piece.result c.args.log.now.items
     c.take_piece.new.log.items is c.index_mut.ensures.value c.take_piece.ensures.moves
@@ -52,13 +52,13 @@ pub returns-in-None-clause-cause : goal.returns-in-None-clause-cause
 returns-in-None-clause-cause g c first events was =
     let absent = subst (λ (ls : List Connection). place_from c.args.conn 0 ls ≡ None) c.deref.ensures.value
     (sym c.in-None.ensures) in
-    inr (not_open c.args.self.now.clock c.args.conn c.args.self.now.connections.items _ first events absent was, refl)
+    inr (not_open c.args.self.now.reading c.args.conn c.args.self.now.connections.items _ first events absent was, refl)
 
 pub returns-in-Some-clause-cause : goal.returns-in-Some-clause-cause
 returns-in-Some-clause-cause g c first events was =
     let is = subst (λ (ls : List Connection). place_from c.args.conn 0 ls ≡ Some c.in-Some.at) c.deref.ensures.value
     (sym c.in-Some.ensures) in
-    piece_refused c.args.self.now.clock c.args.conn c.in-Some.at c.index_mut.result.now c.take_piece.new.connection
+    piece_refused c.args.self.now.reading c.args.conn c.in-Some.at c.index_mut.result.now c.take_piece.new.connection
     c.args.self.now.connections.items (g.S.Store.entries c.args.self.now.store)
     (g.S.Store.entries c.take_piece.new.store) first events c.args.octets.now c.take_piece.result c.args.log.now.items
     c.take_piece.new.log.items is c.index_mut.ensures.value c.take_piece.ensures.moves

@@ -4,7 +4,7 @@ use Rattle.syslog_collect.specs.declared.event.Event.TheVariants.{Opened}
 use Rattle.syslog_collect.specs.History.{AcceptedEvent, History, history_of, initial}
 use Rattle.syslog_collect.specs.declared.event.EventEnd.TheVariants.{Done as end_Done, Stopped as end_Stopped}
 use Rattle.syslog_collect.specs.Logs.{Grows, IsLogOf, LogsEventEnd, waiting, waiting_after_all}
-use Rattle.syslog_legacy.specs.FrameReadings.{Clock}
+use Rattle.syslog_legacy.specs.declared.frame_reading.FrameReading.{FrameReading}
 use Rattle.syslog_collect.specs.Runs.{accepted_all, accepted_event, accepted_part}
 use Rattle.syslog_collect.specs.Collectors.{GoesOn}
 use Rattle.syslog_collect.proofs.Collecting.{goes_on_then, stays}
@@ -37,22 +37,22 @@ returns-in-Stopped-clause-logged g c first before was =
     let d = g.S.Store.entries c.run_event.new.self.store in
     let u = waiting c.loop-at.self.connections.items in
     let v = waiting c.run_event.new.self.connections.items in
-    run_stopped c.args.self.now.clock (history_of before) (waiting c.args.self.now.connections.items) u v es n
+    run_stopped c.args.self.now.reading (history_of before) (waiting c.args.self.now.connections.items) u v es n
     c.in-Stopped.taken c.in-Stopped.fault (Opened 0 Counted) a b d c.args.log.now.items c.loop-at.log.items
     c.run_event.new.log.items
     here (c.loop-at.invariant.log first before was)
-    (subst (λ (h : History). Grows (LogsEventEnd c.args.self.now.clock h u v (get_or es n (Opened 0 Counted))
+    (subst (λ (h : History). Grows (LogsEventEnd c.args.self.now.reading h u v (get_or es n (Opened 0 Counted))
     (end_Stopped c.in-Stopped.taken c.in-Stopped.fault) b d) c.loop-at.log.items c.run_event.new.log.items)
     (history_after-append initial before so_far)
-    (subst (λ (k : Clock). Grows (LogsEventEnd k (history_of (before ++ so_far)) u v (get_or es n (Opened 0 Counted))
+    (subst (λ (k : FrameReading). Grows (LogsEventEnd k (history_of (before ++ so_far)) u v (get_or es n (Opened 0 Counted))
     (end_Stopped c.in-Stopped.taken c.in-Stopped.fault) b d) c.loop-at.log.items c.run_event.new.log.items)
-    c.loop-at.invariant.goes_on.clock (c.in-Stopped.ensures.logged first (before ++ so_far)
+    c.loop-at.invariant.goes_on.reading (c.in-Stopped.ensures.logged first (before ++ so_far)
     (c.loop-at.invariant.goes_on.stands first before was))))
 
 pub loop-at-init : goal.loop-at-init
 loop-at-init g c = record {
   goes_on = stays (g.S.Store.entries) c.args.self.now;
-  log = λ first before was. grows_none c.args.self.now.clock (history_of before) _ _ _;
+  log = λ first before was. grows_none c.args.self.now.reading (history_of before) _ _ _;
   ends = λ first before was. tt;
 }
 
@@ -78,14 +78,14 @@ loop-at-preserved g c = record {
       let w = waiting c.args.self.now.connections.items in
       let u = waiting c.loop-at.self.connections.items in
       let v = waiting c.run_event.new.self.connections.items in
-      subst (λ (ts : List AcceptedEvent). Grows (IsLogOf c.args.self.now.clock (history_of before) w ts v a d)
+      subst (λ (ts : List AcceptedEvent). Grows (IsLogOf c.args.self.now.reading (history_of before) w ts v a d)
       c.args.log.now.items c.run_event.new.log.items) (sym (accepted_all-next es n (Opened 0 Counted) here))
-      (grows_push c.args.self.now.clock (history_of before) w so_far e u v a b d c.args.log.now.items
+      (grows_push c.args.self.now.reading (history_of before) w so_far e u v a b d c.args.log.now.items
       c.loop-at.log.items c.run_event.new.log.items (c.loop-at.invariant.log first before was)
-      (subst (λ (h : History). Grows (LogsEventEnd c.args.self.now.clock h u v e end_Done b d) c.loop-at.log.items
+      (subst (λ (h : History). Grows (LogsEventEnd c.args.self.now.reading h u v e end_Done b d) c.loop-at.log.items
       c.run_event.new.log.items) (history_after-append initial before so_far)
-      (subst (λ (k : Clock). Grows (LogsEventEnd k (history_of (before ++ so_far)) u v e end_Done b d)
-      c.loop-at.log.items c.run_event.new.log.items) c.loop-at.invariant.goes_on.clock
+      (subst (λ (k : FrameReading). Grows (LogsEventEnd k (history_of (before ++ so_far)) u v e end_Done b d)
+      c.loop-at.log.items c.run_event.new.log.items) c.loop-at.invariant.goes_on.reading
       (c.in_default.ensures.logged first (before ++ so_far) (c.loop-at.invariant.goes_on.stands first before was)))));
   ends = λ first before was.
       let es = c.args.events.now in
@@ -111,12 +111,12 @@ returns-clause-waits g c first before was d =
     let (os, grown, logs) = c.loop-at.invariant.log first before was in
     subst (λ (ts : List AcceptedEvent). v d ≡ waiting_after_all w ts d)
     (accepted_all-whole c.args.events.now c.loop-at.at (omega arith))
-    (log_waits c.args.self.now.clock (history_of before) w v so_far _ _ os logs d)
+    (log_waits c.args.self.now.reading (history_of before) w v so_far _ _ os logs d)
 
 pub returns-clause-logged : goal.returns-clause-logged
 returns-clause-logged g c first before was =
     subst (λ (ts : List AcceptedEvent). Grows
-    (IsLogOf c.args.self.now.clock (history_of before) (waiting c.args.self.now.connections.items) ts
+    (IsLogOf c.args.self.now.reading (history_of before) (waiting c.args.self.now.connections.items) ts
     (waiting c.loop-at.self.connections.items)
     (g.S.Store.entries c.args.self.now.store) (g.S.Store.entries c.loop-at.self.store)) c.args.log.now.items
     c.loop-at.log.items)
@@ -131,11 +131,11 @@ returns-in-Stopped-clause-cause g c first before was =
     let w = waiting c.run_event.new.self.connections.items in
     let stops = c.in-Stopped.ensures.cause first (before ++ so_far) (c.loop-at.invariant.goes_on.stands first before was) in (
       here,
-      first_stops c.args.self.now.clock _ w es n c.in-Stopped.taken c.in-Stopped.fault (Opened 0 Counted) here
-          (subst (λ (h : History). StopsAt c.args.self.now.clock h w (get_or es n (Opened 0 Counted)) c.in-Stopped.taken
+      first_stops c.args.self.now.reading _ w es n c.in-Stopped.taken c.in-Stopped.fault (Opened 0 Counted) here
+          (subst (λ (h : History). StopsAt c.args.self.now.reading h w (get_or es n (Opened 0 Counted)) c.in-Stopped.taken
           c.in-Stopped.fault) (history_after-append initial before so_far)
-          (subst (λ (k : Clock). StopsAt k (history_of (before ++ so_far)) w (get_or es n (Opened 0 Counted))
-          c.in-Stopped.taken c.in-Stopped.fault) c.loop-at.invariant.goes_on.clock stops)),
+          (subst (λ (k : FrameReading). StopsAt k (history_of (before ++ so_far)) w (get_or es n (Opened 0 Counted))
+          c.in-Stopped.taken c.in-Stopped.fault) c.loop-at.invariant.goes_on.reading stops)),
     )
 
 pub returns-clause-ends : goal.returns-clause-ends
