@@ -13,125 +13,47 @@
 //! The crate `examples` has one example of each.
 #![tactic(auto)]
 
-pub use collect_engine::CollectWords;
-pub use collect_engine::ListSource;
-pub use collect_engine::SERVE_TURNS;
-pub use collect_engine::ServeEnd;
-pub use collect_engine::Source;
-pub use collect_engine::Step;
-pub use collect_engine::TcpSource;
-pub use collect_engine::Transport;
-pub use collect_engine::UdpSource;
-pub use collect_engine::run_collect;
-pub use collect_engine::serve;
-pub use commands::Files;
-pub use commands::MemoryFile;
-pub use commands::MemoryFiles;
-pub use commands::run;
-pub use syslog_archive::AddFault;
-pub use syslog_archive::Added;
-pub use syslog_archive::ArchiveFault;
-pub use syslog_archive::ENTRY_MAX;
-pub use syslog_archive::EntryFault;
-pub use syslog_archive::EntryView;
-pub use syslog_archive::MergeFault;
-pub use syslog_archive::PagedArchive;
-pub use syslog_archive::ReadFault;
-pub use syslog_archive::Side;
-pub use syslog_archive::Store;
-pub use syslog_archive::VecArchive;
-pub use syslog_archive::entry_order_is_total;
-pub use syslog_archive::merge;
-pub use syslog_archive::merge_streams;
-pub use syslog_archive::merging_is_associative;
-pub use syslog_archive::merging_is_commutative;
-pub use syslog_archive::merging_is_idempotent;
-pub use syslog_archive::merging_is_union;
-pub use syslog_archive::migrate;
-pub use syslog_archive::one_set_has_one_text;
-pub use syslog_archive::one_text_has_one_set;
-pub use syslog_archive::read_entry;
-pub use syslog_archive::same_records_have_one_text;
-pub use syslog_collect::Advance;
-pub use syslog_collect::CONNECTIONS_MAX;
-pub use syslog_collect::CollectFault;
-pub use syslog_collect::Collector;
-pub use syslog_collect::Event;
-pub use syslog_collect::Outcome;
-pub use syslog_collect::RunEnd;
-pub use syslog_collect::SendFault;
-pub use syslog_collect::Sender;
-pub use syslog_collect::frames_have_one_reading;
-pub use syslog_collect::merged_archives;
-pub use syslog_collect::received_records;
-pub use syslog_collect::same_archives;
-pub use syslog_frame::COUNT_MAX;
-pub use syslog_frame::EndFault;
-pub use syslog_frame::FRAME_MAX;
-pub use syslog_frame::Framing;
-pub use syslog_frame::MsgLen;
-pub use syslog_frame::POSITION_MAX;
-pub use syslog_frame::PiecesFault;
-pub use syslog_frame::PutFault;
-pub use syslog_frame::Ready;
-pub use syslog_frame::ScanFault;
-pub use syslog_frame::Scanner;
-pub use syslog_frame::StartFault;
-pub use syslog_frame::frames_of_pieces;
-pub use syslog_frame::msg_len;
-pub use syslog_frame::put_frame;
-pub use syslog_frame::trimmed;
-pub use syslog_grammar::DecodeFault;
-pub use syslog_grammar::ElementView;
-pub use syslog_grammar::Fault;
-pub use syslog_grammar::Field;
-pub use syslog_grammar::ParamView;
-pub use syslog_grammar::RecordView;
-pub use syslog_grammar::canon;
-pub use syslog_grammar::canonical_is_injective;
-pub use syslog_grammar::canonical_timestamp;
-pub use syslog_grammar::decode;
-pub use syslog_grammar::fault_of;
-pub use syslog_grammar::is_canon;
-pub use syslog_grammar::is_canon_unsorted;
-pub use syslog_grammar::octets_are_one_record;
-pub use syslog_grammar::octets_have_one_fault;
-pub use syslog_grammar::same_value;
-pub use syslog_grammar::utf8;
-pub use syslog_grammar::view;
-pub use syslog_grammar::view_and_form;
-pub use syslog_grammar::write_canonical_view;
-pub use syslog_legacy::Dialect;
-pub use syslog_legacy::FrameReading;
-pub use syslog_legacy::LegacyClock;
-pub use syslog_legacy::LegacyFault;
-pub use syslog_legacy::LegacyView;
-pub use syslog_legacy::has_new_form;
-pub use syslog_legacy::legacy_view;
-pub use syslog_legacy::packets_have_one_answer;
-pub use syslog_legacy::read_legacy;
-pub use syslog_value::Civil;
-pub use syslog_value::DeviceFault;
-pub use syslog_value::Element;
-pub use syslog_value::Facility;
-pub use syslog_value::FromRead;
-pub use syslog_value::Fuse;
-pub use syslog_value::Input;
-pub use syslog_value::Instant;
-pub use syslog_value::Mask;
-pub use syslog_value::Message;
-pub use syslog_value::Output;
-pub use syslog_value::Param;
-pub use syslog_value::Priority;
-pub use syslog_value::PushFault;
-pub use syslog_value::READ_MAX;
-pub use syslog_value::READER_CALLS;
-pub use syslog_value::Record;
-pub use syslog_value::SdName;
-pub use syslog_value::Severity;
-pub use syslog_value::StructuredData;
-pub use syslog_value::TimeFault;
-pub use syslog_value::ToWrite;
-pub use syslog_value::Word;
-pub use syslog_value::WordFault;
-pub use syslog_value::WriteFault;
+// what the program does, over any devices
+pub use collect_engine::{
+    CollectWords, ListSource, SERVE_TURNS, ServeEnd, Source, Step, TcpSource, Transport, UdpSource,
+    run_collect, serve,
+};
+pub use commands::{Files, MemoryFile, MemoryFiles, run};
+
+// archives
+pub use syslog_archive::{
+    AddFault, Added, ArchiveFault, ENTRY_MAX, EntryFault, EntryView, MergeFault, PagedArchive,
+    ReadFault, Side, Store, VecArchive, entry_order_is_total, merge, merge_streams,
+    merging_is_associative, merging_is_commutative, merging_is_idempotent, merging_is_union,
+    migrate, one_set_has_one_text, one_text_has_one_set, read_entry, same_records_have_one_text,
+};
+
+// collectors and senders
+pub use syslog_collect::{
+    Advance, CONNECTIONS_MAX, CollectFault, Collector, Event, Outcome, RunEnd, SendFault, Sender,
+    frames_have_one_reading, merged_archives, received_records, same_archives,
+};
+
+// frames
+pub use syslog_frame::{
+    COUNT_MAX, EndFault, FRAME_MAX, Framing, MsgLen, POSITION_MAX, PiecesFault, PutFault, Ready,
+    ScanFault, Scanner, StartFault, frames_of_pieces, msg_len, put_frame, trimmed,
+};
+
+// records, and legacy packets
+pub use syslog_grammar::{
+    DecodeFault, ElementView, Fault, Field, ParamView, RecordView, canon, canonical_is_injective,
+    canonical_timestamp, decode, fault_of, is_canon, is_canon_unsorted, octets_are_one_record,
+    octets_have_one_fault, same_value, utf8, view, view_and_form, write_canonical_view,
+};
+pub use syslog_legacy::{
+    Dialect, FrameReading, LegacyClock, LegacyFault, LegacyView, has_new_form, legacy_view,
+    packets_have_one_answer, read_legacy,
+};
+
+// values
+pub use syslog_value::{
+    Civil, DeviceFault, Element, Facility, FromRead, Fuse, Input, Instant, Mask, Message, Output,
+    Param, Priority, PushFault, READ_MAX, READER_CALLS, Record, SdName, Severity, StructuredData,
+    TimeFault, ToWrite, Word, WordFault, WriteFault,
+};
