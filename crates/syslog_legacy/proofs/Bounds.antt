@@ -87,7 +87,8 @@ priority_len v b rest (t, e, (x, y, f, h, (u, w, g, (n, i), j))) =
 ends_len : (b rest : List ℕ) → Ends b rest → len rest ≤ len b
 ends_len b rest (x, e) = omega (arith, together x rest b e)
 
--- ---- what the parts of each dialect take: where a tag stands in the host's place, the nil host takes an octet of the time
+-- ---- what the parts of each dialect take; where a tag stands in the host's place, the nil host takes an octet of the
+-- time
 
 abbrev spare : Dialect → ℕ
 spare Bsd = 0

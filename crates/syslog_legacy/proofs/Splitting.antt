@@ -12,7 +12,8 @@ use Rattle.syslog_legacy.specs.declared.clock.LegacyClock.{LegacyClock}
 use Rattle.syslog_legacy.specs.Messages.{MessageStops}
 use Rattle.syslog_legacy.specs.Parts.{Lacks, Part}
 use Rattle.syslog_legacy.specs.Readings.{StopsIn}
-use Rattle.syslog_legacy.specs.Splits.{BehindHost, BehindTime, BehindPriority, First, FrontParts, HostPart, PriorityPart}
+use Rattle.syslog_legacy.specs.Splits.{BehindHost, BehindTime, BehindPriority, First, FrontParts, HostPart}
+use Rattle.syslog_legacy.specs.Splits.{PriorityPart}
 use Rattle.syslog_legacy.specs.Splits.{Split, Splits, TagPart, TimePart, front_of, no_tag}
 use Rattle.syslog_legacy.specs.Tags.{TagParts}
 use Rattle.syslog_legacy.proofs.Hosts.{host_suffix}
@@ -89,8 +90,8 @@ pub message_ends : (clock : LegacyClock) (b : List ℕ) (f : FrontParts) (m : Li
     → (x : List ℕ) × (b ≡ x ++ m)
 message_ends clock b f m =
     let d = clock.dialect in
-    first_ends (PriorityPart d) (BehindPriority (TimePart d clock) (HostPart d) (TagPart d)) (front_of 13 None None no_tag)
-    f b m (λ p rest h. priority_ends d p b rest h)
+    first_ends (PriorityPart d) (BehindPriority (TimePart d clock) (HostPart d) (TagPart d))
+    (front_of 13 None None no_tag) f b m (λ p rest h. priority_ends d p b rest h)
     (λ p r1. first_ends (TimePart d clock) (BehindTime (HostPart d) (TagPart d) p) (front_of p None None no_tag) f r1 m
     (λ t rest h. time_ends d clock t r1 rest h)
     (λ t r2. first_ends (HostPart d) (BehindHost (TagPart d) p t) (front_of p (Some t) None no_tag) f r2 m

@@ -15,7 +15,8 @@ use Rattle.syslog_legacy.specs.WideTags.{BracketedTag, IsTagWord, LacksHost, Wid
 use Rattle.syslog_legacy.proofs.Hosts.{host_one}
 use Rattle.syslog_legacy.proofs.Longest.{the_run, run_is, nil_one}
 use Rattle.syslog_legacy.proofs.Parts.{OnePart, not_first}
-use Rattle.syslog_legacy.proofs.Tags.{Behind, behind_ends, bracket, closes, closes_one, names, not_both, proc_parts, tag_one}
+use Rattle.syslog_legacy.proofs.Tags.{Behind, behind_ends, bracket, closes, closes_one, names, not_both, proc_parts}
+use Rattle.syslog_legacy.proofs.Tags.{tag_one}
 
 -- ---- a name and a process id in brackets
 
@@ -166,6 +167,14 @@ pub word_whole : (word rest : List ℕ) (t : TagParts) → Follows (BracketedTag
 word_whole word [] t (x, e, h) none = (t, subst (BracketedTag t) (sym (e ∙ append-nil x)) h)
 word_whole word (y ∷ rest) t h none = absurd (omega (arith, none))
 
+-- a name and a process id in brackets end in a bracket
+pub bracket_last : (word : List ℕ) → AnyOf BracketedTag word → (before : List ℕ) × (word ≡ before ++ 93 ∷ [])
+bracket_last word (t, (n, y, e, h, (u, v, f, k, (r, s, g, m, l)))) = (
+  n ++ (u ++ r),
+  e ∙ rw (f, g, l) (sym (append_assoc n (u ++ r) (93 ∷ [])
+      ∙ ap (λ (w : List ℕ). n ++ w) (append_assoc u r (93 ∷ [])))),
+)
+
 same_run : (C : ℕ → Type 0) (n : ℕ) (x s y t : List ℕ) → AllByRecursion C x → AllByRecursion C y → length x ≤ n
     → length y ≤ n → (length x < n → IfFirst (λ z. ¬ (C z)) s) → (length y < n → IfFirst (λ z. ¬ (C z)) t)
     → x ++ s ≡ y ++ t → x ≡ y
@@ -179,8 +188,8 @@ same_run C n (x ∷ xs) s [] (z ∷ t) p q l m out other e =
 same_run C n (x ∷ xs) s (y ∷ ys) t p q l m out other e =
     ap (λ (k : ℕ). k ∷ xs) (heads x y (xs ++ s) (ys ++ t) e)
     ∙ ap (λ (k : List ℕ). y ∷ k)
-    (same_run C (n - 1) xs s ys t p.1 q.1 (omega arith) (omega arith) (λ h. out (omega arith)) (λ h. other (omega arith))
-    (tails x y (xs ++ s) (ys ++ t) e))
+    (same_run C (n - 1) xs s ys t p.1 q.1 (omega arith) (omega arith) (λ h. out (omega arith))
+    (λ h. other (omega arith)) (tails x y (xs ++ s) (ys ++ t) e))
 
 pub word_there : (b word rest : List ℕ) → SplitsRun IsPrintable 255 b word rest → LacksHost b → IsTagWord word
 word_there b word rest s (w, r, k, h) =
