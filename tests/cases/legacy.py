@@ -70,7 +70,7 @@ def rows():
 def wide_table(program, results):
     """Each packet of devices and programs in both dialects, through each command that reads frames."""
     known = rows()
-    results.check("the packets of devices and programs are found", len(known) == 55, str(len(known)))
+    results.check("the packets of devices and programs are found", len(known) == 58, str(len(known)))
     for packet, *forms_of_packet in known:
         for dialect, form in zip(["bsd", "wide"], forms_of_packet):
             clock = ["--legacy", "2024", "--zone", "E0100", "--dialect", dialect]

@@ -78,8 +78,8 @@ time_ends Wide clock t b rest h = wide_time_ends clock t b rest h
 
 host_ends : (d : Dialect) (v : Option (List ℕ)) (b rest : List ℕ) → HostPart d v b rest → Ends b rest
 host_ends Bsd v b rest h = host_suffix b v rest h
-host_ends Wide v b rest (inl h) = all_ends b rest h.2
-host_ends Wide v b rest (inr h) = host_suffix b v rest h.1
+host_ends Wide v b rest (word, left, s, inl h) = all_ends b rest h.2
+host_ends Wide v b rest (word, left, s, inr h) = host_suffix b v rest h.2
 
 tag_ends : (d : Dialect) (t : TagParts) (b rest : List ℕ) → TagPart d t b rest → Ends b rest
 tag_ends Bsd t b rest h = tag_suffix b t rest h

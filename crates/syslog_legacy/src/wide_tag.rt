@@ -5,6 +5,7 @@ ghost use Rattle.std.specs.Prelude.{option_map};
 ghost use Rattle.octet_language.specs.Language.{AnyOf, NoPrefix};
 ghost use Rattle.octet_language.specs.Reading.{Follows};
 ghost use Rattle.syslog_legacy.specs.Parts.{Lacks};
+ghost use Rattle.syslog_legacy.specs.Tags.{TagText};
 ghost use Rattle.syslog_legacy.specs.TagViews.{tag_parts};
 ghost use Rattle.syslog_legacy.specs.WideTags.{BracketedTag, IsTagWord, WideHost, WideTag};
 
@@ -55,16 +56,29 @@ fn is_bracketed(word: &[u8]) -> bool
     }
 }
 
-/// Whether a word stands for no host: it ends in a colon, or is a name and a process id in brackets.
+/// Whether a word is a tag and its colon.
+fn is_tag(word: &[u8]) -> bool
+    ensures { IsTrue result ↔ AnyOf TagText word.now }
+{
+    if !ends_in(b':', word) {
+        return false;
+    }
+    match read_tag(word) {
+        Some((_tag, rest)) => rest.is_empty(),
+        None => false,
+    }
+}
+
+/// Whether a word is a tag, with its colon, or without it behind a process id.
 #[inline(always)]
 fn is_tag_word(word: &[u8]) -> bool
     ensures { IsTrue result ↔ IsTagWord word.now }
 {
-    ends_in(b':', word) || is_bracketed(word)
+    is_tag(word) || is_bracketed(word)
 }
 
-/// Reads a host and the space that follows it; or no host, and nothing, where the word of a tag
-/// stands in its place.
+/// Reads a host, which does not end in a colon, and the space that follows it; or no host, and
+/// nothing, where the word of a tag stands in its place.
 pub fn wide_host(octets: &[u8]) -> Option<(Option<&[u8]>, &[u8])>
     ensures { MatchOption result (Lacks WideHost octets.now)
         (λ x. WideHost (option_map (λ s. s.now) x.0) octets.now x.1.now) }
@@ -72,6 +86,9 @@ pub fn wide_host(octets: &[u8]) -> Option<(Option<&[u8]>, &[u8])>
     let (word, rest) = host_run(octets);
     if is_tag_word(word) {
         return Some((None, octets));
+    }
+    if ends_in(b':', word) {
+        return None;
     }
     host_of(octets, word, rest)
 }
