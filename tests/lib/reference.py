@@ -344,6 +344,7 @@ MONTH_DAY = rb"(%b) ( \d|\d\d)" % b"|".join(MONTHS)
 WITH_MONTH = [(re.compile(rb"[*.]?%b %b%b:? (.*)" % (shape, OF_DAY, FRACTION), re.DOTALL), places) for shape, places in [
     (MONTH_DAY, (None, 1, 2)), (MONTH_DAY + rb" (\d{4})", (3, 1, 2)), (rb"(\d{4}) " + MONTH_DAY, (1, 2, 3))]]
 WORD = re.compile(rb"[!-~]*")
+TAG_WORD = re.compile(NAMED + rb":|" + BRACKETED + rb":?")
 SPACED = re.compile(BRACKETED + rb" (.*)", re.DOTALL)
 
 
@@ -401,11 +402,11 @@ def addressed(text, read_tag=tagged):
 
 
 def addressed_wide(text):
-    """The same in the wide dialect."""
+    """The same in the wide dialect: a word that is a tag, or ends in a colon, is no host."""
     word = WORD.match(text).group()
-    if word.endswith(b":") or re.fullmatch(BRACKETED, word):
+    if TAG_WORD.fullmatch(word):
         return b"-", *tagged_wide(text)
-    return addressed(text, tagged_wide)
+    return (b"-", b"-", b"-", text) if word.endswith(b":") else addressed(text, tagged_wide)
 
 
 def legacy(octets, year, ahead, dialect="bsd"):

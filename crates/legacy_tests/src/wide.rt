@@ -8,7 +8,7 @@ use syslog_legacy::{Dialect, LegacyClock, has_new_form};
 type Row = (&'static [u8], &'static [u8], &'static [u8]);
 
 /// Under a clock of 2024 that is an hour ahead of UTC.
-const ROWS: [Row; 55] = [
+const ROWS: [Row; 58] = [
     // The form of RFC 3164, as `logger --rfc3164`, rsyslog's traditional format and Juniper's send
     // it.
     (
@@ -192,13 +192,28 @@ const ROWS: [Row; 55] = [
         b"<6>1 2024-01-10T09:00:01.000000Z last - - - - message repeated 3 times",
         b"<6>1 2024-01-10T09:00:01.000000Z last - - - - message repeated 3 times",
     ),
-    // A word that ends in a colon and is no tag; a tab behind the colon; one that goes on behind
-    // the colon.
+    // A word that ends in a colon and is no tag: no host, and all is the message.
     (
         b"<13>Jan 10 10:00:01 My(App): m",
         b"<13>1 2024-01-10T09:00:01.000000Z My(App): - - - - m",
         b"<13>1 2024-01-10T09:00:01.000000Z - - - - - My(App): m",
     ),
+    (
+        b"<13>Jan 10 10:00:01 app:sub: m",
+        b"<13>1 2024-01-10T09:00:01.000000Z app:sub: - - - - m",
+        b"<13>1 2024-01-10T09:00:01.000000Z - - - - - app:sub: m",
+    ),
+    (
+        b"<13>Jan 10 10:00:01 app[1]:sub: m",
+        b"<13>1 2024-01-10T09:00:01.000000Z app[1]:sub: - - - - m",
+        b"<13>1 2024-01-10T09:00:01.000000Z - - - - - app[1]:sub: m",
+    ),
+    (
+        b"<13>Jan 10 10:00:01 fe80::1: m",
+        b"<13>1 2024-01-10T09:00:01.000000Z fe80::1: - - - - m",
+        b"<13>1 2024-01-10T09:00:01.000000Z - - - - - fe80::1: m",
+    ),
+    // A tab behind the colon; a word that goes on behind it; nil as the name and as the process id.
     (
         b"<13>Jan 10 10:00:01 app:\tm",
         b"<13>1 2024-01-10T09:00:01.000000Z - - - - - app:\tm",

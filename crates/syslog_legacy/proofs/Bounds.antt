@@ -87,7 +87,8 @@ priority_len v b rest (t, e, (x, y, f, h, (u, w, g, (n, i), j))) =
 ends_len : (b rest : List ℕ) → Ends b rest → len rest ≤ len b
 ends_len b rest (x, e) = omega (arith, together x rest b e)
 
--- ---- what the parts of each dialect take: where a tag stands in the host's place, the nil host takes an octet of the time
+-- ---- what the parts of each dialect take; where a tag stands in the host's place, the nil host takes an octet of the
+-- time
 
 abbrev spare : Dialect → ℕ
 spare Bsd = 0
@@ -106,9 +107,9 @@ time_part_len Wide clock t b rest h = omega (arith, ends_len b (32 ∷ rest) (wi
 host_part_len : (d : Dialect) (w : Option (List ℕ)) (b rest : List ℕ) → HostPart d w b rest
     → len (word_form w) + len rest ≤ len b + spare d
 host_part_len Bsd w b rest h = omega (arith, host_len w b rest h)
-host_part_len Wide w b rest (inl (l, e, k)) =
+host_part_len Wide w b rest (x, left, s, inl (l, e, k)) =
     omega (arith, ap (λ (o : Option (List ℕ)). len (word_form o)) e, ap length k)
-host_part_len Wide w b rest (inr (l, h)) = omega (arith, host_len w b rest h)
+host_part_len Wide w b rest (x, left, s, inr (l, m, h)) = omega (arith, host_len w b rest h)
 
 tag_len : (t : TagParts) (b rest : List ℕ) → Tag t b rest
     → len (word_form t.app_name) + len (word_form t.proc_id) + len rest ≤ len b

@@ -12,7 +12,8 @@ use Rattle.syslog_legacy.specs.declared.clock.LegacyClock.{LegacyClock}
 use Rattle.syslog_legacy.specs.Messages.{MessageStops}
 use Rattle.syslog_legacy.specs.Parts.{Lacks, Part}
 use Rattle.syslog_legacy.specs.Readings.{StopsIn}
-use Rattle.syslog_legacy.specs.Splits.{BehindHost, BehindTime, BehindPriority, First, FrontParts, HostPart, PriorityPart}
+use Rattle.syslog_legacy.specs.Splits.{BehindHost, BehindTime, BehindPriority, First, FrontParts, HostPart}
+use Rattle.syslog_legacy.specs.Splits.{PriorityPart}
 use Rattle.syslog_legacy.specs.Splits.{Split, Splits, TagPart, TimePart, front_of, no_tag}
 use Rattle.syslog_legacy.specs.Tags.{TagParts}
 use Rattle.syslog_legacy.proofs.Hosts.{host_suffix}
@@ -77,8 +78,8 @@ time_ends Wide clock t b rest h = wide_time_ends clock t b rest h
 
 host_ends : (d : Dialect) (v : Option (List ℕ)) (b rest : List ℕ) → HostPart d v b rest → Ends b rest
 host_ends Bsd v b rest h = host_suffix b v rest h
-host_ends Wide v b rest (inl h) = all_ends b rest h.2
-host_ends Wide v b rest (inr h) = host_suffix b v rest h.1
+host_ends Wide v b rest (word, left, s, inl h) = all_ends b rest h.2
+host_ends Wide v b rest (word, left, s, inr h) = host_suffix b v rest h.2
 
 tag_ends : (d : Dialect) (t : TagParts) (b rest : List ℕ) → TagPart d t b rest → Ends b rest
 tag_ends Bsd t b rest h = tag_suffix b t rest h
@@ -89,8 +90,8 @@ pub message_ends : (clock : LegacyClock) (b : List ℕ) (f : FrontParts) (m : Li
     → (x : List ℕ) × (b ≡ x ++ m)
 message_ends clock b f m =
     let d = clock.dialect in
-    first_ends (PriorityPart d) (BehindPriority (TimePart d clock) (HostPart d) (TagPart d)) (front_of 13 None None no_tag)
-    f b m (λ p rest h. priority_ends d p b rest h)
+    first_ends (PriorityPart d) (BehindPriority (TimePart d clock) (HostPart d) (TagPart d))
+    (front_of 13 None None no_tag) f b m (λ p rest h. priority_ends d p b rest h)
     (λ p r1. first_ends (TimePart d clock) (BehindTime (HostPart d) (TagPart d) p) (front_of p None None no_tag) f r1 m
     (λ t rest h. time_ends d clock t r1 rest h)
     (λ t r2. first_ends (HostPart d) (BehindHost (TagPart d) p t) (front_of p (Some t) None no_tag) f r2 m

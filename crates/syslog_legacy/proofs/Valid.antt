@@ -68,9 +68,9 @@ time_valid Wide clock t b rest year offset (stamp, behind, mark, inr (none, (c, 
 
 host_valid : (d : Dialect) (w : Option (List ℕ)) (b rest : List ℕ) → HostPart d w b rest → IfSome w (IsWord 255)
 host_valid Bsd w b rest h = host_word w b rest h
-host_valid Wide w b rest (inl (l, e, k)) =
+host_valid Wide w b rest (x, left, s, inl (l, e, k)) =
     let P : Option (List ℕ) → Type 0 = λ o. IfSome o (IsWord 255) in subst P (sym e) tt
-host_valid Wide w b rest (inr (l, h)) = host_word w b rest h
+host_valid Wide w b rest (x, left, s, inr (l, m, h)) = host_word w b rest h
 
 -- the words of a tag
 record AreWords (t : TagParts) : Type 0 where

@@ -40,8 +40,8 @@ year_halves s (y, (h, e)) = (
   padded 2 (y / 100),
   padded 2 (y % 100),
   e ∙ four_back (48 + y / 10 / 10 / 10 % 10) (48 + y / 10 / 10 % 10) (48 + y / 10 % 10) (48 + y % 10)
-      (48 + y / 100 / 10 % 10) (48 + y / 100 % 10) (48 + y % 100 / 10 % 10) (48 + y % 100 % 10) (omega arith) (omega arith)
-      (omega arith) (omega arith),
+      (48 + y / 100 / 10 % 10) (48 + y / 100 % 10) (48 + y % 100 / 10 % 10) (48 + y % 100 % 10) (omega arith)
+      (omega arith) (omega arith) (omega arith),
   (y / 100, (omega arith, omega arith, refl)),
   (y % 100, (omega arith, omega arith, refl)),
 )
@@ -101,8 +101,8 @@ no_point b behind run rest e s none m end (i, f, (y, g, k), out) =
 pub no_named_date : (year : ℕ) (b : List ℕ) → Lacks (NamedDate year) b → Lacks (NamedTime year) b
 no_named_date year b none c end (x, y, h, k, f) = none (c.year, c.month, c.day) x h
 
-pub no_named_clock : (year : ℕ) (d : ℕ × ℕ × ℕ) (b rest : List ℕ) → NamedDate year d b rest → NoPrefix (AnyOf Clock) rest
-    → Lacks (NamedTime year) b
+pub no_named_clock : (year : ℕ) (d : ℕ × ℕ × ℕ) (b rest : List ℕ) → NamedDate year d b rest
+    → NoPrefix (AnyOf Clock) rest → Lacks (NamedTime year) b
 no_named_clock year d b rest g none c end (x, y, h, (z, e, k), f) =
     let same = named_date_one year b (c.year, c.month, c.day) d x rest h g in
     none z y (sym same.1 ∙ e) ((c.hour, c.minute, c.second), k)
@@ -329,7 +329,8 @@ fraction_text m b zone (inr (none, e, f)) = ([], sym f, inl (e, refl))
 pub own_read : (c : Civil) (o : ℤ) (b behind clock fraction zone end : List ℕ)
     → Follows (Date (c.year, c.month, c.day)) b behind → behind ≡ 84 ∷ clock
     → Follows (Clock (c.hour, c.minute, c.second)) clock fraction → Optional Point 0 c.micros fraction zone
-    → Follows (ZoneText o) zone end → (let t : CivilTime = record { civil = c; offset = o } in Follows (TimeText t) b end)
+    → Follows (ZoneText o) zone end
+    → (let t : CivilTime = record { civil = c; offset = o } in Follows (TimeText t) b end)
 own_read c o b behind clock fraction zone end d e k f z =
     let date = DateText c.year c.month c.day in
     let time = ClockText c.hour c.minute c.second in
@@ -435,8 +436,8 @@ pub no_stamp : (clock : LegacyClock) (b rest : List ℕ) → BehindMark b rest �
 no_stamp clock b rest m none i end (x, y, h, k, l) =
     none i y (subst (λ (u : List ℕ). Stamp clock i u y) (mark_one b x rest h m) k)
 
-pub no_space : (clock : LegacyClock) (b rest after behind : List ℕ) (i : ℤ) → BehindMark b rest → Stamp clock i rest after
-    → Without 58 after behind → IfFirst (λ x. x ≢ 32) behind → Lacks (WideTime clock) b
+pub no_space : (clock : LegacyClock) (b rest after behind : List ℕ) (i : ℤ) → BehindMark b rest
+    → Stamp clock i rest after → Without 58 after behind → IfFirst (λ x. x ≢ 32) behind → Lacks (WideTime clock) b
 no_space clock b rest after behind i m s w out j end (x, y, h, k, l) =
     let mark : x ≡ rest = mark_one b x rest h m in
     let same : y ≡ after = (stamp_one clock rest j i y after (subst (λ (u : List ℕ). Stamp clock j u y) mark k) s).1 in

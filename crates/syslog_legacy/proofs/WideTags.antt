@@ -1,8 +1,9 @@
 -- Hosts and tags of the wide dialect.
 use Rattle.std.proofs.Common.{◌≡◌, ◌≢◌, ℕ, ◌-◌, ◌<◌, ◌≤◌, List, [], ◌∷◌, ◌++◌, length, refl, sym, ap, subst, ◌∙◌, arith}
-use Rattle.std.proofs.Common.{inl, inr, append_assoc, append-nil}
+use Rattle.std.proofs.Common.{inl, inr, append_assoc, append-nil, ◌⊎◌}
 use Rattle.std.specs.Prelude.{Option, Some, None, MatchOption}
 use Rattle.std.specs.List.{AllByRecursion}
+use Rattle.std.proofs.lemmas.List.{length-append}
 use Rattle.octet_language.specs.Language.{AnyOf, IfFirst, NoPrefix}
 use Rattle.octet_language.specs.Reading.{Follows}
 use Rattle.octet_language.proofs.Lists.{heads, tails}
@@ -10,12 +11,13 @@ use Rattle.syslog_value.specs.Parts.{IsPrintable}
 use Rattle.syslog_fields.specs.Spans.{IsRun}
 use Rattle.syslog_legacy.specs.Hosts.{Host, IsNilable, SplitsRun}
 use Rattle.syslog_legacy.specs.Parts.{Lacks}
-use Rattle.syslog_legacy.specs.Tags.{Bracketed, IsTagOctet, Tag, TagParts}
-use Rattle.syslog_legacy.specs.WideTags.{BracketedTag, IsTagWord, LacksHost, WideHost, WideTag}
+use Rattle.syslog_legacy.specs.Tags.{Bracketed, IsTagOctet, Tag, TagParts, TagText}
+use Rattle.syslog_legacy.specs.WideTags.{BracketedTag, EndsInColon, IsTagWord, WideHost, WideTag}
 use Rattle.syslog_legacy.proofs.Hosts.{host_one}
 use Rattle.syslog_legacy.proofs.Longest.{the_run, run_is, nil_one}
 use Rattle.syslog_legacy.proofs.Parts.{OnePart, not_first}
-use Rattle.syslog_legacy.proofs.Tags.{Behind, behind_ends, bracket, closes, closes_one, names, not_both, proc_parts, tag_one}
+use Rattle.syslog_legacy.proofs.Tags.{Behind, behind_ends, bracket, closes, closes_one, names, not_both, proc_parts}
+use Rattle.syslog_legacy.proofs.Tags.{tag_one}
 
 -- ---- a name and a process id in brackets
 
@@ -166,6 +168,48 @@ pub word_whole : (word rest : List ℕ) (t : TagParts) → Follows (BracketedTag
 word_whole word [] t (x, e, h) none = (t, subst (BracketedTag t) (sym (e ∙ append-nil x)) h)
 word_whole word (y ∷ rest) t h none = absurd (omega (arith, none))
 
+-- ---- the last octet of a word
+
+snoc_last : (a b : List ℕ) (x y : ℕ) → a ++ x ∷ [] ≡ b ++ y ∷ [] → x ≡ y
+snoc_last [] [] x y e = heads x y [] [] e
+snoc_last [] (c ∷ b) x y e =
+    absurd (omega (arith, ap length (tails x c [] (b ++ y ∷ []) e), length-append b (y ∷ [])))
+snoc_last (c ∷ a) [] x y e =
+    absurd (omega (arith, ap length (tails c y (a ++ x ∷ []) [] e), length-append a (x ∷ [])))
+snoc_last (c ∷ a) (d ∷ b) x y e = snoc_last a b x y (tails c d (a ++ x ∷ []) (b ++ y ∷ []) e)
+
+three_parts : (n u r : List ℕ) (x : ℕ) → n ++ (u ++ (r ++ x ∷ [])) ≡ (n ++ (u ++ r)) ++ x ∷ []
+three_parts n u r x =
+    sym (append_assoc n (u ++ r) (x ∷ []) ∙ ap (λ (w : List ℕ). n ++ w) (append_assoc u r (x ∷ [])))
+
+-- a tag ends in its colon
+pub tag_last : (word : List ℕ) → AnyOf TagText word → EndsInColon word
+tag_last word (t, (n, y, e, h, inl (p, f))) = (n, e ∙ ap (λ (w : List ℕ). n ++ w) f)
+tag_last word (t, (n, y, e, h, inr (u, v, f, k, (r, s, g, m, l)))) =
+    (n ++ (u ++ r), e ∙ rw (f, g, l) (three_parts n u r 58))
+
+pub tag_whole : (word rest : List ℕ) (t : TagParts) → EndsInColon word → Tag t word rest → length rest ≡ 0
+    → AnyOf TagText word
+tag_whole word (y ∷ rest) t colon h none = absurd (omega (arith, none))
+tag_whole word [] t (a, e) (behind, (x, f, h), inl g) none =
+    let spaced : word ≡ x ++ 32 ∷ [] = f ∙ ap (λ (w : List ℕ). x ++ w) g in
+    absurd (omega (arith, snoc_last a x 58 32 (sym e ∙ spaced)))
+tag_whole word [] t colon (behind, (x, f, h), inr (out, g)) none =
+    let whole : word ≡ x = f ∙ ap (λ (w : List ℕ). x ++ w) (sym g) ∙ append-nil x in
+    (t, subst (TagText t) (sym whole) h)
+
+pub whole_tag : (word rest : List ℕ) (t : TagParts) → Tag t word rest → AnyOf TagText word → length rest ≡ 0
+whole_tag word rest t h (u, k) =
+    ap length (tag_one word t u rest [] h ([], (word, sym (append-nil word), k), inr (tt, refl))).1
+
+pub no_tag_word : (word : List ℕ) → Lacks Tag word → ¬ (AnyOf TagText word)
+no_tag_word word none (u, k) = none u [] ([], (word, sym (append-nil word), k), inr (tt, refl))
+
+-- a name and a process id in brackets end in a bracket
+pub bracket_last : (word : List ℕ) → AnyOf BracketedTag word → (before : List ℕ) × (word ≡ before ++ 93 ∷ [])
+bracket_last word (t, (n, y, e, h, (u, v, f, k, (r, s, g, m, l)))) =
+    (n ++ (u ++ r), e ∙ rw (f, g, l) (three_parts n u r 93))
+
 same_run : (C : ℕ → Type 0) (n : ℕ) (x s y t : List ℕ) → AllByRecursion C x → AllByRecursion C y → length x ≤ n
     → length y ≤ n → (length x < n → IfFirst (λ z. ¬ (C z)) s) → (length y < n → IfFirst (λ z. ¬ (C z)) t)
     → x ++ s ≡ y ++ t → x ≡ y
@@ -179,24 +223,41 @@ same_run C n (x ∷ xs) s [] (z ∷ t) p q l m out other e =
 same_run C n (x ∷ xs) s (y ∷ ys) t p q l m out other e =
     ap (λ (k : ℕ). k ∷ xs) (heads x y (xs ++ s) (ys ++ t) e)
     ∙ ap (λ (k : List ℕ). y ∷ k)
-    (same_run C (n - 1) xs s ys t p.1 q.1 (omega arith) (omega arith) (λ h. out (omega arith)) (λ h. other (omega arith))
-    (tails x y (xs ++ s) (ys ++ t) e))
+    (same_run C (n - 1) xs s ys t p.1 q.1 (omega arith) (omega arith) (λ h. out (omega arith))
+    (λ h. other (omega arith)) (tails x y (xs ++ s) (ys ++ t) e))
 
-pub word_there : (b word rest : List ℕ) → SplitsRun IsPrintable 255 b word rest → LacksHost b → IsTagWord word
-word_there b word rest s (w, r, k, h) =
-    let same : w ≡ word = same_run IsPrintable 255 w r word rest k.octets s.octets k.most s.most k.ends s.ends
-    (sym k.parts ∙ s.parts) in
-    subst IsTagWord same h
+same_word : (b word rest w r : List ℕ) → SplitsRun IsPrintable 255 b word rest → SplitsRun IsPrintable 255 b w r
+    → w ≡ word
+same_word b word rest w r s k = same_run IsPrintable 255 w r word rest k.octets s.octets k.most s.most k.ends s.ends
+    (sym k.parts ∙ s.parts)
 
 pub wide_host_one : OnePart WideHost
-wide_host_one b v w s t (inl h) (inl k) = (h.1 ∙ sym k.1, h.2 ∙ sym k.2)
-wide_host_one b v w s t (inl h) (inr k) = absurd (k.0 h.0)
-wide_host_one b v w s t (inr h) (inl k) = absurd (h.0 k.0)
-wide_host_one b v w s t (inr h) (inr k) = host_one b v w s t h.1 k.1
+wide_host_one b v w s t (x, l, i, h) (y, m, j, k) = apart (same_word b y m x l j i) h k
+  where
+    apart : x ≡ y → (IsTagWord x × (v ≡ None) × (s ≡ b)) ⊎ (¬ (IsTagWord x) × ¬ (EndsInColon x) × Host v b s)
+        → (IsTagWord y × (w ≡ None) × (t ≡ b)) ⊎ (¬ (IsTagWord y) × ¬ (EndsInColon y) × Host w b t)
+        → (v ≡ w) × (s ≡ t)
+    apart e (inl f) (inl g) = (f.1 ∙ sym g.1, f.2 ∙ sym g.2)
+    apart e (inl f) (inr g) = absurd (g.0 (subst IsTagWord e f.0))
+    apart e (inr f) (inl g) = absurd (f.0 (subst IsTagWord (sym e) g.0))
+    apart e (inr f) (inr g) = host_one b v w s t f.2 g.2
+
+-- a word that is no tag and ends in a colon
+pub no_wide_host : (b word rest : List ℕ) → SplitsRun IsPrintable 255 b word rest → ¬ (IsTagWord word)
+    → EndsInColon word → Lacks WideHost b
+no_wide_host b word rest s none colon v end (w, r, k, inl h) = none
+    (subst IsTagWord (same_word b word rest w r s k) h.0)
+no_wide_host b word rest s none colon v end (w, r, k, inr h) =
+    h.1 (subst EndsInColon (sym (same_word b word rest w r s k)) colon)
 
 -- a host that was read where no such word comes first
-pub host_there : {X : Type 0} (b : List ℕ) (r : Option X) (p : X → Option (List ℕ)) (q : X → List ℕ) → ¬ (LacksHost b)
+pub host_there : {X : Type 0} (b word rest : List ℕ) (r : Option X) (p : X → Option (List ℕ)) (q : X → List ℕ)
+    → SplitsRun IsPrintable 255 b word rest → ¬ (IsTagWord word) → ¬ (EndsInColon word)
     → MatchOption r (Lacks Host b) (λ x. Host (p x) b (q x))
     → MatchOption r (Lacks WideHost b) (λ x. WideHost (p x) b (q x))
-host_there b (Some x) p q none h = inr (none, h)
-host_there b None p q none h = λ v rest k. elim k [ inl l ↦ none l.0 | inr l ↦ h v rest l.1 ]
+host_there b word rest (Some x) p q s none free h = (word, rest, s, inr (none, free, h))
+host_there b word rest None p q s none free h =
+    λ v end (w, l, k, m). elim m [
+      | inl g ↦ none (subst IsTagWord (same_word b word rest w l s k) g.0)
+      | inr g ↦ h v end g.2
+    ]

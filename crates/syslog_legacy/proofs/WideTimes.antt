@@ -40,7 +40,8 @@ OneValue-clock v w s h k =
 
 pub IsPrefixFree-spaced : IsPrefixFree (AnyOf SpacedYear)
 IsPrefixFree-spaced =
-    IsPrefixFree-same (AnyOf YearText ⋅ Only (32 ∷ [])) (AnyOf SpacedYear) (λ s (y, (u, v, e, h, k)). (u, v, e, (y, h), k))
+    IsPrefixFree-same (AnyOf YearText ⋅ Only (32 ∷ [])) (AnyOf SpacedYear)
+    (λ s (y, (u, v, e, h, k)). (u, v, e, (y, h), k))
     (IsPrefixFree-then (AnyOf YearText) (Only (32 ∷ [])) IsPrefixFree-year (IsPrefixFree-only (32 ∷ [])))
 
 pub spaced_one : OnePart (λ y. Follows (SpacedYear y))
@@ -71,7 +72,8 @@ point_run digits rest micros (some, fits, all, value) out =
 pub point_one : OnePart Point
 point_one b m n s t (i, e, (x, f, h), out) (j, e', (y, g, k), out') =
     let inside : i ≡ j = tails 46 46 i j (sym e ∙ e') in
-    let split : SplitsRun IsDigit 7 i x s = record { parts = f; most = omega (arith, h.1); octets = h.2; ends = λ l. out } in
+    let split : SplitsRun IsDigit 7 i x s =
+    record { parts = f; most = omega (arith, h.1); octets = h.2; ends = λ l. out } in
     let same = the_run IsDigit 7 i x s y t split (point_run y t n k out') out' (inside ∙ g) in
     (value (subst (Decimals n) same.0 k), sym same.1)
   where

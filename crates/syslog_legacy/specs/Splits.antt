@@ -84,4 +84,5 @@ TagPart Wide tag b rest = WideTag tag b rest
 -- by the parts of the clock's dialect
 abbrev pub Splits : LegacyClock → Split
 Splits clock =
-    SplitsBy (PriorityPart clock.dialect) (TimePart clock.dialect clock) (HostPart clock.dialect) (TagPart clock.dialect)
+    SplitsBy (PriorityPart clock.dialect) (TimePart clock.dialect clock) (HostPart clock.dialect)
+    (TagPart clock.dialect)

@@ -5,7 +5,7 @@ use Rattle.octet_language.specs.Reading.{Follows}
 use Rattle.syslog_value.specs.Parts.{IsPrintable}
 use Rattle.syslog_legacy.specs.Hosts.{Host, NilableRun, SplitsRun}
 use Rattle.syslog_legacy.specs.Parts.{Part}
-use Rattle.syslog_legacy.specs.Tags.{Bracketed, IsTagOctet, Tag, TagParts}
+use Rattle.syslog_legacy.specs.Tags.{Bracketed, IsTagOctet, Tag, TagParts, TagText}
 
 -- NAME[PROCID]
 abbrev pub BracketedTag : TagParts → Language
@@ -15,14 +15,16 @@ BracketedTag t = NilableRun IsTagOctet 48 t.app_name ⋅ Only (91 ∷ []) ⋅ Br
 abbrev pub WideTag : Part TagParts
 WideTag t b rest = Tag t b rest ⊎ Follows (BracketedTag t) b (32 ∷ rest)
 
--- it ends in a colon, or is NAME[PROCID]
+-- the word of a tag: NAME:, NAME[PROCID]: or NAME[PROCID]
 abbrev pub IsTagWord : List ℕ → Type 0
-IsTagWord word = ((name : List ℕ) × (word ≡ name ++ 58 ∷ [])) ⊎ AnyOf BracketedTag word
+IsTagWord word = AnyOf TagText word ⊎ AnyOf BracketedTag word
 
--- the printable octets that come first, 255 at most, are such a word: they are no host
-abbrev pub LacksHost : List ℕ → Type 0
-LacksHost b = (word : List ℕ) × (rest : List ℕ) × SplitsRun IsPrintable 255 b word rest × IsTagWord word
+abbrev pub EndsInColon : List ℕ → Type 0
+EndsInColon word = (before : List ℕ) × (word ≡ before ++ 58 ∷ [])
 
--- where such a word comes first, no host, and the octets go on with it; else a host
+-- the printable octets that come first, 255 at most, are the word of a tag: then there is no host, and the octets go on
+-- with it; or they do not end in a colon, and are a host
 abbrev pub WideHost : Part (Option (List ℕ))
-WideHost host b rest = (LacksHost b × (host ≡ None) × (rest ≡ b)) ⊎ (¬ (LacksHost b) × Host host b rest)
+WideHost host b rest =
+    (word : List ℕ) × (left : List ℕ) × SplitsRun IsPrintable 255 b word left
+    × ((IsTagWord word × (host ≡ None) × (rest ≡ b)) ⊎ (¬ (IsTagWord word) × ¬ (EndsInColon word) × Host host b rest))

@@ -5,10 +5,11 @@ ghost use Rattle.std.specs.Prelude.{option_map};
 ghost use Rattle.octet_language.specs.Language.{AnyOf, NoPrefix};
 ghost use Rattle.octet_language.specs.Reading.{Follows};
 ghost use Rattle.syslog_legacy.specs.Parts.{Lacks};
+ghost use Rattle.syslog_legacy.specs.Tags.{TagText};
 ghost use Rattle.syslog_legacy.specs.TagViews.{tag_parts};
-ghost use Rattle.syslog_legacy.specs.WideTags.{BracketedTag, IsTagWord, LacksHost, WideHost, WideTag};
+ghost use Rattle.syslog_legacy.specs.WideTags.{BracketedTag, IsTagWord, WideHost, WideTag};
 
-use crate::host::host;
+use crate::host::host_of;
 use crate::octets::behind;
 use crate::runs::{host_run, nilable, tag_run};
 use crate::tag::{Tag, bracketed, read_tag};
@@ -31,22 +32,23 @@ fn bracketed_tag(octets: &[u8]) -> Option<(Tag<'_>, &[u8])>
     Some((tag, rest))
 }
 
-/// Whether the last octet is a colon.
-fn ends_in_colon(word: &[u8]) -> bool
-    ensures { IsTrue result ↔ ((name : List ℕ) × (word.now ≡ name ++ 58 ∷ [])) }
+/// Whether this is the last octet.
+#[inline(always)]
+fn ends_in(octet: u8, word: &[u8]) -> bool
+    ensures { IsTrue result ↔ ((before : List ℕ) × (word.now ≡ before ++ octet ∷ [])) }
 {
     match word {
-        [.., last] => *last == b':',
+        [.., last] => *last == octet,
         _ => false,
     }
 }
 
-/// Whether a word stands for no host: it ends in a colon, or is a name and a process id in brackets.
-fn is_tag_word(word: &[u8]) -> bool
-    ensures { IsTrue result ↔ IsTagWord word.now }
+/// Whether a word is a name and a process id in brackets.
+fn is_bracketed(word: &[u8]) -> bool
+    ensures { IsTrue result ↔ AnyOf BracketedTag word.now }
 {
-    if ends_in_colon(word) {
-        return true;
+    if !ends_in(b']', word) {
+        return false;
     }
     match bracketed_tag(word) {
         Some((_tag, rest)) => rest.is_empty(),
@@ -54,24 +56,41 @@ fn is_tag_word(word: &[u8]) -> bool
     }
 }
 
-/// Whether what comes first is the word of a tag.
-fn lacks_host(octets: &[u8]) -> bool
-    ensures { IsTrue result ↔ LacksHost octets.now }
+/// Whether a word is a tag and its colon.
+fn is_tag(word: &[u8]) -> bool
+    ensures { IsTrue result ↔ AnyOf TagText word.now }
 {
-    let (word, _rest) = host_run(octets);
-    is_tag_word(word)
+    if !ends_in(b':', word) {
+        return false;
+    }
+    match read_tag(word) {
+        Some((_tag, rest)) => rest.is_empty(),
+        None => false,
+    }
 }
 
-/// Reads a host and the space that follows it; or no host, and nothing, where the word of a tag
-/// stands in its place.
+/// Whether a word is a tag, with its colon, or without it behind a process id.
+#[inline(always)]
+fn is_tag_word(word: &[u8]) -> bool
+    ensures { IsTrue result ↔ IsTagWord word.now }
+{
+    is_tag(word) || is_bracketed(word)
+}
+
+/// Reads a host, which does not end in a colon, and the space that follows it; or no host, and
+/// nothing, where the word of a tag stands in its place.
 pub fn wide_host(octets: &[u8]) -> Option<(Option<&[u8]>, &[u8])>
     ensures { MatchOption result (Lacks WideHost octets.now)
         (λ x. WideHost (option_map (λ s. s.now) x.0) octets.now x.1.now) }
 {
-    if lacks_host(octets) {
+    let (word, rest) = host_run(octets);
+    if is_tag_word(word) {
         return Some((None, octets));
     }
-    host(octets)
+    if ends_in(b':', word) {
+        return None;
+    }
+    host_of(octets, word, rest)
 }
 
 /// Reads a tag, its colon and one space behind that; or a name, a process id in brackets and a space.
