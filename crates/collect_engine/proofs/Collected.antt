@@ -12,7 +12,7 @@ use Rattle.octet_devices.specs.declared.loops.WriteFault.{WriteFault}
 use Rattle.archive_text.specs.Entries.{Entry}
 use Rattle.archive_text.specs.Text.{IsArchive}
 use Rattle.archive_text.specs.declared.limits.TheConstants.{ENTRY_MAX}
-use Rattle.syslog_legacy.specs.FrameReadings.{Clock}
+use Rattle.syslog_legacy.specs.declared.frame_reading.FrameReading.{FrameReading}
 use Rattle.syslog_collect.specs.Headline.{IsSettled}
 use Rattle.syslog_collect.specs.History.{AcceptedEvent, initial}
 use Rattle.syslog_collect.specs.Logs.{waiting}
@@ -27,12 +27,12 @@ use Rattle.collect_engine.specs.Steps.{Given}
 use Rattle.collect_engine.specs.declared.serve_end.Stopped.{Stopped}
 use Rattle.collect_engine.specs.declared.serve_end.Stopped.TheVariants as stopped
 
-archive_of : (clock k : Clock) (ds : List Connection) (now first : List Entry) (es : List AcceptedEvent) → k ≡ clock
-    → first ≡ [] → IsArchive ENTRY_MAX now → Stands k ds now first es → IsSettled ds → IsArchiveOf clock es now
-archive_of clock k ds now first es same empty archive stands settled = record {
+archive_of : (way k : FrameReading) (ds : List Connection) (now first : List Entry) (es : List AcceptedEvent) → k ≡ way
+    → first ≡ [] → IsArchive ENTRY_MAX now → Stands k ds now first es → IsSettled ds → IsArchiveOf way es now
+archive_of way k ds now first es same empty archive stands settled = record {
   archive = archive;
-  members = holds_just clock ds now es (subst (λ (f : List Entry). Stands clock ds now f es) empty
-      (subst (λ (t : Clock). Stands t ds now first es) same stands)) settled;
+  members = holds_just way ds now es (subst (λ (f : List Entry). Stands way ds now f es) empty
+      (subst (λ (t : FrameReading). Stands t ds now first es) same stands)) settled;
 }
 
 if_archived : (end : Served) (P Q : Type 0) → (P → Q) → UnlessMemory end P → IfArchived end Q
@@ -44,27 +44,27 @@ if_archived (Err stopped.Memory) P Q f h = tt
 if_archived (Err stopped.MemoryAndNotes) P Q f h = tt
 
 -- what a store keeps that began empty, unless memory ran out
-pub archived : (end : Served) (clock k : Clock) (ds : List Connection) (now first : List Entry)
+pub archived : (end : Served) (way k : FrameReading) (ds : List Connection) (now first : List Entry)
     (es : List AcceptedEvent)
-    → k ≡ clock → first ≡ [] → IsArchive ENTRY_MAX now → Stands k ds now first es → UnlessMemory end (IsSettled ds)
-    → IfArchived end (IsArchiveOf clock es now)
-archived end clock k ds now first es same empty archive stands settled =
-    if_archived end (IsSettled ds) (IsArchiveOf clock es now)
-    (λ quiet. archive_of clock k ds now first es same empty archive stands quiet) settled
+    → k ≡ way → first ≡ [] → IsArchive ENTRY_MAX now → Stands k ds now first es → UnlessMemory end (IsSettled ds)
+    → IfArchived end (IsArchiveOf way es now)
+archived end way k ds now first es same empty archive stands settled =
+    if_archived end (IsSettled ds) (IsArchiveOf way es now)
+    (λ quiet. archive_of way k ds now first es same empty archive stands quiet) settled
 
-pub from_nothing : (clock k : Clock) (cs : List Connection) (v : ℕ → ℕ) (end : Served) (gs : List Given)
-    (es : List AcceptedEvent) (lines : List ℕ) → k ≡ clock → IsSettled cs
-    → StepsServed k initial (waiting cs) v end gs es lines → Collects clock end gs es lines
-from_nothing clock k cs v end gs es lines same settled served =
+pub from_nothing : (way k : FrameReading) (cs : List Connection) (v : ℕ → ℕ) (end : Served) (gs : List Given)
+    (es : List AcceptedEvent) (lines : List ℕ) → k ≡ way → IsSettled cs
+    → StepsServed k initial (waiting cs) v end gs es lines → Collects way end gs es lines
+from_nothing way k cs v end gs es lines same settled served =
     let quiet : waiting cs ≡ (λ (d : ℕ). 0) = λ i d. settled d i in (
       v,
-      subst (λ (w : ℕ → ℕ). StepsServed clock initial w v end gs es lines) quiet
-          (subst (λ (t : Clock). StepsServed t initial (waiting cs) v end gs es lines) same served),
+      subst (λ (w : ℕ → ℕ). StepsServed way initial w v end gs es lines) quiet
+          (subst (λ (t : FrameReading). StepsServed t initial (waiting cs) v end gs es lines) same served),
     )
 
 -- memory ran out before the first step
-pub nothing_served : (clock : Clock) → Collects clock (Err stopped.Memory) [] [] []
-nothing_served clock = (λ d. 0, inl (refl, refl, refl))
+pub nothing_served : (way : FrameReading) → Collects way (Err stopped.Memory) [] [] []
+nothing_served way = (λ d. 0, inl (refl, refl, refl))
 
 -- ---- the notes
 

@@ -8,7 +8,7 @@ use Rattle.std.proofs.lemmas.List.{append-nil}
 use Rattle.archive_text.specs.Entries.{Entry}
 use Rattle.syslog_frame.specs.declared.framing.Framing.{Framing}
 use Rattle.syslog_frame.specs.declared.limits.TheConstants.{POSITION_MAX}
-use Rattle.syslog_legacy.specs.FrameReadings.{Clock}
+use Rattle.syslog_legacy.specs.declared.frame_reading.FrameReading.{FrameReading}
 use Rattle.syslog_collect.specs.Headline.{IsSettled}
 use Rattle.syslog_collect.specs.History.{AcceptedEvent, Datagram, Ended, History, HoldsBadCount, Opened, Piece}
 use Rattle.syslog_collect.specs.History.{history_of, stream_of}
@@ -40,15 +40,15 @@ whole_end h (event_Piece c o) x = tt
 whole_end h (event_Ended c) x = x
 whole_end h (event_Datagram o) x = tt
 
-pub done_as : (clock : Clock) (h : History) (w v : ℕ → ℕ) (e : Event) (old new : List Entry) (os log : List Outcome)
-    → Grows (IsLogOf clock h w (accepted_event e ∷ []) v old new) log os → log ≡ [] → EndsWell h e
-    → ReceivesAs clock h w v (accepted_event e) received.Accepted os (accepted_event e ∷ [])
-done_as clock h w v e old new os log (grown, grows, (here, later, mid, is, logs, (none, same, waits))) empty ends =
+pub done_as : (way : FrameReading) (h : History) (w v : ℕ → ℕ) (e : Event) (old new : List Entry) (os log : List Outcome)
+    → Grows (IsLogOf way h w (accepted_event e ∷ []) v old new) log os → log ≡ [] → EndsWell h e
+    → ReceivesAs way h w v (accepted_event e) received.Accepted os (accepted_event e ∷ [])
+done_as way h w v e old new os log (grown, grows, (here, later, mid, is, logs, (none, same, waits))) empty ends =
     let whole : here ≡ os = sym (grows ∙ ap (λ (z : List Outcome). z ++ grown) empty ∙ is
     ∙ ap (λ (z : List Outcome). here ++ z) none ∙ append-nil here) in
     inl (
       refl,
-      (old, mid, subst (λ (z : List Outcome). LogsEvent clock h w (accepted_event e) old mid z) whole logs),
+      (old, mid, subst (λ (z : List Outcome). LogsEvent way h w (accepted_event e) old mid z) whole logs),
       waits,
       whole_end h e ends,
     )
@@ -61,19 +61,19 @@ pub part_of_one : (e : Event) (at n : ℕ) (fault : CollectFault) → at < 1
 part_of_one e zero n fault less = refl
 part_of_one e (suc at) n fault less = absurd (omega arith)
 
-pub stops_at_one : (clock : Clock) (h : History) (v : ℕ → ℕ) (e : Event) (at n : ℕ) (fault : CollectFault)
-    → StopsAs clock h v (e ∷ []) (Stopped at n fault) → StopsAt clock h v e n fault
-stops_at_one clock h v e zero n fault (less, stops) = stops
-stops_at_one clock h v e (suc at) n fault (less, stops) = absurd (omega (arith, less))
+pub stops_at_one : (way : FrameReading) (h : History) (v : ℕ → ℕ) (e : Event) (at n : ℕ) (fault : CollectFault)
+    → StopsAs way h v (e ∷ []) (Stopped at n fault) → StopsAt way h v e n fault
+stops_at_one way h v e zero n fault (less, stops) = stops
+stops_at_one way h v e (suc at) n fault (less, stops) = absurd (omega (arith, less))
 
 -- what was logged of it, with nothing before
-pub logs_of_one : (clock : Clock) (h : History) (w v : ℕ → ℕ) (e : Event) (at n : ℕ) (fault : CollectFault)
-    (a b : List Entry) (os : List Outcome) → at < 1 → LogsRun clock h w v (e ∷ []) (Stopped at n fault) a b os
+pub logs_of_one : (way : FrameReading) (h : History) (w v : ℕ → ℕ) (e : Event) (at n : ℕ) (fault : CollectFault)
+    (a b : List Entry) (os : List Outcome) → at < 1 → LogsRun way h w v (e ∷ []) (Stopped at n fault) a b os
     → (u : ℕ → ℕ) × (between : List Entry) × (later : List Outcome) × ((d : ℕ) → u d ≡ w d)
-    × LogsRefused clock h u v e n between b later × (os ≡ later)
-logs_of_one clock h w v e zero n fault a b os less (u, here, later, mid, is, (none, same, waits), logs) =
+    × LogsRefused way h u v e n between b later × (os ≡ later)
+logs_of_one way h w v e zero n fault a b os less (u, here, later, mid, is, (none, same, waits), logs) =
     (u, mid, later, waits, logs, is ∙ ap (λ (z : List Outcome). z ++ later) none)
-logs_of_one clock h w v e (suc at) n fault a b os less logs = absurd (omega (arith, less))
+logs_of_one way h w v e (suc at) n fault a b os less logs = absurd (omega (arith, less))
 
 some_map : {A : Type 0} (o : Option A) (P Q : A → Type 0) → ((x : A) → P x → Q x) → IsSomeAnd o P → IsSomeAnd o Q
 some_map None P Q f h = absurd h
@@ -84,25 +84,25 @@ some_fact None P C f h = absurd h
 some_fact (Some x) P C f h = f x h
 
 -- of a piece that is refused for another cause than memory nothing was taken
-none_taken : (clock : Clock) (h : History) (v : ℕ → ℕ) (c n : ℕ) (o : Bor (List ℕ)) (fault : CollectFault)
-    → StopsAt clock h v (event_Piece c o) n fault → IfNotMemory (received_as fault) (n ≡ 0)
-none_taken clock h v c n o (Memory m) stops = tt
-none_taken clock h v c n o NotOpen (few, inl e) = absurd (cc)
-none_taken clock h v c n o NotOpen (few, inr is) = is.1
-none_taken clock h v c n o ConnFailed (few, inl e) = absurd (cc)
-none_taken clock h v c n o ConnFailed (few, inr is) =
-    some_fact (stream_of c h.streams) (IsPieceCause clock o.now n (v c) ConnFailed) (n ≡ 0) (λ s k. k.1) is
-none_taken clock h v c n o StreamTooLong (few, inl e) = absurd (cc)
-none_taken clock h v c n o StreamTooLong (few, inr is) =
-    some_fact (stream_of c h.streams) (IsPieceCause clock o.now n (v c) StreamTooLong) (n ≡ 0) (λ s k. k.1) is
-none_taken clock h v c n o AlreadyOpen (few, inl e) = absurd (cc)
-none_taken clock h v c n o AlreadyOpen (few, inr is) = absurd is
-none_taken clock h v c n o TooManyOpen (few, inl e) = absurd (cc)
-none_taken clock h v c n o TooManyOpen (few, inr is) = absurd is
-none_taken clock h v c n o Unreleased (few, inl e) = absurd (cc)
-none_taken clock h v c n o Unreleased (few, inr is) = absurd is
-none_taken clock h v c n o (Unterminated start) (few, inl e) = absurd (cc)
-none_taken clock h v c n o (Unterminated start) (few, inr is) = absurd is
+none_taken : (way : FrameReading) (h : History) (v : ℕ → ℕ) (c n : ℕ) (o : Bor (List ℕ)) (fault : CollectFault)
+    → StopsAt way h v (event_Piece c o) n fault → IfNotMemory (received_as fault) (n ≡ 0)
+none_taken way h v c n o (Memory m) stops = tt
+none_taken way h v c n o NotOpen (few, inl e) = absurd (cc)
+none_taken way h v c n o NotOpen (few, inr is) = is.1
+none_taken way h v c n o ConnFailed (few, inl e) = absurd (cc)
+none_taken way h v c n o ConnFailed (few, inr is) =
+    some_fact (stream_of c h.streams) (IsPieceCause way o.now n (v c) ConnFailed) (n ≡ 0) (λ s k. k.1) is
+none_taken way h v c n o StreamTooLong (few, inl e) = absurd (cc)
+none_taken way h v c n o StreamTooLong (few, inr is) =
+    some_fact (stream_of c h.streams) (IsPieceCause way o.now n (v c) StreamTooLong) (n ≡ 0) (λ s k. k.1) is
+none_taken way h v c n o AlreadyOpen (few, inl e) = absurd (cc)
+none_taken way h v c n o AlreadyOpen (few, inr is) = absurd is
+none_taken way h v c n o TooManyOpen (few, inl e) = absurd (cc)
+none_taken way h v c n o TooManyOpen (few, inr is) = absurd is
+none_taken way h v c n o Unreleased (few, inl e) = absurd (cc)
+none_taken way h v c n o Unreleased (few, inr is) = absurd is
+none_taken way h v c n o (Unterminated start) (few, inl e) = absurd (cc)
+none_taken way h v c n o (Unterminated start) (few, inr is) = absurd is
 
 if_not_memory : (r : Received) (P Q : Type 0) → (P → Q) → IfNotMemory r P → IfNotMemory r Q
 if_not_memory received.Accepted P Q f h = f h
@@ -116,11 +116,11 @@ not_memory (received.Unterminated start) P h = h
 not_memory received.Refused P h = h
 not_memory received.Memory P h = tt
 
-same_waits : (clock : Clock) (h : History) (u v : ℕ → ℕ) (c : ℕ) (o : Bor (List ℕ)) (n : ℕ) (a b : List Entry)
-    (os : List Outcome) → n ≡ 0 → LogsPart clock h u v c (take n o.now) a b os
+same_waits : (way : FrameReading) (h : History) (u v : ℕ → ℕ) (c : ℕ) (o : Bor (List ℕ)) (n : ℕ) (a b : List Entry)
+    (os : List Outcome) → n ≡ 0 → LogsPart way h u v c (take n o.now) a b os
     → (v c ≤ u c) × ((d : ℕ) → ¬ (c ≡ d) → v d ≡ u d)
-same_waits clock h u v c o n a b os none logs =
-    part_quiet clock h u v c a b os (subst (λ (k : ℕ). LogsPart clock h u v c (take k o.now) a b os) none logs)
+same_waits way h u v c o n a b os none logs =
+    part_quiet way h u v c a b os (subst (λ (k : ℕ). LogsPart way h u v c (take k o.now) a b os) none logs)
 
 each_less : (u v : ℕ → ℕ) (c : ℕ) → (v c ≤ u c) × ((d : ℕ) → ¬ (c ≡ d) → v d ≡ u d) → (d : ℕ) → v d ≤ u d
 each_less u v c (less, others) d = elim (eqb_tells c d) [
@@ -136,175 +136,175 @@ each_same u v c none (less, others) d = elim (eqb_tells c d) [
 ]
 
 -- so no more frames wait than before
-less_waits : (clock : Clock) (h : History) (u v : ℕ → ℕ) (e : Event) (n : ℕ) (fault : CollectFault) (a b : List Entry)
-    (os : List Outcome) → StopsAt clock h v e n fault → LogsRefused clock h u v e n a b os
+less_waits : (way : FrameReading) (h : History) (u v : ℕ → ℕ) (e : Event) (n : ℕ) (fault : CollectFault) (a b : List Entry)
+    (os : List Outcome) → StopsAt way h v e n fault → LogsRefused way h u v e n a b os
     → IfNotMemory (received_as fault) ((d : ℕ) → v d ≤ u d)
-less_waits clock h u v (event_Opened c k) n fault a b os stops (none, same, is) =
+less_waits way h u v (event_Opened c k) n fault a b os stops (none, same, is) =
     not_memory (received_as fault) _ (λ d. omega (arith, is d))
-less_waits clock h u v (event_Piece c o) n fault a b os stops logs =
+less_waits way h u v (event_Piece c o) n fault a b os stops logs =
     if_not_memory (received_as fault) (n ≡ 0) ((d : ℕ) → v d ≤ u d)
-    (λ none. each_less u v c (same_waits clock h u v c o n a b os none logs)) (none_taken clock h v c n o fault stops)
-less_waits clock h u v (event_Ended c) n fault a b os stops (none, same, is) =
+    (λ none. each_less u v c (same_waits way h u v c o n a b os none logs)) (none_taken way h v c n o fault stops)
+less_waits way h u v (event_Ended c) n fault a b os stops (none, same, is) =
     not_memory (received_as fault) _ (λ d. omega (arith, is d))
-less_waits clock h u v (event_Datagram o) n fault a b os stops (none, same, is) =
+less_waits way h u v (event_Datagram o) n fault a b os stops (none, same, is) =
     not_memory (received_as fault) _ (λ d. omega (arith, is d))
 
 none_left : (a b c : ℕ) → a ≤ b → b ≡ c → c ≡ 0 → a ≡ 0
 none_left a b c x y z = omega arith
 
-pub refused_settled : (clock : Clock) (cs ds : List Connection) (h : History) (e : Event) (at n : ℕ)
+pub refused_settled : (way : FrameReading) (cs ds : List Connection) (h : History) (e : Event) (at n : ℕ)
     (fault : CollectFault) (a b : List Entry) (log os : List Outcome)
-    → IsSettled cs → StopsAs clock h (waiting ds) (e ∷ []) (Stopped at n fault)
-    → Grows (LogsRun clock h (waiting cs) (waiting ds) (e ∷ []) (Stopped at n fault) a b) log os
+    → IsSettled cs → StopsAs way h (waiting ds) (e ∷ []) (Stopped at n fault)
+    → Grows (LogsRun way h (waiting cs) (waiting ds) (e ∷ []) (Stopped at n fault) a b) log os
     → IfNotMemory (received_as fault) (IsSettled ds)
-refused_settled clock cs ds h e at n fault a b log os settled stops (grown, grows, logs) =
+refused_settled way cs ds h e at n fault a b log os settled stops (grown, grows, logs) =
     let (u, mid, later, same, one, all) =
-    logs_of_one clock h (waiting cs) (waiting ds) e at n fault a b grown stops.0 logs in
+    logs_of_one way h (waiting cs) (waiting ds) e at n fault a b grown stops.0 logs in
     if_not_memory (received_as fault) ((d : ℕ) → waiting ds d ≤ u d) (IsSettled ds)
     (λ less d. none_left (waiting ds d) (u d) (waiting cs d) (less d) (same d) (settled d))
-    (less_waits clock h u (waiting ds) e n fault mid b later
-    (stops_at_one clock h (waiting ds) e at n fault stops) one)
+    (less_waits way h u (waiting ds) e n fault mid b later
+    (stops_at_one way h (waiting ds) e at n fault stops) one)
 
 -- ---- what is made of a refusal
 
-pub memory_part : (clock : Clock) (h : History) (w u v : ℕ → ℕ) (e : Event) (n m : ℕ) (a b : List Entry)
-    (os : List Outcome) → ((d : ℕ) → u d ≡ w d) → LogsRefused clock h u v e n a b os
-    → TakesPartOf clock h w v (accepted_event e) os (accepted_part e n (Memory m))
-memory_part clock h w u v (event_Opened c k) n m a b os same logs = (refl, logs.0)
-memory_part clock h w u v (event_Piece c o) n m a b os same logs =
+pub memory_part : (way : FrameReading) (h : History) (w u v : ℕ → ℕ) (e : Event) (n m : ℕ) (a b : List Entry)
+    (os : List Outcome) → ((d : ℕ) → u d ≡ w d) → LogsRefused way h u v e n a b os
+    → TakesPartOf way h w v (accepted_event e) os (accepted_part e n (Memory m))
+memory_part way h w u v (event_Opened c k) n m a b os same logs = (refl, logs.0)
+memory_part way h w u v (event_Piece c o) n m a b os same logs =
     let all : u ≡ w = λ i d. same d i in
-    (n, a, b, refl, subst (λ (f : ℕ → ℕ). LogsPart clock h f v c (take n o.now) a b os) all logs)
-memory_part clock h w u v (event_Ended c) n m a b os same logs = (refl, logs.0)
-memory_part clock h w u v (event_Datagram o) n m a b os same logs = (refl, logs.0)
+    (n, a, b, refl, subst (λ (f : ℕ → ℕ). LogsPart way h f v c (take n o.now) a b os) all logs)
+memory_part way h w u v (event_Ended c) n m a b os same logs = (refl, logs.0)
+memory_part way h w u v (event_Datagram o) n m a b os same logs = (refl, logs.0)
 
 nothing_of : (c n : ℕ) (o : Bor (List ℕ)) → n ≡ 0 → nonempty_piece c (take n o.now) ≡ []
 nothing_of c n o none = ap (λ (k : ℕ). nonempty_piece c (take k o.now)) none
 
-piece_as : (clock : Clock) (h : History) (w u v : ℕ → ℕ) (c n : ℕ) (o : Bor (List ℕ)) (fault : CollectFault)
+piece_as : (way : FrameReading) (h : History) (w u v : ℕ → ℕ) (c n : ℕ) (o : Bor (List ℕ)) (fault : CollectFault)
     (a b : List Entry) (os : List Outcome) → ((d : ℕ) → u d ≡ w d)
-    → LogsPart clock h u v c (take n o.now) a b os → StopsAt clock h v (event_Piece c o) n fault
+    → LogsPart way h u v c (take n o.now) a b os → StopsAt way h v (event_Piece c o) n fault
     → (IsSomeAnd (stream_of c h.streams) HoldsBadCount → w c ≡ 0)
-    → ReceivesAs clock h w v (Piece c o.now) (received_as fault) (kept_outcomes fault os)
+    → ReceivesAs way h w v (Piece c o.now) (received_as fault) (kept_outcomes fault os)
     (nonempty_piece c (take n o.now))
-piece_as clock h w u v c n o (Memory m) a b os same logs stops quiet =
-    memory_part clock h w u v (event_Piece c o) n m a b os same logs
-piece_as clock h w u v c n o NotOpen a b os same logs (few, inl e) quiet = absurd (cc)
-piece_as clock h w u v c n o NotOpen a b os same logs (few, inr is) quiet =
+piece_as way h w u v c n o (Memory m) a b os same logs stops quiet =
+    memory_part way h w u v (event_Piece c o) n m a b os same logs
+piece_as way h w u v c n o NotOpen a b os same logs (few, inl e) quiet = absurd (cc)
+piece_as way h w u v c n o NotOpen a b os same logs (few, inr is) quiet =
     (nothing_of c n o is.1, refl, inl is.0)
-piece_as clock h w u v c n o ConnFailed a b os same logs (few, inl e) quiet = absurd (cc)
-piece_as clock h w u v c n o ConnFailed a b os same logs (few, inr is) quiet =
+piece_as way h w u v c n o ConnFailed a b os same logs (few, inl e) quiet = absurd (cc)
+piece_as way h w u v c n o ConnFailed a b os same logs (few, inr is) quiet =
     let none =
-    some_fact (stream_of c h.streams) (IsPieceCause clock o.now n (v c) ConnFailed) (n ≡ 0) (λ s k. k.1) is in
-    let bad = some_map (stream_of c h.streams) (IsPieceCause clock o.now n (v c) ConnFailed) HoldsBadCount (λ s k. k.0)
+    some_fact (stream_of c h.streams) (IsPieceCause way o.now n (v c) ConnFailed) (n ≡ 0) (λ s k. k.1) is in
+    let bad = some_map (stream_of c h.streams) (IsPieceCause way o.now n (v c) ConnFailed) HoldsBadCount (λ s k. k.0)
     is in
     inr (
       nothing_of c n o none,
       refl,
-      λ d. each_same u v c (same c ∙ quiet bad) (same_waits clock h u v c o n a b os none logs) d ∙ same d,
+      λ d. each_same u v c (same c ∙ quiet bad) (same_waits way h u v c o n a b os none logs) d ∙ same d,
       bad,
     )
-piece_as clock h w u v c n o StreamTooLong a b os same logs (few, inl e) quiet = absurd (cc)
-piece_as clock h w u v c n o StreamTooLong a b os same logs (few, inr is) quiet =
-    let none = some_fact (stream_of c h.streams) (IsPieceCause clock o.now n (v c) StreamTooLong) (n ≡ 0) (λ s k. k.1)
+piece_as way h w u v c n o StreamTooLong a b os same logs (few, inl e) quiet = absurd (cc)
+piece_as way h w u v c n o StreamTooLong a b os same logs (few, inr is) quiet =
+    let none = some_fact (stream_of c h.streams) (IsPieceCause way o.now n (v c) StreamTooLong) (n ≡ 0) (λ s k. k.1)
     is in (
       nothing_of c n o none,
       refl,
-      inr (some_map (stream_of c h.streams) (IsPieceCause clock o.now n (v c) StreamTooLong)
+      inr (some_map (stream_of c h.streams) (IsPieceCause way o.now n (v c) StreamTooLong)
           (λ s. ¬ (HoldsBadCount s) × (POSITION_MAX < length s.octets + length o.now)) (λ s k. k.0) is),
     )
-piece_as clock h w u v c n o AlreadyOpen a b os same logs (few, inl e) quiet = absurd (cc)
-piece_as clock h w u v c n o AlreadyOpen a b os same logs (few, inr is) quiet = absurd is
-piece_as clock h w u v c n o TooManyOpen a b os same logs (few, inl e) quiet = absurd (cc)
-piece_as clock h w u v c n o TooManyOpen a b os same logs (few, inr is) quiet = absurd is
-piece_as clock h w u v c n o Unreleased a b os same logs (few, inl e) quiet = absurd (cc)
-piece_as clock h w u v c n o Unreleased a b os same logs (few, inr is) quiet = absurd is
-piece_as clock h w u v c n o (Unterminated start) a b os same logs (few, inl e) quiet = absurd (cc)
-piece_as clock h w u v c n o (Unterminated start) a b os same logs (few, inr is) quiet = absurd is
+piece_as way h w u v c n o AlreadyOpen a b os same logs (few, inl e) quiet = absurd (cc)
+piece_as way h w u v c n o AlreadyOpen a b os same logs (few, inr is) quiet = absurd is
+piece_as way h w u v c n o TooManyOpen a b os same logs (few, inl e) quiet = absurd (cc)
+piece_as way h w u v c n o TooManyOpen a b os same logs (few, inr is) quiet = absurd is
+piece_as way h w u v c n o Unreleased a b os same logs (few, inl e) quiet = absurd (cc)
+piece_as way h w u v c n o Unreleased a b os same logs (few, inr is) quiet = absurd is
+piece_as way h w u v c n o (Unterminated start) a b os same logs (few, inl e) quiet = absurd (cc)
+piece_as way h w u v c n o (Unterminated start) a b os same logs (few, inr is) quiet = absurd is
 
-opened_as : (clock : Clock) (h : History) (w v : ℕ → ℕ) (c n : ℕ) (k : Framing) (fault : CollectFault)
-    (os : List Outcome) → os ≡ [] → StopsAt clock h v (event_Opened c k) n fault
-    → ReceivesAs clock h w v (Opened c k) (received_as fault) (kept_outcomes fault os) []
-opened_as clock h w v c n k (Memory m) os none stops = (refl, none)
-opened_as clock h w v c n k AlreadyOpen os none (few, inl e) = absurd (cc)
-opened_as clock h w v c n k AlreadyOpen os none (few, inr is) = (refl, refl, inl is)
-opened_as clock h w v c n k TooManyOpen os none (few, inl e) = absurd (cc)
-opened_as clock h w v c n k TooManyOpen os none (few, inr is) = (refl, refl, inr is.1)
-opened_as clock h w v c n k NotOpen os none (few, inl e) = absurd (cc)
-opened_as clock h w v c n k NotOpen os none (few, inr is) = absurd is
-opened_as clock h w v c n k ConnFailed os none (few, inl e) = absurd (cc)
-opened_as clock h w v c n k ConnFailed os none (few, inr is) = absurd is
-opened_as clock h w v c n k StreamTooLong os none (few, inl e) = absurd (cc)
-opened_as clock h w v c n k StreamTooLong os none (few, inr is) = absurd is
-opened_as clock h w v c n k Unreleased os none (few, inl e) = absurd (cc)
-opened_as clock h w v c n k Unreleased os none (few, inr is) = absurd is
-opened_as clock h w v c n k (Unterminated start) os none (few, inl e) = absurd (cc)
-opened_as clock h w v c n k (Unterminated start) os none (few, inr is) = absurd is
+opened_as : (way : FrameReading) (h : History) (w v : ℕ → ℕ) (c n : ℕ) (k : Framing) (fault : CollectFault)
+    (os : List Outcome) → os ≡ [] → StopsAt way h v (event_Opened c k) n fault
+    → ReceivesAs way h w v (Opened c k) (received_as fault) (kept_outcomes fault os) []
+opened_as way h w v c n k (Memory m) os none stops = (refl, none)
+opened_as way h w v c n k AlreadyOpen os none (few, inl e) = absurd (cc)
+opened_as way h w v c n k AlreadyOpen os none (few, inr is) = (refl, refl, inl is)
+opened_as way h w v c n k TooManyOpen os none (few, inl e) = absurd (cc)
+opened_as way h w v c n k TooManyOpen os none (few, inr is) = (refl, refl, inr is.1)
+opened_as way h w v c n k NotOpen os none (few, inl e) = absurd (cc)
+opened_as way h w v c n k NotOpen os none (few, inr is) = absurd is
+opened_as way h w v c n k ConnFailed os none (few, inl e) = absurd (cc)
+opened_as way h w v c n k ConnFailed os none (few, inr is) = absurd is
+opened_as way h w v c n k StreamTooLong os none (few, inl e) = absurd (cc)
+opened_as way h w v c n k StreamTooLong os none (few, inr is) = absurd is
+opened_as way h w v c n k Unreleased os none (few, inl e) = absurd (cc)
+opened_as way h w v c n k Unreleased os none (few, inr is) = absurd is
+opened_as way h w v c n k (Unterminated start) os none (few, inl e) = absurd (cc)
+opened_as way h w v c n k (Unterminated start) os none (few, inr is) = absurd is
 
-ended_as : (clock : Clock) (h : History) (w v : ℕ → ℕ) (c n : ℕ) (fault : CollectFault) (os : List Outcome) → os ≡ []
-    → ((d : ℕ) → v d ≡ w d) → StopsAt clock h v (event_Ended c) n fault
-    → ReceivesAs clock h w v (Ended c) (received_as fault) (kept_outcomes fault os) (accepted_refused_end c fault)
-ended_as clock h w v c n (Memory m) os none same stops = (refl, none)
-ended_as clock h w v c n (Unterminated start) os none same (few, inl e) = absurd (cc)
-ended_as clock h w v c n (Unterminated start) os none same (few, inr is) = (refl, refl, same, is.0)
-ended_as clock h w v c n NotOpen os none same (few, inl e) = absurd (cc)
-ended_as clock h w v c n NotOpen os none same (few, inr is) = (refl, refl, inl is.0)
-ended_as clock h w v c n Unreleased os none same (few, inl e) = absurd (cc)
-ended_as clock h w v c n Unreleased os none same (few, inr is) = (refl, refl, inr is.1)
-ended_as clock h w v c n AlreadyOpen os none same (few, inl e) = absurd (cc)
-ended_as clock h w v c n AlreadyOpen os none same (few, inr is) = absurd is.0
-ended_as clock h w v c n TooManyOpen os none same (few, inl e) = absurd (cc)
-ended_as clock h w v c n TooManyOpen os none same (few, inr is) = absurd is.0
-ended_as clock h w v c n ConnFailed os none same (few, inl e) = absurd (cc)
-ended_as clock h w v c n ConnFailed os none same (few, inr is) = absurd is.0
-ended_as clock h w v c n StreamTooLong os none same (few, inl e) = absurd (cc)
-ended_as clock h w v c n StreamTooLong os none same (few, inr is) = absurd is.0
+ended_as : (way : FrameReading) (h : History) (w v : ℕ → ℕ) (c n : ℕ) (fault : CollectFault) (os : List Outcome) → os ≡ []
+    → ((d : ℕ) → v d ≡ w d) → StopsAt way h v (event_Ended c) n fault
+    → ReceivesAs way h w v (Ended c) (received_as fault) (kept_outcomes fault os) (accepted_refused_end c fault)
+ended_as way h w v c n (Memory m) os none same stops = (refl, none)
+ended_as way h w v c n (Unterminated start) os none same (few, inl e) = absurd (cc)
+ended_as way h w v c n (Unterminated start) os none same (few, inr is) = (refl, refl, same, is.0)
+ended_as way h w v c n NotOpen os none same (few, inl e) = absurd (cc)
+ended_as way h w v c n NotOpen os none same (few, inr is) = (refl, refl, inl is.0)
+ended_as way h w v c n Unreleased os none same (few, inl e) = absurd (cc)
+ended_as way h w v c n Unreleased os none same (few, inr is) = (refl, refl, inr is.1)
+ended_as way h w v c n AlreadyOpen os none same (few, inl e) = absurd (cc)
+ended_as way h w v c n AlreadyOpen os none same (few, inr is) = absurd is.0
+ended_as way h w v c n TooManyOpen os none same (few, inl e) = absurd (cc)
+ended_as way h w v c n TooManyOpen os none same (few, inr is) = absurd is.0
+ended_as way h w v c n ConnFailed os none same (few, inl e) = absurd (cc)
+ended_as way h w v c n ConnFailed os none same (few, inr is) = absurd is.0
+ended_as way h w v c n StreamTooLong os none same (few, inl e) = absurd (cc)
+ended_as way h w v c n StreamTooLong os none same (few, inr is) = absurd is.0
 
-datagram_as : (clock : Clock) (h : History) (w v : ℕ → ℕ) (n : ℕ) (o : Bor (List ℕ)) (fault : CollectFault)
-    (os : List Outcome) → os ≡ [] → StopsAt clock h v (event_Datagram o) n fault
-    → ReceivesAs clock h w v (Datagram o.now) (received_as fault) (kept_outcomes fault os) []
-datagram_as clock h w v n o (Memory m) os none stops = (refl, none)
-datagram_as clock h w v n o AlreadyOpen os none (few, inl e) = absurd (cc)
-datagram_as clock h w v n o AlreadyOpen os none (few, inr is) = let e = is.0 in absurd (cc)
-datagram_as clock h w v n o TooManyOpen os none (few, inl e) = absurd (cc)
-datagram_as clock h w v n o TooManyOpen os none (few, inr is) = let e = is.0 in absurd (cc)
-datagram_as clock h w v n o NotOpen os none (few, inl e) = absurd (cc)
-datagram_as clock h w v n o NotOpen os none (few, inr is) = let e = is.0 in absurd (cc)
-datagram_as clock h w v n o ConnFailed os none (few, inl e) = absurd (cc)
-datagram_as clock h w v n o ConnFailed os none (few, inr is) = let e = is.0 in absurd (cc)
-datagram_as clock h w v n o StreamTooLong os none (few, inl e) = absurd (cc)
-datagram_as clock h w v n o StreamTooLong os none (few, inr is) = let e = is.0 in absurd (cc)
-datagram_as clock h w v n o Unreleased os none (few, inl e) = absurd (cc)
-datagram_as clock h w v n o Unreleased os none (few, inr is) = let e = is.0 in absurd (cc)
-datagram_as clock h w v n o (Unterminated start) os none (few, inl e) = absurd (cc)
-datagram_as clock h w v n o (Unterminated start) os none (few, inr is) = let e = is.0 in absurd (cc)
+datagram_as : (way : FrameReading) (h : History) (w v : ℕ → ℕ) (n : ℕ) (o : Bor (List ℕ)) (fault : CollectFault)
+    (os : List Outcome) → os ≡ [] → StopsAt way h v (event_Datagram o) n fault
+    → ReceivesAs way h w v (Datagram o.now) (received_as fault) (kept_outcomes fault os) []
+datagram_as way h w v n o (Memory m) os none stops = (refl, none)
+datagram_as way h w v n o AlreadyOpen os none (few, inl e) = absurd (cc)
+datagram_as way h w v n o AlreadyOpen os none (few, inr is) = let e = is.0 in absurd (cc)
+datagram_as way h w v n o TooManyOpen os none (few, inl e) = absurd (cc)
+datagram_as way h w v n o TooManyOpen os none (few, inr is) = let e = is.0 in absurd (cc)
+datagram_as way h w v n o NotOpen os none (few, inl e) = absurd (cc)
+datagram_as way h w v n o NotOpen os none (few, inr is) = let e = is.0 in absurd (cc)
+datagram_as way h w v n o ConnFailed os none (few, inl e) = absurd (cc)
+datagram_as way h w v n o ConnFailed os none (few, inr is) = let e = is.0 in absurd (cc)
+datagram_as way h w v n o StreamTooLong os none (few, inl e) = absurd (cc)
+datagram_as way h w v n o StreamTooLong os none (few, inr is) = let e = is.0 in absurd (cc)
+datagram_as way h w v n o Unreleased os none (few, inl e) = absurd (cc)
+datagram_as way h w v n o Unreleased os none (few, inr is) = let e = is.0 in absurd (cc)
+datagram_as way h w v n o (Unterminated start) os none (few, inl e) = absurd (cc)
+datagram_as way h w v n o (Unterminated start) os none (few, inr is) = let e = is.0 in absurd (cc)
 
-event_as : (clock : Clock) (h : History) (w u v : ℕ → ℕ) (e : Event) (n : ℕ) (fault : CollectFault) (a b : List Entry)
-    (os : List Outcome) → ((d : ℕ) → u d ≡ w d) → LogsRefused clock h u v e n a b os → StopsAt clock h v e n fault
+event_as : (way : FrameReading) (h : History) (w u v : ℕ → ℕ) (e : Event) (n : ℕ) (fault : CollectFault) (a b : List Entry)
+    (os : List Outcome) → ((d : ℕ) → u d ≡ w d) → LogsRefused way h u v e n a b os → StopsAt way h v e n fault
     → ((c : ℕ) → IsSomeAnd (stream_of c h.streams) HoldsBadCount → w c ≡ 0)
-    → ReceivesAs clock h w v (accepted_event e) (received_as fault) (kept_outcomes fault os) (accepted_part e n fault)
-event_as clock h w u v (event_Opened c k) n fault a b os same logs stops quiet =
-    opened_as clock h w v c n k fault os logs.0 stops
-event_as clock h w u v (event_Piece c o) n fault a b os same logs stops quiet =
-    piece_as clock h w u v c n o fault a b os same logs stops (quiet c)
-event_as clock h w u v (event_Ended c) n fault a b os same (none, kept, is) stops quiet =
-    ended_as clock h w v c n fault os none (λ d. is d ∙ same d) stops
-event_as clock h w u v (event_Datagram o) n fault a b os same logs stops quiet =
-    datagram_as clock h w v n o fault os logs.0 stops
+    → ReceivesAs way h w v (accepted_event e) (received_as fault) (kept_outcomes fault os) (accepted_part e n fault)
+event_as way h w u v (event_Opened c k) n fault a b os same logs stops quiet =
+    opened_as way h w v c n k fault os logs.0 stops
+event_as way h w u v (event_Piece c o) n fault a b os same logs stops quiet =
+    piece_as way h w u v c n o fault a b os same logs stops (quiet c)
+event_as way h w u v (event_Ended c) n fault a b os same (none, kept, is) stops quiet =
+    ended_as way h w v c n fault os none (λ d. is d ∙ same d) stops
+event_as way h w u v (event_Datagram o) n fault a b os same logs stops quiet =
+    datagram_as way h w v n o fault os logs.0 stops
 
-pub stopped_as : (clock : Clock) (cs : List Connection) (v : ℕ → ℕ) (kept first : List Entry) (es : List AcceptedEvent)
+pub stopped_as : (way : FrameReading) (cs : List Connection) (v : ℕ → ℕ) (kept first : List Entry) (es : List AcceptedEvent)
     (e : Event) (at n : ℕ) (fault : CollectFault) (a b : List Entry) (log os : List Outcome)
-    → Stands clock cs kept first es → StopsAs clock (history_of es) v (e ∷ []) (Stopped at n fault)
-    → Grows (LogsRun clock (history_of es) (waiting cs) v (e ∷ []) (Stopped at n fault) a b) log os → log ≡ []
-    → ReceivesAs clock (history_of es) (waiting cs) v (accepted_event e) (received_as fault) (kept_outcomes fault os)
+    → Stands way cs kept first es → StopsAs way (history_of es) v (e ∷ []) (Stopped at n fault)
+    → Grows (LogsRun way (history_of es) (waiting cs) v (e ∷ []) (Stopped at n fault) a b) log os → log ≡ []
+    → ReceivesAs way (history_of es) (waiting cs) v (accepted_event e) (received_as fault) (kept_outcomes fault os)
     (accepted_run (e ∷ []) (Stopped at n fault))
-stopped_as clock cs v kept first es e at n fault a b log os was stops (grown, grows, logs) empty =
+stopped_as way cs v kept first es e at n fault a b log os was stops (grown, grows, logs) empty =
     let h = history_of es in
-    let (u, mid, later, same, one, all) = logs_of_one clock h (waiting cs) v e at n fault a b grown stops.0 logs in
+    let (u, mid, later, same, one, all) = logs_of_one way h (waiting cs) v e at n fault a b grown stops.0 logs in
     let whole : later ≡ os = sym (grows ∙ ap (λ (z : List Outcome). z ++ grown) empty ∙ all) in
-    subst (λ (fs : List AcceptedEvent). ReceivesAs clock h (waiting cs) v (accepted_event e)
+    subst (λ (fs : List AcceptedEvent). ReceivesAs way h (waiting cs) v (accepted_event e)
     (received_as fault) (kept_outcomes fault os) fs) (sym (part_of_one e at n fault stops.0))
-    (subst (λ (z : List Outcome). ReceivesAs clock h (waiting cs) v (accepted_event e) (received_as fault)
+    (subst (λ (z : List Outcome). ReceivesAs way h (waiting cs) v (accepted_event e) (received_as fault)
     (kept_outcomes fault z) (accepted_part e n fault)) whole
-    (event_as clock h (waiting cs) u v e n fault mid b later same one
-    (stops_at_one clock h v e at n fault stops)
-    (λ c bad. broken_quiet clock c cs kept first es was bad)))
+    (event_as way h (waiting cs) u v e n fault mid b later same one
+    (stops_at_one way h v e at n fault stops)
+    (λ c bad. broken_quiet way c cs kept first es was bad)))

@@ -4,7 +4,7 @@ use Rattle.std.proofs.Common.{append_assoc, ap, subst, inl, inr, arith, Bool, tr
 use Rattle.std.specs.Prelude.{◌||◌, Option, Some, None, Result, Ok, Err, OnOk}
 use Rattle.std.specs.Io.KnownBytes.{Appends}
 use Rattle.std.proofs.lemmas.List.{append-nil, length-append}
-use Rattle.syslog_legacy.specs.FrameReadings.{Clock}
+use Rattle.syslog_legacy.specs.declared.frame_reading.FrameReading.{FrameReading}
 use Rattle.syslog_collect.specs.History.{AcceptedEvent, History, accept, history_after, history_of, initial}
 use Rattle.syslog_collect.specs.declared.outcome.Outcome.{Outcome}
 use Rattle.collect_engine.specs.Lines.{NotesAs, NotesFail, counted, has_some, lines_on, memory_after}
@@ -30,38 +30,38 @@ appends_none None = tt
 appends_none (Some xs) = sym (append-nil xs)
 
 -- the lines on an event that was received are written
-pub event_served : (clock : Clock) (h : History) (w v : ℕ → ℕ) (n m : ℕ) (e : AcceptedEvent) (r : Received)
+pub event_served : (way : FrameReading) (h : History) (w v : ℕ → ℕ) (n m : ℕ) (e : AcceptedEvent) (r : Received)
     (os : List Outcome) (es : List AcceptedEvent) (told : List ℕ) (result : Result (Unit {0}) Stopped) → GoesOn r
-    → ReceivesAs clock h w v e r os es → NotesAs result (lines_on n os r) told → OnOk result (m ≡ counted n os)
-    → EventServed clock h w v n m result e es told
-event_served clock h w v n m e r os es told (Ok u) goes is noted number = (r, os, goes, is, noted, number)
-event_served clock h w v n m e r os es told (Err stopped.Notes) goes is (k, less, first) number =
+    → ReceivesAs way h w v e r os es → NotesAs result (lines_on n os r) told → OnOk result (m ≡ counted n os)
+    → EventServed way h w v n m result e es told
+event_served way h w v n m e r os es told (Ok u) goes is noted number = (r, os, goes, is, noted, number)
+event_served way h w v n m e r os es told (Err stopped.Notes) goes is (k, less, first) number =
     (counted n os, lines_on n os r, k, (r, os, goes, is, refl, refl), less, first)
-event_served clock h w v n m e r os es told (Err stopped.Memory) goes is noted number =
+event_served way h w v n m e r os es told (Err stopped.Memory) goes is noted number =
     inr (counted n os, lines_on n os r, (r, os, goes, is, refl, refl), noted)
-event_served clock h w v n m e r os es told (Err stopped.Step) goes is noted number = absurd noted
-event_served clock h w v n m e r os es told (Err stopped.Endless) goes is noted number = absurd noted
-event_served clock h w v n m e r os es told (Err stopped.MemoryAndNotes) goes is noted number = absurd noted
+event_served way h w v n m e r os es told (Err stopped.Step) goes is noted number = absurd noted
+event_served way h w v n m e r os es told (Err stopped.Endless) goes is noted number = absurd noted
+event_served way h w v n m e r os es told (Err stopped.MemoryAndNotes) goes is noted number = absurd noted
 
 -- memory ran out at an event; the lines on what was taken of it were written, or could not be
-memory_served : (clock : Clock) (h : History) (w v : ℕ → ℕ) (n m : ℕ) (e : AcceptedEvent) (os : List Outcome)
-    (es : List AcceptedEvent) (told : List ℕ) (result : Result (Unit {0}) Stopped) → TakesPartOf clock h w v e os es
+memory_served : (way : FrameReading) (h : History) (w v : ℕ → ℕ) (n m : ℕ) (e : AcceptedEvent) (os : List Outcome)
+    (es : List AcceptedEvent) (told : List ℕ) (result : Result (Unit {0}) Stopped) → TakesPartOf way h w v e os es
     → NotesAs result (lines_on n os received.Memory) told
-    → EventServed {U = Unit {0}} clock h w v n m (Err (memory_after result)) e es told
-memory_served clock h w v n m e os es told (Ok u) is noted = inl (os, is, inl noted)
-memory_served clock h w v n m e os es told (Err stopped.Notes) is (k, less, first) = (os, k, is, less, first)
-memory_served clock h w v n m e os es told (Err stopped.Memory) is noted = inl (os, is, inr noted)
-memory_served clock h w v n m e os es told (Err stopped.Step) is noted = absurd noted
-memory_served clock h w v n m e os es told (Err stopped.Endless) is noted = absurd noted
-memory_served clock h w v n m e os es told (Err stopped.MemoryAndNotes) is noted = absurd noted
+    → EventServed {U = Unit {0}} way h w v n m (Err (memory_after result)) e es told
+memory_served way h w v n m e os es told (Ok u) is noted = inl (os, is, inl noted)
+memory_served way h w v n m e os es told (Err stopped.Notes) is (k, less, first) = (os, k, is, less, first)
+memory_served way h w v n m e os es told (Err stopped.Memory) is noted = inl (os, is, inr noted)
+memory_served way h w v n m e os es told (Err stopped.Step) is noted = absurd noted
+memory_served way h w v n m e os es told (Err stopped.Endless) is noted = absurd noted
+memory_served way h w v n m e os es told (Err stopped.MemoryAndNotes) is noted = absurd noted
 
-pub out_of_memory_served : (clock : Clock) (h : History) (w v : ℕ → ℕ) (n m : ℕ) (e : AcceptedEvent)
+pub out_of_memory_served : (way : FrameReading) (h : History) (w v : ℕ → ℕ) (n m : ℕ) (e : AcceptedEvent)
     (os : List Outcome) (es : List AcceptedEvent) (told : List ℕ) (result : Result (Unit {0}) Stopped) (why : Stopped)
-    → why ≡ memory_after result → TakesPartOf clock h w v e os es → NotesAs result (lines_on n os received.Memory) told
-    → EventServed {U = Unit {0}} clock h w v n m (Err why) e es told
-out_of_memory_served clock h w v n m e os es told result why is part noted =
-    subst (λ (k : Stopped). EventServed {U = Unit {0}} clock h w v n m (Err k) e es told) (sym is)
-    (memory_served clock h w v n m e os es told result part noted)
+    → why ≡ memory_after result → TakesPartOf way h w v e os es → NotesAs result (lines_on n os received.Memory) told
+    → EventServed {U = Unit {0}} way h w v n m (Err why) e es told
+out_of_memory_served way h w v n m e os es told result why is part noted =
+    subst (λ (k : Stopped). EventServed {U = Unit {0}} way h w v n m (Err k) e es told) (sym is)
+    (memory_served way h w v n m e os es told result part noted)
 
 memory_settled : (result : Result (Unit {0}) Stopped) (P : Type 0)
     → UnlessMemory {A = Unit {0}} (Err (memory_after result)) P
@@ -259,16 +259,16 @@ history_push h [] fs = refl
 history_push h (e ∷ es) fs = history_push (accept h e) es fs
 
 -- a step more is served
-pub serves_push : (clock : Clock) (h : History) (w v z : ℕ → ℕ) (n m l : ℕ) (gs : List Given) (g : Given)
-    (es fs : List AcceptedEvent) (xs ys : List ℕ) → ServesAll clock h w v n m gs es xs
-    → ServesStep clock (history_after h es) v z m l g fs ys
-    → ServesAll clock h w z n l (gs ++ g ∷ []) (es ++ fs) (xs ++ ys)
-serves_push clock h w v z n m l [] g es fs xs ys (waits, number, events, lines) step =
+pub serves_push : (way : FrameReading) (h : History) (w v z : ℕ → ℕ) (n m l : ℕ) (gs : List Given) (g : Given)
+    (es fs : List AcceptedEvent) (xs ys : List ℕ) → ServesAll way h w v n m gs es xs
+    → ServesStep way (history_after h es) v z m l g fs ys
+    → ServesAll way h w z n l (gs ++ g ∷ []) (es ++ fs) (xs ++ ys)
+serves_push way h w v z n m l [] g es fs xs ys (waits, number, events, lines) step =
     let all : v ≡ w = λ i d. waits d i in
     let there : History = history_after h es in
-    let one = subst (λ (k : ℕ). ServesStep clock h w z k l g fs ys) number
-    (subst (λ (f : ℕ → ℕ). ServesStep clock h f z m l g fs ys) all
-    (subst (λ (t : List AcceptedEvent). ServesStep clock (history_after h t) v z m l g fs ys) events step)) in (
+    let one = subst (λ (k : ℕ). ServesStep way h w z k l g fs ys) number
+    (subst (λ (f : ℕ → ℕ). ServesStep way h f z m l g fs ys) all
+    (subst (λ (t : List AcceptedEvent). ServesStep way (history_after h t) v z m l g fs ys) events step)) in (
       z,
       l,
       fs,
@@ -280,7 +280,7 @@ serves_push clock h w v z n m l [] g es fs xs ys (waits, number, events, lines) 
       one,
       (λ d. refl, refl, refl, refl),
     )
-serves_push clock h w v z n m l (x ∷ gs) g es fs xs ys (u, k, here, later, first, rest, events, lines, one, more)
+serves_push way h w v z n m l (x ∷ gs) g es fs xs ys (u, k, here, later, first, rest, events, lines, one, more)
     step = (
       u,
       k,
@@ -291,18 +291,18 @@ serves_push clock h w v z n m l (x ∷ gs) g es fs xs ys (u, k, here, later, fir
       ap (λ (t : List AcceptedEvent). t ++ fs) events ∙ append_assoc here later fs,
       ap (λ (t : List ℕ). t ++ ys) lines ∙ append_assoc first rest ys,
       one,
-      serves_push clock (history_after h here) u v z k m l gs g later fs rest ys more
-          (subst (λ (t : History). ServesStep clock t v z m l g fs ys)
+      serves_push way (history_after h here) u v z k m l gs g later fs rest ys more
+          (subst (λ (t : History). ServesStep way t v z m l g fs ys)
           (ap (λ (t : List AcceptedEvent). history_after h t) events ∙ history_push h here later) step),
     )
 
-pub serves_one_more : (clock : Clock) (h : History) (w v z : ℕ → ℕ) (m l : ℕ) (gs : List Given) (g : Given)
-    (es fs : List AcceptedEvent) (xs ys : List ℕ) (last : Bool) → last ≡ false → ServesAll clock h w v 1 m gs es xs
-    → StepServed clock (history_after h es) v z m l (Ok last) g fs ys
-    → ServesAll clock h w z 1 l (gs ++ g ∷ []) (es ++ fs) (xs ++ ys)
-serves_one_more clock h w v z m l gs g es fs xs ys last is_false all one =
-    serves_push clock h w v z 1 m l gs g es fs xs ys all
-    (subst (λ (b : Bool). StepServed clock (history_after h es) v z m l (Ok b) g fs ys) is_false one)
+pub serves_one_more : (way : FrameReading) (h : History) (w v z : ℕ → ℕ) (m l : ℕ) (gs : List Given) (g : Given)
+    (es fs : List AcceptedEvent) (xs ys : List ℕ) (last : Bool) → last ≡ false → ServesAll way h w v 1 m gs es xs
+    → StepServed way (history_after h es) v z m l (Ok last) g fs ys
+    → ServesAll way h w z 1 l (gs ++ g ∷ []) (es ++ fs) (xs ++ ys)
+serves_one_more way h w v z m l gs g es fs xs ys last is_false all one =
+    serves_push way h w v z 1 m l gs g es fs xs ys all
+    (subst (λ (b : Bool). StepServed way (history_after h es) v z m l (Ok b) g fs ys) is_false one)
 
 pub has_some_append : (xs ys : List ℕ) → has_some (xs ++ ys) ≡ (has_some xs || has_some ys)
 has_some_append [] ys = refl
@@ -311,58 +311,58 @@ has_some_append (x ∷ xs) ys = refl
 -- ---- where serving ends
 
 -- a step after events, as one after their history
-pub step_here : (clock now : Clock) (before es : List AcceptedEvent) (u v : ℕ → ℕ) (n m : ℕ)
-    (result : Result Bool Stopped) (g : Given) (fs : List AcceptedEvent) (ys : List ℕ) → now ≡ clock
+pub step_here : (way now : FrameReading) (before es : List AcceptedEvent) (u v : ℕ → ℕ) (n m : ℕ)
+    (result : Result Bool Stopped) (g : Given) (fs : List AcceptedEvent) (ys : List ℕ) → now ≡ way
     → StepServed now (history_of (before ++ es)) u v n m result g fs ys
-    → StepServed clock (history_after (history_of before) es) u v n m result g fs ys
-step_here clock now before es u v n m result g fs ys same served =
-    subst (λ (k : Clock). StepServed k (history_after (history_of before) es) u v n m result g fs ys) same
+    → StepServed way (history_after (history_of before) es) u v n m result g fs ys
+step_here way now before es u v n m result g fs ys same served =
+    subst (λ (k : FrameReading). StepServed k (history_after (history_of before) es) u v n m result g fs ys) same
     (subst (λ (h : History). StepServed now h u v n m result g fs ys) (history_push initial before es) served)
 
 -- the end of the source
-pub serves_end : (clock : Clock) (h : History) (w u v : ℕ → ℕ) (n m : ℕ) (gs : List Given) (g : Given)
+pub serves_end : (way : FrameReading) (h : History) (w u v : ℕ → ℕ) (n m : ℕ) (gs : List Given) (g : Given)
     (es fs : List AcceptedEvent) (xs ys : List ℕ) (refused was last : Bool) → last ≡ true
-    → ServesAll clock h w u 1 n gs es xs → StepServed clock (history_after h es) u v n m (Ok last) g fs ys
+    → ServesAll way h w u 1 n gs es xs → StepServed way (history_after h es) u v n m (Ok last) g fs ys
     → was ≡ has_some xs → refused ≡ (was || has_some ys)
-    → ServesToEnd clock h w v refused (gs ++ g ∷ []) (es ++ fs) (xs ++ ys)
-serves_end clock h w u v n m gs g es fs xs ys refused was last is_last all one before is =
+    → ServesToEnd way h w v refused (gs ++ g ∷ []) (es ++ fs) (xs ++ ys)
+serves_end way h w u v n m gs g es fs xs ys refused was last is_last all one before is =
     let (finished, waits, number, events, lines) =
-    subst (λ (b : Bool). StepServed clock (history_after h es) u v n m (Ok b) g fs ys) is_last one in
+    subst (λ (b : Bool). StepServed way (history_after h es) u v n m (Ok b) g fs ys) is_last one in
     let same : v ≡ u = λ i d. waits d i in
     let none : es ≡ es ++ fs = sym (ap (λ (t : List AcceptedEvent). es ++ t) events ∙ append-nil es) in
     let quiet : xs ≡ xs ++ ys = sym (ap (λ (t : List ℕ). xs ++ t) lines ∙ append-nil xs) in (
       gs,
       n,
       ap (λ (t : Given). gs ++ t ∷ []) finished,
-      subst (λ (t : List ℕ). ServesAll clock h w v 1 n gs (es ++ fs) t) quiet
-          (subst (λ (t : List AcceptedEvent). ServesAll clock h w v 1 n gs t xs) none
-          (subst (λ (f : ℕ → ℕ). ServesAll clock h w f 1 n gs es xs) (sym same) all)),
+      subst (λ (t : List ℕ). ServesAll way h w v 1 n gs (es ++ fs) t) quiet
+          (subst (λ (t : List AcceptedEvent). ServesAll way h w v 1 n gs t xs) none
+          (subst (λ (f : ℕ → ℕ). ServesAll way h w f 1 n gs es xs) (sym same) all)),
       is ∙ ap (λ (b : Bool). b || has_some ys) before ∙ sym (has_some_append xs ys),
     )
 
-pub serves_stop : (clock : Clock) (h : History) (w u v : ℕ → ℕ) (n : ℕ) (gs : List Given) (g : Given)
-    (es fs : List AcceptedEvent) (xs ys : List ℕ) (stop : Stopped) → ServesAll clock h w u 1 n gs es xs
-    → StopsAtStep clock (history_after h es) u v n stop g fs ys
-    → StepsServed clock h w v (Err stop) (gs ++ g ∷ []) (es ++ fs) (xs ++ ys)
-serves_stop clock h w u v n gs g es fs xs ys stopped.Step all last =
+pub serves_stop : (way : FrameReading) (h : History) (w u v : ℕ → ℕ) (n : ℕ) (gs : List Given) (g : Given)
+    (es fs : List AcceptedEvent) (xs ys : List ℕ) (stop : Stopped) → ServesAll way h w u 1 n gs es xs
+    → StopsAtStep way (history_after h es) u v n stop g fs ys
+    → StepsServed way h w v (Err stop) (gs ++ g ∷ []) (es ++ fs) (xs ++ ys)
+serves_stop way h w u v n gs g es fs xs ys stopped.Step all last =
     (gs, g, u, n, es, fs, xs, ys, refl, refl, refl, all, last)
-serves_stop clock h w u v n gs g es fs xs ys stopped.Notes all last =
+serves_stop way h w u v n gs g es fs xs ys stopped.Notes all last =
     (gs, g, u, n, es, fs, xs, ys, refl, refl, refl, all, last)
-serves_stop clock h w u v n gs g es fs xs ys stopped.Memory all last =
+serves_stop way h w u v n gs g es fs xs ys stopped.Memory all last =
     inr (gs, g, u, n, es, fs, xs, ys, refl, refl, refl, all, last)
-serves_stop clock h w u v n gs g es fs xs ys stopped.MemoryAndNotes all last =
+serves_stop way h w u v n gs g es fs xs ys stopped.MemoryAndNotes all last =
     (gs, g, u, n, es, fs, xs, ys, refl, refl, refl, all, last)
-serves_stop clock h w u v n gs g es fs xs ys stopped.Endless all (inl last) = let e = last.0 in absurd (cc)
-serves_stop clock h w u v n gs g es fs xs ys stopped.Endless all (inr last) = absurd last.2
+serves_stop way h w u v n gs g es fs xs ys stopped.Endless all (inl last) = let e = last.0 in absurd (cc)
+serves_stop way h w u v n gs g es fs xs ys stopped.Endless all (inr last) = absurd last.2
 
 pub one_more : {A : Type 0} (xs : List A) (x : A) (n : ℕ) → length xs ≡ n → length (xs ++ x ∷ []) ≡ n + 1
 one_more xs x n is = length-append xs (x ∷ []) ∙ ap (λ (m : ℕ). m + 1) is
 
-pub stopped_as : (clock : Clock) (h : History) (w v : ℕ → ℕ) (was why : Stopped) (gs : List Given)
-    (es : List AcceptedEvent) (xs : List ℕ) → was ≡ why → StepsServed clock h w v (Err was) gs es xs
-    → StepsServed clock h w v (Err why) gs es xs
-stopped_as clock h w v was why gs es xs is served =
-    subst (λ (k : Stopped). StepsServed clock h w v (Err k) gs es xs) is served
+pub stopped_as : (way : FrameReading) (h : History) (w v : ℕ → ℕ) (was why : Stopped) (gs : List Given)
+    (es : List AcceptedEvent) (xs : List ℕ) → was ≡ why → StepsServed way h w v (Err was) gs es xs
+    → StepsServed way h w v (Err why) gs es xs
+stopped_as way h w v was why gs es xs is served =
+    subst (λ (k : Stopped). StepsServed way h w v (Err k) gs es xs) is served
 
 pub stopped_fails : (was why : Stopped) (before now : ℕ) → was ≡ why → NotesFail {A = Bool} (Err was) before now
     → NotesFail {A = Bool} (Err why) before now

@@ -6,7 +6,7 @@ use Rattle.std.proofs.lemmas.List.{append-nil, length-append}
 use Rattle.archive_text.specs.Entries.{Entry}
 use Rattle.syslog_frame.specs.Frames.{Frames}
 use Rattle.syslog_frame.proofs.FrameLaws.{unique_frames}
-use Rattle.syslog_legacy.specs.FrameReadings.{Clock}
+use Rattle.syslog_legacy.specs.declared.frame_reading.FrameReading.{FrameReading}
 use Rattle.syslog_collect.specs.History.{AcceptedEvent, History, HoldsBadCount, Stream, history_of, stream_of}
 use Rattle.syslog_collect.specs.Logs.{LogsOctets, LogsPart, ready_count, waiting}
 use Rattle.syslog_collect.specs.Standing.{AreAt, IsAt, Stands}
@@ -40,9 +40,9 @@ broken_at c (x ∷ xs) (s ∷ ss) (d ∷ ds) f h =
       | false ↦ λ bad. broken_at c xs ss ds f.1 bad
     ] h)
 
-pub broken_quiet : (clock : Clock) (c : ℕ) (cs : List Connection) (kept first : List Entry) (es : List AcceptedEvent)
-    → Stands clock cs kept first es → IsSomeAnd (stream_of c (history_of es).streams) HoldsBadCount → waiting cs c ≡ 0
-broken_quiet clock c cs kept first es was bad =
+pub broken_quiet : (way : FrameReading) (c : ℕ) (cs : List Connection) (kept first : List Entry) (es : List AcceptedEvent)
+    → Stands way cs kept first es → IsSomeAnd (stream_of c (history_of es).streams) HoldsBadCount → waiting cs c ≡ 0
+broken_quiet way c cs kept first es was bad =
     broken_at c cs (history_of es).streams was.stands_at.handled was.stands_at.follow bad
 
 -- ---- where no octets came, no more frames wait than before
@@ -53,9 +53,9 @@ counts a b c d e =
     sym (length-append a b) ∙ ap length e ∙ length-append a (c ++ d) ∙ ap (λ n. length a + n) (length-append c d) in
     omega (arith, lengths)
 
-no_octets : (clock : Clock) (s : Stream) (waited waits : ℕ) (a b : List Entry) (os : List Outcome)
-    → LogsOctets clock s [] waited waits a b os → waits ≤ waited
-no_octets clock s waited waits a b os l =
+no_octets : (way : FrameReading) (s : Stream) (waited waits : ℕ) (a b : List Entry) (os : List Outcome)
+    → LogsOctets way s [] waited waits a b os → waits ≤ waited
+no_octets way s waited waits a b os l =
     let now = subst (λ o. Frames s.framing o (l.handled ++ (l.logged ++ l.waiting_now)) l.now.0) (append-nil s.octets)
     l.now.1 in
     let same = (unique_frames s.framing s.octets (l.handled ++ l.waiting_before)
@@ -67,11 +67,11 @@ some_fact None P C f h = absurd h
 some_fact (Some x) P C f h = f x h
 
 -- of a piece without octets
-pub part_quiet : (clock : Clock) (h : History) (w v : ℕ → ℕ) (c : ℕ) (a b : List Entry) (os : List Outcome)
-    → LogsPart clock h w v c [] a b os → (v c ≤ w c) × ((d : ℕ) → ¬ (c ≡ d) → v d ≡ w d)
-part_quiet clock h w v c a b os (inl (none, (still, same, is))) = (omega (arith, is c), λ d other. is d)
-part_quiet clock h w v c a b os (inr (some, others)) = (
-  some_fact (stream_of c h.streams) (λ s. LogsOctets clock s [] (w c) (v c) a b os) (v c ≤ w c)
-      (λ s l. no_octets clock s (w c) (v c) a b os l) some,
+pub part_quiet : (way : FrameReading) (h : History) (w v : ℕ → ℕ) (c : ℕ) (a b : List Entry) (os : List Outcome)
+    → LogsPart way h w v c [] a b os → (v c ≤ w c) × ((d : ℕ) → ¬ (c ≡ d) → v d ≡ w d)
+part_quiet way h w v c a b os (inl (none, (still, same, is))) = (omega (arith, is c), λ d other. is d)
+part_quiet way h w v c a b os (inr (some, others)) = (
+  some_fact (stream_of c h.streams) (λ s. LogsOctets way s [] (w c) (v c) a b os) (v c ≤ w c)
+      (λ s l. no_octets way s (w c) (v c) a b os l) some,
   others,
 )

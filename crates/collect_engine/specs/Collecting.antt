@@ -5,7 +5,7 @@ use Rattle.std.specs.Io.KnownBytes.{Appends}
 use Rattle.archive_text.specs.Entries.{Entry, Has}
 use Rattle.archive_text.specs.Text.{IsArchive}
 use Rattle.archive_text.specs.declared.limits.TheConstants.{ENTRY_MAX}
-use Rattle.syslog_legacy.specs.FrameReadings.{Clock}
+use Rattle.syslog_legacy.specs.declared.frame_reading.FrameReading.{FrameReading}
 use Rattle.syslog_collect.specs.Frames.{IsReceived}
 use Rattle.syslog_collect.specs.History.{AcceptedEvent, initial}
 use Rattle.collect_engine.specs.Lines.{Rises}
@@ -15,17 +15,17 @@ use Rattle.collect_engine.specs.declared.serve_end.Stopped.{Stopped}
 use Rattle.collect_engine.specs.declared.serve_end.Stopped.TheVariants as stopped
 
 -- the entries are an archive, and just those of the records that were received
-pub record IsArchiveOf (clock : Clock) (events : List AcceptedEvent) (kept : List Entry) : Type 0 where
+pub record IsArchiveOf (way : FrameReading) (events : List AcceptedEvent) (kept : List Entry) : Type 0 where
   pub archive : IsArchive ENTRY_MAX kept
-  pub members : (x : Entry) → Has kept x ↔ IsReceived clock events x
+  pub members : (x : Entry) → Has kept x ↔ IsReceived way events x
 
 -- how serving ended: whether a line was noted, or why it stopped
 abbrev pub Served : Type 0
 Served = Result Bool Stopped
 
 -- serving ended so after these steps, from no event on, and these lines were noted
-abbrev pub Collects : Clock → Served → List Given → List AcceptedEvent → List ℕ → Type 0
-Collects clock end gs es lines = (v : ℕ → ℕ) × StepsServed clock initial (λ d. 0) v end gs es lines
+abbrev pub Collects : FrameReading → Served → List Given → List AcceptedEvent → List ℕ → Type 0
+Collects way end gs es lines = (v : ℕ → ℕ) × StepsServed way initial (λ d. 0) v end gs es lines
 
 -- ---- what is written behind it, by the failures of a device and the octets that it took, before and after
 

@@ -3,7 +3,7 @@ use Rattle.std.specs.Prelude.{◌≡◌, ◌⊎◌, ℕ, ◌+◌, ◌<◌, ◌�
 use Rattle.std.specs.Prelude.{None, IsSome, IsSomeAnd}
 use Rattle.archive_text.specs.Entries.{Entry}
 use Rattle.syslog_frame.specs.declared.limits.TheConstants.{POSITION_MAX}
-use Rattle.syslog_legacy.specs.FrameReadings.{Clock}
+use Rattle.syslog_legacy.specs.declared.frame_reading.FrameReading.{FrameReading}
 use Rattle.syslog_collect.specs.Answers.{EndsWhole, IsUnfinished}
 use Rattle.syslog_collect.specs.History.{AcceptedEvent, Opened, Piece, Ended, Datagram, History, HoldsBadCount}
 use Rattle.syslog_collect.specs.History.{stream_of}
@@ -41,8 +41,8 @@ kept_outcomes StreamTooLong os = []
 kept_outcomes Unreleased os = []
 
 -- the outcomes of an event that was accepted, over some entries
-abbrev pub Logged : Clock → History → (ℕ → ℕ) → AcceptedEvent → List Outcome → Type 0
-Logged clock h w e os = (old : List Entry) × (new : List Entry) × LogsEvent clock h w e old new os
+abbrev pub Logged : FrameReading → History → (ℕ → ℕ) → AcceptedEvent → List Outcome → Type 0
+Logged way h w e os = (old : List Entry) × (new : List Entry) × LogsEvent way h w e old new os
 
 -- an end comes at whole frames, or behind a bad count
 abbrev pub IsWholeEnd : History → AcceptedEvent → Type 0
@@ -75,25 +75,25 @@ MayNotCome h w (Datagram o) = ⊥
 
 -- what was taken of an event before memory ran out, and its outcomes: nothing; or the first octets of a piece, and the
 -- outcomes of the frames that they complete, but for one that waits
-abbrev pub TakesPartOf : Clock → History → (ℕ → ℕ) → (ℕ → ℕ) → AcceptedEvent → List Outcome → List AcceptedEvent
+abbrev pub TakesPartOf : FrameReading → History → (ℕ → ℕ) → (ℕ → ℕ) → AcceptedEvent → List Outcome → List AcceptedEvent
     → Type 0
-TakesPartOf clock h w v (Opened c k) os es = (es ≡ []) × (os ≡ [])
-TakesPartOf clock h w v (Piece c o) os es = (n : ℕ) × (old : List Entry) × (new : List Entry)
-    × (es ≡ nonempty_piece c (take n o)) × LogsPart clock h w v c (take n o) old new os
-TakesPartOf clock h w v (Ended c) os es = (es ≡ []) × (os ≡ [])
-TakesPartOf clock h w v (Datagram o) os es = (es ≡ []) × (os ≡ [])
+TakesPartOf way h w v (Opened c k) os es = (es ≡ []) × (os ≡ [])
+TakesPartOf way h w v (Piece c o) os es = (n : ℕ) × (old : List Entry) × (new : List Entry)
+    × (es ≡ nonempty_piece c (take n o)) × LogsPart way h w v c (take n o) old new os
+TakesPartOf way h w v (Ended c) os es = (es ≡ []) × (os ≡ [])
+TakesPartOf way h w v (Datagram o) os es = (es ≡ []) × (os ≡ [])
 
 -- an event after a history is accepted as these events, and has these outcomes: w tells how many frames of each number
 -- waited, and v how many wait then
-abbrev pub ReceivesAs : Clock → History → (ℕ → ℕ) → (ℕ → ℕ) → AcceptedEvent → Received → List Outcome
+abbrev pub ReceivesAs : FrameReading → History → (ℕ → ℕ) → (ℕ → ℕ) → AcceptedEvent → Received → List Outcome
     → List AcceptedEvent → Type 0
-ReceivesAs clock h w v e received.Accepted os es =
-    ((es ≡ e ∷ []) × Logged clock h w e os × ((d : ℕ) → v d ≡ waiting_after w e d) × IsWholeEnd h e)
+ReceivesAs way h w v e received.Accepted os es =
+    ((es ≡ e ∷ []) × Logged way h w e os × ((d : ℕ) → v d ≡ waiting_after w e d) × IsWholeEnd h e)
     ⊎ ((es ≡ []) × (os ≡ []) × ((d : ℕ) → v d ≡ w d) × IsBehindBadCount h e)
-ReceivesAs clock h w v e (received.Unterminated start) os es =
+ReceivesAs way h w v e (received.Unterminated start) os es =
     (es ≡ e ∷ []) × (os ≡ []) × ((d : ℕ) → v d ≡ w d) × IsEndInside start h e
-ReceivesAs clock h w v e received.Refused os es = (es ≡ []) × (os ≡ []) × MayNotCome h v e
-ReceivesAs clock h w v e received.Memory os es = TakesPartOf clock h w v e os es
+ReceivesAs way h w v e received.Refused os es = (es ≡ []) × (os ≡ []) × MayNotCome h v e
+ReceivesAs way h w v e received.Memory os es = TakesPartOf way h w v e os es
 
 -- where memory did not run out
 abbrev pub IfNotMemory : Received → Type 0 → Type 0

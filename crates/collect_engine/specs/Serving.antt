@@ -1,7 +1,7 @@
 -- Which events the steps of a source are served as, and which lines are noted.
 use Rattle.std.specs.Prelude.{◌≡◌, ◌⊎◌, ℕ, ◌+◌, ◌-◌, ◌^◌, ◌<◌, ◌≤◌, List, [], ◌∷◌, ◌++◌, length, take, Bool, true, false}
 use Rattle.std.specs.Prelude.{Option, Some, None, Result, Ok, Err, ⊤}
-use Rattle.syslog_legacy.specs.FrameReadings.{Clock}
+use Rattle.syslog_legacy.specs.declared.frame_reading.FrameReading.{FrameReading}
 use Rattle.syslog_collect.specs.History.{AcceptedEvent, Opened as event_Opened, Piece as event_Piece}
 use Rattle.syslog_collect.specs.History.{Ended as event_Ended, Datagram as event_Datagram, History, history_after}
 use Rattle.syslog_collect.specs.declared.outcome.Outcome.{Outcome}
@@ -38,31 +38,31 @@ GoesOn received.Memory = ⊥
 
 -- an event after a history is accepted as these events, and these are its lines; the number of the next outcome was n,
 -- and is m then
-abbrev pub ServesEvent : Clock → History → (ℕ → ℕ) → (ℕ → ℕ) → ℕ → ℕ → AcceptedEvent → List AcceptedEvent → List ℕ
+abbrev pub ServesEvent : FrameReading → History → (ℕ → ℕ) → (ℕ → ℕ) → ℕ → ℕ → AcceptedEvent → List AcceptedEvent → List ℕ
     → Type 0
-ServesEvent clock h w v n m e es lines = (r : Received) × (os : List Outcome) × GoesOn r
-    × ReceivesAs clock h w v e r os es × (lines ≡ lines_on n os r) × (m ≡ counted n os)
+ServesEvent way h w v n m e es lines = (r : Received) × (os : List Outcome) × GoesOn r
+    × ReceivesAs way h w v e r os es × (lines ≡ lines_on n os r) × (m ≡ counted n os)
 
 -- serving stops at an event: the collector refuses it; or only the first of its lines are noted; or memory runs out in
 -- the collector, behind the lines on what was taken, or for lines, and then none are noted
-abbrev pub StopsAtEvent : Clock → History → (ℕ → ℕ) → (ℕ → ℕ) → ℕ → Stopped → AcceptedEvent → List AcceptedEvent
+abbrev pub StopsAtEvent : FrameReading → History → (ℕ → ℕ) → (ℕ → ℕ) → ℕ → Stopped → AcceptedEvent → List AcceptedEvent
     → List ℕ → Type 0
-StopsAtEvent clock h w v n stopped.Step e es lines = (es ≡ []) × (lines ≡ []) × MayNotCome h v e
-StopsAtEvent clock h w v n stopped.Notes e es lines = (m : ℕ) × (whole : List ℕ) × (k : ℕ)
-    × ServesEvent clock h w v n m e es whole × (k < length whole) × (lines ≡ take k whole)
-StopsAtEvent clock h w v n stopped.Memory e es lines = ((os : List Outcome) × TakesPartOf clock h w v e os es
+StopsAtEvent way h w v n stopped.Step e es lines = (es ≡ []) × (lines ≡ []) × MayNotCome h v e
+StopsAtEvent way h w v n stopped.Notes e es lines = (m : ℕ) × (whole : List ℕ) × (k : ℕ)
+    × ServesEvent way h w v n m e es whole × (k < length whole) × (lines ≡ take k whole)
+StopsAtEvent way h w v n stopped.Memory e es lines = ((os : List Outcome) × TakesPartOf way h w v e os es
     × ((lines ≡ lines_on n os received.Memory) ⊎ (lines ≡ [])))
-    ⊎ ((m : ℕ) × (whole : List ℕ) × ServesEvent clock h w v n m e es whole × (lines ≡ []))
-StopsAtEvent clock h w v n stopped.MemoryAndNotes e es lines = (os : List Outcome) × (k : ℕ)
-    × TakesPartOf clock h w v e os es × (k < length (lines_on n os received.Memory))
+    ⊎ ((m : ℕ) × (whole : List ℕ) × ServesEvent way h w v n m e es whole × (lines ≡ []))
+StopsAtEvent way h w v n stopped.MemoryAndNotes e es lines = (os : List Outcome) × (k : ℕ)
+    × TakesPartOf way h w v e os es × (k < length (lines_on n os received.Memory))
     × (lines ≡ take k (lines_on n os received.Memory))
-StopsAtEvent clock h w v n stopped.Endless e es lines = ⊥
+StopsAtEvent way h w v n stopped.Endless e es lines = ⊥
 
 -- by the answer
-abbrev pub EventServed : {U : Type 0} → Clock → History → (ℕ → ℕ) → (ℕ → ℕ) → ℕ → ℕ → Result U Stopped → AcceptedEvent
+abbrev pub EventServed : {U : Type 0} → FrameReading → History → (ℕ → ℕ) → (ℕ → ℕ) → ℕ → ℕ → Result U Stopped → AcceptedEvent
     → List AcceptedEvent → List ℕ → Type 0
-EventServed clock h w v n m (Ok u) e es lines = ServesEvent clock h w v n m e es lines
-EventServed clock h w v n m (Err why) e es lines = StopsAtEvent clock h w v n why e es lines
+EventServed way h w v n m (Ok u) e es lines = ServesEvent way h w v n m e es lines
+EventServed way h w v n m (Err why) e es lines = StopsAtEvent way h w v n why e es lines
 
 -- where memory did not run out
 abbrev pub UnlessMemory : {A : Type 0} → Result A Stopped → Type 0 → Type 0
@@ -76,32 +76,32 @@ UnlessMemory (Err stopped.MemoryAndNotes) P = Unit {0}
 -- ---- one step
 
 -- serving stops at a step: the source has failed; or it stops at the step's event
-abbrev pub StopsAtStep : Clock → History → (ℕ → ℕ) → (ℕ → ℕ) → ℕ → Stopped → Given → List AcceptedEvent → List ℕ
+abbrev pub StopsAtStep : FrameReading → History → (ℕ → ℕ) → (ℕ → ℕ) → ℕ → Stopped → Given → List AcceptedEvent → List ℕ
     → Type 0
-StopsAtStep clock h w v n why g es lines = ((why ≡ stopped.Step) × (g ≡ Failed) × (es ≡ []) × (lines ≡ []))
-    ⊎ ((e : AcceptedEvent) × (event_of g ≡ Some e) × StopsAtEvent clock h w v n why e es lines)
+StopsAtStep way h w v n why g es lines = ((why ≡ stopped.Step) × (g ≡ Failed) × (es ≡ []) × (lines ≡ []))
+    ⊎ ((e : AcceptedEvent) × (event_of g ≡ Some e) × StopsAtEvent way h w v n why e es lines)
 
 -- a step is served as its event
-abbrev pub ServesStep : Clock → History → (ℕ → ℕ) → (ℕ → ℕ) → ℕ → ℕ → Given → List AcceptedEvent → List ℕ → Type 0
-ServesStep clock h w v n m g es lines =
-    (e : AcceptedEvent) × (event_of g ≡ Some e) × ServesEvent clock h w v n m e es lines
+abbrev pub ServesStep : FrameReading → History → (ℕ → ℕ) → (ℕ → ℕ) → ℕ → ℕ → Given → List AcceptedEvent → List ℕ → Type 0
+ServesStep way h w v n m g es lines =
+    (e : AcceptedEvent) × (event_of g ≡ Some e) × ServesEvent way h w v n m e es lines
 
 -- by the answer: whether the step was the end of the source
-abbrev pub StepServed : Clock → History → (ℕ → ℕ) → (ℕ → ℕ) → ℕ → ℕ → Result Bool Stopped → Given → List AcceptedEvent
+abbrev pub StepServed : FrameReading → History → (ℕ → ℕ) → (ℕ → ℕ) → ℕ → ℕ → Result Bool Stopped → Given → List AcceptedEvent
     → List ℕ → Type 0
-StepServed clock h w v n m (Ok true) g es lines =
+StepServed way h w v n m (Ok true) g es lines =
     (g ≡ Finished) × ((d : ℕ) → v d ≡ w d) × (m ≡ n) × (es ≡ []) × (lines ≡ [])
-StepServed clock h w v n m (Ok false) g es lines = ServesStep clock h w v n m g es lines
-StepServed clock h w v n m (Err why) g es lines = StopsAtStep clock h w v n why g es lines
+StepServed way h w v n m (Ok false) g es lines = ServesStep way h w v n m g es lines
+StepServed way h w v n m (Err why) g es lines = StopsAtStep way h w v n why g es lines
 
 -- ---- the steps of a source
 
 -- steps are served, one after the other
-abbrev pub ServesAll : Clock → History → (ℕ → ℕ) → (ℕ → ℕ) → ℕ → ℕ → List Given → List AcceptedEvent → List ℕ → Type 0
-ServesAll clock h w v n m [] es lines = ((d : ℕ) → v d ≡ w d) × (m ≡ n) × (es ≡ []) × (lines ≡ [])
-ServesAll clock h w v n m (g ∷ gs) es lines = (u : ℕ → ℕ) × (k : ℕ) × (here : List AcceptedEvent)
+abbrev pub ServesAll : FrameReading → History → (ℕ → ℕ) → (ℕ → ℕ) → ℕ → ℕ → List Given → List AcceptedEvent → List ℕ → Type 0
+ServesAll way h w v n m [] es lines = ((d : ℕ) → v d ≡ w d) × (m ≡ n) × (es ≡ []) × (lines ≡ [])
+ServesAll way h w v n m (g ∷ gs) es lines = (u : ℕ → ℕ) × (k : ℕ) × (here : List AcceptedEvent)
     × (later : List AcceptedEvent) × (first : List ℕ) × (rest : List ℕ) × (es ≡ here ++ later) × (lines ≡ first ++ rest)
-    × ServesStep clock h w u n k g here first × ServesAll clock (history_after h here) u v k m gs later rest
+    × ServesStep way h w u n k g here first × ServesAll way (history_after h here) u v k m gs later rest
 
 -- the first steps of those to come
 abbrev pub AreFirst : (ℕ → Given) → List Given → Type 0
@@ -132,48 +132,48 @@ pub record GaveSteps (old new : SourceState) (gs : List Given) : Type 0 where
 -- ---- how serving ends, after these steps
 
 -- all were served up to the end of the source; refused tells whether a line was noted
-abbrev pub ServesToEnd : Clock → History → (ℕ → ℕ) → (ℕ → ℕ) → Bool → List Given → List AcceptedEvent → List ℕ → Type 0
-ServesToEnd clock h w v refused gs es lines = (steps : List Given) × (m : ℕ) × (gs ≡ steps ++ Finished ∷ [])
-    × ServesAll clock h w v 1 m steps es lines × (refused ≡ has_some lines)
+abbrev pub ServesToEnd : FrameReading → History → (ℕ → ℕ) → (ℕ → ℕ) → Bool → List Given → List AcceptedEvent → List ℕ → Type 0
+ServesToEnd way h w v refused gs es lines = (steps : List Given) × (m : ℕ) × (gs ≡ steps ++ Finished ∷ [])
+    × ServesAll way h w v 1 m steps es lines × (refused ≡ has_some lines)
 
 -- all were served, and they are as many as are asked for
-abbrev pub ServesTurns : Clock → History → (ℕ → ℕ) → (ℕ → ℕ) → List Given → List AcceptedEvent → List ℕ → Type 0
-ServesTurns clock h w v gs es lines =
-    (m : ℕ) × (length gs ≡ SERVE_TURNS) × ServesAll clock h w v 1 m gs es lines
+abbrev pub ServesTurns : FrameReading → History → (ℕ → ℕ) → (ℕ → ℕ) → List Given → List AcceptedEvent → List ℕ → Type 0
+ServesTurns way h w v gs es lines =
+    (m : ℕ) × (length gs ≡ SERVE_TURNS) × ServesAll way h w v 1 m gs es lines
 
 -- serving stops at the last of them
-abbrev pub StopsAfter : Clock → History → (ℕ → ℕ) → (ℕ → ℕ) → Stopped → List Given → List AcceptedEvent → List ℕ
+abbrev pub StopsAfter : FrameReading → History → (ℕ → ℕ) → (ℕ → ℕ) → Stopped → List Given → List AcceptedEvent → List ℕ
     → Type 0
-StopsAfter clock h w v why gs es lines = (steps : List Given) × (g : Given) × (u : ℕ → ℕ) × (k : ℕ)
+StopsAfter way h w v why gs es lines = (steps : List Given) × (g : Given) × (u : ℕ → ℕ) × (k : ℕ)
     × (here : List AcceptedEvent) × (later : List AcceptedEvent) × (first : List ℕ) × (rest : List ℕ)
     × (gs ≡ steps ++ g ∷ []) × (es ≡ here ++ later) × (lines ≡ first ++ rest)
-    × ServesAll clock h w u 1 k steps here first × StopsAtStep clock (history_after h here) u v k why g later rest
+    × ServesAll way h w u 1 k steps here first × StopsAtStep way (history_after h here) u v k why g later rest
 
 -- memory runs out before the first step, or at the last
-abbrev pub EndsInMemory : Clock → History → (ℕ → ℕ) → (ℕ → ℕ) → List Given → List AcceptedEvent → List ℕ → Type 0
-EndsInMemory clock h w v gs es lines = ((gs ≡ []) × (es ≡ []) × (lines ≡ []))
-    ⊎ StopsAfter clock h w v stopped.Memory gs es lines
+abbrev pub EndsInMemory : FrameReading → History → (ℕ → ℕ) → (ℕ → ℕ) → List Given → List AcceptedEvent → List ℕ → Type 0
+EndsInMemory way h w v gs es lines = ((gs ≡ []) × (es ≡ []) × (lines ≡ []))
+    ⊎ StopsAfter way h w v stopped.Memory gs es lines
 
-abbrev pub StepsServed : Clock → History → (ℕ → ℕ) → (ℕ → ℕ) → Result Bool Stopped → List Given → List AcceptedEvent
+abbrev pub StepsServed : FrameReading → History → (ℕ → ℕ) → (ℕ → ℕ) → Result Bool Stopped → List Given → List AcceptedEvent
     → List ℕ → Type 0
-StepsServed clock h w v (Ok refused) gs es lines = ServesToEnd clock h w v refused gs es lines
-StepsServed clock h w v (Err stopped.Step) gs es lines = StopsAfter clock h w v stopped.Step gs es lines
-StepsServed clock h w v (Err stopped.Notes) gs es lines = StopsAfter clock h w v stopped.Notes gs es lines
-StepsServed clock h w v (Err stopped.Endless) gs es lines = ServesTurns clock h w v gs es lines
-StepsServed clock h w v (Err stopped.Memory) gs es lines = EndsInMemory clock h w v gs es lines
-StepsServed clock h w v (Err stopped.MemoryAndNotes) gs es lines =
-    StopsAfter clock h w v stopped.MemoryAndNotes gs es lines
+StepsServed way h w v (Ok refused) gs es lines = ServesToEnd way h w v refused gs es lines
+StepsServed way h w v (Err stopped.Step) gs es lines = StopsAfter way h w v stopped.Step gs es lines
+StepsServed way h w v (Err stopped.Notes) gs es lines = StopsAfter way h w v stopped.Notes gs es lines
+StepsServed way h w v (Err stopped.Endless) gs es lines = ServesTurns way h w v gs es lines
+StepsServed way h w v (Err stopped.Memory) gs es lines = EndsInMemory way h w v gs es lines
+StepsServed way h w v (Err stopped.MemoryAndNotes) gs es lines =
+    StopsAfter way h w v stopped.MemoryAndNotes gs es lines
 
 -- the same, as serving answers, with the failures of the notes before and after
-abbrev pub ServesTo : Clock → History → (ℕ → ℕ) → (ℕ → ℕ) → ServeEnd → ℕ → ℕ → List Given → List AcceptedEvent → List ℕ
+abbrev pub ServesTo : FrameReading → History → (ℕ → ℕ) → (ℕ → ℕ) → ServeEnd → ℕ → ℕ → List Given → List AcceptedEvent → List ℕ
     → Type 0
-ServesTo clock h w v (end.Done refused) was now gs es lines =
-    ServesToEnd clock h w v refused gs es lines × (now ≡ was)
-ServesTo clock h w v end.Failed was now gs es lines = (StopsAfter clock h w v stopped.Step gs es lines × (now ≡ was))
-    ⊎ (StopsAfter clock h w v stopped.Notes gs es lines × Rises was now)
-ServesTo clock h w v end.Endless was now gs es lines = ServesTurns clock h w v gs es lines × (now ≡ was)
-ServesTo clock h w v end.Memory was now gs es lines = (EndsInMemory clock h w v gs es lines × (now ≡ was))
-    ⊎ (StopsAfter clock h w v stopped.MemoryAndNotes gs es lines × Rises was now)
+ServesTo way h w v (end.Done refused) was now gs es lines =
+    ServesToEnd way h w v refused gs es lines × (now ≡ was)
+ServesTo way h w v end.Failed was now gs es lines = (StopsAfter way h w v stopped.Step gs es lines × (now ≡ was))
+    ⊎ (StopsAfter way h w v stopped.Notes gs es lines × Rises was now)
+ServesTo way h w v end.Endless was now gs es lines = ServesTurns way h w v gs es lines × (now ≡ was)
+ServesTo way h w v end.Memory was now gs es lines = (EndsInMemory way h w v gs es lines × (now ≡ was))
+    ⊎ (StopsAfter way h w v stopped.MemoryAndNotes gs es lines × Rises was now)
 
 -- where memory did not run out
 abbrev pub IfEnough : ServeEnd → Type 0 → Type 0

@@ -1,6 +1,6 @@
 //! What `collect` is asked to receive.
 
-use syslog_legacy::LegacyClock;
+use syslog_legacy::FrameReading;
 
 /// How records come to `collect`.
 #[derive(Clone, Copy, Debug, PartialEq, Eq)]
@@ -21,6 +21,6 @@ pub struct CollectWords {
     pub port: u16,
     /// How many datagrams or connections are received.
     pub count: u32,
-    /// The clock of legacy packets, if they are read at all.
-    pub clock: Option<LegacyClock>,
+    /// How frames are read.
+    pub reading: FrameReading,
 }

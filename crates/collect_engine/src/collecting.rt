@@ -18,7 +18,7 @@ use driver::{DONE, FAULT, NO_MEMORY, REFUSED};
 use octet_devices::{Output, write_all};
 use std::alloc::Global;
 use syslog_collect::Collector;
-use syslog_legacy::LegacyClock;
+use syslog_legacy::FrameReading;
 
 // Writes the archive, and returns the exit status: this one, unless it cannot be written.
 fn write_archive<S: Store, W: Output, N: Output>(
@@ -117,7 +117,7 @@ fn end_status(refused: bool) -> u8
 fn collect_into<S: Store + Drop, R: Source, W: Output, N: Output>(
     alloc: Global,
     store: S,
-    clock: Option<LegacyClock>,
+    reading: FrameReading,
     source: &mut R,
     writer: &mut W,
     notes: &mut N,
@@ -126,13 +126,13 @@ fn collect_into<S: Store + Drop, R: Source, W: Output, N: Output>(
     ensures { (end : Served) × (given : List Given) × (accepted : List AcceptedEvent) × (told : List ℕ)
         × (kept : List Entry) × (lines : List ℕ)
         × GaveSteps (R.state source.old) (R.state source.new) given
-        × Collects clock end given accepted told × IfArchived end (IsArchiveOf clock accepted kept)
+        × Collects reading end given accepted told × IfArchived end (IsArchiveOf reading accepted kept)
         × WritesOut end (text_of kept) result
         (W.state writer.old).failures (W.state writer.new).failures (W.state writer.old).taken (W.state writer.new).taken lines
         × NotesOut end (N.state notes.old).failures (N.state notes.new).failures (N.state notes.old).taken (N.state notes.new).taken
         told lines }
 {
-    let Ok(mut collector) = Collector::new(alloc, store, clock) else {
+    let Ok(mut collector) = Collector::with_reading(alloc, store, reading) else {
         return tell_memory(notes);
     };
     match serve_steps(alloc, &mut collector, source, notes) {
@@ -164,12 +164,12 @@ pub fn run_collect<R: Source, W: Output, N: Output>(
     ensures collected { (end : Served) × (given : List Given) × (accepted : List AcceptedEvent) × (told : List ℕ)
         × (kept : List Entry) × (lines : List ℕ)
         × GaveSteps (R.state source.old) (R.state source.new) given
-        × Collects words.now.clock end given accepted told × IfArchived end (IsArchiveOf words.now.clock accepted kept)
+        × Collects words.now.reading end given accepted told × IfArchived end (IsArchiveOf words.now.reading accepted kept)
         × WritesOut end (text_of kept) result
         (W.state writer.old).failures (W.state writer.new).failures (W.state writer.old).taken (W.state writer.new).taken lines
         × NotesOut end (N.state notes.old).failures (N.state notes.new).failures (N.state notes.old).taken (N.state notes.new).taken
         told lines }
 {
     let store = PagedArchive::new(alloc);
-    collect_into(alloc, store, words.clock, source, writer, notes)
+    collect_into(alloc, store, words.reading, source, writer, notes)
 }

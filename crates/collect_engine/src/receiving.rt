@@ -1,7 +1,7 @@
 //! What a collector makes of an event.
 ghost use Rattle.std.specs.Prelude.{◌≡◌, ◌++◌, List};
 ghost use Rattle.archive_text.specs.Entries.{Entry};
-ghost use Rattle.syslog_collect.specs.Collectors.{NoneWaits, Stands, clock_of, waits_of};
+ghost use Rattle.syslog_collect.specs.Collectors.{NoneWaits, Stands, reading_of, waits_of};
 ghost use Rattle.syslog_collect.specs.History.{AcceptedEvent, history_of};
 ghost use Rattle.syslog_collect.specs.Runs.{accepted_event};
 ghost use Rattle.collect_engine.specs.Receiving.{IfNotMemory, ReceivesAs, kept_outcomes, received_as};
@@ -55,14 +55,14 @@ pub(crate) fn receive<S: Store>(
         → Stands S.entries collector.old first before
         → (accepted : List AcceptedEvent)
         × Stands S.entries collector.new first (before ++ accepted)
-        × ReceivesAs (clock_of collector.old) (history_of before) (waits_of collector.old)
+        × ReceivesAs (reading_of collector.old) (history_of before) (waits_of collector.old)
         (waits_of collector.new) (accepted_event event.entry) result outcomes.new.items
         accepted }
     ensures settled { (first : List Entry) (before : List AcceptedEvent)
         → Stands S.entries collector.old first before
         → NoneWaits collector.old
         → IfNotMemory result (NoneWaits collector.new) }
-    ensures clock { clock_of collector.new ≡ clock_of collector.old }
+    ensures reading { reading_of collector.new ≡ reading_of collector.old }
 {
     outcomes.clear();
     match collector.run(alloc, &[event], outcomes) {

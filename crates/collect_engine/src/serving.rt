@@ -4,7 +4,7 @@ ghost use Rattle.std.specs.Prelude.{IfOk, IsErrOf, OnOk, length, vec_len};
 ghost use Rattle.std.specs.Io.KnownBytes.{Appends};
 ghost use Rattle.archive_text.specs.Entries.{Entry};
 ghost use Rattle.syslog_frame.specs.declared.limits.TheConstants.{FRAME_MAX};
-ghost use Rattle.syslog_collect.specs.Collectors.{NoneWaits, Stands, clock_of, waits_of};
+ghost use Rattle.syslog_collect.specs.Collectors.{NoneWaits, Stands, reading_of, waits_of};
 ghost use Rattle.syslog_collect.specs.History.{AcceptedEvent, history_of};
 ghost use Rattle.syslog_collect.specs.Runs.{accepted_event};
 ghost use Rattle.octet_devices.specs.Device.{count_on};
@@ -55,7 +55,7 @@ fn serve_event<S: Store, N: Output>(
         → (accepted : List AcceptedEvent) × (told : List ℕ)
         × Stands S.entries collector.new first (before ++ accepted)
         × Appends (N.state notes.old).taken (N.state notes.new).taken told
-        × EventServed (clock_of collector.old) (history_of before) (waits_of collector.old)
+        × EventServed (reading_of collector.old) (history_of before) (waits_of collector.old)
         (waits_of collector.new) lines.old.number lines.new.number result
         (accepted_event event.entry) accepted told
         × OnOk result (lines.new.refused ≡ (lines.old.refused || has_some told)) }
@@ -65,7 +65,7 @@ fn serve_event<S: Store, N: Output>(
         → UnlessMemory result (NoneWaits collector.new) }
     ensures failures { NotesFail result (N.state notes.old).failures (N.state notes.new).failures }
     ensures going { ¬ (IsErrOf result Stopped.Endless) }
-    ensures clock { clock_of collector.new ≡ clock_of collector.old }
+    ensures reading { reading_of collector.new ≡ reading_of collector.old }
 {
     let received = receive(alloc, collector, event, &mut lines.outcomes);
     match received {
@@ -116,7 +116,7 @@ fn serve_step<S: Store, N: Output>(
         × (event_of (given_of step buf.now) ≡ Some event)
         × Stands S.entries collector.new first (before ++ accepted)
         × Appends (N.state notes.old).taken (N.state notes.new).taken told
-        × EventServed (clock_of collector.old) (history_of before) (waits_of collector.old)
+        × EventServed (reading_of collector.old) (history_of before) (waits_of collector.old)
         (waits_of collector.new) lines.old.number lines.new.number result event accepted told
         × OnOk result (lines.new.refused ≡ (lines.old.refused || has_some told)) }
     ensures settled { (first : List Entry) (before : List AcceptedEvent)
@@ -125,7 +125,7 @@ fn serve_step<S: Store, N: Output>(
         → UnlessMemory result (NoneWaits collector.new) }
     ensures failures { NotesFail result (N.state notes.old).failures (N.state notes.new).failures }
     ensures going { ¬ (IsErrOf result Stopped.Endless) }
-    ensures clock { clock_of collector.new ≡ clock_of collector.old }
+    ensures reading { reading_of collector.new ≡ reading_of collector.old }
 {
     let event = event_of_step(step, buf);
     serve_event(alloc, collector, event, notes, lines)
@@ -153,7 +153,7 @@ fn serve_next<S: Store, R: Source, N: Output>(
         × GaveNext (R.state source.old) (R.state source.new) (length buf.new) given
         × Stands S.entries collector.new first (before ++ accepted)
         × Appends (N.state notes.old).taken (N.state notes.new).taken told
-        × StepServed (clock_of collector.old) (history_of before) (waits_of collector.old)
+        × StepServed (reading_of collector.old) (history_of before) (waits_of collector.old)
         (waits_of collector.new) lines.old.number lines.new.number result given accepted told
         × OnOk result (lines.new.refused ≡ (lines.old.refused || has_some told)) }
     ensures settled { (first : List Entry) (before : List AcceptedEvent)
@@ -164,7 +164,7 @@ fn serve_next<S: Store, R: Source, N: Output>(
     ensures steps { (R.state source.new).steps ≡ count_on (R.state source.old).steps }
     ensures finishes { FinishesBy result (R.state source.old).finishes (R.state source.new).finishes }
     ensures going { ¬ (IsErrOf result Stopped.Endless) }
-    ensures clock { clock_of collector.new ≡ clock_of collector.old }
+    ensures reading { reading_of collector.new ≡ reading_of collector.old }
 {
     let step = source.next(buf);
     match step {
@@ -192,7 +192,7 @@ pub(crate) fn serve_steps<S: Store, R: Source, N: Output>(
         × GaveSteps (R.state source.old) (R.state source.new) given
         × Stands S.entries collector.new first (before ++ accepted)
         × Appends (N.state notes.old).taken (N.state notes.new).taken told
-        × StepsServed (clock_of collector.old) (history_of before) (waits_of collector.old)
+        × StepsServed (reading_of collector.old) (history_of before) (waits_of collector.old)
         (waits_of collector.new) result given accepted told }
     ensures settled { (first : List Entry) (before : List AcceptedEvent)
         → Stands S.entries collector.old first before
@@ -204,7 +204,7 @@ pub(crate) fn serve_steps<S: Store, R: Source, N: Output>(
         × ((R.state source.new).finishes ≡ (R.state source.old).finishes) }
     ensures finished { (R.state source.old).finishes < 2 ^ 63
         → OnOk result ((R.state source.old).finishes < (R.state source.new).finishes) }
-    ensures clock { clock_of collector.new ≡ clock_of collector.old }
+    ensures reading { reading_of collector.new ≡ reading_of collector.old }
 {
     let Ok(mut buf) = make_room(alloc) else {
         return Err(Stopped::Memory);
@@ -241,7 +241,7 @@ pub fn serve<S: Store, R: Source, N: Output>(
         × GaveSteps (R.state source.old) (R.state source.new) given
         × Stands S.entries collector.new first (before ++ accepted)
         × Appends (N.state notes.old).taken (N.state notes.new).taken told
-        × ServesTo (clock_of collector.old) (history_of before) (waits_of collector.old)
+        × ServesTo (reading_of collector.old) (history_of before) (waits_of collector.old)
         (waits_of collector.new) result (N.state notes.old).failures (N.state notes.new).failures given
         accepted told }
     // No frame is left ready, unless memory ran out.
@@ -254,7 +254,7 @@ pub fn serve<S: Store, R: Source, N: Output>(
         × ((R.state source.new).finishes ≡ (R.state source.old).finishes) }
     ensures finished { (R.state source.old).finishes < 2 ^ 63
         → IfEndDone result ((R.state source.old).finishes < (R.state source.new).finishes) }
-    ensures clock { clock_of collector.new ≡ clock_of collector.old }
+    ensures reading { reading_of collector.new ≡ reading_of collector.old }
 {
     match serve_steps(alloc, collector, source, notes) {
         Ok(refused) => ServeEnd::Done { refused },

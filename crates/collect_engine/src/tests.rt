@@ -13,6 +13,7 @@ use std::net::{TcpListener, TcpStream, UdpSocket};
 use std::test::Fail;
 use syslog_collect::Collector;
 use syslog_frame::Framing;
+use syslog_legacy::FrameReading;
 
 const A: &[u8] = b"<13>1 - h a - - - x";
 
@@ -26,7 +27,7 @@ fn collected<R: Source>(alloc: Global, source: &mut R) -> Result<(u8, Vec<u8>, V
         transport: Transport::Udp,
         port: 514,
         count: 2,
-        clock: None,
+        reading: FrameReading::from(None),
     };
     let mut writer = ToWrite::new(Vec::new(alloc));
     let mut notes = ToWrite::new(Vec::new(alloc));

@@ -22,7 +22,7 @@ returns-in-Err-Step-clause-served g c first before was =
       made.4,
       made.5,
       inl (
-        stopped_as c.args.collector.now.clock (history_of before) (waiting c.args.collector.now.connections.items)
+        stopped_as c.args.collector.now.reading (history_of before) (waiting c.args.collector.now.connections.items)
             (waiting c.serve_steps.new.collector.connections.items) here.field-0 stopped.Step made.0 made.1
             made.2 here.field-0-is made.6,
         stopped_fails here.field-0 stopped.Step _ _ here.field-0-is here.ensures.failures,
@@ -45,7 +45,7 @@ returns-in-Err-Notes-clause-served g c first before was =
       made.4,
       made.5,
       inr (
-        stopped_as c.args.collector.now.clock (history_of before) (waiting c.args.collector.now.connections.items)
+        stopped_as c.args.collector.now.reading (history_of before) (waiting c.args.collector.now.connections.items)
             (waiting c.serve_steps.new.collector.connections.items) here.field-0 stopped.Notes made.0 made.1
             made.2 here.field-0-is made.6,
         stopped_fails here.field-0 stopped.Notes _ _ here.field-0-is here.ensures.failures,
@@ -68,7 +68,7 @@ returns-in-Err-Endless-clause-served g c first before was =
       made.4,
       made.5,
       (
-        stopped_as c.args.collector.now.clock (history_of before) (waiting c.args.collector.now.connections.items)
+        stopped_as c.args.collector.now.reading (history_of before) (waiting c.args.collector.now.connections.items)
             (waiting c.serve_steps.new.collector.connections.items) here.field-0 stopped.Endless made.0 made.1
             made.2 here.field-0-is made.6,
         stopped_fails here.field-0 stopped.Endless _ _ here.field-0-is here.ensures.failures,
@@ -91,7 +91,7 @@ returns-in-Err-Memory-clause-served g c first before was =
       made.4,
       made.5,
       inl (
-        stopped_as c.args.collector.now.clock (history_of before) (waiting c.args.collector.now.connections.items)
+        stopped_as c.args.collector.now.reading (history_of before) (waiting c.args.collector.now.connections.items)
             (waiting c.serve_steps.new.collector.connections.items) here.field-0 stopped.Memory made.0 made.1
             made.2 here.field-0-is made.6,
         stopped_fails here.field-0 stopped.Memory _ _ here.field-0-is here.ensures.failures,
@@ -109,7 +109,7 @@ returns-in-Err-MemoryAndNotes-clause-served g c first before was =
       made.4,
       made.5,
       inr (
-        stopped_as c.args.collector.now.clock (history_of before) (waiting c.args.collector.now.connections.items)
+        stopped_as c.args.collector.now.reading (history_of before) (waiting c.args.collector.now.connections.items)
             (waiting c.serve_steps.new.collector.connections.items) here.field-0 stopped.MemoryAndNotes made.0 made.1
             made.2 here.field-0-is made.6,
         stopped_fails here.field-0 stopped.MemoryAndNotes _ _ here.field-0-is here.ensures.failures,

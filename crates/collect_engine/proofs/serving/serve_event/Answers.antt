@@ -29,7 +29,7 @@ returns-in-Memory-clause-served g c first before was =
       noted.0,
       made.1,
       noted.1,
-      out_of_memory_served c.args.collector.now.clock (history_of before)
+      out_of_memory_served c.args.collector.now.reading (history_of before)
           (waiting c.args.collector.now.connections.items) v n c.write-noted.new.self.number e os made.0 noted.0
           c.write-noted.result c.out_of_memory.result c.out_of_memory.ensures made.2 lines,
       tt,
@@ -55,7 +55,7 @@ returns-in-Accepted-clause-served g c first before was =
       noted.0,
       made.1,
       noted.1,
-      event_served c.args.collector.now.clock (history_of before) (waiting c.args.collector.now.connections.items)
+      event_served c.args.collector.now.reading (history_of before) (waiting c.args.collector.now.connections.items)
           (waiting c.receive-received.new.collector.connections.items) n c.write.new.self.number
           (accepted_event c.args.event) r os made.0 noted.0 c.write.result (going r c.in-Accepted.is) made.2 noted.2
           c.write.ensures.number,

@@ -18,22 +18,22 @@ invariant-loop-turn g l = record {
   steps : (g.R.Source.state l.fn.source).steps < 2 ^ 63
       → (g.R.Source.state l.source).steps ≡ (g.R.Source.state l.fn.source).steps + l._turn;
   finishes : (g.R.Source.state l.source).finishes ≡ (g.R.Source.state l.fn.source).finishes;
-  clock : l.collector.clock ≡ l.fn.collector.clock;
+  reading : l.collector.reading ≡ l.fn.collector.reading;
   room : FRAME_MAX < vec_len l.buf;
   failures : (g.N.Output.state l.notes).failures ≡ (g.N.Output.state l.fn.notes).failures;
   settled : (first : List Entry) (before : List AcceptedEvent)
-      → Stands l.fn.collector.clock l.fn.collector.connections.items (g.S.Store.entries l.fn.collector.store) first
+      → Stands l.fn.collector.reading l.fn.collector.connections.items (g.S.Store.entries l.fn.collector.store) first
       before
       → IsSettled l.fn.collector.connections.items → IsSettled l.collector.connections.items;
   served : (first : List Entry) (before : List AcceptedEvent)
-      → Stands l.fn.collector.clock l.fn.collector.connections.items (g.S.Store.entries l.fn.collector.store) first
+      → Stands l.fn.collector.reading l.fn.collector.connections.items (g.S.Store.entries l.fn.collector.store) first
       before
       → (given : List Given) × (accepted : List AcceptedEvent) × (told : List ℕ)
       × GaveSteps (g.R.Source.state l.fn.source) (g.R.Source.state l.source) given
-      × Stands l.collector.clock l.collector.connections.items (g.S.Store.entries l.collector.store) first
+      × Stands l.collector.reading l.collector.connections.items (g.S.Store.entries l.collector.store) first
       (before ++ accepted)
       × Appends (g.N.Output.state l.fn.notes).taken (g.N.Output.state l.notes).taken told
-      × ServesAll l.fn.collector.clock (history_of before) (waiting l.fn.collector.connections.items)
+      × ServesAll l.fn.collector.reading (history_of before) (waiting l.fn.collector.connections.items)
       (waiting l.collector.connections.items) 1 l.lines.number given accepted told
       × (length given ≡ l._turn) × (l.lines.refused ≡ has_some told);
 }
