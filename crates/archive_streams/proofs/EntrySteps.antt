@@ -1,5 +1,5 @@
 -- An archive that is read entry by entry, as its user sees it.
-use Rattle.std.proofs.Common.{◌≡◌, ℕ, ◌+◌, ◌*◌, ◌<◌, ◌≤◌, List, [], ◌∷◌, ◌++◌, length, refl, sym, ap, subst, ◌∙◌}
+use Rattle.std.proofs.Common.{◌≡◌, ℕ, ◌+◌, ◌-◌, ◌*◌, ◌<◌, ◌≤◌, List, [], ◌∷◌, ◌++◌, length, refl, sym, ap, subst, ◌∙◌}
 use Rattle.std.proofs.Common.{append-nil, arith}
 use Rattle.std.specs.Prelude.{◌≢◌}
 use Rattle.std.specs.Fmt.{decimal}
@@ -18,7 +18,7 @@ use Rattle.archive_text.proofs.Prefixes.{archive_fault, longest_faulty}
 use Rattle.archive_streams.specs.Entries.{HasRead, IsBegun, IsCauseOf, IsCutShort, IsWhole}
 use Rattle.archive_streams.specs.EntryTexts.{entry_in, HoldsEntry, IsAbove}
 use Rattle.archive_streams.specs.Pieces.{HasFewCalls, ReadsOn, unused}
-use Rattle.archive_streams.specs.Sides.{Due, IsNextFault, IsSideStop, IsStopCause, ReadTo}
+use Rattle.archive_streams.specs.Sides.{Due, IsNear, IsNextFault, IsSideStop, IsStopCause, ReadTo}
 use Rattle.archive_streams.specs.declared.entry.EntryText.{EntryText}
 use Rattle.archive_streams.specs.declared.fault.InputFault.TheVariants.{Device, Endless}
 use Rattle.archive_streams.specs.declared.fault.SideFault.{SideFault}
@@ -76,6 +76,20 @@ goes_on p s t last d e f es still same h above r position read =
       ends = ends_with es t.entry (some_text t.entry h);
     } in
     subst (λ (q : Progress). HasRead q t d f (es ++ entry_in t.entry ∷ [])) (sym still) next
+
+-- and fewer octets are still to come
+pub comes_nearer : (s t : ArchiveReader) → IsNear t → HoldsEntry t.entry
+    → t.position ≡ s.position + length t.entry.text.items
+    → READ_MAX * READER_CALLS - t.position < READ_MAX * READER_CALLS - s.position
+comes_nearer s t near h position =
+    omega (
+      arith,
+      near,
+      t.pieces.few,
+      position,
+      ap length h.text_is,
+      length-append (decimal (length (entry_in t.entry).octets)) (32 ∷ (entry_in t.entry).octets),
+    )
 
 -- the end is found
 whole_of : (t : ArchiveReader) (d f : InputState) (x : List ℕ) (es : List Entry) → ReadTo t d f x es

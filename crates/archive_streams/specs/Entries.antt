@@ -1,5 +1,5 @@
 -- An archive that is read entry by entry, as its user sees it.
-use Rattle.std.specs.Prelude.{◌≡◌, ℕ, ◌+◌, ◌*◌, ◌^◌, ◌<◌, ◌≤◌, List, [], ◌∷◌, ◌++◌, length}
+use Rattle.std.specs.Prelude.{◌≡◌, ℕ, ◌+◌, ◌-◌, ◌*◌, ◌^◌, ◌<◌, ◌≤◌, List, [], ◌∷◌, ◌++◌, length}
 use Rattle.std.specs.Io.KnownBytes.{Consumes, IsAtEnd}
 use Rattle.octet_devices.specs.Device.{InputState}
 use Rattle.octet_devices.specs.declared.loops.TheConstants.{READ_MAX, READER_CALLS}
@@ -30,6 +30,10 @@ IsOpen s = s.progress ≡ Open
 -- the end was found, or a fault
 abbrev pub IsClosed : ArchiveEntries → Type 0
 IsClosed s = ¬ (s.progress ≡ Open)
+
+-- how many octets the calls that a reader may get can still give, at most, behind the last entry that was read
+abbrev pub still_to_come : ArchiveEntries → ℕ
+still_to_come s = READ_MAX * READER_CALLS - s.reader.position
 
 -- a reader that stood at `d` gave its end, and all that it gave is the archive of these entries
 pub record IsWhole (d e : InputState) (es : List Entry) : Type 0 where
@@ -74,6 +78,7 @@ Reads s d e es = HasRead s.progress s.reader d e es
 pub record ReadsOne (s t : ArchiveEntries) (e f : InputState) : Type 0 where
   pub open_before : IsOpen s
   pub open_after : IsOpen t
+  pub nearer : still_to_come t < still_to_come s
   pub reads : (d : InputState) (es : List Entry) → Reads s d e es → Reads t d f (es ++ current t ∷ [])
 
 -- there is no further one: the archive is whole

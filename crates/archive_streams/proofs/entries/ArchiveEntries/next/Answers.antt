@@ -1,6 +1,6 @@
 use Rattle.std.proofs.Common.{rules, ◌≡◌, ◌+◌, ◌∙◌, IsTrue, false, length, refl, ap, arith}
 use Rattle.archive_streams.specs.EntryTexts.{entry_in}
-use Rattle.archive_streams.proofs.EntrySteps.{ends_whole, goes_on, stops_short}
+use Rattle.archive_streams.proofs.EntrySteps.{comes_nearer, ends_whole, goes_on, stops_short}
 use Rattle.archive_streams.proofs.entries.ArchiveEntries.next.Goals as goal
 
 pub returns-in-Ok-true-clause-entry : goal.returns-in-Ok-true-clause-entry
@@ -14,6 +14,7 @@ returns-in-Ok-true-clause-entry g c = λ _.
     record {
       open_before = c.in-Open.is;
       open_after = c.in-Open.is;
+      nearer = comes_nearer s.reader t c.in-Ok-true.ensures.on.near next.holds position;
       reads = λ d es read.
           goes_on s.progress s.reader t c.swap.new.x d _ _ es c.in-Open.is c.swap.ensures.x_after next.holds next.above
           c.next.ensures.reads position read;
