@@ -1,0 +1,3 @@
+pub mod Selecting
+pub mod Steps
+pub mod Stops

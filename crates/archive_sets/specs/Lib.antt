@@ -1,0 +1,5 @@
+pub mod Conditions
+pub mod Selections
+pub mod Failures
+pub mod Selected
+pub mod Selecting
