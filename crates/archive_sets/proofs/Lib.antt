@@ -1,3 +1,4 @@
 pub mod Selecting
 pub mod Steps
 pub mod Stops
+pub mod SelectionLaws

@@ -1,7 +1,6 @@
 -- The steps of a selection.
-use Rattle.std.proofs.Common.{◌≡◌, ℕ, ◌+◌, ◌*◌, ◌^◌, ◌<◌, ◌≤◌, List, [], ◌∷◌, ◌++◌, Option, length, refl, sym, ap, subst}
+use Rattle.std.proofs.Common.{◌≡◌, ℕ, ◌+◌, ◌^◌, ◌<◌, ◌≤◌, List, [], ◌∷◌, ◌++◌, Option, length, sym, ap, subst}
 use Rattle.std.proofs.Common.{◌∙◌, arith}
-use Rattle.std.specs.Prelude.{Result, Ok, Err, IsErrAnd, MatchResult}
 use Rattle.std.proofs.lemmas.List.{length-append}
 use Rattle.octet_devices.specs.Device.{InputState}
 use Rattle.octet_devices.specs.Held.{Carries, Held, StopsWithin}
@@ -9,21 +8,13 @@ use Rattle.octet_devices.proofs.Carrying.{Carries-new}
 use Rattle.archive_text.specs.Entries.{Entry}
 use Rattle.archive_text.specs.Text.{entry_text, text_of}
 use Rattle.archive_text.proofs.Texts.{text_length, text_push}
-use Rattle.archive_streams.specs.Entries.{current, Ends, IsBegun, IsCutShort, Reads, ReadsOne}
+use Rattle.archive_streams.specs.Entries.{current, IsBegun, Reads, ReadsOne}
 use Rattle.archive_streams.specs.declared.entries.ArchiveEntries.{ArchiveEntries}
-use Rattle.archive_streams.specs.declared.fault.SideFault.{SideFault}
 use Rattle.archive_streams.proofs.EntrySteps.{begun}
-use Rattle.archive_sets.specs.Selecting.{Copied, Halted, IsFresh, IsHalt, KeepsOutput, Looking, Selecting, Selects}
-use Rattle.archive_sets.specs.declared.fault.SelectFault.{SelectFault}
-use Rattle.archive_sets.specs.declared.fault.SelectFault.TheVariants.{Archive, Read, Endless, Write, Memory}
+use Rattle.archive_sets.specs.Selecting.{Halted, IsFresh, KeepsOutput, Looking, Selecting, Selects}
+use Rattle.archive_sets.specs.declared.fault.SelectFault.TheVariants.{Write}
 use Rattle.archive_sets.specs.declared.selection.Selection.{Selection}
 use Rattle.archive_sets.proofs.Selecting.{no_more_than_octets, selection_nil, selection_passes, selection_takes}
-
--- what holds of the fault of a `?`
-pub at_err : {T E : Type 0} (r : Result T E) (e : E) (Q : T → Type 0) (F : E → Type 0) → IsErrAnd r (λ x. x ≡ e) → F e
-    → MatchResult r Q F
-at_err (Ok x) e Q F h f = absurd h
-at_err (Err x) e Q F h f = subst F (sym h) f
 
 -- before the first entry
 pub selecting_none : (meets : Entry → Type 0) (s : Selection) (d : InputState) (start : Option (List ℕ)) → IsFresh s
@@ -61,66 +52,11 @@ looks meets s t d e f start now same one w = record {
   selects = selects_same meets s t w.xs w.ys start now same w.selects;
 }
 
--- the end is found
-pub copied : (meets : Entry → Type 0) (s t : Selection) (d e f : InputState) (start now : Option (List ℕ))
-    → KeepsOutput s t → Ends s.entries t.entries e f → Selecting meets s d e start now → Copied meets t d f start now
-copied meets s t d e f start now same ends w = record {
-  xs = w.xs;
-  ys = w.ys;
-  whole = ends.whole d w.xs w.reads;
-  selects = selects_same meets s t w.xs w.ys start now same w.selects;
-}
-
 -- the text of what is selected is no longer than what was given
 short_begun : (d e : InputState) (xs ys : List Entry) → IsBegun d e xs → length (text_of ys) ≤ length (text_of xs)
     → length (text_of ys) < 2 ^ 63
 short_begun d e xs ys b short =
     omega (arith, short, b.short, ap length b.parts, length-append (text_of xs) b.rest)
-
-short_cut : (fault : SideFault) (d e : InputState) (xs ys : List Entry) → IsCutShort fault d e xs
-    → length (text_of ys) ≤ length (text_of xs) → length (text_of ys) < 2 ^ 64
-short_cut fault d e xs ys b short =
-    omega (arith, short, b.short, ap length b.front.parts, length-append (text_of xs) b.rest)
-
--- no entry comes next
-pub halts : (meets : Entry → Type 0) (fault : SelectFault) (s t : Selection) (d e f : InputState)
-    (start now : Option (List ℕ)) → KeepsOutput s t → IsHalt fault s.entries t.entries e f
-    → Selecting meets s d e start now → Halted meets fault t.held d f start now
-halts meets (Archive fault) s t d e f start now same h w =
-    let read = h.cut_short d w.xs w.reads in
-    let selects = selects_same meets s t w.xs w.ys start now same w.selects in
-    record {
-      xs = w.xs;
-      ys = w.ys;
-      read = read;
-      selection = selects.selection;
-      short = short_cut _ d f w.xs w.ys read selects.short;
-      under_way = selects.carries;
-    }
-halts meets Read s t d e f start now same h w =
-    let read = h.cut_short d w.xs w.reads in
-    let selects = selects_same meets s t w.xs w.ys start now same w.selects in
-    record {
-      xs = w.xs;
-      ys = w.ys;
-      read = read;
-      selection = selects.selection;
-      short = short_cut _ d f w.xs w.ys read selects.short;
-      under_way = selects.carries;
-    }
-halts meets Endless s t d e f start now same h w =
-    let read = h.cut_short d w.xs w.reads in
-    let selects = selects_same meets s t w.xs w.ys start now same w.selects in
-    record {
-      xs = w.xs;
-      ys = w.ys;
-      read = read;
-      selection = selects.selection;
-      short = short_cut _ d f w.xs w.ys read selects.short;
-      under_way = selects.carries;
-    }
-halts meets (Write sent) s t d e f start now same h w = absurd h
-halts meets Memory s t d e f start now same h w = absurd h
 
 -- ---- the entry that was read last
 

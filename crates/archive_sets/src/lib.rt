@@ -7,6 +7,7 @@
 mod condition;
 mod copying;
 mod fault;
+mod laws;
 mod range;
 mod select;
 mod selection;
@@ -15,5 +16,9 @@ mod tests;
 
 pub use condition::{Both, Condition, OnlyUndated};
 pub use fault::SelectFault;
+pub use laws::{
+    selecting_by_both_is_selecting_by_each, selecting_distributes_over_union,
+    selecting_is_idempotent, selections_are_archives, selections_of_one_text_begin_alike,
+};
 pub use range::InRange;
 pub use select::select_stream;

@@ -1,7 +1,7 @@
-use Rattle.std.proofs.Common.{rules, IsTrue, ◌≡◌, ◌<◌, ◌∙◌, false, refl, sym, subst}
+use Rattle.std.proofs.Common.{rules, IsTrue, ◌<◌, ◌∙◌, refl, sym, subst}
 use Rattle.archive_streams.specs.Entries.{IsOpen, still_to_come}
 use Rattle.archive_streams.specs.declared.entries.ArchiveEntries.{ArchiveEntries}
-use Rattle.archive_sets.proofs.Steps.{at_err, copied, few_selected, halts, looks, selecting_none}
+use Rattle.archive_sets.proofs.Steps.{few_selected, looks, selecting_none}
 use Rattle.archive_sets.proofs.selection.Selection.copy.Goals as goal
 
 pub entries-init : goal.entries-init
