@@ -2,3 +2,4 @@ pub mod Selecting
 pub mod Steps
 pub mod Stops
 pub mod SelectionLaws
+pub mod Records

@@ -3,3 +3,4 @@ pub mod Selections
 pub mod Failures
 pub mod Selected
 pub mod Selecting
+pub mod Fields

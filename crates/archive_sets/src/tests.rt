@@ -1,9 +1,12 @@
-use crate::{Both, Condition, InRange, OnlyUndated, SelectFault, select_stream};
+use crate::{
+    AsSevereAs, Both, Condition, HasWord, InRange, OfFacility, OnlyUndated, SelectFault, WordField,
+    select_stream,
+};
 use archive_streams::{ArchiveEntries, EntriesFault};
 use archive_text::ArchiveFault;
 use octet_devices::{FromRead, Fuse, ToWrite};
 use std::test::Fail;
-use syslog_value::{Civil, Instant};
+use syslog_value::{Civil, Facility, Instant, Severity};
 
 // the texts of three entries, in their order
 const A: &[u8] = b"19 <13>1 - h a - - - x";
@@ -85,6 +88,36 @@ fn records_without_a_time_are_selected_where_that_is_asked_for(
     let (answer, written) = selected(&rt, &both, ALL);
     assert_eq!(rt; answer, Ok(1));
     assert_eq!(rt; written.as_slice(), A);
+    Ok(())
+}
+
+#[test]
+fn records_are_selected_by_their_fields(rt: HostRuntime) -> Result<(), Fail> {
+    let notice = AsSevereAs {
+        severity: Severity::Notice,
+    };
+    let (answer, written) = selected(&rt, &notice, ALL);
+    assert_eq!(rt; answer, Ok(2));
+    assert_eq!(rt; written.as_slice(), &ALL[..70]);
+    let user = OfFacility {
+        facility: Facility::User,
+    };
+    assert_eq!(rt; selected(&rt, &user, ALL).0, Ok(3));
+    let host = HasWord {
+        field: WordField::Hostname,
+        word: Some(b"h"),
+    };
+    assert_eq!(rt; selected(&rt, &host, ALL).0, Ok(3));
+    let named = HasWord {
+        field: WordField::ProcId,
+        word: Some(b"1"),
+    };
+    assert_eq!(rt; selected(&rt, &named, ALL).0, Ok(0));
+    let unnamed = HasWord {
+        field: WordField::MsgId,
+        word: None,
+    };
+    assert_eq!(rt; selected(&rt, &unnamed, ALL).0, Ok(3));
     Ok(())
 }
 
