@@ -8,3 +8,4 @@ pub mod Unions
 pub mod Merges
 pub mod Halts
 pub mod Stops
+pub mod EntrySteps

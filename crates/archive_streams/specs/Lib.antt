@@ -5,6 +5,7 @@ pub mod Faults
 pub mod Counting
 pub mod Joining
 pub mod Sides
+pub mod Entries
 pub mod Merging
 pub mod Joins
 pub mod Joined

@@ -1,19 +1,23 @@
 //! Two archives of syslog records, each a text larger than memory, are joined as they are read from
 //! two devices and written to a third.
 //!
-//! [`merge_streams`] holds three entries, whatever the archives hold.
+//! [`merge_streams`] holds three entries, whatever the archives hold. [`ArchiveEntries`] reads one
+//! archive entry by entry, and holds two.
 #![tactic(auto)]
 
+mod entries;
 mod entry;
 mod fault;
 mod join;
 mod merge;
 mod pieces;
+mod progress;
 mod reading;
 mod side;
 #[cfg(test)]
 mod tests;
 mod validation;
 
-pub use fault::{MergeFault, Side};
+pub use entries::ArchiveEntries;
+pub use fault::{InputFault, MergeFault, Side, SideFault as EntriesFault};
 pub use join::merge_streams;

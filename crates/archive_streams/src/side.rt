@@ -35,6 +35,7 @@ impl ArchiveReader {
         ensures position { IfOk result (λ r. r.position ≡ 0) }
         ensures room { IfOk result (λ r. TEXT_MAX ≤ vec_capacity r.entry.text) }
         ensures empty { IfOk result (λ r. r.entry.text.items ≡ []) }
+        ensures start { IfOk result (λ r. r.entry.start ≤ vec_len r.entry.text) }
     {
         Ok(ArchiveReader {
             pieces: Pieces::new(),

@@ -1,0 +1,5 @@
+pub mod Selecting
+pub mod Steps
+pub mod Stops
+pub mod SelectionLaws
+pub mod Records

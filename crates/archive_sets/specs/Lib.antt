@@ -1,0 +1,6 @@
+pub mod Conditions
+pub mod Selections
+pub mod Failures
+pub mod Selected
+pub mod Selecting
+pub mod Fields

@@ -1,0 +1,28 @@
+//! Sets of syslog records, each kept as an archive larger than memory: what is chosen of one as it is
+//! read from a device.
+//!
+//! [`select_stream`] writes the archive of the records that meet a [`Condition`].
+#![tactic(auto)]
+
+mod condition;
+mod copying;
+mod fault;
+mod fields;
+mod laws;
+mod range;
+mod select;
+mod selection;
+#[cfg(test)]
+mod tests;
+mod word_field;
+
+pub use condition::{Both, Condition, OnlyUndated};
+pub use fault::SelectFault;
+pub use fields::{AsSevereAs, HasWord, OfFacility};
+pub use laws::{
+    selecting_by_both_is_selecting_by_each, selecting_distributes_over_union,
+    selecting_is_idempotent, selections_are_archives, selections_of_one_text_begin_alike,
+};
+pub use range::InRange;
+pub use select::select_stream;
+pub use word_field::WordField;
