@@ -15,7 +15,14 @@ pub use archive_laws::{
 };
 pub use archive_migration::{migrate, migrate_into};
 pub use archive_pages::PagedArchive;
-pub use archive_streams::{MergeFault, Side, merge_streams};
+pub use archive_sets::{
+    AsSevereAs, Both, Condition, HasWord, InRange, OfFacility, OnlyUndated, SelectFault, WordField,
+    select_stream, selecting_by_both_is_selecting_by_each, selecting_distributes_over_union,
+    selecting_is_idempotent, selections_are_archives, selections_of_one_text_begin_alike,
+};
+pub use archive_streams::{
+    ArchiveEntries, EntriesFault, InputFault, MergeFault, Side, merge_streams,
+};
 pub use archive_text::{
     AddFault, Added, ArchiveFault, ENTRY_MAX, EntryFault, EntryView, Store, entry_of_octets,
     put_entry, read_entry,
