@@ -3,11 +3,11 @@
 # The options of a command.
 _syslogbox_options() {
     case $1 in
-        check | show | archive) echo "--framing --legacy --zone --help" ;;
-        convert) echo "--framing --to --legacy --zone --help" ;;
+        check | show | archive) echo "--framing --trim --legacy --zone --dialect --help" ;;
+        convert) echo "--framing --to --trim --legacy --zone --dialect --help" ;;
         merge | migrate) echo "--help" ;;
         send) echo "--facility --severity --up-to --framing --host --app --proc --msgid --micros --help" ;;
-        collect) echo "--legacy --zone --help" ;;
+        collect) echo "--trim --legacy --zone --dialect --help" ;;
     esac
 }
 
@@ -20,6 +20,7 @@ _syslogbox_values() {
             echo "kern user mail daemon auth syslog lpr news uucp cron authpriv ftp ntp audit alert clock"
             echo "local0 local1 local2 local3 local4 local5 local6 local7"
             ;;
+        *" --dialect") echo "bsd wide" ;;
         *" --severity" | *" --up-to") echo "emerg alert crit err warning notice info debug" ;;
         *" --legacy" | *" --zone" | *" --host" | *" --app" | *" --proc" | *" --msgid" | *" --micros") ;;
         *) return 1 ;;

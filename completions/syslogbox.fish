@@ -22,8 +22,10 @@ set -l severities emerg alert crit err warning notice info debug
 
 complete -c syslogbox -n "__fish_seen_subcommand_from $reading" -x -l framing -a 'datagram counted lf' -d 'Framing of the input'
 complete -c syslogbox -n "__fish_seen_subcommand_from convert" -x -l to -a 'counted lf' -d 'Framing of the output'
+complete -c syslogbox -n "__fish_seen_subcommand_from $dated" -l trim -d 'Drop one line end or NUL at the end of each frame'
 complete -c syslogbox -n "__fish_seen_subcommand_from $dated" -x -l legacy -d 'Read legacy packets too, in this year'
 complete -c syslogbox -n "__fish_seen_subcommand_from $dated" -x -l zone -d 'Zone of their times'
+complete -c syslogbox -n "__fish_seen_subcommand_from $dated" -x -l dialect -a 'bsd wide' -d 'How they are spelled'
 complete -c syslogbox -n "__fish_seen_subcommand_from merge migrate" -F
 complete -c syslogbox -n "__fish_seen_subcommand_from collect" -a 'udp counted lf' -d 'How records come'
 complete -c syslogbox -n "__fish_seen_subcommand_from help" -a "$reading merge migrate send collect"

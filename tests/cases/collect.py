@@ -39,6 +39,12 @@ COLLECTED = [
      entries(b"<13>1 - - - - - - z", b"<13>1 2001-02-05T17:32:18.000000Z h - - - -"), b""),
     ("counted", [b"1 x"], ["--legacy=2001"], 0, entries(b"<13>1 - - - - - - x"), b""),
     ("udp", [A], ["--zone", "W0500"], 0, entries(A), b""),
+    ("udp", [A + b"\n", A + b"\0", A], ["--trim"], 0, entries(A), b""),
+    ("udp", [A + b"\n", A], [], 0, entries(A, A + b"\n"), b""),
+    ("counted", [entries(A + b"\r\n", Y), entries(Y + b"\n")], ["--trim"], 0, entries(A, Y), b""),
+    ("lf", [A + b"\r\n", Y + b"\0\n" + A + b"\n"], ["--trim"], 0, entries(A, Y), b""),
+    ("udp", [b"<13>Feb  5 17:32:18 h\n", b"z\r\n"], [*LEGACY_2001, "--trim"], 0,
+     entries(b"<13>1 - - - - - - z", b"<13>1 2001-02-05T17:32:18.000000Z h - - - -"), b""),
 ]
 
 

@@ -322,6 +322,53 @@ LEGACY = [
     ("help of collect", ["help", "collect"], HELLO, 2, b"", None),
 ]
 
+TRIM = ["--trim"]
+WIDE = ["--dialect", "wide"]
+# a line end or a NUL, of which one is dropped from the end of a frame
+ENDS = [b"\r\n", b"\n", b"\r", b"\0"]
+FULL = HELLO + b"x" * (262_144 - 24)
+
+# words, standard input, status, standard output, standard error (None: any text, but some)
+TRIMMED = [
+    *[("an end is dropped", ["convert", *TRIM], HELLO + end, 0, HELLO, b"") for end in [b"", *ENDS]],
+    *[("an end is an octet of the record", ["convert"], HELLO + end, 0, HELLO + end, b"") for end in ENDS],
+    *[("an end is dropped once", ["convert", *TRIM], HELLO + first + end, 0, HELLO + first, b"")
+      for first in [b"\n", b"\r\n", b"\0", b" "] for end in ENDS if first + end != b"\r\n"],
+    *[("an octet inside is kept", ["convert", *TRIM], HELLO + end + b"x", 0, HELLO + end + b"x", b"") for end in ENDS],
+    *[("other octets at the end are kept", ["convert", *TRIM], HELLO + end, 0, HELLO + end, b"")
+      for end in [b" ", b"\t", b"\n ", b"\x0b", b"\xff", b"\\n"]],
+    *[("an end alone is no record", ["check", *TRIM], end, 1, b"1 syntax priority 0\n", b"") for end in ENDS],
+    *[("a fault at the end", [command, *TRIM], b"<0>1 - ab" + end, 1,
+       b"1 syntax hostname 9\n" if command == "check" else b"", b"" if command == "check" else b"1 syntax hostname 9\n")
+      for command in ["check", "convert", "show", "archive"] for end in ENDS],
+    ("a fault before it", ["check", *TRIM], b"<192>1 -\r\n", 1, b"1 syntax priority 3\n", b""),
+    ("a whole frame at the limit", ["convert", *TRIM], FULL[:-1] + b"\n", 0, FULL[:-1], b""),
+    ("too long before it is trimmed", ["check", *TRIM], FULL + b"\n", 1, b"1 too-long\n", b""),
+    ("lines without their carriage returns", ["convert", *LF, *TRIM], A + b"\r\n" + A + b"\n" + A + b"\0\n", 0, (A + b"\n") * 3, b""),
+    ("counted records as lines", ["convert", *COUNTED, *TRIM, "--to", "lf"], entries(A + b"\n", A, A + b"\r\n"), 0, (A + b"\n") * 3, b""),
+    ("a second line feed is in the record", ["convert", *COUNTED, *TRIM, "--to", "lf"], entries(A + b"\n\n"), 1, b"", b"1 has-lf\n"),
+    *[("two routes are one archive", ["archive", *framing, *TRIM], octets, 0, entries(A, Y), b"")
+      for framing, octets in [(LF, A + b"\r\n" + Y + b"\n" + A + b"\n"), (COUNTED, entries(Y + b"\0", A + b"\n", A))]],
+    ("positions are those of the stream", ["check", *COUNTED, *TRIM], entries(A + b"\n") + b"x", 1, b"1 ok\n2 bad-count %d\n" % (4 + len(A)), b""),
+    ("the last line is unterminated", ["check", *LF, *TRIM], A + b"\r\n" + A + b"\r", 1, b"1 ok\nunterminated %d\n" % (2 + len(A)), b""),
+    *[("a legacy packet", ["convert", *TRIM, *LEGACY_2001], STAMP + b"h t: m" + end, 0, IN_2001 + b"h t - - - m", b"") for end in ENDS],
+    *[("an end alone is the empty packet", ["convert", *TRIM, *LEGACY_2001], end, 0, NIL_13, b"") for end in ENDS],
+    ("the fields of a record", ["show", *TRIM], HELLO + b"\n", 0,
+     b"record 1\npriority 165 local4 notice\ntime -\nhost -\napp -\nproc -\nmsgid -\nmessage any \"hello\"\n", b""),
+    *[("trim takes no value", [command, "--trim=true"], HELLO, 2, b"", None) for command in ["check", "convert", "show", "archive"]],
+    ("trim given twice", ["check", *TRIM, *TRIM], HELLO, 2, b"", None),
+    ("send does not trim", ["send", *TRIM, "x"], b"", 2, b"", None),
+    ("merge does not trim", ["merge", *TRIM, "a", "b"], b"", 2, b"", None),
+    *[("a dialect without a year has no effect", [command, "--dialect", dialect], HELLO, 0, output, b"")
+      for command, output in [("check", b"1 ok\n"), ("convert", HELLO), ("archive", entries(HELLO))] for dialect in ["bsd", "wide"]],
+    ("a dialect without a year is no clock", ["check", *WIDE], STAMP + b"h", 1, b"1 syntax version 4\n", b""),
+    ("the packets of RFC 3164", ["convert", *LEGACY_2001, "--dialect", "bsd"], STAMP + b"h t: m", 0, IN_2001 + b"h t - - - m", b""),
+    *[("a dialect that is none", [command, *clock, "--dialect", dialect], HELLO, 2, b"", None)
+      for command in ["check", "convert", "show", "archive"] for clock in [[], LEGACY_2001] for dialect in ["", "BSD", "wide ", "rfc3164"]],
+    ("a dialect given twice", ["check", *LEGACY_2001, *WIDE, *WIDE], HELLO, 2, b"", None),
+    ("send has no dialect", ["send", *WIDE, "x"], b"", 2, b"", None),
+]
+
 # words of `collect` that are refused before anything is bound
 NOT_COLLECTED = [
     [], ["udp"], ["udp", "5140"], ["udp", "5140", "1", "1"], ["tcp", "5140", "1"], ["UDP", "5140", "1"], ["datagram", "5140", "1"],

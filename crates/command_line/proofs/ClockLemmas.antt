@@ -1,7 +1,7 @@
 -- The clock of legacy packets, as words write it.
 use Rattle.std.proofs.Common.{◌≡◌, ℕ, ◌+◌, ◌*◌, ◌<◌, ◌≤◌, ◌-◌, ◌-ℤ◌, ℤ, pos, neg_ℤ, List, [], ◌∷◌, Bool, true}
 use Rattle.std.proofs.Common.{false, T, Option, Some, None, length, slice_index, drop, take, to_z, of_z, w16, refl}
-use Rattle.std.proofs.Common.{ap, ap₂, sym, ◌∙◌, arith}
+use Rattle.std.proofs.Common.{ap, ap₂, sym, subst, ◌∙◌, arith}
 use Rattle.std.specs.Prelude.{◌≤ℤ◌, IsSome, IfSome, ◌↔◌, if◌then◌else◌, option_and_then, option_map}
 use Rattle.std.specs.Int.Signed.{le_z_yes}
 use Rattle.std.proofs.Math.Facts.{leb_yes, yes_leb}
@@ -13,6 +13,8 @@ use Rattle.command_line.proofs.NumberLemmas.{number_small}
 use Rattle.syslog_legacy.specs.Clocks.{IsYear}
 use Rattle.command_line.specs.Clocks.{clock_at, minutes_of, where_holds, zone_of}
 use Rattle.command_line.specs.Numbers.{number_in}
+use Rattle.syslog_legacy.specs.declared.clock.Dialect.{Dialect}
+use Rattle.syslog_legacy.specs.declared.clock.Dialect.TheVariants.{Bsd}
 use Rattle.syslog_legacy.specs.declared.clock.LegacyClock.{LegacyClock}
 
 -- an offset of less than a day either way
@@ -27,21 +29,27 @@ never : (t : Bool) (answer : T t → Option LegacyClock) → ((a : T t) → answ
 never true answer h = h tt
 never false answer h = refl
 
-abbrev made : (year : ℕ) (offset : ℤ) → IsYear year → IsOffset offset → LegacyClock
-made year offset p q = record { year = year; offset_minutes = offset; year_valid = p; offset_valid = q }
+abbrev made : (year : ℕ) (offset : ℤ) → Dialect → IsYear year → IsOffset offset → LegacyClock
+made year offset dialect p q = record {
+  year = year;
+  offset_minutes = offset;
+  dialect = dialect;
+  year_valid = p;
+  offset_valid = q;
+}
 
-same_clock : (c : LegacyClock) (p : IsYear c.year) (q : IsOffset c.offset_minutes)
-    → made c.year c.offset_minutes p q ≡ c
-same_clock c p q =
+same_clock : (c : LegacyClock) (d : Dialect) (p : IsYear c.year) (q : IsOffset c.offset_minutes)
+    → made c.year c.offset_minutes d p q ≡ record c { dialect = d }
+same_clock c d p q =
     let one_year : IsProp (IsYear c.year) = hlevel props in
     let one_offset : IsProp (IsOffset c.offset_minutes) = hlevel props in
-    λ i. made c.year c.offset_minutes (one_year p c.year_valid i) (one_offset q c.offset_valid i)
+    λ i. made c.year c.offset_minutes d (one_year p c.year_valid i) (one_offset q c.offset_valid i)
 
-clock_is : (c : LegacyClock) → clock_at c.year c.offset_minutes ≡ Some c
-clock_is c =
+clock_is : (c : LegacyClock) → c.dialect ≡ Bsd → clock_at c.year c.offset_minutes ≡ Some c
+clock_is c bsd =
     holds _ _ (yes_leb c.year_valid.0) ∙ holds _ _ (yes_leb c.year_valid.1)
     ∙ holds _ _ c.offset_valid.0.le ∙ holds _ _ c.offset_valid.1.le
-    ∙ ap Some (same_clock c _ _)
+    ∙ ap Some (same_clock c Bsd _ _) ∙ ap (λ (d : Dialect). Some (record c { dialect = d })) (sym bsd)
 
 no_clock : (year : ℕ) (offset : ℤ) → ¬ (IsYear year × IsOffset offset) → clock_at year offset ≡ None
 no_clock year offset n =
@@ -51,10 +59,26 @@ no_clock year offset n =
 -- the answer of `LegacyClock::new`
 pub new_clock : (year : ℕ) (offset z : ℤ) (r : Option LegacyClock) → z ≡ offset
     → IsSome r ↔ (IsYear year × IsOffset z) → IfSome r (λ c. c.year ≡ year) → IfSome r (λ c. c.offset_minutes ≡ z)
-    → r ≡ clock_at year offset
-new_clock year offset z None same v e f =
+    → IfSome r (λ c. c.dialect ≡ Bsd) → r ≡ clock_at year offset
+new_clock year offset z None same v e f bsd =
     sym (no_clock year z (λ h. true≢false (sym (v.1 h)))) ∙ ap (clock_at year) same
-new_clock year offset z (Some c) same v e f = sym (clock_is c) ∙ ap₂ clock_at e (f ∙ same)
+new_clock year offset z (Some c) same v e f bsd = sym (clock_is c bsd) ∙ ap₂ clock_at e (f ∙ same)
+
+moved : (year y : ℕ) (offset o : ℤ) (dialect d : Dialect) (p : IsYear year) (q : IsOffset offset) (r : IsYear y)
+    (s : IsOffset o) → year ≡ y → offset ≡ o → dialect ≡ d → made year offset dialect p q ≡ made y o d r s
+moved year y offset o dialect d p q r s e f g =
+    let one_year : IsProp (IsYear y) = hlevel props in
+    let one_offset : IsProp (IsOffset o) = hlevel props in
+    subst (λ (x : ℕ). (u : IsYear x) → made x offset dialect u q ≡ made y o d r s) (sym e) (λ u.
+    subst (λ (x : ℤ). (v : IsOffset x) → made y x dialect u v ≡ made y o d r s) (sym f) (λ v.
+    (λ i. made y o dialect (one_year u r i) (one_offset v s i)) ∙ ap (λ (x : Dialect). made y o x r s) g) q) p
+
+-- the same clock with another dialect
+pub other_dialect : (c r : LegacyClock) (d : Dialect) → r.year ≡ c.year → r.offset_minutes ≡ c.offset_minutes
+    → r.dialect ≡ d → r ≡ record c { dialect = d }
+other_dialect c r d e f g =
+    moved r.year c.year r.offset_minutes c.offset_minutes r.dialect d r.year_valid r.offset_valid c.year_valid
+    c.offset_valid e f g
 
 pub minutes_found : (digits : List ℕ) (hours minutes h m : ℕ) → length digits ≡ 4
     → Some hours ≡ number_in 0 23 (slice_index digits 0 ∷ slice_index digits 1 ∷ [])

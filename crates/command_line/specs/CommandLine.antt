@@ -1,6 +1,7 @@
 -- The command line: the subcommands, their options and positionals.
 use Rattle.std.specs.Prelude.{[], ◌∷◌, Some, true, codes}
 use Rattle.clap.specs.Walk.{Rule, Text}
+use Rattle.clap.specs.declared.builder.action.ArgAction.TheVariants.{SetTrue}
 use Rattle.clap.specs.Simple.{App, new_app, new_rule, on_top, with_rule, with_subcommand}
 
 -- an option that takes a value
@@ -11,6 +12,10 @@ option_rule id = record (new_rule id) { long = Some id }
 abbrev pub default_rule : Text → Text → Rule
 default_rule id value = record (option_rule id) { defaults = value ∷ [] }
 
+-- an option that takes no value
+abbrev pub flag_rule : Text → Rule
+flag_rule id = record (option_rule id) { action = Some SetTrue }
+
 -- a value that has to be given, by its place
 abbrev pub required_rule : Text → Rule
 required_rule id = record (new_rule id) { required = true }
@@ -18,11 +23,16 @@ required_rule id = record (new_rule id) { required = true }
 -- the options of a command that may read legacy packets
 abbrev pub with_legacy_rules : App → App
 with_legacy_rules a =
-    with_rule (with_rule a (option_rule (codes "legacy"))) (default_rule (codes "zone") (codes "E0000"))
+    with_rule (with_rule (with_rule a (option_rule (codes "legacy"))) (default_rule (codes "zone") (codes "E0000")))
+    (default_rule (codes "dialect") (codes "bsd"))
+
+-- the options that say how frames are read
+abbrev pub with_reading_rules : App → App
+with_reading_rules a = with_legacy_rules (with_rule a (flag_rule (codes "trim")))
 
 -- a command that reads records
 abbrev pub input_app : Text → App
-input_app name = with_legacy_rules (with_rule (new_app name) (default_rule (codes "framing") (codes "datagram")))
+input_app name = with_reading_rules (with_rule (new_app name) (default_rule (codes "framing") (codes "datagram")))
 
 -- the command that reads records and writes them in canonical form
 abbrev pub convert_app : App
@@ -59,7 +69,7 @@ send_app =
 -- the command that receives records from sockets
 abbrev pub collect_app : App
 collect_app =
-    with_legacy_rules (with_rule (with_rule (with_rule (new_app (codes "collect"))
+    with_reading_rules (with_rule (with_rule (with_rule (new_app (codes "collect"))
     (required_rule (codes "TRANSPORT"))) (required_rule (codes "PORT"))) (required_rule (codes "COUNT")))
 
 -- the words do not begin with the program's name, a subcommand is required, and there is a version to tell

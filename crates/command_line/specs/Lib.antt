@@ -1,4 +1,5 @@
 pub mod Clocks
 pub mod CommandLine
 pub mod Numbers
+pub mod Readings
 pub mod Requests

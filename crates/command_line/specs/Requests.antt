@@ -8,13 +8,13 @@ use Rattle.clap.specs.Faults.{fault_of}
 use Rattle.clap.specs.Kinds.{Kinds}
 use Rattle.syslog_frame.specs.declared.framing.Framing.{Framing}
 use Rattle.syslog_frame.specs.declared.framing.Framing.TheVariants.{Counted, Lf}
-use Rattle.syslog_legacy.specs.FrameReadings.{Clock}
+use Rattle.syslog_legacy.specs.declared.frame_reading.FrameReading.{FrameReading}
 use Rattle.collect_engine.specs.declared.collect_words.CollectWords.{CollectWords}
 use Rattle.collect_engine.specs.declared.collect_words.Transport.{Transport}
 use Rattle.collect_engine.specs.declared.collect_words.Transport.TheVariants as transport
-use Rattle.command_line.specs.Clocks.{clock_in}
 use Rattle.command_line.specs.CommandLine.{line_app}
 use Rattle.command_line.specs.Numbers.{number_in}
+use Rattle.command_line.specs.Readings.{reading_in}
 use Rattle.send_engine.specs.Options.{OptionTexts, texts_of}
 use Rattle.frame_engine.specs.declared.input_framing.InputFraming.{InputFraming}
 use Rattle.frame_engine.specs.declared.input_framing.InputFraming.TheVariants.{Datagram, Stream}
@@ -25,10 +25,10 @@ use Rattle.command_line.specs.declared.words.WordsFault.TheVariants.{Usage, Memo
 
 -- a request, its files by their names
 pub data Asked : Type 0 where
-  Check : Clock → InputFraming → Asked
-  Show : Clock → InputFraming → Asked
-  Convert : Clock → InputFraming → Option Framing → Asked
-  Archive : Clock → InputFraming → Asked
+  Check : FrameReading → InputFraming → Asked
+  Show : FrameReading → InputFraming → Asked
+  Convert : FrameReading → InputFraming → Option Framing → Asked
+  Archive : FrameReading → InputFraming → Asked
   Merge : Text → Text → Asked
   Migrate : Text → Asked
   Send : OptionTexts → Asked
@@ -36,10 +36,10 @@ pub data Asked : Type 0 where
 
 -- the request, without where its names lie in memory
 abbrev pub asked_by : Request → Asked
-asked_by (request.Check input_framing clock) = Check clock input_framing
-asked_by (request.Show input_framing clock) = Show clock input_framing
-asked_by (request.Convert input_framing clock to) = Convert clock input_framing to
-asked_by (request.Archive input_framing clock) = Archive clock input_framing
+asked_by (request.Check input_framing way) = Check way input_framing
+asked_by (request.Show input_framing way) = Show way input_framing
+asked_by (request.Convert input_framing way to) = Convert way input_framing to
+asked_by (request.Archive input_framing way) = Archive way input_framing
 asked_by (request.Merge left right) = Merge left.now right.now
 asked_by (request.Migrate file) = Migrate file.now
 asked_by (request.Send options) = Send (texts_of options)
@@ -63,13 +63,13 @@ input_framing_in rows = option_and_then input_framing_of (first_of (codes "frami
 -- `check` with the values of its options
 abbrev pub read_check : List Row → Option Asked
 read_check rows =
-    option_and_then (λ input_framing. option_map (λ clock. Check clock input_framing) (clock_in rows))
+    option_and_then (λ input_framing. option_map (λ way. Check way input_framing) (reading_in rows))
     (input_framing_in rows)
 
 -- `show` with the values of its options
 abbrev pub read_show : List Row → Option Asked
 read_show rows =
-    option_and_then (λ input_framing. option_map (λ clock. Show clock input_framing) (clock_in rows))
+    option_and_then (λ input_framing. option_map (λ way. Show way input_framing) (reading_in rows))
     (input_framing_in rows)
 
 -- the framing of an input, as one of frames
@@ -85,13 +85,13 @@ to_of input_framing (Some name) = option_map (λ kind. Some kind) (framing_of na
 -- `convert` with the values of its options
 abbrev pub read_convert : List Row → Option Asked
 read_convert rows =
-    option_and_then (λ input_framing. option_and_then (λ clock. option_map (λ to. Convert clock input_framing to)
-    (to_of input_framing (first_of (codes "to") rows))) (clock_in rows)) (input_framing_in rows)
+    option_and_then (λ input_framing. option_and_then (λ way. option_map (λ to. Convert way input_framing to)
+    (to_of input_framing (first_of (codes "to") rows))) (reading_in rows)) (input_framing_in rows)
 
 -- `archive` with the values of its options
 abbrev pub read_archive : List Row → Option Asked
 read_archive rows =
-    option_and_then (λ input_framing. option_map (λ clock. Archive clock input_framing) (clock_in rows))
+    option_and_then (λ input_framing. option_map (λ way. Archive way input_framing) (reading_in rows))
     (input_framing_in rows)
 
 -- `merge` with its files
@@ -138,12 +138,12 @@ count_max transport.Lf = 100_000
 -- `collect` with its values
 abbrev pub read_collect : List Row → Option CollectWords
 read_collect rows =
-    option_and_then (λ kind. option_and_then (λ port. option_and_then (λ count. option_map (λ clock. record {
+    option_and_then (λ kind. option_and_then (λ port. option_and_then (λ count. option_map (λ way. record {
       transport = kind;
       port = port;
       count = count;
-      clock = clock;
-    }) (clock_in rows)) (option_and_then (number_in 1 (count_max kind)) (first_of (codes "COUNT") rows)))
+      reading = way;
+    }) (reading_in rows)) (option_and_then (number_in 1 (count_max kind)) (first_of (codes "COUNT") rows)))
     (option_and_then (number_in 1 65_535) (first_of (codes "PORT") rows)))
     (option_and_then transport_of (first_of (codes "TRANSPORT") rows))
 

@@ -1,16 +1,17 @@
-//! The words of `--legacy` and `--zone`.
+//! The words of `--legacy`, `--zone` and `--dialect`.
 
 ghost use Rattle.std.specs.Prelude.{◌≡◌, codes, false, option_map, IfOk};
 ghost use Rattle.clap.specs.Words.{app_of, found_of, rows_of, rule_of};
 ghost use Rattle.clap.specs.declared.builder.command.Command.TheViews.{out-Command as fields_of};
-ghost use Rattle.command_line.specs.Clocks.{clock_at, clock_in, clock_of, minutes_of, zone_of};
+ghost use Rattle.command_line.specs.Clocks.{clock_at, clock_in, clock_of, dialect_of, in_dialect, minutes_of};
+ghost use Rattle.command_line.specs.Clocks.{year_clock_in, zone_of};
 ghost use Rattle.command_line.specs.CommandLine.{with_legacy_rules};
 
 use crate::numbers::{number, two_digits};
 use crate::words::{default_option, described, option, value, with_arg};
 use clap::{ArgMatches, Command};
 use std::alloc::{AllocError, Global};
-use syslog_legacy::LegacyClock;
+use syslog_legacy::{Dialect, LegacyClock};
 
 /// The command with the options of legacy packets.
 pub(crate) fn with_legacy<'a>(
@@ -24,7 +25,10 @@ pub(crate) fn with_legacy<'a>(
     let help = "Read legacy packets (RFC 3164) too, in this year: 1 to 9998";
     let command = with_arg(command, described(option(alloc, "legacy"), help))?;
     let help = "Zone of their times: E (ahead of UTC) or W (behind), hours and minutes, as E0130";
-    with_arg(command, default_option(alloc, "zone", "E0000", help))
+    let command = with_arg(command, default_option(alloc, "zone", "E0000", help))?;
+    let help =
+        "How they are spelled: bsd (RFC 3164) or wide (as devices and programs send them too)";
+    with_arg(command, default_option(alloc, "dialect", "bsd", help))
 }
 
 // Two digits of hours and two of minutes, in minutes.
@@ -69,11 +73,38 @@ fn clock(year: Option<&str>, zone_text: &str) -> Option<Option<LegacyClock>>
     Some(Some(clock_at(year, offset_minutes)?))
 }
 
+// The clock by `--legacy` and `--zone`.
+fn year_clock(matches: &ArgMatches<'_>) -> Option<Option<LegacyClock>>
+    ensures { result ≡ year_clock_in (rows_of (found_of matches.now)) }
+{
+    let zone = value(matches, "zone")?;
+    clock(value(matches, "legacy"), zone)
+}
+
+fn dialect(name: &str) -> Option<Dialect>
+    ensures { result ≡ dialect_of name.now }
+{
+    match name {
+        "bsd" => Some(Dialect::Bsd),
+        "wide" => Some(Dialect::Wide),
+        _ => None,
+    }
+}
+
+// The clock, if there is one, of packets in a dialect.
+fn in_dialect(clock: Option<LegacyClock>, dialect: Dialect) -> Option<LegacyClock>
+    ensures { result ≡ in_dialect dialect clock }
+{
+    let clock = clock?;
+    Some(clock.with_dialect(dialect))
+}
+
 /// The clock of legacy packets by the options, if they are read at all; None where a value of
 /// these options is refused.
 pub fn clock_of_matches(matches: &ArgMatches<'_>) -> Option<Option<LegacyClock>>
     ensures { result ≡ clock_in (rows_of (found_of matches.now)) }
 {
-    let zone = value(matches, "zone")?;
-    clock(value(matches, "legacy"), zone)
+    let dialect = dialect(value(matches, "dialect")?)?;
+    let clock = year_clock(matches)?;
+    Some(in_dialect(clock, dialect))
 }

@@ -7,8 +7,8 @@ ghost use Rattle.command_line.specs.CommandLine.{collect_app};
 ghost use Rattle.command_line.specs.Requests.{Collect, asked_by, collect_asked, collect_by, count_max, parsed};
 ghost use Rattle.command_line.specs.Requests.{read_collect, transport_of};
 
-use crate::clock_words::{clock_of_matches, with_legacy};
 use crate::numbers::number;
+use crate::reading_words::{reading_of_matches, with_reading};
 use crate::words::{command, positional, value, whole_line, with_arg};
 use clap::error::ErrorKind;
 use clap::{ArgMatches, Command};
@@ -32,7 +32,7 @@ pub fn collect_command<'a>(alloc: Global) -> Result<Command<'a>, AllocError>
     let collect = with_arg(collect, positional(alloc, "PORT", "Port: 1 to 65535"))?;
     let help = "How many datagrams (1 to 1000000) or connections (1 to 100000) are received";
     let collect = with_arg(collect, positional(alloc, "COUNT", help))?;
-    with_legacy(alloc, collect)
+    with_reading(alloc, collect)
 }
 
 fn transport(name: &str) -> Option<Transport>
@@ -63,12 +63,12 @@ pub fn read_collect_words(matches: &ArgMatches<'_>) -> Option<CollectWords>
     let transport = transport(value(matches, "TRANSPORT")?)?;
     let port = number(value(matches, "PORT")?, 65_535)? as u16;
     let count = number(value(matches, "COUNT")?, count_max(transport))?;
-    let clock = clock_of_matches(matches)?;
+    let reading = reading_of_matches(matches)?;
     Some(CollectWords {
         transport,
         port,
         count,
-        clock,
+        reading,
     })
 }
 

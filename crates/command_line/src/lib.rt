@@ -5,6 +5,7 @@
 mod clock_words;
 mod collecting;
 mod numbers;
+mod reading_words;
 mod request;
 mod send_words;
 #[cfg(test)]

@@ -4,32 +4,32 @@ use collect_engine::CollectWords;
 use frame_engine::InputFraming;
 use send_engine::SendOptions;
 use syslog_frame::Framing;
-use syslog_legacy::LegacyClock;
+use syslog_legacy::FrameReading;
 
 /// What the words of a command line ask for. Names of files are lent by the words. A command that
-/// has a clock reads legacy packets under it; without one it refuses them.
+/// reads frames reads them as its words say.
 #[derive(Clone, Copy, Debug)]
 pub enum Request<'a> {
     /// `check`: one line for each frame.
     Check {
         input_framing: InputFraming,
-        clock: Option<LegacyClock>,
+        reading: FrameReading,
     },
     /// `show`: the fields of each record, one line each.
     Show {
         input_framing: InputFraming,
-        clock: Option<LegacyClock>,
+        reading: FrameReading,
     },
     /// `convert`: the canonical octets of each record, in a framing, or bare where there is none.
     Convert {
         input_framing: InputFraming,
-        clock: Option<LegacyClock>,
+        reading: FrameReading,
         to: Option<Framing>,
     },
     /// `archive`: the records of the input, as an archive.
     Archive {
         input_framing: InputFraming,
-        clock: Option<LegacyClock>,
+        reading: FrameReading,
     },
     /// `merge`: the archive of the records of two archives.
     Merge {

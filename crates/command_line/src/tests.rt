@@ -3,17 +3,22 @@
 use crate::{Request, WordsFault, collect_words, read_words};
 use collect_engine::{CollectWords, Transport};
 use std::test::Fail;
-use syslog_legacy::LegacyClock;
+use syslog_legacy::{Dialect, FrameReading, LegacyClock};
 
 // forty zeros and a year
 const PADDED: &str = "00000000000000000000000000000000000000002001";
 
-// whether `check` has this clock
-fn checks_under(rt: &HostRuntime, words: &[&str], clock: Option<LegacyClock>) -> bool {
+// whether `check` reads frames so
+fn checks_by(rt: &HostRuntime, words: &[&str], reading: FrameReading) -> bool {
     match read_words(rt.alloc(), words) {
-        Ok(Request::Check { clock: found, .. }) => found == clock,
+        Ok(Request::Check { reading: found, .. }) => found == reading,
         _ => false,
     }
+}
+
+// whether `check` reads whole frames under this clock
+fn checks_under(rt: &HostRuntime, words: &[&str], clock: Option<LegacyClock>) -> bool {
+    checks_by(rt, words, FrameReading { trim: false, clock })
 }
 
 // whether the words are no request
@@ -32,6 +37,49 @@ fn a_clock_has_a_year_and_a_zone(rt: HostRuntime) {
     assert!(rt; checks_under(&rt, &["check", "--legacy", "1", "--zone", "E0130"], first));
     let last = LegacyClock::new(9998, -1439);
     assert!(rt; checks_under(&rt, &["check", "--legacy=9998", "--zone=W2359"], last));
+}
+
+#[test]
+fn a_clock_has_a_dialect(rt: HostRuntime) -> Result<(), Fail> {
+    let bsd = LegacyClock::new(2001, 0).ok_or("no clock")?;
+    let wide = Some(bsd.with_dialect(Dialect::Wide));
+    assert!(rt; checks_under(&rt, &["check", "--dialect", "wide"], None));
+    assert!(rt;
+        checks_under(
+            &rt,
+            &["check", "--legacy", "2001", "--dialect", "bsd"],
+            Some(bsd)
+        )
+    );
+    assert!(rt;
+        checks_under(
+            &rt,
+            &["check", "--legacy", "2001", "--dialect", "wide"],
+            wide
+        )
+    );
+    for dialect in ["", "Wide", "bsd ", "rfc3164"] {
+        assert!(rt; refuses(&rt, &["check", "--legacy", "2001", "--dialect", dialect]));
+        assert!(rt; refuses(&rt, &["archive", "--dialect", dialect]));
+    }
+    Ok(())
+}
+
+#[test]
+fn frames_are_trimmed_where_it_is_said(rt: HostRuntime) {
+    let trimmed = FrameReading {
+        trim: true,
+        clock: None,
+    };
+    let of_2001 = FrameReading {
+        trim: true,
+        clock: LegacyClock::new(2001, 0),
+    };
+    assert!(rt; checks_by(&rt, &["check", "--trim"], trimmed));
+    assert!(rt; checks_by(&rt, &["check", "--legacy", "2001", "--trim"], of_2001));
+    assert!(rt; refuses(&rt, &["check", "--trim=true"]));
+    assert!(rt; refuses(&rt, &["check", "--trim", "--trim"]));
+    assert!(rt; refuses(&rt, &["send", "--trim", "x"]));
 }
 
 #[test]
@@ -60,7 +108,7 @@ fn collect_takes_a_transport_a_port_and_a_count(rt: HostRuntime) {
         transport: Transport::Udp,
         port: 514,
         count: 2,
-        clock: None,
+        reading: FrameReading::from(None),
     };
     assert!(rt; collected(&rt, &["collect", "udp", "514", "2"]) == Ok(Some(two)));
     two.count = 1_000_000;
@@ -68,14 +116,17 @@ fn collect_takes_a_transport_a_port_and_a_count(rt: HostRuntime) {
     two.transport = Transport::Lf;
     two.count = 100_000;
     two.port = 65_535;
-    two.clock = LegacyClock::new(2001, -300);
+    two.reading.clock = LegacyClock::new(2001, -300);
     let words = [
         "collect", "lf", "65535", "100000", "--legacy", "2001", "--zone", "W0500",
     ];
     assert!(rt; collected(&rt, &words) == Ok(Some(two)));
     two.transport = Transport::Counted;
-    two.clock = None;
+    two.reading.clock = None;
     assert!(rt; collected(&rt, &["collect", "counted", "65535", "100000"]) == Ok(Some(two)));
+    two.reading.trim = true;
+    let words = ["collect", "counted", "65535", "100000", "--trim"];
+    assert!(rt; collected(&rt, &words) == Ok(Some(two)));
 }
 
 #[test]

@@ -5,8 +5,7 @@ ghost use Rattle.clap.specs.Walk.{first_of};
 ghost use Rattle.clap.specs.Words.{app_of, found_of, rows_of, rule_of, subcommand_rows_of};
 ghost use Rattle.clap.specs.Simple.{new_app, with_rule, with_subcommand};
 ghost use Rattle.clap.specs.declared.builder.command.Command.TheViews.{out-Command as fields_of};
-ghost use Rattle.command_line.specs.Clocks.{clock_in};
-ghost use Rattle.command_line.specs.CommandLine.{convert_app, default_rule, empty_app, input_app, line_app};
+ghost use Rattle.command_line.specs.CommandLine.{convert_app, default_rule, empty_app, flag_rule, input_app, line_app};
 ghost use Rattle.command_line.specs.CommandLine.{merge_app, migrate_app, option_rule, required_rule};
 ghost use Rattle.command_line.specs.CommandLine.{with_archive_commands, with_frame_commands};
 ghost use Rattle.command_line.specs.Requests.{Collect, IsUsage, asked_by, read_collect};
@@ -14,12 +13,12 @@ ghost use Rattle.command_line.specs.Requests.{input_framing_in, input_framing_of
 ghost use Rattle.command_line.specs.Requests.{own_framing, parsed, read_archive, read_check, read_convert};
 ghost use Rattle.command_line.specs.Requests.{read_merge, read_migrate, read_of, read_show, to_of};
 
-use crate::clock_words::{clock_of_matches, with_legacy};
 use crate::collecting::{collect_command, read_collect_words};
+use crate::reading_words::{reading_of_matches, with_reading};
 use crate::request::Request;
 use crate::send_words::{read_send_words, send_command};
 use clap::error::ErrorKind;
-use clap::{Arg, ArgMatches, Command};
+use clap::{Arg, ArgAction, ArgMatches, Command};
 use frame_engine::InputFraming;
 use std::alloc::{AllocError, Global};
 use std::convert::AsStr;
@@ -77,6 +76,14 @@ pub(crate) fn default_option<'a>(
     described(option(alloc, id), help).default_value(default)
 }
 
+// An option that takes no value, with its help text.
+pub(crate) fn flag<'a>(alloc: Global, id: &'a str, help: &'a str) -> Arg<'a>
+    ensures rule { rule_of result ≡ flag_rule id.entry.now }
+    ensures local { result.global ≡ false }
+{
+    described(option(alloc, id).action(ArgAction::SetTrue), help)
+}
+
 // `--framing`, the framing of the input: a datagram by default.
 fn input_option<'a>(alloc: Global) -> Arg<'a>
     ensures rule { rule_of result ≡ default_rule (codes "framing") (codes "datagram") }
@@ -123,7 +130,7 @@ fn input_command<'a>(
     ensures local { IfOk result (λ c. (fields_of c).has_globals ≡ false) }
 {
     let command = with_arg(command(alloc, name, about), input_option(alloc))?;
-    with_legacy(alloc, command)
+    with_reading(alloc, command)
 }
 
 // The command that reads records and writes them in canonical form.
@@ -255,10 +262,10 @@ fn read_check_words<'a>(matches: &ArgMatches<'a>) -> Option<Request<'a>>
     ensures { option_map asked_by result ≡ read_check (rows_of (found_of matches.now)) }
 {
     let input_framing = input_framing_of_matches(matches)?;
-    let clock = clock_of_matches(matches)?;
+    let reading = reading_of_matches(matches)?;
     Some(Request::Check {
         input_framing,
-        clock,
+        reading,
     })
 }
 
@@ -287,11 +294,11 @@ fn read_convert_words<'a>(matches: &ArgMatches<'a>) -> Option<Request<'a>>
     ensures { option_map asked_by result ≡ read_convert (rows_of (found_of matches.now)) }
 {
     let input_framing = input_framing_of_matches(matches)?;
-    let clock = clock_of_matches(matches)?;
+    let reading = reading_of_matches(matches)?;
     let to = to(input_framing, value(matches, "to"))?;
     Some(Request::Convert {
         input_framing,
-        clock,
+        reading,
         to,
     })
 }
@@ -300,10 +307,10 @@ fn read_show_words<'a>(matches: &ArgMatches<'a>) -> Option<Request<'a>>
     ensures { option_map asked_by result ≡ read_show (rows_of (found_of matches.now)) }
 {
     let input_framing = input_framing_of_matches(matches)?;
-    let clock = clock_of_matches(matches)?;
+    let reading = reading_of_matches(matches)?;
     Some(Request::Show {
         input_framing,
-        clock,
+        reading,
     })
 }
 
@@ -311,10 +318,10 @@ fn read_archive_words<'a>(matches: &ArgMatches<'a>) -> Option<Request<'a>>
     ensures { option_map asked_by result ≡ read_archive (rows_of (found_of matches.now)) }
 {
     let input_framing = input_framing_of_matches(matches)?;
-    let clock = clock_of_matches(matches)?;
+    let reading = reading_of_matches(matches)?;
     Some(Request::Archive {
         input_framing,
-        clock,
+        reading,
     })
 }
 
@@ -374,15 +381,17 @@ fn takes(name: &str) -> &'static str {
         "collect" => {
             "error: TRANSPORT is udp, counted or lf; PORT is 1 to 65535; COUNT is 1 to 1000000 for \
              udp and 1 to 100000 for others; --legacy is a year from 1 to 9998; --zone is E or W, \
-             then hours and minutes in two digits each, as E0130\n"
+             then hours and minutes in two digits each, as E0130; --dialect is bsd or wide\n"
         }
         "convert" => {
             "error: --framing is datagram, counted or lf; --to is counted or lf; --legacy is a year \
-             from 1 to 9998; --zone is E or W, then hours and minutes in two digits each, as E0130\n"
+             from 1 to 9998; --zone is E or W, then hours and minutes in two digits each, as E0130; \
+             --dialect is bsd or wide\n"
         }
         _ => {
             "error: --framing is datagram, counted or lf; --legacy is a year from 1 to 9998; --zone \
-             is E or W, then hours and minutes in two digits each, as E0130\n"
+             is E or W, then hours and minutes in two digits each, as E0130; --dialect is bsd or \
+             wide\n"
         }
     }
 }

@@ -1,7 +1,7 @@
 -- What the words ask for is what the request says.
 use Rattle.std.proofs.Common.{◌≡◌, ◌∙◌, sym, ap, subst, Option, Some}
 use Rattle.syslog_frame.specs.declared.framing.Framing.{Framing}
-use Rattle.syslog_legacy.specs.FrameReadings.{Clock}
+use Rattle.syslog_legacy.specs.declared.frame_reading.FrameReading.{FrameReading}
 use Rattle.frame_engine.specs.declared.input_framing.InputFraming.{InputFraming}
 use Rattle.send_engine.specs.Options.{OptionTexts, texts_of}
 use Rattle.send_engine.specs.declared.options.SendOptions.{SendOptions}
@@ -13,7 +13,7 @@ same_asked : (asked : Request) (one other : Asked) (parses : Option Asked) → a
     → parses ≡ Some (asked_by asked) → parses ≡ Some other → Some one ≡ Some other
 same_asked asked one other parses is f g = ap (λ (a : Asked). Some a) (sym is) ∙ sym f ∙ g
 
-pub same_check : (c d : InputFraming) (k l : Clock) (asked : Request) (parses : Option Asked)
+pub same_check : (c d : InputFraming) (k l : FrameReading) (asked : Request) (parses : Option Asked)
     → asked ≡ request.Check c k → parses ≡ Some (asked_by asked) → parses ≡ Some (Check l d)
     → (c ≡ d) × (k ≡ l)
 same_check c d k l asked parses is f g =
@@ -21,7 +21,7 @@ same_check c d k l asked parses is f g =
     same_asked asked (Check k c) (Check l d) parses (ap asked_by is) f g in
     (cc, cc)
 
-pub same_show : (c d : InputFraming) (k l : Clock) (asked : Request) (parses : Option Asked)
+pub same_show : (c d : InputFraming) (k l : FrameReading) (asked : Request) (parses : Option Asked)
     → asked ≡ request.Show c k → parses ≡ Some (asked_by asked) → parses ≡ Some (Show l d)
     → (c ≡ d) × (k ≡ l)
 same_show c d k l asked parses is f g =
@@ -29,7 +29,7 @@ same_show c d k l asked parses is f g =
     same_asked asked (Show k c) (Show l d) parses (ap asked_by is) f g in
     (cc, cc)
 
-pub same_convert : (c d : InputFraming) (k l : Clock) (to into : Option Framing) (asked : Request)
+pub same_convert : (c d : InputFraming) (k l : FrameReading) (to into : Option Framing) (asked : Request)
     (parses : Option Asked) → asked ≡ request.Convert c k to → parses ≡ Some (asked_by asked)
     → parses ≡ Some (Convert l d into) → (c ≡ d) × (k ≡ l) × (to ≡ into)
 same_convert c d k l to into asked parses is f g =

@@ -3,7 +3,7 @@ use Rattle.std.proofs.Common.{◌≡◌, ℕ, List, [], inl, inr, Option, None, 
 use Rattle.std.proofs.KnownBytes.{Appends-nil}
 use Rattle.std.specs.Prelude.{IsSome}
 use Rattle.octet_devices.specs.Device.{InputState, OutputState}
-use Rattle.syslog_legacy.specs.FrameReadings.{Clock}
+use Rattle.syslog_legacy.specs.declared.frame_reading.FrameReading.{FrameReading}
 use Rattle.syslog_frame.specs.declared.framing.Framing.{Framing}
 use Rattle.driver.specs.Devices.{Devices, Reports, devices}
 use Rattle.driver.specs.Effects.{Done, nothing}
@@ -34,31 +34,31 @@ ran_input M old new status one r = record { ran = r; prefix = r.begins one }
 
 -- ---- each command on the standard input
 
-pub ran_check : (clock : Clock) (framing : InputFraming) (stored : Stored) (old new : Devices) (status : ℕ)
-    → Ran (input_meaning (check_handling clock) refused_line framing) old new status
-    → RanAs (Check clock framing) stored old new status
-ran_check clock framing stored old new status r =
-    ran_input (input_meaning (check_handling clock) refused_line framing) old new status
-    (input_laws (check_handling clock) refused_line framing (check_output clock)) r
+pub ran_check : (way : FrameReading) (framing : InputFraming) (stored : Stored) (old new : Devices) (status : ℕ)
+    → Ran (input_meaning (check_handling way) refused_line framing) old new status
+    → RanAs (Check way framing) stored old new status
+ran_check way framing stored old new status r =
+    ran_input (input_meaning (check_handling way) refused_line framing) old new status
+    (input_laws (check_handling way) refused_line framing (check_output way)) r
 
-pub ran_show : (clock : Clock) (framing : InputFraming) (stored : Stored) (old new : Devices) (status : ℕ)
-    → Ran (input_meaning (show_handling clock) noted_line framing) old new status
-    → RanAs (Show clock framing) stored old new status
-ran_show clock framing stored old new status r =
-    ran_input (input_meaning (show_handling clock) noted_line framing) old new status
-    (input_laws (show_handling clock) noted_line framing (show_output clock)) r
+pub ran_show : (way : FrameReading) (framing : InputFraming) (stored : Stored) (old new : Devices) (status : ℕ)
+    → Ran (input_meaning (show_handling way) noted_line framing) old new status
+    → RanAs (Show way framing) stored old new status
+ran_show way framing stored old new status r =
+    ran_input (input_meaning (show_handling way) noted_line framing) old new status
+    (input_laws (show_handling way) noted_line framing (show_output way)) r
 
-pub ran_convert : (clock : Clock) (framing : InputFraming) (to : Option Framing) (stored : Stored) (old new : Devices)
-    (status : ℕ) → Ran (input_meaning (convert_handling clock to) noted_line framing) old new status
-    → RanAs (Convert clock framing to) stored old new status
-ran_convert clock framing to stored old new status r =
-    ran_input (input_meaning (convert_handling clock to) noted_line framing) old new status
-    (input_laws (convert_handling clock to) noted_line framing (convert_output clock to)) r
+pub ran_convert : (way : FrameReading) (framing : InputFraming) (to : Option Framing) (stored : Stored) (old new : Devices)
+    (status : ℕ) → Ran (input_meaning (convert_handling way to) noted_line framing) old new status
+    → RanAs (Convert way framing to) stored old new status
+ran_convert way framing to stored old new status r =
+    ran_input (input_meaning (convert_handling way to) noted_line framing) old new status
+    (input_laws (convert_handling way to) noted_line framing (convert_output way to)) r
 
-pub ran_archive : (clock : Clock) (framing : InputFraming) (stored : Stored) (old new : Devices) (status : ℕ)
-    → Ran (archive_meaning clock framing) old new status → RanAs (Archive clock framing) stored old new status
-ran_archive clock framing stored old new status r =
-    ran_input (archive_meaning clock framing) old new status (archive_laws clock framing) r
+pub ran_archive : (way : FrameReading) (framing : InputFraming) (stored : Stored) (old new : Devices) (status : ℕ)
+    → Ran (archive_meaning way framing) old new status → RanAs (Archive way framing) stored old new status
+ran_archive way framing stored old new status r =
+    ran_input (archive_meaning way framing) old new status (archive_laws way framing) r
 
 -- ---- files
 
@@ -78,22 +78,22 @@ nothing_begun D T (Stream kind) = (nothing_goes_on D kind, nothing_part D kind)
 pub unstarted_as : (asked : Asked) (stored : Stored) (old : Devices) (d : OutputState) (status : ℕ)
     → Reports (codes "want of memory\n") NO_MEMORY old.diagnostics d status
     → RanAs asked stored old (devices old.input old.output d) status
-unstarted_as (Check clock framing) stored old d status t =
-    let b = nothing_begun (check_handling clock) refused_line framing in
-    ran_check clock framing stored old _ status
-    (unstarted (input_meaning (check_handling clock) refused_line framing) old d status b.0 b.1 t)
-unstarted_as (Show clock framing) stored old d status t =
-    let b = nothing_begun (show_handling clock) noted_line framing in
-    ran_show clock framing stored old _ status
-    (unstarted (input_meaning (show_handling clock) noted_line framing) old d status b.0 b.1 t)
-unstarted_as (Convert clock framing to) stored old d status t =
-    let b = nothing_begun (convert_handling clock to) noted_line framing in
-    ran_convert clock framing to stored old _ status
-    (unstarted (input_meaning (convert_handling clock to) noted_line framing) old d status b.0 b.1 t)
-unstarted_as (Archive clock framing) stored old d status t =
-    let b = nothing_begun (archive_handling clock) noted_line framing in
-    ran_archive clock framing stored old _ status
-    (unstarted (archive_meaning clock framing) old d status b.0 b.1 t)
+unstarted_as (Check way framing) stored old d status t =
+    let b = nothing_begun (check_handling way) refused_line framing in
+    ran_check way framing stored old _ status
+    (unstarted (input_meaning (check_handling way) refused_line framing) old d status b.0 b.1 t)
+unstarted_as (Show way framing) stored old d status t =
+    let b = nothing_begun (show_handling way) noted_line framing in
+    ran_show way framing stored old _ status
+    (unstarted (input_meaning (show_handling way) noted_line framing) old d status b.0 b.1 t)
+unstarted_as (Convert way framing to) stored old d status t =
+    let b = nothing_begun (convert_handling way to) noted_line framing in
+    ran_convert way framing to stored old _ status
+    (unstarted (input_meaning (convert_handling way to) noted_line framing) old d status b.0 b.1 t)
+unstarted_as (Archive way framing) stored old d status t =
+    let b = nothing_begun (archive_handling way) noted_line framing in
+    ran_archive way framing stored old _ status
+    (unstarted (archive_meaning way framing) old d status b.0 b.1 t)
 unstarted_as (Merge left right) stored old d status t = inl (refl, t)
 unstarted_as (Migrate file) stored old d status t = inl (refl, t)
 unstarted_as (Send texts) stored old d status t = record {

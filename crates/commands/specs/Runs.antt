@@ -65,13 +65,13 @@ RanCollect w w_new n n_new status =
 
 -- so of each command
 abbrev pub RanAs : Asked → Stored → Devices → Devices → ℕ → Type 0
-RanAs (Check clock framing) stored old new status =
-    RanInput (input_meaning (check_handling clock) refused_line framing) old new status
-RanAs (Show clock framing) stored old new status =
-    RanInput (input_meaning (show_handling clock) noted_line framing) old new status
-RanAs (Convert clock framing to) stored old new status =
-    RanInput (input_meaning (convert_handling clock to) noted_line framing) old new status
-RanAs (Archive clock framing) stored old new status = RanInput (archive_meaning clock framing) old new status
+RanAs (Check way framing) stored old new status =
+    RanInput (input_meaning (check_handling way) refused_line framing) old new status
+RanAs (Show way framing) stored old new status =
+    RanInput (input_meaning (show_handling way) noted_line framing) old new status
+RanAs (Convert way framing to) stored old new status =
+    RanInput (input_meaning (convert_handling way to) noted_line framing) old new status
+RanAs (Archive way framing) stored old new status = RanInput (archive_meaning way framing) old new status
 RanAs (Merge left right) stored old new status =
     RanMergeFiles stored left right old.output new.output old.diagnostics new.diagnostics status
 RanAs (Migrate file) stored old new status =
@@ -83,10 +83,10 @@ RanAs (Collect words) stored old new status =
 
 -- the commands that read the standard input
 abbrev pub ReadsInput : Asked → Type 0
-ReadsInput (Check clock framing) = Unit {0}
-ReadsInput (Show clock framing) = Unit {0}
-ReadsInput (Convert clock framing to) = Unit {0}
-ReadsInput (Archive clock framing) = Unit {0}
+ReadsInput (Check way framing) = Unit {0}
+ReadsInput (Show way framing) = Unit {0}
+ReadsInput (Convert way framing to) = Unit {0}
+ReadsInput (Archive way framing) = Unit {0}
 ReadsInput (Merge left right) = ⊥
 ReadsInput (Migrate file) = ⊥
 ReadsInput (Send texts) = ⊥

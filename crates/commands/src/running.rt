@@ -89,30 +89,30 @@ pub fn run<R: Input, W: Output, N: Output, F: Files>(
     match request {
         Request::Check {
             input_framing,
-            clock,
+            reading,
         } => {
-            let check = Check { clock };
+            let check = Check { reading };
             scan_input(alloc, input_framing, check, input, output, diagnostics)
         }
         Request::Show {
             input_framing,
-            clock,
+            reading,
         } => {
-            let show = Show { alloc, clock };
+            let show = Show { alloc, reading };
             scan_input(alloc, input_framing, show, input, output, diagnostics)
         }
         Request::Convert {
             input_framing,
-            clock,
+            reading,
             to,
         } => {
-            let convert = Convert { alloc, clock, to };
+            let convert = Convert { alloc, reading, to };
             scan_input(alloc, input_framing, convert, input, output, diagnostics)
         }
         Request::Archive {
             input_framing,
-            clock,
-        } => archive_input(alloc, input_framing, clock, input, output, diagnostics),
+            reading,
+        } => archive_input(alloc, input_framing, reading, input, output, diagnostics),
         Request::Merge { left, right } => {
             merge_files(alloc, left, right, output, diagnostics, files)
         }

@@ -6,6 +6,7 @@ mod legacy;
 mod rows;
 mod sending;
 mod streams;
+mod trimmed;
 
 use super::memory::{MemoryFile, MemoryFiles};
 use super::running::run;

@@ -92,17 +92,38 @@ fn legacy_packets_are_handled(rt: HostRuntime) -> Result<(), Fail> {
     let alloc = rt.alloc();
     let clock = clock();
     let most = u64::MAX;
-    let checked = ran(alloc, LINES, Check { reading: FrameReading::from(clock) }, STREAM, most, most);
+    let checked = ran(
+        alloc,
+        LINES,
+        Check {
+            reading: FrameReading::from(clock),
+        },
+        STREAM,
+        most,
+        most,
+    );
     expect(checked, REFUSED, CHECKED, b"")?;
     let converted = ran(alloc, LINES, converts(alloc, clock), STREAM, most, most);
     expect(converted, REFUSED, CONVERTED, NOTED)?;
-    let shown = ran(alloc, LINES, Show { alloc, reading: FrameReading::from(clock) }, STREAM, most, most);
+    let shown = ran(
+        alloc,
+        LINES,
+        Show {
+            alloc,
+            reading: FrameReading::from(clock),
+        },
+        STREAM,
+        most,
+        most,
+    );
     expect(shown, REFUSED, SHOWN, NOTED)
 }
 
 #[test]
 fn without_a_clock_no_packet_is_legacy(rt: HostRuntime) -> Result<(), Fail> {
-    let check = Check { reading: FrameReading::from(None) };
+    let check = Check {
+        reading: FrameReading::from(None),
+    };
     let most = u64::MAX;
     let checked = ran(
         rt.alloc(),
@@ -137,15 +158,32 @@ fn fails_everywhere<D: FrameHandler + Copy + Drop>(
 fn a_writer_that_fails_is_reported(rt: HostRuntime) -> Result<(), Fail> {
     let alloc = rt.alloc();
     let clock = clock();
-    fails_everywhere(alloc, Check { reading: FrameReading::from(clock) }, CHECKED, b"")?;
-    fails_everywhere(alloc, Show { alloc, reading: FrameReading::from(clock) }, SHOWN, NOTED)?;
+    fails_everywhere(
+        alloc,
+        Check {
+            reading: FrameReading::from(clock),
+        },
+        CHECKED,
+        b"",
+    )?;
+    fails_everywhere(
+        alloc,
+        Show {
+            alloc,
+            reading: FrameReading::from(clock),
+        },
+        SHOWN,
+        NOTED,
+    )?;
     fails_everywhere(alloc, converts(alloc, clock), CONVERTED, NOTED)
 }
 
 #[test]
 fn nothing_is_read_behind_a_bad_count(rt: HostRuntime) -> Result<(), Fail> {
     let alloc = rt.alloc();
-    let check = Check { reading: FrameReading::from(None) };
+    let check = Check {
+        reading: FrameReading::from(None),
+    };
     // The second call would fail.
     let bad = ran(alloc, COUNTED, check, b"1 xx", 1, u64::MAX);
     expect(bad, REFUSED, b"1 syntax priority 0\n2 bad-count 3\n", b"")?;
@@ -170,7 +208,9 @@ impl<R: Read> Read for OneByOne<R> {
 #[test]
 fn an_end_at_the_last_call_is_in_time(rt: HostRuntime) -> Result<(), Fail> {
     let alloc = rt.alloc();
-    let check = Check { reading: FrameReading::from(None) };
+    let check = Check {
+        reading: FrameReading::from(None),
+    };
     for (octets, status, output, line) in [
         (
             READER_CALLS - 1,

@@ -7,4 +7,4 @@ pub returns : goal.returns
 returns c =
     new_clock c.args.year c.args.offset_minutes _ c.new.result
     (to_z-of_z w16 c.args.offset_minutes (search rules))
-    c.new.ensures.valid c.new.ensures.year c.new.ensures.offset
+    c.new.ensures.valid c.new.ensures.year c.new.ensures.offset c.new.ensures.dialect

@@ -17,50 +17,50 @@ returns-in-Check-clause-ran g c = λ asked h.
     of_asked (λ (a : Asked). RanAs a (g.F.Files.stored c.args.files.now) (devices (g.R.Input.state c.args.input.now)
     (g.W.Output.state c.args.output.now) (g.N.Output.state c.args.diagnostics.now))
     (devices (g.R.Input.state c.scan_input.new.input) (g.W.Output.state c.scan_input.new.output)
-    (g.N.Output.state c.scan_input.new.diagnostics)) c.scan_input.result) c.in-Ok.request (Check c.in-Check.clock c.in-Check.input_framing) asked _ (ap asked_by c.in-Check.is)
-    c.in-Ok.ensures.ok h (ran_check c.in-Check.clock c.in-Check.input_framing (g.F.Files.stored c.args.files.now) _ _ _ c.scan_input.ensures)
+    (g.N.Output.state c.scan_input.new.diagnostics)) c.scan_input.result) c.in-Ok.request (Check c.in-Check.reading c.in-Check.input_framing) asked _ (ap asked_by c.in-Check.is)
+    c.in-Ok.ensures.ok h (ran_check c.in-Check.reading c.in-Check.input_framing (g.F.Files.stored c.args.files.now) _ _ _ c.scan_input.ensures)
 
 pub returns-in-Check-clause-unread : goal.returns-in-Check-clause-unread
 returns-in-Check-clause-unread g c = λ asked h no.
-    absurd (no (of_asked ReadsInput c.in-Ok.request (Check c.in-Check.clock c.in-Check.input_framing) asked _ (ap asked_by c.in-Check.is) c.in-Ok.ensures.ok h tt))
+    absurd (no (of_asked ReadsInput c.in-Ok.request (Check c.in-Check.reading c.in-Check.input_framing) asked _ (ap asked_by c.in-Check.is) c.in-Ok.ensures.ok h tt))
 
 pub returns-in-Show-clause-ran : goal.returns-in-Show-clause-ran
 returns-in-Show-clause-ran g c = λ asked h.
     of_asked (λ (a : Asked). RanAs a (g.F.Files.stored c.args.files.now) (devices (g.R.Input.state c.args.input.now)
     (g.W.Output.state c.args.output.now) (g.N.Output.state c.args.diagnostics.now))
     (devices (g.R.Input.state c.scan_input-in-Show.new.input) (g.W.Output.state c.scan_input-in-Show.new.output)
-    (g.N.Output.state c.scan_input-in-Show.new.diagnostics)) c.scan_input-in-Show.result) c.in-Ok.request (Show c.in-Show.clock c.in-Show.input_framing) asked _ (ap asked_by c.in-Show.is)
-    c.in-Ok.ensures.ok h (ran_show c.in-Show.clock c.in-Show.input_framing (g.F.Files.stored c.args.files.now) _ _ _ c.scan_input-in-Show.ensures)
+    (g.N.Output.state c.scan_input-in-Show.new.diagnostics)) c.scan_input-in-Show.result) c.in-Ok.request (Show c.in-Show.reading c.in-Show.input_framing) asked _ (ap asked_by c.in-Show.is)
+    c.in-Ok.ensures.ok h (ran_show c.in-Show.reading c.in-Show.input_framing (g.F.Files.stored c.args.files.now) _ _ _ c.scan_input-in-Show.ensures)
 
 pub returns-in-Show-clause-unread : goal.returns-in-Show-clause-unread
 returns-in-Show-clause-unread g c = λ asked h no.
-    absurd (no (of_asked ReadsInput c.in-Ok.request (Show c.in-Show.clock c.in-Show.input_framing) asked _ (ap asked_by c.in-Show.is) c.in-Ok.ensures.ok h tt))
+    absurd (no (of_asked ReadsInput c.in-Ok.request (Show c.in-Show.reading c.in-Show.input_framing) asked _ (ap asked_by c.in-Show.is) c.in-Ok.ensures.ok h tt))
 
 pub returns-in-Convert-clause-ran : goal.returns-in-Convert-clause-ran
 returns-in-Convert-clause-ran g c = λ asked h.
     of_asked (λ (a : Asked). RanAs a (g.F.Files.stored c.args.files.now) (devices (g.R.Input.state c.args.input.now)
     (g.W.Output.state c.args.output.now) (g.N.Output.state c.args.diagnostics.now))
     (devices (g.R.Input.state c.scan_input-in-Convert.new.input) (g.W.Output.state c.scan_input-in-Convert.new.output)
-    (g.N.Output.state c.scan_input-in-Convert.new.diagnostics)) c.scan_input-in-Convert.result) c.in-Ok.request (Convert c.in-Convert.clock c.in-Convert.input_framing c.in-Convert.to) asked _ (ap asked_by c.in-Convert.is)
-    c.in-Ok.ensures.ok h (ran_convert c.in-Convert.clock c.in-Convert.input_framing c.in-Convert.to
+    (g.N.Output.state c.scan_input-in-Convert.new.diagnostics)) c.scan_input-in-Convert.result) c.in-Ok.request (Convert c.in-Convert.reading c.in-Convert.input_framing c.in-Convert.to) asked _ (ap asked_by c.in-Convert.is)
+    c.in-Ok.ensures.ok h (ran_convert c.in-Convert.reading c.in-Convert.input_framing c.in-Convert.to
     (g.F.Files.stored c.args.files.now) _ _ _ c.scan_input-in-Convert.ensures)
 
 pub returns-in-Convert-clause-unread : goal.returns-in-Convert-clause-unread
 returns-in-Convert-clause-unread g c = λ asked h no.
-    absurd (no (of_asked ReadsInput c.in-Ok.request (Convert c.in-Convert.clock c.in-Convert.input_framing c.in-Convert.to) asked _ (ap asked_by c.in-Convert.is) c.in-Ok.ensures.ok h tt))
+    absurd (no (of_asked ReadsInput c.in-Ok.request (Convert c.in-Convert.reading c.in-Convert.input_framing c.in-Convert.to) asked _ (ap asked_by c.in-Convert.is) c.in-Ok.ensures.ok h tt))
 
 pub returns-in-Archive-clause-ran : goal.returns-in-Archive-clause-ran
 returns-in-Archive-clause-ran g c = λ asked h.
     of_asked (λ (a : Asked). RanAs a (g.F.Files.stored c.args.files.now) (devices (g.R.Input.state c.args.input.now)
     (g.W.Output.state c.args.output.now) (g.N.Output.state c.args.diagnostics.now))
     (devices (g.R.Input.state c.archive_input.new.input) (g.W.Output.state c.archive_input.new.output)
-    (g.N.Output.state c.archive_input.new.diagnostics)) c.archive_input.result) c.in-Ok.request (Archive c.in-Archive.clock c.in-Archive.input_framing) asked _ (ap asked_by c.in-Archive.is)
-    c.in-Ok.ensures.ok h (ran_archive c.in-Archive.clock c.in-Archive.input_framing
+    (g.N.Output.state c.archive_input.new.diagnostics)) c.archive_input.result) c.in-Ok.request (Archive c.in-Archive.reading c.in-Archive.input_framing) asked _ (ap asked_by c.in-Archive.is)
+    c.in-Ok.ensures.ok h (ran_archive c.in-Archive.reading c.in-Archive.input_framing
     (g.F.Files.stored c.args.files.now) _ _ _ c.archive_input.ensures)
 
 pub returns-in-Archive-clause-unread : goal.returns-in-Archive-clause-unread
 returns-in-Archive-clause-unread g c = λ asked h no.
-    absurd (no (of_asked ReadsInput c.in-Ok.request (Archive c.in-Archive.clock c.in-Archive.input_framing) asked _ (ap asked_by c.in-Archive.is) c.in-Ok.ensures.ok h tt))
+    absurd (no (of_asked ReadsInput c.in-Ok.request (Archive c.in-Archive.reading c.in-Archive.input_framing) asked _ (ap asked_by c.in-Archive.is) c.in-Ok.ensures.ok h tt))
 
 pub returns-in-Merge-clause-ran : goal.returns-in-Merge-clause-ran
 returns-in-Merge-clause-ran g c = λ asked h.
