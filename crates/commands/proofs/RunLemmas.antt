@@ -1,5 +1,5 @@
 -- What a run of each command does.
-use Rattle.std.proofs.Common.{◌≡◌, ℕ, List, [], inl, inr, Option, None, Some, IfSome, codes, refl, subst, sym, take}
+use Rattle.std.proofs.Common.{◌≡◌, ℕ, List, [], inl, inr, Option, None, Some, IfSome, codes, refl, string_bytes, subst, sym, take, ◌∙◌}
 use Rattle.std.proofs.KnownBytes.{Appends-nil}
 use Rattle.std.specs.Prelude.{IsSome}
 use Rattle.octet_devices.specs.Device.{InputState, OutputState}
@@ -25,8 +25,11 @@ use Rattle.frame_engine.proofs.SessionLemmas.{input_laws, nothing_goes_on, nothi
 use Rattle.archive_engine.specs.Archived.{archive_handling, archive_meaning}
 use Rattle.archive_engine.proofs.ArchiveLemmas.{archive_laws}
 use Rattle.command_line.specs.Requests.{Archive, Asked, Check, Collect, Convert, Merge, Migrate, Send, Show}
+use Rattle.command_line.specs.Requests.{IsUsage}
+use Rattle.command_line.specs.declared.words.WordsFault.{WordsFault}
+use Rattle.command_line.specs.declared.words.WordsFault.TheVariants.{Usage, Memory as words_Memory}
 use Rattle.send_engine.specs.Sending.{OutOfMemory}
-use Rattle.commands.specs.Runs.{RanAs, RanInput, Stored}
+use Rattle.commands.specs.Runs.{RanAs, RanInput, Stored, TellsUsage, TellsWordsFault}
 
 pub ran_input : (M : Meaning) (old new : Devices) (status : ℕ) → HasOneOutput M → Ran M old new status
     → RanInput M old new status
@@ -102,3 +105,18 @@ unstarted_as (Send texts) stored old d status t = record {
   begins = λ done is. (0, Appends-nil old.output.taken);
 }
 unstarted_as (Collect words) stored old d status t = inl (refl, t)
+
+-- ---- arguments that are no request
+
+pub words_refused : (fault : WordsFault) (asked : Asked) (parses : Option Asked) (stored : Stored) (old : Devices)
+    (d : OutputState) (status : ℕ) → (IsUsage fault → parses ≡ None) → parses ≡ Some asked
+    → TellsWordsFault fault old.diagnostics d status → RanAs asked stored old (devices old.input old.output d) status
+words_refused (Usage text) asked parses stored old d status none some told =
+    let clash : None ≡ Some asked = sym (none tt) ∙ some in
+    absurd (cc clash)
+words_refused words_Memory asked parses stored old d status none some told = unstarted_as asked stored old d status told
+
+pub tells_usage : (fault : WordsFault) (n n_new : OutputState) (status : ℕ) → TellsWordsFault fault n n_new status
+    → TellsUsage n n_new status
+tells_usage (Usage text) n n_new status told = inl (string_bytes text, told)
+tells_usage words_Memory n n_new status told = inr told

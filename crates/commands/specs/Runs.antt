@@ -1,5 +1,5 @@
 -- What a run of each command does, whatever the devices do.
-use Rattle.std.specs.Prelude.{◌≡◌, ◌⊎◌, ℕ, List, Option, None, Some, IfSome, IsSome, codes}
+use Rattle.std.specs.Prelude.{◌≡◌, ◌⊎◌, ℕ, List, Option, None, Some, IfSome, IsSome, codes, string_bytes}
 use Rattle.octet_devices.specs.Device.{InputState, OutputState}
 use Rattle.driver.specs.Devices.{Devices, Reports, devices}
 use Rattle.driver.specs.Run.{Ran, WritesPrefix}
@@ -13,6 +13,8 @@ use Rattle.archive_engine.specs.Archived.{archive_meaning}
 use Rattle.archive_engine.specs.Merged.{RanMerge, merge_devices}
 use Rattle.archive_engine.specs.Migrated.{RanMigrate}
 use Rattle.command_line.specs.Requests.{Archive, Asked, Check, Collect, Convert, Merge, Migrate, Send, Show}
+use Rattle.command_line.specs.declared.words.WordsFault.{WordsFault}
+use Rattle.command_line.specs.declared.words.WordsFault.TheVariants.{Usage, Memory as OutOfMemory}
 use Rattle.send_engine.specs.Sending.{RanSend}
 use Rattle.commands.specs.Files.{IsUnused}
 
@@ -97,3 +99,8 @@ abbrev pub TellsUsage : OutputState → OutputState → ℕ → Type 0
 TellsUsage n n_new status =
     ((text : List ℕ) × Reports text FAULT n n_new status)
     ⊎ Reports (codes "want of memory\n") NO_MEMORY n n_new status
+
+-- why arguments are no request is told
+abbrev pub TellsWordsFault : WordsFault → OutputState → OutputState → ℕ → Type 0
+TellsWordsFault (Usage text) n n_new status = Reports (string_bytes text) FAULT n n_new status
+TellsWordsFault OutOfMemory n n_new status = Reports (codes "want of memory\n") NO_MEMORY n n_new status

@@ -1,7 +1,7 @@
 //! What the program does with its arguments, over any devices and files.
 //!
-//! [`run`] reads the arguments, and runs the command that they ask for. [`Files`] finds readers by
-//! name; [`MemoryFiles`] holds files in memory, for tests.
+//! [`run`] reads the arguments, and runs the command that they ask for; [`run_request`] runs that of
+//! a request. [`Files`] finds readers by name; [`MemoryFiles`] holds files in memory, for tests.
 #![tactic(auto)]
 
 mod files;
@@ -12,4 +12,4 @@ mod tests;
 
 pub use files::Files;
 pub use memory::{MemoryFile, MemoryFiles};
-pub use running::run;
+pub use running::{report_words_fault, run, run_request};

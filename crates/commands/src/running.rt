@@ -2,8 +2,9 @@
 
 ghost use Rattle.std.specs.Prelude.{◌≡◌, Some, None, map, string_bytes};
 ghost use Rattle.driver.specs.Devices.{devices};
-ghost use Rattle.command_line.specs.Requests.{Asked, parsed};
+ghost use Rattle.command_line.specs.Requests.{Asked, asked_by, parsed};
 ghost use Rattle.commands.specs.Runs.{RanAs, RanMergeFiles, RanMigrateFile, ReadsInput, TellsUsage};
+ghost use Rattle.commands.specs.Runs.{TellsWordsFault};
 
 use crate::files::Files;
 use archive_engine::{archive_input, merge_archives, migrate_archive};
@@ -52,40 +53,35 @@ fn migrate_file<W: Output, N: Output, F: Files>(
     migrate_archive(alloc, &mut old, output, diagnostics)
 }
 
-/// Does what the arguments ask for and returns the exit status: 0 done, 1 something was refused, 2 the
-/// arguments are wrong or a device failed, 3 out of memory. The arguments do not begin with the
-/// program's name.
-///
-/// Records go to the output, reports of what went wrong to the diagnostics. For arguments that are no
-/// request, and for a request for help, a text goes to the diagnostics and the status is 2.
-pub fn run<R: Input, W: Output, N: Output, F: Files>(
+/// Reports why the arguments are no request, and returns the exit status: `FAULT`, or `NO_MEMORY`
+/// where memory ran out.
+pub fn report_words_fault<N: Output>(fault: &WordsFault, diagnostics: &mut N) -> u8
+    ensures { TellsWordsFault fault.now (N.state diagnostics.old) (N.state diagnostics.new) result }
+{
+    match fault {
+        WordsFault::Usage(text) => report(diagnostics, text.as_bytes(), FAULT),
+        WordsFault::Memory => report(diagnostics, b"want of memory\n", NO_MEMORY),
+    }
+}
+
+/// Does what a request asks for and returns the exit status: 0 done, 1 something was refused, 2 a
+/// device failed, 3 out of memory. Records go to the output, reports of what went wrong to the
+/// diagnostics. `collect` needs sockets, which only a program has: here it is a fault.
+pub fn run_request<R: Input, W: Output, N: Output, F: Files>(
     alloc: Global,
-    args: &[String],
+    request: Request<'_>,
     input: &mut R,
     output: &mut W,
     diagnostics: &mut N,
     files: &mut F,
 ) -> u8
-    // what each command does
-    ensures ran { (asked : Asked) → parsed (map string_bytes args.now) ≡ Some asked →
-        RanAs asked (F.stored files.old)
+    ensures ran { RanAs (asked_by request) (F.stored files.old)
         (devices (R.state input.old) (W.state output.old) (N.state diagnostics.old))
         (devices (R.state input.new) (W.state output.new) (N.state diagnostics.new)) result }
 
     // commands that do not read the standard input leave it as it is
-    ensures unread { (asked : Asked) → parsed (map string_bytes args.now) ≡ Some asked →
-        ¬ (ReadsInput asked) → input.new ≡ input.old }
-
-    // arguments that are no request: nothing is touched but the diagnostics
-    ensures usage { parsed (map string_bytes args.now) ≡ None →
-        TellsUsage (N.state diagnostics.old) (N.state diagnostics.new) result
-        × (output.new ≡ output.old) × (input.new ≡ input.old) × (files.new ≡ files.old) }
+    ensures unread { ¬ (ReadsInput (asked_by request)) → input.new ≡ input.old }
 {
-    let request = match read_words(alloc, args) {
-        Ok(request) => request,
-        Err(WordsFault::Usage(text)) => return report(diagnostics, text.as_bytes(), FAULT),
-        Err(WordsFault::Memory) => return report(diagnostics, b"want of memory\n", NO_MEMORY),
-    };
     match request {
         Request::Check {
             input_framing,
@@ -120,5 +116,40 @@ pub fn run<R: Input, W: Output, N: Output, F: Files>(
         Request::Send { options } => send_text(alloc, &options, output, diagnostics),
         // only `main` has sockets
         Request::Collect { .. } => report(diagnostics, b"socket fault\n", FAULT),
+    }
+}
+
+/// Does what the arguments ask for and returns the exit status: 0 done, 1 something was refused, 2 the
+/// arguments are wrong or a device failed, 3 out of memory. The arguments do not begin with the
+/// program's name.
+///
+/// Records go to the output, reports of what went wrong to the diagnostics. For arguments that are no
+/// request, and for a request for help, a text goes to the diagnostics and the status is 2.
+pub fn run<R: Input, W: Output, N: Output, F: Files>(
+    alloc: Global,
+    args: &[String],
+    input: &mut R,
+    output: &mut W,
+    diagnostics: &mut N,
+    files: &mut F,
+) -> u8
+    // what each command does
+    ensures ran { (asked : Asked) → parsed (map string_bytes args.now) ≡ Some asked →
+        RanAs asked (F.stored files.old)
+        (devices (R.state input.old) (W.state output.old) (N.state diagnostics.old))
+        (devices (R.state input.new) (W.state output.new) (N.state diagnostics.new)) result }
+
+    // commands that do not read the standard input leave it as it is
+    ensures unread { (asked : Asked) → parsed (map string_bytes args.now) ≡ Some asked →
+        ¬ (ReadsInput asked) → input.new ≡ input.old }
+
+    // arguments that are no request: nothing is touched but the diagnostics
+    ensures usage { parsed (map string_bytes args.now) ≡ None →
+        TellsUsage (N.state diagnostics.old) (N.state diagnostics.new) result
+        × (output.new ≡ output.old) × (input.new ≡ input.old) × (files.new ≡ files.old) }
+{
+    match read_words(alloc, args) {
+        Ok(request) => run_request(alloc, request, input, output, diagnostics, files),
+        Err(fault) => report_words_fault(&fault, diagnostics),
     }
 }
