@@ -95,8 +95,10 @@ fn dialect(name: &str) -> Option<Dialect>
 fn in_dialect(clock: Option<LegacyClock>, dialect: Dialect) -> Option<LegacyClock>
     ensures { result ≡ in_dialect dialect clock }
 {
-    let clock = clock?;
-    Some(clock.with_dialect(dialect))
+    match clock {
+        None => None,
+        Some(clock) => Some(clock.with_dialect(dialect)),
+    }
 }
 
 /// The clock of legacy packets by the options, if they are read at all; None where a value of
