@@ -5,8 +5,8 @@ mod collect;
 mod descriptors;
 mod disk;
 
-use command_line::collect_words;
-use commands::run;
+use command_line::{Request, read_words};
+use commands::{report_words_fault, run_request};
 use descriptors::{can_be_written, occupy_closed_descriptors};
 use disk::DiskFiles;
 use driver::{FAULT, NO_MEMORY, report};
@@ -44,29 +44,26 @@ fn main(rt: HostRuntime) -> ExitCode {
         }
     };
     let mut output = ToWrite::new(rt.stdout());
-    match collect_words(rt.alloc(), args.as_slice()) {
-        Ok(Some(words)) => {
+    let status = match read_words(rt.alloc(), args.as_slice()) {
+        Ok(Request::Collect { words }) => {
             if !can_be_written(&mut output) {
                 return ExitCode::from(report(&mut diagnostics, b"write fault\n", FAULT));
             }
-            let status = collect::collect(&rt, rt.alloc(), &words, &mut output, &mut diagnostics);
-            return ExitCode::from(status);
+            collect::collect(&rt, rt.alloc(), &words, &mut output, &mut diagnostics)
         }
-        Err(NO_MEMORY) => {
-            return ExitCode::from(report(&mut diagnostics, b"want of memory\n", NO_MEMORY));
+        Ok(request) => {
+            let mut input = FromRead::new(rt.stdin());
+            let mut files = DiskFiles::new(&rt);
+            run_request(
+                rt.alloc(),
+                request,
+                &mut input,
+                &mut output,
+                &mut diagnostics,
+                &mut files,
+            )
         }
-        // another command, or arguments that `run` refuses with their text
-        Ok(None) | Err(_) => {}
-    }
-    let mut input = FromRead::new(rt.stdin());
-    let mut files = DiskFiles::new(&rt);
-    let status = run(
-        rt.alloc(),
-        args.as_slice(),
-        &mut input,
-        &mut output,
-        &mut diagnostics,
-        &mut files,
-    );
+        Err(fault) => report_words_fault(&fault, &mut diagnostics),
+    };
     ExitCode::from(status)
 }
