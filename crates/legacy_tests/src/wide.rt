@@ -332,10 +332,13 @@ fn a_packet_is_read_in_its_dialect(rt: HostRuntime) -> Result<(), Fail> {
     let wide = clock.with_dialect(Dialect::Wide);
     assert_eq!(rt; wide.dialect(), Dialect::Wide);
     assert_eq!(rt; wide.with_dialect(Dialect::Bsd), clock);
-    for (packet, form, wide_form) in ROWS {
+    for (packet, form, wide_form) in ROWS.as_slice() {
         assert!(rt; !has_new_form(packet));
-        assert_eq!(rt; canonical(rt.alloc(), &clock, packet)?.as_slice(), form);
-        assert_eq!(rt; canonical(rt.alloc(), &wide, packet)?.as_slice(), wide_form);
+        assert_eq!(rt; canonical(rt.alloc(), &clock, packet)?.as_slice(), *form);
+        assert_eq!(rt;
+            canonical(rt.alloc(), &wide, packet)?.as_slice(),
+            *wide_form
+        );
     }
     Ok(())
 }
