@@ -2,4 +2,5 @@ pub mod Selecting
 pub mod Steps
 pub mod Stops
 pub mod SelectionLaws
+pub mod Ids
 pub mod Records

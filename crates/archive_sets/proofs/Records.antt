@@ -2,22 +2,29 @@
 use Rattle.std.proofs.Common.{◌≡◌, ℕ, List, sym, subst, ap, ◌∙◌}
 use Rattle.std.specs.Prelude.{ℤ, ◌↔◌}
 use Rattle.octet_language.specs.Language.{AnyOf}
-use Rattle.syslog_value.specs.Parts.{Parts}
+use Rattle.std.specs.List.Sorted.{IsPermutation}
+use Rattle.syslog_value.specs.Parts.{ElementParts, Parts}
+use Rattle.syslog_fields.specs.Grammar.{StructuredDataText}
 use Rattle.syslog_reading.specs.ViewParts.{IsViewOf, ViewParts}
 use Rattle.syslog_reading.specs.WellFormed.{WellFormed}
 use Rattle.syslog_reading.proofs.Laws.{same_parts}
-use Rattle.archive_sets.specs.Fields.{IsOfRecord, shown_word, word_in}
+use Rattle.archive_sets.specs.Fields.{HasId, IsOfRecord, shown_word, word_in}
 use Rattle.archive_sets.specs.declared.word_field.WordField.{WordField}
 use Rattle.archive_sets.specs.declared.word_field.WordField.TheVariants.{Hostname, AppName, ProcId, MsgId}
+use Rattle.archive_sets.proofs.Ids.{ids_permuted}
 
 -- the fields that a view shows are those of the record
 pub record IsShownAs (r : Parts ℤ) (s : ViewParts) : Type 0 where
   pub priority : s.priority ≡ r.priority
   pub word : (field : WordField) → shown_word field s ≡ word_in field r
+  pub elements : List ElementParts
+  pub spelled : StructuredDataText elements s.elements
+  pub ids : (id : List ℕ) → HasId elements id ↔ HasId r.elements id
 
 shown_as : (b : List ℕ) (s : ViewParts) (r : Parts ℤ) → IsViewOf b s → WellFormed r b → IsShownAs r s
 shown_as b s r (p, text, range, distinct, shown) (q, also, range', distinct', means) =
-    let header = (same_parts p q b text also).header in
+    let same = same_parts p q b text also in
+    let header = same.header in
     record {
       priority = shown.priority ∙ header.priority ∙ sym means.priority;
       word = elim [
@@ -26,6 +33,11 @@ shown_as b s r (p, text, range, distinct, shown) (q, also, range', distinct', me
         | ProcId ↦ shown.proc_id ∙ header.proc_id ∙ sym means.proc_id
         | MsgId ↦ shown.msg_id ∙ header.msg_id ∙ sym means.msg_id
       ];
+      elements = p.elements;
+      spelled = shown.elements;
+      ids = λ id.
+          ids_permuted p.elements r.elements id
+          (subst (λ (es : List ElementParts). IsPermutation es r.elements) (sym same.elements) means.elements);
     }
 
 -- a test of what a view shows is one of the record

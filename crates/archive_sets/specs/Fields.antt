@@ -1,7 +1,7 @@
 -- Conditions on the fields of a record.
-use Rattle.std.specs.Prelude.{◌≡◌, ℕ, ℤ, ◌/◌, ◌%◌, ◌≤◌, List, Option}
+use Rattle.std.specs.Prelude.{◌≡◌, ℕ, ℤ, ◌/◌, ◌%◌, ◌≤◌, ◌⊎◌, List, [], ◌∷◌, Option}
 use Rattle.syslog_value.specs.Facilities.{facility_code}
-use Rattle.syslog_value.specs.Parts.{Parts}
+use Rattle.syslog_value.specs.Parts.{ElementParts, Parts}
 use Rattle.syslog_value.specs.Severities.{severity_code}
 use Rattle.syslog_value.specs.declared.facility.Facility.{Facility}
 use Rattle.syslog_value.specs.declared.severity.Severity.{Severity}
@@ -36,6 +36,15 @@ shown_word Hostname s = s.hostname
 shown_word AppName s = s.app_name
 shown_word ProcId s = s.proc_id
 shown_word MsgId s = s.msg_id
+
+-- an element of the list has this id
+abbrev pub HasId : List ElementParts → List ℕ → Type 0
+HasId [] id = ⊥
+HasId (e ∷ es) id = (e.id ≡ id) ⊎ HasId es id
+
+-- the record has an element with this id
+abbrev pub HasElementId : List ℕ → Parts ℤ → Type 0
+HasElementId id r = HasId r.elements id
 
 -- the record has this word in a field, or none
 abbrev pub HasWordAt : WordField → Option (List ℕ) → Parts ℤ → Type 0

@@ -12,7 +12,8 @@ use Rattle.archive_sets.specs.declared.fault.SelectFault.{SelectFault}
 use Rattle.archive_sets.specs.declared.fault.SelectFault.TheVariants.{Archive, Read, Endless, Write, Memory}
 
 -- an archive was read to its end, and the text of what is selected of it was written, of so many entries
-pub record Selected (meets : Entry → Type 0) (d e : InputState) (taken_old taken_new : Option (List ℕ)) (n : ℕ) : Type 0 where
+pub record Selected (meets : Entry → Type 0) (d e : InputState) (taken_old taken_new : Option (List ℕ))
+    (n : ℕ) : Type 0 where
   pub xs : List Entry
   pub ys : List Entry
   pub whole : IsWhole d e xs

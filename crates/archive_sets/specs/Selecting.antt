@@ -27,28 +27,32 @@ pub record KeepsOutput (s t : Selection) : Type 0 where
   pub count : t.count ≡ s.count
 
 -- these are selected, and of their text a part is held back
-pub record Selects (meets : Entry → Type 0) (s : Selection) (xs ys : List Entry) (start now : Option (List ℕ)) : Type 0 where
+pub record Selects (meets : Entry → Type 0) (s : Selection) (xs ys : List Entry)
+    (start now : Option (List ℕ)) : Type 0 where
   pub selection : IsSelection meets xs ys
   pub short : length (text_of ys) ≤ length (text_of xs)
   pub carries : Carries start now s.held (text_of ys)
   pub count : s.count ≡ length ys
 
 -- of the entries that were read, those that meet the condition are selected
-pub record Selecting (meets : Entry → Type 0) (s : Selection) (d e : InputState) (start now : Option (List ℕ)) : Type 0 where
+pub record Selecting (meets : Entry → Type 0) (s : Selection) (d e : InputState)
+    (start now : Option (List ℕ)) : Type 0 where
   pub xs : List Entry
   pub ys : List Entry
   pub reads : Reads s.entries d e xs
   pub selects : Selects meets s xs ys start now
 
 -- one entry more was read, which is to be looked at
-pub record Looking (meets : Entry → Type 0) (s : Selection) (d e : InputState) (start now : Option (List ℕ)) : Type 0 where
+pub record Looking (meets : Entry → Type 0) (s : Selection) (d e : InputState)
+    (start now : Option (List ℕ)) : Type 0 where
   pub xs : List Entry
   pub ys : List Entry
   pub reads : Reads s.entries d e (xs ++ current s.entries ∷ [])
   pub selects : Selects meets s xs ys start now
 
 -- the archive was read to its end
-pub record Copied (meets : Entry → Type 0) (s : Selection) (d e : InputState) (start now : Option (List ℕ)) : Type 0 where
+pub record Copied (meets : Entry → Type 0) (s : Selection) (d e : InputState)
+    (start now : Option (List ℕ)) : Type 0 where
   pub xs : List Entry
   pub ys : List Entry
   pub whole : IsWhole d e xs
@@ -86,6 +90,7 @@ Keeps meets s t a b =
     (d e : InputState) (start : Option (List ℕ)) → Looking meets s d e start a → Selecting meets t d e start b
 
 -- or the writer fails
-abbrev pub KeepFails : (Entry → Type 0) → SelectFault → Selection → Selection → Option (List ℕ) → Option (List ℕ) → Type 0
+abbrev pub KeepFails : (Entry → Type 0) → SelectFault → Selection → Selection → Option (List ℕ) → Option (List ℕ)
+    → Type 0
 KeepFails meets fault s t a b =
     (d e : InputState) (start : Option (List ℕ)) → Looking meets s d e start a → Halted meets fault t.held d e start b

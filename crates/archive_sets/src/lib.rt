@@ -6,6 +6,7 @@
 
 mod condition;
 mod copying;
+mod element;
 mod fault;
 mod fields;
 mod laws;
@@ -17,6 +18,7 @@ mod tests;
 mod word_field;
 
 pub use condition::{Both, Condition, OnlyUndated};
+pub use element::HasElement;
 pub use fault::SelectFault;
 pub use fields::{AsSevereAs, HasWord, OfFacility};
 pub use laws::{

@@ -1,6 +1,6 @@
 use crate::{
-    AsSevereAs, Both, Condition, HasWord, InRange, OfFacility, OnlyUndated, SelectFault, WordField,
-    select_stream,
+    AsSevereAs, Both, Condition, HasElement, HasWord, InRange, OfFacility, OnlyUndated,
+    SelectFault, WordField, select_stream,
 };
 use archive_streams::{ArchiveEntries, EntriesFault};
 use archive_text::ArchiveFault;
@@ -118,6 +118,13 @@ fn records_are_selected_by_their_fields(rt: HostRuntime) -> Result<(), Fail> {
         word: None,
     };
     assert_eq!(rt; selected(&rt, &unnamed, ALL).0, Ok(3));
+    let text = b"27 <0>1 - - - - - [a][b c=\"x\"]24 <0>1 - - - - - [b c=\"a\"]";
+    let first = HasElement { id: b"a" };
+    let (answer, written) = selected(&rt, &first, text);
+    assert_eq!(rt; answer, Ok(1));
+    assert_eq!(rt; written.as_slice(), &text[..30]);
+    assert_eq!(rt; selected(&rt, &HasElement { id: b"b" }, text).0, Ok(2));
+    assert_eq!(rt; selected(&rt, &HasElement { id: b"c" }, text).0, Ok(0));
     Ok(())
 }
 
