@@ -23,11 +23,11 @@ pub use commands::{Files, MemoryFile, MemoryFiles, run};
 // archives
 pub use syslog_archive::{
     AddFault, Added, ArchiveEntries, ArchiveFault, AsSevereAs, Both, Condition, ENTRY_MAX,
-    EntriesFault, EntryFault, EntryView, HasWord, InRange, InputFault, MergeFault, OfFacility,
-    OnlyUndated, PagedArchive, ReadFault, SelectFault, Side, Store, VecArchive, WordField,
-    entry_order_is_total, merge, merge_streams, merging_is_associative, merging_is_commutative,
-    merging_is_idempotent, merging_is_union, migrate, one_set_has_one_text, one_text_has_one_set,
-    read_entry, same_records_have_one_text, select_stream,
+    EntriesFault, EntryFault, EntryView, HasElement, HasWord, InRange, InputFault, MergeFault,
+    OfFacility, OnlyUndated, PagedArchive, ReadFault, SelectFault, Side, Store, VecArchive,
+    WordField, entry_order_is_total, merge, merge_streams, merging_is_associative,
+    merging_is_commutative, merging_is_idempotent, merging_is_union, migrate, one_set_has_one_text,
+    one_text_has_one_set, read_entry, same_records_have_one_text, select_stream,
 };
 
 // collectors and senders

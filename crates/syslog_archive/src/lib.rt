@@ -16,9 +16,10 @@ pub use archive_laws::{
 pub use archive_migration::{migrate, migrate_into};
 pub use archive_pages::PagedArchive;
 pub use archive_sets::{
-    AsSevereAs, Both, Condition, HasWord, InRange, OfFacility, OnlyUndated, SelectFault, WordField,
-    select_stream, selecting_by_both_is_selecting_by_each, selecting_distributes_over_union,
-    selecting_is_idempotent, selections_are_archives, selections_of_one_text_begin_alike,
+    AsSevereAs, Both, Condition, HasElement, HasWord, InRange, OfFacility, OnlyUndated,
+    SelectFault, WordField, select_stream, selecting_by_both_is_selecting_by_each,
+    selecting_distributes_over_union, selecting_is_idempotent, selections_are_archives,
+    selections_of_one_text_begin_alike,
 };
 pub use archive_streams::{
     ArchiveEntries, EntriesFault, InputFault, MergeFault, Side, merge_streams,
