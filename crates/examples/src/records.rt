@@ -9,7 +9,7 @@ use syslog::{Fault, view};
 /// The octets are no record: the fault tells the field and the octet.
 pub fn app_name_of(octets: &[u8]) -> Result<Option<&[u8]>, Fault> {
     let record = view(octets)?;
-    Ok(record.app_name)
+    Ok(record.app_name())
 }
 
 #[cfg(test)]
