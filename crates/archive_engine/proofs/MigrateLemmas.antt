@@ -188,12 +188,14 @@ ran_part text octets sent r r_new w w_new n n_new status is few sound (es, a, h,
   outcome = (
     told,
     sound,
-    text,
-    goes_out (text_of es),
-    sent,
-    left_of r.left text is,
-    inl (es, a, h, refl),
-    subst (λ (t : List ℕ). WrotePart w w_new t sent) e part,
+    (
+      text,
+      goes_out (text_of es),
+      sent,
+      left_of r.left text is,
+      inl (es, a, h, refl),
+      subst (λ (t : List ℕ). WrotePart w w_new t sent) e part,
+    ),
   );
   begins = migrated_prefix r.left w.taken w_new.taken text octets sent is (es, a, h, e) part.octets;
   few = few;

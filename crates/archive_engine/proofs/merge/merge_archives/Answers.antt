@@ -8,6 +8,6 @@ returns-in-Ok g c = ran_joined _ _ _ _ _ _ _ _ c.in-Ok.ensures.outcome c.in-Ok.e
 pub returns-in-Err : goal.returns-in-Err
 returns-in-Err g c =
     ran_stopped c.in-Err.fault _ _ _ _ _ _ _ _ _
-    (λ is. let m = c.in-Err.ensures.memory is in
+    (λ is. let m = c.in-Err.ensures.memory (cc is) in
     (ap g.R1.Input.state m.0, ap g.R2.Input.state m.1, ap g.W.Output.state m.2)) c.in-Err.ensures.outcome c.in-Err.ensures.told
     c.report_merge_fault.ensures
