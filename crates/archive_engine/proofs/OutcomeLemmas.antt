@@ -54,7 +54,8 @@ pub record BadOutcomes (way : FrameReading) (n : ℕ) (fs : List (List ℕ)) (os
   pub as_many : length os ≡ length fs + 1
 
 -- one frame more in front
-frame_first : (way : FrameReading) (n : ℕ) (fs here later : List (List ℕ)) (f : List ℕ) (a b : Done) → fs ≡ here ++ later
+frame_first : (way : FrameReading) (n : ℕ) (fs here later : List (List ℕ)) (f : List ℕ) (a b : Done)
+    → fs ≡ here ++ later
     → here ≡ f ∷ [] → archive_handling way n f a → HandledFrom (archive_handling way) (n + 1) later b
     → HandledFrom (archive_handling way) n fs (then_done a b)
 frame_first way n fs here later f a b parts one h more =
@@ -123,7 +124,8 @@ bad_first way n old between fs here later f o os s parts one out good more =
       as_many = omega (arith, more.as_many, longer);
     }
 
-bad_last : (way : FrameReading) (n at : ℕ) (between new : List Entry) (fs here later : List (List ℕ)) (os : List Outcome)
+bad_last : (way : FrameReading) (n at : ℕ) (between new : List Entry) (fs here later : List (List ℕ))
+    (os : List Outcome)
     (s : Stream) → fs ≡ here ++ later → here ≡ [] → AreReported way between new later os → HoldsBadCountAt s at → os ≡
     [] → BadOutcomes way n fs (BadCount at ∷ os) s
 bad_last way n at between new fs here later [] s parts none (empty, same) bad e =
@@ -139,7 +141,8 @@ bad_last way n at between new fs here later [] s parts none (empty, same) bad e 
     }
 bad_last way n at between new fs here later (o ∷ os) s parts none h bad e = absurd cc
 
-pub bad_outcomes : (way : FrameReading) (n : ℕ) (old new : List Entry) (fs : List (List ℕ)) (os : List Outcome) (s : Stream)
+pub bad_outcomes : (way : FrameReading) (n : ℕ) (old new : List Entry) (fs : List (List ℕ)) (os : List Outcome)
+    (s : Stream)
     → AreReported way old new fs os → ReportsBadCount os s → has_bad_count os ≡ true → BadOutcomes way n fs os s
 bad_outcomes way n old new fs [] s h marks bad = absurd cc
 bad_outcomes way n old new fs (New ∷ os) s (here, later, between, parts, (f, one, out), more) marks bad =

@@ -182,7 +182,8 @@ heard_frames (input.Stream kind) octets frames (rest, are) = record {
 }
 
 -- the entries that are held are those of the received set
-pub holds_heard : (way : FrameReading) (cs : List Connection) (kept : List Entry) (framing : InputFraming) (octets : List ℕ)
+pub holds_heard : (way : FrameReading) (cs : List Connection) (kept : List Entry) (framing : InputFraming)
+    (octets : List ℕ)
     → Receives way cs kept framing octets → (x : Entry) → Has kept x ↔ IsReceivedIn way framing octets x
 holds_heard way cs kept framing octets r x =
     let held = holds_just way cs kept r.events r.stands r.settled x in (

@@ -41,7 +41,8 @@ use Rattle.archive_engine.proofs.ReceiveLemmas.{begins_rest, good_start, holds_h
 -- ---- the output of lines
 
 -- what is noted of frames has no output
-pub lines_only : (way : FrameReading) (n : ℕ) (fs : List (List ℕ)) (d : Done) → HandledFrom (archive_handling way) n fs d
+pub lines_only : (way : FrameReading) (n : ℕ) (fs : List (List ℕ)) (d : Done)
+    → HandledFrom (archive_handling way) n fs d
     → d.output ≡ []
 lines_only way n [] d h = ap (λ (x : Done). x.output) h
 lines_only way n (f ∷ fs) d (a, b, one, more, e) =
@@ -272,7 +273,8 @@ pub stream_ended : (way k : FrameReading) (kind : Framing) (given : List ℕ) (n
 stream_ended way k kind given number cs kept now before old new stop same held archive s g stops is =
     let here = stops kind given
     (subst (λ (c : FrameReading). Receives c cs kept (input.Stream kind) given) (sym same) s.receives) s.good in
-    subst (λ (es : List Entry). ArchiveDone way (input.Stream kind) given (with_rest (then_done before new) (text_of es)))
+    subst (λ (es : List Entry). ArchiveDone way (input.Stream kind) given (with_rest (then_done before new)
+    (text_of es)))
     (sym held) (stream_ends way kind given number cs kept before old new (stop_done stop) s archive g
     (stop_reported kind given s.frames s.rest stop here s.frames_are) is)
 
@@ -308,7 +310,8 @@ same_frames way kind given more frames rest short long x = (
   ),
 )
 
-pub stream_stops : (way : FrameReading) (kind : Framing) (given octets more : List ℕ) (number : ℕ) (cs ds : List Connection)
+pub stream_stops : (way : FrameReading) (kind : Framing) (given octets more : List ℕ) (number : ℕ)
+    (cs ds : List Connection)
     (kept now : List Entry) (os : List Outcome) (before old new : Done)
     → (s : StreamStands way kind cs kept number given) → IsArchive ENTRY_MAX now
     → Receives way ds now (input.Stream kind) (given ++ octets) → LogsPiece way kind given octets kept now os
@@ -357,7 +360,8 @@ stream_stops way kind given octets more number cs ds kept now os before old new 
 -- ---- what a call with a piece says
 
 -- what is told of a piece that was taken, of a collector that reads frames so
-pub record TakesPiece (way k : FrameReading) (kind : Framing) (given octets : List ℕ) (number : ℕ) (cs ds : List Connection)
+pub record TakesPiece (way k : FrameReading) (kind : Framing) (given octets : List ℕ) (number : ℕ)
+    (cs ds : List Connection)
     (kept now : List Entry) (items os : List Outcome) : Type 0 where
   pub same_reading : k ≡ way
   pub stands : StreamStands way kind cs kept number given
@@ -373,11 +377,13 @@ taken : (way k : FrameReading) (kind : Framing) (given octets : List ℕ) (numbe
     → TakesPiece way k kind given octets number cs ds kept now items os
     → Receives way ds now (input.Stream kind) (given ++ octets) × LogsPiece way kind given octets kept now os
 taken way k kind given octets number cs ds kept now items os t =
-    let here = subst (λ (c : FrameReading). Receives c cs kept (input.Stream kind) given) (sym t.same_reading) t.stands.receives in (
+    let here = subst (λ (c : FrameReading). Receives c cs kept (input.Stream kind) given)
+    (sym t.same_reading) t.stands.receives in (
       subst (λ (c : FrameReading). Receives c ds now (input.Stream kind) (given ++ octets)) t.same_reading
           (t.receives kind given here),
       subst (λ (l : List Outcome). LogsPiece way kind given octets kept now l) (sym t.same)
-          (subst (λ (c : FrameReading). LogsPiece c kind given octets kept now items) t.same_reading (t.logs kind given here)),
+          (subst (λ (c : FrameReading). LogsPiece c kind given octets kept now items) t.same_reading
+          (t.logs kind given here)),
     )
 
 small : (way k : FrameReading) (kind : Framing) (given octets : List ℕ) (number : ℕ) (cs ds : List Connection)
@@ -410,7 +416,8 @@ pub stream_finishes : (way k : FrameReading) (kind : Framing) (given octets more
     → (number + length os < 2 ^ 64 → new ≡ then_done old (noted_outcomes number os)) → bad ≡ has_bad_count os
     → bad ≡ true → GoesOn (archive_handling way) kind given (then_done before old)
     → ArchiveDone way (input.Stream kind) ((given ++ octets) ++ more) (with_rest (then_done before new) (text_of now))
-stream_finishes way k kind given octets more number cs ds kept now items os bad before old new t archive noted is met g =
+stream_finishes way k kind given octets more number cs ds kept now items os bad before old new t archive noted is
+    met g =
     let (r, p) = taken way k kind given octets number cs ds kept now items os t in
     let low = small way k kind given octets number cs ds kept now items os t in
     stream_stops way kind given octets more number cs ds kept now os before old new t.stands archive r p (sym is ∙ met)
@@ -471,7 +478,8 @@ none_long way octets x long (frames, one, spelled) =
     of_one (inl (few, more)) = omega (arith, few, long)
     of_one (inr none) = none
 
-long_datagram : (way : FrameReading) (cs : List Connection) (first kept : List Entry) (octets stream : List ℕ) (x : Outcome)
+long_datagram : (way : FrameReading) (cs : List Connection) (first kept : List Entry) (octets stream : List ℕ)
+    (x : Outcome)
     → IsArchive ENTRY_MAX kept → Receives way cs kept input.Datagram octets → IsOutcome way first kept octets x
     → FRAME_MAX < length octets → FRAME_MAX < length stream
     → ArchiveDone way input.Datagram stream (with_rest (noted_outcome 1 x) (text_of kept))
@@ -484,7 +492,8 @@ long_datagram way cs first kept octets stream x archive r out long longer =
     ))
     (inl (longer, ap (noted_outcome 1) (only_long way first kept octets x long out)))
 
-one_datagram : (way : FrameReading) (cs : List Connection) (first kept : List Entry) (octets stream : List ℕ) (x : Outcome)
+one_datagram : (way : FrameReading) (cs : List Connection) (first kept : List Entry) (octets stream : List ℕ)
+    (x : Outcome)
     → octets ≡ take (FRAME_MAX + 1) stream → IsArchive ENTRY_MAX kept → Receives way cs kept input.Datagram octets
     → IsOutcome way first kept octets x
     → ArchiveDone way input.Datagram stream (with_rest (noted_outcome 1 x) (text_of kept))

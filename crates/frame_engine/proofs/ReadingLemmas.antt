@@ -28,7 +28,8 @@ not_both way n f r line (inl (long, e)) (few, is) = absurd (omega (arith, few, l
 not_both way n f r line (inr (inl (few, offset, stops, e))) (few', is) = not_utf8 way f r offset stops is
 not_both way n f r line (inr (inr (few, form, fault, bad, e))) (few', is) = fault_not_read way f r fault form bad is
 
-pub one_line : (way : FrameReading) (n : ℕ) (f : List ℕ) (l m : Line) → IsRefusedWith way n f l → IsRefusedWith way n f m
+pub one_line : (way : FrameReading) (n : ℕ) (f : List ℕ) (l m : Line) → IsRefusedWith way n f l
+    → IsRefusedWith way n f m
     → l ≡ m
 one_line way n f l m (inl (long, e)) (inl (long', g)) = e ∙ sym g
 one_line way n f l m (inl (long, e)) (inr (inl (few, j, stops', g))) = absurd (omega (arith, few, long))

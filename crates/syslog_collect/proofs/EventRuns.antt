@@ -58,7 +58,8 @@ on_of way x y a b o l m s d at (os, log, inr moves) = record {
   reported = subst (λ (u : List Outcome). AreReported way a b moves.fresh u) (grown l m os log) moves.reported;
 }
 
-may_of : (way : FrameReading) (x y : Connection) (a b : List Entry) (z : ℕ) (zs : List ℕ) (l m : List Outcome) (s : Stream)
+may_of : (way : FrameReading) (x y : Connection) (a b : List Entry) (z : ℕ) (zs : List ℕ) (l m : List Outcome)
+    (s : Stream)
     (d : List (List ℕ)) → Logs way x y a b (z ∷ zs) l m s d → MayContinue (z ∷ zs) s
 may_of way x y a b z zs l m s d (os, log, inl (none, same, kept, quiet)) = absurd (cc)
 may_of way x y a b z zs l m s d (os, log, inr moves) = moves.may
@@ -71,7 +72,8 @@ with_empty_piece c (s ∷ ss) =
       | false ↦ ap (λ (zs : List Stream). s ∷ zs) (with_empty_piece c ss)
     ]
 
-pub logged_found : (way : FrameReading) (c n : ℕ) (x y : Connection) (ls : List Connection) (kept now first : List Entry)
+pub logged_found : (way : FrameReading) (c n : ℕ) (x y : Connection) (ls : List Connection)
+    (kept now first : List Entry)
     (es : List AcceptedEvent) (o : List ℕ) (l m : List Outcome)
     → place_from c 0 ls ≡ Some n → x ≡ get_or ls n x
     → ((s : Stream) (d : List (List ℕ)) → IsAt x s d → Logs way x y kept now o l m s d)

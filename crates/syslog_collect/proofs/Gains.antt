@@ -107,7 +107,8 @@ gains_also way first kept fs gs g same x = (
 )
 
 -- frames more
-pub gains_more : (way : FrameReading) (first kept now : List Entry) (fs gs fresh : List (List ℕ)) → Gains way first kept fs
+pub gains_more : (way : FrameReading) (first kept now : List Entry) (fs gs fresh : List (List ℕ))
+    → Gains way first kept fs
     → Gains way kept now fresh → Joins way gs fs fresh → Gains way first now gs
 gains_more way first kept now fs gs fresh g n j x = (
   λ h. elim ((n x).0 h) [

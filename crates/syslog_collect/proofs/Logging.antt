@@ -33,7 +33,8 @@ use Rattle.syslog_collect.proofs.Waiting.{frames_waiting, place_set, ready_none,
 
 -- ---- octets of one connection
 
-pub logs_octets : (way : FrameReading) (x y : Connection) (a b : List Entry) (o : List ℕ) (os : List Outcome) (s : Stream)
+pub logs_octets : (way : FrameReading) (x y : Connection) (a b : List Entry) (o : List ℕ) (os : List Outcome)
+    (s : Stream)
     (d : List (List ℕ)) → IsAt x s d → Advances way x y a b o os s d
     → LogsOctets way s o (ready_count x.scanner.phase) (ready_count y.scanner.phase) a b os
 logs_octets way x y a b o os s d at moves =
@@ -64,7 +65,8 @@ logs_there way c n x y ls a b o os s d here at moves =
     (logs_octets way x y a b o os s d at moves)
 
 -- after an advance that answers Ok, its outcome is that of the frame that waited, or of the next
-pub reports_found : (way : FrameReading) (c n : ℕ) (x y : Connection) (ls : List Connection) (kept now first : List Entry)
+pub reports_found : (way : FrameReading) (c n : ℕ) (x y : Connection) (ls : List Connection)
+    (kept now first : List Entry)
     (es : List AcceptedEvent) (piece : List ℕ) (r : Result Advance CollectFault)
     → place_from c 0 ls ≡ Some n → x ≡ get_or ls n x
     → ((s : Stream) (d : List (List ℕ)) → IsAt x s d
@@ -87,7 +89,8 @@ same_number : (way : FrameReading) (x y : Connection) (a b : List Entry) (o : Li
     (d : List (List ℕ)) → IsAt x s d → Advances way x y a b o os s d → y.number ≡ x.number
 same_number way x y a b o os s d at moves = moves.now_at.number ∙ sym at.number
 
-pub piece_logged : (way : FrameReading) (c n : ℕ) (x y : Connection) (ls : List Connection) (kept now first : List Entry)
+pub piece_logged : (way : FrameReading) (c n : ℕ) (x y : Connection) (ls : List Connection)
+    (kept now first : List Entry)
     (es : List AcceptedEvent) (o : List ℕ) (r : EventEnd) (l m : List Outcome)
     → place_from c 0 ls ≡ Some n → x ≡ get_or ls n x
     → ((s : Stream) (d : List (List ℕ)) → IsAt x s d → Logs way x y kept now (piece_octets o r) l m s d)

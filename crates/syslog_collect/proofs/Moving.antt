@@ -179,7 +179,8 @@ take_past octets piece n m lt =
     ∙ ap (λ (u : List ℕ). octets ++ u) (sym (take_add (n + 1) (m - (n + 1)) piece)
     ∙ ap (λ (k : ℕ). take k piece) (sym e))
 
-module _ (way : FrameReading) (old new : Connection) (kept_old kept_new : List Entry) (s : Stream) (handled : List (List ℕ))
+module _ (way : FrameReading) (old new : Connection) (kept_old kept_new : List Entry) (s : Stream) (handled : List
+    (List ℕ))
     (piece : List ℕ) (n : ℕ) (number : new.number ≡ s.number) (at : IsOpenAt old.scanner s handled) where
   within_bound : (mid : Scan) → IsPushed old.scanner mid piece n → length s.octets + n ≤ POSITION_MAX
   within_bound mid p = omega (arith, position_of old.scanner s handled at, p.position, p.bound)
@@ -279,7 +280,8 @@ module _ (way : FrameReading) (old new : Connection) (kept_old kept_new : List E
       }
 
 -- what is ready after a push was handled and released
-pub advanced : (way : FrameReading) (old new : Connection) (mid : Scan) (kept_old kept_new : List Entry) (piece : List ℕ)
+pub advanced : (way : FrameReading) (old new : Connection) (mid : Scan) (kept_old kept_new : List Entry)
+    (piece : List ℕ)
     (n m : ℕ) (o : Option Outcome) (s : Stream) (handled : List (List ℕ))
     → new.number ≡ old.number → IsPushed old.scanner mid piece n → HandlesReady way mid kept_old kept_new o
     → IsReleased mid new.scanner → (n < length piece → (n < m) × (m ≤ length piece))

@@ -181,7 +181,8 @@ abbrev pub IsHandled : Connection → Type 0
 IsHandled x = (s : Stream) (d : List (List ℕ)) → IsAt x s d → IsFramesOf s d
 
 -- one connection is taken out
-pub record Closed (way : FrameReading) (c : ℕ) (ls : List Connection) (ss : List Stream) (ds : List (List (List ℕ))) : Type 0
+pub record Closed (way : FrameReading) (c : ℕ) (ls : List Connection) (ss : List Stream) (ds : List (List
+    (List ℕ))) : Type 0
   where
     pub was_open : IsSome (stream_of c ss)
     pub still : List (List (List ℕ))

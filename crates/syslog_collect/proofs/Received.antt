@@ -16,7 +16,8 @@ spelled_among way [] x h = absurd h
 spelled_among way (f ∷ fs) x (inl h) = (f, inl refl, h)
 spelled_among way (f ∷ fs) x (inr h) = let later = spelled_among way fs x h in (later.0, inr later.1, later.2)
 
-among_spelled : (way : FrameReading) (fs : List (List ℕ)) (f : List ℕ) (x : Entry) → IsAmong fs f → IsEntryOfFrame way f x
+among_spelled : (way : FrameReading) (fs : List (List ℕ)) (f : List ℕ) (x : Entry) → IsAmong fs f
+    → IsEntryOfFrame way f x
     → IsSpelled way fs x
 among_spelled way [] f x h e = absurd h
 among_spelled way (g ∷ gs) f x (inl same) e = inl (subst (λ (z : List ℕ). IsEntryOfFrame way z x) (sym same) e)

@@ -56,7 +56,8 @@ step way ls ms kept now first es e was may next = record {
 }
 
 -- no event more
-pub still : (way : FrameReading) (ls : List Connection) (kept now first : List Entry) (es : List AcceptedEvent) → now ≡ kept
+pub still : (way : FrameReading) (ls : List Connection) (kept now first : List Entry) (es : List AcceptedEvent)
+    → now ≡ kept
     → Stands way ls kept first es → Stands way ls now first (es ++ [])
 still way ls kept now first es same was = rw (append-nil es, same) was
 
@@ -106,7 +107,8 @@ moved way c i x y ls kept now first h o outcomes at moves sa =
           (joins_before way (all_of a.now_handled) (all_of sa.handled) a.fresh past a.joins);
     }
 
-pub advance_step : (way : FrameReading) (c i : ℕ) (x y : Connection) (ls : List Connection) (kept now first : List Entry)
+pub advance_step : (way : FrameReading) (c i : ℕ) (x y : Connection) (ls : List Connection)
+    (kept now first : List Entry)
     (es : List AcceptedEvent) (o : List ℕ) (outcomes : List Outcome)
     → AtPlace c ls i x → ((s : Stream) (d : List (List ℕ)) → IsAt x s d → Advances way x y kept now o outcomes s d)
     → Stands way ls kept first es → Stands way (set_at ls i y) now first (es ++ Piece c o ∷ [])
@@ -120,7 +122,8 @@ advance_step way c i x y ls kept now first es o outcomes at moves was =
     was.stands_at)
 
 -- the same, by the place that was found and by what was accepted
-pub advance_found : (way : FrameReading) (c n : ℕ) (x y : Connection) (ls : List Connection) (kept now first : List Entry)
+pub advance_found : (way : FrameReading) (c n : ℕ) (x y : Connection) (ls : List Connection)
+    (kept now first : List Entry)
     (es : List AcceptedEvent) (accepted : Option (List ℕ)) (outcomes : List Outcome)
     → place_from c 0 ls ≡ Some n → x ≡ get_or ls n x
     → ((s : Stream) (d : List (List ℕ)) → IsAt x s d → AdvancesBy way accepted x y kept now outcomes s d)
@@ -189,7 +192,8 @@ not_open way c ls kept first es absent was =
     no_stream c 0 ls (history_of es).streams was.stands_at.handled was.stands_at.follow absent
 
 -- a connection is opened
-pub open_step : (way : FrameReading) (c : ℕ) (k : Framing) (scanner : Scan) (ls : List Connection) (kept first : List Entry)
+pub open_step : (way : FrameReading) (c : ℕ) (k : Framing) (scanner : Scan) (ls : List Connection)
+    (kept first : List Entry)
     (es : List AcceptedEvent)
     → place_from c 0 ls ≡ None → length ls < CONNECTIONS_MAX → Reads FRAME_MAX scanner k 0 [] [] [] → IsReading scanner
     → Stands way ls kept first es → Stands way (ls ++ record { number = c; scanner = scanner } ∷ []) kept first
@@ -329,7 +333,8 @@ unfinished_one start x s d live h at =
     let e = h s.framing 0 s.octets d here.rest here.reads in
     (good_open x.scanner s d here, (d, here.rest, e.0, e.1, omega (arith, e.2)))
 
-pub unfinished_at : (way : FrameReading) (c n start : ℕ) (x : Connection) (ls : List Connection) (kept first : List Entry)
+pub unfinished_at : (way : FrameReading) (c n start : ℕ) (x : Connection) (ls : List Connection)
+    (kept first : List Entry)
     (es : List AcceptedEvent) → place_from c 0 ls ≡ Some n → x ≡ get_or ls n x → ¬ (IsFailed x.scanner)
     → ((kind : Framing) (first : ℕ) (octets : List ℕ) (frames : List (List ℕ)) (rest : List ℕ)
     → Reads FRAME_MAX x.scanner kind first octets frames rest

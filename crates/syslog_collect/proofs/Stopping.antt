@@ -81,7 +81,8 @@ unmarked (Some TooLong) t good marks = marks
 unmarked (Some (BadCount at)) t good marks = absurd (good tt)
 
 -- one that was not, and met no bad count
-pub step_goes_on : (way : FrameReading) (x y : Connection) (a b : List Entry) (rest : List ℕ) (n : ℕ) (o : Option Outcome)
+pub step_goes_on : (way : FrameReading) (x y : Connection) (a b : List Entry) (rest : List ℕ) (n : ℕ)
+    (o : Option Outcome)
     (s : Stream) (d : List (List ℕ)) (waits : ℕ) → ¬ (IsBadCount o)
     → ComesInTurn rest waits n s → Advances way x y a b (take (accepted_count (length rest) n o) rest) (outcomes_of o)
     s d → MayGoOn rest n s
@@ -180,7 +181,8 @@ piece_stops way x y a b p n m waited waits fault l k s d le lt at logs may betwe
     ]
 
 -- a step that goes on ends a frame
-pub piece_between : (way : FrameReading) (x y : Connection) (a b : List Entry) (p : List ℕ) (n m : ℕ) (l k : List Outcome)
+pub piece_between : (way : FrameReading) (x y : Connection) (a b : List Entry) (p : List ℕ) (n m : ℕ)
+    (l k : List Outcome)
     (s : Stream) (d : List (List ℕ)) (waits : ℕ) → waits ≡ 0 → IsAt x s d → Logs way x y a b (take n p) l k s d
     → ((t : Stream) (e : List (List ℕ)) → IsAt y t e → IsWholeWith (take m (take (length p - n) (drop n p))) t)
     → IsBetween p (n + m) waits s
@@ -188,7 +190,8 @@ piece_between way x y a b p n m l k s d waits quiet at logs next =
     let there = reached way x y a b (take n p) l k s d at logs in
     inr (quiet, whole_on p n m s (next (with_octets s (take n p)) there.0 there.1))
 
-pub piece_goes_on : (way : FrameReading) (x y : Connection) (a b : List Entry) (p : List ℕ) (n m : ℕ) (l k : List Outcome)
+pub piece_goes_on : (way : FrameReading) (x y : Connection) (a b : List Entry) (p : List ℕ) (n m : ℕ)
+    (l k : List Outcome)
     (s : Stream) (d : List (List ℕ)) → n ≤ length p
     → IsAt x s d → Logs way x y a b (take n p) l k s d → MayGoOn p n s
     → ((t : Stream) (e : List (List ℕ)) → IsAt y t e → MayGoOn (take (length p - n) (drop n p)) m t)
@@ -225,7 +228,8 @@ refused_at way c piece taken waits Unreleased h s is cause = absurd cause
 refused_at way c piece taken waits (Unterminated start) h s is cause = absurd cause
 
 -- a piece of the connection that was found
-pub piece_refused : (way : FrameReading) (c n : ℕ) (x y : Connection) (ls : List Connection) (kept now first : List Entry)
+pub piece_refused : (way : FrameReading) (c n : ℕ) (x y : Connection) (ls : List Connection)
+    (kept now first : List Entry)
     (es : List AcceptedEvent) (o : List ℕ) (r : EventEnd) (l m : List Outcome)
     → place_from c 0 ls ≡ Some n → x ≡ get_or ls n x
     → ((s : Stream) (d : List (List ℕ)) → IsAt x s d → Logs way x y kept now (piece_octets o r) l m s d)

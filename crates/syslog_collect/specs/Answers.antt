@@ -104,7 +104,8 @@ pub record Advances (way : FrameReading) (old new : Connection) (kept_old kept_n
   pub marks : ReportsBadCount outcomes (with_octets s octets)
 
 -- by what was accepted: where nothing was, nothing changes
-abbrev pub AdvancesBy : FrameReading → Option (List ℕ) → Connection → Connection → List Entry → List Entry → List Outcome
+abbrev pub AdvancesBy : FrameReading → Option (List ℕ) → Connection → Connection → List Entry → List Entry
+    → List Outcome
     → Stream → List (List ℕ) → Type 0
 AdvancesBy way None old new kept_old kept_new outcomes s handled =
     (new ≡ old) × (kept_new ≡ kept_old) × (outcomes ≡ [])

@@ -90,14 +90,16 @@ Reports way c o h waited old new os = IsSomeAnd (stream_of c h.streams)
     (λ s. LogsOctets way s o waited 0 old new os)
 
 -- the outcomes of an event, where so many frames waited
-abbrev pub LogsEvent : FrameReading → History → (ℕ → ℕ) → AcceptedEvent → List Entry → List Entry → List Outcome → Type 0
+abbrev pub LogsEvent : FrameReading → History → (ℕ → ℕ) → AcceptedEvent → List Entry → List Entry → List Outcome
+    → Type 0
 LogsEvent way h w (Opened c k) old new os = (os ≡ []) × (new ≡ old)
 LogsEvent way h w (Ended c) old new os = (os ≡ []) × (new ≡ old)
 LogsEvent way h w (Datagram o) old new os = (x : Outcome) × (os ≡ x ∷ []) × IsOutcome way old new o x
 LogsEvent way h w (Piece c o) old new os = Reports way c o h (w c) old new os
 
 -- the outcomes of events, one after the other: w waited before, and v wait after them
-abbrev pub IsLogOf : FrameReading → History → (ℕ → ℕ) → List AcceptedEvent → (ℕ → ℕ) → List Entry → List Entry → List Outcome
+abbrev pub IsLogOf : FrameReading → History → (ℕ → ℕ) → List AcceptedEvent → (ℕ → ℕ) → List Entry → List Entry
+    → List Outcome
     → Type 0
 IsLogOf way h w [] v old new os = (os ≡ []) × (new ≡ old) × ((d : ℕ) → v d ≡ w d)
 IsLogOf way h w (e ∷ es) v old new os = (here : List Outcome) × (later : List Outcome) × (between : List Entry)
@@ -112,7 +114,8 @@ LogsNothing w v old new os = (os ≡ []) × (new ≡ old) × ((d : ℕ) → v d 
 
 -- the outcomes of the octets of a number that were taken before it was refused: nothing; or, where the number holds no
 -- bad count, a frame may wait now
-abbrev pub LogsPart : FrameReading → History → (ℕ → ℕ) → (ℕ → ℕ) → ℕ → List ℕ → List Entry → List Entry → List Outcome → Type 0
+abbrev pub LogsPart : FrameReading → History → (ℕ → ℕ) → (ℕ → ℕ) → ℕ → List ℕ → List Entry → List Entry
+    → List Outcome → Type 0
 LogsPart way h w v c o old new os = ((o ≡ []) × LogsNothing w v old new os)
     ⊎ (IsSomeAnd (stream_of c h.streams) (λ s. LogsOctets way s o (w c) (v c) old new os)
     × ((d : ℕ) → ¬ (c ≡ d) → v d ≡ w d))
@@ -145,13 +148,15 @@ LogsEventEnd way h w v e end_Done old new os =
 LogsEventEnd way h w v e (end_Stopped n fault) old new os = LogsRefused way h w v e n old new os
 
 -- of the first event, which was refused
-abbrev pub LogsFirst : FrameReading → History → (ℕ → ℕ) → (ℕ → ℕ) → List Event → ℕ → List Entry → List Entry → List Outcome
+abbrev pub LogsFirst : FrameReading → History → (ℕ → ℕ) → (ℕ → ℕ) → List Event → ℕ → List Entry → List Entry
+    → List Outcome
     → Type 0
 LogsFirst way h w v [] n old new os = ⊥
 LogsFirst way h w v (e ∷ es) n old new os = LogsRefused way h w v e n old new os
 
 -- the outcomes of a run: of all events; or of those before the one that was refused, and of what was taken there
-abbrev pub LogsRun : FrameReading → History → (ℕ → ℕ) → (ℕ → ℕ) → List Event → RunEnd → List Entry → List Entry → List Outcome
+abbrev pub LogsRun : FrameReading → History → (ℕ → ℕ) → (ℕ → ℕ) → List Event → RunEnd → List Entry → List Entry
+    → List Outcome
     → Type 0
 LogsRun way h w v es Done old new os = IsLogOf way h w (accepted_all es) v old new os
 LogsRun way h w v es (Stopped at n fault) old new os =

@@ -74,7 +74,8 @@ piece_octets piece end_Done = piece
 piece_octets piece (end_Stopped taken fault) = take taken piece
 
 -- a connection moved by octets; or there were none, and nothing changed
-abbrev pub AdvancesOrStays : FrameReading → Connection → Connection → List Entry → List Entry → List ℕ → List Outcome → Stream
+abbrev pub AdvancesOrStays : FrameReading → Connection → Connection → List Entry → List Entry → List ℕ
+    → List Outcome → Stream
     → List (List ℕ) → Type 0
 AdvancesOrStays way old new kept_old kept_new octets outcomes s handled =
     ((octets ≡ []) × (new ≡ old) × (kept_new ≡ kept_old) × (outcomes ≡ []))
@@ -88,7 +89,8 @@ LogsAdvance way old new kept_old kept_new octets log_old log_new s handled =
     × Advances way old new kept_old kept_new octets outcomes s handled
 
 -- the same, or nothing came
-abbrev pub Logs : FrameReading → Connection → Connection → List Entry → List Entry → List ℕ → List Outcome → List Outcome
+abbrev pub Logs : FrameReading → Connection → Connection → List Entry → List Entry → List ℕ → List Outcome
+    → List Outcome
     → Stream → List (List ℕ) → Type 0
 Logs way old new kept_old kept_new octets log_old log_new s handled =
     (outcomes : List Outcome) × (log_new ≡ log_old ++ outcomes)

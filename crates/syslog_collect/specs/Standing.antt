@@ -48,7 +48,8 @@ pub record StandsAt (way : FrameReading) (cs : List Connection) (kept first : Li
   pub gains : Gains way first kept (all_of handled ++ (all_of ended_frames ++ h.datagrams))
 
 -- connections and entries stand at first entries and acceptable events
-pub record Stands (way : FrameReading) (cs : List Connection) (kept first : List Entry) (events : List AcceptedEvent) : Type
+pub record Stands (way : FrameReading) (cs : List Connection) (kept first : List Entry)
+    (events : List AcceptedEvent) : Type
     0 where
   pub acceptable : AreAcceptable events
   pub stands_at : StandsAt way cs kept first (history_of events)

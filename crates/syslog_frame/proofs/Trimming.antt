@@ -22,7 +22,8 @@ lf_ends : (t : List ℕ) → ends_in (t ++ 10 ∷ []) (10 ∷ []) ≡ true
 lf_ends t = rw (last t (10 ∷ []) 1 refl) refl
 
 cr_lf_ends_lf : (t : List ℕ) → ends_in (t ++ 13 ∷ 10 ∷ []) (10 ∷ []) ≡ true
-cr_lf_ends_lf t = subst (λ (f : List ℕ). ends_in f (10 ∷ []) ≡ true) (append_assoc t (13 ∷ []) (10 ∷ [])) (lf_ends (t ++ 13 ∷ []))
+cr_lf_ends_lf t = subst (λ (f : List ℕ). ends_in f (10 ∷ []) ≡ true) (append_assoc t (13 ∷ []) (10 ∷ [])) (lf_ends
+    (t ++ 13 ∷ []))
 
 cr_lf_ends : (t : List ℕ) → ends_in (t ++ 13 ∷ 10 ∷ []) (13 ∷ 10 ∷ []) ≡ true
 cr_lf_ends t = rw (last t (13 ∷ 10 ∷ []) 2 refl) refl

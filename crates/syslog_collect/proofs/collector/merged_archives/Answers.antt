@@ -6,11 +6,14 @@ use Rattle.syslog_collect.proofs.Headline.{union_entries}
 use Rattle.syslog_collect.proofs.collector.merged_archives.Goals as goal
 
 pub returns : goal.returns
-returns g c events others both merged readings all_readings one two three settled settled_too settled_three received archive
+returns g c events others both merged readings all_readings one two three settled settled_too settled_three
+    received archive
     union =
     union_entries c.args.one.now.reading ENTRY_MAX _ _ _ _ _ _ merged events others both
     (g.U.Store.archive c.args.all.now.store) archive one
-    (subst (λ (k : FrameReading). Stands k c.args.two.now.connections.items (g.T.Store.entries c.args.two.now.store) [] others)
+    (subst (λ (k : FrameReading). Stands k c.args.two.now.connections.items
+    (g.T.Store.entries c.args.two.now.store) [] others)
     (sym readings) two)
-    (subst (λ (k : FrameReading). Stands k c.args.all.now.connections.items (g.U.Store.entries c.args.all.now.store) [] both)
+    (subst (λ (k : FrameReading). Stands k c.args.all.now.connections.items
+    (g.U.Store.entries c.args.all.now.store) [] both)
     (sym all_readings) three) settled settled_too settled_three received union

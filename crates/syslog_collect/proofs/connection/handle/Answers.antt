@@ -7,6 +7,7 @@ pub returns-clause-outcome : goal.returns-clause-outcome
 returns-clause-outcome g c =
     let few = c.if-frame-gt-FRAME_MAX.false in
     IfOk-weaker c.handle_octets.result _ _
-    (λ o is. outcome_of_octets c.args.reading (g.S.Store.entries c.args.store.now) _ c.args.frame.now c.octets.result.now
+    (λ o is. outcome_of_octets c.args.reading (g.S.Store.entries c.args.store.now) _ c.args.frame.now
+    c.octets.result.now
     o few (omega (arith, few, c.octets.ensures.within)) c.octets.ensures.value is)
     c.handle_octets.ensures.outcome

@@ -15,5 +15,6 @@ unreachable-requires g c =
 pub returns-in-Ok-add_view-clause-outcome : goal.returns-in-Ok-add_view-clause-outcome
 returns-in-Ok-add_view-clause-outcome g c =
     rw c.outcome_of.ensures
-    (adds_outcome (whole None) (g.S.Store.entries c.args.store.now) (g.S.Store.entries c.add_view.new.self) c.args.octets.now
+    (adds_outcome (whole None) (g.S.Store.entries c.args.store.now)
+    (g.S.Store.entries c.add_view.new.self) c.args.octets.now
     c.in-Ok-add_view.added (c.requires, c.in-Ok-add_view.ensures.ok c.args.octets.now c.in-Ok.ensures.whole))

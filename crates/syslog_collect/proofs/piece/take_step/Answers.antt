@@ -55,7 +55,8 @@ pub returns-clause-accepted : goal.returns-clause-accepted
 returns-clause-accepted g c s d at =
     let o = c.in-Ok.advance.outcome in
     let rest = c.args.rest.now in
-    step_on c.args.reading c.args.connection.now c.advance_connection.new.connection (g.S.Store.entries c.args.store.now)
+    step_on c.args.reading c.args.connection.now c.advance_connection.new.connection
+    (g.S.Store.entries c.args.store.now)
     (g.S.Store.entries c.advance_connection.new.store) rest c.args.log.now.items c.note.new.log.items
     c.in-Ok.advance.used o s d (c.note.ensures ∙ ap (λ (u : List Outcome). u ++ outcomes_of o) c.reserve.ensures.items)
     (λ bad. not_both c.is_bad_count.result (c.is_bad_count.ensures.1 bad) c.if-is_bad_count.false)

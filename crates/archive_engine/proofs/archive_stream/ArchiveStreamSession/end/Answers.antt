@@ -19,7 +19,8 @@ returns-in-Some g c = λ first given before stands so_far.
     let archive = g.S.Store.archive c.args.self.now.reception.collector.store in
     match_result c.add_refusal.result _ _
     (on_ok_weaker c.add_refusal.result
-    (λ is. stream_ended first.reception.collector.reading _ first.framing given _ _ _ _ before (done_of c.args.effects.now)
+    (λ is. stream_ended first.reception.collector.reading _ first.framing given _ _ _ _ before
+    (done_of c.args.effects.now)
     (done_of c.add_refusal.new.effects) (Some c.in-Some.start) stands.1 held archive stands.2 so_far
     c.in-Some.ensures.stops is)
     c.add_refusal.ensures.ok)

@@ -67,7 +67,8 @@ pub returns-in-Some-clause-cause : goal.returns-in-Some-clause-cause
 returns-in-Some-clause-cause g c first events was =
     let is = subst (λ (ls : List Connection). place_from c.args.conn 0 ls ≡ Some c.in-Some.at) c.deref.ensures.value
     (sym c.in-Some.ensures) in
-    cause_found c.args.self.now.reading c.args.conn c.in-Some.at c.index_mut.result.now c.args.self.now.connections.items
+    cause_found c.args.self.now.reading c.args.conn c.in-Some.at c.index_mut.result.now
+    c.args.self.now.connections.items
     _ first events c.args.piece.now c.advance_connection.result is c.index_mut.ensures.value
     c.advance_connection.ensures.cause was
 
@@ -102,6 +103,7 @@ pub returns-in-Some-clause-taken : goal.returns-in-Some-clause-taken
 returns-in-Some-clause-taken g c first events was =
     let is = subst (λ (ls : List Connection). place_from c.args.conn 0 ls ≡ Some c.in-Some.at) c.deref.ensures.value
     (sym c.in-Some.ensures) in
-    taken_found c.args.self.now.reading c.args.conn c.in-Some.at c.index_mut.result.now c.args.self.now.connections.items
+    taken_found c.args.self.now.reading c.args.conn c.in-Some.at c.index_mut.result.now
+    c.args.self.now.connections.items
     _ first events c.args.piece.now c.advance_connection.result is c.index_mut.ensures.value
     c.advance_connection.ensures.taken was

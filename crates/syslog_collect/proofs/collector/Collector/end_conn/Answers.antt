@@ -96,7 +96,8 @@ pub returns-in-Err-Failed-clause-cause : goal.returns-in-Err-Failed-clause-cause
 returns-in-Err-Failed-clause-cause g c first events was =
     let is = subst (λ (ls : List Connection). place_from c.args.conn 0 ls ≡ Some c.in-Some.at) c.deref.ensures.value
     (sym c.in-Some.ensures) in
-    ended_at c.args.self.now.reading c.args.conn c.in-Some.at c.index.result.now c.args.self.now.connections.items _ first
+    ended_at c.args.self.now.reading c.args.conn c.in-Some.at c.index.result.now c.args.self.now.connections.items
+    _ first
     events is c.index.ensures
     (λ kind start octets frames rest r. absurd
     (rw c.in-Err-Failed.field-0-is at (c.in-Err-Failed.ensures.reads kind start octets frames rest r))) was
@@ -118,7 +119,8 @@ pub returns-in-Ok-clause-cause : goal.returns-in-Ok-clause-cause
 returns-in-Ok-clause-cause g c first events was =
     let is = subst (λ (ls : List Connection). place_from c.args.conn 0 ls ≡ Some c.in-Some.at) c.deref.ensures.value
     (sym c.in-Some.ensures) in
-    ended_at c.args.self.now.reading c.args.conn c.in-Some.at c.index.result.now c.args.self.now.connections.items _ first
+    ended_at c.args.self.now.reading c.args.conn c.in-Some.at c.index.result.now c.args.self.now.connections.items
+    _ first
     events is c.index.ensures
     (λ kind start octets frames rest r. (c.in-Ok.ensures.reads kind start octets frames rest r).1) was
 

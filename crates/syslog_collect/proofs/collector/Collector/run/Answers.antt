@@ -44,7 +44,8 @@ returns-in-Stopped-clause-logged g c first before was =
     (subst (λ (h : History). Grows (LogsEventEnd c.args.self.now.reading h u v (get_or es n (Opened 0 Counted))
     (end_Stopped c.in-Stopped.taken c.in-Stopped.fault) b d) c.loop-at.log.items c.run_event.new.log.items)
     (history_after-append initial before so_far)
-    (subst (λ (k : FrameReading). Grows (LogsEventEnd k (history_of (before ++ so_far)) u v (get_or es n (Opened 0 Counted))
+    (subst (λ (k : FrameReading). Grows (LogsEventEnd k (history_of (before ++ so_far)) u v (get_or es n
+    (Opened 0 Counted))
     (end_Stopped c.in-Stopped.taken c.in-Stopped.fault) b d) c.loop-at.log.items c.run_event.new.log.items)
     c.loop-at.invariant.goes_on.reading (c.in-Stopped.ensures.logged first (before ++ so_far)
     (c.loop-at.invariant.goes_on.stands first before was))))
@@ -132,7 +133,8 @@ returns-in-Stopped-clause-cause g c first before was =
     let stops = c.in-Stopped.ensures.cause first (before ++ so_far) (c.loop-at.invariant.goes_on.stands first before was) in (
       here,
       first_stops c.args.self.now.reading _ w es n c.in-Stopped.taken c.in-Stopped.fault (Opened 0 Counted) here
-          (subst (λ (h : History). StopsAt c.args.self.now.reading h w (get_or es n (Opened 0 Counted)) c.in-Stopped.taken
+          (subst (λ (h : History). StopsAt c.args.self.now.reading h w (get_or es n
+          (Opened 0 Counted)) c.in-Stopped.taken
           c.in-Stopped.fault) (history_after-append initial before so_far)
           (subst (λ (k : FrameReading). StopsAt k (history_of (before ++ so_far)) w (get_or es n (Opened 0 Counted))
           c.in-Stopped.taken c.in-Stopped.fault) c.loop-at.invariant.goes_on.reading stops)),

@@ -114,7 +114,8 @@ returns-in-Datagram-clause-logged g c first events was =
     let b = g.S.Store.entries c.logged_datagram.new.self.store in
     subst (λ (e : Event). Grows (LogsEventEnd c.args.self.now.reading h w v e c.logged_datagram.result a b)
     c.args.log.now.items c.logged_datagram.new.log.items) (sym c.in-Datagram.is)
-    (datagram_logged c.args.self.now.reading h w v c.in-Datagram.octets c.logged_datagram.result a b c.args.log.now.items
+    (datagram_logged c.args.self.now.reading h w v c.in-Datagram.octets c.logged_datagram.result a b
+    c.args.log.now.items
     c.logged_datagram.new.log.items
     (λ d. ap (λ (ls : List Connection). waiting ls d) c.logged_datagram.ensures.connections)
     (subst (λ (l : List Outcome). Grows (LogsDatagram c.args.self.now.reading c.in-Datagram.octets.now
@@ -148,7 +149,8 @@ returns-in-Ended-clause-cause g c first events was =
     let h = history_of events in
     let w = waiting c.args.self.now.connections.items in
     let v = waiting c.end_conn.new.self.connections.items in
-    subst (λ (e : Event). IfStopped c.end_of-in-Ended.result (StopsAt c.args.self.now.reading h v e)) (sym c.in-Ended.is)
+    subst (λ (e : Event). IfStopped c.end_of-in-Ended.result (StopsAt c.args.self.now.reading h v e))
+    (sym c.in-Ended.is)
     (subst (λ (r : EventEnd). IfStopped r (StopsAt c.args.self.now.reading h v (Ended c.in-Ended.conn)))
     (sym c.end_of-in-Ended.ensures)
     (ending_refused c.args.self.now.reading h w v c.in-Ended.conn c.end_conn.result
