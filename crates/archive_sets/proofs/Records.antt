@@ -1,5 +1,5 @@
 -- The record that a view shows.
-use Rattle.std.proofs.Common.{◌≡◌, ℕ, List, sym, subst, ap, ◌∙◌}
+use Rattle.std.proofs.Common.{◌≡◌, ℕ, List, sym, subst, ◌∙◌}
 use Rattle.std.specs.Prelude.{ℤ, ◌↔◌}
 use Rattle.octet_language.specs.Language.{AnyOf}
 use Rattle.std.specs.List.Sorted.{IsPermutation}

@@ -1,5 +1,5 @@
 -- An archive that is read entry by entry, as its user sees it.
-use Rattle.std.proofs.Common.{◌≡◌, ℕ, ◌+◌, ◌-◌, ◌*◌, ◌<◌, ◌≤◌, List, [], ◌∷◌, ◌++◌, length, refl, sym, ap, subst, ◌∙◌}
+use Rattle.std.proofs.Common.{◌≡◌, ℕ, ◌+◌, ◌-◌, ◌*◌, ◌<◌, List, [], ◌∷◌, ◌++◌, length, refl, sym, ap, subst, ◌∙◌}
 use Rattle.std.proofs.Common.{append-nil, arith}
 use Rattle.std.specs.Prelude.{◌≢◌}
 use Rattle.std.specs.Fmt.{decimal}
@@ -9,8 +9,8 @@ use Rattle.std.proofs.lemmas.List.{length-append}
 use Rattle.octet_devices.specs.Device.{InputState}
 use Rattle.octet_devices.specs.declared.loops.TheConstants.{READ_MAX, READER_CALLS}
 use Rattle.archive_text.specs.Entries.{Entry}
-use Rattle.archive_text.specs.Faults.{IsFaultBehind, IsLongestArchive}
-use Rattle.archive_text.specs.Text.{IsArchive, text_of}
+use Rattle.archive_text.specs.Faults.{IsLongestArchive}
+use Rattle.archive_text.specs.Text.{text_of}
 use Rattle.archive_text.specs.declared.fault.ArchiveFault.TheVariants.{BadFrame}
 use Rattle.archive_text.specs.declared.limits.TheConstants.{ENTRY_MAX}
 use Rattle.archive_text.proofs.Ascending.{archive_nil}
@@ -18,7 +18,7 @@ use Rattle.archive_text.proofs.Prefixes.{archive_fault, longest_faulty}
 use Rattle.archive_streams.specs.Entries.{HasRead, IsBegun, IsCauseOf, IsCutShort, IsWhole}
 use Rattle.archive_streams.specs.EntryTexts.{entry_in, HoldsEntry, IsAbove}
 use Rattle.archive_streams.specs.Pieces.{HasFewCalls, ReadsOn, unused}
-use Rattle.archive_streams.specs.Sides.{Due, IsNear, IsNextFault, IsSideStop, IsStopCause, ReadTo}
+use Rattle.archive_streams.specs.Sides.{Due, IsNear, IsNextFault, IsSideStop, ReadTo}
 use Rattle.archive_streams.specs.declared.entry.EntryText.{EntryText}
 use Rattle.archive_streams.specs.declared.fault.InputFault.TheVariants.{Device, Endless}
 use Rattle.archive_streams.specs.declared.fault.SideFault.{SideFault}
