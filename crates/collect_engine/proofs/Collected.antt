@@ -106,8 +106,12 @@ pub first_lines : (a b : ℕ) (t0 t1 : Option (List ℕ)) (line rest : List ℕ)
     → Appends t0 t1 (take n line) → NotesBehind a b t0 t1 [] (line ++ rest)
 first_lines a b t0 t1 line rest n rises less taken =
     let some : n ≤ length line = omega (arith, less) in
-    inr (rises, n, omega (arith, length-append line rest, less),
-    subst (Appends t0 t1) (sym (take-append-le n line rest some)) taken)
+    inr (
+      rises,
+      n,
+      omega (arith, length-append line rest, less),
+      subst (Appends t0 t1) (sym (take-append-le n line rest some)) taken,
+    )
 
 -- a line, and then others
 pub then_lines : (a b c : ℕ) (t0 t1 t2 : Option (List ℕ)) (line lines : List ℕ) → b ≡ a → Appends t0 t1 line
