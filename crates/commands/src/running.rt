@@ -75,12 +75,12 @@ pub fn run_request<R: Input, W: Output, N: Output, F: Files>(
     diagnostics: &mut N,
     files: &mut F,
 ) -> u8
-    ensures ran { RanAs (asked_by request) (F.stored files.old)
+    ensures ran { RanAs (asked_by request.entry) (F.stored files.old)
         (devices (R.state input.old) (W.state output.old) (N.state diagnostics.old))
         (devices (R.state input.new) (W.state output.new) (N.state diagnostics.new)) result }
 
     // commands that do not read the standard input leave it as it is
-    ensures unread { ¬ (ReadsInput (asked_by request)) → input.new ≡ input.old }
+    ensures unread { ¬ (ReadsInput (asked_by request.entry)) → input.new ≡ input.old }
 {
     match request {
         Request::Check {
