@@ -12,8 +12,16 @@ def archive_of(program, recorder):
     return archived(program, FRAMINGS[recorder.way], b"".join(recorder.pieces))
 
 
-def archived(program, framing, octets):
-    return program.run(["archive", "--framing", framing], octets)
+def archived(program, framing, octets, *options):
+    return program.run(["archive", "--framing", framing, *options], octets)
+
+
+def agree_trimmed(program, results, name, frames):
+    """With --trim the frames of all ways are one archive."""
+    archives = {way: archived(program, "counted", reference.counted(came), "--trim")[1] for way, (came, _) in frames.items()}
+    same = len(set(archives.values())) == 1
+    print(f"  trimmed, the archives of {', '.join(archives)}: {'equal' if same else 'different'}")
+    results.check(f"{name}: trimmed, one archive", same, str({way: len(octets) for way, octets in archives.items()}))
 
 
 def agree(results, name, answers, frames):

@@ -2,7 +2,7 @@
 
 Each sender gets the same records and sends them to collectors and, beside them, to recorders, which keep the octets as they
 come: as lines, counted and as datagrams. Each archive that was collected has to be that of the octets recorded, and the
-archives of the ways are compared with one another, octet for octet. Then it is told what the sender changed: each record
+archives of the ways are compared with one another, octet for octet; with --trim they have to be equal. Then it is told what the sender changed: each record
 that was sent beside what came of it.
 
 The packages of Debian conflict with one another, so FOLDER may hold one or both of the daemons as `dpkg -x` unpacks them;
@@ -19,7 +19,7 @@ from lib import reference
 from lib.loopback import HERE, NEVER, Collect, free_port
 from lib.program import Program
 from lib.results import Results
-from peers.answers import agree, archive_of, archived
+from peers.answers import agree, agree_trimmed, archive_of, archived
 from peers.changes import described
 from peers.daemons import daemons, found
 from peers.logger import loggers
@@ -108,6 +108,8 @@ def forward(program, results, daemon, variant):
     answers = gathered(program, results, name, recorders, collectors)
     frames = {way: recorder.frames() for way, recorder in recorders.items()}
     agree(results, name, answers, frames)
+    if variant.cases is PLAIN:
+        agree_trimmed(program, results, name, frames)
     described(variant.cases, {way: (sorted_out(variant.cases, came), stop) for way, (came, stop) in frames.items()})
     if variant.unchanged:
         right = archived(program, "counted", reference.counted(records))

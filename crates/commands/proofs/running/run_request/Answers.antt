@@ -46,4 +46,4 @@ returns-in-Send-clause-ran g c =
 
 pub returns-in-Collect-clause-ran : goal.returns-in-Collect-clause-ran
 returns-in-Collect-clause-ran g c =
-    rw c.in-Collect.is (inr (refl, c.report-in-Collect.ensures.reports))
+    rw c.in-Collect.is (inr (refl, c.report.ensures.reports))
