@@ -21,20 +21,18 @@ pub fn severest(
     Ok(found)
 }
 
-// The severest of the records that a piece completes.
+// The severest of the records that a piece completes. Each turn takes an octet at least.
 fn of_piece(scanner: &mut Scanner, piece: &[u8]) -> Option<Severity> {
     let mut rest = piece;
     let mut found = None;
-    while !rest.is_empty() {
+    for _octet in 0..piece.len() {
         let Ok(used) = scanner.push(rest) else {
             return found;
         };
         if let Some(Ready::Frame(frame)) = scanner.ready() {
             found = severer(found, of_frame(frame));
         }
-        if !scanner.release() && used == 0 {
-            return found;
-        }
+        let _was_ready = scanner.release();
         rest = &rest[used..];
     }
     found
