@@ -1,12 +1,14 @@
 #!/usr/bin/env python3
 """Proves a program and the crates below it, side by side as far as they stand apart, and builds the program.
 
-usage: scripts/prove.py PROGRAM
+usage: scripts/prove.py [--costs FOLDER] PROGRAM
 
 One rt at a time works in a crate's folder and those below it, so each library is proved in a copy of what it stands on,
-in TMPDIR, best on the repository's own disk. What is built comes into the out/ folders of the crates. Prints how far each crate is, and all that rt says of one that
-is not proved. The status is 0 exactly where the program is built.
+in TMPDIR, best on the repository's own disk. What is built comes into the out/ folders of the crates. Prints how far each crate
+is, and all that rt says of one that is not proved. With --costs each crate has one job, and FOLDER/CRATE.costs has what rt says
+of it with the seconds, for scripts/costs.py. The status is 0 exactly where the program is built.
 """
+import argparse
 import functools
 import os
 import re
@@ -42,8 +44,9 @@ def crates_below(program):
 class Proof:
     """The proof of a program, and how far it is."""
 
-    def __init__(self, program):
+    def __init__(self, program, costs=None):
         self.program = program
+        self.costs = costs
         self.words = crates_below(program)
         self.proved = 0
         self.start = time.monotonic()
@@ -79,6 +82,7 @@ class Proof:
     def run(self, crate, folder, *words):
         """Runs rt in a crate's folder, tells how far it is, and gives what it says, or None where it fails."""
         said, told = [], time.monotonic()
+        begun, stamped = told, []
         given = folder / "stdin" if words[0] == "run" else os.devnull
         how = {"stdout": subprocess.PIPE, "stderr": subprocess.STDOUT, "text": True, "errors": "replace"}
         with open(given) as stdin, subprocess.Popen(["rt", *words], cwd=folder, stdin=stdin, **how) as rt:
@@ -88,6 +92,9 @@ class Proof:
                 if far and time.monotonic() - told > EVERY:
                     told = time.monotonic()
                     self.tell(f"{crate}: {far[1]} of {far[2]} functions")
+                stamped.append(f"{time.monotonic() - begun:.3f} {line}")
+        if self.costs and words[0] == "check":
+            (self.costs / f"{crate}.costs").write_text("".join(stamped))
         if rt.returncode:
             print("".join(said), end="", flush=True)
             self.tell(f"{crate} is NOT PROVED")
@@ -96,7 +103,7 @@ class Proof:
 
     def library(self, crate, is_longest):
         """Proves and builds a library, and gives whether it could."""
-        jobs = [] if is_longest else ["--jobs", "1"]
+        jobs = [] if is_longest and not self.costs else ["--jobs", "1"]
         self.tell(f"{crate} begins")
         with tempfile.TemporaryDirectory(prefix="prove-") as room:
             self.copy(crate, Path(room))
@@ -141,7 +148,7 @@ class Proof:
         """Proves the program, builds it and runs it as its crate says, and gives whether all passed."""
         folder = ROOT / "crates" / self.program
         words = (folder / "args").read_text().splitlines()
-        said = self.run(self.program, folder, "check")
+        said = self.run(self.program, folder, "check", *(["--jobs", "1"] if self.costs else []))
         if said is None or self.run(self.program, folder, "run", "--", *words) is None:
             return False
         self.tell(f"{self.program} is proved, {functions(said)} functions, and built", proved=1)
@@ -173,7 +180,13 @@ def link(one, other):
 
 
 def main():
-    proof = Proof(sys.argv[1])
+    words = argparse.ArgumentParser(description=__doc__, formatter_class=argparse.RawDescriptionHelpFormatter)
+    words.add_argument("--costs", type=Path, metavar="FOLDER")
+    words.add_argument("program")
+    words = words.parse_args()
+    if words.costs:
+        words.costs.mkdir(parents=True, exist_ok=True)
+    proof = Proof(words.program, words.costs)
     sys.exit(0 if proof.libraries() and proof.build() else 1)
 
 
