@@ -63,8 +63,8 @@ mod tests {
     #[test]
     fn a_frame_may_be_cut_anywhere(rt: HostRuntime) -> Result<(), Fail> {
         let pieces = [
-            b"15 <14>1 - h".as_slice(),
-            b" a - - -15 <10>1".as_slice(),
+            b"17 <14>1 - h".as_slice(),
+            b" a - - -17 <10>1".as_slice(),
             b" - h a - - -".as_slice(),
         ];
         let found = severest(rt.alloc(), Framing::Counted, pieces.as_slice())?;

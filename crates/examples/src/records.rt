@@ -26,7 +26,7 @@ mod tests {
     #[test]
     fn a_refusal_tells_the_field_and_the_octet(rt: HostRuntime) {
         let field = Field::Timestamp;
-        let expected = Err(Fault::Syntax { field, offset: 17 });
+        let expected = Err(Fault::Syntax { field, offset: 16 });
         assert_eq!(rt;
             app_name_of(b"<34>1 2003-10-11 22:14:15Z mymachine su - - -".as_slice()),
             expected
