@@ -3,15 +3,21 @@
 PREFIX = /usr/local
 DESTDIR =
 
-.PHONY: all proved fault-injection check release dist mutants bench soak install clean
+.PHONY: all lib proved fault-injection check release dist mutants bench soak install clean
 
 # Links build/syslogbox from the object in release/, and says of which sources that is.
 all:
 	@sh scripts/link.sh
 
-# Proves the program and the crates below it side by side, builds it, and compares its object with a release of its sources.
+# Links the libraries for C in build/, and their pkg-config file, from the object in release/.
+lib:
+	@sh scripts/library.sh $(PREFIX)
+
+# Proves the program and the library for C, and the crates below them side by side, builds them, and compares their
+# objects with a release of their sources.
 proved:
 	python3 scripts/prove.py syslogbox
+	python3 scripts/prove.py c_library
 	sh scripts/keep.sh
 	sh scripts/compare.sh || [ $$? -eq 2 ]
 
@@ -29,7 +35,8 @@ check:
 release:
 	sh scripts/release.sh
 
-# Makes the packages in build/dist from release/: a tarball with a static program, and a Debian package.
+# Makes the packages in build/dist from release/: a tarball with a static program, and Debian packages of the program and of the
+# library.
 dist:
 	sh scripts/dist.sh
 
@@ -46,9 +53,10 @@ bench: all
 soak: all
 	python3 tests/run.py soak build/syslogbox $(SOAK)
 
-# Puts the program, its manual and its completions below DESTDIR and PREFIX.
-install: all
+# Puts the program, its manual and its completions below DESTDIR and PREFIX, and the library for C.
+install: all lib
 	sh scripts/install.sh build/syslogbox $(DESTDIR)$(PREFIX)
+	sh scripts/install-library.sh $(DESTDIR)$(PREFIX)
 
 # Removes what was built and what checks kept.
 clean:

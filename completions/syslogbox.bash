@@ -3,9 +3,15 @@
 # The options of a command.
 _syslogbox_options() {
     case $1 in
-        check | show | archive) echo "--framing --trim --legacy --zone --dialect --help" ;;
+        archive) echo "--framing --trim --legacy --zone --dialect --help" ;;
+        check) echo "--framing --summary --trim --legacy --zone --dialect --help" ;;
+        show) echo "--framing --json --trim --legacy --zone --dialect --help" ;;
         convert) echo "--framing --to --trim --legacy --zone --dialect --help" ;;
-        merge | migrate) echo "--help" ;;
+        merge | migrate | union | common | minus | diff) echo "--help" ;;
+        select)
+            echo "--from --to --undated --only-undated --severity --facility --host --app --proc --msgid --id --help"
+            ;;
+        digest) echo "--by --help" ;;
         send) echo "--facility --severity --up-to --framing --host --app --proc --msgid --micros --help" ;;
         collect) echo "--trim --legacy --zone --dialect --help" ;;
     esac
@@ -14,7 +20,8 @@ _syslogbox_options() {
 # The values of a command's option; none where any word will do. The status is 1 where it takes no value.
 _syslogbox_values() {
     case "$1 $2" in
-        "send --framing" | *" --to") echo "counted lf" ;;
+        "send --framing" | "convert --to") echo "counted lf" ;;
+        *" --by") echo "month day hour" ;;
         *" --framing") echo "datagram counted lf" ;;
         *" --facility")
             echo "kern user mail daemon auth syslog lpr news uucp cron authpriv ftp ntp audit alert clock"
@@ -23,13 +30,14 @@ _syslogbox_values() {
         *" --dialect") echo "bsd wide" ;;
         *" --severity" | *" --up-to") echo "emerg alert crit err warning notice info debug" ;;
         *" --legacy" | *" --zone" | *" --host" | *" --app" | *" --proc" | *" --msgid" | *" --micros") ;;
+        *" --from" | *" --to" | *" --id") ;;
         *) return 1 ;;
     esac
 }
 
 _syslogbox() {
     local command=${COMP_WORDS[1]} word=$2 previous=$3 files="" words
-    local commands="check convert show archive merge migrate send collect help"
+    local commands="check convert show archive merge union common minus diff select digest migrate send collect help"
     if [ "$COMP_CWORD" -eq 1 ]; then
         words="$commands --help --version"
     elif [ "$command" = help ]; then
@@ -38,7 +46,7 @@ _syslogbox() {
         words=$(_syslogbox_options "$command")
         case "$command $COMP_CWORD" in
             "collect 2") words="$words udp counted lf" ;;
-            merge* | migrate*)
+            merge* | migrate* | union* | common* | minus* | diff*)
                 files=-f
                 compopt -o filenames 2> /dev/null
                 ;;

@@ -9,6 +9,12 @@ complete -c syslogbox -n __fish_use_subcommand -a convert -d 'Write the canonica
 complete -c syslogbox -n __fish_use_subcommand -a show -d 'Write the fields of each record'
 complete -c syslogbox -n __fish_use_subcommand -a archive -d 'Write the records as an archive'
 complete -c syslogbox -n __fish_use_subcommand -a merge -d 'Write the archive of the records of two archives'
+complete -c syslogbox -n __fish_use_subcommand -a union -d 'Write the archive of the records of several archives'
+complete -c syslogbox -n __fish_use_subcommand -a common -d 'Write the archive of the records that both archives have'
+complete -c syslogbox -n __fish_use_subcommand -a minus -d 'Write the archive of the records that only the first archive has'
+complete -c syslogbox -n __fish_use_subcommand -a diff -d 'Write each record that only one of two archives has'
+complete -c syslogbox -n __fish_use_subcommand -a select -d 'Write the archive of the records that meet conditions'
+complete -c syslogbox -n __fish_use_subcommand -a digest -d 'Write count, octets and SHA-256 of each period of an archive'
 complete -c syslogbox -n __fish_use_subcommand -a migrate -d 'Write the archive of an old one'
 complete -c syslogbox -n __fish_use_subcommand -a send -d 'Write one record as a frame'
 complete -c syslogbox -n __fish_use_subcommand -a collect -d 'Receive records and write them as an archive'
@@ -16,6 +22,7 @@ complete -c syslogbox -n __fish_use_subcommand -a help -d 'Print the help of a c
 
 set -l reading check convert show archive
 set -l dated $reading collect
+set -l joining merge union common minus diff
 set -l facilities kern user mail daemon auth syslog lpr news uucp cron authpriv ftp ntp audit alert clock \
     local0 local1 local2 local3 local4 local5 local6 local7
 set -l severities emerg alert crit err warning notice info debug
@@ -26,9 +33,11 @@ complete -c syslogbox -n "__fish_seen_subcommand_from $dated" -l trim -d 'Drop o
 complete -c syslogbox -n "__fish_seen_subcommand_from $dated" -x -l legacy -d 'Read legacy packets too, in this year'
 complete -c syslogbox -n "__fish_seen_subcommand_from $dated" -x -l zone -d 'Zone of their times'
 complete -c syslogbox -n "__fish_seen_subcommand_from $dated" -x -l dialect -a 'bsd wide' -d 'How they are spelled'
-complete -c syslogbox -n "__fish_seen_subcommand_from merge migrate" -F
+complete -c syslogbox -n "__fish_seen_subcommand_from check" -l summary -d 'Say last how many legacy packets there were'
+complete -c syslogbox -n "__fish_seen_subcommand_from show" -l json -d 'Write each record as a line of JSON'
+complete -c syslogbox -n "__fish_seen_subcommand_from $joining migrate" -F
 complete -c syslogbox -n "__fish_seen_subcommand_from collect" -a 'udp counted lf' -d 'How records come'
-complete -c syslogbox -n "__fish_seen_subcommand_from help" -a "$reading merge migrate send collect"
+complete -c syslogbox -n "__fish_seen_subcommand_from help" -a "$reading $joining select digest migrate send collect"
 
 complete -c syslogbox -n "__fish_seen_subcommand_from send" -x -l facility -a "$facilities" -d Facility
 complete -c syslogbox -n "__fish_seen_subcommand_from send" -x -l severity -a "$severities" -d Severity
@@ -39,3 +48,16 @@ complete -c syslogbox -n "__fish_seen_subcommand_from send" -x -l app -d APP-NAM
 complete -c syslogbox -n "__fish_seen_subcommand_from send" -x -l proc -d PROCID
 complete -c syslogbox -n "__fish_seen_subcommand_from send" -x -l msgid -d MSGID
 complete -c syslogbox -n "__fish_seen_subcommand_from send" -x -l micros -d 'Microseconds from 1970-01-01T00:00:00Z'
+
+complete -c syslogbox -n "__fish_seen_subcommand_from select" -x -l from -d 'The first instant'
+complete -c syslogbox -n "__fish_seen_subcommand_from select" -x -l to -d 'The first instant behind'
+complete -c syslogbox -n "__fish_seen_subcommand_from select" -l undated -d 'Records without a time, too'
+complete -c syslogbox -n "__fish_seen_subcommand_from select" -l only-undated -d 'Records without a time alone'
+complete -c syslogbox -n "__fish_seen_subcommand_from select" -x -l severity -a "$severities" -d 'This severity or a more severe one'
+complete -c syslogbox -n "__fish_seen_subcommand_from select" -x -l facility -a "$facilities" -d Facility
+complete -c syslogbox -n "__fish_seen_subcommand_from select" -x -l host -d HOSTNAME
+complete -c syslogbox -n "__fish_seen_subcommand_from select" -x -l app -d APP-NAME
+complete -c syslogbox -n "__fish_seen_subcommand_from select" -x -l proc -d PROCID
+complete -c syslogbox -n "__fish_seen_subcommand_from select" -x -l msgid -d MSGID
+complete -c syslogbox -n "__fish_seen_subcommand_from select" -x -l id -d 'Id of an element'
+complete -c syslogbox -n "__fish_seen_subcommand_from digest" -x -l by -a 'month day hour' -d 'The periods'

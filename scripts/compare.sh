@@ -31,4 +31,8 @@ cmp syslogbox "../../$built" || end "FAILED: its program is not the one that the
 if [ -f "../../$built.o" ]; then
     cmp syslogbox.o "../../$built.o" || end "FAILED: its object is not the one that these sources give" 0 1
 fi
+library=../../crates/c_library/out/libc_library.a
+if [ -f $library ]; then
+    ar p $library | cmp libsyslogbox.o - || end "FAILED: its library is not the one that these sources give" 0 1
+fi
 end "it is what these sources give" 1 0

@@ -1,5 +1,6 @@
 #!/bin/sh
-# Makes the packages in build/dist: a tarball with a static program, and a Debian package where dpkg-deb is there.
+# Makes the packages in build/dist: a tarball with a static program, and where dpkg-deb is there Debian packages of the
+# program and of the library for C.
 # Of one release they are the same octets wherever they are made: their time is that of the version in CHANGELOG.md.
 set -eu
 umask 022
@@ -74,18 +75,44 @@ changelog() {
     printf '\n -- %s  %s\n' "$maintainer" "$of"
 }
 
+# The file control of a package below a folder: control FOLDER FILE SECTION, where FILE is one that needs libc; standard
+# input has its description.
 control() {
     octets=$(find "$1/usr" -type f -exec cat {} + | wc -c)
-    libc=$(objdump -T "$1/usr/bin/syslogbox" | sed -n 's/.*GLIBC_\([0-9.]*\).*/\1/p' | sort -V | tail -n 1)
+    libc=$(objdump -T "$2" | sed -n 's/.*GLIBC_\([0-9.]*\).*/\1/p' | sort -V | tail -n 1)
     cat << END
-Package: syslogbox
+Package: $package
 Version: $version
 Architecture: amd64
 Maintainer: $maintainer
 Installed-Size: $(((octets + 1023) / 1024))
 Depends: libc6 (>= $libc)
-Section: admin
+Section: $3
 Priority: optional
+END
+    cat
+}
+
+# What each Debian package has, and the package itself: pack FILE SECTION, as `control` takes them.
+pack() {
+    doc=$root/usr/share/doc/$package
+    mkdir -p "$doc" "$root/DEBIAN"
+    changelog | gzip -9n > "$doc/changelog.gz"
+    printf 'syslogbox\n\nCopyright 2026 the Cupolachive maintainers\n' > "$doc/copyright"
+    control "$root" "$@" > "$root/DEBIAN/control"
+    (cd "$root" && find usr -type f | sort | xargs md5sum) > "$root/DEBIAN/md5sums"
+    settle "$root"
+    dpkg-deb --root-owner-group -Zxz --build "$root" "$dist/${package}_${version}_amd64.deb" > /dev/null
+    rm -r "$root"
+}
+
+debian() {
+    package=syslogbox root=$dist/debian
+    link "$dist/dynamic" -pie -Wl,-z,relro,-z,now
+    sh scripts/install.sh "$dist/dynamic" "$root/usr" vendor-completions
+    gzip -9n "$root/usr/share/man/man1/syslogbox.1"
+    rm "$dist/dynamic"
+    pack "$root/usr/bin/syslogbox" admin << END
 Description: proved reader and writer of syslog records
  syslogbox reads syslog records (RFC 5424) from datagrams and streams, says
  where octets stop being a record, writes records in their one canonical form,
@@ -94,26 +121,28 @@ Description: proved reader and writer of syslog records
 END
 }
 
-debian() {
-    root=$dist/debian
-    doc=$root/usr/share/doc/syslogbox
-    link "$dist/dynamic" -pie -Wl,-z,relro,-z,now
-    sh scripts/install.sh "$dist/dynamic" "$root/usr" vendor-completions
-    gzip -9n "$root/usr/share/man/man1/syslogbox.1"
-    mkdir -p "$doc" "$root/DEBIAN"
-    changelog | gzip -9n > "$doc/changelog.gz"
-    printf 'syslogbox\n\nCopyright 2026 the Cupolachive maintainers\n' > "$doc/copyright"
-    control "$root" > "$root/DEBIAN/control"
-    (cd "$root" && find usr -type f | sort | xargs md5sum) > "$root/DEBIAN/md5sums"
-    settle "$root"
-    dpkg-deb --root-owner-group -Zxz --build "$root" "$dist/syslogbox_${version}_amd64.deb" > /dev/null
-    rm -r "$dist/dynamic" "$root"
+debian_library() {
+    package=libsyslogbox-dev root=$dist/library lib=lib/x86_64-linux-gnu
+    sh scripts/library.sh /usr $lib > /dev/null
+    sh scripts/install-library.sh "$root/usr" $lib
+    install -D -m 644 docs/LIBRARY.md "$root/usr/share/doc/$package/LIBRARY.md"
+    strip --strip-debug "$root/usr/$lib/libsyslogbox.a"
+    strip --strip-unneeded "$root/usr/$lib/libsyslogbox.so.0"
+    pack "$root/usr/$lib/libsyslogbox.so.0" libdevel << END
+Description: proved reader and writer of syslog records, for C
+ libsyslogbox has the calls of syslogbox for programs in C and in languages
+ that call C: whether octets are a syslog record (RFC 5424) and where they stop
+ being one, their parts, their one canonical form, frames of streams, legacy
+ packets, and the union of archives. It has the header, a static and a shared
+ library. Each call is proved to meet its contract.
+END
 }
 
 tarball
 if command -v dpkg-deb > /dev/null; then
     debian
+    debian_library
 else
-    echo "There is no dpkg-deb here, so no Debian package was made."
+    echo "There is no dpkg-deb here, so no Debian packages were made."
 fi
 (cd "$dist" && sha256sum -- *)

@@ -1,12 +1,12 @@
 #!/usr/bin/env python3
-"""Proves a program and the crates below it, side by side as far as they stand apart, and builds the program.
+"""Proves a program, or a library for C, and the crates below it, side by side as far as they stand apart, and builds it.
 
-usage: scripts/prove.py [--costs FOLDER] PROGRAM
+usage: scripts/prove.py [--costs FOLDER] CRATE
 
 One rt at a time works in a crate's folder and those below it, so each library is proved in a copy of what it stands on,
 in TMPDIR, best on the repository's own disk. What is built comes into the out/ folders of the crates. Prints how far each crate
 is, and all that rt says of one that is not proved. With --costs each crate has one job, and FOLDER/CRATE.costs has what rt says
-of it with the seconds, for scripts/costs.py. The status is 0 exactly where the program is built.
+of it with the seconds, for scripts/costs.py. The status is 0 exactly where the crate is built.
 """
 import argparse
 import functools
@@ -145,11 +145,12 @@ class Proof:
         return self.proved == len(self.words) - 1
 
     def build(self):
-        """Proves the program, builds it and runs it as its crate says, and gives whether all passed."""
+        """Proves the program, builds it and runs it as its crate says, and gives whether all passed; a library is built."""
         folder = ROOT / "crates" / self.program
-        words = (folder / "args").read_text().splitlines()
+        args = folder / "args"
+        words = ["run", "--", *args.read_text().splitlines()] if args.exists() else ["lib"]
         said = self.run(self.program, folder, "check", *(["--jobs", "1"] if self.costs else []))
-        if said is None or self.run(self.program, folder, "run", "--", *words) is None:
+        if said is None or self.run(self.program, folder, *words) is None:
             return False
         self.tell(f"{self.program} is proved, {functions(said)} functions, and built", proved=1)
         return True

@@ -1,5 +1,5 @@
 #!/bin/sh
-# Lays the object of release/, and the C archives that it is linked with, into build/release, by their checksums.
+# Lays the objects of release/, and the C archives that they are linked with, into build/release, by their checksums.
 set -eu
 cd "$(dirname "$0")/.."
 machine=$(uname -sm)
@@ -8,7 +8,9 @@ if [ "$machine" != "Linux x86_64" ]; then
     exit 1
 fi
 mkdir -p build/release
-gzip -dc release/syslogbox.o.gz > build/release/syslogbox.o
+for object in syslogbox.o libsyslogbox.o; do
+    gzip -dc release/$object.gz > build/release/$object
+done
 cp release/libos_c.a release/liblibc_c.a build/release/
 cd build/release
 sha256sum --quiet -c ../../release/SHA256SUMS

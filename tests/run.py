@@ -18,7 +18,10 @@ import tempfile
 from importlib import import_module
 
 sys.dont_write_bytecode = True
+from cases.algebra import algebra
 from cases.archives import archives
+from cases.auditing import auditing
+from cases.bindings import bindings
 from cases.collect import collect
 from cases.commands import commands
 from cases.costs import costs
@@ -34,7 +37,8 @@ from lib.program import Folder, Program
 from lib.results import Results
 
 PARTS = {part.__name__: part for part in
-         (commands, mutated, sending, legacy, collect, sockets, descriptors, archives, verdicts, costs, libraries, soak)}
+         (commands, mutated, sending, legacy, collect, sockets, descriptors, archives, algebra, auditing, bindings, verdicts, costs,
+          libraries, soak)}
 ALONE = {"soak": "hostile.soak", "mutants": "mutants.run", "senders": "peers.senders", "load": "peers.load"}
 
 

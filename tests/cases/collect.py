@@ -178,10 +178,9 @@ def calls(program, results):
                 results.check(f"{label} is interrupted", seen == whole or stopped(seen), str(seen))
                 if kind == "receive":
                     results.same(f"{label} is short", refused(receive_short=n), whole)
-        # the first write, of no octets, asks at the start whether the output can be written
-        results.same(f"{name}: nothing can be written", refused(fd=1, write=1), (2, b"", b"write fault\n"))
-        results.same(f"{name}: the archive cannot be written", refused(fd=1, write=2), (2, b"", whole[2] + b"write fault\n"))
-        results.same(f"{name}: a short write", refused(fd=1, write_short=2), whole)
+        # nothing is written at the start, where it is asked whether the output can be written
+        results.same(f"{name}: the archive cannot be written", refused(fd=1, write=1), (2, b"", whole[2] + b"write fault\n"))
+        results.same(f"{name}: a short write", refused(fd=1, write_short=1), whole)
         seen = refused(fd=2, write=1)
         right = seen[0] == 2 and seen[1] in [archive for archive, _ in some[2:]] and seen[2] == b""
         results.check(f"{name}: a line cannot be written", right, str(seen))

@@ -7,7 +7,7 @@ import subprocess
 from pathlib import Path
 from random import Random
 
-from cases.rows import ELEMENTS, EXAMPLE, HELLO, LEGACY, RECORDS, REFUSED, STREAMS, TRIMMED, WORDS
+from cases.rows import ELEMENTS, EXAMPLE, HELLO, LEGACY, RECORDS, REFUSED, STREAMS, SUMMARIES, TRIMMED, WORDS
 from hostile.records import ids
 from lib import reference
 from lib.faults import each_allocation, each_call
@@ -37,7 +37,7 @@ def tables(program, results):
         row(program, results, name, ["check"], octets, 1, b"1 " + line + b"\n", b"")
         for command in ["convert", "show"]:
             row(program, results, name, [command], octets, 1, b"", b"1 " + line + b"\n")
-    for case in WORDS + STREAMS + LEGACY + TRIMMED:
+    for case in WORDS + STREAMS + LEGACY + TRIMMED + SUMMARIES:
         row(program, results, *case)
     for words in ["--version"], ["-V"]:
         seen = program.run(words)

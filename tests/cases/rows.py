@@ -369,6 +369,28 @@ TRIMMED = [
     ("send has no dialect", ["send", *WIDE, "x"], b"", 2, b"", None),
 ]
 
+SUMMARY = ["check", "--summary"]
+NO_PACKETS = b"legacy 0 no-time 0 no-host 0\n"
+
+# words, standard input, status, standard output, standard error (None: any text, but some)
+SUMMARIES = [
+    ("no legacy packet", SUMMARY, HELLO, 0, b"1 ok\n", NO_PACKETS),
+    ("no legacy packet, with a clock", [*SUMMARY, *LEGACY_2001], HELLO, 0, b"1 ok\n", NO_PACKETS),
+    ("a refused record", SUMMARY, b"x", 1, b"1 syntax priority 0\n", NO_PACKETS),
+    ("no frame", [*SUMMARY, *LF], b"", 0, b"", NO_PACKETS),
+    ("a packet", [*SUMMARY, *LEGACY_2001], STAMP + b"h t: m", 0, b"1 ok\n", b"legacy 1 no-time 0 no-host 0\n"),
+    ("a packet without a time, which has no host", [*SUMMARY, *LEGACY_2001], b"<13>h t: m", 0, b"1 ok\n", b"legacy 1 no-time 1 no-host 1\n"),
+    ("a packet without a host", [*SUMMARY, *LEGACY_2001], STAMP + b"\tm", 0, b"1 ok\n", b"legacy 1 no-time 0 no-host 1\n"),
+    ("packets and records", [*SUMMARY, *LF, *LEGACY_2001], b"\n".join([STAMP + b"h t: m", A, b"x", STAMP + b"h", b"<13>\xef\xbb\xbf\xff", b"<13>1 x", b""]),
+     1, b"1 ok\n2 ok\n3 ok\n4 ok\n5 legacy-not-utf8 7\n6 syntax timestamp 6\n", b"legacy 3 no-time 1 no-host 1\n"),
+    ("an unfinished line", [*SUMMARY, *LF, *LEGACY_2001], STAMP + b"h\nx", 1, b"1 ok\nunterminated %d\n" % (len(STAMP) + 2), b"legacy 1 no-time 0 no-host 0\n"),
+    ("a bad count", [*SUMMARY, *COUNTED, *LEGACY_2001], entries(b"x") + b"x", 1, b"1 ok\n2 bad-count 3\n", b"legacy 1 no-time 1 no-host 1\n"),
+    ("a datagram that is too long", [*SUMMARY, *LEGACY_2001], b"x" * 262_145, 1, b"1 too-long\n", NO_PACKETS),
+    ("a line that is too long", [*SUMMARY, *LF, *LEGACY_2001], b"x" * 262_145 + b"\nx\n", 1, b"1 too-long\n2 ok\n", b"legacy 1 no-time 1 no-host 1\n"),
+    *[("summary is no option", [command, "--summary"], HELLO, 2, b"", None) for command in ["convert", "show", "archive"]],
+    *[("summary takes no value and stands once", words, HELLO, 2, b"", None) for words in [["check", "--summary=true"], [*SUMMARY, "--summary"]]],
+]
+
 # words of `collect` that are refused before anything is bound
 NOT_COLLECTED = [
     [], ["udp"], ["udp", "5140"], ["udp", "5140", "1", "1"], ["tcp", "5140", "1"], ["UDP", "5140", "1"], ["datagram", "5140", "1"],

@@ -21,8 +21,10 @@ def with_octet(octets, at):
 def write_sums(folder):
     """Makes the checksums those of the object as it is."""
     release = folder / "release"
-    (folder / "syslogbox.o").write_bytes(gzip.decompress((release / "syslogbox.o.gz").read_bytes()))
-    of_object = run(["sha256sum", "syslogbox.o"], cwd=folder)[1]
+    objects = ["syslogbox.o", "libsyslogbox.o"]
+    for name in objects:
+        (folder / name).write_bytes(gzip.decompress((release / f"{name}.gz").read_bytes()))
+    of_object = run(["sha256sum", *objects], cwd=folder)[1]
     of_archives = run(["sha256sum", "libos_c.a", "liblibc_c.a"], cwd=release)[1]
     (release / "SHA256SUMS").write_text(of_object + of_archives)
 
@@ -36,6 +38,20 @@ def built_by_rt(folder):
     words = ["--target", "x86_64-unknown-linux-gnu", "--toolchain", kit / "toolchain", "-o", made.with_suffix(""), made]
     subprocess.run([kit / "bin/rattle-link", *words, kit / "c/libos_c.a", kit / "c/liblibc_c.a"], check=True, capture_output=True)
     return made
+
+
+def library(folder, results):
+    """The library that rt built beside that of release/."""
+    made = folder / "crates/c_library/out"
+    made.mkdir()
+    whole = gzip.decompress((folder / "release/libsyslogbox.o.gz").read_bytes())
+    for octets, right, text in [(whole, 0, "it is what"), (with_octet(whole, len(whole) // 2), 1, "library is not the one")]:
+        (made / "c_library.o").write_bytes(octets)
+        subprocess.run(["ar", "rc", "libc_library.a", "c_library.o"], cwd=made, check=True)
+        status, _, said = compare(folder)
+        results.check(f"the library is compared: {text}", status == right and text in said, said)
+    for file in made.iterdir():
+        file.unlink()
 
 
 def comparing(room, results):
@@ -69,6 +85,7 @@ def comparing(room, results):
     made.unlink()
     status, last, said = compare(folder)
     results.check("without the object, its program is compared", (status, last) == (0, "1 passed, 0 failed"), said)
+    library(folder, results)
     (release / "KIT").write_text("another kit\n")
     status, last, said = compare(folder)
     results.check("under another toolchain nothing is compared", (status, last) == (0, "0 passed, 0 failed") and "not compared" in said, said)

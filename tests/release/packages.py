@@ -44,8 +44,10 @@ def packages(room, results):
     for name, file in files.items():
         if name.endswith(".tar.gz"):
             tarball(file, version, room, results)
+        elif name.startswith("libsyslogbox-dev"):
+            debian(file, room / "library", "libsyslogbox-dev", results, lambda root: library(root, version, room, results))
         else:
-            debian(file, version, room, results)
+            debian(file, room / "root", "syslogbox", results, lambda root: installed(root, version, results))
     with open(folder / "crates.txt", "a", encoding="utf-8") as crates:
         crates.write("# changed\n")
     results.check("make dist refuses a release of other sources", "built from other sources" in made(folder)[1])
@@ -63,16 +65,16 @@ def tarball(file, version, room, results):
     results.check("its program is static", b"/lib64/ld-linux" not in program.read_bytes())
 
 
-def debian(file, version, room, results):
+def debian(file, root, package, results, look):
+    """A package has no error, is installed in a clean root and looked at there, and leaves nothing."""
     if lacking("lintian"):
         results.skip("lintian has no error", "there is no lintian")
     else:
         status, said = run(["lintian", "--allow-root", "--fail-on", "error", str(file)])
-        results.check("lintian has no error", status == 0, said)
+        results.check(f"lintian has no error in {package}", status == 0, said)
     if os.geteuid():
         results.skip("the package in a clean root", "only root installs it")
         return
-    root = room / "root"
     for name in ["info", "updates"]:
         (root / "var/lib/dpkg" / name).mkdir(parents=True)
     # the one package that it depends on, as this machine has it
@@ -80,13 +82,36 @@ def debian(file, version, room, results):
     before = files_of(root)
     dpkg = {"env": {**os.environ, "PATH": f"{os.environ['PATH']}:/usr/sbin:/sbin"}}
     status, said = run(["dpkg", f"--root={root}", "--install", str(file)], **dpkg)
-    results.check("dpkg installs the package", status == 0, said)
+    results.check(f"dpkg installs {package}", status == 0, said)
+    if status == 0:
+        look(root)
+    status, said = run(["dpkg", f"--root={root}", "--purge", package], **dpkg)
+    results.check(f"dpkg removes {package}", status == 0, said)
+    results.check(f"nothing of {package} is left behind", files_of(root) == before, str(files_of(root) ^ before))
+
+
+def installed(root, version, results):
     program = root / "usr/bin/syslogbox"
-    results.check("the installed program converts the first record", status == 0 and converts(program))
-    results.check("the installed program tells its version", status == 0 and version_of(program) == f"syslogbox {version}")
-    status, said = run(["dpkg", f"--root={root}", "--purge", "syslogbox"], **dpkg)
-    results.check("dpkg removes the package", status == 0, said)
-    results.check("nothing is left behind", files_of(root) == before, str(files_of(root) ^ before))
+    results.check("the installed program converts the first record", converts(program))
+    results.check("the installed program tells its version", version_of(program) == f"syslogbox {version}")
+
+
+def library(root, version, room, results):
+    """A program in C is compiled by what pkg-config tells of the installed library, and runs with it."""
+    if lacking("pkg-config"):
+        results.skip("the installed library", "there is no pkg-config")
+        return
+    folder, source = root / "usr/lib/x86_64-linux-gnu", room / "first.c"
+    source.write_text('#include <syslogbox.h>\nint main(void) { return !syslogbox_check((const uint8_t *)"%s", %d, 0); }\n'
+                      % (RECORD.decode(), len(RECORD)))
+    told = {"env": {**os.environ, "PKG_CONFIG_PATH": str(folder / "pkgconfig"), "PKG_CONFIG_SYSROOT_DIR": str(root)}}
+    flags = run(["pkg-config", "--cflags", "--libs", "syslogbox"], **told)[1].split("\n")[0]
+    status, said = run(["sh", "-c", f'exec gcc -o "$1/first" "$1/first.c" {flags}', "sh", room])
+    results.check("a program is compiled with the installed library", status == 0, said)
+    seen = run([str(room / "first")], env={**os.environ, "LD_LIBRARY_PATH": str(folder)}) if status == 0 else None
+    results.check("it checks the first record with the shared library", seen == (0, ""), str(seen))
+    of_version = run(["pkg-config", "--modversion", "syslogbox"], **told)[1].strip()
+    results.check("pkg-config tells the version", of_version == version, of_version)
 
 
 def files_of(root):

@@ -26,7 +26,8 @@ use Rattle.driver.specs.Effects.{Done, status_of}
 use Rattle.driver.specs.declared.status.TheConstants.{DONE, FAULT, NO_MEMORY}
 use Rattle.archive_engine.specs.Answered.{AnswersWith}
 use Rattle.archive_engine.specs.FaultLines.{fault_line}
-use Rattle.archive_engine.specs.Merged.{IsMerged, IsRefusal, IsRefused, IsSecondAbove, MergeDone, RanMerge, RanOutOfMemory, WritesFronts}
+use Rattle.archive_engine.specs.Merged.{IsMerged, IsRefusal, IsRefused, IsSecondAbove, MergeDone, RanMerge, RanOutOfMemory}
+use Rattle.archive_engine.specs.Merged.{WritesFronts}
 use Rattle.archive_engine.specs.Merged.{merge_devices, merge_line, merge_status, refused_behind}
 use Rattle.archive_engine.proofs.FaultLemmas.{HasFaultOf, goes_on}
 
@@ -282,11 +283,13 @@ unsaid : (fault : MergeFault) (dl el dr er : InputState) (w w_new n n_new : Outp
     → Reports (codes "want of memory\n") NO_MEMORY n n_new status
     → RanMerge (merge_devices dl dr w n) (merge_devices el er w_new n_new) status
 unsaid fault dl el dr er w w_new n n_new status is s f r =
-    ran_told Memory dl el dr er w w_new n n_new status (λ _. inr (fault, is, s)) (unsaid_stop fault dl el dr er w.taken w_new.taken s)
+    ran_told Memory dl el dr er w w_new n n_new status (λ _. inr (fault, is, s))
+    (unsaid_stop fault dl el dr er w.taken w_new.taken s)
     (unsaid_failures fault dl el dr er w w_new is f) r
 
 pub ran_stopped : (fault : MergeFault) (dl el dr er : InputState) (w w_new n n_new : OutputState) (status : ℕ)
-    → (fault ≡ Memory → (el ≡ dl) × (er ≡ dr) × (w_new ≡ w)) → Stopped fault dl el dr er w.taken w_new.taken → TellsFailures {X = ℕ} (Err fault) dl el dr er w w_new
+    → (fault ≡ Memory → (el ≡ dl) × (er ≡ dr) × (w_new ≡ w)) → Stopped fault dl el dr er w.taken w_new.taken
+    → TellsFailures {X = ℕ} (Err fault) dl el dr er w w_new
     → Reports (merge_line fault) (merge_status fault) n n_new status
     ⊎ (IsRefusal fault × Reports (codes "want of memory\n") NO_MEMORY n n_new status)
     → RanMerge (merge_devices dl dr w n) (merge_devices el er w_new n_new) status

@@ -5,11 +5,14 @@ use Rattle.archive_text.specs.declared.fault.ArchiveFault.TheVariants.{BadFrame,
 use Rattle.archive_text.specs.declared.fault.ArchiveFault.TheVariants.{NotAscending}
 use Rattle.frame_engine.specs.Line.{fault_text}
 
--- the archive of this name, its fault, and where
+-- a fault, and where it is
+abbrev pub fault_words : ArchiveFault → List ℕ
+fault_words (BadFrame at) = codes "bad-frame " ++ decimal at ++ codes "\n"
+fault_words (EntryTooLong at) = codes "entry-too-long " ++ decimal at ++ codes "\n"
+fault_words (BadEntry at fault) = codes "bad-entry " ++ decimal at ++ codes " " ++ fault_text fault ++ codes "\n"
+fault_words (NotCanonical at) = codes "not-canonical " ++ decimal at ++ codes "\n"
+fault_words (NotAscending at) = codes "not-ascending " ++ decimal at ++ codes "\n"
+
+-- the same of the archive of this name
 abbrev pub fault_line : List ℕ → ArchiveFault → List ℕ
-fault_line name (BadFrame at) = name ++ codes " bad-frame " ++ decimal at ++ codes "\n"
-fault_line name (EntryTooLong at) = name ++ codes " entry-too-long " ++ decimal at ++ codes "\n"
-fault_line name (BadEntry at fault) =
-    name ++ codes " bad-entry " ++ decimal at ++ codes " " ++ fault_text fault ++ codes "\n"
-fault_line name (NotCanonical at) = name ++ codes " not-canonical " ++ decimal at ++ codes "\n"
-fault_line name (NotAscending at) = name ++ codes " not-ascending " ++ decimal at ++ codes "\n"
+fault_line name fault = (name ++ codes " ") ++ fault_words fault

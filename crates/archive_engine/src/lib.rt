@@ -13,5 +13,6 @@ mod migrate;
 mod reception;
 
 pub use archive::archive_input;
+pub use faults::report_archive_fault;
 pub use merge::merge_archives;
 pub use migrate::migrate_archive;

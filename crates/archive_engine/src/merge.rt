@@ -4,9 +4,9 @@ ghost use Rattle.std.specs.Prelude.{◌⊎◌, codes};
 ghost use Rattle.driver.specs.Devices.{Reports};
 ghost use Rattle.archive_engine.specs.Merged.{IsRefusal, RanMerge, merge_devices, merge_line, merge_status};
 
-use crate::faults::report_fault;
+use crate::faults::report_archive_fault;
 use archive_streams::{MergeFault, Side, merge_streams};
-use driver::{DONE, FAULT, NO_MEMORY, report};
+use driver::{DONE, FAULT, NO_MEMORY, REFUSED, report};
 use octet_devices::{Input, Output};
 use std::alloc::Global;
 
@@ -18,8 +18,20 @@ fn report_merge_fault<N: Output>(alloc: Global, fault: MergeFault, diagnostics: 
         (N.state diagnostics.old) (N.state diagnostics.new) result) }
 {
     match fault {
-        MergeFault::Left(fault) => report_fault(alloc, b"left", fault, diagnostics),
-        MergeFault::Right(fault) => report_fault(alloc, b"right", fault, diagnostics),
+        MergeFault::Left(fault) => report_archive_fault(
+            alloc,
+            b"left ",
+            fault,
+            REFUSED,
+            diagnostics,
+        ),
+        MergeFault::Right(fault) => report_archive_fault(
+            alloc,
+            b"right ",
+            fault,
+            REFUSED,
+            diagnostics,
+        ),
         MergeFault::Read(Side::Left) => report(diagnostics, b"left read fault\n", FAULT),
         MergeFault::Read(Side::Right) => report(diagnostics, b"right read fault\n", FAULT),
         MergeFault::Endless(Side::Left) => report(diagnostics, b"left endless input\n", FAULT),

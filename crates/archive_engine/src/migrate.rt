@@ -3,9 +3,9 @@
 ghost use Rattle.driver.specs.Devices.{devices};
 ghost use Rattle.archive_engine.specs.Migrated.{RanMigrate};
 
-use crate::faults::report_fault;
+use crate::faults::report_archive_fault;
 use archive_migration::{ReadFault, migrate};
-use driver::{DONE, FAULT, NO_MEMORY, report};
+use driver::{DONE, FAULT, NO_MEMORY, REFUSED, report};
 use octet_devices::{Input, Output, ReadAllFault, read_all, write_all};
 use std::alloc::Global;
 
@@ -30,7 +30,9 @@ pub fn migrate_archive<R: Input, W: Output, N: Output>(
     };
     let archive = match migrate(alloc, text.as_slice()) {
         Ok(archive) => archive,
-        Err(ReadFault::Bad(fault)) => return report_fault(alloc, b"old", fault, diagnostics),
+        Err(ReadFault::Bad(fault)) => {
+            return report_archive_fault(alloc, b"old ", fault, REFUSED, diagnostics);
+        }
         Err(ReadFault::Memory) => return report(diagnostics, b"want of memory\n", NO_MEMORY),
     };
     match write_all(output, archive.as_slice()) {

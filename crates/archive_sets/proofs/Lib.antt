@@ -4,3 +4,4 @@ pub mod Stops
 pub mod SelectionLaws
 pub mod Ids
 pub mod Records
+pub mod Together

@@ -4,3 +4,4 @@ pub mod Failures
 pub mod Selected
 pub mod Selecting
 pub mod Fields
+pub mod Together

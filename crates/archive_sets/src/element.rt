@@ -17,8 +17,8 @@ pub struct HasElement<'a> {
     pub id: &'a [u8],
 }
 
-// Whether one of the elements has this id.
-fn has_id(elements: Elements<'_>, id: &[u8]) -> bool
+/// Whether one of the elements has this id.
+pub fn has_id(elements: Elements<'_>, id: &[u8]) -> bool
     ensures { (es : List ElementParts) → Each Element es (elements_left elements.entry)
         → (IsTrue result ↔ HasId es id.now) }
 {

@@ -18,8 +18,8 @@ pub struct AsSevereAs {
     pub severity: Severity,
 }
 
-// Whether a priority has a severity as severe as this, or a more severe one.
-fn is_as_severe(priority: Priority, severity: Severity) -> bool
+/// Whether a priority has a severity as severe as this, or a more severe one.
+pub fn is_as_severe(priority: Priority, severity: Severity) -> bool
     ensures { IsTrue result ↔ (priority % 8 ≤ severity_code severity) }
 {
     priority.severity().code() <= severity.code()
@@ -42,8 +42,8 @@ pub struct OfFacility {
     pub facility: Facility,
 }
 
-// Whether a priority is of a facility.
-fn is_of(priority: Priority, facility: Facility) -> bool
+/// Whether a priority is of a facility.
+pub fn is_of(priority: Priority, facility: Facility) -> bool
     ensures { IsTrue result ↔ (priority / 8 ≡ facility_code facility) }
 {
     priority.facility().code() == facility.code()

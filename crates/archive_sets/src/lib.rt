@@ -5,6 +5,7 @@
 #![tactic(auto)]
 
 mod condition;
+mod conditions;
 mod copying;
 mod element;
 mod fault;
@@ -18,6 +19,7 @@ mod tests;
 mod word_field;
 
 pub use condition::{Both, Condition, OnlyUndated};
+pub use conditions::{AskedWord, Conditions, Times};
 pub use element::HasElement;
 pub use fault::SelectFault;
 pub use fields::{AsSevereAs, HasWord, OfFacility};

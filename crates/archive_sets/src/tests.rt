@@ -1,6 +1,6 @@
 use crate::{
-    AsSevereAs, Both, Condition, HasElement, HasWord, InRange, OfFacility, OnlyUndated,
-    SelectFault, WordField, select_stream,
+    AsSevereAs, AskedWord, Both, Condition, Conditions, HasElement, HasWord, InRange, OfFacility,
+    OnlyUndated, SelectFault, Times, WordField, select_stream,
 };
 use archive_streams::{ArchiveEntries, EntriesFault};
 use archive_text::ArchiveFault;
@@ -125,6 +125,27 @@ fn records_are_selected_by_their_fields(rt: HostRuntime) -> Result<(), Fail> {
     assert_eq!(rt; written.as_slice(), &text[..30]);
     assert_eq!(rt; selected(&rt, &HasElement { id: b"b" }, text).0, Ok(2));
     assert_eq!(rt; selected(&rt, &HasElement { id: b"c" }, text).0, Ok(0));
+    Ok(())
+}
+
+#[test]
+fn conditions_that_are_given_together_are_each_met(rt: HostRuntime) -> Result<(), Fail> {
+    let mut asked = Conditions::all();
+    assert_eq!(rt; selected(&rt, &asked, ALL).0, Ok(3));
+    asked.severity = Some(Severity::Notice);
+    asked.facility = Some(Facility::User);
+    asked.hostname = AskedWord::Is(b"h");
+    asked.proc_id = AskedWord::Absent;
+    assert_eq!(rt; selected(&rt, &asked, ALL).0, Ok(2));
+    asked.times = Times::Undated;
+    let (answer, written) = selected(&rt, &asked, ALL);
+    assert_eq!(rt; answer, Ok(1));
+    assert_eq!(rt; written.as_slice(), A);
+    asked.id = Some(b"-");
+    assert_eq!(rt; selected(&rt, &asked, ALL).0, Ok(0));
+    asked.id = None;
+    asked.msg_id = AskedWord::Is(b"h");
+    assert_eq!(rt; selected(&rt, &asked, ALL).0, Ok(0));
     Ok(())
 }
 

@@ -20,6 +20,12 @@ flag_rule id = record (option_rule id) { action = Some SetTrue }
 abbrev pub required_rule : Text → Rule
 required_rule id = record (new_rule id) { required = true }
 
+-- the files that are joined: one at least, and 512 at most
+abbrev pub files_rule : Rule
+files_rule = record (required_rule (codes "FILE")) {
+  range = Some (record { start_inclusive = 1; end_inclusive = 512 });
+}
+
 -- the options of a command that may read legacy packets
 abbrev pub with_legacy_rules : App → App
 with_legacy_rules a =
@@ -34,18 +40,40 @@ with_reading_rules a = with_legacy_rules (with_rule a (flag_rule (codes "trim"))
 abbrev pub input_app : Text → App
 input_app name = with_reading_rules (with_rule (new_app name) (default_rule (codes "framing") (codes "datagram")))
 
+-- the command that writes the fields of records
+abbrev pub show_app : App
+show_app = with_rule (input_app (codes "show")) (flag_rule (codes "json"))
+
+-- the command that tells of each frame whether it is a record
+abbrev pub check_app : App
+check_app = with_rule (input_app (codes "check")) (flag_rule (codes "summary"))
+
 -- the command that reads records and writes them in canonical form
 abbrev pub convert_app : App
 convert_app = with_rule (input_app (codes "convert")) (option_rule (codes "to"))
 
--- the command that joins the archives of two files
-abbrev pub merge_app : App
-merge_app =
-    with_rule (with_rule (new_app (codes "merge")) (required_rule (codes "LEFT"))) (required_rule (codes "RIGHT"))
+-- a command that reads the archives of two files
+abbrev pub two_files_app : Text → App
+two_files_app name =
+    with_rule (with_rule (new_app name) (required_rule (codes "LEFT"))) (required_rule (codes "RIGHT"))
 
 -- the command that brings the old archive of a file into the present form
 abbrev pub migrate_app : App
 migrate_app = with_rule (new_app (codes "migrate")) (required_rule (codes "FILE"))
+
+-- the command that joins archives
+abbrev pub union_app : App
+union_app = with_rule (new_app (codes "union")) files_rule
+
+-- the options for the times of records
+abbrev pub with_time_rules : App → App
+with_time_rules a =
+    with_rule (with_rule (with_rule (with_rule a (option_rule (codes "from"))) (option_rule (codes "to")))
+    (flag_rule (codes "undated"))) (flag_rule (codes "only-undated"))
+
+-- the command that sums up an archive, period by period
+abbrev pub digest_app : App
+digest_app = with_rule (new_app (codes "digest")) (default_rule (codes "by") (codes "day"))
 
 -- the options of `send` that have a default value
 abbrev pub with_send_defaults : App → App
@@ -54,17 +82,28 @@ with_send_defaults a =
     (default_rule (codes "severity") (codes "notice"))) (default_rule (codes "up-to") (codes "debug")))
     (default_rule (codes "framing") (codes "lf"))
 
--- its options for the words of the header
-abbrev pub with_send_words : App → App
-with_send_words a =
+-- the options for the words of the header
+abbrev pub with_word_rules : App → App
+with_word_rules a =
     with_rule (with_rule (with_rule (with_rule a (option_rule (codes "host"))) (option_rule (codes "app")))
     (option_rule (codes "proc"))) (option_rule (codes "msgid"))
 
 -- the command that sends one record
 abbrev pub send_app : App
 send_app =
-    with_rule (with_rule (with_send_words (with_send_defaults (new_app (codes "send")))) (option_rule (codes "micros")))
+    with_rule (with_rule (with_word_rules (with_send_defaults (new_app (codes "send")))) (option_rule (codes "micros")))
     (required_rule (codes "TEXT"))
+
+-- the options for the priority
+abbrev pub with_priority_rules : App → App
+with_priority_rules a =
+    with_rule (with_rule a (option_rule (codes "severity"))) (option_rule (codes "facility"))
+
+-- the command that chooses records of an archive
+abbrev pub select_app : App
+select_app =
+    with_rule (with_word_rules (with_priority_rules (with_time_rules (new_app (codes "select")))))
+    (option_rule (codes "id"))
 
 -- the command that receives records from sockets
 abbrev pub collect_app : App
@@ -81,17 +120,33 @@ empty_app =
 -- the commands that handle frames one by one
 abbrev pub with_frame_commands : App → App
 with_frame_commands a =
-    with_subcommand (with_subcommand (with_subcommand a (input_app (codes "show")).top)
-    (input_app (codes "check")).top) convert_app.top
+    with_subcommand (with_subcommand (with_subcommand a show_app.top) check_app.top) convert_app.top
 
 -- the commands that write an archive
 abbrev pub with_archive_commands : App → App
 with_archive_commands a =
-    with_subcommand (with_subcommand (with_subcommand a (input_app (codes "archive")).top) merge_app.top)
-    migrate_app.top
+    with_subcommand (with_subcommand (with_subcommand a (input_app (codes "archive")).top)
+    (two_files_app (codes "merge")).top) migrate_app.top
+
+-- the commands that write the archive of some records of two archives
+abbrev pub with_part_commands : App → App
+with_part_commands a =
+    with_subcommand (with_subcommand a (two_files_app (codes "common")).top) (two_files_app (codes "minus")).top
+
+-- the commands of sets
+abbrev pub with_set_commands : App → App
+with_set_commands a =
+    with_subcommand (with_part_commands (with_subcommand a union_app.top)) (two_files_app (codes "diff")).top
+
+-- the commands that read an archive as it comes
+abbrev pub with_stream_commands : App → App
+with_stream_commands a = with_subcommand (with_subcommand a select_app.top) digest_app.top
+
+-- all commands of archives
+abbrev pub with_archives : App → App
+with_archives a = with_stream_commands (with_set_commands (with_archive_commands a))
 
 -- the whole command line
 abbrev pub line_app : App
 line_app =
-    with_subcommand (with_subcommand (with_archive_commands (with_frame_commands empty_app)) send_app.top)
-    collect_app.top
+    with_subcommand (with_subcommand (with_archives (with_frame_commands empty_app)) send_app.top) collect_app.top

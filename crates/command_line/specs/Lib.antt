@@ -1,5 +1,9 @@
 pub mod Clocks
 pub mod CommandLine
+pub mod Names
 pub mod Numbers
 pub mod Readings
 pub mod Requests
+pub mod Selects
+pub mod TimeDecision
+pub mod Times

@@ -10,7 +10,11 @@ abbrev pub says_given : Option Text → Bool
 says_given None = false
 says_given (Some text) = bytes_eq text (codes "true")
 
+-- the flag with this id was given
+abbrev pub is_given_in : Text → List Row → Bool
+is_given_in id rows = says_given (first_of id rows)
+
 -- the values of `--trim`, and of the options of legacy packets
 abbrev pub reading_in : List Row → Option FrameReading
 reading_in rows =
-    option_map (λ clock. record { trim = says_given (first_of (codes "trim") rows); clock = clock }) (clock_in rows)
+    option_map (λ clock. record { trim = is_given_in (codes "trim") rows; clock = clock }) (clock_in rows)

@@ -1,8 +1,8 @@
 -- What the words of a command line ask for.
-use Rattle.std.specs.Prelude.{⊤, ℕ, List, [], ◌∷◌, Some, None, Option, Result, Ok, Err, codes, if◌then◌else◌}
+use Rattle.std.specs.Prelude.{⊤, ℕ, Bool, List, [], ◌∷◌, Some, None, Option, Result, Ok, Err, codes, map, if◌then◌else◌}
 use Rattle.std.specs.Prelude.{option_and_then, option_map}
 use Rattle.std.specs.Str.{bytes_eq}
-use Rattle.clap.specs.Walk.{Text, Row, first_of}
+use Rattle.clap.specs.Walk.{Text, Row, all_of, first_of}
 use Rattle.clap.specs.Simple.{subcommand_of}
 use Rattle.clap.specs.Faults.{fault_of}
 use Rattle.clap.specs.Kinds.{Kinds}
@@ -13,8 +13,11 @@ use Rattle.collect_engine.specs.declared.collect_words.CollectWords.{CollectWord
 use Rattle.collect_engine.specs.declared.collect_words.Transport.{Transport}
 use Rattle.collect_engine.specs.declared.collect_words.Transport.TheVariants as transport
 use Rattle.command_line.specs.CommandLine.{line_app}
+use Rattle.command_line.specs.Names.{period_of}
 use Rattle.command_line.specs.Numbers.{number_in}
-use Rattle.command_line.specs.Readings.{reading_in}
+use Rattle.command_line.specs.Readings.{is_given_in, reading_in}
+use Rattle.command_line.specs.Selects.{ConditionsAsked, conditions_asked, conditions_in}
+use Rattle.archive_digest.specs.declared.period.Period.{Period}
 use Rattle.send_engine.specs.Options.{OptionTexts, texts_of}
 use Rattle.frame_engine.specs.declared.input_framing.InputFraming.{InputFraming}
 use Rattle.frame_engine.specs.declared.input_framing.InputFraming.TheVariants.{Datagram, Stream}
@@ -25,23 +28,37 @@ use Rattle.command_line.specs.declared.words.WordsFault.TheVariants.{Usage, Memo
 
 -- a request, its files by their names
 pub data Asked : Type 0 where
-  Check : FrameReading → InputFraming → Asked
-  Show : FrameReading → InputFraming → Asked
+  -- and whether it ends with a summary
+  Check : FrameReading → InputFraming → Bool → Asked
+  -- and whether it writes JSON
+  Show : FrameReading → InputFraming → Bool → Asked
   Convert : FrameReading → InputFraming → Option Framing → Asked
   Archive : FrameReading → InputFraming → Asked
   Merge : Text → Text → Asked
   Migrate : Text → Asked
+  Union : List Text → Asked
+  Common : Text → Text → Asked
+  Minus : Text → Text → Asked
+  Diff : Text → Text → Asked
+  Select : ConditionsAsked → Asked
+  Digest : Period → Asked
   Send : OptionTexts → Asked
   Collect : CollectWords → Asked
 
 -- the request, without where its names lie in memory
 abbrev pub asked_by : Request → Asked
-asked_by (request.Check input_framing way) = Check way input_framing
-asked_by (request.Show input_framing way) = Show way input_framing
+asked_by (request.Check input_framing way summary) = Check way input_framing summary
+asked_by (request.Show input_framing way json) = Show way input_framing json
 asked_by (request.Convert input_framing way to) = Convert way input_framing to
 asked_by (request.Archive input_framing way) = Archive way input_framing
 asked_by (request.Merge left right) = Merge left.now right.now
 asked_by (request.Migrate file) = Migrate file.now
+asked_by (request.Union files) = Union (map (λ s. s.now) files.items)
+asked_by (request.Common left right) = Common left.now right.now
+asked_by (request.Minus left right) = Minus left.now right.now
+asked_by (request.Diff left right) = Diff left.now right.now
+asked_by (request.Select conditions) = Select (conditions_asked conditions)
+asked_by (request.Digest period) = Digest period
 asked_by (request.Send options) = Send (texts_of options)
 asked_by (request.Collect words) = Collect words
 
@@ -63,14 +80,14 @@ input_framing_in rows = option_and_then input_framing_of (first_of (codes "frami
 -- `check` with the values of its options
 abbrev pub read_check : List Row → Option Asked
 read_check rows =
-    option_and_then (λ input_framing. option_map (λ way. Check way input_framing) (reading_in rows))
-    (input_framing_in rows)
+    option_and_then (λ input_framing. option_map (λ way. Check way input_framing (is_given_in (codes "summary") rows))
+    (reading_in rows)) (input_framing_in rows)
 
 -- `show` with the values of its options
 abbrev pub read_show : List Row → Option Asked
 read_show rows =
-    option_and_then (λ input_framing. option_map (λ way. Show way input_framing) (reading_in rows))
-    (input_framing_in rows)
+    option_and_then (λ input_framing. option_map (λ way. Show way input_framing (is_given_in (codes "json") rows))
+    (reading_in rows)) (input_framing_in rows)
 
 -- the framing of an input, as one of frames
 abbrev pub own_framing : InputFraming → Option Framing
@@ -103,6 +120,37 @@ read_merge rows =
 -- `migrate` with its file
 abbrev pub read_migrate : List Row → Option Asked
 read_migrate rows = option_map (λ file. Migrate file) (first_of (codes "FILE") rows)
+
+-- `union` with its files
+abbrev pub read_union : List Row → Option Asked
+read_union rows = option_map (λ files. Union files) (all_of (codes "FILE") rows)
+
+-- `common` with its files
+abbrev pub read_common : List Row → Option Asked
+read_common rows =
+    option_and_then (λ left. option_map (λ right. Common left right) (first_of (codes "RIGHT") rows))
+    (first_of (codes "LEFT") rows)
+
+-- `minus` with its files
+abbrev pub read_minus : List Row → Option Asked
+read_minus rows =
+    option_and_then (λ left. option_map (λ right. Minus left right) (first_of (codes "RIGHT") rows))
+    (first_of (codes "LEFT") rows)
+
+-- `diff` with its files
+abbrev pub read_diff : List Row → Option Asked
+read_diff rows =
+    option_and_then (λ left. option_map (λ right. Diff left right) (first_of (codes "RIGHT") rows))
+    (first_of (codes "LEFT") rows)
+
+-- `select` with the values of its options
+abbrev pub read_select : List Row → Option Asked
+read_select rows = option_map (λ conditions. Select conditions) (conditions_in rows)
+
+-- `digest` with the value of its option
+abbrev pub read_digest : List Row → Option Asked
+read_digest rows =
+    option_map (λ period. Digest period) (option_and_then period_of (first_of (codes "by") rows))
 
 -- `send` with the texts of its options
 abbrev pub read_send : List Row → Option Asked
@@ -147,17 +195,27 @@ read_collect rows =
     (option_and_then (number_in 1 65_535) (first_of (codes "PORT") rows)))
     (option_and_then transport_of (first_of (codes "TRANSPORT") rows))
 
--- the request of a subcommand with the values of its options
-abbrev pub read_of : Text × List Row → Option Asked
-read_of (name, rows) =
-    if bytes_eq name (codes "collect") then option_map (λ words. Collect words) (read_collect rows)
-    else (if bytes_eq name (codes "check") then read_check rows
+-- the request of any other subcommand
+abbrev pub read_other : Text → List Row → Option Asked
+read_other name rows =
+    if bytes_eq name (codes "check") then read_check rows
     else (if bytes_eq name (codes "convert") then read_convert rows
     else (if bytes_eq name (codes "show") then read_show rows
     else (if bytes_eq name (codes "archive") then read_archive rows
     else (if bytes_eq name (codes "merge") then read_merge rows
     else (if bytes_eq name (codes "migrate") then read_migrate rows
-    else (if bytes_eq name (codes "send") then read_send rows else None)))))))
+    else (if bytes_eq name (codes "common") then read_common rows
+    else (if bytes_eq name (codes "minus") then read_minus rows
+    else (if bytes_eq name (codes "diff") then read_diff rows
+    else (if bytes_eq name (codes "select") then read_select rows
+    else (if bytes_eq name (codes "digest") then read_digest rows
+    else (if bytes_eq name (codes "send") then read_send rows else None)))))))))))
+
+-- the request of a subcommand with the values of its options
+abbrev pub read_of : Text × List Row → Option Asked
+read_of (name, rows) =
+    if bytes_eq name (codes "collect") then option_map (λ words. Collect words) (read_collect rows)
+    else (if bytes_eq name (codes "union") then read_union rows else read_other name rows)
 
 -- the subcommand with the values of its options, where the parse has no fault
 abbrev pub rows_where : Kinds → Option (Text × List Row) → Option (Text × List Row)

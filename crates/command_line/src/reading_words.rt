@@ -4,7 +4,7 @@ ghost use Rattle.std.specs.Prelude.{◌≡◌, codes, false, option_map, IfOk};
 ghost use Rattle.clap.specs.Words.{app_of, found_of, rows_of};
 ghost use Rattle.clap.specs.declared.builder.command.Command.TheViews.{out-Command as fields_of};
 ghost use Rattle.command_line.specs.CommandLine.{with_reading_rules};
-ghost use Rattle.command_line.specs.Readings.{reading_in, says_given};
+ghost use Rattle.command_line.specs.Readings.{is_given_in, reading_in, says_given};
 
 use crate::clock_words::{clock_of_matches, with_legacy};
 use crate::words::{flag, value, with_arg};
@@ -33,13 +33,20 @@ fn says_given(text: Option<&str>) -> bool
     }
 }
 
+/// Whether a flag was given.
+pub fn is_given(matches: &ArgMatches<'_>, id: &str) -> bool
+    ensures { result ≡ is_given_in id.now (rows_of (found_of matches.now)) }
+{
+    says_given(value(matches, id))
+}
+
 /// How frames are read, by the options; None where a value of these options is refused.
 pub fn reading_of_matches(matches: &ArgMatches<'_>) -> Option<FrameReading>
     ensures { result ≡ reading_in (rows_of (found_of matches.now)) }
 {
     let clock = clock_of_matches(matches)?;
     Some(FrameReading {
-        trim: says_given(value(matches, "trim")),
+        trim: is_given(matches, "trim"),
         clock,
     })
 }

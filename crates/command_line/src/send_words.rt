@@ -1,24 +1,16 @@
 //! The words of `send`.
 
 ghost use Rattle.std.specs.Prelude.{◌≡◌, false, option_map, IfOk};
-ghost use Rattle.clap.specs.Words.{app_of, found_of, rows_of, rule_of};
+ghost use Rattle.clap.specs.Words.{app_of, found_of, rows_of};
 ghost use Rattle.clap.specs.declared.builder.command.Command.TheViews.{out-Command as fields_of};
-ghost use Rattle.command_line.specs.CommandLine.{option_rule, send_app, with_send_defaults, with_send_words};
+ghost use Rattle.command_line.specs.CommandLine.{send_app, with_send_defaults, with_word_rules};
 ghost use Rattle.command_line.specs.Requests.{asked_by, read_send};
 
 use crate::request::Request;
-use crate::words::{command, default_option, described, option, positional, value, with_arg};
-use clap::{Arg, ArgMatches, Command};
+use crate::words::{command, default_option, positional, told_option, value, with_arg};
+use clap::{ArgMatches, Command};
 use send_engine::SendOptions;
 use std::alloc::{AllocError, Global};
-
-// An option that takes a word of the header.
-fn word_option<'a>(alloc: Global, id: &'a str, help: &'a str) -> Arg<'a>
-    ensures rule { rule_of result ≡ option_rule id.entry.now }
-    ensures local { result.global ≡ false }
-{
-    described(option(alloc, id), help)
-}
 
 // The options of `send` that have a default value.
 fn with_send_defaults<'a>(alloc: Global, send: Command<'a>) -> Result<Command<'a>, AllocError>
@@ -37,15 +29,15 @@ fn with_send_defaults<'a>(alloc: Global, send: Command<'a>) -> Result<Command<'a
 }
 
 // The options of `send` for the words of the header.
-fn with_send_words<'a>(alloc: Global, send: Command<'a>) -> Result<Command<'a>, AllocError>
+fn with_words<'a>(alloc: Global, send: Command<'a>) -> Result<Command<'a>, AllocError>
     requires { (fields_of send).has_globals ≡ false }
-    ensures app { IfOk result (λ c. app_of c ≡ with_send_words (app_of send.entry)) }
+    ensures app { IfOk result (λ c. app_of c ≡ with_word_rules (app_of send.entry)) }
     ensures local { IfOk result (λ c. (fields_of c).has_globals ≡ false) }
 {
-    let send = with_arg(send, word_option(alloc, "host", "HOSTNAME"))?;
-    let send = with_arg(send, word_option(alloc, "app", "APP-NAME"))?;
-    let send = with_arg(send, word_option(alloc, "proc", "PROCID"))?;
-    with_arg(send, word_option(alloc, "msgid", "MSGID"))
+    let send = with_arg(send, told_option(alloc, "host", "HOSTNAME"))?;
+    let send = with_arg(send, told_option(alloc, "app", "APP-NAME"))?;
+    let send = with_arg(send, told_option(alloc, "proc", "PROCID"))?;
+    with_arg(send, told_option(alloc, "msgid", "MSGID"))
 }
 
 /// The command that sends one record.
@@ -55,9 +47,9 @@ pub fn send_command<'a>(alloc: Global) -> Result<Command<'a>, AllocError>
 {
     let send = command(alloc, "send", "Write one record as a frame");
     let send = with_send_defaults(alloc, send)?;
-    let send = with_send_words(alloc, send)?;
+    let send = with_words(alloc, send)?;
     let help = "Time: microseconds from 1970-01-01T00:00:00Z";
-    let send = with_arg(send, word_option(alloc, "micros", help))?;
+    let send = with_arg(send, told_option(alloc, "micros", help))?;
     with_arg(send, positional(alloc, "TEXT", "Message"))
 }
 

@@ -1,9 +1,12 @@
 //! Rows of words: numbers and zones, and what `collect` takes.
 
 use crate::{Request, WordsFault, collect_words, read_words};
+use archive_digest::Period;
+use archive_sets::{AskedWord, Conditions, InRange, Times};
 use collect_engine::{CollectWords, Transport};
 use std::test::Fail;
 use syslog_legacy::{Dialect, FrameReading, LegacyClock};
+use syslog_value::{Facility, Instant, Severity};
 
 // forty zeros and a year
 const PADDED: &str = "00000000000000000000000000000000000000002001";
@@ -97,6 +100,206 @@ fn other_years_and_zones_are_refused(rt: HostRuntime) {
     }
 }
 
+// whether a flag of `check` and one of `show` are read so
+fn has_flags(rt: &HostRuntime, words: &[&str], flag: bool) -> bool {
+    match read_words(rt.alloc(), words) {
+        Ok(Request::Check { summary, .. }) => summary == flag,
+        Ok(Request::Show { json, .. }) => json == flag,
+        _ => false,
+    }
+}
+
+#[test]
+fn check_has_a_summary_and_show_writes_json(rt: HostRuntime) {
+    assert!(rt; has_flags(&rt, &["check"], false));
+    assert!(rt; has_flags(&rt, &["check", "--trim", "--summary"], true));
+    assert!(rt; has_flags(&rt, &["show", "--trim"], false));
+    assert!(rt; has_flags(&rt, &["show", "--json", "--framing", "lf"], true));
+    assert!(rt; refuses(&rt, &["check", "--json"]));
+    assert!(rt; refuses(&rt, &["check", "--summary", "--summary"]));
+    assert!(rt; refuses(&rt, &["show", "--summary"]));
+    assert!(rt; refuses(&rt, &["show", "--json=true"]));
+}
+
+// the command, the left file and the right one
+fn sides<'a>(rt: &HostRuntime, words: &'a [&'a str]) -> Option<(u8, &'a str, &'a str)> {
+    match read_words(rt.alloc(), words) {
+        Ok(Request::Merge { left, right }) => Some((b'+', left, right)),
+        Ok(Request::Common { left, right }) => Some((b'&', left, right)),
+        Ok(Request::Minus { left, right }) => Some((b'-', left, right)),
+        Ok(Request::Diff { left, right }) => Some((b'/', left, right)),
+        _ => None,
+    }
+}
+
+#[test]
+fn two_files_have_their_sides(rt: HostRuntime) {
+    for (name, sign) in [
+        ("merge", b'+'),
+        ("common", b'&'),
+        ("minus", b'-'),
+        ("diff", b'/'),
+    ] {
+        assert!(rt; sides(&rt, &[name, "a", "b"]) == Some((sign, "a", "b")));
+        assert!(rt; sides(&rt, &[name, "--", "-b", "-"]) == Some((sign, "-b", "-")));
+        assert!(rt; refuses(&rt, &[name, "a"]));
+        assert!(rt; refuses(&rt, &[name, "a", "b", "c"]));
+        assert!(rt; refuses(&rt, &[name, "a", "b", "--trim"]));
+    }
+}
+
+// whether a union is made of these files
+fn unites(rt: &HostRuntime, words: &[&str], files: &[&str]) -> bool {
+    match read_words(rt.alloc(), words) {
+        Ok(Request::Union { files: found }) => found.as_slice() == files,
+        _ => false,
+    }
+}
+
+#[test]
+fn a_union_is_made_of_up_to_512_files(rt: HostRuntime) {
+    let mut words = ["a"; 514];
+    words[0] = "union";
+    assert!(rt; unites(&rt, &words[..2], &["a"]));
+    assert!(rt; unites(&rt, &["union", "b", "a", "b"], &["b", "a", "b"]));
+    assert!(rt; unites(&rt, &["union", "b", "--", "-a"], &["b", "-a"]));
+    assert!(rt; unites(&rt, &words[..513], &words[1..513]));
+    assert!(rt; refuses(&rt, &words));
+    assert!(rt; refuses(&rt, &["union"]));
+    assert!(rt; refuses(&rt, &["union", "a", "--trim"]));
+}
+
+// whether these are the conditions that `select` is given
+fn selects(rt: &HostRuntime, words: &[&str], asked: &Conditions<'_>) -> bool {
+    match &read_words(rt.alloc(), words) {
+        Ok(Request::Select { conditions }) => conditions == asked,
+        _ => false,
+    }
+}
+
+// whether `select` is given these times
+fn selects_times(rt: &HostRuntime, words: &[&str], times: Times) -> bool {
+    match &read_words(rt.alloc(), words) {
+        Ok(Request::Select { conditions }) => conditions.times == times,
+        _ => false,
+    }
+}
+
+// a range of microseconds
+fn range(from: Option<i64>, to: Option<i64>, undated: bool) -> Times {
+    Times::Range(InRange {
+        from: from.and_then(Instant::from_micros),
+        to: to.and_then(Instant::from_micros),
+        undated,
+    })
+}
+
+#[test]
+fn select_takes_times(rt: HostRuntime) {
+    let from = Some(1_795_600_800_000_000);
+    let to = Some(253_402_300_799_999_999);
+    assert!(rt; selects_times(&rt, &["select"], range(None, None, false)));
+    let words = ["select", "--from", "2026-11-25T10:00:00Z"];
+    assert!(rt; selects_times(&rt, &words, range(from, None, false)));
+    let words = [
+        "select",
+        "--to=9999-12-31T23:59:59.999999Z",
+        "--from=2026-11-25T07:00:00.000000-03:00",
+        "--undated",
+    ];
+    assert!(rt; selects_times(&rt, &words, range(from, to, true)));
+    let words = ["select", "--only-undated"];
+    assert!(rt; selects_times(&rt, &words, Times::Undated));
+    let words = ["select", "--undated", "--only-undated"];
+    assert!(rt; selects_times(&rt, &words, Times::Undated));
+}
+
+#[test]
+fn other_times_are_refused(rt: HostRuntime) {
+    for time in [
+        "-",
+        "",
+        "2026-11-25",
+        "2026-11-25T10:00:00",
+        "2026-11-25T10:00:00z",
+        "2026-11-25T10:00:00Z ",
+        "2026-11-25T10:00:00.1234567Z",
+        "2026-11-25T10:00:00.000000+03:00Z",
+        "2026-11-31T10:00:00Z",
+        "0000-01-01T00:00:00+00:01",
+        "9999-12-31T23:59:59-00:01",
+    ] {
+        assert!(rt; refuses(&rt, &["select", "--from", time]));
+        assert!(rt; refuses(&rt, &["select", "--to", time]));
+    }
+    let time = "2026-11-25T10:00:00Z";
+    assert!(rt; refuses(&rt, &["select", "--only-undated", "--from", time]));
+    assert!(rt; refuses(&rt, &["select", "--to", time, "--only-undated"]));
+    assert!(rt; refuses(&rt, &["select", "--to", time, "--to", time]));
+    assert!(rt; refuses(&rt, &["select", "--undated", "--undated"]));
+}
+
+#[test]
+fn select_takes_fields(rt: HostRuntime) {
+    let asked = Conditions {
+        times: range(None, None, false),
+        severity: Some(Severity::Error),
+        facility: Some(Facility::Local7),
+        hostname: AskedWord::Absent,
+        app_name: AskedWord::Is(b"-x"),
+        proc_id: AskedWord::Is(b"7"),
+        msg_id: AskedWord::Is(b""),
+        id: Some(b"-"),
+    };
+    let words = [
+        "select",
+        "--severity",
+        "err",
+        "--facility=local7",
+        "--host",
+        "-",
+        "--app=-x",
+        "--proc",
+        "7",
+        "--msgid",
+        "",
+        "--id",
+        "-",
+    ];
+    assert!(rt; selects(&rt, &words, &asked));
+    for words in [
+        ["select", "--severity", "error"],
+        ["select", "--facility", "LOCAL7"],
+        ["select", "--host=a", "--host=a"],
+        ["select", "--id=a", "--id=b"],
+        ["select", "--trim", "--id=a"],
+        ["select", "--id=a", "b"],
+    ] {
+        assert!(rt; refuses(&rt, &words));
+    }
+}
+
+// the period of `digest`
+fn period(rt: &HostRuntime, words: &[&str]) -> Option<Period> {
+    match read_words(rt.alloc(), words) {
+        Ok(Request::Digest { period }) => Some(period),
+        _ => None,
+    }
+}
+
+#[test]
+fn digest_takes_a_period(rt: HostRuntime) {
+    assert!(rt; period(&rt, &["digest"]) == Some(Period::Day));
+    assert!(rt; period(&rt, &["digest", "--by", "day"]) == Some(Period::Day));
+    assert!(rt; period(&rt, &["digest", "--by=month"]) == Some(Period::Month));
+    assert!(rt; period(&rt, &["digest", "--by", "hour"]) == Some(Period::Hour));
+    for word in ["", "Day", "days", "week", "year"] {
+        assert!(rt; refuses(&rt, &["digest", "--by", word]));
+    }
+    assert!(rt; refuses(&rt, &["digest", "--by=day", "--by=day"]));
+    assert!(rt; refuses(&rt, &["digest", "day"]));
+}
+
 // what `collect` takes
 fn collected(rt: &HostRuntime, words: &[&str]) -> Result<Option<CollectWords>, u8> {
     collect_words(rt.alloc(), words)
@@ -144,13 +347,23 @@ fn other_values_of_collect_are_refused(rt: HostRuntime) {
     assert!(rt; collected(&rt, &["check", "--legacy", "0"]) == Ok(None));
 }
 
+// whether this text is told in place of a request
+fn tells(rt: &HostRuntime, words: &[&str], text: &str) -> bool {
+    match &read_words(rt.alloc(), words) {
+        Err(WordsFault::Usage(told)) => told.as_str() == text,
+        _ => false,
+    }
+}
+
 #[test]
 fn the_version_is_a_text(rt: HostRuntime) {
-    for word in ["--version", "-V"] {
-        let told = match read_words(rt.alloc(), &[word]) {
-            Err(WordsFault::Usage(text)) => text.as_str() == "syslogbox 0.1.0\n",
-            _ => false,
-        };
-        assert!(rt; told);
-    }
+    assert!(rt; tells(&rt, &["--version"], "syslogbox 0.1.0\n"));
+    assert!(rt; tells(&rt, &["-V"], "syslogbox 0.1.0\n"));
+    assert!(rt;
+        tells(
+            &rt,
+            &["digest", "--by", ""],
+            "error: --by is month, day or hour\n"
+        )
+    );
 }

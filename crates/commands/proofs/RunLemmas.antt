@@ -1,5 +1,6 @@
 -- What a run of each command does.
-use Rattle.std.proofs.Common.{◌≡◌, ℕ, List, [], inl, inr, Option, None, Some, IfSome, codes, refl, string_bytes, subst, sym, take, ◌∙◌}
+use Rattle.std.proofs.Common.{◌≡◌, ℕ, List, [], inl, inr, Bool, true, false, Option, None, Some, IfSome, ap, codes, refl, string_bytes}
+use Rattle.std.proofs.Common.{subst, sym, take, ◌∙◌}
 use Rattle.std.proofs.KnownBytes.{Appends-nil}
 use Rattle.std.specs.Prelude.{IsSome}
 use Rattle.octet_devices.specs.Device.{InputState, OutputState}
@@ -13,23 +14,26 @@ use Rattle.driver.specs.declared.status.TheConstants.{FAULT, NO_MEMORY}
 use Rattle.driver.proofs.Ends.{unstarted}
 use Rattle.frame_engine.specs.Checked.{check_handling, refused_line}
 use Rattle.frame_engine.specs.Converted.{convert_handling, noted_line}
-use Rattle.frame_engine.specs.Handling.{Handling, HasOneOutputEach}
-use Rattle.frame_engine.specs.Sessions.{input_meaning}
-use Rattle.frame_engine.specs.Showing.{show_handling}
+use Rattle.frame_engine.specs.Handling.{Handling, HasOneOutputEach, PutsNothingOut, nothing_at_end}
+use Rattle.frame_engine.specs.Sessions.{handler_meaning, input_meaning}
+use Rattle.frame_engine.specs.Summaries.{check_end}
 use Rattle.frame_engine.specs.declared.input_framing.InputFraming.{InputFraming}
 use Rattle.frame_engine.specs.declared.input_framing.InputFraming.TheVariants.{Datagram, Stream}
 use Rattle.frame_engine.specs.declared.line.Line.{Line}
 use Rattle.frame_engine.proofs.ConvertLemmas.{convert_output}
-use Rattle.frame_engine.proofs.OutputLemmas.{check_output, show_output}
-use Rattle.frame_engine.proofs.SessionLemmas.{input_laws, nothing_goes_on, nothing_part}
+use Rattle.frame_engine.proofs.OutputLemmas.{check_output, show_json_output, show_output}
+use Rattle.frame_engine.proofs.SessionLemmas.{handler_laws, nothing_goes_on, nothing_out, nothing_part}
 use Rattle.archive_engine.specs.Archived.{archive_handling, archive_meaning}
 use Rattle.archive_engine.proofs.ArchiveLemmas.{archive_laws}
-use Rattle.command_line.specs.Requests.{Archive, Asked, Check, Collect, Convert, Merge, Migrate, Send, Show}
+use Rattle.archive_sets.specs.declared.fault.SelectFault.TheVariants.{Memory as select_Memory}
+use Rattle.command_line.specs.Requests.{Archive, Asked, Check, Collect, Common, Convert, Diff, Digest, Merge, Migrate}
+use Rattle.command_line.specs.Requests.{Minus, Select, Send, Show, Union}
 use Rattle.command_line.specs.Requests.{IsUsage}
 use Rattle.command_line.specs.declared.words.WordsFault.{WordsFault}
 use Rattle.command_line.specs.declared.words.WordsFault.TheVariants.{Usage, Memory as words_Memory}
 use Rattle.send_engine.specs.Sending.{OutOfMemory}
-use Rattle.commands.specs.Runs.{RanAs, RanInput, Stored, TellsUsage, TellsWordsFault}
+use Rattle.commands.specs.Runs.{RanAs, RanInput, TellsUsage, TellsWordsFault, show_by}
+use Rattle.commands.specs.Stored.{Stored}
 
 pub ran_input : (M : Meaning) (old new : Devices) (status : ℕ) → HasOneOutput M → Ran M old new status
     → RanInput M old new status
@@ -37,26 +41,35 @@ ran_input M old new status one r = record { ran = r; prefix = r.begins one }
 
 -- ---- each command on the standard input
 
-pub ran_check : (way : FrameReading) (framing : InputFraming) (stored : Stored) (old new : Devices) (status : ℕ)
-    → Ran (input_meaning (check_handling way) refused_line framing) old new status
-    → RanAs (Check way framing) stored old new status
-ran_check way framing stored old new status r =
-    ran_input (input_meaning (check_handling way) refused_line framing) old new status
-    (input_laws (check_handling way) refused_line framing (check_output way)) r
+check_end_out : (way : FrameReading) (summary : Bool) → PutsNothingOut (check_end way summary)
+check_end_out way true frames d (tally, tallied, is) = ap (λ (x : Done). x.output) is
+check_end_out way false frames d is = ap (λ (x : Done). x.output) is
 
-pub ran_show : (way : FrameReading) (framing : InputFraming) (stored : Stored) (old new : Devices) (status : ℕ)
-    → Ran (input_meaning (show_handling way) noted_line framing) old new status
-    → RanAs (Show way framing) stored old new status
-ran_show way framing stored old new status r =
-    ran_input (input_meaning (show_handling way) noted_line framing) old new status
-    (input_laws (show_handling way) noted_line framing (show_output way)) r
+pub ran_check : (way : FrameReading) (framing : InputFraming) (summary : Bool) (stored : Stored) (old new : Devices)
+    (status : ℕ) → Ran (handler_meaning (check_handling way) refused_line (check_end way summary) framing) old new status
+    → RanAs (Check way framing summary) stored old new status
+ran_check way framing summary stored old new status r =
+    ran_input (handler_meaning (check_handling way) refused_line (check_end way summary) framing) old new status
+    (handler_laws (check_handling way) refused_line (check_end way summary) framing (check_output way)
+    (check_end_out way summary)) r
+
+show_by_output : (way : FrameReading) (json : Bool) → HasOneOutputEach (show_by way json)
+show_by_output way true = show_json_output way
+show_by_output way false = show_output way
+
+pub ran_show : (way : FrameReading) (framing : InputFraming) (json : Bool) (stored : Stored) (old new : Devices)
+    (status : ℕ) → Ran (handler_meaning (show_by way json) noted_line nothing_at_end framing) old new status
+    → RanAs (Show way framing json) stored old new status
+ran_show way framing json stored old new status r =
+    ran_input (handler_meaning (show_by way json) noted_line nothing_at_end framing) old new status
+    (handler_laws (show_by way json) noted_line nothing_at_end framing (show_by_output way json) nothing_out) r
 
 pub ran_convert : (way : FrameReading) (framing : InputFraming) (to : Option Framing) (stored : Stored) (old new : Devices)
-    (status : ℕ) → Ran (input_meaning (convert_handling way to) noted_line framing) old new status
+    (status : ℕ) → Ran (handler_meaning (convert_handling way to) noted_line nothing_at_end framing) old new status
     → RanAs (Convert way framing to) stored old new status
 ran_convert way framing to stored old new status r =
-    ran_input (input_meaning (convert_handling way to) noted_line framing) old new status
-    (input_laws (convert_handling way to) noted_line framing (convert_output way to)) r
+    ran_input (handler_meaning (convert_handling way to) noted_line nothing_at_end framing) old new status
+    (handler_laws (convert_handling way to) noted_line nothing_at_end framing (convert_output way to) nothing_out) r
 
 pub ran_archive : (way : FrameReading) (framing : InputFraming) (stored : Stored) (old new : Devices) (status : ℕ)
     → Ran (archive_meaning way framing) old new status → RanAs (Archive way framing) stored old new status
@@ -81,23 +94,37 @@ nothing_begun D T (Stream kind) = (nothing_goes_on D kind, nothing_part D kind)
 pub unstarted_as : (asked : Asked) (stored : Stored) (old : Devices) (d : OutputState) (status : ℕ)
     → Reports (codes "want of memory\n") NO_MEMORY old.diagnostics d status
     → RanAs asked stored old (devices old.input old.output d) status
-unstarted_as (Check way framing) stored old d status t =
+unstarted_as (Check way framing summary) stored old d status t =
     let b = nothing_begun (check_handling way) refused_line framing in
-    ran_check way framing stored old _ status
-    (unstarted (input_meaning (check_handling way) refused_line framing) old d status b.0 b.1 t)
-unstarted_as (Show way framing) stored old d status t =
-    let b = nothing_begun (show_handling way) noted_line framing in
-    ran_show way framing stored old _ status
-    (unstarted (input_meaning (show_handling way) noted_line framing) old d status b.0 b.1 t)
+    ran_check way framing summary stored old _ status
+    (unstarted (handler_meaning (check_handling way) refused_line (check_end way summary) framing) old d status b.0 b.1 t)
+unstarted_as (Show way framing json) stored old d status t =
+    let b = nothing_begun (show_by way json) noted_line framing in
+    ran_show way framing json stored old _ status
+    (unstarted (handler_meaning (show_by way json) noted_line nothing_at_end framing) old d status b.0 b.1 t)
 unstarted_as (Convert way framing to) stored old d status t =
     let b = nothing_begun (convert_handling way to) noted_line framing in
     ran_convert way framing to stored old _ status
-    (unstarted (input_meaning (convert_handling way to) noted_line framing) old d status b.0 b.1 t)
+    (unstarted (handler_meaning (convert_handling way to) noted_line nothing_at_end framing) old d status b.0 b.1 t)
 unstarted_as (Archive way framing) stored old d status t =
     let b = nothing_begun (archive_handling way) noted_line framing in
     ran_archive way framing stored old _ status
     (unstarted (archive_meaning way framing) old d status b.0 b.1 t)
 unstarted_as (Merge left right) stored old d status t = inl (refl, t)
+unstarted_as (Union files) stored old d status t = inl (refl, t)
+unstarted_as (Common left right) stored old d status t = inl (refl, t)
+unstarted_as (Minus left right) stored old d status t = inl (refl, t)
+unstarted_as (Diff left right) stored old d status t = inl (refl, t)
+unstarted_as (Select asked) stored old d status t = inl (refl, (refl, t))
+unstarted_as (Digest period) stored old d status t = record {
+  ending = Some select_Memory;
+  outcome = (
+    record { xs = []; parts = []; read = tt; divided = record { each = tt; all = refl }; written = tt },
+    inl t,
+  );
+  failures = record { reader = refl; writer = refl };
+  memory = λ _. (refl, refl);
+}
 unstarted_as (Migrate file) stored old d status t = inl (refl, t)
 unstarted_as (Send texts) stored old d status t = record {
   ending = OutOfMemory;

@@ -1,3 +1,5 @@
 pub mod Files
 pub mod Memory
+pub mod Stored
+pub mod JoinedFiles
 pub mod Runs

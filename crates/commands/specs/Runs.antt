@@ -1,44 +1,39 @@
 -- What a run of each command does, whatever the devices do.
-use Rattle.std.specs.Prelude.{◌≡◌, ◌⊎◌, ℕ, List, Option, None, Some, IfSome, IsSome, codes, string_bytes}
+use Rattle.std.specs.Prelude.{◌≡◌, ◌⊎◌, ℕ, List, [], ◌∷◌, Bool, true, false, IfSome, IsSome, codes, string_bytes}
 use Rattle.octet_devices.specs.Device.{InputState, OutputState}
 use Rattle.driver.specs.Devices.{Devices, Reports, devices}
 use Rattle.driver.specs.Run.{Ran, WritesPrefix}
 use Rattle.driver.specs.Sessions.{Meaning}
 use Rattle.driver.specs.declared.status.TheConstants.{FAULT, NO_MEMORY}
+use Rattle.syslog_legacy.specs.declared.frame_reading.FrameReading.{FrameReading}
 use Rattle.frame_engine.specs.Checked.{check_handling, refused_line}
 use Rattle.frame_engine.specs.Converted.{convert_handling, noted_line}
-use Rattle.frame_engine.specs.Sessions.{input_meaning}
+use Rattle.frame_engine.specs.Handling.{Handling, nothing_at_end}
+use Rattle.frame_engine.specs.Sessions.{handler_meaning}
 use Rattle.frame_engine.specs.Showing.{show_handling}
+use Rattle.frame_engine.specs.ShowingJson.{show_json_handling}
+use Rattle.frame_engine.specs.Summaries.{check_end}
 use Rattle.archive_engine.specs.Archived.{archive_meaning}
 use Rattle.archive_engine.specs.Merged.{RanMerge, merge_devices}
 use Rattle.archive_engine.specs.Migrated.{RanMigrate}
-use Rattle.command_line.specs.Requests.{Archive, Asked, Check, Collect, Convert, Merge, Migrate, Send, Show}
+use Rattle.archive_sets.specs.Together.{MeetsAll}
+use Rattle.archive_sets.specs.declared.conditions.Conditions.{Conditions}
+use Rattle.command_line.specs.Selects.{ConditionsAsked, conditions_asked}
+use Rattle.command_line.specs.Requests.{Archive, Asked, Check, Collect, Common, Convert, Diff, Digest, Merge, Migrate}
+use Rattle.command_line.specs.Requests.{Minus, Select, Send, Show, Union}
 use Rattle.command_line.specs.declared.words.WordsFault.{WordsFault}
 use Rattle.command_line.specs.declared.words.WordsFault.TheVariants.{Usage, Memory as OutOfMemory}
 use Rattle.send_engine.specs.Sending.{RanSend}
-use Rattle.commands.specs.Files.{IsUnused}
+use Rattle.set_engine.specs.Digesting.{RanDigest}
+use Rattle.set_engine.specs.Selecting.{RanSelect}
+use Rattle.set_engine.specs.declared.combination.Combination.TheVariants as combination
+use Rattle.commands.specs.JoinedFiles.{RanJoinFiles}
+use Rattle.commands.specs.Stored.{LacksFile, Opens, RanOut, Stored}
 
 -- a command on the standard input; whatever the status, a prefix of the right output was written
 pub record RanInput (M : Meaning) (old new : Devices) (status : ℕ) : Type 0 where
   pub ran : Ran M old new status
   pub prefix : WritesPrefix M old new
-
--- memory ran out before anything was touched, which is told
-abbrev pub RanOut : OutputState → OutputState → OutputState → OutputState → ℕ → Type 0
-RanOut w w_new n n_new status = (w_new ≡ w) × Reports (codes "want of memory\n") NO_MEMORY n n_new status
-
--- what the files are known to hold under a name
-abbrev pub Stored : Type 0
-Stored = Option (List ℕ → Option (List ℕ))
-
--- a name has no file, which this line tells; nothing is written
-abbrev pub LacksFile : Stored → List ℕ → List ℕ → OutputState → OutputState → OutputState → OutputState → ℕ → Type 0
-LacksFile stored name line w w_new n n_new status =
-    IfSome stored (λ octets. octets name ≡ None) × (w_new ≡ w) × Reports line FAULT n n_new status
-
--- the reader of a name, which was not called
-abbrev pub Opens : Stored → List ℕ → InputState → Type 0
-Opens stored name s = IfSome stored (λ octets. IsSome s.left × (octets name ≡ s.left)) × IsUnused s
 
 -- two files are merged; the first name without a file is told before one is read
 abbrev pub RanMergeFiles : Stored → List ℕ → List ℕ → OutputState → OutputState → OutputState → OutputState → ℕ
@@ -65,17 +60,39 @@ abbrev pub RanCollect : OutputState → OutputState → OutputState → OutputSt
 RanCollect w w_new n n_new status =
     RanOut w w_new n n_new status ⊎ ((w_new ≡ w) × Reports (codes "socket fault\n") FAULT n n_new status)
 
+-- what `show` does with each frame: with `--json` it writes a line of JSON
+abbrev pub show_by : FrameReading → Bool → Handling
+show_by way true = show_json_handling way
+show_by way false = show_handling way
+
+-- what is selected by these conditions of the archive on the input; or memory ran out before it was read
+abbrev pub RanSelectBy : ConditionsAsked → Devices → Devices → ℕ → Type 0
+RanSelectBy asked old new status =
+    ((new.input ≡ old.input) × RanOut old.output new.output old.diagnostics new.diagnostics status)
+    ⊎ ((conditions : Conditions) × (conditions_asked conditions ≡ asked)
+    × RanSelect (MeetsAll conditions) old new status)
+
 -- so of each command
 abbrev pub RanAs : Asked → Stored → Devices → Devices → ℕ → Type 0
-RanAs (Check way framing) stored old new status =
-    RanInput (input_meaning (check_handling way) refused_line framing) old new status
-RanAs (Show way framing) stored old new status =
-    RanInput (input_meaning (show_handling way) noted_line framing) old new status
+RanAs (Check way framing summary) stored old new status =
+    RanInput (handler_meaning (check_handling way) refused_line (check_end way summary) framing) old new status
+RanAs (Show way framing json) stored old new status =
+    RanInput (handler_meaning (show_by way json) noted_line nothing_at_end framing) old new status
 RanAs (Convert way framing to) stored old new status =
-    RanInput (input_meaning (convert_handling way to) noted_line framing) old new status
+    RanInput (handler_meaning (convert_handling way to) noted_line nothing_at_end framing) old new status
 RanAs (Archive way framing) stored old new status = RanInput (archive_meaning way framing) old new status
 RanAs (Merge left right) stored old new status =
     RanMergeFiles stored left right old.output new.output old.diagnostics new.diagnostics status
+RanAs (Union files) stored old new status =
+    RanJoinFiles combination.Union stored files old.output new.output old.diagnostics new.diagnostics status
+RanAs (Common left right) stored old new status =
+    RanJoinFiles combination.Common stored (left ∷ right ∷ []) old.output new.output old.diagnostics new.diagnostics status
+RanAs (Minus left right) stored old new status =
+    RanJoinFiles combination.Minus stored (left ∷ right ∷ []) old.output new.output old.diagnostics new.diagnostics status
+RanAs (Diff left right) stored old new status =
+    RanJoinFiles combination.Diff stored (left ∷ right ∷ []) old.output new.output old.diagnostics new.diagnostics status
+RanAs (Select asked) stored old new status = RanSelectBy asked old new status
+RanAs (Digest period) stored old new status = RanDigest period old new status
 RanAs (Migrate file) stored old new status =
     RanMigrateFile stored file old.output new.output old.diagnostics new.diagnostics status
 RanAs (Send texts) stored old new status =
@@ -85,11 +102,17 @@ RanAs (Collect words) stored old new status =
 
 -- the commands that read the standard input
 abbrev pub ReadsInput : Asked → Type 0
-ReadsInput (Check way framing) = Unit {0}
-ReadsInput (Show way framing) = Unit {0}
+ReadsInput (Check way framing summary) = Unit {0}
+ReadsInput (Show way framing json) = Unit {0}
 ReadsInput (Convert way framing to) = Unit {0}
 ReadsInput (Archive way framing) = Unit {0}
 ReadsInput (Merge left right) = ⊥
+ReadsInput (Union files) = ⊥
+ReadsInput (Common left right) = ⊥
+ReadsInput (Minus left right) = ⊥
+ReadsInput (Diff left right) = ⊥
+ReadsInput (Select conditions) = Unit {0}
+ReadsInput (Digest period) = Unit {0}
 ReadsInput (Migrate file) = ⊥
 ReadsInput (Send texts) = ⊥
 ReadsInput (Collect words) = ⊥

@@ -5,6 +5,7 @@
 #![tactic(auto)]
 
 mod files;
+mod joining;
 mod memory;
 mod running;
 #[cfg(test)]

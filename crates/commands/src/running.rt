@@ -2,18 +2,27 @@
 
 ghost use Rattle.std.specs.Prelude.{◌≡◌, Some, None, map, string_bytes};
 ghost use Rattle.driver.specs.Devices.{devices};
+ghost use Rattle.driver.specs.Run.{Ran};
+ghost use Rattle.frame_engine.specs.Checked.{check_handling, refused_line};
+ghost use Rattle.frame_engine.specs.Converted.{noted_line};
+ghost use Rattle.frame_engine.specs.Handling.{nothing_at_end};
+ghost use Rattle.frame_engine.specs.Sessions.{handler_meaning};
+ghost use Rattle.frame_engine.specs.Summaries.{check_end};
 ghost use Rattle.command_line.specs.Requests.{Asked, asked_by, parsed};
 ghost use Rattle.commands.specs.Runs.{RanAs, RanMergeFiles, RanMigrateFile, ReadsInput, TellsUsage};
-ghost use Rattle.commands.specs.Runs.{TellsWordsFault};
+ghost use Rattle.commands.specs.Runs.{TellsWordsFault, show_by};
 
 use crate::files::Files;
+use crate::joining::join_files;
 use archive_engine::{archive_input, merge_archives, migrate_archive};
 use command_line::{Request, WordsFault, read_words};
 use driver::{FAULT, NO_MEMORY, report};
-use frame_engine::{Check, Convert, Show, scan_input};
+use frame_engine::{Check, CheckSummary, Convert, InputFraming, Show, ShowJson, Tally, scan_input};
 use octet_devices::{Input, Output};
 use send_engine::send_text;
+use set_engine::{Combination, digest_archive, select_archive};
 use std::alloc::Global;
+use syslog_legacy::FrameReading;
 
 // Joins the archives of two files. Both are opened before either is read.
 fn merge_files<W: Output, N: Output, F: Files>(
@@ -64,6 +73,55 @@ pub fn report_words_fault<N: Output>(fault: &WordsFault, diagnostics: &mut N) ->
     }
 }
 
+// Says of each frame whether it is a record, and last, where that is asked for, how many were legacy
+// packets.
+fn check_input<R: Input, W: Output, N: Output>(
+    alloc: Global,
+    input_framing: InputFraming,
+    reading: FrameReading,
+    summary: bool,
+    input: &mut R,
+    output: &mut W,
+    diagnostics: &mut N,
+) -> u8
+    ensures { Ran (handler_meaning (check_handling reading) refused_line (check_end reading summary)
+        input_framing)
+        (devices (R.state input.old) (W.state output.old) (N.state diagnostics.old))
+        (devices (R.state input.new) (W.state output.new) (N.state diagnostics.new)) result }
+{
+    if summary {
+        let check = CheckSummary {
+            reading,
+            tally: Tally::new(),
+        };
+        return scan_input(alloc, input_framing, check, input, output, diagnostics);
+    }
+    let check = Check { reading };
+    scan_input(alloc, input_framing, check, input, output, diagnostics)
+}
+
+// Writes the fields of each record, or each record as a line of JSON.
+fn show_input<R: Input, W: Output, N: Output>(
+    alloc: Global,
+    input_framing: InputFraming,
+    reading: FrameReading,
+    json: bool,
+    input: &mut R,
+    output: &mut W,
+    diagnostics: &mut N,
+) -> u8
+    ensures { Ran (handler_meaning (show_by reading json) noted_line nothing_at_end input_framing)
+        (devices (R.state input.old) (W.state output.old) (N.state diagnostics.old))
+        (devices (R.state input.new) (W.state output.new) (N.state diagnostics.new)) result }
+{
+    if json {
+        let show = ShowJson { alloc, reading };
+        return scan_input(alloc, input_framing, show, input, output, diagnostics);
+    }
+    let show = Show { alloc, reading };
+    scan_input(alloc, input_framing, show, input, output, diagnostics)
+}
+
 /// Does what a request asks for and returns the exit status: 0 done, 1 something was refused, 2 a
 /// device failed, 3 out of memory. Records go to the output, reports of what went wrong to the
 /// diagnostics. `collect` needs sockets, which only a program has: here it is a fault.
@@ -86,17 +144,29 @@ pub fn run_request<R: Input, W: Output, N: Output, F: Files>(
         Request::Check {
             input_framing,
             reading,
-        } => {
-            let check = Check { reading };
-            scan_input(alloc, input_framing, check, input, output, diagnostics)
-        }
+            summary,
+        } => check_input(
+            alloc,
+            input_framing,
+            reading,
+            summary,
+            input,
+            output,
+            diagnostics,
+        ),
         Request::Show {
             input_framing,
             reading,
-        } => {
-            let show = Show { alloc, reading };
-            scan_input(alloc, input_framing, show, input, output, diagnostics)
-        }
+            json,
+        } => show_input(
+            alloc,
+            input_framing,
+            reading,
+            json,
+            input,
+            output,
+            diagnostics,
+        ),
         Request::Convert {
             input_framing,
             reading,
@@ -112,6 +182,26 @@ pub fn run_request<R: Input, W: Output, N: Output, F: Files>(
         Request::Merge { left, right } => {
             merge_files(alloc, left, right, output, diagnostics, files)
         }
+        Request::Union { files: names } => {
+            let how = Combination::Union;
+            join_files(alloc, how, names.as_slice(), output, diagnostics, files)
+        }
+        Request::Common { left, right } => {
+            let how = Combination::Common;
+            join_files(alloc, how, &[left, right], output, diagnostics, files)
+        }
+        Request::Minus { left, right } => {
+            let how = Combination::Minus;
+            join_files(alloc, how, &[left, right], output, diagnostics, files)
+        }
+        Request::Diff { left, right } => {
+            let how = Combination::Diff;
+            join_files(alloc, how, &[left, right], output, diagnostics, files)
+        }
+        Request::Select { conditions } => {
+            select_archive(alloc, &conditions, input, output, diagnostics)
+        }
+        Request::Digest { period } => digest_archive(alloc, period, input, output, diagnostics),
         Request::Migrate { file } => migrate_file(alloc, file, output, diagnostics, files),
         Request::Send { options } => send_text(alloc, &options, output, diagnostics),
         // only `main` has sockets

@@ -1,5 +1,6 @@
 -- The names that have a file.
-use Rattle.std.proofs.Common.{◌≡◌, ◌↔◌, ◌⊎◌, inl, inr, ⊎_elim, ℕ, ◌+◌, ◌<◌, ◌≤◌, Bool, if◌then◌else◌, List, [], ◌∷◌, ◌++◌, length, get_or, take, sym, ◌∙◌, ap, subst}
+use Rattle.std.proofs.Common.{◌≡◌, ◌↔◌, ◌⊎◌, inl, inr, ⊎_elim, ℕ, ◌+◌, ◌<◌, ◌≤◌, Bool, if◌then◌else◌, List, [], ◌∷◌}
+use Rattle.std.proofs.Common.{◌++◌, length, get_or, take, sym, ◌∙◌, ap, subst}
 use Rattle.std.specs.Prelude.{Contains, IsSome, is_some, bytes_eq}
 use Rattle.std.proofs.lemmas.Bool.{cases_Bool}
 use Rattle.std.proofs.lemmas.Slice.Eq.{bytes_eq-Decides}
@@ -15,13 +16,15 @@ HasName (e ∷ entries) name = (e.name ≡ name) ⊎ HasName entries name
 
 -- of these entries, the names that have a file among all
 abbrev pub AreNamesOf : List MemoryEntry → List MemoryEntry → List (List ℕ) → Type 0
-AreNamesOf all entries names = (name : List ℕ) → Contains names name ↔ (HasName entries name × IsSome (lookup all name).now)
+AreNamesOf all entries names = (name : List ℕ) → Contains names name ↔
+    (HasName entries name × IsSome (lookup all name).now)
 
 pub has_name : (xs : List MemoryEntry) (name : List ℕ) → IsSome (lookup xs name).now → HasName xs name
 has_name [] name some = absurd (cc some)
 has_name (e ∷ xs) name some = ⊎_elim
     (λ yes. inl ((bytes_eq-Decides e.name name).0 yes))
-    (λ no. inr (has_name xs name (sym (ap (λ (b : Bool). is_some (if b then entry_of e else lookup xs name).now) no) ∙ some)))
+    (λ no. inr (has_name xs name (sym (ap (λ (b : Bool). is_some (if b then entry_of e else lookup xs name).now) no) ∙
+    some)))
     (cases_Bool (bytes_eq e.name name))
 
 has_before : (xs : List MemoryEntry) (e : MemoryEntry) (name : List ℕ) → HasName xs name → HasName (xs ++ e ∷ []) name
@@ -33,7 +36,8 @@ has_last : (xs : List MemoryEntry) (e : MemoryEntry) (name : List ℕ) → e.nam
 has_last [] e name is = inl is
 has_last (x ∷ xs) e name is = inr (has_last xs e name is)
 
-has_cases : (xs : List MemoryEntry) (e : MemoryEntry) (name : List ℕ) → HasName (xs ++ e ∷ []) name → HasName xs name ⊎ (e.name ≡ name)
+has_cases : (xs : List MemoryEntry) (e : MemoryEntry) (name : List ℕ) → HasName (xs ++ e ∷ []) name
+    → HasName xs name ⊎ (e.name ≡ name)
 has_cases [] e name (inl is) = inr is
 has_cases [] e name (inr none) = absurd none
 has_cases (x ∷ xs) e name (inl is) = inl (inl is)
@@ -61,11 +65,14 @@ module _ (all xs : List MemoryEntry) (e : MemoryEntry) (names : List (List ℕ))
         (has_cases xs e name has.0),
   )
 
-pub taken : (all : List MemoryEntry) (i : ℕ) (e : MemoryEntry) (names : List (List ℕ)) → i < length all → e ≡ get_or all i e → AreNamesOf all (take i all ++ e ∷ []) names → AreNamesOf all (take (i + 1) all) names
+pub taken : (all : List MemoryEntry) (i : ℕ) (e : MemoryEntry) (names : List (List ℕ)) → i < length all
+    → e ≡ get_or all i e → AreNamesOf all (take i all ++ e ∷ []) names → AreNamesOf all (take (i + 1) all) names
 taken all i e names within at are =
-    subst (λ (l : List MemoryEntry). AreNamesOf all l names) (sym (take_more all i e within ∙ ap (λ (m : MemoryEntry). take i all ++ m ∷ []) (sym at))) are
+    subst (λ (l : List MemoryEntry). AreNamesOf all l names)
+    (sym (take_more all i e within ∙ ap (λ (m : MemoryEntry). take i all ++ m ∷ []) (sym at))) are
 
-pub all_named : (all : List MemoryEntry) (i : ℕ) (names : List (List ℕ)) → length all ≤ i → AreNamesOf all (take i all) names → (name : List ℕ) → Contains names name ↔ IsSome (lookup all name).now
+pub all_named : (all : List MemoryEntry) (i : ℕ) (names : List (List ℕ)) → length all ≤ i
+    → AreNamesOf all (take i all) names → (name : List ℕ) → Contains names name ↔ IsSome (lookup all name).now
 all_named all i names past are name =
     let whole = subst (λ (l : List MemoryEntry). AreNamesOf all l names) (take_all i all past) are in
     (λ contains. ((whole name).0 contains).1, λ some. (whole name).1 (has_name all name some, some))

@@ -1,5 +1,6 @@
 -- What each call does to the state of a disk.
-use Rattle.std.specs.Prelude.{◌≡◌, ◌≢◌, ◌⊎◌, ◌↔◌, ℕ, ◌<◌, ◌≤◌, true, false, if◌then◌else◌, List, [], Contains, length, take, drop, Some, None, IsSome, IsNone, IsSomeAnd, Result, MatchResult, IfOk, IsErrOf}
+use Rattle.std.specs.Prelude.{◌≡◌, ◌≢◌, ◌⊎◌, ◌↔◌, ℕ, ◌<◌, ◌≤◌, true, false, if◌then◌else◌, List, [], Contains, length}
+use Rattle.std.specs.Prelude.{take, drop, Some, None, IsSome, IsNone, IsSomeAnd, Result, MatchResult, IfOk, IsErrOf}
 use Rattle.disk.specs.Files.{File, settled, appended, appended_in_part, overwritten, cut_to}
 use Rattle.disk.specs.States.{Entry, State, retired, kept}
 use Rattle.disk.specs.declared.fault.DiskFault.{DiskFault}

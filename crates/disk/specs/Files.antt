@@ -1,7 +1,9 @@
 -- A file: what a read shows, and what a crash may leave of it.
-use Rattle.std.specs.Prelude.{◌≡◌, ◌≢◌, ℕ, ◌+◌, ◌<◌, ◌≤◌, min, max, List, [], ◌∷◌, ◌++◌, length, slice_index, slice_set, take}
+use Rattle.std.specs.Prelude.{◌≡◌, ◌≢◌, ℕ, ◌+◌, ◌<◌, ◌≤◌, min, max, List, [], ◌∷◌, ◌++◌, length, slice_index, slice_set}
+use Rattle.std.specs.Prelude.{take}
 
--- its octets as a read shows them; how many of the first are on the disk; the greatest length that it had since the last
+-- its octets as a read shows them; how many of the first are on the disk; the greatest length that it had since the
+-- last
 -- sync; and the places where an octet was written over since
 pub record File : Type 0 where
   pub shown : List ℕ

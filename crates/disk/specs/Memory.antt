@@ -1,5 +1,6 @@
 -- What a disk in memory holds.
-use Rattle.std.specs.Prelude.{◌≡◌, ◌≢◌, ℕ, ◌<◌, false, if◌then◌else◌, bytes_eq, List, [], ◌∷◌, length, slice_index_or, take, map, Option, Some, None, IsNone, IsSome, Result, MatchResult, IsErrOf}
+use Rattle.std.specs.Prelude.{◌≡◌, ◌≢◌, ℕ, ◌<◌, false, if◌then◌else◌, bytes_eq, List, [], ◌∷◌, length, slice_index_or}
+use Rattle.std.specs.Prelude.{take, map, Option, Some, None, IsNone, IsSome, Result, MatchResult, IsErrOf}
 use Rattle.std.specs.Option.{option_map}
 use Rattle.disk.specs.Files.{File, settled}
 use Rattle.disk.specs.States.{Entry, State, NameMayLeave, kept, retired}

@@ -2,7 +2,8 @@
 use Rattle.std.specs.Prelude.{◌≡◌, ◌⊎◌, ℕ, Bool, false, IsTrue, IsSomeAnd, List, [], ◌∷◌, ◌++◌, Option, Some, None}
 use Rattle.disk.specs.Files.{File, MayBecome}
 
--- A name: the file that is under it now; what was under it since the last sync of the folder; and whether its file was given
+-- A name: the file that is under it now; what was under it since the last sync of the folder; and whether its file was
+-- given
 -- another name since.
 pub record Entry : Type 0 where
   pub now : Option File
@@ -27,7 +28,8 @@ abbrev pub AnyMayBe : List (Option File) → Option (List ℕ) → Type 0
 AnyMayBe [] octets = ⊥
 AnyMayBe (file ∷ files) octets = MayBe file octets ⊎ AnyMayBe files octets
 
--- What a crash may leave under one name: what is there, or was there since the folder was synced. Under a name whose file was
+-- What a crash may leave under one name: what is there, or was there since the folder was synced. Under a name whose
+-- file was
 -- given another name it may leave anything, since the file may have changed by then.
 abbrev pub NameMayLeave : Entry → Option (List ℕ) → Type 0
 NameMayLeave entry octets = MayBe entry.now octets ⊎ (AnyMayBe entry.past octets ⊎ IsTrue entry.moved)

@@ -66,3 +66,10 @@ pub adds_output : (old new : Done) (text : List ℕ) → new.refused ≡ old.ref
     → new.diagnostics ≡ old.diagnostics → new ≡ then_done old (record { refused = false; output = text; diagnostics = [] })
 adds_output old new text r o n = same_done new.refused (old.refused || false) new.output (old.output ++ text) new.diagnostics
     (old.diagnostics ++ []) (r ∙ sym (or_false old.refused)) o (n ∙ sym (append-nil old.diagnostics))
+
+-- octets were appended to the diagnostics, and nothing else was done
+pub adds_note : (old new : Done) (text : List ℕ) → new.refused ≡ old.refused → new.output ≡ old.output
+    → new.diagnostics ≡ old.diagnostics ++ text
+    → new ≡ then_done old (record { refused = false; output = []; diagnostics = text })
+adds_note old new text r o n = same_done new.refused (old.refused || false) new.output (old.output ++ []) new.diagnostics
+    (old.diagnostics ++ text) (r ∙ sym (or_false old.refused)) (o ∙ sym (append-nil old.output)) n

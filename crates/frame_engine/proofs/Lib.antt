@@ -2,6 +2,8 @@ pub mod ConvertLemmas
 pub mod HandlingLemmas
 pub mod OutputLemmas
 pub mod ShowLemmas
+pub mod ShowJsonLemmas
 pub mod StreamLemmas
 pub mod ReadingLemmas
 pub mod SessionLemmas
+pub mod TallyLemmas

@@ -24,6 +24,9 @@ use Rattle.frame_engine.specs.Line.{line_text}
 use Rattle.frame_engine.proofs.ReadingLemmas.{not_both, one_line, one_record}
 use Rattle.frame_engine.specs.Showing.{PriorityLine, RecordLines, TimeLine, element_lines, line_of, message_line}
 use Rattle.frame_engine.specs.Showing.{number_line, priority_line, show_handling, word_lines}
+use Rattle.frame_engine.specs.ShowingJson.{show_json_handling}
+use Rattle.record_json.specs.Objects.{JsonLine}
+use Rattle.record_json.proofs.LineLaws.{line_once}
 
 abbrev output_of : Done → List ℕ
 output_of d = d.output
@@ -88,3 +91,13 @@ show_output way n f a b (inl (r, h, s, lines, e)) (inl (q, k, t, lines', g)) =
 show_output way n f a b (inl (r, h, s, lines, e)) (inr (line, k, g)) = absurd (not_both way n f r line k h)
 show_output way n f a b (inr (line, k, e)) (inl (r, h, s, lines, g)) = absurd (not_both way n f r line k h)
 show_output way n f a b (inr (l, h, e)) (inr (m, k, g)) = ap output_of e ∙ sym (ap output_of g)
+
+-- ---- the line of JSON
+
+pub show_json_output : (way : FrameReading) → HasOneOutputEach (show_json_handling way)
+show_json_output way n f a b (inl (r, h, s, line, e)) (inl (q, k, t, line', g)) =
+    let same = one_record way f r q h k in
+    ap output_of e ∙ line_once q s t (subst (λ (x : Parts ℤ). JsonLine x s) same line) line' ∙ sym (ap output_of g)
+show_json_output way n f a b (inl (r, h, s, line, e)) (inr (other, k, g)) = absurd (not_both way n f r other k h)
+show_json_output way n f a b (inr (other, k, e)) (inl (r, h, s, line, g)) = absurd (not_both way n f r other k h)
+show_json_output way n f a b (inr (l, h, e)) (inr (m, k, g)) = ap output_of e ∙ sym (ap output_of g)

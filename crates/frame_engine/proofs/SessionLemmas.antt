@@ -1,7 +1,8 @@
 -- A session on an input: how it goes on, and how it ends.
 use Rattle.std.proofs.Common.{◌≡◌, ℕ, zero, suc, ◌+◌, ◌<◌, ◌≤◌, List, [], ◌∷◌, ◌++◌, length, take, refl, sym, ap, ap₂}
 use Rattle.std.proofs.Common.{subst, ◌∙◌, append_assoc, arith, inl, inr}
-use Rattle.std.proofs.Common.{◌-◌, min, Result, Ok, Err}
+use Rattle.std.proofs.Common.{◌-◌, min, Result, Ok, Err, true, false}
+use Rattle.std.specs.Result.{is_err}
 use Rattle.std.proofs.lemmas.Bool.{cases_lt}
 use Rattle.std.specs.Prelude.{MatchResult, OnErr, OnOk}
 use Rattle.std.specs.List.{flat_map}
@@ -16,10 +17,11 @@ use Rattle.syslog_frame.specs.declared.limits.TheConstants.{FRAME_MAX}
 use Rattle.syslog_frame.proofs.FrameLaws.{begun_frames, concatenation, unique_frames}
 use Rattle.syslog_frame.proofs.Reading.{read_nothing}
 use Rattle.octet_devices.proofs.Known.{take-append}
-use Rattle.driver.specs.Effects.{Done, IsPrefixOf, nothing, then_done}
+use Rattle.driver.specs.Effects.{Adds, Done, IsPrefixOf, nothing, then_done}
 use Rattle.driver.specs.Sessions.{HasOneOutput}
-use Rattle.frame_engine.specs.Handling.{Handling, HandledFrom, HasOneOutputEach}
-use Rattle.frame_engine.specs.Sessions.{GoesOn, datagram_meaning, input_meaning, stream_meaning}
+use Rattle.frame_engine.specs.Closing.{Closes}
+use Rattle.frame_engine.specs.Handling.{AtEnd, Handling, HandledFrom, HasOneOutputEach, PutsNothingOut, nothing_at_end}
+use Rattle.frame_engine.specs.Sessions.{EndsInput, GoesOn, datagram_meaning, handler_meaning, input_meaning, stream_meaning}
 use Rattle.frame_engine.specs.Streams.{HasBad, HasHandled, HasPart, ReportsEnd, StreamDone}
 use Rattle.frame_engine.specs.declared.input_framing.InputFraming.{InputFraming}
 use Rattle.frame_engine.specs.declared.input_framing.InputFraming.TheVariants.{Datagram, Stream}
@@ -42,17 +44,17 @@ nothing_goes_on D kind = record {
   handled = refl;
 }
 
-pub goes_on : (D : Handling) (kind : Framing) (s : Scan) (given : List ℕ) (number : ℕ) (d : Done) → IsReading s
-    → HasHandled D s kind given number d → GoesOn D kind given d
-goes_on D kind s given number d is h =
+pub goes_on : (D : Handling) (S : List (List ℕ) → Type 0) (kind : Framing) (s : Scan) (given : List ℕ) (number : ℕ)
+    (d : Done) → IsReading s → HasHandled D S s kind given number d → GoesOn D kind given d
+goes_on D S kind s given number d is h =
     let f = read_nothing FRAME_MAX s kind 0 given h.frames h.rest is h.reads in
     record { frames = h.frames; rest = h.rest; frames_are = f.0; begins = f.1; handled = h.handled }
 
 -- the frames that the scanner released are those of the octets
-pub handled_of : (D : Handling) (kind : Framing) (s : Scan) (number : ℕ) (given : List ℕ) (frames : List (List ℕ))
-    (rest : List ℕ) (d : Done) → IsReading s → Reads FRAME_MAX s kind 0 given frames rest → number ≡ length frames + 1
-    → GoesOn D kind given d → HasHandled D s kind given number d
-handled_of D kind s number given frames rest d is reads number_is g =
+pub handled_of : (D : Handling) (S : List (List ℕ) → Type 0) (kind : Framing) (s : Scan) (number : ℕ) (given : List ℕ)
+    (frames : List (List ℕ)) (rest : List ℕ) (d : Done) → IsReading s → Reads FRAME_MAX s kind 0 given frames rest
+    → S frames → number ≡ length frames + 1 → GoesOn D kind given d → HasHandled D S s kind given number d
+handled_of D S kind s number given frames rest d is reads stands number_is g =
     let f = (read_nothing FRAME_MAX s kind 0 given frames rest is reads).0 in
     let same = (unique_frames kind given frames g.frames rest g.rest f g.frames_are).0 in
     record {
@@ -60,53 +62,60 @@ handled_of D kind s number given frames rest d is reads number_is g =
       rest = rest;
       reads = reads;
       handled = subst (λ (fs : List (List ℕ)). HandledFrom D 1 fs d) (sym same) g.handled;
+      stands = stands;
       number_is = number_is;
     }
 
 -- ---- the end of a stream
 
--- the input ended, and the end of the stream was reported
-pub done_at_end : (D : Handling) (T : Line → Done) (kind : Framing) (s : Scan) (given : List ℕ) (number : ℕ)
-    (before old new : Done) → (h : HasHandled D s kind given number (then_done before old))
-    → ((octets : List ℕ) (frames : List (List ℕ)) (rest : List ℕ) → Reads FRAME_MAX s kind 0 octets frames rest
-    → Frames kind octets frames rest × ((d : Done) × ReportsEnd T kind octets frames rest d × (new ≡ then_done old d)))
-    → StreamDone D T kind given (then_done before new)
-done_at_end D T kind s given number before old new h f =
-    let r = f given h.frames h.rest h.reads in
-    record {
-      frames = h.frames;
-      rest = h.rest;
-      of_frames = then_done before old;
-      of_end = r.1.0;
-      frames_are = r.0;
-      handled = h.handled;
-      reported = r.1.1;
-      whole = ap (then_done before) r.1.2 ∙ sym (then_assoc before old r.1.0);
-    }
+-- one thing was done, and then the last
+closed : (before old new reported last d : Done) → d ≡ then_done reported last → new ≡ then_done old d
+    → then_done before new ≡ then_done (then_done (then_done before old) reported) last
+closed before old new reported last d h is =
+    ap (then_done before) (is ∙ ap (then_done old) h) ∙ sym (then_assoc before old (then_done reported last))
+    ∙ sym (then_assoc (then_done before old) reported last)
 
--- a bad MSG-LEN came, and was reported
-pub done_at_bad : (D : Handling) (T : Line → Done) (kind : Framing) (stream : List ℕ) (number at : ℕ)
-    (before old new : Done) → HasBad D kind stream number (then_done before old) at
-    → new ≡ then_done old (T (BadCount number at)) → StreamDone D T kind stream (then_done before new)
-done_at_bad D T kind stream number at before old new x is =
+-- the end of the stream was reported, and the handler ended
+pub ended : (D : Handling) (T : Line → Done) (E : AtEnd) (kind : Framing) (given : List ℕ) (frames : List (List ℕ))
+    (rest : List ℕ) (before old new reported : Done) → Frames kind given frames rest
+    → HandledFrom D 1 frames (then_done before old) → ReportsEnd T kind given frames rest reported
+    → Adds (Closes (E frames) reported) old new → EndsInput D T E (Stream kind) given (then_done before new)
+ended D T E kind given frames rest before old new reported are handled reports (d, (last, ends, h), is) = record {
+  frames = frames;
+  of_input = then_done (then_done before old) reported;
+  at_end = last;
+  frames_are = (rest, are);
+  means = record {
+    frames = frames;
+    rest = rest;
+    of_frames = then_done before old;
+    of_end = reported;
+    frames_are = are;
+    handled = handled;
+    reported = reports;
+    whole = refl;
+  };
+  ends = ends;
+  whole = closed before old new reported last d h is;
+}
+
+-- a bad MSG-LEN came
+pub ended_at_bad : (D : Handling) (S : List (List ℕ) → Type 0) (T : Line → Done) (E : AtEnd) (kind : Framing)
+    (stream : List ℕ) (number at : ℕ) (before old new : Done)
+    → (x : HasBad D S kind stream number (then_done before old) at)
+    → Adds (Closes (E x.frames) (T (BadCount number at))) old new
+    → EndsInput D T E (Stream kind) stream (then_done before new)
+ended_at_bad D S T E kind stream number at before old new x adds =
     let line : T (BadCount number at) ≡ T (BadCount (length x.frames + 1) at) =
     ap (λ (k : ℕ). T (BadCount k at)) x.number_is in
-    record {
-      frames = x.frames;
-      rest = x.rest;
-      of_frames = then_done before old;
-      of_end = T (BadCount number at);
-      frames_are = x.bad.frames_are;
-      handled = x.handled;
-      reported = inr (inr (at, x.bad, line));
-      whole = ap (then_done before) is ∙ sym (then_assoc before old (T (BadCount number at)));
-    }
+    ended D T E kind stream x.frames x.rest before old new (T (BadCount number at)) x.bad.frames_are x.handled
+    (inr (inr (at, x.bad, line))) adds
 
 -- ---- memory ran out
 
-pub part_of : (D : Handling) (s : Scan) (kind : Framing) (octets : List ℕ) (number : ℕ) (total : Done)
-    → HasHandled D s kind octets number total → HasPart D kind octets total
-part_of D s kind octets number total h =
+pub part_of : (D : Handling) (S : List (List ℕ) → Type 0) (s : Scan) (kind : Framing) (octets : List ℕ) (number : ℕ)
+    (total : Done) → HasHandled D S s kind octets number total → HasPart D kind octets total
+part_of D S s kind octets number total h =
     record { frames = h.frames; rest = h.rest; whole = h.reads.whole; each = h.reads.each; handled = h.handled }
 
 pub part_same : (D : Handling) (kind : Framing) (octets : List ℕ) (before old new : Done)
@@ -115,9 +124,9 @@ part_same D kind octets before old new h same =
     subst (λ (d : Done). HasPart D kind octets (then_done before d)) (sym same) h
 
 -- a bad MSG-LEN came
-pub part_of_bad : (D : Handling) (kind : Framing) (stream : List ℕ) (number at : ℕ) (total : Done)
-    → ((more : List ℕ) → HasBad D kind (stream ++ more) number total at) → HasPart D kind stream total
-part_of_bad D kind stream number at total bad =
+pub part_of_bad : (D : Handling) (S : List (List ℕ) → Type 0) (kind : Framing) (stream : List ℕ) (number at : ℕ)
+    (total : Done) → ((more : List ℕ) → HasBad D S kind (stream ++ more) number total at) → HasPart D kind stream total
+part_of_bad D S kind stream number at total bad =
     let x = bad [] in
     subst (λ (u : List ℕ). HasPart D kind u total) (append-nil stream) (record {
       frames = x.frames;
@@ -228,17 +237,59 @@ pub input_laws : (D : Handling) (T : Line → Done) (input_framing : InputFramin
 input_laws D T Datagram one = datagram_laws D one
 input_laws D T (Stream kind) one = stream_laws D T kind one
 
+-- the same where the handler puts nothing out at the end
+ends_output : (D : Handling) (T : Line → Done) (E : AtEnd) (input_framing : InputFraming) (input : List ℕ) (d : Done)
+    → PutsNothingOut E → (h : EndsInput D T E input_framing input d) → h.of_input.output ≡ d.output
+ends_output D T E input_framing input d none h =
+    sym (ap output_of h.whole ∙ ap (λ (x : List ℕ). h.of_input.output ++ x) (none h.frames h.at_end h.ends)
+    ∙ append-nil h.of_input.output)
+
+one_output : (D : Handling) (T : Line → Done) (E : AtEnd) (input_framing : InputFraming) (input : List ℕ) (d e : Done)
+    → PutsNothingOut E → HasOneOutput (input_meaning D T input_framing) → EndsInput D T E input_framing input d
+    → EndsInput D T E input_framing input e → d.output ≡ e.output
+one_output D T E input_framing input d e none one h k =
+    sym (ends_output D T E input_framing input d none h) ∙ one.one input h.of_input k.of_input h.means k.means
+    ∙ ends_output D T E input_framing input e none k
+
+pub handler_laws : (D : Handling) (T : Line → Done) (E : AtEnd) (input_framing : InputFraming) → HasOneOutputEach D
+    → PutsNothingOut E → HasOneOutput (handler_meaning D T E input_framing)
+handler_laws D T E input_framing each none =
+    let one = input_laws D T input_framing each in
+    record {
+      one = λ input d e h k. one_output D T E input_framing input d e none one h k;
+      grows = λ given more d e h k.
+          subst (IsPrefixOf d.output) (ends_output D T E input_framing (given ++ more) e none k)
+          (one.grows given more d k.of_input h k.means);
+      begins = λ given more d e h k.
+          subst (IsPrefixOf d.output) (ends_output D T E input_framing (given ++ more) e none k)
+          (one.begins given more d k.of_input h k.means);
+    }
+
+-- nothing is put out where nothing is done
+pub nothing_out : PutsNothingOut nothing_at_end
+nothing_out frames d h = ap output_of h
+
 -- ---- a datagram
+
+-- the datagram was handled, and the handler ended
+pub ended_datagram : (D : Handling) (T : Line → Done) (E : AtEnd) (given : List ℕ) (before old between new : Done)
+    → then_done before old ≡ nothing → Adds (D 1 given) old between → Adds (E (given ∷ [])) between new
+    → EndsInput D T E Datagram given (then_done before new)
+ended_datagram D T E given before old between new h (d, handles, is) (last, ends, done) = record {
+  frames = given ∷ [];
+  of_input = d;
+  at_end = last;
+  frames_are = refl;
+  means = handles;
+  ends = ends;
+  whole = ap (then_done before) (done ∙ ap (λ (x : Done). then_done x last) is)
+      ∙ sym (then_assoc before (then_done old d) last)
+      ∙ ap (λ (x : Done). then_done x last) (sym (then_assoc before old d) ∙ ap (λ (x : Done). then_done x d) h);
+}
 
 -- nothing came of it so far
 pub still_nothing : (before old new : Done) → then_done before old ≡ nothing → new ≡ old → then_done before new ≡ nothing
 still_nothing before old new h same = ap (then_done before) same ∙ h
-
--- what comes of the datagram is what is done at its end
-pub only_done : (before old new d : Done) → then_done before old ≡ nothing → new ≡ then_done old d
-    → then_done before new ≡ d
-only_done before old new d h is =
-    ap (then_done before) is ∙ sym (then_assoc before old d) ∙ ap (λ (x : Done). then_done x d) h
 
 -- what is kept of an input of at most so many octets is all of it
 pub kept_all : (most : ℕ) (input kept : List ℕ) → kept ≡ take (most + 1) input → length kept ≤ most → kept ≡ input
@@ -271,3 +322,13 @@ pub match_result : {A E : Type 0} (r : Result A E) (P Q : Type 0) → OnOk r P �
     → MatchResult r (λ _. P) (λ _. Q)
 match_result (Ok x) P Q h k = h
 match_result (Err e) P Q h k = k
+
+pub at_err : {A E : Type 0} (r : Result A E) (P Q : Type 0) → is_err r ≡ true → OnErr r Q
+    → MatchResult r (λ _. P) (λ _. Q)
+at_err (Ok x) P Q e h = absurd cc
+at_err (Err x) P Q e h = h
+
+pub at_ok : {A E : Type 0} (r : Result A E) (P Q : Type 0) → is_err r ≡ false → OnOk r P
+    → MatchResult r (λ _. P) (λ _. Q)
+at_ok (Ok x) P Q e h = h
+at_ok (Err x) P Q e h = absurd cc

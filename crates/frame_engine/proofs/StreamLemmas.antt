@@ -30,16 +30,18 @@ taken_further octets taken rest piece more n e =
     ∙ ap (λ (u : List ℕ). u ++ more) (append_assoc octets taken rest ∙ ap (λ (u : List ℕ). octets ++ u) (sym e))
 
 -- so much of a piece is handled, and the rest is left
-abbrev pub HandledPiece : Handling → Scan → Framing → List ℕ → List ℕ → List ℕ → ℕ → Done → Type 0
-HandledPiece D s kind octets piece rest number total =
-    (taken : List ℕ) × (piece ≡ taken ++ rest) × HasHandled D s kind (octets ++ taken) number total
+abbrev pub HandledPiece : Handling → (List (List ℕ) → Type 0) → Scan → Framing → List ℕ → List ℕ → List ℕ → ℕ → Done
+    → Type 0
+HandledPiece D S s kind octets piece rest number total =
+    (taken : List ℕ) × (piece ≡ taken ++ rest) × HasHandled D S s kind (octets ++ taken) number total
 
 -- octets were taken, and nothing is ready
-pub handled_nothing : (D : Handling) (s t : Scan) (kind : Framing) (octets piece rest : List ℕ) (number n : ℕ)
-    (total new : Done) → (d : HandledPiece D s kind octets piece rest number total)
-    → ReadsOn FRAME_MAX t kind 0 (octets ++ d.0) d.2.frames d.2.rest rest n → new ≡ total
-    → HandledPiece D t kind octets piece (drop n rest) number new
-handled_nothing D s t kind octets piece rest number n total new d on same = (
+pub handled_nothing : (D : Handling) (S T : List (List ℕ) → Type 0) (s t : Scan) (kind : Framing)
+    (octets piece rest : List ℕ) (number n : ℕ) (total new : Done)
+    → (d : HandledPiece D S s kind octets piece rest number total)
+    → ReadsOn FRAME_MAX t kind 0 (octets ++ d.0) d.2.frames d.2.rest rest n → new ≡ total → T d.2.frames
+    → HandledPiece D T t kind octets piece (drop n rest) number new
+handled_nothing D S T s t kind octets piece rest number n total new d on same stands = (
   d.0 ++ take n rest,
   taken_on d.0 rest piece n d.1,
   record {
@@ -48,16 +50,18 @@ handled_nothing D s t kind octets piece rest number n total new d on same = (
     reads = subst (λ (u : List ℕ). Reads FRAME_MAX t kind 0 u d.2.frames (d.2.rest ++ take n rest))
         (append_assoc octets d.0 (take n rest)) on.reads;
     handled = subst (HandledFrom D 1 d.2.frames) (sym same) d.2.handled;
+    stands = stands;
     number_is = d.2.number_is;
   },
 )
 
 -- a frame was ready, and was handled and released
-pub handled_frame : (D : Handling) (s t : Scan) (kind : Framing) (octets piece rest : List ℕ) (number n : ℕ)
-    (f : List ℕ) (before old new : Done) → (d : HandledPiece D s kind octets piece rest number (then_done before old))
+pub handled_frame : (D : Handling) (S T : List (List ℕ) → Type 0) (s t : Scan) (kind : Framing)
+    (octets piece rest : List ℕ) (number n : ℕ) (f : List ℕ) (before old new : Done)
+    → (d : HandledPiece D S s kind octets piece rest number (then_done before old))
     → Reads FRAME_MAX t kind 0 ((octets ++ d.0) ++ take n rest) (d.2.frames ++ f ∷ []) [] → Adds (D number f) old new
-    → HandledPiece D t kind octets piece (drop n rest) (number + 1) (then_done before new)
-handled_frame D s t kind octets piece rest number n f before old new d begun (a, handles, is) = (
+    → T (d.2.frames ++ f ∷ []) → HandledPiece D T t kind octets piece (drop n rest) (number + 1) (then_done before new)
+handled_frame D S T s t kind octets piece rest number n f before old new d begun (a, handles, is) stands = (
   d.0 ++ take n rest,
   taken_on d.0 rest piece n d.1,
   record {
@@ -68,17 +72,19 @@ handled_frame D s t kind octets piece rest number n f before old new d begun (a,
     handled = subst (HandledFrom D 1 (d.2.frames ++ f ∷ [])) (then_assoc before old a ∙ ap (then_done before) (sym is))
         (handled_more D 1 number d.2.frames f (then_done before old) a (omega (arith, d.2.number_is)) d.2.handled
         handles);
+    stands = stands;
     number_is = omega (arith, d.2.number_is, length-append d.2.frames (f ∷ []));
   },
 )
 
 -- a bad MSG-LEN is ready: so the whole stream stops
-pub handled_bad : (D : Handling) (s t : Scan) (kind : Framing) (octets piece rest : List ℕ) (number n at : ℕ)
-    (total new : Done) → (d : HandledPiece D s kind octets piece rest number total)
+pub handled_bad : (D : Handling) (S T : List (List ℕ) → Type 0) (s t : Scan) (kind : Framing)
+    (octets piece rest : List ℕ) (number n at : ℕ) (total new : Done)
+    → (d : HandledPiece D S s kind octets piece rest number total)
     → ReadsOn FRAME_MAX t kind 0 (octets ++ d.0) d.2.frames d.2.rest rest n → HasBadCount t
-    → at ≡ length ((octets ++ d.0) ++ take n rest) → new ≡ total
-    → (more : List ℕ) → HasBad D kind ((octets ++ piece) ++ more) number new at
-handled_bad D s t kind octets piece rest number n at total new d on is offset same more =
+    → at ≡ length ((octets ++ d.0) ++ take n rest) → new ≡ total → T d.2.frames
+    → (more : List ℕ) → HasBad D T kind ((octets ++ piece) ++ more) number new at
+handled_bad D S T s t kind octets piece rest number n at total new d on is offset same stands more =
     let following = drop (n + 1) rest ++ more in
     let bad = subst (λ (k : ℕ). IsBadAt kind (((octets ++ d.0) ++ take (n + 1) rest) ++ following) d.2.frames
     ((d.2.rest ++ take (n + 1) rest) ++ following) k) (sym offset) (on.bad is following) in
@@ -88,22 +94,23 @@ handled_bad D s t kind octets piece rest number n at total new d on is offset sa
       bad = subst (λ (u : List ℕ). IsBadAt kind u d.2.frames ((d.2.rest ++ take (n + 1) rest) ++ following) at)
           (taken_further octets d.0 rest piece more (n + 1) d.1) bad;
       handled = subst (HandledFrom D 1 d.2.frames) (sym same) d.2.handled;
+      stands = stands;
       number_is = d.2.number_is;
     }
 
 -- all of the piece is handled
-pub handled_all : (D : Handling) (s : Scan) (kind : Framing) (octets piece rest : List ℕ) (number : ℕ) (total : Done)
-    → HandledPiece D s kind octets piece rest number total → length rest ≡ 0
-    → HasHandled D s kind (octets ++ piece) number total
-handled_all D s kind octets piece [] number total d none =
-    subst (λ (u : List ℕ). HasHandled D s kind (octets ++ u) number total) (sym (d.1 ∙ append-nil d.0)) d.2
-handled_all D s kind octets piece (x ∷ rest) number total d none = absurd (omega arith)
+pub handled_all : (D : Handling) (S : List (List ℕ) → Type 0) (s : Scan) (kind : Framing) (octets piece rest : List ℕ)
+    (number : ℕ) (total : Done) → HandledPiece D S s kind octets piece rest number total → length rest ≡ 0
+    → HasHandled D S s kind (octets ++ piece) number total
+handled_all D S s kind octets piece [] number total d none =
+    subst (λ (u : List ℕ). HasHandled D S s kind (octets ++ u) number total) (sym (d.1 ∙ append-nil d.0)) d.2
+handled_all D S s kind octets piece (x ∷ rest) number total d none = absurd (omega arith)
 
 -- the frames so far are a part of those of the whole stream
-pub handled_part : (D : Handling) (s : Scan) (kind : Framing) (octets piece rest : List ℕ) (number : ℕ)
-    (total new : Done) → HandledPiece D s kind octets piece rest number total → new ≡ total
-    → HasPart D kind (octets ++ piece) new
-handled_part D s kind octets piece rest number total new d same = record {
+pub handled_part : (D : Handling) (S : List (List ℕ) → Type 0) (s : Scan) (kind : Framing)
+    (octets piece rest : List ℕ) (number : ℕ) (total new : Done)
+    → HandledPiece D S s kind octets piece rest number total → new ≡ total → HasPart D kind (octets ++ piece) new
+handled_part D S s kind octets piece rest number total new d same = record {
   frames = d.2.frames;
   rest = d.2.rest ++ rest;
   whole = ap (λ (u : List ℕ). octets ++ u) d.1 ∙ sym (append_assoc octets d.0 rest)

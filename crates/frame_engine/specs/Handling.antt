@@ -11,6 +11,18 @@ abbrev pub HandledFrom : Handling → ℕ → List (List ℕ) → Done → Type 
 HandledFrom D n [] d = d ≡ nothing
 HandledFrom D n (f ∷ fs) d = (a : Done) × (b : Done) × D n f a × HandledFrom D (n + 1) fs b × (d ≡ then_done a b)
 
+-- what is done at the end of these frames
+abbrev pub AtEnd : Type 1
+AtEnd = List (List ℕ) → Done → Type 0
+
+-- nothing is done there
+abbrev pub nothing_at_end : AtEnd
+nothing_at_end frames d = d ≡ nothing
+
+-- nothing is put out there
+abbrev pub PutsNothingOut : AtEnd → Type 0
+PutsNothingOut E = (frames : List (List ℕ)) (d : Done) → E frames d → d.output ≡ []
+
 -- the same frame always has the same output
 abbrev pub HasOneOutputEach : Handling → Type 0
 HasOneOutputEach D = (n : ℕ) (f : List ℕ) (a b : Done) → D n f a → D n f b → a.output ≡ b.output

@@ -4,5 +4,9 @@ pub mod Readings
 pub mod Checked
 pub mod Converted
 pub mod Showing
+pub mod ShowingJson
+pub mod Summaries
+pub mod TallyLaws
 pub mod Streams
+pub mod Closing
 pub mod Sessions

@@ -32,11 +32,15 @@ IsRefusedWith way n f line =
     ⊎ ((length f ≤ FRAME_MAX) × ¬ (IsLegacy way f)
     × (fault : Fault) × HasFault way f fault × (line ≡ Refused n fault)))
 
+-- octets are read as a record of RFC 5424, if they are one, and not as a legacy packet
+abbrev pub IsReadNew : Clock → List ℕ → Type 0
+IsReadNew clock b = ((r : Parts ℤ) → WellFormed r b → under.IsReadAs clock r b) × ¬ (under.IsLegacy clock b)
+
 -- what was read of octets shows the record that they are read as under a clock
 abbrev pub IsReadingIn : Clock → List ℕ → Reading → Type 0
-IsReadingIn clock b (reading.Record view) =
-    ((r : Parts ℤ) → WellFormed r b → under.IsReadAs clock r b) × IsViewOf b (view_parts view)
-IsReadingIn clock b (reading.Legacy view) = under.IsReadAs clock (legacy_view_parts view) b
+IsReadingIn clock b (reading.Record view) = IsReadNew clock b × IsViewOf b (view_parts view)
+IsReadingIn clock b (reading.Legacy view) =
+    under.IsLegacy clock b × under.IsReadAs clock (legacy_view_parts view) b
 
 -- what was read shows the record that the frame is read as
 abbrev pub IsReadingOf : FrameReading → List ℕ → Reading → Type 0
@@ -53,10 +57,6 @@ PutsReading way n f old new None = AddsRecord way f old new
 PutsReading way n f old new (Some line) = IsRefusedWith way n f line × (new ≡ old)
 
 -- ---- of the octets that are read, under a clock
-
--- they are read as a record of RFC 5424, if they are one, and not as a legacy packet
-abbrev pub IsReadNew : Clock → List ℕ → Type 0
-IsReadNew clock b = ((r : Parts ℤ) → WellFormed r b → under.IsReadAs clock r b) × ¬ (under.IsLegacy clock b)
 
 -- the line on octets that are no record
 abbrev pub IsNoRecord : Clock → ℕ → List ℕ → Line → Type 0

@@ -1,5 +1,5 @@
 -- What comes of a stream whose frames are handled in order.
-use Rattle.std.specs.Prelude.{◌≡◌, ℕ, ◌+◌, ◌<◌, List, [], ◌++◌, length, ◌⊎◌, Option, Some, None}
+use Rattle.std.specs.Prelude.{◌≡◌, ℕ, ◌+◌, ◌<◌, List, [], ◌∷◌, ◌++◌, length, ◌⊎◌, Option, Some, None}
 use Rattle.std.specs.List.{AllByRecursion, flat_map}
 use Rattle.octet_language.specs.Language.{Begins}
 use Rattle.syslog_frame.specs.Frames.{CanCarry, Frame, Frames, IsBadAt, Whole, framed}
@@ -34,22 +34,33 @@ pub record StreamDone (D : Handling) (T : Line → Done) (kind : Framing) (strea
   pub reported : ReportsEnd T kind stream frames rest of_end
   pub whole : d ≡ then_done of_frames of_end
 
--- the scanner read these octets, and the frames that it released were handled; the next frame has this number
-pub record HasHandled (D : Handling) (s : Scan) (kind : Framing) (octets : List ℕ) (number : ℕ) (total : Done) : Type 0
+-- what is reported of the end of a stream by a line, if there is one
+abbrev pub of_line : (Line → Done) → Option Line → Done
+of_line T None = nothing
+of_line T (Some line) = T line
+
+-- the scanner read these octets, and the frames that it released were handled, so that the handler stands as it does
+-- after these; the next frame has this number
+pub record HasHandled (D : Handling) (S : List (List ℕ) → Type 0) (s : Scan) (kind : Framing) (octets : List ℕ)
+    (number : ℕ) (total : Done) : Type 0
   where
     pub frames : List (List ℕ)
     pub rest : List ℕ
     pub reads : Reads FRAME_MAX s kind 0 octets frames rest
     pub handled : HandledFrom D 1 frames total
+    pub stands : S frames
     pub number_is : number ≡ length frames + 1
 
 -- the stream is bad at an offset, and all frames before it were handled
-pub record HasBad (D : Handling) (kind : Framing) (stream : List ℕ) (number : ℕ) (total : Done) (at : ℕ) : Type 0 where
-  pub frames : List (List ℕ)
-  pub rest : List ℕ
-  pub bad : IsBadAt kind stream frames rest at
-  pub handled : HandledFrom D 1 frames total
-  pub number_is : number ≡ length frames + 1
+pub record HasBad (D : Handling) (S : List (List ℕ) → Type 0) (kind : Framing) (stream : List ℕ) (number : ℕ)
+    (total : Done) (at : ℕ) : Type 0
+  where
+    pub frames : List (List ℕ)
+    pub rest : List ℕ
+    pub bad : IsBadAt kind stream frames rest at
+    pub handled : HandledFrom D 1 frames total
+    pub stands : S frames
+    pub number_is : number ≡ length frames + 1
 
 -- the stream begins with some frames, and these were handled
 pub record HasPart (D : Handling) (kind : Framing) (stream : List ℕ) (total : Done) : Type 0 where
@@ -59,11 +70,13 @@ pub record HasPart (D : Handling) (kind : Framing) (stream : List ℕ) (total : 
   pub each : AllByRecursion (CanCarry kind) frames
   pub handled : HandledFrom D 1 frames total
 
--- what a step does where the scanner has read these octets, of which this rest is not yet released
-abbrev pub HandlesStep : Handling → ℕ → Framing → List ℕ → List ℕ → Done → Done → Step → Type 0
-HandlesStep D number kind octets rest old new Nothing = new ≡ old
-HandlesStep D number kind octets rest old new (Bad at) = (new ≡ old) × (at ≡ length octets)
-HandlesStep D number kind octets rest old new Handled = (f : List ℕ) × Frame kind f rest × Adds (D number f) old new
+-- what a step does where the scanner has read these octets: frames that it released, and this rest
+abbrev pub HandlesStep : Handling → (List (List ℕ) → Type 0) → ℕ → Framing → List ℕ → List (List ℕ) → List ℕ → Done
+    → Done → Step → Type 0
+HandlesStep D S number kind octets frames rest old new Nothing = (new ≡ old) × S frames
+HandlesStep D S number kind octets frames rest old new (Bad at) = (new ≡ old) × (at ≡ length octets) × S frames
+HandlesStep D S number kind octets frames rest old new Handled =
+    (f : List ℕ) × Frame kind f rest × Adds (D number f) old new × S (frames ++ f ∷ [])
 
 -- what a step says of the scanner
 abbrev pub StepImplies : Scan → Step → Type 0
@@ -72,6 +85,6 @@ StepImplies s (Bad at) = HasBadCount s
 StepImplies s Handled = HasFrame s
 
 -- a stream goes on being handled; or it is bad at this offset, whatever octets follow
-abbrev pub HandlesOn : Handling → Scan → Framing → List ℕ → ℕ → Done → Option ℕ → Type 0
-HandlesOn D s kind octets number total None = HasHandled D s kind octets number total
-HandlesOn D s kind octets number total (Some at) = (more : List ℕ) → HasBad D kind (octets ++ more) number total at
+abbrev pub HandlesOn : Handling → (List (List ℕ) → Type 0) → Scan → Framing → List ℕ → ℕ → Done → Option ℕ → Type 0
+HandlesOn D S s kind octets number total None = HasHandled D S s kind octets number total
+HandlesOn D S s kind octets number total (Some at) = (more : List ℕ) → HasBad D S kind (octets ++ more) number total at

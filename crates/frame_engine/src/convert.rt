@@ -49,16 +49,15 @@ fn put_framed(framing: Framing, number: u64, effects: &mut Effects) -> Result<()
     }
 }
 
-impl FrameHandler for Convert {
-    ghost use Rattle.std.proofs.Common.{inl, inr, refl};
-    ghost use Rattle.frame_engine.specs.Converted.{convert_handling, noted_line};
-    ghost use Rattle.frame_engine.specs.declared.line.Line.TheVariants.{TooLong};
+impl Convert {
+    ghost use Rattle.frame_engine.specs.Converted.{convert_handling};
 
-    ghost handles = { λ c. convert_handling c.reading c.to };
-
-    ghost reports = { λ _. noted_line };
-
-    fn on_frame(&self, number: u64, frame: &[u8], effects: &mut Effects) -> Result<(), AllocError> {
+    // Writes the canonical octets of the record that a frame is, or notes why there are none.
+    fn convert(&self, number: u64, frame: &[u8], effects: &mut Effects) -> Result<(), AllocError>
+        ensures ok { OnOk result (Adds (convert_handling self.now.reading self.now.to number frame.now)
+            (done_of effects.old) (done_of effects.new)) }
+        ensures err { OnErr result (done_of effects.new ≡ done_of effects.old) }
+    {
         let Some(framing) = self.to else {
             let out = &mut effects.output;
             return match put_reading(self.reading, number, frame, self.alloc, out)? {
@@ -73,10 +72,42 @@ impl FrameHandler for Convert {
             Some(line) => add_refusal(line, effects),
         }
     }
+}
+
+impl FrameHandler for Convert {
+    ghost use Rattle.std.proofs.Common.{inl, inr, refl};
+    ghost use Rattle.frame_engine.specs.Handling.{nothing_at_end};
+    ghost use Rattle.frame_engine.specs.Converted.{convert_handling, noted_line};
+    ghost use Rattle.frame_engine.specs.declared.line.Line.TheVariants.{TooLong};
+
+    ghost handles = { λ c. convert_handling c.reading c.to };
+
+    ghost reports = { λ _. noted_line };
+
+    ghost ends = { λ _. nothing_at_end };
+
+    ghost stands = { λ first now frames. now ≡ first };
+
+    fn on_frame(
+        &mut self,
+        number: u64,
+        frame: &[u8],
+        effects: &mut Effects,
+    ) -> Result<(), AllocError> {
+        self.convert(number, frame, effects)
+    }
 
     fn report(&self, line: Line, effects: &mut Effects) -> Result<(), AllocError> {
         add_refusal(line, effects)
     }
 
+    fn end(&self, _effects: &mut Effects) -> Result<(), AllocError> {
+        Ok(())
+    }
+
+    ghost begun = { λ d. refl };
+
     ghost long = { λ d n f h. inr (TooLong n, inl (h, refl), refl) };
+
+    ghost passed = { λ first d frames f h stands. stands };
 }

@@ -1,8 +1,10 @@
 //! A datagram as a session: what it holds is one frame.
 
-ghost use Rattle.std.specs.Prelude.{◌≡◌, ◌+◌, take};
+ghost use Rattle.std.specs.Prelude.{◌≡◌, ◌+◌, ◌∷◌, [], List, ℕ, OnErr, OnOk, take};
 ghost use Rattle.syslog_frame.specs.declared.limits.TheConstants.{FRAME_MAX};
+ghost use Rattle.driver.specs.Effects.{Adds, done_of};
 
+use crate::closing::Mark;
 use crate::frame_handler::FrameHandler;
 use crate::line::Line;
 use driver::{Effects, Flow, Session};
@@ -36,17 +38,32 @@ impl<D: FrameHandler> DatagramSession<D> {
             kept: Vec::new(alloc),
         }
     }
+
+    // Handles the datagram, of which this is kept.
+    fn handle(&mut self, effects: &mut Effects) -> Result<(), AllocError>
+        ensures ok { OnOk result ((first : D) (given : List ℕ)
+            → self.old.kept.items ≡ take (FRAME_MAX + 1) given → D.stands first self.old.handler []
+            → Adds (D.handles first 1 given) (done_of effects.old) (done_of effects.new)
+            × D.stands first self.new.handler (given ∷ [])) }
+        ensures err { OnErr result (done_of effects.new ≡ done_of effects.old) }
+    {
+        if self.kept.len() > FRAME_MAX {
+            return self.handler.report(Line::TooLong { number: 1 }, effects);
+        }
+        self.handler.on_frame(1, self.kept.as_slice(), effects)
+    }
 }
 
 impl<D: FrameHandler> Session for DatagramSession<D> {
-    ghost use Rattle.std.specs.Prelude.{[]};
-    ghost use Rattle.frame_engine.specs.Sessions.{datagram_meaning};
+    ghost use Rattle.frame_engine.specs.Sessions.{handler_meaning};
+    ghost use Rattle.frame_engine.specs.declared.input_framing.InputFraming.TheVariants.{Datagram};
 
-    ghost means = { λ s. datagram_meaning (D.handles s.handler) };
+    ghost means = { λ s. handler_meaning (D.handles s.handler) (D.reports s.handler)
+        (D.ends s.handler) Datagram };
 
     ghost rest = { λ _. [] };
 
-    ghost stands = { λ first now given. (now.handler ≡ first.handler)
+    ghost stands = { λ first now given. D.stands first.handler now.handler []
         × (now.kept.items ≡ take (FRAME_MAX + 1) given) };
 
     fn take(&mut self, piece: &[u8], _effects: &mut Effects) -> Result<Flow, AllocError> {
@@ -56,10 +73,13 @@ impl<D: FrameHandler> Session for DatagramSession<D> {
     }
 
     fn end(&mut self, effects: &mut Effects) -> Result<(), AllocError> {
-        if self.kept.len() > FRAME_MAX {
-            return self.handler.report(Line::TooLong { number: 1 }, effects);
+        let mark = Mark::of(effects);
+        self.handle(effects)?;
+        let ended = self.handler.end(effects);
+        if ended.is_err() {
+            mark.take_back(effects);
         }
-        self.handler.on_frame(1, self.kept.as_slice(), effects)
+        ended
     }
 
     fn write_rest<W: Output>(&self, _output: &mut W) -> Result<(), WriteFault> {

@@ -2,7 +2,7 @@
 
 ghost use Rattle.driver.specs.Devices.{devices};
 ghost use Rattle.driver.specs.Run.{Ran};
-ghost use Rattle.frame_engine.specs.Sessions.{input_meaning};
+ghost use Rattle.frame_engine.specs.Sessions.{handler_meaning};
 
 use crate::datagram_session::DatagramSession;
 use crate::frame_handler::FrameHandler;
@@ -24,7 +24,7 @@ pub fn scan_input<D: FrameHandler + Drop, R: Input, W: Output, N: Output>(
     output: &mut W,
     diagnostics: &mut N,
 ) -> u8
-    ensures { Ran (input_meaning (D.handles handler) (D.reports handler) input_framing)
+    ensures { Ran (handler_meaning (D.handles handler) (D.reports handler) (D.ends handler) input_framing)
         (devices (R.state input.old) (W.state output.old) (N.state diagnostics.old))
         (devices (R.state input.new) (W.state output.new) (N.state diagnostics.new))
         result }

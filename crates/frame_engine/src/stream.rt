@@ -1,12 +1,14 @@
 //! A stream handled frame by frame, as its pieces arrive.
 
-ghost use Rattle.std.specs.Prelude.{◌≡◌, ◌≤◌, ◌<◌, ◌+◌, ◌++◌, ◌^◌, ℕ, List, length, IfOk, OnErr, OnOk, IsNone};
+ghost use Rattle.std.specs.Prelude.{◌≡◌, ◌≤◌, ◌<◌, ◌+◌, ◌++◌, ◌^◌, ℕ, List, length, IfOk, OnErr, IsNone};
 ghost use Rattle.syslog_frame.specs.Frames.{Frames};
 ghost use Rattle.syslog_frame.specs.Reads.{Reads};
 ghost use Rattle.syslog_frame.specs.Scan.{IsReading};
 ghost use Rattle.syslog_frame.specs.declared.framing.Framing.{Framing};
 ghost use Rattle.driver.specs.Effects.{Done, done_of, then_done};
-ghost use Rattle.frame_engine.specs.Streams.{HandlesOn, HandlesStep, HasHandled, HasPart, StepImplies, ReportsEnd};
+ghost use Rattle.frame_engine.specs.Streams.{HandlesOn, HandlesStep, HasHandled, HasPart, of_line, StepImplies};
+ghost use Rattle.frame_engine.specs.Streams.{ReportsEnd};
+ghost use Rattle.frame_engine.specs.declared.line.Line.{Line};
 
 use crate::frame_handler::FrameHandler;
 use crate::line::Line;
@@ -27,16 +29,16 @@ pub enum Step {
 
 /// Handles the frame that is ready, if one is.
 fn handle_next<D: FrameHandler>(
-    handler: &D,
+    handler: &mut D,
     scanner: &Scanner,
     number: u64,
     effects: &mut Effects,
 ) -> Result<Step, AllocError>
     ensures reports { IfOk result (λ step. StepImplies scanner.now step) }
-    ensures handles { IfOk result (λ step. (kind : Framing) (octets : List ℕ)
+    ensures handles { IfOk result (λ step. (first : D) (kind : Framing) (octets : List ℕ)
         (frames : List (List ℕ)) (rest : List ℕ)
-        → Reads FRAME_MAX scanner.now kind 0 octets frames rest
-        → HandlesStep (D.handles handler.now) number kind octets rest
+        → Reads FRAME_MAX scanner.now kind 0 octets frames rest → D.stands first handler.old frames
+        → HandlesStep (D.handles first) (D.stands first handler.new) number kind octets frames rest
         (done_of effects.old) (done_of effects.new) step) }
     ensures err { OnErr result (done_of effects.new ≡ done_of effects.old) }
 {
@@ -58,7 +60,7 @@ fn handle_next<D: FrameHandler>(
 /// piece where all of it does. `number` is that of
 /// the next frame. Returns the position of the bad MSG-LEN, if there is one.
 pub fn feed<D: FrameHandler>(
-    handler: &D,
+    handler: &mut D,
     scanner: &mut Scanner,
     number: &mut u64,
     piece: &[u8],
@@ -71,15 +73,15 @@ pub fn feed<D: FrameHandler>(
     ensures position { IfOk result (λ bad. IsNone bad →
         scanner.new.position ≡ scanner.old.position + length piece.now) }
     ensures number { number.new ≤ number.old + length piece.now }
-    ensures handles { IfOk result (λ bad. (kind : Framing) (octets : List ℕ) (before : Done)
-        → HasHandled (D.handles handler.now) scanner.old kind octets number.old
+    ensures handles { IfOk result (λ bad. (first : D) (kind : Framing) (octets : List ℕ) (before : Done)
+        → HasHandled (D.handles first) (D.stands first handler.old) scanner.old kind octets number.old
         (then_done before (done_of effects.old))
-        → HandlesOn (D.handles handler.now) scanner.new kind (octets ++ piece.now) number.new
-        (then_done before (done_of effects.new)) bad) }
-    ensures err { OnErr result ((kind : Framing) (octets : List ℕ) (before : Done)
-        → HasHandled (D.handles handler.now) scanner.old kind octets number.old
+        → HandlesOn (D.handles first) (D.stands first handler.new) scanner.new kind
+        (octets ++ piece.now) number.new (then_done before (done_of effects.new)) bad) }
+    ensures err { OnErr result ((first : D) (kind : Framing) (octets : List ℕ) (before : Done)
+        → HasHandled (D.handles first) (D.stands first handler.old) scanner.old kind octets number.old
         (then_done before (done_of effects.old))
-        → HasPart (D.handles handler.now) kind (octets ++ piece.now)
+        → HasPart (D.handles first) kind (octets ++ piece.now)
         (then_done before (done_of effects.new))) }
 {
     let mut rest = piece;
@@ -106,26 +108,17 @@ pub fn feed<D: FrameHandler>(
     Ok(None)
 }
 
-/// Reports whether a stream that was read to its end stops inside a frame.
-pub fn end_stream<D: FrameHandler>(
-    handler: &D,
-    scanner: &Scanner,
-    effects: &mut Effects,
-) -> Result<(), AllocError>
+/// The line on the end of a stream that was read to its end, if it stops inside a frame.
+pub fn end_line(scanner: &Scanner) -> Option<Line>
     requires { IsReading scanner.now }
-    ensures ok { OnOk result ((kind : Framing) (octets : List ℕ) (frames : List (List ℕ))
+    ensures { (T : Line → Done) (kind : Framing) (octets : List ℕ) (frames : List (List ℕ))
         (rest : List ℕ) → Reads FRAME_MAX scanner.now kind 0 octets frames rest
-        → Frames kind octets frames rest × ((d : Done)
-        × ReportsEnd (D.reports handler.now) kind octets frames rest d
-        × (done_of effects.new ≡ then_done (done_of effects.old) d))) }
-    ensures err { OnErr result (done_of effects.new ≡ done_of effects.old) }
+        → Frames kind octets frames rest
+        × ReportsEnd T kind octets frames rest (of_line T result) }
 {
     match scanner.end() {
-        Ok(()) => Ok(()),
-        Err(EndFault::Unterminated { start }) => handler.report(
-            Line::Unterminated { start },
-            effects,
-        ),
+        Ok(()) => None,
+        Err(EndFault::Unterminated { start }) => Some(Line::Unterminated { start }),
         Err(EndFault::Failed | EndFault::Unreleased) => unreachable!(),
     }
 }

@@ -4,9 +4,10 @@ ghost use Rattle.std.specs.Prelude.{◌≡◌, ◌≤◌, ◌<◌, ◌+◌, ◌^
 ghost use Rattle.syslog_frame.specs.Scan.{IsReading};
 ghost use Rattle.syslog_frame.specs.declared.limits.TheConstants.{POSITION_MAX};
 
+use crate::closing::close_frames;
 use crate::frame_handler::FrameHandler;
 use crate::line::Line;
-use crate::stream::{end_stream, feed};
+use crate::stream::{end_line, feed};
 use driver::{Effects, Flow, Session};
 use octet_devices::{Output, READ_MAX, READER_CALLS, WriteFault};
 use std::alloc::{AllocError, Global};
@@ -58,14 +59,16 @@ impl<D: FrameHandler + Drop> StreamSession<D> {
 
 impl<D: FrameHandler> Session for StreamSession<D> {
     ghost use Rattle.std.specs.Prelude.{[]};
-    ghost use Rattle.frame_engine.specs.Sessions.{StreamStands, stream_meaning};
+    ghost use Rattle.frame_engine.specs.Sessions.{StreamStands, handler_meaning};
+    ghost use Rattle.frame_engine.specs.declared.input_framing.InputFraming.TheVariants.{Stream};
 
-    ghost means = { λ s. stream_meaning (D.handles s.handler) (D.reports s.handler) s.scanner.framing };
+    ghost means = { λ s. handler_meaning (D.handles s.handler) (D.reports s.handler)
+        (D.ends s.handler) (Stream s.scanner.framing) };
 
     ghost rest = { λ _. [] };
 
-    ghost stands = { λ first now given. (now.handler ≡ first.handler)
-        × StreamStands first.scanner.framing now.scanner now.number now.room now.is_finished given };
+    ghost stands = { λ first now given. StreamStands (D.stands first.handler now.handler)
+        first.scanner.framing now.scanner now.number now.room now.is_finished given };
 
     fn take(&mut self, piece: &[u8], effects: &mut Effects) -> Result<Flow, AllocError> {
         if self.is_finished || piece.len() as u64 > self.room {
@@ -75,7 +78,7 @@ impl<D: FrameHandler> Session for StreamSession<D> {
         self.is_finished = true;
         self.room -= piece.len() as u64;
         let bad = feed(
-            &self.handler,
+            &mut self.handler,
             &mut self.scanner,
             &mut self.number,
             piece,
@@ -86,7 +89,7 @@ impl<D: FrameHandler> Session for StreamSession<D> {
             return Ok(Flow::Continue);
         };
         let number = self.number;
-        self.handler.report(Line::BadCount { number, at }, effects)?;
+        close_frames(&self.handler, Some(Line::BadCount { number, at }), effects)?;
         Ok(Flow::Finished)
     }
 
@@ -94,7 +97,7 @@ impl<D: FrameHandler> Session for StreamSession<D> {
         if self.is_finished {
             return Ok(());
         }
-        end_stream(&self.handler, &self.scanner, effects)
+        close_frames(&self.handler, end_line(&self.scanner), effects)
     }
 
     fn write_rest<W: Output>(&self, _output: &mut W) -> Result<(), WriteFault> {

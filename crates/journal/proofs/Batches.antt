@@ -9,11 +9,13 @@ use Rattle.journal.specs.Journals.{WithOrWithout}
 abbrev Bodies : Type 0
 Bodies = List (List ℕ)
 
-pub text-push : (bodies : Bodies) (body rest : List ℕ) → batches_text (bodies ++ body ∷ []) ++ rest ≡ batches_text bodies ++ open_batch body ++ rest
+pub text-push : (bodies : Bodies) (body rest : List ℕ)
+    → batches_text (bodies ++ body ∷ []) ++ rest ≡ batches_text bodies ++ open_batch body ++ rest
 text-push [] body rest = ap (λ (l : List ℕ). l ++ rest) (append-nil (open_batch body))
 text-push (b ∷ bodies) body rest =
     append_assoc (open_batch b) (batches_text (bodies ++ body ∷ [])) rest
-    ∙ ap (λ (l : List ℕ). open_batch b ++ l) (text-push bodies body rest ∙ append_assoc (batches_text bodies) (open_batch body) rest)
+    ∙ ap (λ (l : List ℕ). open_batch b ++ l) (text-push bodies body rest ∙ append_assoc (batches_text bodies)
+    (open_batch body) rest)
     ∙ sym (append_assoc (open_batch b) (batches_text bodies) (open_batch body ++ rest))
     ∙ sym (append_assoc (open_batch b ++ batches_text bodies) (open_batch body) rest)
 
@@ -21,16 +23,20 @@ text-push (b ∷ bodies) body rest =
 pub closed_octet : (gate : ℕ) (behind : List ℕ) → gate ≢ 1 → IsClosed (gate ∷ behind)
 closed_octet gate behind shut body rest sized is = shut (cc is)
 
-pub sized_push : (bodies : Bodies) (body : List ℕ) → AllByRecursion IsBody bodies → IsBody body → AllByRecursion IsBody (bodies ++ body ∷ [])
+pub sized_push : (bodies : Bodies) (body : List ℕ) → AllByRecursion IsBody bodies → IsBody body
+    → AllByRecursion IsBody (bodies ++ body ∷ [])
 sized_push [] body sized one = (one, tt)
 sized_push (b ∷ bodies) body sized one = (sized.0, sized_push bodies body sized.1 one)
 
-pub before_closed : (bodies : Bodies) (gate : ℕ) (behind : List ℕ) → gate ≢ 1 → AllByRecursion IsBody bodies → HasBatches (batches_text bodies ++ gate ∷ behind) bodies
-before_closed bodies gate behind shut sized = record { tail = gate ∷ behind; text = refl; closed = closed_octet gate behind shut; sized = sized }
+pub before_closed : (bodies : Bodies) (gate : ℕ) (behind : List ℕ) → gate ≢ 1 → AllByRecursion IsBody bodies
+    → HasBatches (batches_text bodies ++ gate ∷ behind) bodies
+before_closed bodies gate behind shut sized = record
+    { tail = gate ∷ behind; text = refl; closed = closed_octet gate behind shut; sized = sized }
 
 -- a whole batch behind any octet counts, or it does not
 pub any_gate : (bodies : Bodies) (body : List ℕ) (gate : ℕ) → AllByRecursion IsBody bodies → IsBody body
-    → (found : Bodies) × HasBatches (batches_text bodies ++ gate ∷ closed_batch body) found × WithOrWithout bodies body found
+    → (found : Bodies) × HasBatches (batches_text bodies ++ gate ∷ closed_batch body) found × WithOrWithout bodies body
+    found
 any_gate bodies body gate sized one = ⊎_elim
     (λ is_open. (
       bodies ++ body ∷ [],

@@ -1,5 +1,6 @@
 -- An empty journal is being made: what a crash leaves under its name.
-use Rattle.std.proofs.Common.{◌≡◌, ℕ, ◌+◌, ◌≤◌, ◌⊎◌, inl, inr, Bool, true, false, if◌then◌else◌, List, [], ◌∷◌, ◌++◌, length, take, refl, sym, subst, ◌∙◌, ap, arith, max}
+use Rattle.std.proofs.Common.{◌≡◌, ℕ, ◌+◌, ◌≤◌, ◌⊎◌, inl, inr, Bool, true, false, if◌then◌else◌, List, [], ◌∷◌, ◌++◌}
+use Rattle.std.proofs.Common.{length, take, refl, sym, subst, ◌∙◌, ap, arith, max}
 use Rattle.std.specs.Prelude.{Option, None, Some, IsSomeAnd, IsTrue}
 use Rattle.std.proofs.lemmas.List.{length-append, length-take}
 use Rattle.disk.specs.Files.{File, MayBecome, settled, appended, appended_in_part}
@@ -26,7 +27,8 @@ few_octets octets few =
     record { tail = octets; text = refl; closed = λ body rest sized is. no_batch octets body rest few is; sized = tt }
 
 -- what a crash leaves of what was there before
-earlier : (past : List (Option File)) (last : Option File) (octets : Option (List ℕ)) → AnyMayBe (past ++ last ∷ []) octets
+earlier : (past : List (Option File)) (last : Option File) (octets : Option (List ℕ))
+    → AnyMayBe (past ++ last ∷ []) octets
     → MayBe last octets ⊎ AnyMayBe past octets
 earlier [] last octets (inl h) = inl h
 earlier [] last octets (inr h) = absurd h

@@ -12,7 +12,8 @@ record Now (state : State) (name : List ℕ) (file : File) : Type 0 where
   now : (state.entries name).now ≡ Some file
   sound : state.lost ≡ false
 
-now_changes : (old new : State) (name : List ℕ) (file : File) (change : File → File) → Now old name file → ChangesFile old new name change → Now new name (change file)
+now_changes : (old new : State) (name : List ℕ) (file : File) (change : File → File) → Now old name file
+    → ChangesFile old new name change → Now new name (change file)
 now_changes old new name file change at changes =
     let some : Some changes.file ≡ Some file = sym changes.was ∙ at.now in
     let same : changes.file ≡ file = cc some in
@@ -22,12 +23,19 @@ now_changes old new name file change at changes =
     }
 
 -- the four calls
-pub made : (s0 s1 s2 s3 s4 : State) (name : List ℕ) (journal : Journal) → s0.lost ≡ false → CreatesFile s0 s1 name → ChangesFile s1 s2 name (appended (0 ∷ []))
-    → ChangesFile s2 s3 name (λ f. if s2.lost then f else settled f.shown) → SettlesNames s3 s4 → journal.name ≡ name → journal.end ≡ 0 → Stands journal s4 []
+pub made : (s0 s1 s2 s3 s4 : State) (name : List ℕ) (journal : Journal) → s0.lost ≡ false → CreatesFile s0 s1 name
+    → ChangesFile s1 s2 name (appended (0 ∷ []))
+    → ChangesFile s2 s3 name (λ f. if s2.lost then f else settled f.shown) → SettlesNames s3 s4 → journal.name ≡ name
+    → journal.end ≡ 0 → Stands journal s4 []
 made s0 s1 s2 s3 s4 name journal sound creates appends syncs settles name_is end_is =
-    let one : Now s1 name (settled []) = record { now = ap (λ (e : Entry). e.now) creates.entry.here; sound = creates.entry.lost ∙ sound } in
+    let one : Now s1 name (settled []) = record {
+      now = ap (λ (e : Entry). e.now) creates.entry.here;
+      sound
+          = creates.entry.lost ∙ sound;
+    } in
     let two = now_changes s1 s2 name (settled []) (appended (0 ∷ [])) one appends in
-    let three = now_changes s2 s3 name (appended (0 ∷ []) (settled [])) (λ f. if s2.lost then f else settled f.shown) two syncs in
+    let three = now_changes s2 s3 name (appended (0 ∷ []) (settled [])) (λ f. if s2.lost then f else settled f.shown)
+    two syncs in
     let shown : (s3.entries name).now ≡ Some (settled (0 ∷ [])) =
     three.now ∙ ap (λ (b : Bool). Some (if b then appended (0 ∷ []) (settled []) else settled (0 ∷ []))) two.sound in
     record {

@@ -3,7 +3,8 @@ use Rattle.std.specs.Prelude.{◌≡◌, ◌≢◌, ℕ, ◌^◌, ◌<◌, List,
 use Rattle.std.specs.Int.{w32, to_le_bytes}
 use Rattle.std.specs.List.{AllByRecursion}
 
--- what is written before a batch is opened: the number of its octets, in 4 octets with the low ones first, its octets, and the
+-- what is written before a batch is opened: the number of its octets, in 4 octets with the low ones first, its octets,
+-- and the
 -- octet that the next batch is opened by, closed
 abbrev pub closed_batch : List ℕ → List ℕ
 closed_batch body = to_le_bytes w32 (length body) ++ body ++ 0 ∷ []

@@ -9,6 +9,9 @@ use std::alloc::{AllocError, Global};
 /// The most octets of a journal before a batch.
 pub const LENGTH_MAX: u64 = 1 << 62;
 
+/// The most octets of a batch.
+pub const BODY_MAX: usize = u32::MAX as usize;
+
 // what opens a batch, and what stands in its place before
 const OPEN: u8 = 1;
 
@@ -66,14 +69,16 @@ impl Journal {
 
     /// Adds a batch. Once it has returned `Ok`, every crash leaves it; a crash at any moment leaves
     /// the batches from before, with this one or without it. After an `Err` open the journal again.
+    ///
+    /// # Errors
+    /// The disk's fault, or out of memory. `Full`, with nothing changed, also for a batch of more than
+    /// `BODY_MAX` octets and for a journal of `LENGTH_MAX` octets.
     pub fn commit<D: Disk>(
         &mut self,
         alloc: Global,
         disk: &mut D,
         body: &[u8],
     ) -> Result<(), DiskFault>
-        requires { length body.now < 2 ^ 32 }
-
         ensures committed { OnOk result (D.tells disk.new → (bodies : List (List ℕ))
             → Stands self.old (D.state disk.old) bodies
             → Stands self.new (D.state disk.new) (bodies ++ body.now ∷ [])) }
@@ -90,9 +95,12 @@ impl Journal {
         ensures told { D.tells disk.new → D.tells disk.old }
         ensures failed { IsErrOf result DiskFault.Failed → D.has_failed disk.new }
         ensures full { IsErrOf result DiskFault.Full
-            → D.has_failed disk.new ⊎ (2 ^ 62 ≤ end_of self.old) }
+            → D.has_failed disk.new ⊎ ((2 ^ 62 ≤ end_of self.old) ⊎ (2 ^ 32 ≤ length body.now)) }
     {
         if self.end >= LENGTH_MAX {
+            return Err(DiskFault::Full);
+        }
+        if body.len() > BODY_MAX {
             return Err(DiskFault::Full);
         }
         let octets = written(alloc, body)?;

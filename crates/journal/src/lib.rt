@@ -20,7 +20,7 @@ mod reading;
 mod tests;
 
 pub use fault::JournalFault;
-pub use journal::{Journal, LENGTH_MAX};
+pub use journal::{BODY_MAX, Journal, LENGTH_MAX};
 pub use law::{after_a_crash, one_reading};
 pub use opening::{open, settle};
 pub use reading::{OPENED_MAX, batch_len};

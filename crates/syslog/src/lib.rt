@@ -4,7 +4,7 @@
 //!   field and the octet ([`Fault`]). [`canon`] is the one canonical form of a record.
 //! - Octets of a stream as frames, in whatever pieces they come: [`Scanner`].
 //! - Records as a set with one text: [`VecArchive`], [`PagedArchive`], [`merge`],
-//!   [`merge_streams`].
+//!   [`merge_streams`]; algebra of sets: [`join_streams`], [`select_stream`], [`digest_stream`].
 //! - Many connections and datagrams into one set: [`Collector`].
 //! - Records of one origin: [`Sender`].
 //! - Legacy packets (RFC 3164): [`LegacyClock`], [`read_legacy`].
@@ -22,12 +22,21 @@ pub use commands::{Files, MemoryFile, MemoryFiles, run};
 
 // archives
 pub use syslog_archive::{
-    AddFault, Added, ArchiveEntries, ArchiveFault, AsSevereAs, Both, Condition, ENTRY_MAX,
-    EntriesFault, EntryFault, EntryView, HasElement, HasWord, InRange, InputFault, MergeFault,
-    OfFacility, OnlyUndated, PagedArchive, ReadFault, SelectFault, Side, Store, VecArchive,
-    WordField, entry_order_is_total, merge, merge_streams, merging_is_associative,
-    merging_is_commutative, merging_is_idempotent, merging_is_union, migrate, one_set_has_one_text,
-    one_text_has_one_set, read_entry, same_records_have_one_text, select_stream,
+    AddFault, Added, ArchiveEntries, ArchiveFault, AsSevereAs, AskedWord, Both, Condition,
+    Conditions, ENTRY_MAX, EntriesFault, EntryFault, EntryView, HasElement, HasWord, InRange,
+    InputFault, MergeFault, OfFacility, OnlyUndated, PagedArchive, ReadFault, SelectFault, Side,
+    Store, Times, VecArchive, WordField, entry_order_is_total, merge, merge_streams,
+    merging_is_associative, merging_is_commutative, merging_is_idempotent, merging_is_union,
+    migrate, one_set_has_one_text, one_text_has_one_set, read_entry, same_records_have_one_text,
+    select_stream,
+};
+
+// archives as sets
+pub use syslog_archive::{
+    Common, Diff, DigestFault, JoinFault, Kept, Minus, Period, Union,
+    common_and_minus_part_an_archive, digest_stream, digests_are_one, equal_archives_do_not_differ,
+    join_streams, selecting_distributes_over_common_and_minus, union_is_that_of_all_sets,
+    union_of_two_is_what_merging_gives,
 };
 
 // collectors and senders
@@ -52,6 +61,9 @@ pub use syslog_legacy::{
     Dialect, FrameReading, LegacyClock, LegacyFault, LegacyView, has_new_form, legacy_view,
     packets_have_one_answer, read_legacy,
 };
+
+// records as JSON
+pub use record_json::{a_line_is_its_object, lines_are_injective, put_json_line};
 
 // values
 pub use syslog_value::{

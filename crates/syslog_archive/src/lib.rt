@@ -3,9 +3,18 @@
 //!
 //! A [`Store`] is a set of records: [`VecArchive`] keeps its entries as one vector,
 //! [`PagedArchive`] in pages for millions of records. [`merge_streams`] joins two archives as they
-//! are read, with room for three entries. [`merging_is_union`] and its fellows are the laws.
+//! are read, with room for three entries; [`join_streams`] joins many, by what is [`Kept`] of a record
+//! that some have and others have not; [`select_stream`] selects from one, and [`digest_stream`]
+//! digests its periods. [`merging_is_union`] and its fellows are the laws.
 #![tactic(auto)]
 
+pub use archive_digest::{DigestFault, Period, digest_stream, digests_are_one};
+pub use archive_join::{
+    Common, Diff, JoinFault, Kept, Minus, Union, common_and_minus_part_an_archive,
+    equal_archives_do_not_differ, join_streams, kept_entries_are_archives, kept_texts_begin_alike,
+    selecting_distributes_over_common_and_minus, union_is_that_of_all_sets,
+    union_of_two_is_what_merging_gives,
+};
 pub use archive_laws::{
     archive_or_fault, archives_have_no_fault, entry_order_is_total, larger_limits_keep_archives,
     larger_limits_keep_faults, merging_is_associative, merging_is_commutative,
@@ -16,10 +25,10 @@ pub use archive_laws::{
 pub use archive_migration::{migrate, migrate_into};
 pub use archive_pages::PagedArchive;
 pub use archive_sets::{
-    AsSevereAs, Both, Condition, HasElement, HasWord, InRange, OfFacility, OnlyUndated,
-    SelectFault, WordField, select_stream, selecting_by_both_is_selecting_by_each,
-    selecting_distributes_over_union, selecting_is_idempotent, selections_are_archives,
-    selections_of_one_text_begin_alike,
+    AsSevereAs, AskedWord, Both, Condition, Conditions, HasElement, HasWord, InRange, OfFacility,
+    OnlyUndated, SelectFault, Times, WordField, select_stream,
+    selecting_by_both_is_selecting_by_each, selecting_distributes_over_union,
+    selecting_is_idempotent, selections_are_archives, selections_of_one_text_begin_alike,
 };
 pub use archive_streams::{
     ArchiveEntries, EntriesFault, InputFault, MergeFault, Side, merge_streams,

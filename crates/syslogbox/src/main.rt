@@ -46,7 +46,7 @@ fn main(rt: HostRuntime) -> ExitCode {
     let mut output = ToWrite::new(rt.stdout());
     let status = match read_words(rt.alloc(), args.as_slice()) {
         Ok(Request::Collect { words }) => {
-            if !can_be_written(&mut output) {
+            if !can_be_written(&rt) {
                 return ExitCode::from(report(&mut diagnostics, b"write fault\n", FAULT));
             }
             collect::collect(&rt, rt.alloc(), &words, &mut output, &mut diagnostics)

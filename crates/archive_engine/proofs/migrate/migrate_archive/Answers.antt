@@ -26,7 +26,7 @@ returns-in-Err-Bad g c =
     let whole = subst (λ (t : List ℕ). IfSome (g.R.Input.state c.args.old.now).left (λ input. t ≡ input))
     (sym c.as_slice.ensures.value) (kept_whole _ _ _ c.in-Ok.ensures.outcome.first few) in
     ran_refused _ c.in-Err-Bad.fault _ _ _ _ _ _ whole c.read_all.ensures.few
-    c.in-Ok.ensures.outcome.no_failure (rw c.in-Err-Bad.field-0-is at c.in-Err-Bad.ensures.err) c.report_fault.ensures
+    c.in-Ok.ensures.outcome.no_failure (rw c.in-Err-Bad.field-0-is at c.in-Err-Bad.ensures.err) c.report_archive_fault.ensures
 
 pub returns-in-Err-Memory-migrate : goal.returns-in-Err-Memory-migrate
 returns-in-Err-Memory-migrate g c =

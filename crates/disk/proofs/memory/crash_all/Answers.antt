@@ -4,7 +4,10 @@ use Rattle.disk.proofs.memory.crash_all.Goals as goal
 
 pub loop-entry-preserved : goal.loop-entry-preserved
 loop-entry-preserved c =
-    rw add-one (left_more c.loop-entry.entry-index c.args.entries.now c.loop-entry.entries c.crash_in.new.entry c.entry-item.result c.loop-entry-test.true c.loop-entry.invariant c.crash_in.ensures.name c.in_ok-crash_in.ensures.left)
+    rw add-one (left_more c.loop-entry.entry-index c.args.entries.now c.loop-entry.entries c.crash_in.new.entry
+    c.entry-item.result c.loop-entry-test.true c.loop-entry.invariant c.crash_in.ensures.name
+    c.in_ok-crash_in.ensures.left)
 
 pub returns : goal.returns
-returns c = left_to_end c.loop-entry.entry-index c.args.entries.now c.loop-entry.entries (omega arith) c.loop-entry.invariant
+returns c = left_to_end c.loop-entry.entry-index c.args.entries.now c.loop-entry.entries (omega arith)
+    c.loop-entry.invariant

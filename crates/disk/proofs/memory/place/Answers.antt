@@ -11,4 +11,5 @@ pub returns-clause-same : goal.returns-clause-same
 returns-clause-same c other =
     ap (λ (entries : List MemoryEntry). lookup entries other) c.in_ok-push.ensures.items
     ∙ lookup_empty c.args.entries.now.items _ other
-    (ap (λ (past : List (Option MemoryFile)). record { now = None; past = map (option_map file_of) past; moved = false }) c.new.ensures.items)
+    (ap (λ (past : List (Option MemoryFile)). record
+    { now = None; past = map (option_map file_of) past; moved = false }) c.new.ensures.items)

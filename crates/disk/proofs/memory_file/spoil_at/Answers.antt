@@ -10,7 +10,8 @@ loop-place-preserved c k none =
     elim c.if-place-octets.branch [
       | then-place-octets w ↦
           ap (λ (l : List ℕ). get_or l k 0) w.octets-is
-          ∙ get_or-set_other c.loop-place.octets (get_or c.args.places.now c.loop-place.place-index 0) k c.args.octet 0 apart
+          ∙ get_or-set_other c.loop-place.octets (get_or c.args.places.now c.loop-place.place-index 0) k c.args.octet 0
+          apart
           ∙ c.loop-place.invariant k none
       | else-place-octets w ↦ ap (λ (l : List ℕ). get_or l k 0) w.octets-is ∙ c.loop-place.invariant k none
     ]

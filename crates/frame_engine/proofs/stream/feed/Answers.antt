@@ -14,9 +14,9 @@ returns-in_err-handle_next-clause-err g c =
     let p = err_from_is_err_and c.from_residual-in_err-handle_next.result
     c.from_residual-in_err-handle_next.ensures.1 in
     rw p.1
-    (λ kind octets before h.
-    handled_part _ c.loop-rest.scanner kind octets c.args.piece.now c.loop-rest.rest.now _ _ _
-    (c.loop-rest.invariant.handled kind octets before h) (ap (then_done before) c.in_err-handle_next.ensures.err))
+    (λ first kind octets before h.
+    handled_part _ _ c.loop-rest.scanner kind octets c.args.piece.now c.loop-rest.rest.now _ _ _
+    (c.loop-rest.invariant.handled first kind octets before h) (ap (then_done before) c.in_err-handle_next.ensures.err))
 
 pub loop-rest-preserved-in-Nothing : goal.loop-rest-preserved-in-Nothing
 loop-rest-preserved-in-Nothing g c =
@@ -37,33 +37,35 @@ loop-rest-preserved-in-Nothing g c =
         length-drop n rest,
       );
       few = omega (arith, c.loop-rest.invariant.few, length-drop n rest);
-      handled = λ kind octets before h.
-          let d = subst (λ (s : Scan). HandledPiece (g.D.FrameHandler.handles c.args.handler.now) s kind octets
-          c.args.piece.now rest c.loop-rest.number (then_done before (done_of c.loop-rest.effects))) (sym same)
-          (c.loop-rest.invariant.handled kind octets before h) in
+      handled = λ first kind octets before h.
+          let d = subst (λ (s : Scan). HandledPiece (g.D.FrameHandler.handles first)
+          (g.D.FrameHandler.stands first c.loop-rest.handler) s kind octets c.args.piece.now rest c.loop-rest.number
+          (then_done before (done_of c.loop-rest.effects))) (sym same)
+          (c.loop-rest.invariant.handled first kind octets before h) in
           let on = c.in-Ok.ensures.reads kind 0 (octets ++ d.0) d.2.frames d.2.rest d.2.reads
           (λ b. reading.0 (inr b)) in
-          let same = rw c.in-Nothing.is at (c.in_ok-handle_next.ensures.handles kind ((octets ++ d.0) ++ take n rest)
-          d.2.frames (d.2.rest ++ take n rest) on.reads) in
-          handled_nothing _ c.next_borrowed.new.self c.push.new.self kind octets c.args.piece.now rest _ n _ _ d on
-          (ap (then_done before) same);
+          let done = rw c.in-Nothing.is at (c.in_ok-handle_next.ensures.handles first kind ((octets ++ d.0) ++ take n rest)
+          d.2.frames (d.2.rest ++ take n rest) on.reads d.2.stands) in
+          handled_nothing _ _ _ c.next_borrowed.new.self c.push.new.self kind octets c.args.piece.now rest _ n _ _ d on
+          (ap (then_done before) done.0) done.1;
     })
 
 pub returns-in-Bad-clause-handles : goal.returns-in-Bad-clause-handles
-returns-in-Bad-clause-handles g c = λ kind octets before h more.
+returns-in-Bad-clause-handles g c = λ first kind octets before h more.
     let same : c.next_borrowed.new.self ≡ c.loop-rest.scanner = c.in_default.ensures.same refl in
     let reading = subst IsReading (sym same) c.loop-rest.invariant.reading in
     let rest = c.loop-rest.rest.now in
     let n = c.in-Ok.used in
-    let d = subst (λ (s : Scan). HandledPiece (g.D.FrameHandler.handles c.args.handler.now) s kind octets
-    c.args.piece.now rest c.loop-rest.number (then_done before (done_of c.loop-rest.effects))) (sym same)
-    (c.loop-rest.invariant.handled kind octets before h) in
+    let d = subst (λ (s : Scan). HandledPiece (g.D.FrameHandler.handles first)
+    (g.D.FrameHandler.stands first c.loop-rest.handler) s kind octets c.args.piece.now rest c.loop-rest.number
+    (then_done before (done_of c.loop-rest.effects))) (sym same)
+    (c.loop-rest.invariant.handled first kind octets before h) in
     let on = c.in-Ok.ensures.reads kind 0 (octets ++ d.0) d.2.frames d.2.rest d.2.reads
     (λ b. reading.0 (inr b)) in
-    let reported = rw c.in-Bad.is at (c.in_ok-handle_next.ensures.handles kind ((octets ++ d.0) ++ take n rest)
-    d.2.frames (d.2.rest ++ take n rest) on.reads) in
-    handled_bad _ c.next_borrowed.new.self c.push.new.self kind octets c.args.piece.now rest _ n c.in-Bad.at _ _ d on
-    (rw c.in-Bad.is at c.in_ok-handle_next.ensures.reports) reported.1 (ap (then_done before) reported.0) more
+    let reported = rw c.in-Bad.is at (c.in_ok-handle_next.ensures.handles first kind ((octets ++ d.0) ++ take n rest)
+    d.2.frames (d.2.rest ++ take n rest) on.reads d.2.stands) in
+    handled_bad _ _ _ c.next_borrowed.new.self c.push.new.self kind octets c.args.piece.now rest _ n c.in-Bad.at _ _ d on
+    (rw c.in-Bad.is at c.in_ok-handle_next.ensures.reports) reported.1 (ap (then_done before) reported.0) reported.2 more
 
 pub loop-rest-preserved : goal.loop-rest-preserved
 loop-rest-preserved g c =
@@ -89,18 +91,19 @@ loop-rest-preserved g c =
           let more : 0 < n = c.in-Ok.ensures.progress reading some (not_bad c.push.new.self frame)
           in
           omega (arith, c.loop-rest.invariant.few, length-drop n rest, more, c.in-Ok.ensures.within);
-      handled = λ kind octets before h.
-          let d = subst (λ (s : Scan). HandledPiece (g.D.FrameHandler.handles c.args.handler.now) s kind octets
-          c.args.piece.now rest c.loop-rest.number (then_done before (done_of c.loop-rest.effects))) (sym same)
-          (c.loop-rest.invariant.handled kind octets before h) in
+      handled = λ first kind octets before h.
+          let d = subst (λ (s : Scan). HandledPiece (g.D.FrameHandler.handles first)
+          (g.D.FrameHandler.stands first c.loop-rest.handler) s kind octets c.args.piece.now rest c.loop-rest.number
+          (then_done before (done_of c.loop-rest.effects))) (sym same)
+          (c.loop-rest.invariant.handled first kind octets before h) in
           let on = c.in-Ok.ensures.reads kind 0 (octets ++ d.0) d.2.frames d.2.rest d.2.reads
           (λ b. reading.0 (inr b)) in
-          let f = rw c.in-Handled.is at (c.in_ok-handle_next.ensures.handles kind ((octets ++ d.0) ++ take n rest)
-          d.2.frames (d.2.rest ++ take n rest) on.reads) in
+          let f = rw c.in-Handled.is at (c.in_ok-handle_next.ensures.handles first kind ((octets ++ d.0) ++ take n rest)
+          d.2.frames (d.2.rest ++ take n rest) on.reads d.2.stands) in
           let begun = c.release.ensures.reads kind 0 ((octets ++ d.0) ++ take n rest) d.2.frames
           (d.2.rest ++ take n rest) f.0 on.reads f.1 in
-          handled_frame _ c.next_borrowed.new.self c.release.new.self kind octets c.args.piece.now rest _ n f.0 before _ _
-          d begun f.2;
+          handled_frame _ _ _ c.next_borrowed.new.self c.release.new.self kind octets c.args.piece.now rest _ n f.0
+          before _ _ d begun f.2 f.3;
     })
 
 pub loop-rest-preserved-in-Some : goal.loop-rest-preserved-in-Some
@@ -119,17 +122,18 @@ loop-rest-preserved-in-Some g c =
         length-drop n rest,
       );
       few = omega (arith, c.loop-rest.invariant.few, length-drop n rest, borrowed.progress.0, borrowed.progress.1);
-      handled = λ kind octets before h.
-          let d = c.loop-rest.invariant.handled kind octets before h in
+      handled = λ first kind octets before h.
+          let d = c.loop-rest.invariant.handled first kind octets before h in
           let begun = borrowed.reads kind 0 (octets ++ d.0) d.2.frames d.2.rest d.2.reads in
-          handled_frame _ c.loop-rest.scanner c.next_borrowed.new.self kind octets c.args.piece.now rest _ n
-          c.in-Some.borrowed.frame.now before _ _ d begun.1 c.in_ok-on_frame.ensures.ok;
+          let did = c.in_ok-on_frame.ensures.ok first d.2.frames d.2.stands in
+          handled_frame _ _ _ c.loop-rest.scanner c.next_borrowed.new.self kind octets c.args.piece.now rest _ n
+          c.in-Some.borrowed.frame.now before _ _ d begun.1 did.0 did.1;
     })
 
 pub returns-in_err-on_frame-clause-err : goal.returns-in_err-on_frame-clause-err
 returns-in_err-on_frame-clause-err g c =
     let p = err_from_is_err_and c.from_residual.result c.from_residual.ensures.1 in
     rw p.1
-    (λ kind octets before h.
-    handled_part _ c.loop-rest.scanner kind octets c.args.piece.now c.loop-rest.rest.now _ _ _
-    (c.loop-rest.invariant.handled kind octets before h) (ap (then_done before) c.in_err-on_frame.ensures.err))
+    (λ first kind octets before h.
+    handled_part _ _ c.loop-rest.scanner kind octets c.args.piece.now c.loop-rest.rest.now _ _ _
+    (c.loop-rest.invariant.handled first kind octets before h) (ap (then_done before) c.in_err-on_frame.ensures.err))

@@ -11,11 +11,11 @@ invariant-loop-rest g l = record {
   reading : IsReading l.scanner;
   position : l.scanner.position + length l.rest ≡ l.fn.scanner.position + length l.piece;
   few : l.number + length l.rest ≤ l.fn.number + length l.piece;
-  handled : (kind : Framing) (octets : List ℕ) (before : Done)
-      → HasHandled (g.D.FrameHandler.handles l.handler) l.fn.scanner kind octets l.fn.number
-      (then_done before (done_of l.fn.effects))
-      → HandledPiece (g.D.FrameHandler.handles l.handler) l.scanner kind octets l.piece l.rest l.number
-      (then_done before (done_of l.effects));
+  handled : (first : _) (kind : Framing) (octets : List ℕ) (before : Done)
+      → HasHandled (g.D.FrameHandler.handles first) (g.D.FrameHandler.stands first l.fn.handler) l.fn.scanner kind octets
+      l.fn.number (then_done before (done_of l.fn.effects))
+      → HandledPiece (g.D.FrameHandler.handles first) (g.D.FrameHandler.stands first l.handler) l.scanner kind octets
+      l.piece l.rest l.number (then_done before (done_of l.effects));
 }
 
 abbrev pub decreases-loop-rest : goal.decreases-loop-rest

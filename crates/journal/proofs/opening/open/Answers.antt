@@ -5,7 +5,8 @@ use Rattle.journal.proofs.opening.open.Goals as goal
 
 pub returns-in_err-file-clause-any_moment : goal.returns-in_err-file-clause-any_moment
 returns-in_err-file-clause-any_moment g c tells file bodies at has =
-    unchanged_leaves (g.D.Disk.state c.args.disk.now) (g.D.Disk.state c.read_all.new.disk) c.args.name file bodies at (c.in_err-file.ensures.same tells) has
+    unchanged_leaves (g.D.Disk.state c.args.disk.now) (g.D.Disk.state c.read_all.new.disk) c.args.name file bodies at
+    (c.in_err-file.ensures.same tells) has
 
 pub returns-in_err-shut-clause-any_moment : goal.returns-in_err-shut-clause-any_moment
 returns-in_err-shut-clause-any_moment g c tells file bodies at has =
@@ -17,7 +18,8 @@ returns-in_err-shut-clause-any_moment g c tells file bodies at has =
     let tells_read = c.shut.ensures.told tells in
     let there = still_there before read name file at (c.in_ok-file.ensures.same tells_read) in
     let items = c.in_ok-file.ensures.octets tells_read file at in
-    let ends = ends_here file c.deref.result.now bodies end (c.deref.ensures.value ∙ items) has c.end_of_batches-end.ensures.ends in
+    let ends = ends_here file c.deref.result.now bodies end (c.deref.ensures.value ∙ items) has
+    c.end_of_batches-end.ensures.ends in
     let is = c.deref-2.ensures.value ∙ items in
     let at_octets = subst (IsOnDisk read name) (sym is) there in
     let ends_octets = subst (λ (l : List ℕ). EndsAt l bodies end) (sym is) ends in
@@ -34,11 +36,13 @@ returns-in_err-cut_behind-clause-any_moment g c tells file bodies at has =
     let tells_read = c.shut.ensures.told tells_shut in
     let there = still_there before read name file at (c.in_ok-file.ensures.same tells_read) in
     let items = c.in_ok-file.ensures.octets tells_read file at in
-    let ends = ends_here file c.deref.result.now bodies end (c.deref.ensures.value ∙ items) has c.end_of_batches-end.ensures.ends in
+    let ends = ends_here file c.deref.result.now bodies end (c.deref.ensures.value ∙ items) has
+    c.end_of_batches-end.ensures.ends in
     let is = c.deref-2.ensures.value ∙ items in
     let at_octets = subst (IsOnDisk read name) (sym is) there in
     let ends_octets = subst (λ (l : List ℕ). EndsAt l bodies end) (sym is) ends in
-    c.in_err-cut_behind.ensures.leaves tells bodies (c.in_ok-shut.ensures.closing tells_shut bodies at_octets ends_octets) ends.end_is
+    c.in_err-cut_behind.ensures.leaves tells bodies
+    (c.in_ok-shut.ensures.closing tells_shut bodies at_octets ends_octets) ends.end_is
 
 pub returns-clause-any_moment : goal.returns-clause-any_moment
 returns-clause-any_moment g c tells file bodies at has =
@@ -51,8 +55,10 @@ returns-clause-any_moment g c tells file bodies at has =
     let tells_read = c.shut.ensures.told tells_shut in
     let there = still_there before read name file at (c.in_ok-file.ensures.same tells_read) in
     let items = c.in_ok-file.ensures.octets tells_read file at in
-    let ends = ends_here file c.deref.result.now bodies end (c.deref.ensures.value ∙ items) has c.end_of_batches-end.ensures.ends in
+    let ends = ends_here file c.deref.result.now bodies end (c.deref.ensures.value ∙ items) has
+    c.end_of_batches-end.ensures.ends in
     let is = c.deref-2.ensures.value ∙ items in
     let at_octets = subst (IsOnDisk read name) (sym is) there in
     let ends_octets = subst (λ (l : List ℕ). EndsAt l bodies end) (sym is) ends in
-    c.in_ok-cut_behind.ensures.leaves tells bodies (c.in_ok-shut.ensures.closing tells_shut bodies at_octets ends_octets) ends.end_is
+    c.in_ok-cut_behind.ensures.leaves tells bodies
+    (c.in_ok-shut.ensures.closing tells_shut bodies at_octets ends_octets) ends.end_is

@@ -3,18 +3,24 @@ use Rattle.journal.proofs.opening.settle.Goals as goal
 
 pub returns-in_err-sync-clause-leaves : goal.returns-in_err-sync-clause-leaves
 returns-in_err-sync-clause-leaves g c tells file octets shows may =
-    fails_leaves (g.D.Disk.state c.args.disk.now) (g.D.Disk.state c.sync.new.self) c.args.name.now file.shown c.in_err-sync.field-0.0 octets (c.in_err-sync.ensures.done tells) may
+    fails_leaves (g.D.Disk.state c.args.disk.now) (g.D.Disk.state c.sync.new.self) c.args.name.now file.shown
+    c.in_err-sync.field-0.0 octets (c.in_err-sync.ensures.done tells) may
 
 pub returns-in_err-sync_names-clause-leaves : goal.returns-in_err-sync_names-clause-leaves
 returns-in_err-sync_names-clause-leaves g c tells file octets shows may =
-    names_fail (g.D.Disk.state c.args.disk.now) (g.D.Disk.state c.sync.new.self) (g.D.Disk.state c.sync_names.new.self) c.args.name.now file shows (c.in_ok-sync.ensures.done (c.sync_names.ensures.told tells)) octets
+    names_fail (g.D.Disk.state c.args.disk.now) (g.D.Disk.state c.sync.new.self) (g.D.Disk.state c.sync_names.new.self)
+    c.args.name.now file shows (c.in_ok-sync.ensures.done (c.sync_names.ensures.told tells)) octets
     (c.in_err-sync_names.ensures.done tells) may
 
 pub returns-clause-on_disk : goal.returns-clause-on_disk
 returns-clause-on_disk g c tells file shows =
-    on_disk (g.D.Disk.state c.args.disk.now) (g.D.Disk.state c.sync.new.self) (g.D.Disk.state c.sync_names.new.self) c.args.name.now file shows (c.in_ok-sync.ensures.done (c.sync_names.ensures.told tells)) (c.in_ok-sync_names.ensures.done tells)
+    on_disk (g.D.Disk.state c.args.disk.now) (g.D.Disk.state c.sync.new.self) (g.D.Disk.state c.sync_names.new.self)
+    c.args.name.now file shows (c.in_ok-sync.ensures.done (c.sync_names.ensures.told tells))
+    (c.in_ok-sync_names.ensures.done tells)
 
 pub returns-clause-leaves : goal.returns-clause-leaves
 returns-clause-leaves g c tells file octets shows may =
-    on_disk_leaves (g.D.Disk.state c.args.disk.now) (g.D.Disk.state c.sync.new.self) (g.D.Disk.state c.sync_names.new.self) c.args.name.now file shows (c.in_ok-sync.ensures.done (c.sync_names.ensures.told tells))
+    on_disk_leaves (g.D.Disk.state c.args.disk.now) (g.D.Disk.state c.sync.new.self)
+    (g.D.Disk.state c.sync_names.new.self) c.args.name.now file shows
+    (c.in_ok-sync.ensures.done (c.sync_names.ensures.told tells))
     (c.in_ok-sync_names.ensures.done tells) octets may

@@ -7,7 +7,8 @@ abbrev pub invariant-loop-piece : goal.invariant-loop-piece
 invariant-loop-piece g l = record {
   told : g.D.Disk.tells l.disk → g.D.Disk.tells l.initial.disk;
   same : g.D.Disk.tells l.disk → IsUnchanged (g.D.Disk.state l.initial.disk) (g.D.Disk.state l.disk);
-  read : g.D.Disk.tells l.disk → (file : List ℕ) → IsOnDisk (g.D.Disk.state l.initial.disk) l.name file → (l.octets.items ≡ take (length l.octets.items) file) × (length l.octets.items ≤ length file);
+  read : g.D.Disk.tells l.disk → (file : List ℕ) → IsOnDisk (g.D.Disk.state l.initial.disk) l.name file
+      → (l.octets.items ≡ take (length l.octets.items) file) × (length l.octets.items ≤ length file);
 }
 
 abbrev pub decreases-loop-piece : goal.decreases-loop-piece

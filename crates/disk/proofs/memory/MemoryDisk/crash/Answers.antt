@@ -8,6 +8,10 @@ use Rattle.disk.proofs.memory.MemoryDisk.crash.Goals as goal
 pub returns : goal.returns
 returns c name =
     let old = c.args.self.entries in
-    let same_len : length c.crash_all.new.entries ≡ old.len = omega (arith, c.crash_all.auto.entries, c.deref_mut.ensures.len) in
-    let are = subst (λ (entries : List MemoryEntry). AreLeft entries c.crash_all.new.entries) c.deref_mut.ensures.value c.in_ok-crash_all.ensures in
-    subst (λ (entries : List MemoryEntry). IsLeft (lookup old.items name) (lookup entries name)) (sym (with_items_is old c.crash_all.new.entries same_len)) (lookup_left old.items c.crash_all.new.entries are name)
+    let same_len : length c.crash_all.new.entries ≡ old.len = omega
+    (arith, c.crash_all.auto.entries, c.deref_mut.ensures.len) in
+    let are = subst (λ (entries : List MemoryEntry). AreLeft entries c.crash_all.new.entries) c.deref_mut.ensures.value
+    c.in_ok-crash_all.ensures in
+    subst (λ (entries : List MemoryEntry). IsLeft (lookup old.items name) (lookup entries name))
+    (sym (with_items_is old c.crash_all.new.entries same_len))
+    (lookup_left old.items c.crash_all.new.entries are name)

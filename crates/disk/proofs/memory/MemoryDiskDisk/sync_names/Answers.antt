@@ -8,9 +8,13 @@ use Rattle.disk.proofs.memory.MemoryDiskDisk.sync_names.Goals as goal
 pub returns-clause-done : goal.returns-clause-done
 returns-clause-done c _ =
     let old = c.args.self.now.entries in
-    let same_len : length c.settle_all.new.entries ≡ old.len = omega (arith, c.settle_all.auto.entries, c.deref_mut.ensures.len) in
-    let are = subst (λ (entries : List MemoryEntry). AreKept entries c.settle_all.new.entries) c.deref_mut.ensures.value c.settle_all.ensures in
+    let same_len : length c.settle_all.new.entries ≡ old.len = omega
+    (arith, c.settle_all.auto.entries, c.deref_mut.ensures.len) in
+    let are = subst (λ (entries : List MemoryEntry). AreKept entries c.settle_all.new.entries)
+    c.deref_mut.ensures.value c.settle_all.ensures in
     record {
-      entries = λ name. ap (λ (entries : List MemoryEntry). lookup entries name) (with_items_is old c.settle_all.new.entries same_len) ∙ lookup_kept old.items c.settle_all.new.entries are name;
+      entries = λ name. ap (λ (entries : List MemoryEntry). lookup entries name)
+          (with_items_is old c.settle_all.new.entries same_len) ∙ lookup_kept old.items c.settle_all.new.entries are
+          name;
       lost = refl;
     }

@@ -8,15 +8,18 @@ returns-clause-created g c tells sound =
     let tells_three = c.sync_names.ensures.told tells in
     let tells_two = c.sync.ensures.told tells_three in
     let tells_one = c.append.ensures.told tells_two in
-    made (g.D.Disk.state c.args.disk.now) (g.D.Disk.state c.create.new.self) (g.D.Disk.state c.append.new.self) (g.D.Disk.state c.sync.new.self) (g.D.Disk.state c.sync_names.new.self) c.args.name _ sound
-    (c.in_ok-create.ensures.done tells_one) (c.in_ok-append.ensures.done tells_two) (c.in_ok-sync.ensures.done tells_three) (c.in_ok-sync_names.ensures.done tells) refl refl
+    made (g.D.Disk.state c.args.disk.now) (g.D.Disk.state c.create.new.self) (g.D.Disk.state c.append.new.self)
+    (g.D.Disk.state c.sync.new.self) (g.D.Disk.state c.sync_names.new.self) c.args.name _ sound
+    (c.in_ok-create.ensures.done tells_one) (c.in_ok-append.ensures.done tells_two)
+    (c.in_ok-sync.ensures.done tells_three) (c.in_ok-sync_names.ensures.done tells) refl refl
 
 pub returns-in_err-create-clause-any_moment : goal.returns-in_err-create-clause-any_moment
 returns-in_err-create-clause-any_moment g c tells sound = made_leaves _ _ _ (c.in_err-create.ensures.done tells).0
 
 pub returns-in_err-append-clause-any_moment : goal.returns-in_err-append-clause-any_moment
 returns-in_err-append-clause-any_moment g c tells sound =
-    octet_failed _ _ _ _ _ (c.in_ok-create.ensures.done (c.append.ensures.told tells)) (c.in_err-append.ensures.done tells)
+    octet_failed _ _ _ _ _ (c.in_ok-create.ensures.done (c.append.ensures.told tells))
+    (c.in_err-append.ensures.done tells)
 
 pub returns-in_err-sync-clause-any_moment : goal.returns-in_err-sync-clause-any_moment
 returns-in_err-sync-clause-any_moment g c tells sound =
@@ -28,5 +31,7 @@ pub returns-in_err-sync_names-clause-any_moment : goal.returns-in_err-sync_names
 returns-in_err-sync_names-clause-any_moment g c tells sound =
     let synced_then = c.sync_names.ensures.told tells in
     let before = c.sync.ensures.told synced_then in
-    names_failed _ _ _ _ (synced _ _ _ _ (octet_written _ _ _ _ (c.in_ok-create.ensures.done (c.append.ensures.told before))
-    (c.in_ok-append.ensures.done before)) (c.in_ok-sync.ensures.done synced_then)) (c.in_err-sync_names.ensures.done tells)
+    names_failed _ _ _ _ (synced _ _ _ _ (octet_written _ _ _ _
+    (c.in_ok-create.ensures.done (c.append.ensures.told before))
+    (c.in_ok-append.ensures.done before)) (c.in_ok-sync.ensures.done synced_then))
+    (c.in_err-sync_names.ensures.done tells)

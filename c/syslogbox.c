@@ -1,0 +1,100 @@
+/*
+ * The calls of syslogbox.h, before the proved ones: a null pointer with a length of 0 becomes one that is not null, and
+ * a null fault one that nobody reads.
+ */
+#include "syslogbox.h"
+
+/* What crates/c_library exports. No pointer is null. */
+int syslogbox_proved_check(const uint8_t *, size_t, struct syslogbox_fault *);
+int64_t syslogbox_proved_canonical(const uint8_t *, size_t, uint8_t *, size_t, struct syslogbox_fault *);
+int syslogbox_proved_view(const uint8_t *, size_t, struct syslogbox_parts *, struct syslogbox_fault *);
+int syslogbox_proved_element(const uint8_t *, size_t, size_t, struct syslogbox_element *, struct syslogbox_fault *);
+int syslogbox_proved_param(const uint8_t *, size_t, size_t, size_t, struct syslogbox_param *,
+                           struct syslogbox_fault *);
+int64_t syslogbox_proved_value(const uint8_t *, size_t, uint8_t *, size_t, struct syslogbox_fault *);
+int64_t syslogbox_proved_frame(int, const uint8_t *, size_t, size_t *, size_t *);
+int64_t syslogbox_proved_pass(int, const uint8_t *, size_t, size_t *);
+int64_t syslogbox_proved_union(const uint8_t *, size_t, const uint8_t *, size_t, uint8_t *, size_t,
+                               struct syslogbox_fault *);
+int64_t syslogbox_proved_legacy(int, int, const uint8_t *, size_t, uint8_t *, size_t, struct syslogbox_fault *);
+
+static uint8_t nothing[1];
+
+static const uint8_t *octets(const uint8_t *at, size_t len)
+{
+    return len ? at : nothing;
+}
+
+static uint8_t *space(uint8_t *at, size_t room)
+{
+    return room ? at : nothing;
+}
+
+#define UNREAD(fault)              \
+    struct syslogbox_fault unread; \
+    if (!fault)                    \
+    fault = &unread
+
+int syslogbox_check(const uint8_t *record, size_t len, struct syslogbox_fault *fault)
+{
+    UNREAD(fault);
+    return syslogbox_proved_check(octets(record, len), len, fault);
+}
+
+int64_t syslogbox_canonical(const uint8_t *record, size_t len, uint8_t *out, size_t room,
+                            struct syslogbox_fault *fault)
+{
+    UNREAD(fault);
+    return syslogbox_proved_canonical(octets(record, len), len, space(out, room), room, fault);
+}
+
+int syslogbox_view(const uint8_t *record, size_t len, struct syslogbox_parts *parts, struct syslogbox_fault *fault)
+{
+    UNREAD(fault);
+    return syslogbox_proved_view(octets(record, len), len, parts, fault);
+}
+
+int syslogbox_element(const uint8_t *record, size_t len, size_t n, struct syslogbox_element *element,
+                      struct syslogbox_fault *fault)
+{
+    UNREAD(fault);
+    return syslogbox_proved_element(octets(record, len), len, n, element, fault);
+}
+
+int syslogbox_param(const uint8_t *record, size_t len, size_t n, size_t m, struct syslogbox_param *param,
+                    struct syslogbox_fault *fault)
+{
+    UNREAD(fault);
+    return syslogbox_proved_param(octets(record, len), len, n, m, param, fault);
+}
+
+int64_t syslogbox_value(const uint8_t *raw, size_t len, uint8_t *out, size_t room, struct syslogbox_fault *fault)
+{
+    UNREAD(fault);
+    return syslogbox_proved_value(octets(raw, len), len, space(out, room), room, fault);
+}
+
+int64_t syslogbox_frame(int framing, const uint8_t *piece, size_t len, size_t *start, size_t *end)
+{
+    return syslogbox_proved_frame(framing, octets(piece, len), len, start, end);
+}
+
+int64_t syslogbox_pass(int framing, const uint8_t *piece, size_t len, size_t *count)
+{
+    return syslogbox_proved_pass(framing, octets(piece, len), len, count);
+}
+
+int64_t syslogbox_union(const uint8_t *left, size_t left_len, const uint8_t *right, size_t right_len, uint8_t *out,
+                        size_t room, struct syslogbox_fault *fault)
+{
+    UNREAD(fault);
+    return syslogbox_proved_union(octets(left, left_len), left_len, octets(right, right_len), right_len,
+                                  space(out, room), room, fault);
+}
+
+int64_t syslogbox_legacy(int year, int offset_minutes, const uint8_t *packet, size_t len, uint8_t *out, size_t room,
+                         struct syslogbox_fault *fault)
+{
+    UNREAD(fault);
+    return syslogbox_proved_legacy(year, offset_minutes, octets(packet, len), len, space(out, room), room, fault);
+}

@@ -1,0 +1,8 @@
+pub mod Civils
+pub mod Names
+pub mod Sums
+pub mod Parts
+pub mod Lines
+pub mod Steps
+pub mod DigestLaws
+pub mod Endings

@@ -1,0 +1,6 @@
+pub mod Periods
+pub mod Digests
+pub mod Digested
+pub mod Sums
+pub mod Putting
+pub mod Digesting

@@ -1,0 +1,36 @@
+//! The entries of an archive are counted to its end.
+
+ghost use Rattle.std.specs.Prelude.{MatchResult};
+ghost use Rattle.archive_sets.specs.Failures.{ReadFailures, WriteFailures};
+ghost use Rattle.archive_digest.specs.Digesting.{Halted, IsFresh, ReadWhole};
+
+use crate::digesting::Digesting;
+use crate::period::Period;
+use archive_sets::SelectFault;
+use octet_devices::{Input, Output};
+
+impl Digesting {
+    /// Counts each entry up to the end of the archive.
+    pub fn count_all<R: Input, W: Output>(
+        &mut self,
+        period: Period,
+        reader: &mut R,
+        writer: &mut W,
+    ) -> Result<(), SelectFault>
+        requires { IsFresh self.old }
+        ensures outcome { MatchResult result
+            (λ _. ReadWhole period self.new (R.state reader.old) (R.state reader.new)
+            (W.state writer.old).taken (W.state writer.new).taken)
+            (λ fault. Halted period fault self.new.held (R.state reader.old) (R.state reader.new)
+            (W.state writer.old).taken (W.state writer.new).taken) }
+        ensures reader { ReadFailures result (R.state reader.old).failures
+            (R.state reader.new).failures }
+        ensures writer { WriteFailures result (W.state writer.old).failures
+            (W.state writer.new).failures }
+    {
+        'entries: while self.advance(reader)? {
+            self.count(period, writer)?;
+        }
+        Ok(())
+    }
+}

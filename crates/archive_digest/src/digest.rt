@@ -1,0 +1,127 @@
+//! The digest of an archive.
+
+ghost use Rattle.std.specs.Prelude.{◌≡◌, ◌↔◌, [], ℕ, List, IfErr, IfOk, IsErrOf, MatchResult};
+ghost use Rattle.octet_devices.specs.Held.{Puts};
+ghost use Rattle.archive_text.specs.Entries.{Entry};
+ghost use Rattle.archive_sets.specs.Failures.{ReadFailures, TellsFailures, WriteFailures};
+ghost use Rattle.archive_digest.specs.Digested.{Digested, Stopped};
+ghost use Rattle.archive_digest.specs.Digesting.{FinishFails, Finishes, IsFresh};
+ghost use Rattle.archive_digest.specs.Putting.{TellsWrites, ending};
+ghost use Rattle.archive_digest.specs.Sums.{IsTallyOf};
+
+use crate::digesting::Digesting;
+use crate::line::put_line;
+use crate::period::Period;
+use archive_sets::SelectFault;
+use octet_devices::{Input, Output, WriteFault};
+use std::alloc::Global;
+
+impl Digesting {
+    // Puts the line of the latest period, if there is one, and that of all.
+    fn put_ending<W: Output>(&mut self, writer: &mut W) -> Result<(), WriteFault>
+        ensures tally { self.new.tally ≡ self.old.tally }
+        ensures told { TellsWrites (W.state writer.old) (W.state writer.new) result }
+        ensures puts { (xs latest : List Entry) → ((xs ≡ []) ↔ (latest ≡ []))
+            → IsTallyOf self.old.tally xs latest → Puts (W.state writer.old) (W.state writer.new)
+            self.old.held self.new.held (ending self.old.name xs latest) result }
+    {
+        if self.tally.is_empty() {
+            return put_line(&mut self.held, writer, b"total", &self.tally.total);
+        }
+        put_line(
+            &mut self.held,
+            writer,
+            self.name.octets(),
+            self.tally.latest(),
+        )?;
+        put_line(&mut self.held, writer, b"total", &self.tally.total)
+    }
+
+    // Puts these lines, and writes what is held back. Answers how many entries there are.
+    fn finish<W: Output>(&mut self, writer: &mut W) -> Result<u64, SelectFault>
+        ensures finishes { IfOk result (Finishes self.old (W.state writer.old).taken
+            (W.state writer.new).taken) }
+        ensures fault { IfErr result (λ fault. FinishFails fault self.old
+            (W.state writer.old).taken (W.state writer.new).taken) }
+        ensures told { WriteFailures result (W.state writer.old).failures
+            (W.state writer.new).failures }
+        ensures not_reader { (n : ℕ) → ReadFailures result n n }
+        ensures not_memory { ¬ (IsErrOf result SelectFault.Memory) }
+    {
+        match self.put_ending(writer) {
+            Ok(()) => match self.held.finish(writer) {
+                Ok(()) => Ok(self.tally.total.records),
+                Err(WriteFault { sent }) => Err(SelectFault::Write { sent }),
+            },
+            Err(WriteFault { sent }) => Err(SelectFault::Write { sent }),
+        }
+    }
+
+    // Counts to the end of the archive, and writes what is held back before a fault is answered.
+    fn run<R: Input, W: Output>(
+        &mut self,
+        period: Period,
+        reader: &mut R,
+        writer: &mut W,
+    ) -> Result<u64, SelectFault>
+        requires { IsFresh self.old }
+        ensures outcome { MatchResult result
+            (λ n. Digested period (R.state reader.old) (R.state reader.new)
+            (W.state writer.old).taken (W.state writer.new).taken n)
+            (λ fault. Stopped period fault (R.state reader.old) (R.state reader.new)
+            (W.state writer.old).taken (W.state writer.new).taken) }
+        ensures told { TellsFailures result (R.state reader.old) (R.state reader.new)
+            (W.state writer.old) (W.state writer.new) }
+        ensures not_memory { ¬ (IsErrOf result SelectFault.Memory) }
+    {
+        match self.count_all(period, reader, writer) {
+            Ok(()) => self.finish(writer),
+            Err(SelectFault::Write { sent }) => Err(SelectFault::Write { sent }),
+            Err(fault) => match self.held.finish(writer) {
+                Ok(()) => Err(fault),
+                Err(WriteFault { sent }) => Err(SelectFault::Write { sent }),
+            },
+        }
+    }
+}
+
+/// Reads an archive, the text of a set of records, and writes its digest: for each period that has
+/// records, ascending, `PERIOD COUNT OCTETS SHA256` and a line feed, and last the same of all records
+/// as `total`. PERIOD is `undated`, or the first octets of a canonical timestamp (RFC 5424, section
+/// 6.2.3): `2026-11`, `2026-11-25` or `2026-11-25T10`, in UTC. COUNT is a number of records, OCTETS
+/// that of the octets of their archive, SHA256 its hash (FIPS 180-4) in lower-case hexadecimal.
+/// Answers how many records there are.
+///
+/// Room for two entries is reserved first, and no further memory is taken. In itself the call has a
+/// piece of `READ_MAX` octets of the reader, and 16,384 octets that are held back.
+///
+/// # Errors
+/// The first fault that is met, as `select_stream` of `archive_sets` answers it. The lines of the
+/// periods before that of the last entry that was read are written first; where the writer fails then,
+/// that is the answer. `Memory` only before anything is read or written.
+pub fn digest_stream<R: Input, W: Output>(
+    alloc: Global,
+    period: Period,
+    reader: &mut R,
+    writer: &mut W,
+) -> Result<u64, SelectFault>
+    // the whole archive, and its digest; or what a fault says of what was read and written
+    ensures outcome { MatchResult result
+        (λ n. Digested period (R.state reader.old) (R.state reader.new)
+        (W.state writer.old).taken (W.state writer.new).taken n)
+        (λ fault. Stopped period fault (R.state reader.old) (R.state reader.new)
+        (W.state writer.old).taken (W.state writer.new).taken) }
+
+    // a device's fault just where that device failed
+    ensures told { TellsFailures result (R.state reader.old) (R.state reader.new)
+        (W.state writer.old) (W.state writer.new) }
+
+    // out of memory only before anything is read or written
+    ensures memory { IsErrOf result SelectFault.Memory → (reader.new ≡ reader.old)
+        × (writer.new ≡ writer.old) }
+{
+    let Ok(mut digesting) = Digesting::new(alloc) else {
+        return Err(SelectFault::Memory);
+    };
+    digesting.run(period, reader, writer)
+}

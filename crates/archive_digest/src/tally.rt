@@ -1,0 +1,68 @@
+//! Entries are counted and hashed, all of them and those of the latest period.
+
+ghost use Rattle.std.specs.Prelude.{◌≡◌, ◌++◌, ◌∷◌, ◌<◌, ◌^◌, ◌↔◌, [], List, length, IsTrue};
+ghost use Rattle.archive_text.specs.Entries.{Entry};
+ghost use Rattle.archive_text.specs.Text.{text_of};
+ghost use Rattle.archive_digest.specs.Sums.{IsSumOf, IsTallyOf};
+
+use crate::sum::Sum;
+
+/// The sum of all entries, and that of the latest: none of its own while they are all, so that those
+/// of the first period are hashed once.
+#[derive(Drop)]
+pub struct Tally {
+    pub total: Sum,
+    pub latest: Option<Sum>,
+}
+
+impl Tally {
+    /// Of no entries.
+    pub fn new() -> Tally
+        ensures { IsTallyOf result [] [] }
+    {
+        Tally {
+            total: Sum::new(),
+            latest: None,
+        }
+    }
+
+    /// One entry more, with these octets.
+    pub fn add(&mut self, octets: &[u8])
+        ensures { (xs latest : List Entry) (e : Entry) → e.octets ≡ octets.now
+            → length (text_of (xs ++ e ∷ [])) < 2 ^ 64
+            → length (text_of (latest ++ e ∷ [])) < 2 ^ 64 → IsTallyOf self.old xs latest
+            → IsTallyOf self.new (xs ++ e ∷ []) (latest ++ e ∷ []) }
+    {
+        self.total.add(octets);
+        if let Some(sum) = &mut self.latest {
+            sum.add(octets);
+        }
+    }
+
+    /// From now on the latest entries are others.
+    pub fn begin(&mut self)
+        ensures { (xs latest : List Entry) → IsTallyOf self.old xs latest
+            → IsTallyOf self.new xs [] }
+    {
+        self.latest = Some(Sum::new());
+    }
+
+    /// Whether there are no entries.
+    pub fn is_empty(&self) -> bool
+        ensures { (xs latest : List Entry) → IsTallyOf self.now xs latest
+            → (IsTrue result ↔ (xs ≡ [])) }
+    {
+        self.total.records == 0
+    }
+
+    /// The sum of the latest entries.
+    pub fn latest(&self) -> &Sum
+        ensures { (xs latest : List Entry) → IsTallyOf self.now xs latest
+            → IsSumOf result.now latest }
+    {
+        match &self.latest {
+            None => &self.total,
+            Some(sum) => sum,
+        }
+    }
+}

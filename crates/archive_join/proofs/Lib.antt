@@ -1,0 +1,12 @@
+pub mod Holders
+pub mod Lists
+pub mod Fronts
+pub mod NextEntries
+pub mod Leasts
+pub mod Sides
+pub mod Taking
+pub mod Ends
+pub mod Turns
+pub mod Failures
+pub mod JoinLaws
+pub mod Lines

@@ -1,0 +1,9 @@
+pub mod Holders
+pub mod Inputs
+pub mod Joined
+pub mod Failures
+pub mod Keeping
+pub mod Shown
+pub mod Heads
+pub mod Sides
+pub mod Joining

@@ -1,0 +1,218 @@
+//! Archives on their way into one, step by step.
+
+ghost use Rattle.std.specs.Prelude.{◌≡◌, vec_len};
+ghost use Rattle.archive_join.specs.Heads.{fault_of};
+
+use crate::fault::JoinFault;
+use crate::head::Head;
+use crate::heads::{Least, least_head};
+use crate::kept::Kept;
+use archive_streams::{EntriesFault, InputFault};
+use octet_devices::{BufferedOutput, Input, Output, WriteFault};
+use std::alloc::{AllocError, Global};
+
+/// Archives on their way into one: the head of each; whether it has the entry that was joined last,
+/// so that its next one is due; what is held back of what was kept, and how many entries those are.
+#[derive(Drop)]
+pub struct Join {
+    pub heads: Vec<Head>,
+    pub holders: Vec<bool>,
+    pub held: BufferedOutput,
+    pub count: u64,
+    pub ghost sizes: { vec_len holders ≡ vec_len heads },
+}
+
+// The fault of the input of this number.
+fn fault_of(input: usize, fault: EntriesFault) -> JoinFault
+    ensures { result ≡ fault_of input fault }
+{
+    match fault {
+        EntriesFault::Archive(fault) => JoinFault::Archive { input, fault },
+        EntriesFault::Input(InputFault::Device) => JoinFault::Read { input },
+        EntriesFault::Input(InputFault::Endless) => JoinFault::Endless { input },
+    }
+}
+
+impl Join {
+    ghost use Rattle.std.specs.Prelude.{◌<◌, ℕ, List, false, length, map, slice_set, take};
+    ghost use Rattle.std.specs.Prelude.{IfErr, IfOk, IsErrOf, MatchOption, OnOk};
+    ghost use Rattle.archive_join.specs.Failures.{ReadFailures, WriteFailures, failures_of};
+    ghost use Rattle.archive_join.specs.Heads.{AreClosed, IsFound, IsLeast, total};
+    ghost use Rattle.archive_join.specs.Joining.{AreHolders, IsFresh, KeepsOutput, TakeHalts, Takes};
+    ghost use Rattle.archive_join.specs.Sides.{AdvanceHalts, Advances, AreIdle, Nears, NearsAt};
+
+    /// So many archives, before their first entries. Room for all is reserved.
+    pub fn new(alloc: Global, size: usize) -> Result<Join, AllocError>
+        ensures fresh { IfOk result IsFresh }
+        ensures size { IfOk result (λ j. vec_len j.heads ≡ size) }
+    {
+        let mut heads = Vec::with_capacity(alloc, size)?;
+        let mut holders = Vec::with_capacity(alloc, size)?;
+        'heads: while heads.len() < size {
+            heads.push(Head::new(alloc)?)?;
+            holders.push(true)?;
+        }
+        Ok(Join {
+            heads,
+            holders,
+            held: BufferedOutput::new(),
+            count: 0,
+        })
+    }
+
+    /// The least of the next entries; None at the end of all.
+    pub fn least(&self) -> Option<Least>
+        ensures { MatchOption result (AreClosed self.now.heads.items)
+            (IsFound self.now.heads.items self.now.heads.items) }
+    {
+        least_head(&self.heads)
+    }
+
+    // Notes which archives have the entry of the head of this number.
+    fn mark(&mut self, least: usize)
+        requires { least < vec_len self.old.heads }
+        ensures holders { AreHolders self.old.heads.items self.new.holders.items least }
+        ensures heads { self.new.heads ≡ self.old.heads }
+        ensures output { KeepsOutput self.old self.new }
+    {
+        'heads: for at in 0..self.heads.len() {
+            let entry = self.heads[least].entries.entry();
+            let has = self.heads[at].is_next(&entry);
+            self.holders[at] = has;
+        }
+    }
+
+    /// Notes which archives have the least entry, as no next entry is due.
+    pub fn note(&mut self, least: Least)
+        requires idle { AreIdle self.old.holders.items }
+        requires found { IsFound self.old.heads.items self.old.heads.items least }
+        ensures holders { AreHolders self.old.heads.items self.new.holders.items least.at }
+        ensures heads { self.new.heads ≡ self.old.heads }
+        ensures output { KeepsOutput self.old self.new }
+    {
+        if least.shared {
+            return self.mark(least.at);
+        }
+        self.holders[least.at] = true;
+    }
+
+    /// Puts the entry of the head of this number behind what was kept, where it is kept.
+    pub fn take<K: Kept, W: Output>(
+        &mut self,
+        kept: &K,
+        least: usize,
+        writer: &mut W,
+    ) -> Result<(), JoinFault>
+        requires least { IsLeast self.old.heads.items self.old.heads.items least }
+        requires holders { AreHolders self.old.heads.items self.old.holders.items least }
+        ensures heads { self.new.heads ≡ self.old.heads }
+        ensures holders { self.new.holders ≡ self.old.holders }
+        ensures takes { OnOk result (Takes (K.keeps kept.now) (K.text kept.now) self.old self.new
+            (W.state writer.old).taken (W.state writer.new).taken) }
+        ensures halts { IfErr result (λ fault. TakeHalts (K.keeps kept.now) (K.text kept.now) fault
+            self.old self.new (W.state writer.old).taken (W.state writer.new).taken) }
+        ensures told { WriteFailures result (W.state writer.old).failures
+            (W.state writer.new).failures }
+        ensures not_reader { (ns : List ℕ) → ReadFailures result ns ns }
+        ensures not_memory { ¬ (IsErrOf result JoinFault.Memory) }
+    {
+        if !kept.is_kept(&self.holders) {
+            return Ok(());
+        }
+        self.count = self.count.saturating_add(1);
+        let entry = self.heads[least].entries.entry();
+        match kept.put(&self.holders, &entry, &mut self.held, writer) {
+            Ok(()) => Ok(()),
+            Err(WriteFault { sent }) => Err(JoinFault::Write { sent }),
+        }
+    }
+
+    // Reads the next entry of the archive of this number, where it is due.
+    fn advance_at<R: Input>(&mut self, at: usize, inputs: &mut [R]) -> Result<(), JoinFault>
+        requires at { at < vec_len self.old.heads }
+        requires inputs { length inputs.old ≡ vec_len self.old.heads }
+        requires idle { AreIdle (take at self.old.holders.items) }
+        ensures size { vec_len self.new.heads ≡ vec_len self.old.heads }
+        ensures output { KeepsOutput self.old self.new }
+        ensures holders { OnOk result (self.new.holders.items
+            ≡ slice_set self.old.holders.items at false) }
+        ensures advances { OnOk result (Advances self.old.heads.items self.old.holders.items
+            self.new.heads.items self.new.holders.items
+            (map R.state inputs.old) (map R.state inputs.new)) }
+        ensures nears { OnOk result (NearsAt self.old.heads.items self.old.holders.items
+            self.new.heads.items at) }
+        ensures halts { IfErr result (λ fault. AdvanceHalts fault
+            self.old.heads.items self.old.holders.items
+            (map R.state inputs.old) (map R.state inputs.new)) }
+        ensures told { ReadFailures result (failures_of (map R.state inputs.old))
+            (failures_of (map R.state inputs.new)) }
+        ensures not_writer { (n : ℕ) → WriteFailures result n n }
+        ensures not_memory { ¬ (IsErrOf result JoinFault.Memory) }
+    {
+        if !self.holders[at] {
+            return Ok(());
+        }
+        match self.heads[at].advance(&mut inputs[at]) {
+            Ok(()) => {
+                self.holders[at] = false;
+                Ok(())
+            }
+            Err(fault) => Err(fault_of(at, fault)),
+        }
+    }
+
+    /// Reads the next entry of each archive where it is due, in their order.
+    pub fn advance<R: Input>(&mut self, inputs: &mut [R]) -> Result<(), JoinFault>
+        requires { length inputs.old ≡ vec_len self.old.heads }
+        ensures size { vec_len self.new.heads ≡ vec_len self.old.heads }
+        ensures output { KeepsOutput self.old self.new }
+        ensures idle { OnOk result (AreIdle self.new.holders.items) }
+        ensures advances { OnOk result (Advances self.old.heads.items self.old.holders.items
+            self.new.heads.items self.new.holders.items
+            (map R.state inputs.old) (map R.state inputs.new)) }
+        ensures nears { OnOk result (Nears self.old.heads.items self.old.holders.items
+            self.new.heads.items) }
+        ensures halts { IfErr result (λ fault. AdvanceHalts fault
+            self.old.heads.items self.old.holders.items
+            (map R.state inputs.old) (map R.state inputs.new)) }
+        ensures told { ReadFailures result (failures_of (map R.state inputs.old))
+            (failures_of (map R.state inputs.new)) }
+        ensures not_writer { (n : ℕ) → WriteFailures result n n }
+        ensures not_memory { ¬ (IsErrOf result JoinFault.Memory) }
+    {
+        'heads: for at in 0..self.heads.len() {
+            self.advance_at(at, inputs)?;
+        }
+        Ok(())
+    }
+
+    /// Reads the next entry of each archive that has the least entry, in their order.
+    pub fn advance_holders<R: Input>(
+        &mut self,
+        least: Least,
+        inputs: &mut [R],
+    ) -> Result<(), JoinFault>
+        requires inputs { length inputs.old ≡ vec_len self.old.heads }
+        requires found { IsFound self.old.heads.items self.old.heads.items least }
+        requires holders { AreHolders self.old.heads.items self.old.holders.items least.at }
+        ensures size { vec_len self.new.heads ≡ vec_len self.old.heads }
+        ensures output { KeepsOutput self.old self.new }
+        ensures idle { OnOk result (AreIdle self.new.holders.items) }
+        ensures advances { OnOk result (Advances self.old.heads.items self.old.holders.items
+            self.new.heads.items self.new.holders.items
+            (map R.state inputs.old) (map R.state inputs.new)) }
+        ensures nears { OnOk result (total self.new.heads.items < total self.old.heads.items) }
+        ensures halts { IfErr result (λ fault. AdvanceHalts fault
+            self.old.heads.items self.old.holders.items
+            (map R.state inputs.old) (map R.state inputs.new)) }
+        ensures told { ReadFailures result (failures_of (map R.state inputs.old))
+            (failures_of (map R.state inputs.new)) }
+        ensures not_writer { (n : ℕ) → WriteFailures result n n }
+        ensures not_memory { ¬ (IsErrOf result JoinFault.Memory) }
+    {
+        if least.shared {
+            return self.advance(inputs);
+        }
+        self.advance_at(least.at, inputs)
+    }
+}

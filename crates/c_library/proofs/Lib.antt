@@ -1,0 +1,7 @@
+pub mod Answering
+pub mod Counting
+pub mod Walking
+pub mod Splitting
+pub mod Laying
+pub mod Finding
+pub mod Passing

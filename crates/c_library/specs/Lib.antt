@@ -1,0 +1,10 @@
+pub mod Faults
+pub mod Answers
+pub mod Canonicals
+pub mod Legacies
+pub mod Unions
+pub mod Frames
+pub mod Spans
+pub mod Parts
+pub mod Items
+pub mod Passing

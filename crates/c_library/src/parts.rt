@@ -1,0 +1,102 @@
+//! The parts of a record.
+
+ghost use Rattle.std.specs.Prelude.{ℕ, List, option_map};
+ghost use Rattle.syslog_value.specs.Parts.{Parts};
+ghost use Rattle.syslog_fields.specs.Canonical.{word_form};
+ghost use Rattle.syslog_fields.specs.Time.{CivilTime};
+ghost use Rattle.syslog_reading.specs.ViewParts.{IsViewOf, octets_of, view_parts};
+ghost use Rattle.c_library.specs.Parts.{Shows, ShowsTime, Spells};
+ghost use Rattle.c_library.specs.Spans.{LiesAt, Spans, SpansWord};
+
+use crate::layout::layout_of;
+use crate::span::SyslogboxSpan;
+use crate::walk::{count_elements, elements_text};
+use syslog_grammar::RecordView;
+use syslog_value::Instant;
+
+/// The parts of a record, as they lie in its octets. A word that is `-` has no octets.
+#[repr(C)]
+#[derive(Clone, Copy)]
+pub struct SyslogboxParts {
+    /// Microseconds from 1970-01-01T00:00:00Z; 0 where the record has no time.
+    pub time: i64,
+    /// 1 where the record has a time.
+    pub has_time: u32,
+    /// 0 to 23.
+    pub facility: u32,
+    /// 0 to 7.
+    pub severity: u32,
+    /// 1 where the message starts with the BOM, which `message` is without.
+    pub has_bom: u32,
+    pub hostname: SyslogboxSpan,
+    pub app_name: SyslogboxSpan,
+    pub proc_id: SyslogboxSpan,
+    pub msg_id: SyslogboxSpan,
+    pub structured_data: SyslogboxSpan,
+    /// How many elements the structured data has.
+    pub elements: usize,
+    pub message: SyslogboxSpan,
+}
+
+/// An instant as a flag and microseconds.
+fn time_of(instant: Option<Instant>) -> (u32, i64)
+    ensures { ShowsTime instant result.0 result.1 }
+{
+    match instant {
+        None => (0, 0),
+        Some(instant) => (1, instant.micros()),
+    }
+}
+
+/// Where a word lies, which is or is not at this offset.
+fn word_span(at: usize, word: Option<&[u8]>) -> SyslogboxSpan
+    ensures { (b : List ℕ) → LiesAt b at (word_form (option_map (λ s. s.now) word.entry))
+        → SpansWord b result (option_map (λ s. s.now) word.entry) }
+{
+    match word {
+        None => SyslogboxSpan { offset: 0, len: 0 },
+        Some(word) => SyslogboxSpan {
+            offset: at,
+            len: word.len(),
+        },
+    }
+}
+
+/// Where the message of the record lies that the octets are.
+fn message_span(octets: &[u8], view: &RecordView<'_>) -> SyslogboxSpan
+    requires { IsViewOf octets.now (view_parts view.now) }
+    ensures { Spans octets.now result (octets_of (view_parts view.now).message) }
+{
+    let len = view.message().len();
+    SyslogboxSpan {
+        offset: octets.len() - len,
+        len,
+    }
+}
+
+/// The parts of the record that the octets are.
+pub fn parts_of(octets: &[u8], view: &RecordView<'_>) -> SyslogboxParts
+    requires { IsViewOf octets.now (view_parts view.now) }
+    ensures { (p : Parts CivilTime) × Spells octets.now p × Shows octets.now p result }
+{
+    let at = layout_of(octets, view);
+    let priority = view.priority().value();
+    let (has_time, time) = time_of(view.instant());
+    SyslogboxParts {
+        time,
+        has_time,
+        facility: u32::from(priority / 8),
+        severity: u32::from(priority % 8),
+        has_bom: u32::from(view.has_mark()),
+        hostname: word_span(at.hostname, view.hostname()),
+        app_name: word_span(at.app_name, view.app_name()),
+        proc_id: word_span(at.proc_id, view.proc_id()),
+        msg_id: word_span(at.msg_id, view.msg_id()),
+        structured_data: SyslogboxSpan {
+            offset: at.structured_data,
+            len: view.structured_data.len(),
+        },
+        elements: count_elements(elements_text(view.structured_data)),
+        message: message_span(octets, view),
+    }
+}

@@ -1,0 +1,9 @@
+pub mod StopRuns
+pub mod Escaping
+pub mod KeptTexts
+pub mod Chunks
+pub mod DataParts
+pub mod Printing
+pub mod WholeLines
+pub mod LineLaws
+pub mod NoLineFeeds

@@ -1,0 +1,4 @@
+pub mod Ended
+pub mod Selecting
+pub mod Combining
+pub mod Digesting

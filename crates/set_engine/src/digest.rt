@@ -1,0 +1,31 @@
+//! `digest`: the digests of the periods of an archive.
+
+ghost use Rattle.driver.specs.Devices.{devices};
+ghost use Rattle.set_engine.specs.Digesting.{RanDigest};
+
+use crate::select::report_select_fault;
+use archive_digest::{Period, digest_stream};
+use driver::DONE;
+use octet_devices::{Input, Output};
+use std::alloc::Global;
+
+/// Reads an archive and writes a line for each period that has records, and a last one for the whole.
+/// Returns the exit status: `DONE`; `REFUSED` where the input is no archive; `FAULT` where a device
+/// failed or the input has no end; `NO_MEMORY` where memory ran out. A line says what was refused or
+/// failed, behind the lines of the periods that ended before that of the last entry.
+pub fn digest_archive<R: Input, W: Output, N: Output>(
+    alloc: Global,
+    period: Period,
+    input: &mut R,
+    output: &mut W,
+    diagnostics: &mut N,
+) -> u8
+    ensures { RanDigest period
+        (devices (R.state input.old) (W.state output.old) (N.state diagnostics.old))
+        (devices (R.state input.new) (W.state output.new) (N.state diagnostics.new)) result }
+{
+    match digest_stream(alloc, period, input, output) {
+        Ok(_) => DONE,
+        Err(fault) => report_select_fault(alloc, fault, diagnostics),
+    }
+}

@@ -1,0 +1,14 @@
+//! What the commands on archives as sets do, over any devices: [`join_archives`] joins archives by who
+//! has a record, [`select_archive`] writes the archive of the records of one that meet a condition,
+//! [`digest_archive`] the digests of its periods.
+#![tactic(auto)]
+
+mod combination;
+mod digest;
+mod join;
+mod select;
+
+pub use combination::Combination;
+pub use digest::digest_archive;
+pub use join::{join_archives, report_on_input};
+pub use select::select_archive;

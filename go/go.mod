@@ -1,0 +1,3 @@
+module syslogbox
+
+go 1.19

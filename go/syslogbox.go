@@ -1,0 +1,193 @@
+// Package syslogbox reads and writes syslog records (RFC 5424), frames of streams (RFC 6587), legacy packets
+// (RFC 3164) and archives by libsyslogbox, which pkg-config has to find.
+package syslogbox
+
+/*
+#cgo pkg-config: syslogbox
+#include <syslogbox.h>
+*/
+import "C"
+
+import (
+	"fmt"
+	"unsafe"
+)
+
+// Kind says what is wrong: a number of enum syslogbox_kind.
+type Kind uint32
+
+// Field says where: a number of enum syslogbox_field.
+type Field uint32
+
+// The kinds of faults.
+const (
+	Syntax       Kind = C.SYSLOGBOX_SYNTAX
+	InstantRange Kind = C.SYSLOGBOX_INSTANT_RANGE
+	RepeatedID   Kind = C.SYSLOGBOX_REPEATED_ID
+	NotUTF8      Kind = C.SYSLOGBOX_NOT_UTF8
+	BadFrame     Kind = C.SYSLOGBOX_BAD_FRAME
+	EntryTooLong Kind = C.SYSLOGBOX_ENTRY_TOO_LONG
+	BadEntry     Kind = C.SYSLOGBOX_BAD_ENTRY
+	NotCanonical Kind = C.SYSLOGBOX_NOT_CANONICAL
+	NotAscending Kind = C.SYSLOGBOX_NOT_ASCENDING
+	NoRoom       Kind = C.SYSLOGBOX_NO_ROOM
+	NoMemory     Kind = C.SYSLOGBOX_NO_MEMORY
+	BadClock     Kind = C.SYSLOGBOX_BAD_CLOCK
+)
+
+// Fault says why octets are refused: what is wrong, where, and at which octet from 0 on.
+type Fault struct {
+	Kind   Kind
+	Field  Field
+	Offset uint64
+}
+
+func (f *Fault) Error() string {
+	return fmt.Sprintf("syslogbox: kind %d, field %d, octet %d", f.Kind, f.Field, f.Offset)
+}
+
+// Framing says how records are framed on a stream (RFC 6587).
+type Framing int
+
+// Octet counting (3.4.1), and lines (3.4.2).
+const (
+	Counted Framing = C.SYSLOGBOX_COUNTED
+	LF      Framing = C.SYSLOGBOX_LF
+)
+
+func octets(b []byte) *C.uint8_t {
+	if len(b) == 0 {
+		return nil
+	}
+	return (*C.uint8_t)(unsafe.Pointer(&b[0]))
+}
+
+func faultOf(f *C.struct_syslogbox_fault) *Fault {
+	return &Fault{Kind(f.kind), Field(f.field), uint64(f.offset)}
+}
+
+// text gives what a call wrote into a room.
+func text(room int, call func(out *C.uint8_t, room C.size_t, fault *C.struct_syslogbox_fault) C.int64_t) ([]byte, error) {
+	out := make([]byte, room)
+	var fault C.struct_syslogbox_fault
+	n := call(octets(out), C.size_t(len(out)), &fault)
+	if n < 0 {
+		return nil, faultOf(&fault)
+	}
+	return out[:n], nil
+}
+
+// Check gives nil where the octets are a record of RFC 5424, else a *Fault.
+func Check(record []byte) error {
+	var fault C.struct_syslogbox_fault
+	if C.syslogbox_check(octets(record), C.size_t(len(record)), &fault) == 1 {
+		return nil
+	}
+	return faultOf(&fault)
+}
+
+// Canonical gives the one canonical form of the record.
+func Canonical(record []byte) ([]byte, error) {
+	return text(2*len(record)+7, func(out *C.uint8_t, room C.size_t, fault *C.struct_syslogbox_fault) C.int64_t {
+		return C.syslogbox_canonical(octets(record), C.size_t(len(record)), out, room, fault)
+	})
+}
+
+// Legacy gives the canonical form of the record that a packet is read as, in a year and so many minutes ahead of UTC.
+func Legacy(year, offsetMinutes int, packet []byte) ([]byte, error) {
+	return text(2*len(packet)+64, func(out *C.uint8_t, room C.size_t, fault *C.struct_syslogbox_fault) C.int64_t {
+		return C.syslogbox_legacy(C.int(year), C.int(offsetMinutes), octets(packet), C.size_t(len(packet)), out, room, fault)
+	})
+}
+
+// Union gives the archive of the records of two archives.
+func Union(left, right []byte) ([]byte, error) {
+	return text(len(left)+len(right), func(out *C.uint8_t, room C.size_t, fault *C.struct_syslogbox_fault) C.int64_t {
+		return C.syslogbox_union(octets(left), C.size_t(len(left)), octets(right), C.size_t(len(right)), out, room, fault)
+	})
+}
+
+// Param is a parameter of an element, by what its value means.
+type Param struct{ Name, Value string }
+
+// Element is an element of the structured data.
+type Element struct {
+	ID     string
+	Params []Param
+}
+
+// Record has the parts of a record. A word that is "-" is empty.
+type Record struct {
+	Facility, Severity               int
+	HasTime                          bool
+	Micros                           int64 // from 1970-01-01T00:00:00Z
+	Hostname, AppName, ProcID, MsgID string
+	Elements                         []Element
+	BOM                              bool
+	Message                          []byte // without the BOM
+}
+
+func cut(record []byte, s C.struct_syslogbox_span) []byte {
+	return record[s.offset : s.offset+s.len]
+}
+
+func element(record []byte, n int) (Element, error) {
+	var shown C.struct_syslogbox_element
+	var param C.struct_syslogbox_param
+	var fault C.struct_syslogbox_fault
+	if C.syslogbox_element(octets(record), C.size_t(len(record)), C.size_t(n), &shown, &fault) == 0 {
+		return Element{}, faultOf(&fault)
+	}
+	e := Element{ID: string(cut(record, shown.id))}
+	for m := 0; m < int(shown.params); m++ {
+		if C.syslogbox_param(octets(record), C.size_t(len(record)), C.size_t(n), C.size_t(m), &param, &fault) == 0 {
+			return Element{}, faultOf(&fault)
+		}
+		raw := cut(record, param.value)
+		value, err := text(len(raw), func(out *C.uint8_t, room C.size_t, fault *C.struct_syslogbox_fault) C.int64_t {
+			return C.syslogbox_value(octets(raw), C.size_t(len(raw)), out, room, fault)
+		})
+		if err != nil {
+			return Element{}, err
+		}
+		e.Params = append(e.Params, Param{string(cut(record, param.name)), string(value)})
+	}
+	return e, nil
+}
+
+// View gives the parts of the record, its elements in the order of the octets.
+func View(record []byte) (*Record, error) {
+	var p C.struct_syslogbox_parts
+	var fault C.struct_syslogbox_fault
+	if C.syslogbox_view(octets(record), C.size_t(len(record)), &p, &fault) == 0 {
+		return nil, faultOf(&fault)
+	}
+	r := &Record{
+		Facility: int(p.facility), Severity: int(p.severity), HasTime: p.has_time == 1, Micros: int64(p.time),
+		Hostname: string(cut(record, p.hostname)), AppName: string(cut(record, p.app_name)),
+		ProcID: string(cut(record, p.proc_id)), MsgID: string(cut(record, p.msg_id)),
+		BOM: p.has_bom == 1, Message: cut(record, p.message),
+	}
+	for n := 0; n < int(p.elements); n++ {
+		e, err := element(record, n)
+		if err != nil {
+			return nil, err
+		}
+		r.Elements = append(r.Elements, e)
+	}
+	return r, nil
+}
+
+// Next gives the next frame of a stream that begins with the piece, and how many octets it takes; 0 where none is whole
+// yet, and an error where no frame begins so.
+func Next(framing Framing, piece []byte) (frame []byte, taken int, err error) {
+	var start, end C.size_t
+	n := C.syslogbox_frame(C.int(framing), octets(piece), C.size_t(len(piece)), &start, &end)
+	if n < 0 {
+		return nil, 0, fmt.Errorf("syslogbox: no frame goes on with octet %d", int(start))
+	}
+	if n == 0 {
+		return nil, 0, nil
+	}
+	return piece[start:end], int(n), nil
+}

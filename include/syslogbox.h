@@ -1,0 +1,196 @@
+/*
+ * libsyslogbox: syslog records (RFC 5424), frames of streams (RFC 6587), legacy packets (RFC 3164) and archives.
+ *
+ * Behind each call stands a function that is proved to meet its contract. The calls keep no state and touch no file:
+ * octets and lengths go in, what comes out goes into the caller's memory. They may be called from any thread.
+ *
+ * For every call:
+ * - `len` octets can be read at its pointer, and `room` octets written at `out`. They do not overlap, nor with the
+ *   structs. A pointer may be null where its length is 0. Lengths are below 2^63.
+ * - `fault` may be null, where the caller needs no reason. It is written where the call fails, and left alone where it
+ *   does not. A call that fails leaves `out`, `parts`, `element` and `param` as they were.
+ * - Offsets and lengths count octets, from 0 on.
+ * - syslogbox_check, _view, _element, _param, _frame and _pass take no memory. The others call malloc, and fail with
+ *   SYSLOGBOX_NO_MEMORY where it fails.
+ * - On the stack a record of up to 2,000 octets took less than 32 KiB, one of 262,144 octets less than 2 MiB, and longer
+ *   ones less than 4 MiB: most of it where there are thousands of elements. A thread with less room may overflow.
+ */
+#ifndef SYSLOGBOX_H
+#define SYSLOGBOX_H
+
+#include <stddef.h>
+#include <stdint.h>
+
+#ifdef __cplusplus
+extern "C" {
+#endif
+
+/* The most octets of a record in a frame that the program reads. A longer one is read as well. */
+#define SYSLOGBOX_FRAME_MAX 262144
+
+/* The most octets of a canonical record in an archive. */
+#define SYSLOGBOX_ENTRY_MAX 524295
+
+/* What is wrong, and what the fault's offset says of it. */
+enum syslogbox_kind {
+    SYSLOGBOX_NO_FAULT = 0,       /* never written */
+    SYSLOGBOX_SYNTAX = 1,         /* outside the grammar (RFC 5424, 6), in `field`: some record begins with the octets
+                                     before the offset, and none with one more */
+    SYSLOGBOX_INSTANT_RANGE = 2,  /* the timestamp there names an instant before the year 0 or after 9999 */
+    SYSLOGBOX_REPEATED_ID = 3,    /* the element's id there is that of an earlier one (6.3.2) */
+    SYSLOGBOX_NOT_UTF8 = 4,       /* a legacy packet's message starts with the BOM, and is no UTF-8 there */
+    SYSLOGBOX_BAD_FRAME = 5,      /* of an archive, `field` says which: no count goes on with the octet there; or its
+                                     length, where it ends inside an entry */
+    SYSLOGBOX_ENTRY_TOO_LONG = 6, /* the entry there has more than SYSLOGBOX_ENTRY_MAX octets */
+    SYSLOGBOX_BAD_ENTRY = 7,      /* the entry there is no record: syslogbox_check of its octets says why */
+    SYSLOGBOX_NOT_CANONICAL = 8,  /* the entry there is a record, and not in its canonical form */
+    SYSLOGBOX_NOT_ASCENDING = 9,  /* the entry there is not above the one before it */
+    SYSLOGBOX_NO_ROOM = 10,       /* the room is too small: `offset` octets are needed */
+    SYSLOGBOX_NO_MEMORY = 11,     /* malloc failed; the offset is 0 */
+    SYSLOGBOX_BAD_CLOCK = 12,     /* the year or the offset from UTC is out of range; the offset is 0 */
+    SYSLOGBOX_NO_ELEMENT = 13,    /* there is no such element: there are `offset` of them */
+    SYSLOGBOX_NO_PARAM = 14       /* there is no such parameter: there are `offset` of them */
+};
+
+/* Where: a field of RFC 5424, section 6, or which archive. */
+enum syslogbox_field {
+    SYSLOGBOX_NO_FIELD = 0,
+    SYSLOGBOX_PRIORITY = 1,
+    SYSLOGBOX_VERSION = 2,
+    SYSLOGBOX_TIMESTAMP = 3,
+    SYSLOGBOX_HOSTNAME = 4,
+    SYSLOGBOX_APP_NAME = 5,
+    SYSLOGBOX_PROC_ID = 6,
+    SYSLOGBOX_MSG_ID = 7,
+    SYSLOGBOX_STRUCTURED_DATA = 8,
+    SYSLOGBOX_MESSAGE = 9,
+    SYSLOGBOX_LEFT = 10,
+    SYSLOGBOX_RIGHT = 11
+};
+
+/* Why a call failed: numbers of the two enums above. */
+struct syslogbox_fault {
+    uint32_t kind, field;
+    uint64_t offset;
+};
+
+/* `len` octets of the record, from `offset` on. */
+struct syslogbox_span {
+    size_t offset, len;
+};
+
+/*
+ * The parts of a record. A word that is "-" has no octets (offset and len are 0); any other has one at least.
+ */
+struct syslogbox_parts {
+    int64_t time;       /* microseconds from 1970-01-01T00:00:00Z, by the timestamp's own offset; 0 without a time */
+    uint32_t has_time;  /* 1 or 0 */
+    uint32_t facility;  /* 0 to 23 */
+    uint32_t severity;  /* 0, the most severe, to 7 */
+    uint32_t has_bom;   /* 1 where the message starts with the BOM, and so is UTF-8 */
+    struct syslogbox_span hostname, app_name, proc_id, msg_id;
+    struct syslogbox_span structured_data; /* as it is spelled: "-", or the elements */
+    size_t elements;                       /* how many there are: syslogbox_element shows each */
+    struct syslogbox_span message;         /* without the BOM; it may be empty */
+};
+
+/* An element of the structured data (6.3.1). */
+struct syslogbox_element {
+    struct syslogbox_span id;
+    size_t params; /* how many there are: syslogbox_param shows each */
+};
+
+/* A parameter of an element (6.3.3). */
+struct syslogbox_param {
+    struct syslogbox_span name;
+    struct syslogbox_span value; /* as it is spelled between the quotation marks: syslogbox_value gives its meaning */
+};
+
+/* How records are framed on a stream (RFC 6587). */
+enum syslogbox_framing {
+    SYSLOGBOX_COUNTED = 1, /* octet counting (3.4.1): the length in decimal, a space, the record */
+    SYSLOGBOX_LF = 2       /* the record and a line feed (3.4.2) */
+};
+
+/*
+ * Whether the octets are a record: 1; or 0, with the fault (SYNTAX, INSTANT_RANGE or REPEATED_ID, the first of them
+ * that holds).
+ */
+int syslogbox_check(const uint8_t *record, size_t len, struct syslogbox_fault *fault);
+
+/*
+ * Writes the record's canonical octets to the front of `out` and returns how many they are; or -1, with the fault
+ * (those of syslogbox_check, NO_ROOM, NO_MEMORY). Equal records have equal canonical octets. 2 * len + 7 octets are
+ * always enough.
+ */
+int64_t syslogbox_canonical(const uint8_t *record, size_t len, uint8_t *out, size_t room,
+                            struct syslogbox_fault *fault);
+
+/* The parts of the record, as offsets into its octets: 1; or 0, with the fault of syslogbox_check. */
+int syslogbox_view(const uint8_t *record, size_t len, struct syslogbox_parts *parts, struct syslogbox_fault *fault);
+
+/*
+ * Element number n of the record, from 0 on in the order of its octets: 1; or 0, with the fault (those of
+ * syslogbox_check, NO_ELEMENT). The record is read anew by each call.
+ */
+int syslogbox_element(const uint8_t *record, size_t len, size_t n, struct syslogbox_element *element,
+                      struct syslogbox_fault *fault);
+
+/*
+ * Parameter number m, from 0 on, of element number n of the record: 1; or 0, with the fault (those of
+ * syslogbox_element, NO_PARAM).
+ */
+int syslogbox_param(const uint8_t *record, size_t len, size_t n, size_t m, struct syslogbox_param *param,
+                    struct syslogbox_fault *fault);
+
+/*
+ * Writes what the spelling of a parameter's value means (6.3.3), which is UTF-8, and returns how many octets it has; or
+ * -1, with the fault (NO_ROOM, NO_MEMORY). `len` octets are always enough. Of octets that are no such spelling nothing
+ * is said but that the call returns and stays in its room.
+ */
+int64_t syslogbox_value(const uint8_t *raw, size_t len, uint8_t *out, size_t room, struct syslogbox_fault *fault);
+
+/*
+ * The next frame of a stream, which begins at `piece`. `framing` is an enum syslogbox_framing.
+ *
+ *   n > 0   a frame is whole: the octets from *start to *end, not including *end. It takes n octets of the stream, and
+ *           the next one begins there. It may be longer than SYSLOGBOX_FRAME_MAX.
+ *   0       none is whole yet: call again with more octets behind these. Where the count of a frame was read, it begins
+ *           at *start and will end at *end, beyond the piece; else both are 0. A caller that keeps octets from others
+ *           sets a limit of its own: a count may say up to 9,999,999,999, and a line has no end.
+ *   -1      no frame begins so: no count goes on with the octet at *start, which is *end too (octet counting alone).
+ *   -2      there is no such framing, and nothing was written.
+ */
+int64_t syslogbox_frame(int framing, const uint8_t *piece, size_t len, size_t *start, size_t *end);
+
+/*
+ * Passes over the frames at the front of `piece` that are records, as by syslogbox_frame and syslogbox_check: returns how
+ * many octets of the stream they take, and *count is how many they are. What follows is a frame that is no record, or no
+ * whole frame. -2 where there is no such framing, and nothing was written.
+ */
+int64_t syslogbox_pass(int framing, const uint8_t *piece, size_t len, size_t *count);
+
+/*
+ * Writes the archive of the records of two archives and returns how many octets it has; or -1, with the fault (of an
+ * archive, of the left one first; NO_ROOM, NO_MEMORY). An archive is a set of records: the canonical octets of each,
+ * once, by instant and then by octets, each behind its count as SYSLOGBOX_COUNTED frames them. No octets are the empty
+ * one. left_len + right_len octets are always enough.
+ */
+int64_t syslogbox_union(const uint8_t *left, size_t left_len, const uint8_t *right, size_t right_len, uint8_t *out,
+                        size_t room, struct syslogbox_fault *fault);
+
+/*
+ * Writes the canonical octets of the record that a packet is read as, and returns how many they are; or -1, with the
+ * fault (those of syslogbox_check for a packet that begins as RFC 5424 does, with PRI and "1 "; NOT_UTF8 for any other;
+ * BAD_CLOCK, NO_ROOM, NO_MEMORY). A packet of another front is read by RFC 3164, section 4: `year`, from 1 to 9998, is
+ * that of its timestamp, which is `offset_minutes`, from -1439 to 1439, ahead of UTC. 2 * len + 64 octets are always
+ * enough.
+ */
+int64_t syslogbox_legacy(int year, int offset_minutes, const uint8_t *packet, size_t len, uint8_t *out, size_t room,
+                         struct syslogbox_fault *fault);
+
+#ifdef __cplusplus
+}
+#endif
+
+#endif

@@ -1,0 +1,445 @@
+/*
+ * Tries the calls of libsyslogbox beside the answers of the program, under sanitizers:
+ *
+ *   calls records FILE              a line a record: its octets in hexadecimal, and `ok CANONICAL` or `KIND FIELD OFFSET`
+ *   calls legacy YEAR OFFSET FILE   the same of packets under a clock
+ *   calls frames FRAMING FILE       prints for each frame of a stream what `check` prints of it
+ *   calls union LEFT RIGHT          writes the union of two archives, or prints its fault
+ *   calls nulls                     null pointers with a length of 0
+ *
+ * Octets stand right before memory that may not be touched, so that an octet too far ends the run; each call gets a room that is just
+ * large enough, one that is larger and one that is an octet too small. The first answer that is wrong is printed, and the status is 1.
+ */
+#define _DEFAULT_SOURCE
+#include <stdio.h>
+#include <stdlib.h>
+#include <string.h>
+#include <sys/mman.h>
+#include <syslogbox.h>
+
+#define EXPECT(holds)                                                        \
+    do {                                                                     \
+        if (!(holds)) {                                                      \
+            printf("line %lu: not %s (%d)\n", line_number, #holds, __LINE__); \
+            exit(1);                                                         \
+        }                                                                    \
+    } while (0)
+
+enum { FILLED = 0xa5, SPARE = 9, PAGE = 4096 };
+
+static unsigned long line_number;
+
+struct octets {
+    uint8_t *at;
+    size_t len;
+    void *pages;
+    size_t size;
+};
+
+/* Memory of this length, right before a page that may not be touched. */
+static struct octets of_length(size_t len)
+{
+    size_t size = (len + PAGE - 1) / PAGE * PAGE + PAGE;
+    uint8_t *pages = mmap(NULL, size, PROT_READ | PROT_WRITE, MAP_PRIVATE | MAP_ANONYMOUS, -1, 0);
+    if (pages == MAP_FAILED || mprotect(pages + size - PAGE, PAGE, PROT_NONE))
+        abort();
+    struct octets o = {pages + size - PAGE - len, len, pages, size};
+    memset(o.at, FILLED, len);
+    return o;
+}
+
+static void release(struct octets o)
+{
+    munmap(o.pages, o.size);
+}
+
+static int digit(char c)
+{
+    return c <= '9' ? c - '0' : c - 'a' + 10;
+}
+
+/* The octets of a text in hexadecimal, up to a space or a line feed; *text goes behind them. */
+static struct octets of_hex(const char **text)
+{
+    size_t len = strcspn(*text, " \n") / 2;
+    struct octets o = of_length(len);
+    for (size_t i = 0; i < len; i++)
+        o.at[i] = (uint8_t)(digit((*text)[2 * i]) << 4 | digit((*text)[2 * i + 1]));
+    *text += 2 * len;
+    return o;
+}
+
+static struct octets of_file(const char *name)
+{
+    FILE *file = fopen(name, "rb");
+    long len;
+    struct octets o;
+
+    if (!file || fseek(file, 0, SEEK_END) || (len = ftell(file)) < 0 || fseek(file, 0, SEEK_SET))
+        abort();
+    o = of_length((size_t)len);
+    if (fread(o.at, 1, o.len, file) != o.len)
+        abort();
+    fclose(file);
+    return o;
+}
+
+static int is_filled(const uint8_t *at, size_t len)
+{
+    for (size_t i = 0; i < len; i++)
+        if (at[i] != FILLED)
+            return 0;
+    return 1;
+}
+
+static int is_fault(struct syslogbox_fault f, uint32_t kind, uint32_t field, uint64_t offset)
+{
+    return f.kind == kind && f.field == field && f.offset == offset;
+}
+
+/* A call that writes a text: its octets, and what else it takes. */
+typedef int64_t writing(const void *input, uint8_t *out, size_t room, struct syslogbox_fault *fault);
+
+/* Each room gives the text, or what is needed of it; and nothing else is written. */
+static void writes(writing *call, const void *input, struct octets text)
+{
+    const struct syslogbox_fault before = {77, 78, 79};
+    struct syslogbox_fault fault = before;
+    struct octets exact = of_length(text.len), large = of_length(text.len + SPARE);
+
+    EXPECT(call(input, exact.at, exact.len, &fault) == (int64_t)text.len);
+    EXPECT(!memcmp(exact.at, text.at, text.len) && is_fault(fault, 77, 78, 79));
+    EXPECT(call(input, large.at, large.len, NULL) == (int64_t)text.len);
+    EXPECT(!memcmp(large.at, text.at, text.len) && is_filled(large.at + text.len, SPARE));
+    if (text.len) {
+        struct octets small = of_length(text.len - 1);
+        EXPECT(call(input, small.at, small.len, &fault) == -1);
+        EXPECT(is_fault(fault, SYSLOGBOX_NO_ROOM, 0, text.len) && is_filled(small.at, small.len));
+        EXPECT(call(input, NULL, 0, &fault) == -1 && is_fault(fault, SYSLOGBOX_NO_ROOM, 0, text.len));
+        release(small);
+    }
+    release(exact);
+    release(large);
+}
+
+static void refuses(writing *call, const void *input, uint32_t kind, uint32_t field, uint64_t offset)
+{
+    struct syslogbox_fault fault = {0, 0, 0};
+    struct octets out = of_length(SPARE);
+
+    EXPECT(call(input, out.at, out.len, &fault) == -1 && is_fault(fault, kind, field, offset));
+    EXPECT(call(input, NULL, 0, NULL) == -1 && is_filled(out.at, out.len));
+    release(out);
+}
+
+static int64_t canonical(const void *input, uint8_t *out, size_t room, struct syslogbox_fault *fault)
+{
+    const struct octets *o = input;
+    return syslogbox_canonical(o->at, o->len, out, room, fault);
+}
+
+static int64_t value(const void *input, uint8_t *out, size_t room, struct syslogbox_fault *fault)
+{
+    const struct octets *o = input;
+    return syslogbox_value(o->at, o->len, out, room, fault);
+}
+
+struct packet {
+    int year, offset_minutes;
+    struct octets octets;
+};
+
+static int64_t legacy(const void *input, uint8_t *out, size_t room, struct syslogbox_fault *fault)
+{
+    const struct packet *p = input;
+    return syslogbox_legacy(p->year, p->offset_minutes, p->octets.at, p->octets.len, out, room, fault);
+}
+
+static int64_t joined(const void *input, uint8_t *out, size_t room, struct syslogbox_fault *fault)
+{
+    const struct octets *o = input;
+    return syslogbox_union(o[0].at, o[0].len, o[1].at, o[1].len, out, room, fault);
+}
+
+static int within(struct octets record, struct syslogbox_span span)
+{
+    return span.offset <= record.len && span.len <= record.len - span.offset;
+}
+
+/* A part that stands between two octets. */
+static int between(struct octets record, struct syslogbox_span span, uint8_t before, uint8_t behind)
+{
+    return within(record, span) && span.offset && record.at[span.offset - 1] == before
+           && (span.offset + span.len == record.len || record.at[span.offset + span.len] == behind);
+}
+
+static void param(struct octets record, size_t n, size_t m)
+{
+    struct syslogbox_param shown;
+    struct syslogbox_fault fault;
+
+    EXPECT(syslogbox_param(record.at, record.len, n, m, &shown, &fault) == 1);
+    EXPECT(between(record, shown.name, ' ', '=') && between(record, shown.value, '"', '"'));
+    struct octets raw = of_length(shown.value.len), meant = of_length(shown.value.len);
+    memcpy(raw.at, record.at + shown.value.offset, raw.len);
+    meant.len = 0;
+    for (size_t i = 0; i < raw.len; i++) {
+        if (raw.at[i] == '\\' && i + 1 < raw.len && strchr("\"\\]", raw.at[i + 1]) && raw.at[i + 1])
+            i++;
+        meant.at[meant.len++] = raw.at[i];
+    }
+    writes(value, &raw, meant);
+    release(raw);
+    release(meant);
+}
+
+static void element(struct octets record, size_t n)
+{
+    struct syslogbox_element shown;
+    struct syslogbox_param none;
+    struct syslogbox_fault fault;
+
+    EXPECT(syslogbox_element(record.at, record.len, n, &shown, &fault) == 1);
+    EXPECT(between(record, shown.id, '[', shown.params ? ' ' : ']'));
+    for (size_t m = 0; m < shown.params; m++)
+        param(record, n, m);
+    EXPECT(syslogbox_param(record.at, record.len, n, shown.params, &none, &fault) == 0);
+    EXPECT(is_fault(fault, SYSLOGBOX_NO_PARAM, 0, shown.params));
+}
+
+static void parts(struct octets record)
+{
+    struct syslogbox_parts p;
+    struct syslogbox_element none;
+    struct syslogbox_fault fault = {77, 78, 79};
+
+    EXPECT(syslogbox_view(record.at, record.len, &p, &fault) == 1 && is_fault(fault, 77, 78, 79));
+    EXPECT(p.facility < 24 && p.severity < 8 && p.has_time < 2 && p.has_bom < 2);
+    for (int i = 0; i < 4; i++) {
+        struct syslogbox_span word = (struct syslogbox_span[]){p.hostname, p.app_name, p.proc_id, p.msg_id}[i];
+        EXPECT(word.len ? between(record, word, ' ', ' ') : !word.offset);
+    }
+    EXPECT(between(record, p.structured_data, ' ', ' '));
+    EXPECT(within(record, p.message) && p.message.offset + p.message.len == record.len);
+    for (size_t n = 0; n < p.elements; n++)
+        element(record, n);
+    EXPECT(syslogbox_element(record.at, record.len, p.elements, &none, &fault) == 0);
+    EXPECT(is_fault(fault, SYSLOGBOX_NO_ELEMENT, 0, p.elements));
+    EXPECT(syslogbox_element(record.at, record.len, (size_t)-1, &none, NULL) == 0);
+}
+
+/* Octets that are no record: each call that reads one tells the same fault, and leaves what it would fill. */
+static void no_parts(struct octets record, struct syslogbox_fault right)
+{
+    struct syslogbox_parts p;
+    struct syslogbox_element e;
+    struct syslogbox_param q;
+    struct syslogbox_fault fault[3] = {{0, 0, 0}, {0, 0, 0}, {0, 0, 0}};
+
+    memset(&p, FILLED, sizeof p);
+    memset(&e, FILLED, sizeof e);
+    memset(&q, FILLED, sizeof q);
+    EXPECT(!syslogbox_view(record.at, record.len, &p, fault));
+    EXPECT(!syslogbox_element(record.at, record.len, 0, &e, fault + 1));
+    EXPECT(!syslogbox_param(record.at, record.len, 0, 0, &q, fault + 2));
+    EXPECT(is_filled((uint8_t *)&p, sizeof p) && is_filled((uint8_t *)&e, sizeof e) && is_filled((uint8_t *)&q, sizeof q));
+    for (int i = 0; i < 3; i++)
+        EXPECT(is_fault(fault[i], right.kind, right.field, right.offset));
+}
+
+static void one_record(struct octets record, const char *answer)
+{
+    struct syslogbox_fault fault = {77, 78, 79}, right;
+    unsigned long long offset;
+
+    if (!strncmp(answer, "ok ", 3)) {
+        answer += 3;
+        struct octets text = of_hex(&answer);
+        EXPECT(syslogbox_check(record.at, record.len, &fault) == 1 && is_fault(fault, 77, 78, 79));
+        writes(canonical, &record, text);
+        parts(record);
+        release(text);
+        return;
+    }
+    EXPECT(sscanf(answer, "%u %u %llu", &right.kind, &right.field, &offset) == 3);
+    right.offset = offset;
+    EXPECT(syslogbox_check(record.at, record.len, &fault) == 0);
+    EXPECT(is_fault(fault, right.kind, right.field, right.offset));
+    EXPECT(syslogbox_check(record.at, record.len, NULL) == 0);
+    refuses(canonical, &record, right.kind, right.field, right.offset);
+    no_parts(record, right);
+}
+
+static void one_packet(struct packet packet, const char *answer)
+{
+    unsigned kind, field;
+    unsigned long long offset;
+
+    if (!strncmp(answer, "ok ", 3)) {
+        answer += 3;
+        struct octets text = of_hex(&answer);
+        writes(legacy, &packet, text);
+        release(text);
+    } else {
+        EXPECT(sscanf(answer, "%u %u %llu", &kind, &field, &offset) == 3);
+        refuses(legacy, &packet, kind, field, offset);
+    }
+}
+
+/* The lines of a file of answers, each as a record, or as a packet under a clock. */
+static void answers(const char *name, const struct packet *clock)
+{
+    FILE *file = fopen(name, "r");
+    char *line = NULL;
+    size_t room = 0;
+
+    if (!file)
+        abort();
+    while (getline(&line, &room, file) > 0) {
+        const char *text = line;
+        ++line_number;
+        struct octets octets = of_hex(&text);
+        if (clock)
+            one_packet((struct packet){clock->year, clock->offset_minutes, octets}, text + 1);
+        else
+            one_record(octets, text + 1);
+        release(octets);
+    }
+    free(line);
+    fclose(file);
+}
+
+static void no_clocks(void)
+{
+    static const int wrong[][2] = {{0, 0}, {9999, 0}, {-2003, 0}, {2003, 1440}, {2003, -1440}, {2003 + 65536, 0}, {2003, 65536}};
+    for (size_t i = 0; i < sizeof wrong / sizeof *wrong; i++) {
+        struct packet packet = {wrong[i][0], wrong[i][1], {.at = (uint8_t *)"x", .len = 1}};
+        refuses(legacy, &packet, SYSLOGBOX_BAD_CLOCK, 0, 0);
+    }
+}
+
+static const char *const fields[] = {"", "priority", "version", "timestamp", "hostname", "app-name", "procid", "msgid",
+                                     "structured-data", "message"};
+
+static void print_check(unsigned long n, const uint8_t *at, size_t len)
+{
+    struct syslogbox_fault fault;
+
+    if (len > SYSLOGBOX_FRAME_MAX)
+        printf("%lu too-long\n", n);
+    else if (syslogbox_check(at, len, &fault))
+        printf("%lu ok\n", n);
+    else if (fault.kind == SYSLOGBOX_SYNTAX)
+        printf("%lu syntax %s %llu\n", n, fields[fault.field], (unsigned long long)fault.offset);
+    else
+        printf("%lu %s %llu\n", n, fault.kind == SYSLOGBOX_INSTANT_RANGE ? "instant-range" : "repeated-id",
+               (unsigned long long)fault.offset);
+}
+
+/* So many frames from the front of a stream are records, and the next one is none. */
+static void passes(int framing, struct octets stream)
+{
+    size_t at = 0, start, end, right = 0, count = 77;
+    int64_t taken, passed = syslogbox_pass(framing, stream.at, stream.len, &count);
+
+    while ((taken = syslogbox_frame(framing, stream.at + at, stream.len - at, &start, &end)) > 0
+           && syslogbox_check(stream.at + at + start, end - start, NULL)) {
+        at += (size_t)taken;
+        right++;
+    }
+    EXPECT(passed == (int64_t)at && count == right);
+    EXPECT(syslogbox_pass(3, stream.at, stream.len, &count) == -2 && count == right);
+}
+
+/* The frames of a stream, each also from all shorter fronts of it, which are not whole. */
+static void frames(int framing, struct octets stream)
+{
+    size_t at = 0, start = 77, end = 78;
+    unsigned long n = 0;
+    int64_t taken;
+
+    EXPECT(syslogbox_frame(0, stream.at, stream.len, &start, &end) == -2 && start == 77 && end == 78);
+    while ((taken = syslogbox_frame(framing, stream.at + at, stream.len - at, &start, &end)) > 0) {
+        size_t cut = (size_t)taken - 1, awaited = 0, ends = 0;
+        EXPECT(start <= end && end <= (size_t)taken && at + (size_t)taken <= stream.len);
+        EXPECT(syslogbox_frame(framing, stream.at + at, cut, &awaited, &ends) == 0);
+        EXPECT(framing == SYSLOGBOX_LF || cut < start ? !awaited && !ends : awaited == start && ends == end);
+        struct octets frame = of_length(end - start);
+        memcpy(frame.at, stream.at + at + start, frame.len);
+        print_check(++n, frame.at, frame.len);
+        release(frame);
+        at += (size_t)taken;
+    }
+    if (taken == -1) {
+        EXPECT(start == end);
+        printf("%lu bad-count %zu\n", n + 1, at + start);
+    } else if (at < stream.len) {
+        printf("unterminated %zu\n", at);
+    }
+}
+
+static void unite(const char *left, const char *right)
+{
+    struct octets both[2] = {of_file(left), of_file(right)};
+    struct octets out = of_length(both[0].len + both[1].len);
+    struct syslogbox_fault fault;
+    int64_t len = syslogbox_union(both[0].at, both[0].len, both[1].at, both[1].len, out.at, out.len, &fault);
+
+    if (len < 0) {
+        printf("%u %u %llu\n", fault.kind, fault.field, (unsigned long long)fault.offset);
+        refuses(joined, both, fault.kind, fault.field, fault.offset);
+    } else {
+        struct octets text = {.at = out.at, .len = (size_t)len};
+        writes(joined, both, text);
+        fwrite(out.at, 1, text.len, stdout);
+    }
+    release(out);
+    release(both[0]);
+    release(both[1]);
+}
+
+static void nulls(void)
+{
+    struct octets none[2] = {{.at = NULL}, {.at = NULL}}, nothing = {.at = (uint8_t *)""};
+    struct syslogbox_fault fault;
+    size_t start = 77, end = 78;
+    static const char nil[] = "<13>1 - - - - - -";
+    struct packet packet = {2003, 0, {.at = NULL}};
+
+    EXPECT(syslogbox_check(NULL, 0, &fault) == 0 && is_fault(fault, SYSLOGBOX_SYNTAX, SYSLOGBOX_PRIORITY, 0));
+    EXPECT(syslogbox_check(NULL, 0, NULL) == 0);
+    refuses(canonical, none, SYSLOGBOX_SYNTAX, SYSLOGBOX_PRIORITY, 0);
+    no_parts(none[0], (struct syslogbox_fault){SYSLOGBOX_SYNTAX, SYSLOGBOX_PRIORITY, 0});
+    writes(value, none, nothing);
+    EXPECT(syslogbox_frame(SYSLOGBOX_COUNTED, NULL, 0, &start, &end) == 0 && !start && !end);
+    EXPECT(syslogbox_frame(SYSLOGBOX_LF, NULL, 0, &start, &end) == 0 && !start && !end);
+    EXPECT(syslogbox_pass(SYSLOGBOX_COUNTED, NULL, 0, &start) == 0 && !start);
+    EXPECT(syslogbox_union(NULL, 0, NULL, 0, NULL, 0, &fault) == 0);
+    writes(joined, none, nothing);
+    writes(legacy, &packet, (struct octets){.at = (uint8_t *)nil, .len = sizeof nil - 1});
+}
+
+int main(int argc, char **argv)
+{
+    const char *mode = argc > 1 ? argv[1] : "";
+
+    if (!strcmp(mode, "records") && argc == 3) {
+        answers(argv[2], NULL);
+    } else if (!strcmp(mode, "legacy") && argc == 5) {
+        struct packet clock = {atoi(argv[2]), atoi(argv[3]), {.at = NULL}};
+        answers(argv[4], &clock);
+        no_clocks();
+    } else if (!strcmp(mode, "frames") && argc == 4) {
+        struct octets stream = of_file(argv[3]);
+        frames(atoi(argv[2]), stream);
+        passes(atoi(argv[2]), stream);
+        release(stream);
+    } else if (!strcmp(mode, "union") && argc == 4) {
+        unite(argv[2], argv[3]);
+    } else if (!strcmp(mode, "nulls")) {
+        nulls();
+    } else {
+        return 2;
+    }
+    return 0;
+}

@@ -1,0 +1,226 @@
+"""The commands on archives as sets: tables, files that cannot be read, calls that fail, and random archives, whole and broken,
+beside the second reader."""
+from random import Random
+
+from cases.commands import row
+from cases.mutated import mutations
+from cases.rows import A, EXAMPLE, HELLO, MARK, NIL, entries
+from lib import algebra as second
+from lib.faults import each_allocation, each_call
+from lib.reference import archive_text, canonical, read
+
+PAIRS = {"common": second.common, "minus": second.minus, "diff": second.diff}
+TIMES = ["-", "0000-01-01T00:00:00.000000Z", "1969-12-31T23:59:59.999999Z", "2026-11-24T23:59:59.999999Z",
+         "2026-11-25T00:00:00.000000Z", "2026-11-25T10:00:00.000000Z", "2026-11-25T10:59:59.999999Z", "2026-12-01T00:00:00.000000Z",
+         "9999-12-31T23:59:59.999999Z"]
+# records of all times, with what conditions ask for
+POOL = [canonical(read(f"<{priority}>1 {time} {words} {data}{message}".encode()))
+        for time in TIMES for priority, words, data, message in [
+            (0, "- - - -", "-", ""), (13, "h a 1 m", "[b]", " x"), (14, "h - - -", "[a k=\"v\"][b]", " \n"), (191, "g a - m", "-", " é"),
+            (30, "h b 2 -", "[-]", "")]]
+BOUNDS = [time for time in TIMES[1:]] + ["2026-11-25T01:00:00+01:00", "2026-11-25T10:30:00Z", "2026-11-25T10:30:00.5-00:30"]
+NOT_TIMES = ["", "-", "2026-11-25", "2026-11-25T10:00:00", "2026-11-25T10:00:00Zx", " 2026-11-25T10:00:00Z", "2026-02-29T10:00:00Z",
+             "9999-12-31T23:59:59-00:01", "0000-01-01T00:00:00+00:01", "2026-11-25t10:00:00z", "2026-11-25T10:00:60Z"]
+LATE = entries(canonical(read(b"<13>1 2026-11-25T10:30:00Z - - - - -")))
+
+# words, standard input, status, standard output, standard error (None: any text, but some)
+ON_INPUT = [
+    ("nothing is selected of the empty archive", ["select"], b"", 0, b"", b""),
+    ("all is selected without a condition", ["select"], entries(A), 0, entries(A), b""),
+    ("what begins at the instant", ["select", "--from", "2026-11-25T10:30:00Z"], LATE, 0, LATE, b""),
+    ("what begins behind it", ["select", "--from", "2026-11-25T10:30:00.000001Z"], LATE, 0, b"", b""),
+    ("what ends at the instant", ["select", "--to", "2026-11-25T10:30:00Z"], LATE, 0, b"", b""),
+    ("what ends behind it", ["select", "--to", "2026-11-25T10:30:00.000001Z"], LATE, 0, LATE, b""),
+    ("an empty range", ["select", "--from", TIMES[5], "--to", TIMES[4]], LATE, 0, b"", b""),
+    ("the digest of the empty archive", ["digest"], b"", 0, second.digest(b"")[1], b""),
+    *[("a time that is none", ["select", f"{bound}={time}"], b"x", 2, b"", None) for bound in ["--from", "--to"] for time in NOT_TIMES],
+    *[("a condition given twice", ["select", *(option * 2)], b"x", 2, b"", None)
+      for option in [["--from", TIMES[4]], ["--to", TIMES[4]], ["--undated"], ["--only-undated"], ["--severity", "err"],
+                     ["--facility", "kern"], ["--host", "h"], ["--app", "a"], ["--proc", "1"], ["--msgid", "m"], ["--id", "a"]]],
+    *[("undated alone, with a range", ["select", "--only-undated", bound, TIMES[4]], b"x", 2, b"", None) for bound in ["--from", "--to"]],
+    *[("a name that is none", ["select", option, name], b"x", 2, b"", None)
+      for option in ["--severity", "--facility"] for name in ["", "Err", "16", "error", "none"]],
+    *[("a period that is none", ["digest", "--by", name], b"x", 2, b"", None) for name in ["", "Day", "year", "week", "minute", "days"]],
+    *[("superfluous words", [command, "x"], b"x", 2, b"", None) for command in ["select", "digest"]],
+    *[("no archive", [command], b"x", 1, b"", b"bad-frame 0\n") for command in ["select", "digest"]],
+    *[("no archive behind an entry", [command], entries(A) + b"1 x", 1, output, b"bad-entry %d syntax priority 0\n" % len(entries(A)))
+      for command, output in [("select", entries(A)), ("digest", b"")]],
+]
+
+NOT_JSON = [["show", "--json=true"], ["show", "--json", "--json"], ["check", "--json"], ["convert", "--json"]]
+
+
+def tables(program, results, folder):
+    for case in ON_INPUT:
+        row(program, results, *case)
+    good = folder.file("good", entries(A))
+    for words in [["union"], ["union", *[good] * 513], *([name] for name in PAIRS), *([name, good] for name in PAIRS),
+                  *([name, good, good, good] for name in PAIRS), *([name, "--framing", "lf", good, good] for name in PAIRS)]:
+        seen = program.run(words)
+        results.check(f"words that are none: {words[:3]}", seen[:2] == (2, b"") and seen[2] != b"", str(seen))
+    for count in (1, 2, 3, 511, 512):
+        seen = program.run(["union", *[good] * count])
+        results.same(f"the union of {count} times one archive", seen, (0, entries(A), b""))
+    for words in NOT_JSON:
+        row(program, results, "JSON is asked for by a flag of show", words, HELLO, 2, b"", None)
+
+
+def files(program, results, folder):
+    """Names without a file, folders, and devices that are full."""
+    good, bad, none, folded = folder.file("good", entries(A)), folder.file("bad", b"x"), str(folder.path / "missing"), str(folder.path)
+    for name in PAIRS:
+        for words, notes in [([none, bad], b"left no file\n"), ([bad, none], b"right no file\n"), ([none, none], b"left no file\n"),
+                             ([folded, good], b"left read fault\n"), ([good, folded], b"right read fault\n")]:
+            results.same(f"{name}: {notes}", program.run([name, *words]), (2, b"", notes))
+    for words, notes in [([none], b"file 1 no file\n"), ([bad, good, none], b"file 3 no file\n"), ([good] * 511 + [none], b"file 512 no file\n"),
+                         ([folded, bad], b"file 1 read fault\n"), ([good, folded, bad], b"file 2 read fault\n")]:
+        results.same(f"union: {notes}", program.run(["union", *words]), (2, b"", notes))
+    with open("/dev/full", "wb") as full:
+        other = folder.file("other", entries(canonical(read(EXAMPLE))))
+        for words, octets in [(["union", good, other], b""), (["common", good, good], b""), (["minus", good, other], b""),
+                              (["diff", good, other], b""), (["select"], entries(A)), (["digest"], entries(A))]:
+            seen = program.run(words, octets, stdout=full)
+            results.check(f"{words[0]} to a full device", (seen[0], seen[2]) == (2, b"write fault\n"), str(seen))
+
+
+def calls(program, results, folder):
+    """Each growth of memory is refused in turn, and each open, read and write fails, is short or is interrupted in turn."""
+    random = Random(1)
+    left, right, third = (folder.file(name, archive_text(random.sample(POOL, 20))) for name in ("left", "right", "third"))
+    whole = archive_text(POOL)
+    runs = [(" ".join([name, "of two"]), [name, left, right], b"", [3, 4]) for name in PAIRS]
+    runs += [("union of three", ["union", left, right, third], b"", [3, 4, 5]),
+             ("union with what is none", ["union", left, folder.file("bad", b"x")], b"", [3, 4]),
+             ("select", ["select", "--host", "h", "--from", TIMES[3]], whole, [0]), ("digest", ["digest", "--by", "hour"], whole, [0]),
+             ("digest of what is none", ["digest"], whole + b"x", [0]), ("show --json", ["show", "--json", "--framing", "counted"], whole, [0])]
+    for run in runs:
+        each_allocation(program, results, *run[:3])
+        each_call(program, results, *run)
+
+
+def broken(random, text):
+    """The text with one octet less, more or changed, or cut off."""
+    at, kind = random.randrange(len(text) + 1), random.randrange(4)
+    if kind == 0:
+        return text[:at]
+    octet = bytes([random.choice(b"0123456789 <>-[]\n\x00\xff")])
+    return text[:at] + (octet if kind != 1 else b"") + text[at + (kind != 2):]
+
+
+def some_archive(random):
+    text = archive_text(random.sample(POOL, random.randrange(0, 9)))
+    return broken(random, text) if random.random() < 0.3 else text
+
+
+def some_conditions(random):
+    given = {}
+    if random.random() < 0.15:
+        given["only_undated"] = True
+    else:
+        given.update({name: random.choice(BOUNDS) for name in ("from", "to") if random.random() < 0.4})
+    for name, values in [("undated", [True]), ("severity", ["emerg", "err", "notice", "info", "debug"]), ("facility", ["kern", "user", "local7", "daemon"]),
+                         ("host", ["h", "g", "-", "x"]), ("app", ["a", "b", "-"]), ("proc", ["1", "2", "-"]), ("msgid", ["m", "-"]),
+                         ("id", ["a", "b", "-", "c"])]:
+        if random.random() < 0.15:
+            given[name] = random.choice(values)
+    return second.Conditions(**given)
+
+
+def random_archives(program, results, folder, rounds, seed=512):
+    """Random archives, some of them broken, through every command, beside the second reader."""
+    random = Random(seed)
+    for _ in range(rounds):
+        texts = [some_archive(random) for _ in range(3)]
+        names = [folder.file(f"random{n}", text) for n, text in enumerate(texts)]
+        for name, answer in PAIRS.items():
+            seen, right = program.run([name, *names[:2]]), answer(*texts[:2])
+            results.check(f"{name} of random archives", seen == right, f"{texts[:2]} {seen} {right}")
+        seen, right = program.run(["union", *names]), second.union(*texts)
+        results.check("union of random archives", seen == right, f"{texts} {seen} {right}")
+        conditions = some_conditions(random)
+        seen, right = program.run(["select", *conditions.words()], texts[0]), second.select(texts[0], conditions)
+        results.check(f"select {conditions.words()}", seen == right, f"{texts[0]} {seen} {right}")
+        by = random.choice(["month", "day", "hour"])
+        seen, right = program.run(["digest", "--by", by], texts[1]), second.digest(texts[1], by)
+        results.check(f"digest by {by}", seen == right, f"{texts[1]} {seen} {right}")
+
+
+def at_every_octet(program, results, folder):
+    """Two archives that are cut, and changed, at every octet."""
+    left, right = archive_text(POOL[2:12:3]), archive_text(POOL[3:13:2])
+    other = folder.file("other", right)
+    for at in range(len(left) + 1):
+        for text in (left[:at], left[:at] + b"~" + left[at + 1:]):
+            name = folder.file("changed", text)
+            for command, answer in PAIRS.items():
+                for words, texts in (([name, other], (text, right)), ([other, name], (right, text))):
+                    seen = program.run([command, *words])
+                    results.check(f"{command}, changed at {at}", seen == answer(*texts), f"{texts} {seen}")
+            for words, answer in (["select"], second.select(text, second.Conditions())), (["digest"], second.digest(text)):
+                results.check(f"{words[0]}, changed at {at}", program.run(words, text) == answer, str(text))
+
+
+def laws(program, results, folder):
+    """The laws on the program itself, over archives of many records."""
+    random = Random(7)
+    many = [canonical(read(b"<%d>1 2026-11-%02dT%02d:00:00Z h%d a - - - %d" % (n % 192, 1 + n % 28, n % 24, n % 7, n))) for n in range(6_000)]
+    texts = [archive_text(random.sample(many + POOL, 3_000)) for _ in range(3)]
+    a, b, c = (folder.file(f"law{n}", text) for n, text in enumerate(texts))
+
+    def of(*words):
+        status, output, notes = program.run(list(words))
+        results.check(f"{words[0]} of many ends well", status in (0, int(words[0] == "diff")) and notes == b"", f"{status} {notes}")
+        return folder.file(f"of{len(list(folder.path.iterdir()))}", output), output
+
+    both, alone = of("common", a, b), of("minus", a, b)
+    results.check("common and minus have nothing in common", of("common", both[0], alone[0])[1] == b"")
+    results.check("common and minus together are the left", of("union", both[0], alone[0])[1] == texts[0])
+    results.check("union is merge", of("union", a, b)[1] == of("merge", a, b)[1])
+    whole = of("union", a, b, c)[1]
+    results.check("in any order and grouping", {of("union", *some)[1] for some in [(c, b, a), (b, a, c), (of("union", a, b)[0], c), (a, of("union", c, b)[0])]} == {whole})
+    results.check("minus of equal archives is empty", of("minus", a, a)[1] == b"" == of("diff", a, a)[1])
+    results.check("diff tells each record of one", of("diff", a, b)[1] == second.diff(*texts[:2])[1])
+    for words in (["--host", "h3"], ["--from", TIMES[4], "--to", TIMES[7]], ["--severity", "err", "--undated", "--to", TIMES[5]]):
+        chosen = {name: folder.file(f"chosen{name}", program.run(["select", *words], text)[1]) for name, text in zip("ab", texts)}
+        for command in ("union", "common", "minus"):
+            apart = of(command, chosen["a"], chosen["b"])[1]
+            results.check(f"select distributes over {command}", program.run(["select", *words], of(command, a, b)[1])[1] == apart)
+    parts = [["--to", TIMES[4], "--undated"], ["--from", TIMES[4], "--to", TIMES[6]], ["--from", TIMES[6]]]
+    pieces = [b"".join(program.run(["select", *part], text)[1] for part in parts) for text in texts]
+    results.check("ranges one after the other are the archive", pieces == texts)
+    for by, name, words in [("month", "2026-11", ["--from", "2026-11-01T00:00:00Z", "--to", "2026-12-01T00:00:00Z"]),
+                            ("day", "2026-11-25", ["--from", "2026-11-25T00:00:00Z", "--to", "2026-11-26T00:00:00Z"]),
+                            ("hour", "2026-11-25T10", ["--from", TIMES[5], "--to", "2026-11-25T11:00:00Z"]), ("day", "undated", ["--only-undated"])]:
+        lines = program.run(["digest", "--by", by], whole)[1].splitlines(keepends=True)
+        chosen = program.run(["select", *words], whole)[1]
+        right = [line for line in lines if line.startswith(name.encode() + b" ")]
+        count = len(second.archive_read(chosen)[0])
+        results.check(f"the digest of {name} is that of its selection", right == [second.digest_line(name, second.archive_read(chosen)[0])], f"{right} {count}")
+
+
+def as_json(program, results, frames):
+    """Each record is one line of JSON; refused frames are told as `show` tells them."""
+    octets = entries(*frames)
+    outcomes = [read(frame) for frame in frames]
+    right = b"".join(second.record_json(one) for one in outcomes if not isinstance(one, bytes))
+    notes = b"".join(b"%d %b\n" % (n, one) for n, one in enumerate(outcomes, 1) if isinstance(one, bytes))
+    seen = program.run(["show", "--json", "--framing", "counted"], octets)
+    results.same("random records as JSON", seen, (int(notes != b""), right, notes))
+
+
+NOTHING = NIL + b"-"
+JSON_FRAMES = [
+    HELLO, EXAMPLE, A, NOTHING, NOTHING + b" ", NOTHING + b" \"\\/", NOTHING + b" " + bytes(range(128)), NOTHING + b" \xff\x00",
+    NOTHING + b" " + MARK, NOTHING + b" " + MARK + b"\xf0\x9d\x84\x9e\x7f", NIL + b"[b][a n=\"\" n=\"\\\"\\\\\\]\\x\" o=\"\x01\n\"] m",
+    NIL + b"[-] \xc3"]
+
+
+def algebra(program, results, rounds=700):
+    folder = program.folder
+    tables(program, results, folder)
+    files(program, results, folder)
+    calls(program, results, folder)
+    at_every_octet(program, results, folder)
+    random_archives(program, results, folder, rounds)
+    laws(program, results, folder)
+    as_json(program, results, [frame for frame in JSON_FRAMES + mutations(20_000) if frame])

@@ -1,0 +1,338 @@
+"""The library for other languages beside the program's answers: C under sanitizers, Python, and Go where it is there; over the
+rows and random octets, with rooms that are an octet too small, and with null pointers."""
+import ast
+import contextlib
+import doctest
+import importlib
+import io
+import logging
+import os
+import shutil
+import subprocess
+import sys
+from random import Random
+
+from cases.legacy import changed, forms, zone
+from cases.mutated import mutations
+from cases.rows import MERGED, RECORDS, REFUSED
+from lib import reference
+from lib.program import ROOT, run
+
+KINDS = {b"syntax": 1, b"instant-range": 2, b"repeated-id": 3, b"legacy-not-utf8": 4, b"bad-frame": 5, b"entry-too-long": 6,
+         b"bad-entry": 7, b"not-canonical": 8, b"not-ascending": 9}
+FIELDS = [b"", b"priority", b"version", b"timestamp", b"hostname", b"app-name", b"procid", b"msgid", b"structured-data", b"message",
+          b"left", b"right"]
+SANITIZED = ["-g", "-O1", "-fsanitize=address,undefined", "-fno-sanitize-recover=all", "-Wall", "-Wextra", "-Werror"]
+COUNT = 100_000
+
+
+def numbers(told):
+    """The numbers of a fault as the program tells it: kind, field and octet."""
+    words = told.split()
+    if words[0] in FIELDS:
+        return KINDS[words[1]], FIELDS.index(words[0]), int(words[2])
+    field = FIELDS.index(words[1]) if words[0] == b"syntax" else 0
+    return KINDS[words[0]], field, int(words[-1])
+
+
+def of_program(program, frames, *clock):
+    """What the program answers of each frame: its canonical octets, or the numbers of its fault."""
+    status, output, notes = program.run(["convert", "--framing", "counted", *clock], reference.counted(frames))
+    refused = dict((int(n), numbers(told)) for n, told in (line.split(b" ", 1) for line in notes.splitlines()))
+    given = iter(reference.counted_frames(output)[0])
+    answers = [refused[n] if n in refused else next(given) for n in range(1, len(frames) + 1)]
+    return answers if status < 2 and next(given, None) is None else None
+
+
+def written(folder, name, frames, answers):
+    """A file of frames and their answers, as tests/bindings/calls.c and the test in Go read them."""
+    lines = (f"{frame.hex()} " + (f"ok {answer.hex()}" if isinstance(answer, bytes) else "{} {} {}".format(*answer))
+             for frame, answer in zip(frames, answers))
+    return folder.file(name, "".join(line + "\n" for line in lines).encode())
+
+
+def known(program):
+    """The rows and random octets, with the program's answers; of a frame that is too long the library knows nothing."""
+    rows = [(record, form) for _, record, form in RECORDS]
+    rows += [(octets, numbers(told)) for _, octets, told in REFUSED if told != b"too-long"]
+    random = Random(7)
+    frames = mutations(COUNT // 2) + [random.randbytes(1 + random.randrange(60)) for _ in range(COUNT // 2)]
+    return [row[0] for row in rows] + frames, [row[1] for row in rows] + of_program(program, frames)
+
+
+def compiled(folder, name, sources, *words):
+    """A program in C over the static library."""
+    path = folder.path / name
+    library = [ROOT / "build/libsyslogbox.a"]
+    status, _, notes = run("gcc", ["-I", ROOT / "include", *words, "-o", path, *sources, *library])
+    return str(path), status == 0, notes.decode(errors="replace")
+
+
+def in_c(program, results, folder, frames, answers):
+    calls, built, said = compiled(folder, "calls", [ROOT / "tests/bindings/calls.c"], *SANITIZED)
+    results.check("C: the calls are compiled", built, said)
+    if not built:
+        return
+    records = written(folder, "records", frames, answers)
+    results.same("C: records", run(calls, ["records", records]), (0, b"", b""))
+    results.same("C: null pointers", run(calls, ["nulls"]), (0, b"", b""))
+    for year, minutes in [(2024, 60), (2003, -480), (1, 1_439), (9_998, -1_439)]:
+        some = [packet for packet in changed(Random(year), 2_000) if packet] + [packet for *_, packet, _ in forms() if packet]
+        told = of_program(program, some, "--legacy", str(year), "--zone", zone(minutes))
+        packed = written(folder, "packets", some, told)
+        results.same(f"C: packets of {year}", run(calls, ["legacy", str(year), str(minutes), packed]), (0, b"", b""))
+    streams(program, results, folder, calls, frames)
+    unions(program, results, folder, calls)
+
+
+def streams(program, results, folder, calls, frames):
+    """Streams in both framings, whole, cut off and with a bad count: what `check` prints of each frame."""
+    some = frames[:2_000] + [b"x" * 300_000] + frames[-500:]
+    counted, lines = (b"".join(reference.framed(framing, frame) for frame in some if frame) for framing in ("counted", "lf"))
+    for number, framing, stream in [(1, "counted", counted), (2, "lf", lines), (1, "counted", b""), (2, "lf", b""),
+                                    (1, "counted", counted[:-3]), (2, "lf", lines + b"x"), (1, "counted", counted + b"12x"),
+                                    (1, "counted", counted + b"12")]:
+        right = program.run(["check", "--framing", framing], stream)[1]
+        seen = run(calls, ["frames", str(number), folder.file("stream", stream)])
+        results.same(f"C: a stream of {len(stream)} octets, {framing}", seen, (0, right, b""))
+
+
+def archives(program):
+    """Pairs of archives, and of what is none."""
+    random = Random(11)
+    pool = [frame for frame in mutations(600) if b"\n" not in frame]
+    for size in [0, 1, 2, 5, 30, 200]:
+        yield [program.run(["archive", "--framing", "counted"], reference.counted(random.choices(pool, k=size)))[1]
+               for _ in range(2)]
+    yield from ((left, right) for _, left, right, *_ in MERGED)
+
+
+def unions(program, results, folder, calls):
+    for left, right in archives(program):
+        names = folder.file("left", left), folder.file("right", right)
+        status, output, notes = program.run(["merge", *names])
+        seen = run(calls, ["union", *names])
+        if status == 0:
+            results.same(f"C: a union of {len(left)} and {len(right)} octets", seen, (0, output, b""))
+            continue
+        # the library reads the left archive to its end before the right one
+        alone = program.run(["merge", names[0], folder.file("none", b"")])[2] or notes
+        told = "{} {} {}\n".format(*numbers(alone)).encode()
+        results.same(f"C: no union of {left[:40]!r} and {right[:40]!r}", seen, (0, told, b""))
+
+
+# ---- Python
+
+class Pieces(io.RawIOBase):
+    """A file that gives random pieces."""
+
+    def __init__(self, octets, seed):
+        super().__init__()
+        self.octets, self.at, self.random = octets, 0, Random(seed)
+
+    def read1(self, size):
+        some = self.octets[self.at:self.at + min(size, self.random.choice([1, 2, 7, 100, 5_000, 70_000]))]
+        self.at += len(some)
+        return some
+
+
+def python_module():
+    os.environ["SYSLOGBOX_LIBRARY"] = str(ROOT / "build/libsyslogbox.so.0")
+    sys.path.insert(0, str(ROOT / "python"))
+    return importlib.import_module("syslogbox")
+
+
+def answer_of(module, record):
+    try:
+        module.check(record)
+        return module.canonical(record)
+    except module.RecordError as refused:
+        return int(refused.kind), int(refused.field), refused.offset
+
+
+def in_python(program, results, folder, frames, answers):
+    module = python_module()
+    wrong = next((f"{frame!r}" for frame, right in zip(frames, answers) if answer_of(module, frame) != right), "")
+    results.check("Python: records", not wrong, wrong)
+    right = sum(isinstance(answer, bytes) for answer in answers)
+    results.check("Python: is_record", sum(map(module.is_record, frames)) == right)
+    some = [frame for frame, answer in zip(frames, answers) if isinstance(answer, bytes)]
+    shown = next((f"{frame!r}" for frame in some[:20_000] if not same_parts(module.view(frame), reference.read(frame))), "")
+    results.check("Python: parts", not shown, shown)
+    for year, minutes, packet, form in forms():
+        results.check(f"Python: a legacy packet {packet!r}", module.legacy(packet, year, minutes) == form)
+    for call, kind in [(lambda: module.legacy(b"x", 10_000), "BAD_CLOCK"), (lambda: module.legacy(b"x", 2 ** 40), "BAD_CLOCK"),
+                       (lambda: module.legacy(b"\xef\xbb\xbf\xff", 2024), "NOT_UTF8"), (lambda: module.union(b"", b"x"), "BAD_FRAME"),
+                       (lambda: module.legacy(b"<0>1 ", 2024), "SYNTAX"), (lambda: module.canonical(b""), "SYNTAX")]:
+        results.check(f"Python: {kind} is raised", kind_of(module, call) == kind)
+    for left, right in archives(program):
+        status, output, _ = program.run(["merge", folder.file("left", left), folder.file("right", right)])
+        if status == 0:
+            results.check(f"Python: a union of {len(left)} and {len(right)} octets", module.union(left, right) == output)
+    results.check("Python: the module's examples", doctest.testmod(module).failed == 0)
+    python_streams(results, module, some)
+    python_checks(results, module, frames, answers)
+    python_logging(program, results, folder, module)
+
+
+def python_checks(results, module, frames, answers):
+    """The frames of a whole stream that are no records, and how it ends."""
+    stream = reference.counted(frame for frame in frames if frame)
+    some = [answer for frame, answer in zip(frames, answers) if frame]
+    right = [(n, *answer) for n, answer in enumerate(some, 1) if not isinstance(answer, bytes)]
+    seen = [(n, fault.kind, fault.field, fault.offset) for n, fault in module.check_stream(stream)]
+    results.check("Python: a whole stream is checked", seen == right, f"{len(seen)} for {len(right)}")
+    for octets, kind, at in [(b"12", "UNTERMINATED", 0), (b"12x", "BAD_COUNT", 2)]:
+        try:
+            fault = len(list(module.check_stream(stream + octets)))
+        except module.StreamError as told:
+            fault = told.kind.name, told.offset
+        results.check(f"Python: {kind} of a whole stream", fault == (kind, len(stream) + at), str(fault))
+    lines = [frame for frame in frames[:2_000] if b"\n" not in frame]
+    count = sum(not module.is_record(line) for line in lines)
+    seen = list(module.check_stream(b"".join(line + b"\n" for line in lines), module.Framing.LF))
+    results.check("Python: lines are checked", len(seen) == count, f"{len(seen)} for {count}")
+
+
+def kind_of(module, call):
+    try:
+        return call()
+    except module.SyslogError as refused:
+        return refused.kind.name
+
+
+def same_parts(seen, right):
+    """The parts of a record beside those of the second reader."""
+    words = [word.encode() if word is not None else None for word in (seen.hostname, seen.app_name, seen.proc_id, seen.msg_id)]
+    data = sorted((element.id.encode(), [(name.encode(), value.encode()) for name, value in element.params])
+                  for element in seen.elements)
+    return (seen.priority, seen.micros, words, data, seen.message, seen.bom) == parts_of(right)
+
+
+def parts_of(record):
+    bom = record.message.startswith(reference.MARK)
+    words = [None if word == b"-" else word for word in record.words]
+    return record.priority, record.micros, words, record.elements, record.message[3 * bom:], bom
+
+
+def python_streams(results, module, records):
+    some = [record for record in records[:3_000] if b"\n" not in record and record] + [b"x" * 262_144, b"y"]
+    for framing, name in [(module.Framing.COUNTED, "counted"), (module.Framing.LF, "lf")]:
+        stream = b"".join(reference.framed(name, record) for record in some)
+        for seed in range(3):
+            results.check(f"Python: frames in pieces, {name}", list(module.frames(Pieces(stream, seed), framing)) == some)
+        long, told = reference.framed(name, b"z" * 300_000), []
+        for seed in range(3):
+            seen = list(module.frames(Pieces(stream + long + stream, seed), framing, too_long=told.append))
+            results.check(f"Python: a frame that is too long is passed over, {name}", seen == some + some)
+        results.check(f"Python: its position is told, {name}", told == [len(stream)] * 3, str(told))
+        for octets, kind, at in [(stream + long, "TOO_LONG", len(stream)), (stream + framed_part(name), "UNTERMINATED", len(stream))]:
+            fault = fault_of(module, octets, framing)
+            results.check(f"Python: {kind} of a stream, {name}", fault == (kind, at), str(fault))
+    fault = fault_of(module, b"1 a12x", module.Framing.COUNTED)
+    results.check("Python: BAD_COUNT of a stream", fault == ("BAD_COUNT", 5), str(fault))
+
+
+def framed_part(name):
+    return b"9 abc" if name == "counted" else b"abc"
+
+
+def fault_of(module, octets, framing):
+    try:
+        for _ in module.frames(io.BytesIO(octets), framing):
+            pass
+        return None
+    except module.StreamError as fault:
+        return fault.kind.name, fault.offset
+
+
+def python_logging(program, results, folder, module):
+    """What a logger writes is canonical, and says what was logged."""
+    for framing, name in [(module.Framing.COUNTED, "counted"), (module.Framing.LF, "lf")]:
+        sink = io.BytesIO()
+        logger = logging.Logger("a logger=with]\"marks" * 3)
+        logger.addHandler(module.Handler(sink, framing, formatter=module.Formatter("app", facility=4, hostname="höst")))
+        for level in [logging.DEBUG, logging.INFO, logging.WARNING, logging.ERROR, logging.CRITICAL]:
+            logger.log(level, "größe %d \"x\"\\]\n", level, extra={"structured_data": {"b@1": {"k": 'v"]\\', "k=": level}, "a": {}}})
+        with contextlib.suppress(ZeroDivisionError):
+            try:
+                raise ZeroDivisionError
+            finally:
+                logger.exception("failed")
+        octets = sink.getvalue()
+        status, output, notes = program.run(["convert", "--framing", name], octets)
+        results.check(f"Python: what is logged is canonical, {name}", (status, output, notes) == (0, octets, b""), notes)
+        records = [module.view(frame) for frame in module.frames(io.BytesIO(octets), framing)]
+        seen = [(record.severity, record.facility, record.app_name, record.hostname) for record in records]
+        right = [(severity, 4, "app", "h_st") for severity in [7, 6, 4, 3, 2, 3]]
+        results.check(f"Python: severities and names, {name}", seen == right, str(seen))
+        results.check(f"Python: elements, {name}", [element.id for element in records[0].elements] == ["a", "b@1"]
+                      and records[0].elements[1].params[0] == ("k", 'v"]\\'))
+
+
+def installed(results, folder):
+    """`pip install ./python` without network, into a folder of its own, where the module finds its library."""
+    if run(sys.executable, ["-m", "pip", "--version"])[0]:
+        print("SKIPPED pip install: there is no pip")
+        return
+    to = folder.path / "site"
+    status, _, notes = run(sys.executable, ["-m", "pip", "install", "--no-index", "--quiet", "--target", to, ROOT / "python"])
+    results.check("Python: pip install ./python", status == 0, notes[-300:])
+    program = "import syslogbox; print(syslogbox.is_record(b'<0>1 - - - - - -'))"
+    seen = run(sys.executable, ["-c", program], environment={"PYTHONPATH": str(to), "SYSLOGBOX_LIBRARY": ""})
+    results.same("Python: what was installed runs", seen, (0, b"True\n", b""))
+
+
+# ---- Go, and the examples
+
+def in_go(results, folder, frames, answers):
+    if not shutil.which("go"):
+        print("SKIPPED the package in Go: there is no go")
+        return
+    to = folder.path / "prefix"
+    subprocess.run(["sh", "scripts/library.sh", to], cwd=ROOT, check=True, stdout=subprocess.DEVNULL)
+    subprocess.run(["sh", "scripts/install-library.sh", to], cwd=ROOT, check=True)
+    environment = {"PKG_CONFIG_PATH": str(to / "lib/pkgconfig"), "LD_LIBRARY_PATH": str(to / "lib"), "GOFLAGS": "-mod=mod",
+                   "SYSLOGBOX_ANSWERS": written(folder, "records", frames, answers)}
+    status, output, notes = run("go", ["test", "-count=1", "./..."], environment=environment, cwd=ROOT / "go")
+    results.check("Go: its tests pass", status == 0, (output + notes)[-400:].decode(errors="replace"))
+
+
+def examples(program, results, folder, frames):
+    some = [frame for frame in frames[:3_000] if frame and b"\n" not in frame]
+    path, built, said = compiled(folder, "drop_refused", [ROOT / "examples/drop_refused.c"], *SANITIZED)
+    results.check("the example in C is compiled", built, said)
+    for framing in ["counted", "lf"]:
+        stream = b"".join(reference.framed(framing, frame) for frame in some)
+        lines = program.run(["check", "--framing", framing], stream)[1].splitlines()
+        right = b"".join(reference.framed(framing, frame) for frame, line in zip(some, lines) if line.endswith(b" ok"))
+        status, output, notes = run(path, [framing], stream)
+        refused = sum(not line.endswith(b" ok") for line in lines)
+        results.check(f"the example in C drops refused frames, {framing}",
+                      (status, output, notes.count(b"\n")) == (1, right, refused), f"{status} {len(output)} {notes[:100]!r}")
+    archive = program.run(["archive", "--framing", "counted"], reference.counted(some))[1]
+    environment = {"PYTHONPATH": str(ROOT / "python"), "SYSLOGBOX_LIBRARY": str(ROOT / "build/libsyslogbox.so.0")}
+    script = [ROOT / "examples/archive_to_dicts.py", folder.file("archive", archive)]
+    status, output, notes = run(sys.executable, script, environment=environment)
+    dicts = ast.literal_eval(output.decode()) if status == 0 else []
+    read = [reference.read(entry) for entry in reference.archive_read(archive)[0]]
+    same = [(one["priority"], one["micros"]) for one in dicts] == [parts_of(one)[:2] for one in read]
+    results.check("the example in Python reads an archive", status == 0 and len(dicts) > 100 and same, notes[-300:])
+    status, _, notes = run(sys.executable, [script[0], folder.file("archive", b"x")], environment=environment)
+    results.check("the example in Python tells a fault", status == 1 and b"octet 0" in notes, notes)
+
+
+def bindings(program, results):
+    status, _, notes = run("make", ["-s", "lib"], cwd=ROOT)
+    results.check("make lib", status == 0, notes.decode(errors="replace"))
+    if status:
+        return
+    frames, answers = known(program)
+    exported = run("nm", ["-D", "--defined-only", ROOT / "build/libsyslogbox.so.0"])[1].split()[2::3]
+    calls = sorted(f"syslogbox_{name}".encode() for name in "canonical check element frame legacy param pass union value view".split())
+    results.check("the shared library has the header's calls alone", sorted(exported) == calls, str(exported))
+    in_c(program, results, program.folder, frames, answers)
+    in_python(program, results, program.folder, frames, answers)
+    installed(results, program.folder)
+    examples(program, results, program.folder, frames)
+    in_go(results, program.folder, frames, answers)

@@ -1,0 +1,151 @@
+"""What the commands on archives as sets answer, by the second reader: `union`, `common`, `minus`, `diff`, `select`, `digest`,
+and the lines of `show --json`. Each answers status, output and notes."""
+import base64
+import hashlib
+import json
+from datetime import date
+
+from lib.reference import (EPOCH, CYCLE, FACILITIES, MARK, SEVERITIES, Record, archive_read, archive_text, instant, is_utf8, place,
+                           read, shown, timestamp)
+
+
+def met(texts):
+    """The fronts of archives, the greatest place up to which they are written, and which fault is met first, if one is."""
+    fronts, faults = zip(*(archive_read(text) for text in texts))
+    last = [place(front[-1]) if front else None for front in fronts]
+    faulty = [n for n, fault in enumerate(faults) if fault]
+    if not faulty:
+        return fronts, None, None
+    # an empty front is below all; of equal ones the first input is met first
+    n = min(faulty, key=lambda n: (last[n] is not None, last[n] or (), n))
+    cut = [[one for one in front if last[n] is not None and place(one) <= last[n]] for front in fronts]
+    return cut, n, faults[n]
+
+
+def joined(texts, kept, names, refused=1):
+    """The answer where `kept` says what is written of the fronts, and `names` how the inputs are told."""
+    fronts, n, fault = met(texts)
+    output = kept(*map(set, fronts))
+    if fault is None:
+        return 0, output, b""
+    return refused, output, f"{names(n)}{fault}\n".encode()
+
+
+def sides(n):
+    return ["left ", "right "][n]
+
+
+def union(*texts):
+    return joined(texts, lambda *sets: archive_text(set().union(*sets)), lambda n: f"file {n + 1} ")
+
+
+def common(left, right):
+    return joined((left, right), lambda xs, ys: archive_text(xs & ys), sides)
+
+
+def minus(left, right):
+    return joined((left, right), lambda xs, ys: archive_text(xs - ys), sides)
+
+
+def diff_lines(xs, ys):
+    return b"".join((b"< " if one in xs else b"> ") + shown(one) + b"\n" for one in sorted(xs ^ ys, key=place))
+
+
+def diff(left, right):
+    status, output, notes = joined((left, right), diff_lines, sides, 2)
+    return (status or int(output != b""), output, notes)
+
+
+# ---------------------------------------------------------------- one archive
+
+class Conditions:
+    """The conditions of `select`, None where one is not given. A word that is `-` means none."""
+
+    def __init__(self, **given):
+        self.given = given
+
+    def words(self):
+        """The words of the command line."""
+        words = []
+        for name, value in self.given.items():
+            words += [f"--{name.replace('_', '-')}"] if value is True else [f"--{name}", value]
+        return words
+
+    def hold(self, octets):
+        record, given = read(octets), self.given
+        assert isinstance(record, Record)
+        begin, end = (instant(given[name].encode()) if name in given else None for name in ("from", "to"))
+        if record.micros is None:
+            if (begin is not None or end is not None) and not given.get("undated"):
+                return False
+        elif given.get("only_undated") or begin is not None and record.micros < begin or end is not None and record.micros >= end:
+            return False
+        if "severity" in given and record.priority % 8 > SEVERITIES.index(given["severity"]):
+            return False
+        if "facility" in given and record.priority // 8 != FACILITIES.index(given["facility"]):
+            return False
+        for n, name in enumerate(["host", "app", "proc", "msgid"]):
+            if name in given and record.words[n] != given[name].encode():
+                return False
+        return "id" not in given or given["id"].encode() in [name for name, _ in record.came]
+
+
+def select(text, conditions):
+    return joined([text], lambda xs: archive_text(one for one in xs if conditions.hold(one)), lambda n: "")
+
+
+def period_of(octets, by):
+    time = octets.split(b" ", 2)[1]
+    return "undated" if time == b"-" else time[:{"month": 7, "day": 10, "hour": 13}[by]].decode()
+
+
+def digest_line(name, records):
+    text = archive_text(records)
+    return f"{name} {len(records)} {len(text)} {hashlib.sha256(text).hexdigest()}\n".encode()
+
+
+def digest(text, by="day"):
+    records, fault = archive_read(text)
+    periods = {}
+    for one in records:
+        periods.setdefault(period_of(one, by), []).append(one)
+    if fault and periods:
+        del periods[period_of(records[-1], by)]
+    lines = b"".join(digest_line(name, part) for name, part in periods.items())
+    return (1, lines, f"{fault}\n".encode()) if fault else (0, lines + digest_line("total", records), b"")
+
+
+# ---------------------------------------------------------------- JSON
+
+ESCAPES = {'"': '\\"', "\\": "\\\\", "\b": "\\b", "\t": "\\t", "\n": "\\n", "\f": "\\f", "\r": "\\r"}
+
+
+def text_json(text):
+    return '"' + "".join(ESCAPES.get(one) or (f"\\u{ord(one):04x}" if ord(one) < 32 else one) for one in text) + '"'
+
+
+def word_json(word):
+    return "null" if word == b"-" else text_json(word.decode())
+
+
+def record_json(record):
+    """The line of a record."""
+    pairs = [("priority", str(record.priority)), ("facility", text_json(FACILITIES[record.priority // 8])),
+             ("severity", text_json(SEVERITIES[record.priority % 8])),
+             ("time", "null" if record.micros is None else text_json(timestamp(record.micros).decode()))]
+    pairs += zip(["host", "app", "proc", "msgid"], map(word_json, record.words))
+    data = ",".join(text_json(name.decode()) + ":[" + ",".join(
+        f"[{text_json(param.decode())},{text_json(value.decode())}]" for param, value in params) + "]"
+        for name, params in record.elements)
+    pairs.append(("data", "{" + data + "}"))
+    marked = record.message.startswith(MARK)
+    message = record.message[3:] if marked else record.message
+    if is_utf8(message):
+        pairs.append(("message", text_json(message.decode())))
+    else:
+        pairs.append(("message_base64", text_json(base64.b64encode(message).decode())))
+    if marked:
+        pairs.append(("bom", "true"))
+    line = "{" + ",".join(f'"{name}":{value}' for name, value in pairs) + "}"
+    json.loads(line)
+    return line.encode() + b"\n"
