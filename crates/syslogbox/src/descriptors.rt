@@ -48,7 +48,9 @@ fn is_for_reading_alone(rt: &HostRuntime) -> bool {
     let Ok(n) = info.read(&mut text) else {
         return false;
     };
-    text[..n].split(|octet| *octet == b'\n').any(says_reading_alone)
+    text[..n]
+        .split(|octet| *octet == b'\n')
+        .any(says_reading_alone)
 }
 
 /// Whether the standard output can be written at all: its descriptor is open for writing, and

@@ -20,7 +20,7 @@ put_front-requires-clause-time c = (_, time_follows c.args.octets.now _ c.args.p
 pub returns-then-has_time_form : goal.returns-then-has_time_form
 returns-then-has_time_form c =
     puts_as (Only c.args.octets.now) (VerbatimForm
-        (shown_parts c.args.parsed (option_map (λ t. instant (time_of t)) c.args.parsed.fields.time))) c.args.out.now.items
+    (shown_parts c.args.parsed (option_map (λ t. instant (time_of t)) c.args.parsed.fields.time))) c.args.out.now.items
     c.put.new.out.items c.put.result
     (λ s e. rw e (whole_verbatim c.args.octets.now c.split_at.result.1.now c.args.parsed _
     c.requires.parsed c.split_at.ensures.back refl (c.has_time_form.ensures.0 c.if-has_time_form.true)))
