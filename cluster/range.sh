@@ -1,0 +1,65 @@
+#!/usr/bin/env bash
+# One range of all inputs, as WORK/plan has it: WORK/ranges/NUMBER, the archive of their records in it.
+# usage: range.sh WORK NUMBER
+#
+# The octets of the range are copied out of each input, `union` joins them, and `select` has to let all of the result
+# through. So each piece of an input is an archive of records of its range; and since the pieces of an input are all of
+# it, no record was cut, lost or put into another range, whatever the places of the cuts rest on.
+#
+# The result has its name only when it is whole. Pieces are in TMPDIR (/tmp); SYSLOGBOX names the program.
+set -euo pipefail
+export LC_ALL=C
+program=${SYSLOGBOX:-syslogbox}
+work=$1
+name=$(printf %05d "$2")
+out=$work/ranges/$name
+
+die() {
+    echo "range $name: $1" >&2
+    exit 1
+}
+
+if [[ -e $out ]]; then
+    echo "range $name: is there" >&2
+    exit 0
+fi
+room=$(mktemp -d "${TMPDIR:-/tmp}/range.$name.XXXXXX")
+part=$(mktemp "$work/ranges/.$name.XXXXXX")
+trap 'rm -rf "$room" "$part"' EXIT
+
+failed="union failed; its files are those of $work/plan/$name, in this order"
+pieces=()
+{
+    IFS=' ' read -r -a conditions
+    while IFS=' ' read -r begin count size path; do
+        piece=$room/${#pieces[@]}
+        if ((count == size)); then
+            piece=$path
+        else
+            dd if="$path" of="$piece" bs=1M iflag=skip_bytes,count_bytes,fullblock skip="$begin" count="$count" status=none
+        fi
+        [[ $(stat -L -c %s "$path") -eq $size ]] || die "$path has changed"
+        pieces+=("$piece")
+    done
+} < "$work/plan/$name"
+
+# union opens 512 files at most
+for ((round = 0; ${#pieces[@]} > 512; round++)); do
+    joined=()
+    for ((at = 0; at < ${#pieces[@]}; at += 512)); do
+        "$program" union "${pieces[@]:at:512}" > "$room/$round.$at" || die "$failed"
+        joined+=("$room/$round.$at")
+    done
+    pieces=("${joined[@]}")
+done
+if ((${#pieces[@]})); then
+    "$program" union "${pieces[@]}" > "$part" || die "$failed"
+    # shellcheck disable=SC2094  # both read
+    "$program" select "${conditions[@]}" < "$part" | cmp - "$part" || die "an input is cut wrongly; see plan.py --walk"
+fi
+chmod '=rw' "$part"
+sync "$part"
+mv -T "$part" "$out"
+there=("$work"/ranges/?????)
+all=("$work"/plan/?????)
+echo "range $name: $(stat -c %s "$out") octets; ${#there[@]} of ${#all[@]} are there" >&2

@@ -1,0 +1,40 @@
+#!/usr/bin/env bash
+# The archive of the records of many archives, by Slurm: a plan, an array of ranges behind it, and their concatenation
+# behind that. usage: slurm/union.sh LIST OUT RANGES [JOBS]
+#
+# LIST has the name of an archive in each line. It, the archives, this folder and OUT are in a file system that all nodes
+# share. JOBS ranges run at once, by default as many as there is room for. RANGES are at most one less than MaxArraySize
+# of slurm.conf. What is done is in OUT.work, with the logs of the jobs; a run that failed goes on from there when it is
+# run again; remove the folder when OUT is there. Options for sbatch, as a partition, come by its variables (SBATCH_..).
+set -euo pipefail
+if (($# < 3 || $# > 4)); then
+    echo "usage: slurm/union.sh LIST OUT RANGES [JOBS]" >&2
+    exit 2
+fi
+here=$(dirname "$(realpath "$0")")
+list=$(realpath "$1")
+out=$(realpath -m "$2")
+work=$out.work
+ranges=$3
+array=0-$ranges${4:+%$4}
+
+mkdir -p "$work/logs"
+submit() {
+    sbatch --parsable --output "$work/logs/%x.%A.%a" --kill-on-invalid-dep=yes "$@"
+}
+plan=$(submit --job-name plan "$here/task.sh" "$here/../plan.py" "$list" "$work" "$ranges")
+joined=$(submit --job-name range --dependency "afterok:$plan" --array "$array" "$here/task.sh" "$here/../range.sh" "$work")
+echo "jobs $plan and $joined, and the last one:" >&2
+submit --job-name concat --dependency "afterok:$joined" --wait "$here/task.sh" "$here/../concat.sh" "$work" "$out" &
+waiting=$!
+
+# the jobs go on where this is stopped
+while kill -0 "$waiting" 2> /dev/null; do
+    sleep 2
+    there=$(find "$work/ranges" -name '[0-9]*' 2> /dev/null | wc -l)
+    echo "$there of $((ranges + 1)) ranges are there" >&2
+done
+if ! wait "$waiting"; then
+    echo "a job failed; see $work/logs" >&2
+    exit 1
+fi
