@@ -28,15 +28,15 @@ def main() -> None:
     words = argparse.ArgumentParser(description=__doc__, formatter_class=argparse.RawDescriptionHelpFormatter)
     words.add_argument("list", metavar="LIST", help="a file with the name of an archive in each line")
     words.add_argument("out", metavar="OUT", type=Path)
+    words.add_argument("ranges", metavar="RANGES", type=int, help="best some four for each thread of a worker")
     words.add_argument("scheduler", metavar="SCHEDULER", help="its address, as tcp://192.0.2.1:8786")
-    words.add_argument("--ranges", type=int, default=0, help="by default four for each thread of a worker")
     given = words.parse_args()
     out = given.out.resolve()
     work = f"{out}.work"
     with Client(given.scheduler) as client:
-        ranges = given.ranges or 4 * sum(client.nthreads().values())
-        run("plan.py", given.list, work, str(ranges))
-        tasks = [client.submit(run, "range.sh", work, str(number), pure=False, retries=3) for number in range(ranges + 1)]
+        run("plan.py", given.list, work, str(given.ranges))
+        tasks = [client.submit(run, "range.sh", work, str(number), pure=False, retries=3)
+                 for number in range(given.ranges + 1)]
         for task in as_completed(tasks):
             print(task.result(), file=sys.stderr)
     print(run("concat.sh", work, str(out)), file=sys.stderr)

@@ -1,8 +1,8 @@
 """Finds entries in an archive without reading all of it.
 
-An entry is known by its length, its front, and FOLLOWING more behind it. A message can imitate that, so what is found is
-only a guess, which range.sh has checked. Where it is wrong, `walk` passes over the archive from its first entry on: that
-cannot be misled, and takes about a microsecond a record and eight octets of memory.
+An entry is known by its length, its front, and FOLLOWING more behind it. A message can imitate that, so what is found
+is only a guess, which range.sh has checked. Where it is wrong, `walk` passes over the archive from its first entry on:
+that cannot be misled, and takes about a microsecond a record and eight octets of memory.
 """
 import os
 import re

@@ -62,6 +62,8 @@ def main() -> None:
     words.add_argument("--walk", action="store_true", help="read all entries, where a message imitates them")
     given = words.parse_args()
     paths = [os.path.abspath(path) for path in given.list.read_text().splitlines()]
+    if not paths or not 0 < given.ranges < 100_000:
+        sys.exit("plan.py: at least one archive in LIST, and 1 to 99,999 ranges")
     asked = "".join(f"{line}\n" for line in (f"{given.ranges} ranges", *paths))
     (given.work / "ranges").mkdir(parents=True, exist_ok=True)
     if not (given.work / "plan").exists():

@@ -36,7 +36,8 @@ pieces=()
         if ((count == size)); then
             piece=$path
         else
-            dd if="$path" of="$piece" bs=1M iflag=skip_bytes,count_bytes,fullblock skip="$begin" count="$count" status=none
+            dd if="$path" of="$piece" bs=1M status=none \
+                iflag=skip_bytes,count_bytes,fullblock skip="$begin" count="$count"
         fi
         [[ $(stat -L -c %s "$path") -eq $size ]] || die "$path has changed"
         pieces+=("$piece")
@@ -54,8 +55,8 @@ for ((round = 0; ${#pieces[@]} > 512; round++)); do
 done
 if ((${#pieces[@]})); then
     "$program" union "${pieces[@]}" > "$part" || die "$failed"
-    # shellcheck disable=SC2094  # both read
-    "$program" select "${conditions[@]}" < "$part" | cmp - "$part" || die "an input is cut wrongly; see plan.py --walk"
+    passed=$("$program" select "${conditions[@]}" < "$part" | wc -c)
+    ((passed == $(stat -c %s "$part"))) || die "an input is cut wrongly; see plan.py --walk"
 fi
 chmod '=rw' "$part"
 sync "$part"

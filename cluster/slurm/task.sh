@@ -1,6 +1,6 @@
 #!/usr/bin/env bash
-# A job of slurm/union.sh: a program with its words and, in an array, the number of the task. One that fails, as where it
-# was killed, is put into the queue again, at most three times.
+# A job of slurm/union.sh: a program with its words and, in an array, the number of the task. One that fails, as where
+# it was killed, is put into the queue again, at most three times.
 #SBATCH --ntasks=1
 #SBATCH --cpus-per-task=1
 #SBATCH --requeue

@@ -2,9 +2,9 @@
 # The archive of the records of many archives, by Slurm: a plan, an array of ranges behind it, and their concatenation
 # behind that. usage: slurm/union.sh LIST OUT RANGES [JOBS]
 #
-# LIST has the name of an archive in each line. It, the archives, this folder and OUT are in a file system that all nodes
-# share. JOBS ranges run at once, by default as many as there is room for. RANGES are at most one less than MaxArraySize
-# of slurm.conf. What is done is in OUT.work, with the logs of the jobs; a run that failed goes on from there when it is
+# LIST has the name of an archive in each line. It, the archives, this folder and OUT are in a file system that all
+# nodes share. JOBS ranges run at once, by default as many as there is room for. RANGES are less than MaxArraySize of
+# slurm.conf. What is done is in OUT.work, with the logs of the jobs; a run that failed goes on from there when it is
 # run again; remove the folder when OUT is there. Options for sbatch, as a partition, come by its variables (SBATCH_..).
 set -euo pipefail
 if (($# < 3 || $# > 4)); then
@@ -19,22 +19,22 @@ ranges=$3
 array=0-$ranges${4:+%$4}
 
 mkdir -p "$work/logs"
-submit() {
-    sbatch --parsable --output "$work/logs/%x.%A.%a" --kill-on-invalid-dep=yes "$@"
+submit() { # LOG WORD..: the number of a job
+    sbatch --parsable --kill-on-invalid-dep=yes --output "$work/logs/$1" "${@:2}"
 }
-plan=$(submit --job-name plan "$here/task.sh" "$here/../plan.py" "$list" "$work" "$ranges")
-joined=$(submit --job-name range --dependency "afterok:$plan" --array "$array" "$here/task.sh" "$here/../range.sh" "$work")
-echo "jobs $plan and $joined, and the last one:" >&2
-submit --job-name concat --dependency "afterok:$joined" --wait "$here/task.sh" "$here/../concat.sh" "$work" "$out" &
-waiting=$!
+plan=$(submit plan "$here/task.sh" "$here/../plan.py" "$list" "$work" "$ranges")
+joined=$(submit range.%a --dependency "afterok:$plan" --array "$array" "$here/task.sh" "$here/../range.sh" "$work")
+last=$(submit concat --dependency "afterok:$joined" "$here/task.sh" "$here/../concat.sh" "$work" "$out")
+echo "jobs $plan, $joined and $last" >&2
 
 # the jobs go on where this is stopped
-while kill -0 "$waiting" 2> /dev/null; do
+running='PENDING|CONFIGURING|RUNNING|REQUEUED|COMPLETING'
+while state=$(squeue --noheader --states all --jobs "$last" --format %T) && [[ $state =~ $running ]]; do
     sleep 2
     there=$(find "$work/ranges" -name '[0-9]*' 2> /dev/null | wc -l)
     echo "$there of $((ranges + 1)) ranges are there" >&2
 done
-if ! wait "$waiting"; then
-    echo "a job failed; see $work/logs" >&2
+if [[ $state != COMPLETED ]]; then
+    echo "the last job: ${state:-unknown}; see $work/logs" >&2
     exit 1
 fi
