@@ -50,7 +50,8 @@ class Archive:
             place = bisect_left(self.walked, at)
             return self.walked[place] if place < len(self.walked) else self.size
         for front in FRONT.finditer(self.octets, at):
-            for start in range(max(at, front.start() - 6), front.start()):
+            # a digit before may be of a message, and a length with it may lead to an entry too: the shortest length first
+            for start in reversed(range(max(at, front.start() - 6), front.start())):
                 if self.is_entry(start):
                     return start
         return self.size

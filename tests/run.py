@@ -6,6 +6,7 @@ usage: tests/run.py PROGRAM INJECTION [PART..]
        tests/run.py mutants [--jobs N] [CRATE..]
        tests/run.py senders PROGRAM [--tools FOLDER]
        tests/run.py load PROGRAM [--tools FOLDER] [--records N] [--rounds N]
+       tests/run.py cluster PROGRAM [--folder FOLDER] [--records N] [--engines ENGINE..]
 
 PROGRAM is syslogbox, INJECTION the program `fault_injection` of the libraries. The first form runs them on tables of inputs,
 with devices that fail and with allocations that fail: all parts, or those that are named. The others tell about themselves with
@@ -39,7 +40,8 @@ from lib.results import Results
 PARTS = {part.__name__: part for part in
          (commands, mutated, sending, legacy, collect, sockets, descriptors, archives, algebra, auditing, bindings, verdicts, costs,
           libraries, soak)}
-ALONE = {"soak": "hostile.soak", "mutants": "mutants.run", "senders": "peers.senders", "load": "peers.load"}
+ALONE = {"soak": "hostile.soak", "mutants": "mutants.run", "senders": "peers.senders", "load": "peers.load",
+         "cluster": "peers.cluster"}
 
 
 def main(words):

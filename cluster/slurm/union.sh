@@ -18,7 +18,7 @@ work=$out.work
 ranges=$3
 array=0-$ranges${4:+%$4}
 
-mkdir -p "$work/logs"
+mkdir -p "$work/logs" "$work/ranges"
 submit() { # LOG WORD..: the number of a job
     sbatch --parsable --kill-on-invalid-dep=yes --output "$work/logs/$1" "${@:2}"
 }
@@ -31,7 +31,7 @@ echo "jobs $plan, $joined and $last" >&2
 running='PENDING|CONFIGURING|RUNNING|REQUEUED|COMPLETING'
 while state=$(squeue --noheader --states all --jobs "$last" --format %T) && [[ $state =~ $running ]]; do
     sleep 2
-    there=$(find "$work/ranges" -name '[0-9]*' 2> /dev/null | wc -l)
+    there=$(find "$work/ranges" -name '[0-9]*' | wc -l)
     echo "$there of $((ranges + 1)) ranges are there" >&2
 done
 if [[ $state != COMPLETED ]]; then
