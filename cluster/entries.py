@@ -23,7 +23,7 @@ class Archive:
     def __init__(self, path: str, walk: bool = False) -> None:
         self.size = os.path.getsize(path)
         with open(path, "rb") as file:
-            self.octets = mmap(file.fileno(), 0, access=ACCESS_READ) if self.size else b""
+            self.octets: mmap | bytes = mmap(file.fileno(), 0, access=ACCESS_READ) if self.size else b""
         self.walked = array("Q", self.starts()) if walk else None
 
     def starts(self) -> Iterator[int]:
@@ -62,8 +62,8 @@ class Archive:
         return front[1] if front else LAST
 
     def place(self, bound: bytes, low: int) -> int:
-        """Where the first entry from `low` on begins whose time is `bound` or later; `low` is such a beginning."""
-        high = low if self.time(low) >= bound else self.size
+        """Where the first entry from `low` on begins whose time is `bound` or later; the size where there is none."""
+        high = self.size
         while low < high:
             middle = (low + high) // 2
             entry = self.next_entry(middle)

@@ -12,43 +12,22 @@ import sys
 from pathlib import Path
 from tempfile import mkdtemp
 
-from entries import LAST, Archive
-
-SAMPLES = 16_384
-FIRST = b"0000-01-01T00:00:00.000000Z"  # the first instant
-
-
-def sampled(paths: list[str]) -> list[tuple[bytes, float]]:
-    """Times of entries of all archives, ascending, and how many octets each stands for."""
-    samples, count = [], max(4, SAMPLES // len(paths))
-    for path in paths:
-        archive = Archive(path)
-        places = (archive.next_entry(archive.size * n // count) for n in range(count))
-        samples += [(archive.time(place), archive.size / count) for place in places]
-    return sorted(sample for sample in samples if FIRST <= sample[0] < LAST)
-
-
-def bounds(samples: list[tuple[bytes, float]], ranges: int) -> list[bytes]:
-    """Where each range begins, FIRST first, so that between two of them there are about as many octets."""
-    begins, reached, whole = [FIRST], 0.0, sum(weight for _, weight in samples)
-    for time, weight in samples:
-        reached += weight
-        while len(begins) < ranges and reached >= whole * len(begins) / ranges:
-            begins.append(time)
-    return begins + [begins[-1]] * (ranges - len(begins))
+sys.dont_write_bytecode = True
+from cuts import bounds, cuts, sampled
+from entries import Archive
 
 
 def plan(paths: list[str], ranges: int, walk: bool, folder: Path) -> None:
     """Writes the plan into a folder."""
-    begins = [bound.decode() for bound in bounds(sampled(paths), ranges)]
-    tos = [f" --to {bound}" for bound in begins[1:]] + [""]
-    files = [["--only-undated"], *([f"--from {begin}{to}"] for begin, to in zip(begins, tos))]
+    begins = bounds(sampled(paths, ranges), ranges)
+    tos = [f" --to {bound.decode()}" for bound in begins[1:]] + [""]
+    files = [["--only-undated"], *([f"--from {begin.decode()}{to}"] for begin, to in zip(begins, tos))]
     for path in paths:
-        archive, cuts = Archive(path, walk), [0]
-        for bound in begins:
-            cuts.append(archive.place(bound.encode(), cuts[-1]))
-        for lines, begin, end in zip(files, cuts, cuts[1:] + [archive.size]):
-            lines += [f"{begin} {end - begin} {archive.size} {path}"] * (begin < end)
+        archive = Archive(path, walk)
+        places = cuts(archive, begins)
+        for lines, begin, end in zip(files, places, places[1:]):
+            if begin < end:
+                lines.append(f"{begin} {end - begin} {archive.size} {path}")
     for number, lines in enumerate(files):
         (folder / f"{number:05d}").write_text("".join(f"{line}\n" for line in lines))
 

@@ -29,6 +29,8 @@ trap 'rm -rf "$room" "$part"' EXIT
 
 failed="union failed; its files are those of $work/plan/$name, in this order"
 pieces=()
+paths=()
+sizes=()
 {
     IFS=' ' read -r -a conditions
     while IFS=' ' read -r begin count size path; do
@@ -39,10 +41,15 @@ pieces=()
             dd if="$path" of="$piece" bs=1M status=none \
                 iflag=skip_bytes,count_bytes,fullblock skip="$begin" count="$count"
         fi
-        [[ $(stat -L -c %s "$path") -eq $size ]] || die "$path has changed"
         pieces+=("$piece")
+        paths+=("$path")
+        sizes+=("$size")
     done
 } < "$work/plan/$name"
+
+if ((${#pieces[@]})); then
+    [[ $(stat -L -c %s "${paths[@]}" | paste -sd ' ') == "${sizes[*]}" ]] || die "an input has changed"
+fi
 
 # union opens 512 files at most
 for ((round = 0; ${#pieces[@]} > 512; round++)); do

@@ -18,6 +18,7 @@ import os
 import platform
 import signal
 import subprocess
+import sys
 import tempfile
 import time
 from pathlib import Path
@@ -34,22 +35,25 @@ from peers.processes import adopt, below
 # ---------------------------------------------------------------- killed, and run again
 
 def ranges_at_work(records):
-    """The tasks at work, by their numbers: the range, the numbers of their children, and the number of the parent."""
+    """The tasks whose `union` is at work: the process, its range, its children and its parent."""
     processes = below()
     tasks = {pid: one for pid, one in processes.items()
              if len(one.words) > 3 and one.words[1].endswith("range.sh") and one.words[2] == str(records.work)}
-    return {pid: (int(one.words[3]), [child for child, its in processes.items() if its.parent == pid], one.parent)
-            for pid, one in tasks.items() if one.parent not in tasks}
+    for pid, one in tasks.items():
+        children = [child for child, its in processes.items() if its.parent == pid]
+        if one.parent not in tasks and any("union" in processes[child].words for child in children):
+            yield pid, int(one.words[3]), children, one.parent
 
 
 def in_the_middle(records):
-    """Waits until some ranges are there and one is at work: its process, its number, its children and its parent."""
+    """Waits until two ranges are there and one is at work, and stops that task: its process, and so on."""
     found = []
 
     def one():
-        if len(whole(records)) >= 2:
-            found.extend((pid, *task) for pid, task in ranges_at_work(records).items() if task[1])
-        return found
+        for task in ranges_at_work(records) if len(whole(records)) >= 2 else ():
+            os.kill(task[0], signal.SIGSTOP)
+            found.append(task)
+            return True
 
     until(one, "a range at work")
     return found[0]
@@ -81,8 +85,10 @@ def killed_worker(records, results, engine):
         run = records.begin(engine.recipe(records.list, records.out, RANGES, 2), engine.environment)
         pid, number, children, parent = in_the_middle(records)
         before = whole(records)
-        kill([parent] if isinstance(engine, Dask) else [pid, *children])
         results.check(f"{name}: not behind its range", number not in before, number)
+        kill([parent] if isinstance(engine, Dask) else [pid, *children])
+        if isinstance(engine, Dask):  # the task goes on, beside the one that takes its place
+            os.kill(pid, signal.SIGCONT)
         status = run.wait(LATE)
         stays(results, name, before, whole(records))
         records.check(results, name, status)
@@ -230,6 +236,7 @@ def main(words):
     given.add_argument("--engines", nargs="*", choices=("parallel", "slurm", "dask"), default=("parallel", "slurm", "dask"))
     given = given.parse_args(words)
     program, results = Program(given.program), Results()
+    signal.signal(signal.SIGTERM, lambda *_: sys.exit(1))  # daemons and files are removed then, too
     adopt()
     with tempfile.TemporaryDirectory(dir=given.folder) as path:
         folder = Path(path)

@@ -75,7 +75,7 @@ class Slurm(Engine):
     name, tools, packages = "Slurm", ("munged", "slurmctld", "slurmd", "sbatch"), "slurm-wlm munge"
 
     def version(self):
-        return told(["sbatch", "--version"]).strip()
+        return told(["/usr/sbin/slurmctld", "-V"]).strip().replace("slurm-wlm", "Slurm")
 
     def recipe(self, inputs, out, ranges, jobs):
         return [CLUSTER / "slurm" / "union.sh", inputs, out, ranges, jobs]

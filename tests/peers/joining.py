@@ -124,18 +124,18 @@ def count(program, path):
 
 
 def used(program, words, source):
-    """Processor seconds and peak memory in KiB of one run."""
+    """Processor seconds of one run."""
     with open(source, "rb") as octets:
         process = subprocess.Popen([program.path, *words], stdin=octets, stdout=subprocess.DEVNULL)
         _, status, usage = os.wait4(process.pid, 0)
     process.returncode = os.waitstatus_to_exitcode(status)
     if process.returncode != 0:
         raise RuntimeError(f"status {process.returncode} of {words}")
-    return usage.ru_utime + usage.ru_stime, usage.ru_maxrss
+    return usage.ru_utime + usage.ru_stime
 
 
 def alone(records, program):
-    """What one core does: records and octets of the input a second of processor time, the most of three runs."""
+    """What one core does: records and octets of the input a second of processor time, the more of two runs."""
     paths, shuffled = records.list.read_text().splitlines(), records.folder / "shuffled"
     with open(shuffled, "wb") as octets:
         for path in paths[:16]:
@@ -145,11 +145,10 @@ def alone(records, program):
     rows = [("`archive`, the lines of 16 archives, shuffled", paths[:16], shuffled, ["archive", "--framing", "lf"]),
             *((f"`union` of {n}", paths[:n], paths[0], ["union", *paths[:n]]) for n in (2, 8, 16, 64)),
             ("`select` of all", [records.want], records.want, ["select", "--from", "2000-01-01T00:00:00Z", "--undated"]),
-            ("`select` of nothing", [records.want], records.want, ["select", "--from", "2030-01-01T00:00:00Z"]),
-            ("`digest --by hour`", [records.want], records.want, ["digest", "--by", "hour"])]
-    print("| One core | records a second | octets a second | memory, MiB |\n|---|---:|---:|---:|")
+            ("`select` of nothing", [records.want], records.want, ["select", "--from", "2030-01-01T00:00:00Z"])]
+    print("| One core | records a second | octets a second |\n|---|---:|---:|")
     for name, inputs, source, words in rows:
-        seconds, memory = min(used(program, words, source) for _ in range(3))
+        seconds = min(used(program, words, source) for _ in range(2))
         size, many = (sum(measure(path) for path in inputs) for measure in (os.path.getsize, lambda path: count(program, path)))
-        print(f"| {name} | {many / seconds:,.0f} | {size / seconds:,.0f} | {memory / 1_024:.0f} |", flush=True)
+        print(f"| {name} | {many / seconds:,.0f} | {size / seconds:,.0f} |", flush=True)
     shuffled.unlink()
