@@ -3,11 +3,11 @@
 
 usage: bench/skew.py [--records N] [--workers N]
 
-Each day is cut three ways: into ranges of the same length, into ranges of whole hours with about as many records, and as
-cluster/plan.py cuts, by the times of 256 samples a range. For as many ranges as workers and for four times as many, it
-prints the greatest range as a multiple of the mean, and the time until all ranges are done as a multiple of the time that
-would be taken if all workers ended together. A worker takes the next range when it is free; a range takes as long as it has
-records. Nothing here is measured.
+Each day is cut three ways: into ranges of the same length, into ranges of whole hours with about as many records, and
+as cluster/plan.py cuts, by the times of 256 samples a range. For as many ranges as workers and for four times as many,
+it prints the greatest range as a multiple of the mean, and the time until all ranges are done as a multiple of the time
+that would be taken if all workers ended together. A worker takes the next range when it is free; a range takes as long
+as it has records. Nothing here is measured.
 """
 import argparse
 import sys

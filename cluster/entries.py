@@ -50,7 +50,7 @@ class Archive:
             place = bisect_left(self.walked, at)
             return self.walked[place] if place < len(self.walked) else self.size
         for front in FRONT.finditer(self.octets, at):
-            # a digit before may be of a message, and a length with it may lead to an entry too: the shortest length first
+            # a digit before may be of a message, and a length with it may lead to an entry too: shortest first
             for start in reversed(range(max(at, front.start() - 6), front.start())):
                 if self.is_entry(start):
                     return start

@@ -1,17 +1,17 @@
 """The recipes of cluster/ on this machine: GNU parallel, Slurm and Dask. No part of the gate.
 
-64 archives of 200,000 records each (sites.py) are joined by each recipe with one, two and four workers. The result has to be, by
-cmp, what `union` of all of them writes. The wall time and the processor time of each run are told, with the load of the machine
-when it began; beside them those of one `union`, of a tree of unions (as many as workers side by side, then one of their outputs),
-and of ranges for which each task selects from all inputs.
+64 archives of 200,000 records each (sites.py) are joined by each recipe with one, two and four workers. The result has
+to be, by cmp, what `union` of all of them writes. The wall time and the processor time of each run are told, with the
+load of the machine when it began; beside them those of one `union`, of a tree of unions (as many as workers side by
+side, then one of their outputs), and of ranges for which each task selects from all inputs.
 
-Then a worker is killed in the middle of a range (SIGKILL), which has to be made again by the same run, and what was there before
-has to stay as it was; and with GNU parallel the whole run is killed, and run again. A task runs twice, one behind the other and
-at once. Entries inside of messages have to be told and, with --walk, to be read for what they are; and more archives are joined
-than a `union` opens.
+Then a worker is killed in the middle of a range (SIGKILL), which has to be made again by the same run, and what was
+there before has to stay as it was; and with GNU parallel the whole run is killed, and run again. A task runs twice, one
+behind the other and at once. Entries inside of messages have to be told and, with --walk, to be read for what they are;
+and more archives are joined than a `union` opens.
 
-Debian's packages are parallel, slurm-wlm and munge, python3-distributed and python3-dask; an engine that is not there is skipped.
-The files are below --folder, some 8 GB, and are removed at the end; so are all daemons.
+Debian's packages are parallel, slurm-wlm and munge, python3-distributed and python3-dask; an engine that is not there
+is skipped. The files are below --folder, some 8 GB, and are removed at the end; so are all daemons.
 """
 import argparse
 import os
@@ -30,6 +30,8 @@ from peers import sites
 from peers.engines import CLUSTER, Dask, Parallel, Slurm, until
 from peers.joining import LATE, RANGES, Set, alone, own, table
 from peers.processes import adopt, below
+
+ENGINES = {"parallel": Parallel, "slurm": Slurm, "dask": Dask}
 
 
 # ---------------------------------------------------------------- killed, and run again
@@ -128,15 +130,15 @@ def twice(records, results):
     before = whole(records)
     for words in step("plan.py", records.list, records.work, 3), step("range.sh", records.work, 2):
         results.check(f"{words[0].name} twice", records.run(words) == 0, records.log.read_text())
-    results.check("the plan stays", plan == {path.name: path.read_bytes() for path in (records.work / "plan").iterdir()})
+    stays(results, "a plan twice", plan, {path.name: path.read_bytes() for path in (records.work / "plan").iterdir()})
     stays(results, "a range twice", before, whole(records))
     another = records.run(step("plan.py", records.list, records.work, 4))
     results.check("no plan of other ranges", another == 1, another)
     (records.work / "ranges" / "00002").unlink()
     early = records.run(step("concat.sh", records.work, records.out))
     results.check("no output while a range is missing", early != 0 and not records.out.exists(), early)
-    statuses = [records.run(step(*words)) for words in (("range.sh", records.work, 2), ("concat.sh", records.work, records.out),
-                                                        ("concat.sh", records.work, records.out))]
+    concat = step("concat.sh", records.work, records.out)
+    statuses = [records.run(words) for words in (step("range.sh", records.work, 2), concat, concat)]
     records.check(results, "tasks twice", max(statuses))
 
 
@@ -162,8 +164,8 @@ def at(hour, message):
 def imitated(program, folder, results):
     """A message that is an archive itself, of other times, misleads the search and not the check."""
     false = b"".join(reference.counted([at(23, b"false %d" % n)]) for n in range(1_000))
-    paths = [archived(program, folder / f"imitated{n}", [at(1, b"%d" % n), at(2, false), *(at(h, b"x") for h in range(3, 23))])
-             for n in range(2)]
+    true = [at(2, false), *(at(hour, b"x") for hour in range(3, 23))]
+    paths = [archived(program, folder / f"imitated{n}", [at(1, b"%d" % n), *true]) for n in range(2)]
     records = Set(folder, program, paths)
     searched = by_hand(records, results, "entries in a message, searched")
     results.check("entries in a message are told", 1 in searched, searched)
@@ -174,7 +176,8 @@ def imitated(program, folder, results):
 
 def many(program, folder, results):
     """More archives than a `union` opens; one is empty, one has no times, one has one instant alone."""
-    paths = [archived(program, folder / f"many{n}", [at(n % 24, b"%d" % (n // 2 + k)) for k in range(3)]) for n in range(1_100)]
+    paths = [archived(program, folder / f"many{n}", [at(n % 24, b"%d" % (n // 2 + k)) for k in range(3)])
+             for n in range(1_100)]
     paths += [archived(program, folder / "empty", []), archived(program, folder / "undated", [b"<13>1 - h a - - - x"]),
               archived(program, folder / "instant", [at(5, b"%04d" % n) for n in range(5_000)])]
     statuses = by_hand(Set(folder, program, paths), results, f"{len(paths)} archives")
@@ -185,12 +188,10 @@ def many(program, folder, results):
 
 def engines_of(program, folder, names):
     """The engines that are there; a line for each that is not."""
-    for kind in Parallel, Slurm, Dask:
-        place = folder / kind.__name__.lower()
+    for name in names:
+        place = folder / name
         place.mkdir()
-        engine = kind(place, own(program, folder))
-        if kind.__name__.lower() not in names:
-            continue
+        engine = ENGINES[name](place, own(program, folder))
         if engine.is_there():
             yield engine
         else:
@@ -213,9 +214,9 @@ def large(program, folder, results, engines, records):
     paths = sites.archives(program.path, place, records)
     octets = sum(path.stat().st_size for path in paths)
     records = Set(folder, program, paths)
-    print(f"{', '.join(engine.version() for engine in engines)}; Linux {platform.release()}, {os.cpu_count()} cores, load "
-          f"{os.getloadavg()[0]:.1f}; {len(paths)} archives of {octets:,} octets, made in {time.monotonic() - begun:.0f} s, and "
-          f"their union of {records.want.stat().st_size:,}; {RANGES} ranges\n")
+    print(f"{', '.join(engine.version() for engine in engines)}; Linux {platform.release()}, {os.cpu_count()} cores, "
+          f"load {os.getloadavg()[0]:.1f}; {len(paths)} archives of {octets:,} octets, made in "
+          f"{time.monotonic() - begun:.0f} s, and their union of {records.want.stat().st_size:,}; {RANGES} ranges\n")
     alone(records, program)
     print()
     table(records, results, engines)
@@ -233,7 +234,7 @@ def main(words):
     given.add_argument("program")
     given.add_argument("--records", type=int, default=200_000, help="of each archive")
     given.add_argument("--folder", type=Path, default=Path("/var/tmp"))
-    given.add_argument("--engines", nargs="*", choices=("parallel", "slurm", "dask"), default=("parallel", "slurm", "dask"))
+    given.add_argument("--engines", nargs="*", choices=ENGINES, default=list(ENGINES))
     given = given.parse_args(words)
     program, results = Program(given.program), Results()
     signal.signal(signal.SIGTERM, lambda *_: sys.exit(1))  # daemons and files are removed then, too

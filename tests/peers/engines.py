@@ -4,6 +4,7 @@ import shutil
 import socket
 import subprocess
 import time
+from getpass import getuser
 
 from lib.loopback import HERE, NEVER, free_port, until_bound
 from lib.program import ROOT
@@ -42,7 +43,8 @@ class Engine:
         """Starts a daemon in the foreground."""
         with open(self.folder / f"{words[0]}.log", "wb") as log:
             environment = {**os.environ, "PATH": os.environ["PATH"] + ":/usr/sbin", **self.environment}
-            self.daemons.append(subprocess.Popen(words, env=environment, stdin=subprocess.DEVNULL, stdout=log, stderr=log))
+            self.daemons.append(subprocess.Popen(words, env=environment, stdin=subprocess.DEVNULL, stdout=log,
+                                                 stderr=log))
 
     def start(self, workers):
         """Starts the engine with so many workers."""
@@ -81,7 +83,7 @@ class Slurm(Engine):
         return [CLUSTER / "slurm" / "union.sh", inputs, out, ranges, jobs]
 
     def start(self, workers):
-        folder, host, name = self.folder, socket.gethostname().split(".")[0], "root" if os.getuid() == 0 else os.getlogin()
+        folder, host, name = self.folder, socket.gethostname().split(".")[0], getuser()
         ports = [free_port(socket.SOCK_STREAM) for _ in range(2)]
         (folder / "key").touch(0o600)
         (folder / "key").write_bytes(os.urandom(1_024))
@@ -125,7 +127,7 @@ class Dask(Engine):
         self.port = free_port(socket.SOCK_STREAM)
         self.run("dask-scheduler", "--host", HERE, "--port", str(self.port), "--no-dashboard", "--no-show")
         until_bound(socket.SOCK_STREAM, self.port, lambda: self.daemons[0].poll() is not None)
-        self.run("dask-worker", f"tcp://{HERE}:{self.port}", "--host", HERE, "--nworkers", str(workers), "--nthreads", "1",
-                 "--no-dashboard", "--local-directory", str(self.folder))
+        self.run("dask-worker", f"tcp://{HERE}:{self.port}", "--host", HERE, "--nworkers", str(workers),
+                 "--nthreads", "1", "--no-dashboard", "--local-directory", str(self.folder))
         log = self.folder / "dask-worker.log"
         until(lambda: log.read_text().count("Registered to") >= workers, "dask-worker")

@@ -30,7 +30,8 @@ TREE = """
 set -euo pipefail
 mkdir -p "$WORK"
 split --number="r/$1" --numeric-suffixes "$INPUTS" "$WORK/list."
-ls "$WORK"/list.* | parallel --will-cite --jobs "$1" --halt soon,fail=1 'xargs "$SYSLOGBOX" union < {} > "$WORK"/joined.{#}'
+ls "$WORK"/list.* |
+    parallel --will-cite --jobs "$1" --halt soon,fail=1 'xargs "$SYSLOGBOX" union < {} > "$WORK"/joined.{#}'
 "$SYSLOGBOX" union "$WORK"/joined.* > "$OUT"
 """
 
@@ -64,13 +65,15 @@ class Set:
         self.out = folder / "out"
         self.work = Path(f"{self.out}.work")
         self.log = folder / "log"
-        self.environment = {**own(program, folder), "WORK": str(self.work), "OUT": str(self.out), "INPUTS": str(self.list)}
+        self.environment = {**own(program, folder), "WORK": str(self.work), "OUT": str(self.out),
+                            "INPUTS": str(self.list)}
 
     def begin(self, words, environment=None):
         """Starts a recipe, in a group of its own."""
+        environment = {**os.environ, **self.environment, **(environment or {})}
         with open(self.log, "ab") as log:
             return subprocess.Popen([str(word) for word in words], stdin=subprocess.DEVNULL, stdout=log, stderr=log,
-                                    env={**os.environ, **self.environment, **(environment or {})}, start_new_session=True)
+                                    env=environment, start_new_session=True)
 
     def run(self, words, environment=None):
         return self.begin(words, environment).wait(LATE)
@@ -142,13 +145,14 @@ def alone(records, program):
             subprocess.run([program.path, "convert", "--framing", "counted", "--to", "lf"], stdin=open(path, "rb"),
                            stdout=octets, check=True)
     subprocess.run(["shuf", "-o", shuffled, shuffled], check=True)
+    want = records.want
     rows = [("`archive`, the lines of 16 archives, shuffled", paths[:16], shuffled, ["archive", "--framing", "lf"]),
             *((f"`union` of {n}", paths[:n], paths[0], ["union", *paths[:n]]) for n in (2, 8, 16, 64)),
-            ("`select` of all", [records.want], records.want, ["select", "--from", "2000-01-01T00:00:00Z", "--undated"]),
-            ("`select` of nothing", [records.want], records.want, ["select", "--from", "2030-01-01T00:00:00Z"])]
+            ("`select` of all", [want], want, ["select", "--from", "2000-01-01T00:00:00Z", "--undated"]),
+            ("`select` of nothing", [want], want, ["select", "--from", "2030-01-01T00:00:00Z"])]
     print("| One core | records a second | octets a second |\n|---|---:|---:|")
     for name, inputs, source, words in rows:
         seconds = min(used(program, words, source) for _ in range(2))
-        size, many = (sum(measure(path) for path in inputs) for measure in (os.path.getsize, lambda path: count(program, path)))
+        size, many = sum(map(os.path.getsize, inputs)), sum(count(program, path) for path in inputs)
         print(f"| {name} | {many / seconds:,.0f} | {size / seconds:,.0f} |", flush=True)
     shuffled.unlink()

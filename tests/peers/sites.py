@@ -1,9 +1,10 @@
 """Archives as several sites collect them for some days: of each record a second site has a copy.
 
-Nine sites by seven days give 63 archives; the archive of a site and a day has the records that the site was sent and those that
-the next site was sent. The 64th has records of all sites and days that came late. One record of 200 has no time; one site's
-clocks are two hours ahead of UTC, so that its days reach into those before; by day there is more than by night, and on the fourth
-day two records of five are of five minutes. The records are those of `plain` (bench/corpus.py).
+Nine sites by seven days give 63 archives; the archive of a site and a day has the records that the site was sent and
+those that the next site was sent. The 64th has records of all sites and days that came late. One record of 200 has no
+time; one site's clocks are two hours ahead of UTC, so that its days reach into those before; by day there is more than
+by night, and on the fourth day two records of five are of five minutes. The records are those of `plain`
+(bench/corpus.py).
 """
 import subprocess
 import sys
@@ -62,7 +63,8 @@ def archives(program, folder, records, jobs=4):
     days = [(site, day) for day in range(DAYS) for site in range(SITES)]
     sent = {at: folder / "sent.{}.{}".format(*at) for at in days}
     names = {at: folder / "site{}.day{}.archive".format(*at) for at in days}
-    parts = {names[site, day]: [(sent[site, day], 0, half), (sent[(site + 1) % SITES, day], 0, half)] for site, day in days}
+    parts = {names[site, day]: [(sent[site, day], 0, half), (sent[(site + 1) % SITES, day], 0, half)]
+             for site, day in days}
     ends = [2 * half * n // len(days) for n in range(len(days) + 1)]
     late = folder / "late.archive"
     parts[late] = [(sent[at], 0, end - begin) for at, begin, end in zip(days, ends, ends[1:])]
