@@ -9,7 +9,6 @@ by night, and on the fourth day two records of five are of five minutes. The rec
 import subprocess
 import sys
 from concurrent.futures import ProcessPoolExecutor
-from pathlib import Path
 
 from lib.program import ROOT
 
