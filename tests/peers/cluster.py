@@ -37,13 +37,13 @@ ENGINES = {"parallel": Parallel, "slurm": Slurm, "dask": Dask}
 # ---------------------------------------------------------------- killed, and run again
 
 def ranges_at_work(records):
-    """The tasks whose `union` is at work: the process, its range, its children and its parent."""
+    """The tasks that copy pieces or join them: the process, its range, its children and its parent."""
     processes = below()
     tasks = {pid: one for pid, one in processes.items()
              if len(one.words) > 3 and one.words[1].endswith("range.sh") and one.words[2] == str(records.work)}
     for pid, one in tasks.items():
         children = [child for child, its in processes.items() if its.parent == pid]
-        if one.parent not in tasks and any("union" in processes[child].words for child in children):
+        if one.parent not in tasks and any({"dd", "union"} & set(processes[child].words) for child in children):
             yield pid, int(one.words[3]), children, one.parent
 
 
@@ -53,9 +53,10 @@ def in_the_middle(records):
 
     def one():
         for task in ranges_at_work(records) if len(whole(records)) >= 2 else ():
-            os.kill(task[0], signal.SIGSTOP)
-            found.append(task)
-            return True
+            if stopped(task[0]) and task[1] not in whole(records):
+                found.append(task)
+                return True
+            signalled(task[0], signal.SIGCONT)
 
     until(one, "a range at work")
     return found[0]
@@ -67,12 +68,22 @@ def whole(records):
     return {int(path.name): (path.stat().st_ino, path.stat().st_mtime_ns) for path in paths}
 
 
+def signalled(pid, number):
+    """Whether a process was there for a signal."""
+    try:
+        os.kill(pid, number)
+        return True
+    except ProcessLookupError:
+        return False
+
+
+def stopped(pid):
+    return signalled(pid, signal.SIGSTOP)
+
+
 def kill(pids):
     for pid in pids:
-        try:
-            os.kill(pid, signal.SIGKILL)
-        except ProcessLookupError:
-            pass
+        signalled(pid, signal.SIGKILL)
 
 
 def stays(results, name, before, after):

@@ -23,7 +23,7 @@ def until(holds, what):
     while not holds():
         if time.monotonic() - begun > NEVER:
             raise RuntimeError(f"{what}: not after {NEVER} s")
-        time.sleep(0.1)
+        time.sleep(0.01)
 
 
 class Engine:
