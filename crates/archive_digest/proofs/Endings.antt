@@ -10,7 +10,7 @@ use Rattle.octet_devices.proofs.Carrying.{StopsWithin-take}
 use Rattle.octet_devices.proofs.Putting.{put_fails_before, puts_then}
 use Rattle.archive_text.specs.Entries.{Entry}
 use Rattle.archive_streams.specs.declared.progress.Progress.TheVariants.{Ended}
-use Rattle.archive_streams.proofs.EntrySteps.{begun}
+use Rattle.archive_streams.proofs.EntrySteps.{begun_whole}
 use Rattle.archive_sets.specs.Failures.{ReadFailed, ReadFailures}
 use Rattle.archive_sets.specs.declared.fault.SelectFault.{SelectFault}
 use Rattle.archive_sets.specs.declared.fault.SelectFault.TheVariants.{Archive, Read, Endless, Write, Memory}
@@ -80,7 +80,7 @@ cut_end : (period : Period) (s : Digesting) (d e : InputState) (start now : Opti
     → Stopped period (Write sent) d e start now
 cut_end period s d e start now past sent w stops =
     let u = w.under_way in
-    let read = begun Ended s.entries.reader d e w.xs w.whole in
+    let read = begun_whole d e w.xs w.whole in
     let divided = divided_so_far period s.name w.xs u.earlier u.latest u.so_far in
     let text : List ℕ = digest_text w.xs (parts_of u.earlier s.name u.latest) in
     let short = short_digest period w.xs (parts_of u.earlier s.name u.latest) divided (short_read d e w.xs read) in

@@ -132,7 +132,7 @@ ReadSoFar s x d e xs = Reads s.entries d e (xs ++ x ∷ [])
 
 read_to : (s : Digesting) (x : Entry) (d e : InputState) (xs : List Entry) → ReadSoFar s x d e xs
     → IsBegun d e (xs ++ x ∷ [])
-read_to s x d e xs r = begun s.entries.progress s.entries.reader d e (xs ++ x ∷ []) r
+read_to s x d e xs r = begun s.entries d e (xs ++ x ∷ []) r
 
 -- it goes on with the latest part, or it is the first
 so_far_on : (period : Period) (old name : List ℕ) (xs : List Entry) (earlier : List Part) (latest : List Entry)
@@ -297,7 +297,7 @@ short_halted period s d e start now w =
       arith,
       ap (λ (ps : List Part). length (lines_of ps)) (before_so_far period s.name w.xs u.earlier u.latest u.so_far),
       short_so_far period s.name w.xs u.earlier u.latest u.so_far
-          (short_read d e w.xs (begun s.entries.progress s.entries.reader d e w.xs w.reads)),
+          (short_read d e w.xs (begun s.entries d e w.xs w.reads)),
     )
 
 pub halts : (period : Period) (fault : SelectFault) (s t : Digesting) (d e f : InputState) (start now : Option (List ℕ))

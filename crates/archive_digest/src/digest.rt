@@ -92,8 +92,8 @@ impl Digesting {
 /// that of the octets of their archive, SHA256 its hash (FIPS 180-4) in lower-case hexadecimal.
 /// Answers how many records there are.
 ///
-/// Room for two entries is reserved first, and no further memory is taken. In itself the call has a
-/// piece of `READ_MAX` octets of the reader, and 16,384 octets that are held back.
+/// Room for two entries and for a piece of `ENTRIES_READ_MAX` octets of the reader is reserved first,
+/// and no further memory is taken. In itself the call has 16,384 octets that are held back.
 ///
 /// # Errors
 /// The first fault that is met, as `select_stream` of `archive_sets` answers it. The lines of the

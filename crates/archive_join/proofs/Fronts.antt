@@ -16,11 +16,11 @@ use Rattle.archive_text.proofs.Prefixes.{archive_has_no_fault, longest_whole, on
 use Rattle.archive_text.proofs.Texts.{GoesOn, one_begins, text_length, text_some}
 use Rattle.archive_streams.specs.Entries.{current, IsBegun, IsCutShort, IsWhole}
 use Rattle.archive_streams.specs.Joining.{IsWithin}
-use Rattle.archive_streams.specs.Pieces.{HasFewCalls}
+use Rattle.archive_streams.specs.Pieces.{HasFewLargeCalls}
 use Rattle.std.specs.Io.KnownBytes.{Consumes}
 use Rattle.archive_streams.specs.declared.entries.ArchiveEntries.{ArchiveEntries}
 use Rattle.archive_streams.specs.declared.fault.SideFault.{SideFault}
-use Rattle.archive_streams.proofs.EntrySteps.{begun}
+use Rattle.archive_streams.proofs.EntrySteps.{begun, begun_short}
 use Rattle.archive_join.specs.Heads.{Place}
 use Rattle.archive_join.specs.Inputs.{IsMetFirst, MayBeFront, MayBeFronts, ReachesAsFar, ReachesFarther}
 use Rattle.archive_join.specs.Sides.{AreFurther, AreIdle, GoBeyond, GoesBeyond, IsPlaced, Side}
@@ -56,7 +56,7 @@ within_below es w x (m, has, inr less) above = below_transitive w m x less (abov
 pub record IsFurther (due : Bool) (ws : List Entry) (d e : InputState) (ts : List Entry) : Type 0 where
   pub given : List ℕ
   pub consumed : Consumes d.left e.left given
-  pub few : HasFewCalls d e given
+  pub few : HasFewLargeCalls d e given
   pub beyond : (fs : List Entry) → MayBeFront e given fs → GoesBeyond ws ts fs
   pub as_far : ReachesAsFar ws given
   pub farther : due ≡ false → ReachesFarther ws given
@@ -130,26 +130,18 @@ further_whole due ws d e ts w = record {
 pub further_cut : (fault : SideFault) (ws : List Entry) (d e : InputState) (ts : List Entry) → IsCutShort fault d e ts
     → ((w : Entry) → Has ws w → IsWithin ts w) → IsFurther true ws d e ts
 further_cut fault ws d e ts c within =
-    further_begun true ws d e ts [] ts (sym (append-nil ts)) (record {
-      given = c.given;
-      rest = c.rest;
-      consumed = c.consumed;
-      parts = c.front.parts;
-      archive = c.front.archive;
-      few = c.few;
-      short = c.short;
-    }) within (λ x w h k. absurd h) (λ idle. absurd (true≢false idle))
+    further_begun true ws d e ts [] ts (sym (append-nil ts)) (begun_short fault d e ts c) within (λ x w h k. absurd h) (λ idle. absurd (true≢false idle))
 
 -- wherever it stands
 pub further_placed : (closed due : Bool) (ws : List Entry) (s : ArchiveEntries) (d e : InputState) (ts : List Entry)
     → Place closed due ws s d e ts → IsFurther due ws d e ts
 further_placed true due ws s d e ts p = further_whole due ws d e ts p.1
 further_placed false true ws s d e ts p =
-    further_begun true ws d e ts [] ts (sym (append-nil ts)) (begun s.progress s.reader d e ts p.0) p.1
+    further_begun true ws d e ts [] ts (sym (append-nil ts)) (begun s d e ts p.0) p.1
     (λ x w h k. absurd h) (λ idle. absurd (true≢false idle))
 further_placed false false ws s d e ts p =
     further_begun false ws d e ts (current s ∷ []) (ts ++ current s ∷ []) refl
-    (begun s.progress s.reader d e (ts ++ current s ∷ []) p.0)
+    (begun s d e (ts ++ current s ∷ []) p.0)
     (λ w k. (current s, has_right ts (current s ∷ []) (current s) (inl refl), inr (p.1 w k)))
     (λ x w h k. alone x w h (p.1 w k))
     (λ idle. (current s, has_right ts (current s ∷ []) (current s) (inl refl), p.1))

@@ -9,4 +9,5 @@ pub mod Ends
 pub mod Turns
 pub mod Failures
 pub mod JoinLaws
+pub mod RangeLaws
 pub mod Lines

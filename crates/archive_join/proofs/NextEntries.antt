@@ -30,7 +30,7 @@ moves_on true after s t e f off on one d ts ws p = absurd (true≢false off)
 moves_on false true s t e f off on one d ts ws p = absurd (true≢false on)
 moves_on false false s t e f off on one d ts ws p =
     let reads = one.reads d ts p.0 in
-    let read = begun t.progress t.reader d f (ts ++ current t ∷ []) reads in (
+    let read = begun t d f (ts ++ current t ∷ []) reads in (
       reads,
       λ w h. within_below ts w (current t) (p.1 w h) (λ m has.
           ascending_across ts (current t ∷ []) m (current t) read.archive.ascending has (inl refl)),

@@ -10,7 +10,7 @@ use Rattle.archive_text.specs.declared.fault.ArchiveFault.{ArchiveFault}
 use Rattle.archive_text.specs.declared.limits.TheConstants.{ENTRY_MAX}
 use Rattle.archive_streams.specs.Entries.{IsCutShort, IsWhole}
 use Rattle.archive_streams.specs.Joining.{IsWithin, MayFollow}
-use Rattle.archive_streams.specs.Pieces.{HasFewCalls}
+use Rattle.archive_streams.specs.Pieces.{HasFewLargeCalls}
 use Rattle.archive_streams.specs.declared.fault.SideFault.{SideFault}
 
 -- each gave its end, and all that it gave is the archive of these entries
@@ -22,7 +22,7 @@ AreWhole ds es xss = ⊥
 -- a reader that stood at `d` gave these octets, in so few calls
 pub record HasGiven (d e : InputState) (given : List ℕ) : Type 0 where
   pub consumed : Consumes d.left e.left given
-  pub few : HasFewCalls d e given
+  pub few : HasFewLargeCalls d e given
 
 -- each gave these octets
 abbrev pub AreGiven : List InputState → List InputState → List (List ℕ) → Type 0

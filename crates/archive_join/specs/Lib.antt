@@ -3,6 +3,7 @@ pub mod Inputs
 pub mod Joined
 pub mod Failures
 pub mod Keeping
+pub mod Ranges
 pub mod Shown
 pub mod Heads
 pub mod Sides

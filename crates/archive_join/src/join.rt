@@ -117,8 +117,9 @@ impl Join {
 /// Reads archives, each the text of a set of records, in one pass, and writes what is kept of their
 /// entries, by who has them, in the order of an archive. Answers how many entries are kept.
 ///
-/// Room for two entries of each archive is reserved first, and no further memory is taken. In itself
-/// the call has 16,384 octets that are held back, so that they leave by large pieces.
+/// Room for two entries of each archive and for a piece of `ENTRIES_READ_MAX` octets of its reader is
+/// reserved first, and no further memory is taken. In itself the call has 16,384 octets that are held
+/// back, so that they leave by large pieces.
 ///
 /// The next entries are read in the order of the inputs: first of all, and then of each input that
 /// had the least one, once that was joined. Each input is read to its end.

@@ -1,12 +1,14 @@
 //! Laws of what is kept of archives. Each function does nothing, and its contract is the law.
 
 ghost use Rattle.std.specs.Prelude.{◌≡◌, ◌↔◌, ◌++◌, ℕ, List, [], ◌∷◌};
-ghost use Rattle.std.specs.List.{AllByRecursion};
+ghost use Rattle.std.specs.List.{AllByRecursion, flat_map};
 ghost use Rattle.archive_text.specs.Entries.{Entry, Has, IsAscending};
 ghost use Rattle.archive_text.specs.Text.{IsArchive, text_of};
 ghost use Rattle.archive_streams.specs.Joining.{IsUnion};
 ghost use Rattle.archive_sets.specs.Selections.{IsSelection};
+ghost use Rattle.archive_sets.specs.declared.range.InRange.{InRange};
 ghost use Rattle.archive_join.specs.Holders.{AreKept, AreKeptUpTo, IsHeld, kept_text};
+ghost use Rattle.archive_join.specs.Ranges.{AreInTurn, AreOfRanges};
 
 use crate::common::Common;
 use crate::diff::Diff;
@@ -54,6 +56,16 @@ pub fn union_is_that_of_all_sets(kept: &Union)
         → AreKept (⟦<Union as Kept>⟧.keeps kept.now) yss qs
         → AreKept (⟦<Union as Kept>⟧.keeps kept.now) (ps ∷ qs ∷ []) zs
         → AreKept (⟦<Union as Kept>⟧.keeps kept.now) (xss ++ yss) ws → zs ≡ ws }
+{}
+
+/// Archives of half-open ranges of instants that have none in common, in ascending order and with
+/// the records without a time in the first, may be concatenated: that is the archive of their union.
+pub fn archives_of_ranges_are_concatenated(kept: &Union)
+    ensures { (most : ℕ) (ranges : List InRange) (xss : List (List Entry)) → AreInTurn ranges
+        → AreOfRanges most ranges xss
+        → (zs : List Entry) × IsArchive most zs
+        × AreKept (⟦<Union as Kept>⟧.keeps kept.now) xss zs
+        × (text_of zs ≡ flat_map text_of xss) }
 {}
 
 /// What an archive has in common with another, and what it has that the other has not, are disjoint,

@@ -64,7 +64,7 @@ short_begun d e xs ys b short =
 read_so_far : (meets : Entry → Type 0) (s : Selection) (d e : InputState) (start now : Option (List ℕ))
     → (w : Looking meets s d e start now) → IsBegun d e (w.xs ++ current s.entries ∷ [])
 read_so_far meets s d e start now w =
-    begun s.entries.progress s.entries.reader d e (w.xs ++ current s.entries ∷ []) w.reads
+    begun s.entries d e (w.xs ++ current s.entries ∷ []) w.reads
 
 -- few are selected
 pub few_selected : (meets : Entry → Type 0) (s : Selection) (d e : InputState) (start now : Option (List ℕ))
@@ -109,7 +109,7 @@ pub takes : (meets : Entry → Type 0) (s t : Selection) (x : Entry) (d e : Inpu
 takes meets s t x d e start a b is meet same count puts w =
     let reads : Reads s.entries d e (w.xs ++ x ∷ []) =
     subst (λ (y : Entry). Reads s.entries d e (w.xs ++ y ∷ [])) (sym is) w.reads in
-    let read = begun s.entries.progress s.entries.reader d e (w.xs ++ x ∷ []) reads in
+    let read = begun s.entries d e (w.xs ++ x ∷ []) reads in
     record {
       xs = w.xs ++ x ∷ [];
       ys = w.ys ++ x ∷ [];
@@ -131,7 +131,7 @@ pub put_stops : (meets : Entry → Type 0) (s : Selection) (held : Held) (x : En
 put_stops meets s held x d e start a b sent is meet stops w =
     let reads : Reads s.entries d e (w.xs ++ x ∷ []) =
     subst (λ (y : Entry). Reads s.entries d e (w.xs ++ y ∷ [])) (sym is) w.reads in
-    let read = begun s.entries.progress s.entries.reader d e (w.xs ++ x ∷ []) reads in
+    let read = begun s.entries d e (w.xs ++ x ∷ []) reads in
     record {
       xs = w.xs ++ x ∷ [];
       ys = w.ys ++ x ∷ [];

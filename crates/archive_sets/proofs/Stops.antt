@@ -6,7 +6,7 @@ use Rattle.octet_devices.proofs.Carrying.{StopsWithin-take}
 use Rattle.archive_text.specs.Entries.{Entry}
 use Rattle.archive_text.specs.Text.{text_of}
 use Rattle.archive_streams.specs.declared.progress.Progress.TheVariants.{Ended}
-use Rattle.archive_streams.proofs.EntrySteps.{begun}
+use Rattle.archive_streams.proofs.EntrySteps.{begun_whole}
 use Rattle.archive_sets.specs.Selected.{Stopped}
 use Rattle.archive_sets.specs.Selecting.{Copied}
 use Rattle.archive_sets.specs.declared.fault.SelectFault.TheVariants.{Write}
@@ -20,7 +20,7 @@ pub stopped_end : (meets : Entry → Type 0) (s : Selection) (sent : ℕ) (d e :
 stopped_end meets s sent d e start now after stops c = record {
   xs = c.xs;
   ys = c.ys;
-  read = begun Ended s.entries.reader d e c.xs c.whole;
+  read = begun_whole d e c.xs c.whole;
   selection = c.selects.selection;
   written = StopsWithin-take start after (text_of c.ys) sent (stops (text_of c.ys) c.selects.carries)
       (omega (arith, c.selects.short, c.whole.short));

@@ -46,9 +46,9 @@ impl Selection {
 /// Reads an archive, the text of a set of records, and writes the archive of those that meet the
 /// condition. Answers how many they are.
 ///
-/// Room for two entries is reserved first, and no further memory is taken. In itself the call has a
-/// piece of `READ_MAX` octets of the reader, and 16,384 octets that are held back, so that they leave
-/// by large pieces.
+/// Room for two entries and for a piece of `ENTRIES_READ_MAX` octets of the reader is reserved first,
+/// and no further memory is taken. In itself the call has 16,384 octets that are held back, so that
+/// they leave by large pieces.
 ///
 /// # Errors
 /// The first fault that is met. What is selected of the entries before it is written first; where the

@@ -7,7 +7,7 @@ use Rattle.std.specs.Io.KnownBytes.{Consumes}
 use Rattle.std.proofs.KnownBytes.{Consumes-nil}
 use Rattle.std.proofs.lemmas.List.{length-append}
 use Rattle.octet_devices.specs.Device.{InputState}
-use Rattle.octet_devices.specs.declared.loops.TheConstants.{READ_MAX, READER_CALLS}
+use Rattle.octet_devices.specs.declared.loops.TheConstants.{READER_CALLS}
 use Rattle.archive_text.specs.Entries.{Entry}
 use Rattle.archive_text.specs.Faults.{IsLongestArchive}
 use Rattle.archive_text.specs.Text.{text_of}
@@ -15,19 +15,21 @@ use Rattle.archive_text.specs.declared.fault.ArchiveFault.TheVariants.{BadFrame}
 use Rattle.archive_text.specs.declared.limits.TheConstants.{ENTRY_MAX}
 use Rattle.archive_text.proofs.Ascending.{archive_nil}
 use Rattle.archive_text.proofs.Prefixes.{archive_fault, longest_faulty}
-use Rattle.archive_streams.specs.Entries.{HasRead, IsBegun, IsCauseOf, IsCutShort, IsWhole}
+use Rattle.archive_streams.specs.Entries.{HasRead, IsBegun, IsCauseOf, IsCutShort, IsWhole, Reads}
 use Rattle.archive_streams.specs.EntryTexts.{entry_in, HoldsEntry, IsAbove}
-use Rattle.archive_streams.specs.Pieces.{HasFewCalls, ReadsOn, unused}
+use Rattle.archive_streams.specs.Pieces.{HasFewLargeCalls, ReadsOn, size_of, unused}
 use Rattle.archive_streams.specs.Sides.{Due, IsNear, IsNextFault, IsSideStop, ReadTo}
+use Rattle.archive_streams.specs.declared.entries.ArchiveEntries.{ArchiveEntries}
 use Rattle.archive_streams.specs.declared.entry.EntryText.{EntryText}
 use Rattle.archive_streams.specs.declared.fault.InputFault.TheVariants.{Device, Endless}
 use Rattle.archive_streams.specs.declared.fault.SideFault.{SideFault}
 use Rattle.archive_streams.specs.declared.fault.SideFault.TheVariants.{Archive, Input}
+use Rattle.archive_streams.specs.declared.pieces.TheConstants.{ENTRIES_READ_MAX}
 use Rattle.archive_streams.specs.declared.progress.Progress.{Progress}
 use Rattle.archive_streams.specs.declared.progress.Progress.TheVariants.{Open, Ended, Stopped}
 use Rattle.archive_streams.specs.declared.side.ArchiveReader.{ArchiveReader}
 use Rattle.archive_streams.proofs.Merges.{ends_with}
-use Rattle.archive_streams.proofs.SideSteps.{few_calls, read_end, read_next, side_stops}
+use Rattle.archive_streams.proofs.SideSteps.{few_calls, near_at, within_reach, read_end, read_next, side_stops}
 
 -- before the first call nothing was read
 pub none_read : (s : ArchiveReader) (d : InputState) → unused s.pieces ≡ [] → s.position ≡ 0 → s.pieces.calls ≡ 0
@@ -78,13 +80,13 @@ goes_on p s t last d e f es still same h above r position read =
     subst (λ (q : Progress). HasRead q t d f (es ++ entry_in t.entry ∷ [])) (sym still) next
 
 -- and fewer octets are still to come
-pub comes_nearer : (s t : ArchiveReader) → IsNear t → HoldsEntry t.entry
+pub comes_nearer : (s t : ArchiveReader) → size_of t.pieces ≡ ENTRIES_READ_MAX → IsNear t → HoldsEntry t.entry
     → t.position ≡ s.position + length t.entry.text.items
-    → READ_MAX * READER_CALLS - t.position < READ_MAX * READER_CALLS - s.position
-comes_nearer s t near h position =
+    → ENTRIES_READ_MAX * READER_CALLS - t.position < ENTRIES_READ_MAX * READER_CALLS - s.position
+comes_nearer s t size near h position =
     omega (
       arith,
-      near,
+      near_at ENTRIES_READ_MAX t size near,
       t.pieces.few,
       position,
       ap length h.text_is,
@@ -92,27 +94,33 @@ comes_nearer s t near h position =
     )
 
 -- the end is found
-whole_of : (t : ArchiveReader) (d f : InputState) (x : List ℕ) (es : List Entry) → ReadTo t d f x es
+whole_of : (t : ArchiveReader) (d f : InputState) (x : List ℕ) (es : List Entry)
+    → size_of t.pieces ≡ ENTRIES_READ_MAX → ReadTo t d f x es
     → unused t.pieces ≡ [] → 0 < t.pieces.ends → IsWhole d f es
-whole_of t d f x es r none ended =
+whole_of t d f x es size r none ended =
     let whole : x ≡ text_of es = r.parts ∙ ap (λ (u : List ℕ). text_of es ++ u) none ∙ append-nil (text_of es) in
     record {
       archive = r.archive;
       consumed = subst (Consumes d.left f.left) whole r.consumed;
-      few = subst (HasFewCalls d f) whole (few_calls t d f x r.calls r.far);
-      short = omega (arith, ap length whole, r.far, t.pieces.few);
+      few = subst (HasFewLargeCalls d f) whole (few_calls ENTRIES_READ_MAX t d f x size r.calls r.ends r.far);
+      short = omega (
+        arith,
+        ap length whole,
+        within_reach ENTRIES_READ_MAX (length x) t.pieces size r.far,
+        t.pieces.few,
+      );
       ended = λ low. omega (arith, r.ends low, ended);
       none_left = r.at_end ended;
     }
 
 pub ends_whole : (p : Progress) (s t : ArchiveReader) (last : EntryText) (d e f : InputState) (es : List Entry)
-    → p ≡ Open → last ≡ s.entry
+    → p ≡ Open → last ≡ s.entry → size_of s.pieces ≡ ENTRIES_READ_MAX
     → ReadsOn s.pieces t.pieces e f (unused s.pieces) (t.entry.text.items ++ unused t.pieces)
     → t.position ≡ s.position + length t.entry.text.items
     → (t.entry.text.items ≡ []) × (unused t.pieces ≡ []) × (0 < t.pieces.ends) → HasRead p s d e es → IsWhole d f es
-ends_whole p s t last d e f es still same r position end read =
+ends_whole p s t last d e f es still same size r position end read =
     let due : Due s d e es last = due_behind p s last d e es still same read in
-    whole_of t d f (due.x ++ r.more) es (read_end s t d e f due.x es due.read r end.0 position) end.1 end.2
+    whole_of t d f (due.x ++ r.more) es (r.size ∙ size) (read_end s t d e f due.x es due.read r end.0 position) end.1 end.2
 
 -- ---- it stops
 
@@ -138,11 +146,11 @@ front_of (Input Endless) s d e es t =
     t.parts (length t.rest, t.cause.0, refl)
 
 pub stops_short : (fault : SideFault) (p : Progress) (s t : ArchiveReader) (last : EntryText) (d e f : InputState)
-    (es : List Entry) → p ≡ Open → last ≡ s.entry
+    (es : List Entry) → p ≡ Open → last ≡ s.entry → size_of s.pieces ≡ ENTRIES_READ_MAX
     → ReadsOn s.pieces t.pieces e f (unused s.pieces) (t.entry.text.items ++ unused t.pieces)
     → IsNextFault fault last s.position (t.entry.text.items ++ unused t.pieces) t.pieces → HasRead p s d e es
     → IsCutShort fault d f es
-stops_short fault p s t last d e f es still same r wrong read =
+stops_short fault p s t last d e f es still same size r wrong read =
     let stop : IsSideStop fault t d f es =
     side_stops fault s t d e f es last (due_behind p s last d e es still same read) r wrong in
     record {
@@ -150,24 +158,30 @@ stops_short fault p s t last d e f es still same r wrong read =
       rest = stop.rest;
       consumed = stop.consumed;
       front = front_of fault t d f es stop;
-      few = few_calls t d f stop.x stop.calls stop.far;
-      short = omega (arith, stop.far, t.pieces.few);
+      few = few_calls ENTRIES_READ_MAX t d f stop.x (r.size ∙ size) stop.calls stop.ends stop.far;
+      short = omega (
+        arith,
+        within_reach ENTRIES_READ_MAX (length stop.x) t.pieces (r.size ∙ size) stop.far,
+        t.pieces.few,
+      );
       cause = cause_of fault t d f es stop;
     }
 
 -- what was given up to now begins with the entries that were read
-pub begun : (p : Progress) (s : ArchiveReader) (d e : InputState) (es : List Entry) → HasRead p s d e es
-    → IsBegun d e es
-begun Open s d e es due = record {
+begun_due : (s : ArchiveReader) (d e : InputState) (es : List Entry) → size_of s.pieces ≡ ENTRIES_READ_MAX
+    → Due s d e es s.entry → IsBegun d e es
+begun_due s d e es size due = record {
   given = due.x;
   rest = unused s.pieces;
   consumed = due.read.consumed;
   parts = due.read.parts;
   archive = due.read.archive;
-  few = few_calls s d e due.x due.read.calls due.read.far;
-  short = omega (arith, due.read.far, s.pieces.few);
+  few = few_calls ENTRIES_READ_MAX s d e due.x size due.read.calls due.read.ends due.read.far;
+  short = omega (arith, within_reach ENTRIES_READ_MAX (length due.x) s.pieces size due.read.far, s.pieces.few);
 }
-begun Ended s d e es whole = record {
+
+pub begun_whole : (d e : InputState) (es : List Entry) → IsWhole d e es → IsBegun d e es
+begun_whole d e es whole = record {
   given = text_of es;
   rest = [];
   consumed = whole.consumed;
@@ -176,7 +190,9 @@ begun Ended s d e es whole = record {
   few = whole.few;
   short = whole.short;
 }
-begun (Stopped fault) s d e es short = record {
+
+begun_short : (fault : SideFault) (d e : InputState) (es : List Entry) → IsCutShort fault d e es → IsBegun d e es
+begun_short fault d e es short = record {
   given = short.given;
   rest = short.rest;
   consumed = short.consumed;
@@ -185,3 +201,11 @@ begun (Stopped fault) s d e es short = record {
   few = short.few;
   short = short.short;
 }
+
+pub begun : (s : ArchiveEntries) (d e : InputState) (es : List Entry) → Reads s d e es → IsBegun d e es
+begun s d e es reads = by_progress s.progress reads
+  where
+    by_progress : (p : Progress) → HasRead p s.reader d e es → IsBegun d e es
+    by_progress Open due = begun_due s.reader d e es s.size due
+    by_progress Ended whole = begun_whole d e es whole
+    by_progress (Stopped fault) short = begun_short fault d e es short

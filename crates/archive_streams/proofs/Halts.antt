@@ -19,7 +19,7 @@ use Rattle.archive_streams.specs.Joining.{IsUnion, IsWithin, MayFollow}
 use Rattle.archive_streams.specs.Joins.{BothDue, Joins, LeftDue, Merging, RightDue}
 use Rattle.archive_streams.specs.Merging.{HasRoom}
 use Rattle.octet_devices.specs.Device.{InputState}
-use Rattle.archive_streams.specs.Pieces.{HasFewCalls, unused}
+use Rattle.archive_streams.specs.Pieces.{HasFewCalls, size_of, unused}
 use Rattle.archive_streams.specs.Sides.{Due, EndsWith, IsNear, IsNextOrEnd, IsSideStop, Ready}
 use Rattle.archive_streams.specs.Faults.{IsCut}
 use Rattle.archive_streams.specs.Stopped.{HasEnded, IsInputFault, IsLeftFirst, IsRightFirst}
@@ -35,42 +35,45 @@ use Rattle.archive_streams.specs.declared.side.ArchiveReader.{ArchiveReader}
 use Rattle.archive_streams.proofs.Joining.{AllWithin, SideAt, first_above, first_within, prefix_of_any, side_on}
 use Rattle.archive_streams.proofs.Joining.{up_to_first}
 use Rattle.archive_streams.proofs.Merges.{HasNext, has_next, longer_both, longer_left, longer_right, still_on}
-use Rattle.archive_streams.proofs.SideSteps.{few_calls}
+use Rattle.archive_streams.proofs.SideSteps.{few_calls, near_at}
 use Rattle.archive_streams.proofs.Unions.{IsAhead, all_within, due_on, ready_on, side_ahead, side_due, side_ready, turned, union_both}
 use Rattle.archive_streams.proofs.Unions.{union_left, union_right}
 
 -- ---- what is joined is short
 
 -- the octets that so many calls give
-near_short : (r : ArchiveReader) → IsNear r → r.position ≤ READ_MAX * READER_CALLS
-near_short r near = omega (arith, near, r.pieces.few)
+near_short : (r : ArchiveReader) → size_of r.pieces ≡ READ_MAX → IsNear r → r.position ≤ READ_MAX * READER_CALLS
+near_short r size near =
+    omega (arith, near_at READ_MAX r size near, r.pieces.few)
 
-due_short : (s : ArchiveReader) (d e : InputState) (es : List Entry) (last : EntryText) → IsNear s → Due s d e es last
+due_short : (s : ArchiveReader) (d e : InputState) (es : List Entry) (last : EntryText)
+    → size_of s.pieces ≡ READ_MAX → IsNear s → Due s d e es last
     → length (text_of es) ≤ READ_MAX * READER_CALLS
-due_short s d e es last near r = omega (arith, near_short s near, r.read.position)
+due_short s d e es last size near r = omega (arith, near_short s size near, r.read.position)
 
-ready_short : (s : ArchiveReader) (d e : InputState) (ls ws : List Entry) → IsNear s → Ready s d e ls ws
-    → length (text_of ls) ≤ READ_MAX * READER_CALLS
-ready_short s d e ls ws near r = placed r.place
+ready_short : (s : ArchiveReader) (d e : InputState) (ls ws : List Entry) → size_of s.pieces ≡ READ_MAX → IsNear s
+    → Ready s d e ls ws → length (text_of ls) ≤ READ_MAX * READER_CALLS
+ready_short s d e ls ws size near r = placed r.place
   where
     placed : IsNextOrEnd s r.es ls ws → length (text_of ls) ≤ READ_MAX * READER_CALLS
     placed (inl next) = omega (
       arith,
-      near_short s near,
+      near_short s size near,
       r.read.position,
       ap (λ (l : List Entry). length (text_of l)) next.1,
       text_length ls (entry_in s.entry ∷ []),
     )
     placed (inr end) = omega (
       arith,
-      near_short s near,
+      near_short s size near,
       r.read.position,
       ap (λ (l : List Entry). length (text_of l)) end.1,
     )
 
-next_short : (s : ArchiveReader) (d e : InputState) (ls ws : List Entry) → IsNear s → HasNext s d e ls ws
+next_short : (s : ArchiveReader) (d e : InputState) (ls ws : List Entry) → size_of s.pieces ≡ READ_MAX → IsNear s
+    → HasNext s d e ls ws
     → length (text_of (ls ++ entry_in s.entry ∷ [])) ≤ READ_MAX * READER_CALLS
-next_short s d e ls ws near n = omega (arith, near_short s near, n.read.position)
+next_short s d e ls ws size near n = omega (arith, near_short s size near, n.read.position)
 
 both_short : (ls rs ws : List Entry) → length (text_of ws) ≤ length (text_of ls) + length (text_of rs)
     → length (text_of ls) ≤ READ_MAX * READER_CALLS → length (text_of rs) ≤ READ_MAX * READER_CALLS
@@ -190,12 +193,13 @@ right_input (Input input_Endless) s dl el dr er ls rs ws x t a ahead b u all = (
 
 -- the left stops
 left_stops : (fault : SideFault) (s : ArchiveReader) (m : Merge) (dl el dr er : InputState) (ls rs ws : List Entry)
-    (y : List ℕ) (start now : Option (List ℕ)) → IsSideStop fault s dl el ls → EndsWith ls m.last
+    (y : List ℕ) (start now : Option (List ℕ)) → size_of s.pieces ≡ READ_MAX → IsSideStop fault s dl el ls
+    → EndsWith ls m.last
     → SideAt y rs ws → ((more : List ℕ) → MayFollow er.left more → SideAt (y ++ more) rs ws)
     → Consumes dr.left er.left y → HasFewCalls dr er y → Joins m ls rs ws start now
     → length (text_of ws) < 2 ^ 64
     → Halted (left_fault fault) m.held dl el dr er start now
-left_stops fault s m dl el dr er ls rs ws y start now t ends b on consumed few j short =
+left_stops fault s m dl el dr er ls rs ws y start now size t ends b on consumed few j short =
     let a : SideAt t.x ls ws = stopped_side fault s dl el ls ws m.last t ends j.last_is j.union.ascending in
     let all : AllWithin ls ws = record { within = all_within ls ws m.last ends j.last_is j.union.ascending } in
     record {
@@ -204,7 +208,7 @@ left_stops fault s m dl el dr er ls rs ws y start now t ends b on consumed few j
       text = text_of ws;
       left = t.consumed;
       right = consumed;
-      left_calls = few_calls s dl el t.x t.calls t.far;
+      left_calls = few_calls READ_MAX s dl el t.x size t.calls t.ends t.far;
       right_calls = few;
       prefix = prefix_of_any el.left er.left t.x y ls rs ws
           (λ more _. stopped_on fault s dl el ls ws m.last t ends j.last_is j.union.ascending more) on j.union;
@@ -214,41 +218,41 @@ left_stops fault s m dl el dr er ls rs ws y start now t ends b on consumed few j
     }
 
 pub left_halts : (fault found : SideFault) (s : ArchiveReader) (m : Merge) (dl el fl dr er : InputState)
-    (start now : Option (List ℕ)) → HasRoom m → found ≡ fault
+    (start now : Option (List ℕ)) → HasRoom m → size_of s.pieces ≡ size_of m.left.pieces → found ≡ fault
     → ((d : InputState) (es : List Entry) → Due m.left d el es m.last → IsSideStop found s d fl es)
     → LeftDue m dl el dr er start now → Halted (left_fault fault) m.held dl fl dr er start now
-left_halts fault found s m dl el fl dr er start now room same stop h =
-    let left = due_short m.left dl el h.ls m.last room.left_near h.left in
-    let right = ready_short m.right dr er h.rs h.ws room.right_near h.right in
-    left_stops fault s m dl fl dr er h.ls h.rs h.ws h.right.x start now
+left_halts fault found s m dl el fl dr er start now room kept same stop h =
+    let left = due_short m.left dl el h.ls m.last m.left_size room.left_near h.left in
+    let right = ready_short m.right dr er h.rs h.ws m.right_size room.right_near h.right in
+    left_stops fault s m dl fl dr er h.ls h.rs h.ws h.right.x start now (kept ∙ m.left_size)
     (subst (λ (f : SideFault). IsSideStop f s dl fl h.ls) same (stop dl h.ls h.left)) h.left.ends
     (side_ready m.right dr er h.rs h.ws h.right) (ready_on m.right dr er h.rs h.ws h.right) h.right.read.consumed
-    (few_calls m.right dr er h.right.x h.right.read.calls h.right.read.far)
+    (few_calls READ_MAX m.right dr er h.right.x m.right_size h.right.read.calls h.right.read.ends h.right.read.far)
     h.joins
     (both_short h.ls h.rs h.ws h.joins.short left right)
 
 pub left_halts_first : (fault found : SideFault) (s : ArchiveReader) (m : Merge) (dl el fl dr er : InputState)
-    (start now : Option (List ℕ)) → HasRoom m → found ≡ fault
+    (start now : Option (List ℕ)) → HasRoom m → size_of s.pieces ≡ size_of m.left.pieces → found ≡ fault
     → ((d : InputState) (es : List Entry) → Due m.left d el es m.last → IsSideStop found s d fl es)
     → BothDue m dl el dr er start now → Halted (left_fault fault) m.held dl fl dr er start now
-left_halts_first fault found s m dl el fl dr er start now room same stop h =
-    let left = due_short m.left dl el h.ls m.last room.left_near h.left in
-    let right = due_short m.right dr er h.rs m.last room.right_near h.right in
-    left_stops fault s m dl fl dr er h.ls h.rs h.ws h.right.x start now
+left_halts_first fault found s m dl el fl dr er start now room kept same stop h =
+    let left = due_short m.left dl el h.ls m.last m.left_size room.left_near h.left in
+    let right = due_short m.right dr er h.rs m.last m.right_size room.right_near h.right in
+    left_stops fault s m dl fl dr er h.ls h.rs h.ws h.right.x start now (kept ∙ m.left_size)
     (subst (λ (f : SideFault). IsSideStop f s dl fl h.ls) same (stop dl h.ls h.left)) h.left.ends
     (side_due m.right dr er h.rs h.ws m.last h.right h.joins.last_is h.joins.union.ascending)
     (λ more _. due_on m.right dr er h.rs h.ws m.last h.right h.joins.last_is h.joins.union.ascending more)
     h.right.read.consumed
-    (few_calls m.right dr er h.right.x h.right.read.calls h.right.read.far) h.joins (both_short h.ls h.rs h.ws h.joins.short left right)
+    (few_calls READ_MAX m.right dr er h.right.x m.right_size h.right.read.calls h.right.read.ends h.right.read.far) h.joins (both_short h.ls h.rs h.ws h.joins.short left right)
 
 -- the right stops, and the left is ahead
 pub right_halts : (fault found : SideFault) (s : ArchiveReader) (m : Merge) (dl el dr er fr : InputState)
-    (start now : Option (List ℕ)) → HasRoom m → found ≡ fault
+    (start now : Option (List ℕ)) → HasRoom m → size_of s.pieces ≡ size_of m.right.pieces → found ≡ fault
     → ((d : InputState) (es : List Entry) → Due m.right d er es m.last → IsSideStop found s d fr es)
     → RightDue m dl el dr er start now → Halted (right_fault fault) m.held dl el dr fr start now
-right_halts fault found s m dl el dr er fr start now room same stop h =
-    let left = ready_short m.left dl el h.ls h.ws room.left_near h.left in
-    let right = due_short m.right dr er h.rs m.last room.right_near h.right in
+right_halts fault found s m dl el dr er fr start now room kept same stop h =
+    let left = ready_short m.left dl el h.ls h.ws m.left_size room.left_near h.left in
+    let right = due_short m.right dr er h.rs m.last m.right_size room.right_near h.right in
     let a = side_ready m.left dl el h.ls h.ws h.left in
     let t : IsSideStop fault s dr fr h.rs = subst (λ (f : SideFault). IsSideStop f s dr fr h.rs) same
     (stop dr h.rs h.right) in
@@ -264,8 +268,8 @@ right_halts fault found s m dl el dr er fr start now room same stop h =
       text = text_of h.ws;
       left = h.left.read.consumed;
       right = t.consumed;
-      left_calls = few_calls m.left dl el h.left.x h.left.read.calls h.left.read.far;
-      right_calls = few_calls s dr fr t.x t.calls t.far;
+      left_calls = few_calls READ_MAX m.left dl el h.left.x m.left_size h.left.read.calls h.left.read.ends h.left.read.far;
+      right_calls = few_calls READ_MAX s dr fr t.x (kept ∙ m.right_size) t.calls t.ends t.far;
       prefix = prefix_of_any el.left fr.left h.left.x t.x h.ls h.rs h.ws (ready_on m.left dl el h.ls h.ws h.left)
           (λ more _. stopped_on fault s dr fr h.rs h.ws m.last t h.right.ends h.joins.last_is
           h.joins.union.ascending more) h.joins.union;
@@ -331,14 +335,14 @@ less_halts m held dl el dr er start a b sent room some above stops s =
       text = text_of (s.ws ++ w ∷ []);
       left = next.read.consumed;
       right = s.right.read.consumed;
-      left_calls = few_calls m.left dl el next.x next.read.calls next.read.far;
-      right_calls = few_calls m.right dr er s.right.x s.right.read.calls s.right.read.far;
+      left_calls = few_calls READ_MAX m.left dl el next.x m.left_size next.read.calls next.read.ends next.read.far;
+      right_calls = few_calls READ_MAX m.right dr er s.right.x m.right_size s.right.read.calls s.right.read.ends s.right.read.far;
       prefix = prefix_of_any el.left er.left next.x s.right.x (s.ls ++ w ∷ []) s.rs (s.ws ++ w ∷ [])
           (λ more _. written_on m.left dl el s.ls s.ws next more)
           (still_on m.right dr er s.rs s.ws w above s.right) union;
       short = both_short (s.ls ++ w ∷ []) s.rs (s.ws ++ w ∷ []) (longer_left s.ls s.rs s.ws w s.joins.short)
-          (next_short m.left dl el s.ls s.ws room.left_near next)
-          (ready_short m.right dr er s.rs s.ws room.right_near s.right);
+          (next_short m.left dl el s.ls s.ws m.left_size room.left_near next)
+          (ready_short m.right dr er s.rs s.ws m.right_size room.right_near s.right);
       under_way = subst (λ (u : List ℕ). StopsWithin start b u sent) (written_text m.left dl el s.ls s.ws next)
           (stops (text_of s.ws) s.joins.carries);
       input = tt;
@@ -360,13 +364,13 @@ greater_halts m held dl el dr er start a b sent room some above stops s =
       text = text_of (s.ws ++ w ∷ []);
       left = s.left.read.consumed;
       right = next.read.consumed;
-      left_calls = few_calls m.left dl el s.left.x s.left.read.calls s.left.read.far;
-      right_calls = few_calls m.right dr er next.x next.read.calls next.read.far;
+      left_calls = few_calls READ_MAX m.left dl el s.left.x m.left_size s.left.read.calls s.left.read.ends s.left.read.far;
+      right_calls = few_calls READ_MAX m.right dr er next.x m.right_size next.read.calls next.read.ends next.read.far;
       prefix = prefix_of_any el.left er.left s.left.x next.x s.ls (s.rs ++ w ∷ []) (s.ws ++ w ∷ [])
           (still_on m.left dl el s.ls s.ws w above s.left) (λ more _. written_on m.right dr er s.rs s.ws next more) union;
       short = both_short s.ls (s.rs ++ w ∷ []) (s.ws ++ w ∷ []) (longer_right s.ls s.rs s.ws w s.joins.short)
-          (ready_short m.left dl el s.ls s.ws room.left_near s.left)
-          (next_short m.right dr er s.rs s.ws room.right_near next);
+          (ready_short m.left dl el s.ls s.ws m.left_size room.left_near s.left)
+          (next_short m.right dr er s.rs s.ws m.right_size room.right_near next);
       under_way = subst (λ (u : List ℕ). StopsWithin start b u sent) (written_text m.right dr er s.rs s.ws next)
           (stops (text_of s.ws) s.joins.carries);
       input = tt;
@@ -385,21 +389,21 @@ equal_halts m held dl el dr er start a b sent room some also same stops s =
     let union = union_both s.ls s.rs s.ws w s.joins.union next.below in
     let right : length (text_of (s.rs ++ w ∷ [])) ≤ READ_MAX * READER_CALLS =
     subst (λ (e : Entry). length (text_of (s.rs ++ e ∷ [])) ≤ READ_MAX * READER_CALLS) (sym same)
-    (next_short m.right dr er s.rs s.ws room.right_near other) in
+    (next_short m.right dr er s.rs s.ws m.right_size room.right_near other) in
     record {
       x = next.x;
       y = other.x;
       text = text_of (s.ws ++ w ∷ []);
       left = next.read.consumed;
       right = other.read.consumed;
-      left_calls = few_calls m.left dl el next.x next.read.calls next.read.far;
-      right_calls = few_calls m.right dr er other.x other.read.calls other.read.far;
+      left_calls = few_calls READ_MAX m.left dl el next.x m.left_size next.read.calls next.read.ends next.read.far;
+      right_calls = few_calls READ_MAX m.right dr er other.x m.right_size other.read.calls other.read.ends other.read.far;
       prefix = prefix_of_any el.left er.left next.x other.x (s.ls ++ w ∷ []) (s.rs ++ w ∷ []) (s.ws ++ w ∷ [])
           (λ more _. written_on m.left dl el s.ls s.ws next more)
           (λ more _. subst (λ (e : Entry). SideAt (other.x ++ more) (s.rs ++ e ∷ []) (s.ws ++ e ∷ [])) (sym same)
           (written_on m.right dr er s.rs s.ws other more)) union;
       short = both_short (s.ls ++ w ∷ []) (s.rs ++ w ∷ []) (s.ws ++ w ∷ []) (longer_both s.ls s.rs s.ws w s.joins.short)
-          (next_short m.left dl el s.ls s.ws room.left_near next) right;
+          (next_short m.left dl el s.ls s.ws m.left_size room.left_near next) right;
       under_way = subst (λ (u : List ℕ). StopsWithin start b u sent) (written_text m.left dl el s.ls s.ws next)
           (stops (text_of s.ws) s.joins.carries);
       input = tt;
@@ -415,12 +419,12 @@ end_halts m held dl el dr er start a b sent room stops s = record {
   text = text_of s.ws;
   left = s.left.read.consumed;
   right = s.right.read.consumed;
-  left_calls = few_calls m.left dl el s.left.x s.left.read.calls s.left.read.far;
-  right_calls = few_calls m.right dr er s.right.x s.right.read.calls s.right.read.far;
+  left_calls = few_calls READ_MAX m.left dl el s.left.x m.left_size s.left.read.calls s.left.read.ends s.left.read.far;
+  right_calls = few_calls READ_MAX m.right dr er s.right.x m.right_size s.right.read.calls s.right.read.ends s.right.read.far;
   prefix = prefix_of_any el.left er.left s.left.x s.right.x s.ls s.rs s.ws (ready_on m.left dl el s.ls s.ws s.left)
       (ready_on m.right dr er s.rs s.ws s.right) s.joins.union;
-  short = both_short s.ls s.rs s.ws s.joins.short (ready_short m.left dl el s.ls s.ws room.left_near s.left)
-      (ready_short m.right dr er s.rs s.ws room.right_near s.right);
+  short = both_short s.ls s.rs s.ws s.joins.short (ready_short m.left dl el s.ls s.ws m.left_size room.left_near s.left)
+      (ready_short m.right dr er s.rs s.ws m.right_size room.right_near s.right);
   under_way = stops (text_of s.ws) s.joins.carries;
   input = tt;
 }

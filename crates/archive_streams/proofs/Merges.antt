@@ -15,11 +15,12 @@ use Rattle.archive_streams.specs.Joined.{Joined}
 use Rattle.archive_streams.specs.Merging.{rank}
 use Rattle.archive_text.proofs.Texts.{text_length, text_push}
 use Rattle.octet_devices.specs.Held.{Carries, Held}
+use Rattle.octet_devices.specs.declared.loops.TheConstants.{READ_MAX}
 use Rattle.archive_streams.specs.EntryTexts.{entry_in, HoldsEntry}
 use Rattle.archive_streams.specs.Joining.{IsUnion, MayFollow}
 use Rattle.archive_streams.specs.Joins.{BothDue, Joins, LeftDue, Merging, RightDue}
 use Rattle.octet_devices.specs.Device.{InputState}
-use Rattle.archive_streams.specs.Pieces.{HasFewCalls, unused}
+use Rattle.archive_streams.specs.Pieces.{HasFewCalls, reach, size_of, unused}
 use Rattle.archive_streams.specs.Sides.{Due, EndsWith, IsNextOrEnd, ReadTo, Ready}
 use Rattle.archive_streams.specs.declared.entry.EntryText.{EntryText}
 use Rattle.archive_streams.specs.declared.merge.Merge.{Merge}
@@ -37,7 +38,7 @@ read_same s t d e x es pieces position r = record {
   parts = r.parts ∙ ap (λ (p : Pieces). text_of es ++ unused p) (sym pieces);
   archive = r.archive;
   position = position ∙ r.position;
-  far = omega (arith, r.far, ap (λ (p : Pieces). p.calls) pieces);
+  far = omega (arith, r.far, ap (λ (p : Pieces). reach p) pieces);
   calls = λ low. r.calls low ∙ ap (λ (p : Pieces). d.calls + p.calls) (sym pieces);
   ends = λ low. r.ends low ∙ ap (λ (p : Pieces). d.ends + p.ends) (sym pieces);
   at_end = λ some. r.at_end (omega (arith, some, ap (λ (p : Pieces). p.ends) pieces));
@@ -276,9 +277,9 @@ pub record ReadWhole (d e : InputState) (ls : List Entry) : Type 0 where
   pub ended : d.calls < 2 ^ 63 → d.ends < e.ends
   pub few : HasFewCalls d e (text_of ls)
 
-pub end_of : (s : ArchiveReader) (d e : InputState) (ls ws : List Entry) → length s.entry.text.items ≡ 0 → Ready s d e ls ws
-    → ReadWhole d e ls
-end_of s d e ls ws none r = placed r.place
+pub end_of : (s : ArchiveReader) (d e : InputState) (ls ws : List Entry) → size_of s.pieces ≡ READ_MAX
+    → length s.entry.text.items ≡ 0 → Ready s d e ls ws → ReadWhole d e ls
+end_of s d e ls ws size none r = placed r.place
   where
     placed : IsNextOrEnd s r.es ls ws → ReadWhole d e ls
     placed (inl next) = absurd (omega (
@@ -295,7 +296,7 @@ end_of s d e ls ws none r = placed r.place
           archive = subst (IsArchive ENTRY_MAX) end.1 r.read.archive;
           at_end = r.read.at_end end.3;
           ended = λ low. omega (arith, r.read.ends low, end.3);
-          few = subst (HasFewCalls d e) whole (few_calls s d e r.x r.read.calls r.read.far);
+          few = subst (HasFewCalls d e) whole (few_calls READ_MAX s d e r.x size r.read.calls r.read.ends r.read.far);
         }
 
 -- both sides are at their ends, and what was held back is written
@@ -303,8 +304,8 @@ pub joined_of : (m : Merge) (dl el dr er : InputState) (start now after : Option
     → ((text : List ℕ) → Carries start now m.held text → Appends start after text)
     → Merging m dl el dr er start now → Joined dl el dr er start after m.count
 joined_of m dl el dr er start now after none written s =
-    let left = end_of m.left dl el s.ls s.ws (omega (arith, none)) s.left in
-    let right = end_of m.right dr er s.rs s.ws (omega (arith, none)) s.right in
+    let left = end_of m.left dl el s.ls s.ws m.left_size (omega (arith, none)) s.left in
+    let right = end_of m.right dr er s.rs s.ws m.right_size (omega (arith, none)) s.right in
     record {
       xs = s.ls;
       ys = s.rs;
@@ -327,8 +328,8 @@ joined_of m dl el dr er start now after none written s =
 pub ended_of : (m : Merge) (dl el dr er : InputState) (start now : Option (List ℕ)) → rank m ≡ 0
     → Merging m dl el dr er start now → IsAtEnd el.left × IsAtEnd er.left
 ended_of m dl el dr er start now none s = (
-  (end_of m.left dl el s.ls s.ws (omega (arith, none)) s.left).at_end,
-  (end_of m.right dr er s.rs s.ws (omega (arith, none)) s.right).at_end,
+  (end_of m.left dl el s.ls s.ws m.left_size (omega (arith, none)) s.left).at_end,
+  (end_of m.right dr er s.rs s.ws m.right_size (omega (arith, none)) s.right).at_end,
 )
 
 -- before the first call nothing was read

@@ -4,9 +4,10 @@ use Rattle.std.proofs.Common.{inr}
 use Rattle.std.specs.Prelude.{◌≢◌, ◌⊎◌}
 use Rattle.std.specs.Fmt.{decimal}
 use Rattle.std.proofs.lemmas.List.{length-append}
+use Rattle.std.proofs.lemmas.Nat.{mul-le}
 use Rattle.syslog_frame.specs.Frames.{framed}
 use Rattle.syslog_frame.specs.declared.framing.Framing.TheVariants.{Counted}
-use Rattle.octet_devices.specs.declared.loops.TheConstants.{READ_MAX}
+use Rattle.octet_devices.specs.declared.loops.TheConstants.{READER_CALLS}
 use Rattle.archive_text.specs.Entries.{Entry, IsAscending}
 use Rattle.archive_text.specs.Faults.{BeginsWithOctets, IsFaultBefore, IsFaultBehind, IsNotAscending}
 use Rattle.archive_text.specs.Text.{IsArchive, text_of}
@@ -20,11 +21,12 @@ use Rattle.archive_streams.specs.Faults.{IsSideFault}
 use Rattle.archive_text.specs.Positions.{later, position_of}
 use Rattle.archive_streams.specs.Judging.{IsJudged}
 use Rattle.octet_devices.specs.Device.{InputState}
-use Rattle.archive_streams.specs.Pieces.{ReadsOn, unused}
+use Rattle.archive_streams.specs.Pieces.{ReadsOn, reach, size_of, unused}
 use Rattle.archive_streams.specs.Sides.{EndsWith, IsNextFault}
 use Rattle.archive_streams.specs.declared.entry.EntryText.{EntryText}
 use Rattle.archive_streams.specs.declared.fault.SideFault.TheVariants.{Archive}
 use Rattle.archive_streams.specs.declared.pieces.Pieces.{Pieces}
+use Rattle.archive_streams.specs.declared.pieces.TheConstants.{ENTRIES_READ_MAX}
 
 -- an entry has octets before it
 begun : (most : ℕ) (s b : List ℕ) → BeginsWithOctets most s b → 0 < length s
@@ -129,8 +131,11 @@ not_above_fault last t position rest p h low =
 
 -- ---- positions
 
+-- no more octets are given than the largest pieces have
+pub reach_short : (p : Pieces) → reach p ≤ ENTRIES_READ_MAX * READER_CALLS
+reach_short p = mul-le (size_of p) p.calls ENTRIES_READ_MAX READER_CALLS p.most p.few
+
 pub near_on : (p q : Pieces) (d e : InputState) (s text : List ℕ) (position : ℕ) → ReadsOn p q d e s (text ++ unused q)
-    → position + length s ≤ READ_MAX * p.calls
-    → position + length text + length (unused q) ≤ READ_MAX * q.calls
+    → position + length s ≤ reach p → position + length text + length (unused q) ≤ reach q
 near_on p q d e s text position x near = omega
     (arith, x.far, near, ap length x.grown, length-append s x.more, length-append text (unused q))

@@ -3,7 +3,6 @@ use Rattle.std.proofs.Common.{◌≡◌, ℕ, ◌+◌, ◌*◌, ◌<◌, ◌≤�
 use Rattle.std.proofs.Common.{append_assoc, arith, inl, inr}
 use Rattle.std.proofs.KnownBytes.{Consumes-trans}
 use Rattle.std.proofs.lemmas.List.{length-append}
-use Rattle.octet_devices.specs.declared.loops.TheConstants.{READ_MAX}
 use Rattle.archive_text.specs.Entries.{Entry, Has, IsAscending, IsBelow}
 use Rattle.archive_text.specs.Text.{IsArchive, entry_text, text_of}
 use Rattle.archive_text.specs.declared.limits.TheConstants.{ENTRY_MAX}
@@ -12,21 +11,37 @@ use Rattle.archive_text.proofs.Members.{of_member}
 use Rattle.archive_text.proofs.Texts.{text_goes_on, text_push}
 use Rattle.archive_streams.specs.EntryTexts.{entry_in, HoldsEntry, IsAbove}
 use Rattle.octet_devices.specs.Device.{InputState}
-use Rattle.archive_streams.specs.Pieces.{HasFewCalls, ReadsOn, unused}
-use Rattle.archive_streams.specs.Sides.{Due, EndsWith, IsNextFault, IsSideStop, IsStopCause, ReadTo, Ready}
+use Rattle.archive_streams.specs.Pieces.{HasFewCallsOf, ReadsOn, reach, size_of, unused}
+use Rattle.archive_streams.specs.Sides.{Due, EndsWith, IsNear, IsNextFault, IsSideStop, IsStopCause, ReadTo, Ready}
 use Rattle.archive_streams.specs.declared.entry.EntryText.{EntryText}
 use Rattle.archive_streams.specs.declared.fault.SideFault.{SideFault}
 use Rattle.archive_streams.specs.declared.fault.SideFault.TheVariants.{Archive, Input}
 use Rattle.archive_streams.specs.declared.fault.InputFault.TheVariants.{Device, Endless}
+use Rattle.archive_streams.specs.declared.pieces.Pieces.{Pieces}
 use Rattle.archive_streams.specs.declared.side.ArchiveReader.{ArchiveReader}
 use Rattle.archive_streams.proofs.NextEntries.{some_or_none}
 
+-- so many octets are within what calls of this size can have given
+pub within_reach : (size n : ℕ) (p : Pieces) → size_of p ≡ size → n ≤ reach p → n ≤ size * p.calls
+within_reach size n p same h = subst (λ (k : ℕ). n ≤ k * p.calls) same h
+
+-- so is the position
+pub near_at : (size : ℕ) (r : ArchiveReader) → size_of r.pieces ≡ size → IsNear r
+    → r.position + length (unused r.pieces) ≤ size * r.pieces.calls
+near_at size r same near = within_reach size (r.position + length (unused r.pieces)) r.pieces same near
+
 -- a reader is called as often as its calls are counted
-pub few_calls : (s : ArchiveReader) (d e : InputState) (x : List ℕ)
-    → (d.calls < 2 ^ 63 → e.calls ≡ d.calls + s.pieces.calls) → length x ≤ READ_MAX * s.pieces.calls → HasFewCalls d e x
-few_calls s d e x h far = record {
+pub few_calls : (size : ℕ) (s : ArchiveReader) (d e : InputState) (x : List ℕ) → size_of s.pieces ≡ size
+    → (d.calls < 2 ^ 63 → e.calls ≡ d.calls + s.pieces.calls) → (d.calls < 2 ^ 63 → e.ends ≡ d.ends + s.pieces.ends)
+    → length x ≤ reach s.pieces → HasFewCallsOf size d e x
+few_calls size s d e x same h ended far = record {
   calls = λ low. omega (arith, h low, s.pieces.few);
-  octets = λ low. omega (arith, h low, far);
+  octets = λ low. omega (
+    arith,
+    ap (λ (n : ℕ). size * n) (h low),
+    within_reach size (length x) s.pieces same far,
+  );
+  ends = λ low. omega (arith, ended low, s.pieces.once);
 }
 
 -- an entry above the last one is above all before it

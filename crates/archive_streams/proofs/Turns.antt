@@ -3,6 +3,7 @@ use Rattle.std.proofs.Common.{◌≡◌, ℕ, ◌+◌, ◌<◌, List, [], ◌∷
 use Rattle.std.specs.Prelude.{◌≢◌, Result, Ok, Err, IfErr, IfOk, IsErrAnd, MatchResult, OnOk}
 use Rattle.std.specs.declared.cmp.Ordering.{Ordering}
 use Rattle.std.specs.declared.cmp.Ordering.TheVariants.{Less, Equal, Greater}
+use Rattle.octet_devices.specs.declared.loops.TheConstants.{READ_MAX}
 use Rattle.archive_text.specs.Entries.{IsOrder}
 use Rattle.archive_streams.specs.EntryTexts.{entry_in}
 use Rattle.archive_streams.specs.Merging.{IsNextOrder, IsSteady, LeftFailures, LeftReadFailed, OnlyWrite}
@@ -15,6 +16,7 @@ use Rattle.archive_streams.specs.declared.fault.MergeFault.TheVariants.{Left, Ri
 use Rattle.archive_streams.specs.declared.fault.Side.TheVariants.{Left as side_Left, Right as side_Right}
 use Rattle.archive_streams.specs.declared.side.ArchiveReader.{ArchiveReader}
 use Rattle.archive_streams.specs.declared.merge.Merge.{Merge}
+use Rattle.archive_streams.proofs.SideSteps.{near_at}
 
 pub some_length : (s : List ℕ) → s ≢ [] → 0 < length s
 some_length [] some = absurd (some refl)
@@ -38,8 +40,8 @@ pub falls_both : (old new : Merge) → IsSteady old → old.left.entry.text.item
 falls_both old new s left right l r =
     omega (
       arith,
-      s.room.left_near,
-      s.room.right_near,
+      near_at READ_MAX old.left old.left_size s.room.left_near,
+      near_at READ_MAX old.right old.right_size s.room.right_near,
       old.left.pieces.few,
       old.right.pieces.few,
       some_length old.left.entry.text.items left,

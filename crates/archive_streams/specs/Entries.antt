@@ -2,19 +2,20 @@
 use Rattle.std.specs.Prelude.{◌≡◌, ℕ, ◌+◌, ◌-◌, ◌*◌, ◌^◌, ◌<◌, ◌≤◌, List, [], ◌∷◌, ◌++◌, length}
 use Rattle.std.specs.Io.KnownBytes.{Consumes, IsAtEnd}
 use Rattle.octet_devices.specs.Device.{InputState}
-use Rattle.octet_devices.specs.declared.loops.TheConstants.{READ_MAX, READER_CALLS}
+use Rattle.octet_devices.specs.declared.loops.TheConstants.{READER_CALLS}
 use Rattle.archive_text.specs.Entries.{Entry}
 use Rattle.archive_text.specs.Faults.{IsArchiveFault, IsLongestArchive}
 use Rattle.archive_text.specs.Positions.{position_of}
 use Rattle.archive_text.specs.Text.{IsArchive, text_of}
 use Rattle.archive_text.specs.declared.limits.TheConstants.{ENTRY_MAX}
 use Rattle.archive_streams.specs.EntryTexts.{entry_in}
-use Rattle.archive_streams.specs.Pieces.{HasFewCalls}
+use Rattle.archive_streams.specs.Pieces.{HasFewLargeCalls}
 use Rattle.archive_streams.specs.Sides.{Due}
 use Rattle.archive_streams.specs.declared.entries.ArchiveEntries.{ArchiveEntries}
 use Rattle.archive_streams.specs.declared.fault.InputFault.TheVariants.{Device, Endless}
 use Rattle.archive_streams.specs.declared.fault.SideFault.{SideFault}
 use Rattle.archive_streams.specs.declared.fault.SideFault.TheVariants.{Archive, Input}
+use Rattle.archive_streams.specs.declared.pieces.TheConstants.{ENTRIES_READ_MAX}
 use Rattle.archive_streams.specs.declared.progress.Progress.{Progress}
 use Rattle.archive_streams.specs.declared.progress.Progress.TheVariants.{Open, Ended, Stopped}
 use Rattle.archive_streams.specs.declared.side.ArchiveReader.{ArchiveReader}
@@ -33,14 +34,14 @@ IsClosed s = ¬ (s.progress ≡ Open)
 
 -- how many octets the calls that a reader may get can still give, at most, behind the last entry that was read
 abbrev pub still_to_come : ArchiveEntries → ℕ
-still_to_come s = READ_MAX * READER_CALLS - s.reader.position
+still_to_come s = ENTRIES_READ_MAX * READER_CALLS - s.reader.position
 
 -- a reader that stood at `d` gave its end, and all that it gave is the archive of these entries
 pub record IsWhole (d e : InputState) (es : List Entry) : Type 0 where
   pub archive : IsArchive ENTRY_MAX es
   pub consumed : Consumes d.left e.left (text_of es)
-  pub few : HasFewCalls d e (text_of es)
-  pub short : length (text_of es) ≤ READ_MAX * READER_CALLS
+  pub few : HasFewLargeCalls d e (text_of es)
+  pub short : length (text_of es) ≤ ENTRIES_READ_MAX * READER_CALLS
   pub ended : d.calls < 2 ^ 63 → d.ends < e.ends
   pub none_left : IsAtEnd e.left
 
@@ -61,8 +62,8 @@ pub record IsCutShort (fault : SideFault) (d e : InputState) (es : List Entry) :
   pub rest : List ℕ
   pub consumed : Consumes d.left e.left given
   pub front : IsLongestArchive ENTRY_MAX given es rest
-  pub few : HasFewCalls d e given
-  pub short : length given ≤ READ_MAX * READER_CALLS
+  pub few : HasFewLargeCalls d e given
+  pub short : length given ≤ ENTRIES_READ_MAX * READER_CALLS
   pub cause : IsCauseOf fault d e given
 
 -- these entries were read since the reader stood at `d`
@@ -100,5 +101,5 @@ pub record IsBegun (d e : InputState) (es : List Entry) : Type 0 where
   pub consumed : Consumes d.left e.left given
   pub parts : given ≡ text_of es ++ rest
   pub archive : IsArchive ENTRY_MAX es
-  pub few : HasFewCalls d e given
-  pub short : length given ≤ READ_MAX * READER_CALLS
+  pub few : HasFewLargeCalls d e given
+  pub short : length given ≤ ENTRIES_READ_MAX * READER_CALLS

@@ -1,7 +1,7 @@
 -- An archive that is read entry by entry.
-use Rattle.std.specs.Prelude.{◌≡◌, ◌≢◌, ℕ, ◌+◌, ◌*◌, ◌^◌, ◌<◌, ◌≤◌, ◌⊎◌, List, [], ◌∷◌, ◌++◌, length, vec_len}
+use Rattle.std.specs.Prelude.{◌≡◌, ◌≢◌, ℕ, ◌+◌, ◌^◌, ◌<◌, ◌≤◌, ◌⊎◌, List, [], ◌∷◌, ◌++◌, length, vec_len}
 use Rattle.std.specs.Io.KnownBytes.{Consumes, IsAtEnd}
-use Rattle.octet_devices.specs.declared.loops.TheConstants.{READ_MAX, READER_CALLS}
+use Rattle.octet_devices.specs.declared.loops.TheConstants.{READER_CALLS}
 use Rattle.archive_text.specs.Entries.{Entry, Has, IsAscending, IsBelow}
 use Rattle.archive_text.specs.Faults.{IsFaultBehind}
 use Rattle.archive_text.specs.Text.{IsArchive, text_of}
@@ -10,7 +10,7 @@ use Rattle.archive_streams.specs.EntryTexts.{entry_in, HoldsEntry, IsAbove}
 use Rattle.archive_streams.specs.Faults.{IsCut}
 use Rattle.archive_text.specs.Positions.{position_of}
 use Rattle.octet_devices.specs.Device.{InputState}
-use Rattle.archive_streams.specs.Pieces.{unused}
+use Rattle.archive_streams.specs.Pieces.{reach, unused}
 use Rattle.archive_streams.specs.declared.entry.EntryText.{EntryText}
 use Rattle.archive_streams.specs.declared.fault.InputFault.TheVariants.{Device, Endless}
 use Rattle.archive_streams.specs.declared.fault.SideFault.{SideFault}
@@ -20,7 +20,7 @@ use Rattle.archive_streams.specs.declared.side.ArchiveReader.{ArchiveReader}
 
 -- the position is one of the octets that so many calls can give
 abbrev pub IsNear : ArchiveReader → Type 0
-IsNear r = r.position + length (unused r.pieces) ≤ READ_MAX * r.pieces.calls
+IsNear r = r.position + length (unused r.pieces) ≤ reach r.pieces
 
 -- the last entry is the last of the list; there is none where the list has none
 pub record EndsWith (es : List Entry) (last : EntryText) : Type 0 where
@@ -42,7 +42,7 @@ pub record ReadTo (s : ArchiveReader) (d e : InputState) (x : List ℕ) (es : Li
   pub parts : x ≡ text_of es ++ unused s.pieces
   pub archive : IsArchive ENTRY_MAX es
   pub position : s.position ≡ length (text_of es)
-  pub far : length x ≤ READ_MAX * s.pieces.calls
+  pub far : length x ≤ reach s.pieces
   pub calls : d.calls < 2 ^ 63 → e.calls ≡ d.calls + s.pieces.calls
   pub ends : d.calls < 2 ^ 63 → e.ends ≡ d.ends + s.pieces.ends
   pub at_end : 0 < s.pieces.ends → IsAtEnd e.left
@@ -82,7 +82,7 @@ pub record IsSideStop (fault : SideFault) (s : ArchiveReader) (d e : InputState)
   pub parts : x ≡ text_of es ++ rest
   pub archive : IsArchive ENTRY_MAX es
   pub cause : IsStopCause fault s x rest es
-  pub far : length x ≤ READ_MAX * s.pieces.calls
+  pub far : length x ≤ reach s.pieces
   pub calls : d.calls < 2 ^ 63 → e.calls ≡ d.calls + s.pieces.calls
   pub ends : d.calls < 2 ^ 63 → e.ends ≡ d.ends + s.pieces.ends
   pub at_end : 0 < s.pieces.ends → IsAtEnd e.left

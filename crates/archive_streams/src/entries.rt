@@ -1,12 +1,15 @@
 //! An archive is read entry by entry.
 
 ghost use Rattle.std.specs.Prelude.{◌≡◌, ◌≤◌, vec_capacity, vec_len};
+ghost use Rattle.archive_streams.specs.Pieces.{size_of};
 ghost use Rattle.archive_streams.specs.Sides.{IsNear};
 ghost use Rattle.archive_streams.specs.declared.entry.TheConstants.{TEXT_MAX};
+ghost use Rattle.archive_streams.specs.declared.pieces.TheConstants.{ENTRIES_READ_MAX};
 ghost use Rattle.archive_streams.specs.declared.progress.Progress.TheVariants.{Open};
 
 use crate::entry::EntryText;
 use crate::fault::SideFault;
+use crate::pieces::ENTRIES_READ_MAX;
 use crate::progress::Progress;
 use crate::side::ArchiveReader;
 use archive_text::EntryView;
@@ -23,6 +26,7 @@ pub struct ArchiveEntries {
     progress: Progress,
     ghost room: { TEXT_MAX ≤ vec_capacity reader.entry.text },
     ghost spare_room: { TEXT_MAX ≤ vec_capacity spare.text },
+    ghost size: { size_of reader.pieces ≡ ENTRIES_READ_MAX },
     ghost start: { reader.entry.start ≤ vec_len reader.entry.text },
     ghost near: { progress ≡ Open → IsNear reader },
 }
@@ -36,7 +40,8 @@ impl ArchiveEntries {
     ghost use Rattle.archive_streams.specs.Faults.{SideFailures};
 
     /// Before the first entry. Room for two entries is reserved, for each `ENTRY_MAX` octets and 11
-    /// for its length and space; no further memory is taken.
+    /// for its length and space, and for `ENTRIES_READ_MAX` octets of the reader; no further memory
+    /// is taken.
     ///
     /// # Errors
     /// The room was refused.
@@ -45,7 +50,7 @@ impl ArchiveEntries {
         ensures none { IfOk result (λ s. (d : InputState) → Reads s d d []) }
     {
         Ok(ArchiveEntries {
-            reader: ArchiveReader::new(alloc)?,
+            reader: ArchiveReader::new(alloc, ENTRIES_READ_MAX)?,
             spare: EntryText::new(alloc)?,
             progress: Progress::Open,
         })
@@ -56,7 +61,7 @@ impl ArchiveEntries {
     /// read.
     ///
     /// All calls are to be given the same reader, which is called `READER_CALLS` times at most, for
-    /// `READ_MAX` octets each.
+    /// `ENTRIES_READ_MAX` octets each.
     ///
     /// # Errors
     /// What follows is no entry, the reader failed, or it gave no end in so many calls.

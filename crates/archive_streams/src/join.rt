@@ -135,8 +135,8 @@ impl Merge {
 /// many entries that has.
 ///
 /// Room for three entries is reserved first, for each `ENTRY_MAX` octets and 11 for its length and
-/// space; no further memory is taken. In itself the call has a piece of `READ_MAX` octets for each
-/// reader, and 16,384 octets that are held back, so that they leave by large pieces.
+/// space, and for a piece of `READ_MAX` octets of each reader; no further memory is taken. In itself
+/// the call has 16,384 octets that are held back, so that they leave by large pieces.
 ///
 /// An entry of the left is read, then one of the right. The lesser is written, or an equal pair
 /// once, and then the next one of each input that was written is read, the left first. The first

@@ -21,3 +21,4 @@ mod validation;
 pub use entries::ArchiveEntries;
 pub use fault::{InputFault, MergeFault, Side, SideFault as EntriesFault};
 pub use join::merge_streams;
+pub use pieces::ENTRIES_READ_MAX;

@@ -1,19 +1,14 @@
 //! Two archives on their way into one, step by step.
 
-ghost use Rattle.std.specs.Prelude.{◌≡◌, ◌≢◌, [], List, Option, ℕ, IfErr, IfOk, MatchOption, OnOk};
-ghost use Rattle.octet_devices.specs.Device.{InputState};
-ghost use Rattle.archive_streams.specs.Joins.{BothDue};
-ghost use Rattle.archive_streams.specs.Merging.{IsLeftDue, IsNextOrder, IsRightDue, IsSteady, rank};
-ghost use Rattle.archive_streams.specs.Steps.{KeepsLeft, KeepsRight, LeftHalts, LeftIsOn, LeftReady};
-ghost use Rattle.archive_streams.specs.Steps.{LeftWriteHalts, LeftWritten, RightHalts, RightIsOn};
-ghost use Rattle.archive_streams.specs.Steps.{RightReady, RightWriteHalts, RightWritten, TakesLeft};
-ghost use Rattle.archive_streams.specs.Steps.{TakesRight, TellsLeft, TellsRight, TellsWriter};
+ghost use Rattle.std.specs.Prelude.{◌≡◌};
+ghost use Rattle.octet_devices.specs.declared.loops.TheConstants.{READ_MAX};
+ghost use Rattle.archive_streams.specs.Pieces.{size_of};
 
 use crate::entry::EntryText;
 use crate::fault::{InputFault, MergeFault, Side, SideFault};
 use crate::side::ArchiveReader;
 use archive_text::compare;
-use octet_devices::{BufferedOutput, Input, Output, WriteFault};
+use octet_devices::{BufferedOutput, Input, Output, READ_MAX, WriteFault};
 use std::alloc::{AllocError, Global};
 use std::cmp::Ordering;
 use std::mem::swap;
@@ -27,9 +22,22 @@ pub struct Merge {
     pub last: EntryText,
     pub held: BufferedOutput,
     pub count: u64,
+    pub ghost left_size: { size_of left.pieces ≡ READ_MAX },
+    pub ghost right_size: { size_of right.pieces ≡ READ_MAX },
 }
 
 impl Merge {
+    ghost use Rattle.std.specs.Prelude.{◌≢◌, [], List, Option, ℕ, IfErr, IfOk, MatchOption, OnOk};
+    ghost use Rattle.octet_devices.specs.Device.{InputState};
+    ghost use Rattle.archive_streams.specs.Joins.{BothDue};
+    ghost use Rattle.archive_streams.specs.Merging.{IsLeftDue, IsNextOrder, IsRightDue, IsSteady};
+    ghost use Rattle.archive_streams.specs.Merging.{rank};
+    ghost use Rattle.archive_streams.specs.Steps.{KeepsLeft, KeepsRight, LeftHalts, LeftIsOn};
+    ghost use Rattle.archive_streams.specs.Steps.{LeftReady, LeftWriteHalts, LeftWritten, RightHalts};
+    ghost use Rattle.archive_streams.specs.Steps.{RightIsOn, RightReady, RightWriteHalts};
+    ghost use Rattle.archive_streams.specs.Steps.{RightWritten, TakesLeft, TakesRight, TellsLeft};
+    ghost use Rattle.archive_streams.specs.Steps.{TellsRight, TellsWriter};
+
     /// Before the first entries.
     pub fn new(alloc: Global) -> Result<Merge, AllocError>
         ensures due { IfOk result IsLeftDue }
@@ -38,8 +46,8 @@ impl Merge {
             BothDue m dl dl dr dr start start) }
     {
         Ok(Merge {
-            left: ArchiveReader::new(alloc)?,
-            right: ArchiveReader::new(alloc)?,
+            left: ArchiveReader::new(alloc, READ_MAX)?,
+            right: ArchiveReader::new(alloc, READ_MAX)?,
             last: EntryText::new(alloc)?,
             held: BufferedOutput::new(),
             count: 0,

@@ -2,42 +2,53 @@
 
 ghost use Rattle.std.specs.Prelude.{◌≡◌, ◌≤◌, ◌<◌, ◌+◌, ◌++◌, [], length, drop, take, false};
 ghost use Rattle.std.specs.Prelude.{IfOk, IsTrue, IsErrOf, OnErr, vec_capacity, vec_len};
-ghost use Rattle.octet_devices.specs.declared.loops.TheConstants.{READ_MAX, READER_CALLS};
+ghost use Rattle.octet_devices.specs.declared.loops.TheConstants.{READER_CALLS};
+ghost use Rattle.archive_streams.specs.declared.pieces.TheConstants.{ENTRIES_READ_MAX};
 
 use crate::fault::InputFault;
-use octet_devices::{DeviceFault, Input, READ_MAX, READER_CALLS};
+use octet_devices::{DeviceFault, Input, READER_CALLS};
+use std::alloc::{AllocError, Global};
 
-/// A reader's octets, a piece of at most `READ_MAX` at a time: from `start` to `end` they were given
-/// and not yet used. `calls` of the reader were made, and `ends` of them gave the end.
+/// The most octets that [`ArchiveEntries`](crate::ArchiveEntries) asks of a reader per call.
+pub const ENTRIES_READ_MAX: usize = 262_144;
+
+/// A reader's octets, a piece at a time, of as many octets as `piece` has at most: from `start` to
+/// `end` they were given and not yet used. `calls` of the reader were made, and `ends` of them gave
+/// the end.
 #[derive(Drop)]
 pub struct Pieces {
-    pub piece: [u8; READ_MAX],
+    pub piece: Vec<u8>,
     pub start: usize,
     pub end: usize,
     pub calls: u64,
     pub ends: u64,
+    pub ghost some: { 0 < vec_len piece },
+    pub ghost most: { vec_len piece ≤ ENTRIES_READ_MAX },
     pub ghost order: { start ≤ end },
-    pub ghost within: { end ≤ READ_MAX },
+    pub ghost within: { end ≤ vec_len piece },
     pub ghost few: { calls ≤ READER_CALLS },
-    pub ghost once: { ends ≤ calls },
+    pub ghost once: { ends ≤ 1 },
 }
 
 impl Pieces {
-    ghost use Rattle.archive_streams.specs.Pieces.{unused, FailuresOf, ReadsOn, TakesMore};
+    ghost use Rattle.archive_streams.specs.Pieces.{unused, size_of, FailuresOf, ReadsOn, TakesMore};
 
-    /// Before the first call.
-    pub fn new() -> Pieces
-        ensures unused { unused result ≡ [] }
-        ensures calls { result.calls ≡ 0 }
-        ensures ends { result.ends ≡ 0 }
+    /// Before the first call. Room for a piece of this size is reserved.
+    pub fn new(alloc: Global, size: usize) -> Result<Pieces, AllocError>
+        requires some { 0 < size }
+        requires most { size ≤ ENTRIES_READ_MAX }
+        ensures size { IfOk result (λ p. size_of p ≡ size) }
+        ensures unused { IfOk result (λ p. unused p ≡ []) }
+        ensures calls { IfOk result (λ p. p.calls ≡ 0) }
+        ensures ends { IfOk result (λ p. p.ends ≡ 0) }
     {
-        Pieces {
-            piece: [0u8; READ_MAX],
+        Ok(Pieces {
+            piece: vec![in alloc; 0u8; size]?,
             start: 0,
             end: 0,
             calls: 0,
             ends: 0,
-        }
+        })
     }
 
     /// The octets that are not yet used.
@@ -79,8 +90,9 @@ impl Pieces {
                 self.end = n;
                 if n == 0 {
                     self.ends = 1;
+                    return Ok(false);
                 }
-                Ok(n > 0)
+                Ok(true)
             }
             Err(DeviceFault) => Err(InputFault::Device),
         }
@@ -124,6 +136,7 @@ impl Pieces {
         requires room { vec_len text.old + used ≤ vec_capacity text.old }
         ensures text { text.new.items ≡ text.old.items ++ take used (unused self.old) }
         ensures unused { unused self.new ≡ drop used (unused self.old) }
+        ensures size { size_of self.new ≡ size_of self.old }
         ensures calls { self.new.calls ≡ self.old.calls }
         ensures ends { self.new.ends ≡ self.old.ends }
         ensures room { vec_capacity text.old ≤ vec_capacity text.new }

@@ -4,7 +4,7 @@ ghost use Rattle.std.specs.Prelude.{◌≡◌, ◌<◌, ◌≤◌, ◌+◌, ◌+
 ghost use Rattle.std.specs.Prelude.{IfErr, IfOk, IfSome, IsNone, OnOk};
 ghost use Rattle.std.specs.Prelude.{vec_capacity, vec_len};
 ghost use Rattle.syslog_frame.specs.MsgLen.{MsgLen as Counts};
-ghost use Rattle.archive_streams.specs.Pieces.{ReadsOn, unused};
+ghost use Rattle.archive_streams.specs.Pieces.{ReadsOn, size_of, unused};
 ghost use Rattle.archive_streams.specs.Counting.{IsStep, IsUnfinished};
 ghost use Rattle.archive_streams.specs.EntryTexts.{HasCounted, HoldsEntry, IsCounted};
 ghost use Rattle.archive_streams.specs.Faults.{IsSideFault, SideFailures};
@@ -139,6 +139,7 @@ fn take_whole(pieces: &mut Pieces, text: &mut Vec<u8>) -> Option<usize>
     requires empty { text.old.items ≡ [] }
     requires room { TEXT_MAX ≤ vec_capacity text.old }
     ensures kept { text.new.items ++ unused pieces.new ≡ unused pieces.old }
+    ensures size { size_of pieces.new ≡ size_of pieces.old }
     ensures calls { pieces.new.calls ≡ pieces.old.calls }
     ensures ends { pieces.new.ends ≡ pieces.old.ends }
     ensures room { vec_capacity text.old ≤ vec_capacity text.new }

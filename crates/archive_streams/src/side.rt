@@ -2,9 +2,10 @@
 
 ghost use Rattle.std.specs.Prelude.{◌≡◌, ◌≢◌, ◌<◌, ◌≤◌, ◌++◌, [], false, vec_capacity, vec_len};
 ghost use Rattle.std.specs.Prelude.{IfErr, IfOk, IsTrue, OnOk};
-ghost use Rattle.archive_streams.specs.Pieces.{ReadsOn, unused};
+ghost use Rattle.archive_streams.specs.Pieces.{ReadsOn, size_of, unused};
 ghost use Rattle.archive_streams.specs.Faults.{SideFailures};
 ghost use Rattle.archive_streams.specs.declared.entry.TheConstants.{TEXT_MAX};
+ghost use Rattle.archive_streams.specs.declared.pieces.TheConstants.{ENTRIES_READ_MAX};
 
 use crate::entry::{EntryText, TEXT_MAX};
 use crate::fault::SideFault;
@@ -27,8 +28,11 @@ impl ArchiveReader {
     ghost use Rattle.archive_streams.specs.Sides.{HoldsNext, IsNear, IsNextFault, IsOn};
     ghost use Rattle.archive_streams.specs.Sides.{ReadiesSide, StopsSide};
 
-    /// Before the first entry.
-    pub fn new(alloc: Global) -> Result<ArchiveReader, AllocError>
+    /// Before the first entry. The reader is to be asked for so many octets a call.
+    pub fn new(alloc: Global, size: usize) -> Result<ArchiveReader, AllocError>
+        requires some { 0 < size }
+        requires most { size ≤ ENTRIES_READ_MAX }
+        ensures size { IfOk result (λ r. size_of r.pieces ≡ size) }
         ensures unused { IfOk result (λ r. unused r.pieces ≡ []) }
         ensures calls { IfOk result (λ r. r.pieces.calls ≡ 0) }
         ensures ends { IfOk result (λ r. r.pieces.ends ≡ 0) }
@@ -38,7 +42,7 @@ impl ArchiveReader {
         ensures start { IfOk result (λ r. r.entry.start ≤ vec_len r.entry.text) }
     {
         Ok(ArchiveReader {
-            pieces: Pieces::new(),
+            pieces: Pieces::new(alloc, size)?,
             position: 0,
             entry: EntryText::new(alloc)?,
         })
@@ -85,6 +89,7 @@ impl ArchiveReader {
         requires room { TEXT_MAX ≤ vec_capacity self.old.entry.text }
         requires last { last.now.start ≤ vec_len last.now.text }
         requires near { IsNear self.old }
+        ensures size { size_of self.new.pieces ≡ size_of self.old.pieces }
         ensures failures { SideFailures result (R.state reader.old).failures
             (R.state reader.new).failures }
         ensures room { TEXT_MAX ≤ vec_capacity self.new.entry.text }

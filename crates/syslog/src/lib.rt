@@ -23,7 +23,7 @@ pub use commands::{Files, MemoryFile, MemoryFiles, run};
 // archives
 pub use syslog_archive::{
     AddFault, Added, ArchiveEntries, ArchiveFault, AsSevereAs, AskedWord, Both, Condition,
-    Conditions, ENTRY_MAX, EntriesFault, EntryFault, EntryView, HasElement, HasWord, InRange,
+    Conditions, ENTRIES_READ_MAX, ENTRY_MAX, EntriesFault, EntryFault, EntryView, HasElement, HasWord, InRange,
     InputFault, MergeFault, OfFacility, OnlyUndated, PagedArchive, ReadFault, SelectFault, Side,
     Store, Times, VecArchive, WordField, entry_order_is_total, merge, merge_streams,
     merging_is_associative, merging_is_commutative, merging_is_idempotent, merging_is_union,
@@ -34,7 +34,7 @@ pub use syslog_archive::{
 // archives as sets
 pub use syslog_archive::{
     Common, Diff, DigestFault, JoinFault, Kept, Minus, Period, Union,
-    common_and_minus_part_an_archive, digest_stream, digests_are_one, equal_archives_do_not_differ,
+    archives_of_ranges_are_concatenated, common_and_minus_part_an_archive, digest_stream, digests_are_one, equal_archives_do_not_differ,
     join_streams, selecting_distributes_over_common_and_minus, union_is_that_of_all_sets,
     union_of_two_is_what_merging_gives,
 };
@@ -63,7 +63,9 @@ pub use syslog_legacy::{
 };
 
 // records as JSON
-pub use record_json::{a_line_is_its_object, lines_are_injective, put_json_line};
+pub use record_json::{
+    a_line_has_one_line_feed, a_line_is_its_object, lines_are_injective, put_json_line,
+};
 
 // values
 pub use syslog_value::{

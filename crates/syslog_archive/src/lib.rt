@@ -10,8 +10,8 @@
 
 pub use archive_digest::{DigestFault, Period, digest_stream, digests_are_one};
 pub use archive_join::{
-    Common, Diff, JoinFault, Kept, Minus, Union, common_and_minus_part_an_archive,
-    equal_archives_do_not_differ, join_streams, kept_entries_are_archives, kept_texts_begin_alike,
+    Common, Diff, JoinFault, Kept, Minus, Union, archives_of_ranges_are_concatenated,
+    common_and_minus_part_an_archive, equal_archives_do_not_differ, join_streams, kept_entries_are_archives, kept_texts_begin_alike,
     selecting_distributes_over_common_and_minus, union_is_that_of_all_sets,
     union_of_two_is_what_merging_gives,
 };
@@ -31,7 +31,7 @@ pub use archive_sets::{
     selecting_is_idempotent, selections_are_archives, selections_of_one_text_begin_alike,
 };
 pub use archive_streams::{
-    ArchiveEntries, EntriesFault, InputFault, MergeFault, Side, merge_streams,
+    ArchiveEntries, ENTRIES_READ_MAX, EntriesFault, InputFault, MergeFault, Side, merge_streams,
 };
 pub use archive_text::{
     AddFault, Added, ArchiveFault, ENTRY_MAX, EntryFault, EntryView, Store, entry_of_octets,

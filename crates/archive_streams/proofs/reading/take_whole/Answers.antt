@@ -15,5 +15,5 @@ returns-clause-some c =
     subst (λ (s : List ℕ). IsMsgLen s found) c.rest-rest.ensures c.in-Whole.ensures in
     let within : size ≤ length (unused p) = omega (arith, c.if-size-rest.false, ap length c.rest-rest.ensures) in
     counted_in c.in-Whole.count c.in-Whole.used size (unused p) c.move_behind.new.text.items h refl within
-    (omega (arith, within, length-take (p.end - p.start) (drop p.start p.piece), p.within))
+    (omega (arith, within, length-take (p.end - p.start) (drop p.start p.piece.items), p.within, p.most))
     (c.move_behind.ensures.text ∙ ap (λ (s : List ℕ). s ++ take size (unused p)) c.requires.empty)

@@ -6,6 +6,7 @@ pub invariant_of-result : goal.invariant_of-result
 invariant_of-result c = record {
   room = c.in_ok-new.ensures.room;
   spare_room = c.in_ok-new-2.ensures.room;
+  size = c.in_ok-new.ensures.size;
   start = c.in_ok-new.ensures.start;
   near = λ _. near_start c.in_ok-new.field-0 c.in_ok-new.ensures.unused c.in_ok-new.ensures.position;
 }

@@ -14,7 +14,7 @@ returns-in-Ok-true-clause-entry g c = λ _.
     record {
       open_before = c.in-Open.is;
       open_after = c.in-Open.is;
-      nearer = comes_nearer s.reader t c.in-Ok-true.ensures.on.near next.holds position;
+      nearer = comes_nearer s.reader t (c.next.ensures.reads.size ∙ s.size) c.in-Ok-true.ensures.on.near next.holds position;
       reads = λ d es read.
           goes_on s.progress s.reader t c.swap.new.x d _ _ es c.in-Open.is c.swap.ensures.x_after next.holds next.above
           c.next.ensures.reads position read;
@@ -31,7 +31,7 @@ returns-in-Ok-false-clause-end g c = λ _.
       progress = refl;
       entry = ap entry_in (c.swap-in-Ok-false.ensures.y_after ∙ c.swap.ensures.x_after);
       whole = λ d es read.
-          ends_whole s.progress s.reader t c.swap.new.x d _ _ es c.in-Open.is c.swap.ensures.x_after
+          ends_whole s.progress s.reader t c.swap.new.x d _ _ es c.in-Open.is c.swap.ensures.x_after s.size
           c.next.ensures.reads position (c.in-Ok-false.ensures.end off) read;
     }
 
@@ -44,5 +44,6 @@ returns-in-Err-clause-fault g c =
       entry = ap entry_in (c.swap-in-Err.ensures.y_after ∙ c.swap.ensures.x_after);
       cut_short = λ d es read.
           stops_short c.in-Err.fault s.progress s.reader t c.swap.new.x d _ _ es c.in-Open.is c.swap.ensures.x_after
+          s.size
           c.next.ensures.reads c.in-Err.ensures.fault read;
     }

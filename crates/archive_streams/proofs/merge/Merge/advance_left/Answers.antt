@@ -20,9 +20,9 @@ returns-in-Err-Archive-clause-halted g c =
     let stop = c.in-Err-Archive.ensures.stop in
     record {
       alone = λ dl dr er start now s.
-          left_halts at _ _ c.args.self.now dl _ _ dr er start now c.requires.room is stop s;
+          left_halts at _ _ c.args.self.now dl _ _ dr er start now c.requires.room c.advance.ensures.size is stop s;
       first = λ dl dr er start now s.
-          left_halts_first at _ _ c.args.self.now dl _ _ dr er start now c.requires.room is stop s;
+          left_halts_first at _ _ c.args.self.now dl _ _ dr er start now c.requires.room c.advance.ensures.size is stop s;
     }
 
 pub returns-in-Err-Input-Device-clause-halted : goal.returns-in-Err-Input-Device-clause-halted
@@ -31,9 +31,9 @@ returns-in-Err-Input-Device-clause-halted g c =
     let stop = c.in-Err-Input-Device.ensures.stop in
     record {
       alone = λ dl dr er start now s.
-          left_halts (Input Device) _ _ c.args.self.now dl _ _ dr er start now c.requires.room is stop s;
+          left_halts (Input Device) _ _ c.args.self.now dl _ _ dr er start now c.requires.room c.advance.ensures.size is stop s;
       first = λ dl dr er start now s.
-          left_halts_first (Input Device) _ _ c.args.self.now dl _ _ dr er start now c.requires.room is stop s;
+          left_halts_first (Input Device) _ _ c.args.self.now dl _ _ dr er start now c.requires.room c.advance.ensures.size is stop s;
     }
 
 pub returns-in-Err-Input-Endless-clause-halted : goal.returns-in-Err-Input-Endless-clause-halted
@@ -42,7 +42,7 @@ returns-in-Err-Input-Endless-clause-halted g c =
     let stop = c.in-Err-Input-Endless.ensures.stop in
     record {
       alone = λ dl dr er start now s.
-          left_halts (Input Endless) _ _ c.args.self.now dl _ _ dr er start now c.requires.room is stop s;
+          left_halts (Input Endless) _ _ c.args.self.now dl _ _ dr er start now c.requires.room c.advance.ensures.size is stop s;
       first = λ dl dr er start now s.
-          left_halts_first (Input Endless) _ _ c.args.self.now dl _ _ dr er start now c.requires.room is stop s;
+          left_halts_first (Input Endless) _ _ c.args.self.now dl _ _ dr er start now c.requires.room c.advance.ensures.size is stop s;
     }

@@ -12,16 +12,18 @@ returns-in-Ok-clause-ready g c = λ dl el dr start now s.
 pub returns-in-Err-Archive-clause-halted : goal.returns-in-Err-Archive-clause-halted
 returns-in-Err-Archive-clause-halted g c =
     λ dl el dr start now s. right_halts (Archive c.in-Err-Archive.fault) _ _ c.args.self.now dl el dr _ _ start now
-    c.requires.room c.in-Err-Archive.field-0-is c.in-Err-Archive.ensures.stop s
+    c.requires.room c.advance.ensures.size c.in-Err-Archive.field-0-is c.in-Err-Archive.ensures.stop s
 
 pub returns-in-Err-Input-Device-clause-halted : goal.returns-in-Err-Input-Device-clause-halted
 returns-in-Err-Input-Device-clause-halted g c =
     λ dl el dr start now s. right_halts (Input Device) _ _ c.args.self.now dl el dr _ _ start now c.requires.room
+    c.advance.ensures.size
     (c.in-Err-Input-Device.field-0-is ∙ ap Input c.in-Err-Input-Device.field-0-0-is) c.in-Err-Input-Device.ensures.stop
     s
 
 pub returns-in-Err-Input-Endless-clause-halted : goal.returns-in-Err-Input-Endless-clause-halted
 returns-in-Err-Input-Endless-clause-halted g c =
     λ dl el dr start now s. right_halts (Input Endless) _ _ c.args.self.now dl el dr _ _ start now c.requires.room
+    c.advance.ensures.size
     (c.in-Err-Input-Endless.field-0-is ∙ ap Input c.in-Err-Input-Endless.field-0-0-is)
     c.in-Err-Input-Endless.ensures.stop s

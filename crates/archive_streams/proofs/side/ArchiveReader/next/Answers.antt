@@ -10,6 +10,7 @@ use Rattle.archive_streams.specs.declared.fault.SideFault.{SideFault}
 use Rattle.archive_streams.specs.Sides.{IsNextFault}
 use Rattle.archive_streams.specs.declared.fault.SideFault.TheVariants.{Archive}
 use Rattle.archive_streams.proofs.NextEntries.{near_on, next_fault, not_above_fault, position_within}
+use Rattle.archive_streams.proofs.NextEntries.{reach_short}
 use Rattle.archive_streams.proofs.side.ArchiveReader.next.Goals as goal
 
 pub returns-then-not-is_above-clause-fault : goal.returns-then-not-is_above-clause-fault
@@ -41,7 +42,13 @@ returns-in-Err-Archive-clause-fault g c =
     let near = near_on _ _ _ _ (unused c.args.self.now.pieces) t.text.items position c.read_entry.ensures.reads
     c.requires.near in
     let fits : position + position_of fault < 2 ^ 64 =
-    omega (arith, position_within ENTRY_MAX rest fault wrong.0, length-append t.text.items (unused p), near, p.few)
+    omega (
+      arith,
+      position_within ENTRY_MAX rest fault wrong.0,
+      length-append t.text.items (unused p),
+      near,
+      reach_short p,
+    )
     in
     subst (λ (f : ArchiveFault). IsNextFault (Archive f) c.args.last.now position rest p)
     (sym (c.later.ensures.fits fits)) (next_fault fault c.args.last.now position rest p wrong)
