@@ -9,7 +9,6 @@ use Rattle.octet_devices.specs.declared.loops.WriteFault.{WriteFault}
 use Rattle.octet_devices.proofs.Carrying.{StopsWithin-take}
 use Rattle.octet_devices.proofs.Putting.{put_fails_before, puts_then}
 use Rattle.archive_text.specs.Entries.{Entry}
-use Rattle.archive_streams.specs.declared.progress.Progress.TheVariants.{Ended}
 use Rattle.archive_streams.proofs.EntrySteps.{begun_whole}
 use Rattle.archive_sets.specs.Failures.{ReadFailed, ReadFailures}
 use Rattle.archive_sets.specs.declared.fault.SelectFault.{SelectFault}
