@@ -307,7 +307,7 @@ none_given [] = tt
 none_given (d ∷ ds) = (
   record {
     consumed = Consumes-nil d.left;
-    few = record { calls = λ low. omega arith; octets = λ low. omega arith };
+    few = record { calls = λ low. omega arith; octets = λ low. omega arith; ends = λ low. omega arith };
   },
   none_given ds,
 )

@@ -20,7 +20,7 @@ use Rattle.archive_streams.specs.Pieces.{HasFewLargeCalls}
 use Rattle.std.specs.Io.KnownBytes.{Consumes}
 use Rattle.archive_streams.specs.declared.entries.ArchiveEntries.{ArchiveEntries}
 use Rattle.archive_streams.specs.declared.fault.SideFault.{SideFault}
-use Rattle.archive_streams.proofs.EntrySteps.{begun, begun_short}
+use Rattle.archive_streams.proofs.EntrySteps.{begun}
 use Rattle.archive_join.specs.Heads.{Place}
 use Rattle.archive_join.specs.Inputs.{IsMetFirst, MayBeFront, MayBeFronts, ReachesAsFar, ReachesFarther}
 use Rattle.archive_join.specs.Sides.{AreFurther, AreIdle, GoBeyond, GoesBeyond, IsPlaced, Side}
@@ -130,7 +130,15 @@ further_whole due ws d e ts w = record {
 pub further_cut : (fault : SideFault) (ws : List Entry) (d e : InputState) (ts : List Entry) → IsCutShort fault d e ts
     → ((w : Entry) → Has ws w → IsWithin ts w) → IsFurther true ws d e ts
 further_cut fault ws d e ts c within =
-    further_begun true ws d e ts [] ts (sym (append-nil ts)) (begun_short fault d e ts c) within (λ x w h k. absurd h) (λ idle. absurd (true≢false idle))
+    further_begun true ws d e ts [] ts (sym (append-nil ts)) (record {
+      given = c.given;
+      rest = c.rest;
+      consumed = c.consumed;
+      parts = c.front.parts;
+      archive = c.front.archive;
+      few = c.few;
+      short = c.short;
+    }) within (λ x w h k. absurd h) (λ idle. absurd (true≢false idle))
 
 -- wherever it stands
 pub further_placed : (closed due : Bool) (ws : List Entry) (s : ArchiveEntries) (d e : InputState) (ts : List Entry)

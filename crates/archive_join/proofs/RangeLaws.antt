@@ -21,7 +21,7 @@ instant_below : (from to since till : Option ℤ) (undated : Bool) (i j : Option
 instant_below from (Some t) (Some f) till undated None (Some j) apart a b = tt
 instant_below from (Some t) (Some f) till undated (Some i) (Some j) apart a b =
     <ℤ-≤ℤ_trans (<ℤ-≤ℤ_trans a.1 apart) b.0
-instant_below from (Some t) (Some f) till undated i None apart a (inl none) = absurd none.0
+instant_below from (Some t) (Some f) till undated i None apart a (inl (none, also)) = absurd cc
 instant_below from (Some t) (Some f) till undated i None apart a (inr off) = absurd (false≢true off)
 instant_below from (Some t) None till undated i j apart a b = absurd apart
 instant_below from None since till undated i j apart a b = absurd apart
