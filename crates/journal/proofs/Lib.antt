@@ -1,8 +1,8 @@
-mod Batches
-mod Begun
-mod Commit
-mod Create
-mod Files
-mod Readings
-mod Repair
-mod Synced
+pub mod Batches
+pub mod Begun
+pub mod Commit
+pub mod Create
+pub mod Files
+pub mod Readings
+pub mod Repair
+pub mod Synced

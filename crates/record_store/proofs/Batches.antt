@@ -1,0 +1,103 @@
+-- The entries of batches.
+use Rattle.std.proofs.Common.{◌≡◌, ◌⊎◌, inl, inr, ⊎_elim, ℕ, ◌≤◌, List, [], ◌∷◌, ◌++◌, length, refl, sym, ap, subst, ◌∙◌, arith}
+use Rattle.std.proofs.lemmas.List.{append-nil}
+use Rattle.std.specs.List.{AllByRecursion}
+use Rattle.std.specs.Prelude.{Option, Some}
+use Rattle.journal.specs.Batches.{HasBatches}
+use Rattle.journal.proofs.Readings.{one_reading}
+use Rattle.syslog_frame.specs.declared.limits.TheConstants.{COUNT_MAX}
+use Rattle.archive_text.specs.Entries.{Entry, Has, IsEntry}
+use Rattle.archive_text.specs.Text.{BeginsWithEntry, entry_text, text_of}
+use Rattle.archive_text.specs.declared.limits.TheConstants.{ENTRY_MAX}
+use Rattle.archive_text.proofs.Members.{all_append}
+use Rattle.archive_text.proofs.Texts.{entry_carries, no_text, one_beginning, text_push}
+use Rattle.record_store.specs.Holdings.{BatchHas, BatchesHave, HeldAt, IsBatch, JournalHas}
+use Rattle.record_store.specs.Names.{IsJournal}
+use Rattle.record_store.proofs.Named.{not_both}
+
+-- ---- a batch is of one list of entries
+
+abbrev Fits : Entry → Type 0
+Fits e = length e.octets ≤ ENTRY_MAX
+
+begins : (e : Entry) (rest : List ℕ) → IsEntry e → Fits e → BeginsWithEntry ENTRY_MAX (entry_text e ++ rest) e rest
+begins e rest entry fits =
+    record { entry = entry; fits = fits; carries = entry_carries ENTRY_MAX e (omega arith) entry fits; parts = refl }
+
+none_of : (es : List Entry) → [] ≡ text_of es → [] ≡ es
+none_of es is = sym (no_text es [] (is ∙ sym (append-nil (text_of es))))
+
+same_entries : (es fs : List Entry) → AllByRecursion IsEntry es → AllByRecursion Fits es → AllByRecursion IsEntry fs
+    → AllByRecursion Fits fs → text_of es ≡ text_of fs → es ≡ fs
+same_entries [] fs es_are es_fit fs_are fs_fit same = none_of fs same
+same_entries (e ∷ es) [] es_are es_fit fs_are fs_fit same = sym (none_of (e ∷ es) (sym same))
+same_entries (e ∷ es) (f ∷ fs) es_are es_fit fs_are fs_fit same =
+    let second : BeginsWithEntry ENTRY_MAX (text_of (e ∷ es)) f (text_of fs) =
+    subst (λ (t : List ℕ). BeginsWithEntry ENTRY_MAX t f (text_of fs)) (sym same)
+    (begins f (text_of fs) fs_are.0 fs_fit.0) in
+    let both = one_beginning ENTRY_MAX ENTRY_MAX (text_of (e ∷ es)) e f (text_of es) (text_of fs)
+    (begins e (text_of es) es_are.0 es_fit.0) second in
+    let more = same_entries es fs es_are.1 es_fit.1 fs_are.1 fs_fit.1 both.1 in
+    ap (λ (x : Entry). x ∷ es) both.0 ∙ ap (λ (xs : List Entry). f ∷ xs) more
+
+pub one_batch : (es fs : List Entry) (body : List ℕ) → IsBatch es body → IsBatch fs body → es ≡ fs
+one_batch es fs body one other =
+    same_entries es fs one.entries one.fits other.entries other.fits (sym one.text ∙ other.text)
+
+pub batch_has : (es : List Entry) (body : List ℕ) (e : Entry) → IsBatch es body → BatchHas body e → Has es e
+batch_has es body e batch has = subst (λ (l : List Entry). Has l e) (one_batch has.entries es body has.batch batch) has.has
+
+pub no_batch : IsBatch [] []
+no_batch = record { entries = tt; fits = tt; text = refl }
+
+-- a batch of no octets has no entries
+pub empty_batch : (es : List Entry) (body : List ℕ) → body ≡ [] → IsBatch es body → [] ≡ es
+empty_batch es body none batch = none_of es (sym none ∙ batch.text)
+
+-- one entry more
+pub batch_push : (es : List Entry) (e : Entry) (old new : List ℕ) → IsBatch es old → IsEntry e → Fits e
+    → new ≡ old ++ entry_text e → IsBatch (es ++ e ∷ []) new
+batch_push es e old new batch entry fits is = record {
+  entries = all_append IsEntry es (e ∷ []) batch.entries (entry, tt);
+  fits = all_append Fits es (e ∷ []) batch.fits (fits, tt);
+  text = is ∙ ap (λ (t : List ℕ). t ++ entry_text e) batch.text ∙ sym (text_push es e);
+}
+
+-- ---- one batch more
+
+pub pushed_has : (bodies : List (List ℕ)) (body : List ℕ) (e : Entry) → BatchesHave bodies e
+    → BatchesHave (bodies ++ body ∷ []) e
+pushed_has [] body e has = absurd has
+pushed_has (b ∷ bodies) body e (inl here) = inl here
+pushed_has (b ∷ bodies) body e (inr more) = inr (pushed_has bodies body e more)
+
+pub push_has : (bodies : List (List ℕ)) (body : List ℕ) (e : Entry) → BatchHas body e
+    → BatchesHave (bodies ++ body ∷ []) e
+push_has [] body e has = inl has
+push_has (b ∷ bodies) body e has = inr (push_has bodies body e has)
+
+pub pushed_either : (bodies : List (List ℕ)) (body : List ℕ) (e : Entry) → BatchesHave (bodies ++ body ∷ []) e
+    → BatchesHave bodies e ⊎ BatchHas body e
+pushed_either [] body e (inl here) = inr here
+pushed_either [] body e (inr none) = absurd none
+pushed_either (b ∷ bodies) body e (inl here) = inl (inl here)
+pushed_either (b ∷ bodies) body e (inr more) =
+    elim (pushed_either bodies body e more) [ inl before ↦ inl (inr before) | inr last ↦ inr last ]
+
+-- ---- a journal's file
+
+pub journal_has : (file : List ℕ) (bodies : List (List ℕ)) (e : Entry) → HasBatches file bodies → JournalHas file e
+    → BatchesHave bodies e
+journal_has file bodies e batches has =
+    subst (λ (b : List (List ℕ)). BatchesHave b e) (one_reading file has.bodies bodies has.batches batches) has.has
+
+-- what is held under a journal's name, its batches have
+pub journal_holds : (name file : List ℕ) (bodies : List (List ℕ)) (e : Entry) → IsJournal name
+    → HasBatches file bodies → HeldAt name (Some file) e → BatchesHave bodies e
+journal_holds name file bodies e is batches (inl held) = journal_has file bodies e batches held.1
+journal_holds name file bodies e is batches (inr (day, segment, held)) = absurd (not_both day name is segment)
+
+pub held_in_journal : (name file : List ℕ) (bodies : List (List ℕ)) (e : Entry) → IsJournal name
+    → HasBatches file bodies → BatchesHave bodies e → HeldAt name (Some file) e
+held_in_journal name file bodies e is batches has =
+    inl (is, record { bodies = bodies; batches = batches; has = has })

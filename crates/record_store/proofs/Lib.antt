@@ -1,0 +1,14 @@
+pub mod Batches
+pub mod Committing
+pub mod Creating
+pub mod Folders
+pub mod Leavings
+pub mod Named
+pub mod Naming
+pub mod Newest
+pub mod Newly
+pub mod Numbered
+pub mod Opened
+pub mod Placed
+pub mod Readings
+pub mod Standing

@@ -1,0 +1,58 @@
+-- What a folder holds.
+use Rattle.std.specs.Prelude.{◌≡◌, ◌⊎◌, ℕ, ◌≤◌, List, [], ◌∷◌, Option, None, Some, length}
+use Rattle.std.specs.List.{AllByRecursion}
+use Rattle.disk.specs.States.{Files}
+use Rattle.journal.specs.Batches.{HasBatches}
+use Rattle.archive_text.specs.Entries.{Entry, Has, IsEntry}
+use Rattle.archive_text.specs.Text.{IsArchive, text_of}
+use Rattle.archive_text.specs.declared.limits.TheConstants.{ENTRY_MAX}
+use Rattle.archive_digest.specs.Periods.{IsIn}
+use Rattle.archive_digest.specs.declared.period.Period.TheVariants.{Day}
+use Rattle.record_store.specs.Names.{IsJournal, IsSegment}
+
+-- these entries, one behind the other as they came: the octets of a batch
+pub record IsBatch (es : List Entry) (body : List ℕ) : Type 0 where
+  pub entries : AllByRecursion IsEntry es
+  pub fits : AllByRecursion (λ e. length e.octets ≤ ENTRY_MAX) es
+  pub text : body ≡ text_of es
+
+-- the entry is one of a batch
+pub record BatchHas (body : List ℕ) (e : Entry) : Type 0 where
+  pub entries : List Entry
+  pub batch : IsBatch entries body
+  pub has : Has entries e
+
+-- the entry is one of some batch
+abbrev pub BatchesHave : List (List ℕ) → Entry → Type 0
+BatchesHave [] e = ⊥
+BatchesHave (body ∷ bodies) e = BatchHas body e ⊎ BatchesHave bodies e
+
+-- a journal's file has a batch that has the entry
+pub record JournalHas (file : List ℕ) (e : Entry) : Type 0 where
+  pub bodies : List (List ℕ)
+  pub batches : HasBatches file bodies
+  pub has : BatchesHave bodies e
+
+-- a segment's file is an archive of entries of its day, and this is one of them
+pub record SegmentHas (day file : List ℕ) (e : Entry) : Type 0 where
+  pub entries : List Entry
+  pub archive : IsArchive ENTRY_MAX entries
+  pub text_is : file ≡ text_of entries
+  pub days : AllByRecursion (IsIn Day day) entries
+  pub has : Has entries e
+
+-- the file under a name has the entry, as a journal or as a segment
+abbrev pub HeldAt : List ℕ → Option (List ℕ) → Entry → Type 0
+HeldAt name None e = ⊥
+HeldAt name (Some file) e =
+    (IsJournal name × JournalHas file e) ⊎ ((day : List ℕ) × IsSegment day name × SegmentHas day file e)
+
+-- the folder holds the entry
+pub record Held (files : Files) (e : Entry) : Type 0 where
+  pub name : List ℕ
+  pub at : HeldAt name (files name) e
+
+-- a folder holds all that another held, and nothing else but what is given
+pub record Holds (before after : Files) (given : Entry → Type 0) : Type 0 where
+  pub kept : (e : Entry) → Held before e → Held after e
+  pub only : (e : Entry) → Held after e → Held before e ⊎ given e

@@ -1,0 +1,5 @@
+pub mod Crashes
+pub mod Holdings
+pub mod Names
+pub mod Puts
+pub mod Stores

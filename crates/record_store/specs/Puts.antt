@@ -1,0 +1,13 @@
+-- What it is to put a whole file under a name.
+use Rattle.std.specs.Prelude.{◌≡◌, ◌≢◌, ◌⊎◌, ℕ, List, Option, Some}
+use Rattle.disk.specs.States.{NameMayLeave, State, kept}
+
+-- a crash leaves under the name what it might have left before, or the whole text
+abbrev pub LeavesOldOr : State → State → List ℕ → List ℕ → Type 0
+LeavesOldOr old new name text = (octets : Option (List ℕ)) → NameMayLeave (new.entries name) octets
+    → NameMayLeave (old.entries name) octets ⊎ (octets ≡ Some text)
+
+-- each name but these two is as it was, but that what is there may be on the disk now
+abbrev pub KeepsOrSettlesApart : State → State → List ℕ → List ℕ → Type 0
+KeepsOrSettlesApart old new draft name = (other : List ℕ) → other ≢ draft → other ≢ name
+    → (new.entries other ≡ old.entries other) ⊎ (new.entries other ≡ kept (old.entries other))

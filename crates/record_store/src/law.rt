@@ -1,0 +1,24 @@
+//! Laws of stores, as contracts of functions that do nothing.
+ghost use Rattle.std.specs.Prelude.{List};
+ghost use Rattle.disk.specs.States.{Files, MayLeave, State};
+ghost use Rattle.archive_text.specs.Entries.{Entry, Has};
+ghost use Rattle.record_store.specs.Crashes.{Keeps, Rests};
+ghost use Rattle.record_store.specs.Holdings.{Held};
+
+/// What a crash leaves of a folder holds all that is committed, and nothing that was not received.
+pub fn after_a_crash()
+    ensures lost { (state : State) (files : Files) (committed received : List Entry)
+        → Keeps state committed received → MayLeave state files
+        → (e : Entry) → Has committed e → Held files e }
+    ensures forged { (state : State) (files : Files) (committed received : List Entry)
+        → Keeps state committed received → MayLeave state files
+        → (e : Entry) → Held files e → Has received e }
+{}
+
+/// Once the machine has started anew, with what the crash left on the disk, the folder keeps what
+/// it kept. So `open` may follow, and any calls and crashes behind it.
+pub fn after_a_restart()
+    ensures { (state anew : State) (files : Files) (committed received : List Entry)
+        → Keeps state committed received → MayLeave state files → Rests anew files
+        → Keeps anew committed received }
+{}

@@ -1,0 +1,26 @@
+//! A durable store of syslog records: a folder that holds a set of records through crashes.
+//!
+//! A folder has journals (`journal.N`: batches of records in the order in which they came) and
+//! segments (`DAY.HEX.archive`: archives of the records of a day, whole since they have their name).
+//! What it holds is what these have; files of other names count for nothing.
+//!
+//! Whatever moment a crash comes, what the folder holds afterwards is a set S with
+//! committed ⊆ S ⊆ received. Each call of [`RecordStore`] says so of every state that it may end
+//! with, so of every moment (see `disk`).
+#![tactic(auto)]
+
+mod batch;
+mod fault;
+mod law;
+mod names;
+mod opening;
+mod putting;
+mod store;
+#[cfg(test)]
+mod tests;
+
+pub use fault::{AppendFault, StoreFault};
+pub use law::{after_a_crash, after_a_restart};
+pub use opening::open;
+pub use putting::put;
+pub use store::RecordStore;

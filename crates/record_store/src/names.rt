@@ -1,0 +1,59 @@
+//! What files are called.
+ghost use Rattle.std.specs.Prelude.{◌≡◌, IfNone, IfOk, IfSome};
+ghost use Rattle.record_store.specs.Names.{IsGreater, IsJournal, IsNewest, journal_name};
+
+use disk::FileName;
+use itoa::Buffer;
+use std::alloc::{AllocError, Global};
+
+/// The name of the journal of a number.
+pub(crate) fn name_of_journal(alloc: Global, number: u64) -> Result<FileName, AllocError>
+    ensures { IfOk result (λ name. name ≡ journal_name number) }
+{
+    let mut octets = b"journal.".to_vec(alloc)?;
+    octets.extend_from_slice(Buffer::new().format(number).as_bytes())?;
+    match FileName::new(alloc, &octets)? {
+        Some(name) => Ok(name),
+        None => unreachable!(),
+    }
+}
+
+/// The number of the journal that has this name.
+pub(crate) fn journal_number(name: &[u8]) -> Option<u64>
+    ensures some { IfSome result (λ number. name.now ≡ journal_name number) }
+    ensures none { IfNone result (¬ (IsJournal name.now)) }
+{
+    let digits = name.strip_prefix(b"journal.".as_slice())?;
+    let Ok(text) = str::from_utf8(digits) else {
+        return None;
+    };
+    let Ok(number) = text.parse::<u64>() else {
+        return None;
+    };
+    if Buffer::new().format(number).as_bytes() != digits {
+        return None;
+    }
+    Some(number)
+}
+
+// the greater of two numbers, of which there may be none
+fn greater(a: Option<u64>, b: Option<u64>) -> Option<u64>
+    ensures { IsGreater a b result }
+{
+    match (a, b) {
+        (Some(m), Some(n)) => Some(m.max(n)),
+        (Some(m), None) => Some(m),
+        (None, other) => other,
+    }
+}
+
+/// The greatest number of a journal that has one of these names.
+pub(crate) fn newest(names: &[FileName]) -> Option<u64>
+    ensures { IsNewest names.now result }
+{
+    let mut newest = None;
+    for name in names {
+        newest = greater(newest, journal_number(name.as_octets()));
+    }
+    newest
+}

@@ -1,0 +1,86 @@
+use crate::{AppendFault, RecordStore, StoreFault, open};
+use disk::{Fuse, MemoryDisk};
+use std::alloc::Global;
+use std::test::Fail;
+
+const FIRST: &[u8] = b"<0>1 - - - - - -";
+
+const SECOND: &[u8] = b"<14>1 2024-02-29T23:30:00.000000Z h a - - - y";
+
+// whether octets are somewhere in a text
+fn has(text: &[u8], octets: &[u8]) -> bool {
+    text.windows(octets.len()).any(|window| window == octets)
+}
+
+// a folder with the first record
+fn begun(alloc: Global) -> Result<(MemoryDisk, RecordStore), Fail> {
+    let mut disk = MemoryDisk::new(alloc);
+    let (mut store, _batches) = open(alloc, &mut disk)?;
+    store.append(FIRST).ok().ok_or("refused")?;
+    store.commit(alloc, &mut disk)?;
+    Ok((disk, store))
+}
+
+#[test]
+fn what_is_no_canonical_record_is_refused(rt: HostRuntime) -> Result<(), Fail> {
+    let alloc = rt.alloc();
+    let mut disk = MemoryDisk::new(alloc);
+    let (mut store, _batches) = open(alloc, &mut disk)?;
+    assert!(rt; matches!(&store.append(b"x"), Err(AppendFault::Entry(_))));
+    assert!(rt;
+        matches!(
+            &store.append(b"<0>1 - - - - - - "),
+            Err(AppendFault::Entry(_))
+        )
+    );
+    assert!(rt; store.append(FIRST).is_ok());
+    Ok(())
+}
+
+// A commit that is stopped at each of its calls, with a crash whatever it leaves of what was not on
+// the disk: the first record is there, the second or not, and once it was told as committed it is.
+#[test]
+fn a_crash_leaves_what_is_committed(rt: HostRuntime) -> Result<(), Fail> {
+    let alloc = rt.alloc();
+    for calls in 0..6 {
+        for kept in [0, 3, 60, 99] {
+            for octet in [None, Some(0), Some(1), Some(b'9')] {
+                let (disk, mut store) = begun(alloc)?;
+                store.append(SECOND).ok().ok_or("refused")?;
+                let mut fuse = Fuse::new(disk, calls);
+                let done = store.commit(alloc, &mut fuse);
+                let mut disk = fuse.into_inner().crash(kept, octet, calls % 2 == 0)?;
+                let (_store, batches) = open(alloc, &mut disk)?;
+                assert!(rt; has(&batches, FIRST), "at {calls}, {kept}, {octet:?}");
+                assert!(rt;
+                    has(&batches, SECOND) || done.is_err(),
+                    "at {calls}, {kept}, {octet:?}"
+                );
+                if done.is_err() {
+                    assert_eq!(rt; store.commit(alloc, &mut disk), Err(StoreFault::Broken));
+                }
+            }
+        }
+    }
+    Ok(())
+}
+
+// The same of an opening, of a folder with a record and of an empty one.
+#[test]
+fn an_opening_may_stop_at_any_call(rt: HostRuntime) -> Result<(), Fail> {
+    let alloc = rt.alloc();
+    for calls in 0..12 {
+        let (disk, _store) = begun(alloc)?;
+        let mut fuse = Fuse::new(disk, calls);
+        let _stopped = open(alloc, &mut fuse);
+        let mut disk = fuse.into_inner().crash(0, Some(1), true)?;
+        let (_store, batches) = open(alloc, &mut disk)?;
+        assert!(rt; has(&batches, FIRST), "at {calls}");
+        let mut fuse = Fuse::new(MemoryDisk::new(alloc), calls);
+        let _stopped = open(alloc, &mut fuse);
+        let mut disk = fuse.into_inner().crash(1, Some(1), false)?;
+        let (_store, batches) = open(alloc, &mut disk)?;
+        assert!(rt; batches.is_empty(), "at {calls}");
+    }
+    Ok(())
+}
