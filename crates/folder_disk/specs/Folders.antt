@@ -1,0 +1,13 @@
+-- What is said of a disk over a folder.
+use Rattle.std.specs.Prelude.{false, [], Option, None}
+use Rattle.disk.specs.States.{State}
+use Rattle.folder_disk.specs.declared.fault.FileError.{FileError}
+use Rattle.folder_disk.specs.declared.folder.FolderDisk.{FolderDisk}
+
+-- no contract knows what a folder of the system holds
+abbrev pub untold : State
+untold = record { entries = λ _. record { now = None; past = []; moved = false }; lost = false }
+
+-- the error by which the disk last failed
+abbrev pub last_error_of : {R F : Type 0} → FolderDisk R F → Option FileError
+last_error_of disk = disk.last_error

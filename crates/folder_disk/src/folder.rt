@@ -1,0 +1,157 @@
+//! The disk over a folder.
+ghost use Rattle.std.specs.Prelude.{◌≡◌, ◌↔◌, IfErr, IfOk, IsNone, IsSome, Ok};
+ghost use Rattle.disk.specs.Calls.{HasCause};
+ghost use Rattle.folder_disk.specs.Faults.{IsTold};
+ghost use Rattle.folder_disk.specs.Folders.{untold, last_error_of};
+
+use crate::FileError;
+use crate::fault::{Target, fault_of};
+use crate::open_files::OpenFiles;
+use disk::{Disk, DiskFault, FileName};
+use std::alloc::Global;
+use std::fs::OpenFile;
+use std::path::{AsPath, Path};
+use std::rt::Files;
+use std::{fs, io};
+
+/// A disk over a folder of the system's files.
+///
+/// A file that was written stays open until it was synced, and mostly longer: a commit opens none.
+/// Nobody else may write, rename or remove the files that are written through it; others may come
+/// and go, and one that was open when it was removed can still be read.
+#[derive(Drop)]
+pub struct FolderDisk<R: Files> {
+    files: OpenFiles<R>,
+    last_error: Option<FileError>,
+}
+
+// Brings the name of a folder to the disk.
+fn sync_parent<R: Files>(rt: &R, path: &str) -> io::Result<()> {
+    let Some(parent) = Path::new(path).parent() else {
+        return Ok(());
+    };
+    let parent = match parent.path_text() {
+        "" => ".",
+        text => text,
+    };
+    fs::open(rt, parent)?.sync_all()
+}
+
+impl<R: Files + AllocGlobal + Clone + Drop> FolderDisk<R> {
+    /// The disk of a folder that is there.
+    pub fn open(rt: &R, path: &str) -> io::Result<FolderDisk<R>>
+        ensures { IfOk result (λ disk. IsNone (last_error_of disk)) }
+    {
+        Ok(FolderDisk {
+            files: OpenFiles::new(rt, path)?,
+            last_error: None,
+        })
+    }
+
+    /// The disk of a folder, which is made where it is missing, but not its parent. The parent is
+    /// synced, so that the folder's name is on the disk.
+    pub fn create(rt: &R, path: &str) -> io::Result<FolderDisk<R>>
+        ensures { IfOk result (λ disk. IsNone (last_error_of disk)) }
+    {
+        match fs::create_dir(rt, path) {
+            Ok(()) => {}
+            Err(error) if error.kind() == io::ErrorKind::AlreadyExists => {}
+            Err(error) => return Err(error),
+        }
+        sync_parent(rt, path)?;
+        FolderDisk::open(rt, path)
+    }
+
+    /// Why the disk last failed (`Failed` or `Full`), as the system told it; none where it never
+    /// has.
+    pub fn last_error(&self) -> Option<&FileError>
+        ensures { IsSome result ↔ IsSome (last_error_of self.now) }
+    {
+        self.last_error.as_ref()
+    }
+
+    // What the system's answer to a call means. Where it is that the disk failed, it is kept.
+    fn told<T>(
+        &mut self,
+        target: Target,
+        name: Option<&FileName>,
+        answer: io::Result<T>,
+    ) -> Result<T, DiskFault>
+        ensures value { IfOk result (λ value. answer ≡ Ok value) }
+        ensures fault { IfErr result (λ fault. IfErr answer (λ error.
+            IsTold target error fault self.new.last_error)) }
+        ensures cause { HasCause (IsSome self.old.last_error) (IsSome self.new.last_error) result }
+    {
+        let error = match answer {
+            Ok(value) => return Ok(value),
+            Err(error) => error,
+        };
+        let fault = fault_of(target, error.kind());
+        if matches!(fault, DiskFault::Failed | DiskFault::Full) {
+            let name = match name {
+                Some(name) => name.copy(self.files.alloc()).ok(),
+                None => None,
+            };
+            self.last_error = Some(FileError { name, error });
+        }
+        Err(fault)
+    }
+}
+
+impl<R: Files + AllocGlobal + Clone + Drop> Disk for FolderDisk<R> {
+    ghost state = { λ _. untold };
+
+    ghost tells = { λ _. ⊥ };
+
+    ghost has_failed = { λ disk. IsSome disk.last_error };
+
+    fn names(&mut self, alloc: Global) -> Result<Vec<FileName>, DiskFault> {
+        let answer = self.files.names(alloc);
+        self.told(Target::Folder, None, answer)
+    }
+
+    fn read(&mut self, name: &FileName, at: u64, buf: &mut [u8]) -> Result<usize, DiskFault> {
+        let answer = self.files.read(name, at, buf);
+        self.told(Target::File, Some(name), answer)
+    }
+
+    fn create(&mut self, name: &FileName) -> Result<(), DiskFault> {
+        let answer = self.files.create(name);
+        self.told(Target::FreeName, Some(name), answer)
+    }
+
+    fn append(&mut self, name: &FileName, octets: &[u8]) -> Result<(), DiskFault> {
+        let answer = self.files.append(name, octets);
+        self.told(Target::File, Some(name), answer)
+    }
+
+    fn overwrite(&mut self, name: &FileName, at: u64, octet: u8) -> Result<(), DiskFault> {
+        let answer = self.files.overwrite(name, at, octet);
+        self.told(Target::File, Some(name), answer)
+    }
+
+    fn cut(&mut self, name: &FileName, len: u64) -> Result<(), DiskFault> {
+        let answer = self.files.cut(name, len);
+        self.told(Target::File, Some(name), answer)
+    }
+
+    fn sync(&mut self, name: &FileName) -> Result<(), DiskFault> {
+        let answer = self.files.sync(name);
+        self.told(Target::File, Some(name), answer)
+    }
+
+    fn rename(&mut self, from: &FileName, to: &FileName) -> Result<(), DiskFault> {
+        let answer = self.files.rename(from, to);
+        self.told(Target::File, Some(from), answer)
+    }
+
+    fn remove(&mut self, name: &FileName) -> Result<(), DiskFault> {
+        let answer = self.files.remove(name);
+        self.told(Target::File, Some(name), answer)
+    }
+
+    fn sync_names(&mut self) -> Result<(), DiskFault> {
+        let answer = self.files.sync_names();
+        self.told(Target::Folder, None, answer)
+    }
+}

@@ -1,0 +1,19 @@
+//! A disk over a folder of the system's files, by std's calls: each call of the disk is one or a
+//! few calls of the system, and what the system answers is told as the disk's faults.
+//!
+//! No contract can say what a file gives, so this disk tells contracts nothing of what it holds.
+//! That the system keeps what it says is a matter of trust: that `sync_data` and `sync_all` return
+//! `Ok` only once the octets and the names are where a power cut leaves them.
+#![tactic(auto)]
+
+mod fault;
+mod folder;
+mod lock;
+mod open_files;
+#[cfg(test)]
+mod tests;
+mod transfers;
+
+pub use fault::FileError;
+pub use folder::FolderDisk;
+pub use lock::{FolderLock, LockFault, LockFile};

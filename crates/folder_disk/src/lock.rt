@@ -1,0 +1,69 @@
+//! Locks on a folder.
+
+use crate::open_files::with_slash;
+use std::fs::{File, OpenOptions, TryLockError};
+use std::io;
+use std::rt::Files;
+use thiserror::Error;
+
+/// The files that are locked.
+#[derive(Clone, Copy, Debug, PartialEq, Eq)]
+pub enum LockFile {
+    /// `lock`: for the one who writes.
+    Writing,
+    /// `lock.compact`: for the one who compacts, beside a writer.
+    Compaction,
+}
+
+impl LockFile {
+    /// The file's name in the folder.
+    pub fn name(self) -> &'static str {
+        match self {
+            LockFile::Writing => "lock",
+            LockFile::Compaction => "lock.compact",
+        }
+    }
+}
+
+/// Why a lock was not taken.
+#[derive(Debug, Drop, Error)]
+pub enum LockFault {
+    /// Another process, or another value of this one, holds it.
+    #[error("another holds the lock")]
+    Held,
+    /// The file could not be opened or made, or not locked.
+    #[error("{0}")]
+    Failed(io::Error),
+}
+
+/// A lock on a folder, held until the value is dropped or the process ends. It keeps out only those
+/// who take it too.
+#[derive(Drop)]
+pub struct FolderLock {
+    _file: File,
+}
+
+fn open_lock<R: Files + AllocGlobal>(rt: &R, folder: &str, lock: LockFile) -> io::Result<R::File> {
+    let mut path = with_slash(rt.alloc(), folder)?;
+    path.push_str(lock.name())?;
+    OpenOptions::new()
+        .write(true)
+        .create(true)
+        .open(rt, path.as_str())
+}
+
+impl FolderLock {
+    /// Takes a lock on a folder that is there, if nobody holds it. It does not wait.
+    pub fn take<R: Files<File = File> + AllocGlobal>(
+        rt: &R,
+        folder: &str,
+        lock: LockFile,
+    ) -> Result<FolderLock, LockFault> {
+        let file = open_lock(rt, folder, lock).map_err(LockFault::Failed)?;
+        match file.try_lock() {
+            Ok(()) => Ok(FolderLock { _file: file }),
+            Err(TryLockError::WouldBlock) => Err(LockFault::Held),
+            Err(TryLockError::Error(error)) => Err(LockFault::Failed(error)),
+        }
+    }
+}

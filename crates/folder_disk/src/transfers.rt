@@ -1,0 +1,48 @@
+//! What is done to one file that is open.
+ghost use Rattle.std.specs.Prelude.{◌≤◌, IfOk, length};
+
+use std::fs::OpenFile;
+use std::io::{self, ErrorKind, Read, Seek, SeekFrom, Write};
+
+// no file of the system is longer
+const OFFSET_MAX: u64 = (1 << 63) - 1;
+
+/// Reads once from an offset on. None are read at the end of the file or behind it.
+pub(crate) fn read_from<F: Read + Seek>(file: &mut F, at: u64, buf: &mut [u8]) -> io::Result<usize>
+    ensures { IfOk result (λ n. n ≤ length buf.new) }
+{
+    if at > OFFSET_MAX {
+        return Ok(0);
+    }
+    file.seek(SeekFrom::Start(at))?;
+    for _ in 0..u64::MAX {
+        match file.read(buf) {
+            Err(error) if error.kind() == ErrorKind::Interrupted => {}
+            answer => return answer,
+        }
+    }
+    Err(ErrorKind::Interrupted.into())
+}
+
+/// Writes all octets at the end.
+pub(crate) fn write_at_end<F: Write + Seek>(file: &mut F, octets: &[u8]) -> io::Result<()> {
+    file.seek(SeekFrom::End(0))?;
+    file.write_all(octets)
+}
+
+/// Writes over one octet, if there is one at the offset.
+pub(crate) fn write_over<F: Write + Seek>(file: &mut F, at: u64, octet: u8) -> io::Result<()> {
+    if at >= file.seek(SeekFrom::End(0))? {
+        return Ok(());
+    }
+    file.seek(SeekFrom::Start(at))?;
+    file.write_all(&[octet])
+}
+
+/// Cuts a file to a length, if it is longer.
+pub(crate) fn cut_to<F: OpenFile + Seek>(file: &mut F, len: u64) -> io::Result<()> {
+    if len < file.seek(SeekFrom::End(0))? {
+        file.set_len(len)?;
+    }
+    Ok(())
+}
