@@ -3,7 +3,7 @@ use Rattle.std.specs.Prelude.{◌≡◌, ◌⊎◌, ◌↔◌, Option, IsSomeAnd
 use Rattle.std.specs.declared.io.Error.{Error}
 use Rattle.std.specs.declared.io.ErrorKind.{ErrorKind}
 use Rattle.std.specs.declared.io.ErrorKind.TheVariants.{NotFound, AlreadyExists, StorageFull, QuotaExceeded, OutOfMemory}
-use Rattle.std_io.specs.IoError.{error_kind}
+use Rattle.std.specs.IoError.{error_kind}
 use Rattle.disk.specs.declared.fault.DiskFault.{DiskFault}
 use Rattle.disk.specs.declared.fault.DiskFault.TheVariants.{Missing, Exists, Full, Failed, Memory}
 use Rattle.folder_disk.specs.declared.fault.FileError.{FileError}

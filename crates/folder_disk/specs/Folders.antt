@@ -9,5 +9,5 @@ abbrev pub untold : State
 untold = record { entries = λ _. record { now = None; past = []; moved = false }; lost = false }
 
 -- the error by which the disk last failed
-abbrev pub last_error_of : {R F : Type 0} → FolderDisk R F → Option FileError
+abbrev pub last_error_of : {R F D : Type 0} → FolderDisk R F D → Option FileError
 last_error_of disk = disk.last_error

@@ -1,5 +1,5 @@
 //! The disk over a folder.
-ghost use Rattle.std.specs.Prelude.{◌≡◌, ◌↔◌, IfErr, IfOk, IsNone, IsSome, Ok};
+ghost use Rattle.std.specs.Prelude.{◌≡◌, IfErr, IfOk, IsErrAnd, IsNone, IsSome, option_copied};
 ghost use Rattle.disk.specs.Calls.{HasCause};
 ghost use Rattle.folder_disk.specs.Faults.{IsTold};
 ghost use Rattle.folder_disk.specs.Folders.{untold, last_error_of};
@@ -65,7 +65,7 @@ impl<R: Files + AllocGlobal + Clone + Drop> FolderDisk<R> {
     /// Why the disk last failed (`Failed` or `Full`), as the system told it; none where it never
     /// has.
     pub fn last_error(&self) -> Option<&FileError>
-        ensures { IsSome result ↔ IsSome (last_error_of self.now) }
+        ensures { option_copied result ≡ last_error_of self.now }
     {
         self.last_error.as_ref()
     }
@@ -77,9 +77,10 @@ impl<R: Files + AllocGlobal + Clone + Drop> FolderDisk<R> {
         name: Option<&FileName>,
         answer: io::Result<T>,
     ) -> Result<T, DiskFault>
-        ensures value { IfOk result (λ value. answer ≡ Ok value) }
-        ensures fault { IfErr result (λ fault. IfErr answer (λ error.
+        ensures ok { IfOk answer (λ value. result ≡ Ok value) }
+        ensures err { IfErr answer (λ error. IsErrAnd result (λ fault.
             IsTold target error fault self.new.last_error)) }
+        ensures value { IfOk result (λ value. answer ≡ Ok value) }
         ensures cause { HasCause (IsSome self.old.last_error) (IsSome self.new.last_error) result }
     {
         let error = match answer {

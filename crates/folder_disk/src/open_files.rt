@@ -98,9 +98,10 @@ impl<R: Files + AllocGlobal + Clone + Drop> OpenFiles<R> {
         ensures { IfOk result (λ i. i < vec_len self.new.opened) }
     {
         self.make_room();
+        let name = name.copy(self.alloc())?;
         let i = self.opened.len();
         self.opened.push(OpenedFile {
-            name: name.copy(self.alloc())?,
+            name,
             file,
             is_writable,
             is_synced: true,
