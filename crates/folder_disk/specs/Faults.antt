@@ -8,7 +8,7 @@ use Rattle.disk.specs.declared.fault.DiskFault.{DiskFault}
 use Rattle.disk.specs.declared.fault.DiskFault.TheVariants.{Missing, Exists, Full, Failed, Memory}
 use Rattle.folder_disk.specs.declared.fault.FileError.{FileError}
 use Rattle.folder_disk.specs.declared.fault.Target.{Target}
-use Rattle.folder_disk.specs.declared.fault.Target.TheVariants.{File, FreeName, Folder}
+use Rattle.folder_disk.specs.declared.fault.Target.TheVariants.{File, FreeName}
 
 -- the fault that an error of this kind is, where the call was on such a target; any other is `Failed`
 pub record IsFault (target : Target) (kind : ErrorKind) (fault : DiskFault) : Type 0 where
