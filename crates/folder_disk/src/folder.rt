@@ -18,7 +18,8 @@ use std::{fs, io};
 ///
 /// A file that was written stays open until it was synced, and mostly longer: a commit opens none.
 /// Nobody else may write, rename or remove the files that are written through it; others may come
-/// and go, and one that was open when it was removed can still be read.
+/// and go, and one that was open when it was removed can still be read. Folders and links in the
+/// folder have names too; a name that is not UTF-8 is passed over, and no call reaches its file.
 #[derive(Drop)]
 pub struct FolderDisk<R: Files> {
     files: OpenFiles<R>,
