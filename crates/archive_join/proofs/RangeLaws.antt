@@ -29,7 +29,7 @@ instant_below from None since till undated i j apart a b = absurd apart
 range_below : (r s : InRange) (x y : Entry) → Precedes r s → IsOfRange r x → IsOfRange s y → IsBelow x y
 range_below r s x y p a b =
     inl (instant_below r.from r.to s.from s.to r.undated x.instant y.instant p.apart a
-        (subst (λ (undated : Bool). IsInRange s.from s.to undated y.instant) p.dated b))
+    (subst (λ (undated : Bool). IsInRange s.from s.to undated y.instant) p.dated b))
 
 -- so it is below each of all that follow
 below_later : (most : ℕ) (r : InRange) (rs : List InRange) (xss : List (List Entry)) (x y : Entry)

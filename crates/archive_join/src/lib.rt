@@ -26,8 +26,9 @@ pub use fault::JoinFault;
 pub use join::join_streams;
 pub use kept::Kept;
 pub use laws::{
-    archives_of_ranges_are_concatenated, common_and_minus_part_an_archive, equal_archives_do_not_differ, kept_entries_are_archives,
-    kept_texts_begin_alike, selecting_distributes_over_common_and_minus, union_is_that_of_all_sets,
+    archives_of_ranges_are_concatenated, common_and_minus_part_an_archive,
+    equal_archives_do_not_differ, kept_entries_are_archives, kept_texts_begin_alike,
+    selecting_distributes_over_common_and_minus, union_is_that_of_all_sets,
     union_of_two_is_what_merging_gives,
 };
 pub use minus::Minus;

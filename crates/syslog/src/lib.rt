@@ -23,19 +23,20 @@ pub use commands::{Files, MemoryFile, MemoryFiles, run};
 // archives
 pub use syslog_archive::{
     AddFault, Added, ArchiveEntries, ArchiveFault, AsSevereAs, AskedWord, Both, Condition,
-    Conditions, ENTRIES_READ_MAX, ENTRY_MAX, EntriesFault, EntryFault, EntryView, HasElement, HasWord, InRange,
-    InputFault, MergeFault, OfFacility, OnlyUndated, PagedArchive, ReadFault, SelectFault, Side,
-    Store, Times, VecArchive, WordField, entry_order_is_total, merge, merge_streams,
-    merging_is_associative, merging_is_commutative, merging_is_idempotent, merging_is_union,
-    migrate, one_set_has_one_text, one_text_has_one_set, read_entry, same_records_have_one_text,
-    select_stream,
+    Conditions, ENTRIES_READ_MAX, ENTRY_MAX, EntriesFault, EntryFault, EntryView, HasElement,
+    HasWord, InRange, InputFault, MergeFault, OfFacility, OnlyUndated, PagedArchive, ReadFault,
+    SelectFault, Side, Store, Times, VecArchive, WordField, entry_order_is_total, merge,
+    merge_streams, merging_is_associative, merging_is_commutative, merging_is_idempotent,
+    merging_is_union, migrate, one_set_has_one_text, one_text_has_one_set, read_entry,
+    same_records_have_one_text, select_stream,
 };
 
 // archives as sets
 pub use syslog_archive::{
     Common, Diff, DigestFault, JoinFault, Kept, Minus, Period, Union,
-    archives_of_ranges_are_concatenated, common_and_minus_part_an_archive, digest_stream, digests_are_one, equal_archives_do_not_differ,
-    join_streams, selecting_distributes_over_common_and_minus, union_is_that_of_all_sets,
+    archives_of_ranges_are_concatenated, common_and_minus_part_an_archive, digest_stream,
+    digests_are_one, equal_archives_do_not_differ, join_streams,
+    selecting_distributes_over_common_and_minus, union_is_that_of_all_sets,
     union_of_two_is_what_merging_gives,
 };
 

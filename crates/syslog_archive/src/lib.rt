@@ -11,9 +11,9 @@
 pub use archive_digest::{DigestFault, Period, digest_stream, digests_are_one};
 pub use archive_join::{
     Common, Diff, JoinFault, Kept, Minus, Union, archives_of_ranges_are_concatenated,
-    common_and_minus_part_an_archive, equal_archives_do_not_differ, join_streams, kept_entries_are_archives, kept_texts_begin_alike,
-    selecting_distributes_over_common_and_minus, union_is_that_of_all_sets,
-    union_of_two_is_what_merging_gives,
+    common_and_minus_part_an_archive, equal_archives_do_not_differ, join_streams,
+    kept_entries_are_archives, kept_texts_begin_alike, selecting_distributes_over_common_and_minus,
+    union_is_that_of_all_sets, union_of_two_is_what_merging_gives,
 };
 pub use archive_laws::{
     archive_or_fault, archives_have_no_fault, entry_order_is_total, larger_limits_keep_archives,
