@@ -9,7 +9,12 @@ const SECOND: &[u8] = b"<14>1 2024-02-29T23:30:00.000000Z h a - - - y";
 
 // whether octets are somewhere in a text
 fn has(text: &[u8], octets: &[u8]) -> bool {
-    text.windows(octets.len()).any(|window| window == octets)
+    for at in 0..text.len() {
+        if text[at..].starts_with(octets) {
+            return true;
+        }
+    }
+    false
 }
 
 // a folder with the first record
