@@ -1,11 +1,10 @@
 -- The entries of batches.
-use Rattle.std.proofs.Common.{◌≡◌, ◌⊎◌, inl, inr, ⊎_elim, ℕ, ◌≤◌, List, [], ◌∷◌, ◌++◌, length, refl, sym, ap, subst, ◌∙◌, arith}
+use Rattle.std.proofs.Common.{◌≡◌, ◌⊎◌, inl, inr, ℕ, ◌≤◌, List, [], ◌∷◌, ◌++◌, length, refl, sym, ap, subst, ◌∙◌, arith}
 use Rattle.std.proofs.lemmas.List.{append-nil}
 use Rattle.std.specs.List.{AllByRecursion}
-use Rattle.std.specs.Prelude.{Option, Some}
+use Rattle.std.specs.Prelude.{Some}
 use Rattle.journal.specs.Batches.{HasBatches}
 use Rattle.journal.proofs.Readings.{one_reading}
-use Rattle.syslog_frame.specs.declared.limits.TheConstants.{COUNT_MAX}
 use Rattle.archive_text.specs.Entries.{Entry, Has, IsEntry}
 use Rattle.archive_text.specs.Text.{BeginsWithEntry, entry_text, text_of}
 use Rattle.archive_text.specs.declared.limits.TheConstants.{ENTRY_MAX}

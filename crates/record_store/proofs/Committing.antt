@@ -1,5 +1,5 @@
 -- A batch is committed.
-use Rattle.std.proofs.Common.{◌≡◌, ◌≢◌, ◌⊎◌, inl, inr, ⊎_elim, ℕ, Bool, true, false, if◌then◌else◌, List, [], ◌∷◌, ◌++◌, refl, sym, ap, subst, ◌∙◌}
+use Rattle.std.proofs.Common.{◌≡◌, ◌≢◌, ◌⊎◌, inl, inr, ⊎_elim, ℕ, Bool, true, false, if◌then◌else◌, List, [], ◌∷◌, ◌++◌, sym, ap, subst, ◌∙◌}
 use Rattle.std.specs.Prelude.{Option, None, Some, IsSomeAnd, bytes_eq}
 use Rattle.std.proofs.lemmas.Bool.{cases_Bool}
 use Rattle.std.proofs.lemmas.Slice.Eq.{bytes_eq-Decides}
@@ -13,7 +13,7 @@ use Rattle.archive_text.specs.Entries.{Entry, Has}
 use Rattle.archive_text.proofs.Members.{has_either}
 use Rattle.record_store.specs.Crashes.{Keeps, MayLeaveCounted, Rests, resting}
 use Rattle.record_store.specs.Holdings.{BatchHas, BatchesHave, Held, HeldAt, Holds, IsBatch}
-use Rattle.record_store.specs.Names.{Counts, IsJournal, journal_name}
+use Rattle.record_store.specs.Names.{Counts, IsJournal}
 use Rattle.record_store.proofs.Batches.{batch_has, held_in_journal, journal_holds, push_has, pushed_either, pushed_has}
 use Rattle.record_store.proofs.Folders.{HoldsAt, goes_on, one_changes, rests_is}
 use Rattle.record_store.proofs.Leavings.{only_is, resting_one}

@@ -1,12 +1,11 @@
 -- An empty journal is made.
-use Rattle.std.proofs.Common.{◌≡◌, ◌≢◌, ◌⊎◌, inl, inr, ⊎_elim, ℕ, List, [], ◌∷◌, ◌++◌, refl, sym, ap, subst, ◌∙◌}
+use Rattle.std.proofs.Common.{◌≡◌, ◌≢◌, ◌⊎◌, inl, inr, ⊎_elim, ℕ, List, [], ◌∷◌, sym, ap, subst, ◌∙◌}
 use Rattle.std.specs.Prelude.{Option, None, Some, IsSomeAnd}
-use Rattle.disk.specs.Files.{settled}
 use Rattle.disk.specs.States.{Entry as DiskEntry, Files, NameMayLeave, State, kept}
 use Rattle.journal.specs.Batches.{HasBatches}
 use Rattle.journal.specs.Journals.{KeepsOrSettlesOthers, LeavesNoBatch, Stands as JournalStands}
 use Rattle.journal.specs.declared.journal.Journal.{Journal}
-use Rattle.archive_text.specs.Entries.{Entry, Has}
+use Rattle.archive_text.specs.Entries.{Entry}
 use Rattle.record_store.specs.Crashes.{Keeps, MayLeaveCounted, Rests, resting}
 use Rattle.record_store.specs.Holdings.{HeldAt, Holds}
 use Rattle.record_store.specs.Names.{Counts, IsJournal}

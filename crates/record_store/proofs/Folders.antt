@@ -1,11 +1,9 @@
 -- What a folder holds, once what is under one of its names is another.
-use Rattle.std.proofs.Common.{◌≡◌, ◌≢◌, ◌⊎◌, inl, inr, ⊎_elim, ℕ, Bool, true, false, if◌then◌else◌, List, refl, sym, ap, subst, ◌∙◌}
-use Rattle.std.specs.Prelude.{Option, None, Some, bytes_eq}
-use Rattle.std.proofs.lemmas.Bool.{cases_Bool}
-use Rattle.std.proofs.lemmas.Slice.Eq.{bytes_eq-Decides}
+use Rattle.std.proofs.Common.{◌≡◌, ◌≢◌, ◌⊎◌, inl, inr, ⊎_elim, ℕ, List, sym, subst}
+use Rattle.std.specs.Prelude.{Option, None, Some}
 use Rattle.disk.specs.States.{Entry as DiskEntry, Files, MayLeave, NameMayLeave, State}
 use Rattle.archive_text.specs.Entries.{Entry, Has}
-use Rattle.record_store.specs.Crashes.{Keeps, MayLeaveCounted, Rests, resting}
+use Rattle.record_store.specs.Crashes.{Keeps, MayLeaveCounted, Rests}
 use Rattle.record_store.specs.Holdings.{Held, HeldAt, Holds}
 use Rattle.record_store.specs.Names.{Counts}
 use Rattle.record_store.proofs.Leavings.{resting_is, resting_may}

@@ -1,6 +1,6 @@
 -- What a crash may leave under one name.
-use Rattle.std.proofs.Common.{◌≡◌, ◌⊎◌, inl, inr, ℕ, List, [], ◌∷◌, ◌++◌, refl, ap, subst, ◌∙◌, arith}
-use Rattle.std.specs.Prelude.{Option, None, Some, IsSomeAnd}
+use Rattle.std.proofs.Common.{◌≡◌, ◌⊎◌, inl, inr, ℕ, List, [], ◌∷◌, ◌++◌, refl, ap, arith}
+use Rattle.std.specs.Prelude.{Option, None, Some}
 use Rattle.disk.specs.Files.{File, settled}
 use Rattle.disk.specs.States.{AnyMayBe, Entry, MayBe, NameMayLeave, kept, retired}
 use Rattle.journal.specs.Journals.{only_file}

@@ -1,7 +1,7 @@
 -- The names of a store's files are apart.
 use Rattle.std.proofs.Common.{◌≡◌, ◌≢◌, ◌⊎◌, inl, inr, ⊎_elim, ℕ, ◌<◌, ◌≤◌, ◌^◌, List, ◌++◌, ◌∷◌, length, get_or, ap, arith}
-use Rattle.std.proofs.Common.{length-append, sym, ◌∙◌}
-use Rattle.std.specs.Prelude.{bytes_eq, codes, decimal, true, false}
+use Rattle.std.proofs.Common.{length-append}
+use Rattle.std.specs.Prelude.{bytes_eq, codes, decimal, true}
 use Rattle.std.proofs.lemmas.Bool.{cases_Bool}
 use Rattle.std.proofs.lemmas.Fmt.{length-decimal-le}
 use Rattle.std.proofs.lemmas.Slice.Eq.{bytes_eq-Decides}

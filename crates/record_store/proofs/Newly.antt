@@ -1,11 +1,11 @@
 -- The names of a folder that rests, and its newest journal.
-use Rattle.std.proofs.Common.{◌≡◌, inl, ℕ, ◌<◌, ◌^◌, List, refl, sym, ap, subst, ◌∙◌}
-use Rattle.std.specs.Prelude.{Contains, Option, None, Some, IsSome, IfOk, Result, Ok, Err}
+use Rattle.std.proofs.Common.{◌≡◌, inl, ℕ, ◌<◌, ◌^◌, List, refl, sym, subst, ◌∙◌}
+use Rattle.std.specs.Prelude.{Contains, None, Some, IsSome, IfOk, Result, Ok, Err}
 use Rattle.disk.specs.Calls.{AreNames, IsUnchanged}
 use Rattle.disk.specs.States.{Entry as DiskEntry, Files, NameMayLeave, State}
 use Rattle.archive_text.specs.Entries.{Entry}
 use Rattle.record_store.specs.Crashes.{Keeps, MayLeaveCounted, Rests, resting}
-use Rattle.record_store.specs.Names.{IsJournal, IsNewest, journal_name}
+use Rattle.record_store.specs.Names.{IsNewest, journal_name}
 use Rattle.record_store.specs.Stores.{HasNoJournal, IsNewestOf}
 use Rattle.record_store.proofs.Opened.{shown_none, shown_some}
 

@@ -1,6 +1,6 @@
 -- A folder's newest journal is opened.
-use Rattle.std.proofs.Common.{◌≡◌, ◌≢◌, ◌⊎◌, inl, inr, ⊎_elim, ℕ, ◌<◌, ◌^◌, List, [], ◌∷◌, ◌++◌, refl, sym, ap, subst, ◌∙◌, arith}
-use Rattle.std.specs.Prelude.{Option, None, Some, IsSome, IsSomeAnd, is_some}
+use Rattle.std.proofs.Common.{◌≡◌, inl, ℕ, ◌<◌, ◌^◌, List, [], ◌∷◌, ◌++◌, refl, sym, ap, subst, ◌∙◌, arith}
+use Rattle.std.specs.Prelude.{Option, None, Some, IsSome, IsSomeAnd}
 use Rattle.std.proofs.lemmas.List.{append-nil}
 use Rattle.std.specs.List.{AllByRecursion}
 use Rattle.disk.specs.States.{Entry as DiskEntry, Files, NameMayLeave, State}
@@ -10,7 +10,7 @@ use Rattle.journal.specs.Journals.{IsOnDisk, KeepsOthers, LeavesThese, OpensOn}
 use Rattle.archive_text.specs.Entries.{Entry, Has}
 use Rattle.record_store.specs.Crashes.{Keeps, MayLeaveCounted, Rests, resting}
 use Rattle.record_store.specs.Holdings.{BatchesHave, Held, HeldAt, Holds, IsBatch, JournalHas}
-use Rattle.record_store.specs.Names.{Counts, IsJournal, journal_name}
+use Rattle.record_store.specs.Names.{IsJournal, journal_name}
 use Rattle.record_store.specs.Stores.{IsNewestOf, Stands, begun}
 use Rattle.record_store.specs.declared.store.RecordStore.{RecordStore}
 use Rattle.record_store.proofs.Batches.{held_in_journal, journal_has, journal_holds, no_batch}

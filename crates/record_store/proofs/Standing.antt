@@ -1,7 +1,7 @@
 -- A store from call to call.
-use Rattle.std.proofs.Common.{◌≡◌, ◌≢◌, ◌⊎◌, inl, inr, ⊎_elim, ℕ, ◌<◌, ◌≤◌, ◌^◌, List, [], ◌∷◌, ◌++◌, length, refl, sym}
+use Rattle.std.proofs.Common.{◌≡◌, ⊎_elim, ℕ, ◌<◌, ◌≤◌, ◌^◌, List, [], ◌∷◌, ◌++◌, length, sym}
 use Rattle.std.proofs.Common.{ap, subst, ◌∙◌, arith}
-use Rattle.std.specs.Prelude.{Option, None, Some, true, false, decimal, codes}
+use Rattle.std.specs.Prelude.{Option, None, Some, true, decimal, codes}
 use Rattle.std.proofs.lemmas.Fmt.{decimal_injective}
 use Rattle.std.proofs.lemmas.List.{append_cancel_left}
 use Rattle.disk.specs.States.{Files, State}
@@ -14,7 +14,7 @@ use Rattle.archive_text.specs.Text.{entry_text}
 use Rattle.archive_text.specs.declared.limits.TheConstants.{ENTRY_MAX}
 use Rattle.archive_text.proofs.Members.{has_either, has_left, has_right}
 use Rattle.record_store.specs.Crashes.{Keeps, Rests}
-use Rattle.record_store.specs.Holdings.{BatchesHave, IsBatch}
+use Rattle.record_store.specs.Holdings.{IsBatch}
 use Rattle.record_store.specs.Names.{IsJournal, journal_name}
 use Rattle.record_store.specs.Stores.{HasNoJournal, IsReady, Sets, Stands, all_committed, begun, with_waiting}
 use Rattle.record_store.specs.declared.store.RecordStore.{RecordStore}

@@ -1,5 +1,5 @@
 -- What a folder holds after a crash.
-use Rattle.std.specs.Prelude.{◌≡◌, ◌≢◌, ◌⊎◌, ℕ, false, List, [], Option, None, Some}
+use Rattle.std.specs.Prelude.{◌≡◌, ℕ, false, List, [], Option, None, Some}
 use Rattle.disk.specs.Files.{settled}
 use Rattle.disk.specs.States.{Entry as DiskEntry, Files, NameMayLeave, State}
 use Rattle.journal.specs.Journals.{only_file}

@@ -1,5 +1,5 @@
 -- The names of a store's files. A name that is none of these counts for nothing.
-use Rattle.std.specs.Prelude.{◌≡◌, ◌⊎◌, ℕ, ◌^◌, ◌<◌, ◌≤◌, List, [], ◌∷◌, ◌++◌, All, Contains, codes, decimal, length}
+use Rattle.std.specs.Prelude.{◌≡◌, ◌⊎◌, ℕ, ◌^◌, ◌<◌, ◌≤◌, List, ◌∷◌, ◌++◌, All, Contains, codes, decimal, length}
 use Rattle.std.specs.Prelude.{Option, None, Some, IsNone, MatchOption}
 
 -- journal.N

@@ -1,5 +1,5 @@
 -- What a store is on a disk.
-use Rattle.std.specs.Prelude.{◌≡◌, ℕ, ◌^◌, ◌<◌, List, [], ◌∷◌, ◌++◌, Option, None, IsSome, IsTrue, false, length}
+use Rattle.std.specs.Prelude.{◌≡◌, ℕ, ◌^◌, ◌<◌, List, [], ◌∷◌, ◌++◌, None, IsSome, IsTrue, false, length}
 use Rattle.disk.specs.States.{Files, State}
 use Rattle.journal.specs.Journals.{Stands as JournalStands}
 use Rattle.archive_text.specs.Entries.{Entry, Has}

@@ -1,4 +1,4 @@
-use Rattle.std.proofs.Common.{◌≡◌, ◌<◌, ◌^◌, rules, sym, subst, refl, arith}
+use Rattle.std.proofs.Common.{◌≡◌, ◌<◌, ◌^◌, rules, sym, subst, arith}
 use Rattle.std.specs.Prelude.{IsNone}
 use Rattle.disk.specs.Names.{IsFileName}
 use Rattle.record_store.specs.Names.{journal_name}

@@ -1,4 +1,4 @@
-use Rattle.std.proofs.Common.{◌≡◌, ◌<◌, ◌^◌, List, ℕ, [], arith, subst, ◌∙◌}
+use Rattle.std.proofs.Common.{◌<◌, ◌^◌, List, ℕ, arith, subst}
 use Rattle.std.proofs.lemmas.Result.{IfOk-weaker}
 use Rattle.std.specs.Prelude.{Option, Some, None}
 use Rattle.record_store.specs.Names.{IsNewest}

@@ -1,6 +1,4 @@
-use Rattle.std.proofs.Common.{◌≡◌, ◌≤◌, ◌++◌, List, ℕ, length, refl, sym, ap, subst, ◌∙◌}
-use Rattle.syslog_frame.specs.Frames.{framed}
-use Rattle.syslog_frame.specs.declared.framing.Framing.TheVariants.{Counted}
+use Rattle.std.proofs.Common.{◌≤◌, List, ℕ, length, refl, sym, subst}
 use Rattle.archive_text.specs.EntryViews.{entry_of}
 use Rattle.archive_text.specs.declared.limits.TheConstants.{ENTRY_MAX}
 use Rattle.record_store.proofs.Standing.{appended_stands}
