@@ -19,5 +19,6 @@ jobs=${4:-$cores}
 
 "$here/plan.py" "$list" "$out.work" "$ranges"
 seq 0 "$ranges" |
-    parallel --will-cite --line-buffer --jobs "$jobs" --retries 3 --halt soon,fail=1 "$here/range.sh" "$out.work"
+    parallel --will-cite --quote --line-buffer --jobs "$jobs" --retries 3 --halt soon,fail=1 \
+        "$here/range.sh" "$out.work"
 "$here/concat.sh" "$out.work" "$out"

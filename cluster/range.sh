@@ -27,13 +27,15 @@ room=$(mktemp -d "${TMPDIR:-/tmp}/range.$name.XXXXXX")
 part=$(mktemp "$work/ranges/.$name.XXXXXX")
 trap 'rm -rf "$room" "$part"' EXIT
 
-failed="union failed; its files are those of $work/plan/$name, in this order"
+failed="union failed; its files are those of $work/plan/$name"
 pieces=()
 paths=()
 sizes=()
 {
     IFS=' ' read -r -a conditions
-    while IFS=' ' read -r begin count size path; do
+    while IFS= read -r line; do
+        path=/${line#*/} # behind three numbers
+        IFS=' ' read -r begin count size _ <<< "$line"
         piece=$room/${#pieces[@]}
         if ((count == size)); then
             piece=$path

@@ -20,7 +20,9 @@ array=0-$ranges${4:+%$4}
 
 mkdir -p "$work/logs" "$work/ranges"
 submit() { # LOG WORD..: the number of a job
-    sbatch --parsable --kill-on-invalid-dep=yes --output "$work/logs/$1" "${@:2}"
+    local job
+    job=$(sbatch --parsable --kill-on-invalid-dep=yes --output "$work/logs/$1" "${@:2}")
+    echo "${job%%;*}" # without the name of a cluster
 }
 plan=$(submit plan "$here/task.sh" "$here/../plan.py" "$list" "$work" "$ranges")
 joined=$(submit range.%a --dependency "afterok:$plan" --array "$array" "$here/task.sh" "$here/../range.sh" "$work")
@@ -28,8 +30,11 @@ last=$(submit concat --dependency "afterok:$joined" "$here/task.sh" "$here/../co
 echo "jobs $plan, $joined and $last" >&2
 
 # the jobs go on where this is stopped
-running='PENDING|CONFIGURING|RUNNING|REQUEUED|COMPLETING'
-while state=$(squeue --noheader --states all --jobs "$last" --format %T) && [[ $state =~ $running ]]; do
+ended='COMPLETED|CANCELLED|FAILED|TIMEOUT|NODE_FAIL|BOOT_FAIL|DEADLINE|OUT_OF_MEMORY|PREEMPTED'
+untold=0 # how often in turn the state was not told
+until state=$(squeue --noheader --states all --jobs "$last" --format %T || true) && [[ $state =~ $ended ]]; do
+    [[ $state ]] && untold=0
+    ((untold++ < 15)) || break
     sleep 2
     there=$(find "$work/ranges" -name '[0-9]*' | wc -l)
     echo "$there of $((ranges + 1)) ranges are there" >&2
