@@ -44,7 +44,8 @@ one_batch es fs body one other =
     same_entries es fs one.entries one.fits other.entries other.fits (sym one.text ∙ other.text)
 
 pub batch_has : (es : List Entry) (body : List ℕ) (e : Entry) → IsBatch es body → BatchHas body e → Has es e
-batch_has es body e batch has = subst (λ (l : List Entry). Has l e) (one_batch has.entries es body has.batch batch) has.has
+batch_has es body e batch has =
+    subst (λ (l : List Entry). Has l e) (one_batch has.entries es body has.batch batch) has.has
 
 pub no_batch : IsBatch [] []
 no_batch = record { entries = tt; fits = tt; text = refl }

@@ -38,7 +38,8 @@ journal_octets = (
 )
 
 decimal_octets : (n : ℕ) → n < 2 ^ 64 → AllByRecursion IsNameOctet (decimal n)
-decimal_octets n small = all_weaker IsDigit IsNameOctet (λ c digit. above c digit.0) (decimal n) (digits_decimal n small)
+decimal_octets n small =
+    all_weaker IsDigit IsNameOctet (λ c digit. above c digit.0) (decimal n) (digits_decimal n small)
 
 pub journal_is_name : (n : ℕ) → n < 2 ^ 64 → IsFileName (journal_name n)
 journal_is_name n small =

@@ -105,7 +105,8 @@ module _ (old new : State) (name : List ℕ) (files : Files) (file : List ℕ) (
             batches = text_has text opens.bodies opens.text_is opens.has.sized;
             has = has;
           });
-          newest = later_none files store.number name (Some (batches_text opens.bodies ++ opens.stands.gate ∷ [])) small named
+          newest = later_none files store.number name (Some (batches_text opens.bodies ++ opens.stands.gate ∷ [])) small
+              named
               none_above;
         },
       );
@@ -142,8 +143,8 @@ module _ (old new : State) (name : List ℕ) (files : Files) (number : ℕ) (res
       → ((file : List ℕ) → IsOnDisk old name file → OpensOn store.journal new file text)
       → ((e : Entry) → JournalHas text e → Has since e) → Stands store new (begun committed received since)
   journal_stands store committed received since text keeps number_is same empty opens are =
-      opened_stands old new name files its_file.0 numbered rests is_there others its_leaves store committed received since
-      text keeps (subst (λ (n : ℕ). n < 2 ^ 64) (sym number_is) small) (named ∙ ap journal_name (sym number_is)) same
+      opened_stands old new name files its_file.0 numbered rests is_there others its_leaves store committed received
+      since text keeps (subst (λ (n : ℕ). n < 2 ^ 64) (sym number_is) small) (named ∙ ap journal_name (sym number_is)) same
       empty (λ n later fits. newest.none_above n (subst (λ (k : ℕ). k < n) number_is later) fits)
       (opens its_file.0 is_on_disk) are
 

@@ -39,8 +39,8 @@ drafted zero one two three name text sound creates appends syncs =
       sound = creates.entry.lost ∙ sound;
     } in
     let written = shows_changed one two name (settled []) (appended text) empty appends in
-    let synced = shows_changed two three name (appended text (settled [])) (λ f. if two.lost then f else settled f.shown)
-    written syncs in
+    let synced = shows_changed two three name (appended text (settled []))
+    (λ f. if two.lost then f else settled f.shown) written syncs in
     record {
       now = synced.now
           ∙ ap (λ (b : Bool). Some (if b then appended text (settled []) else settled text)) written.sound;

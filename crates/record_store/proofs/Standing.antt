@@ -32,7 +32,8 @@ ready_named store state since files ready =
     record { number = store.number; small = ready.small; name_is = ready.named }
 
 -- what later journals there are stays so where the journal's file is another
-pub later_none : (files : Files) (number : ℕ) (name : List ℕ) (file : Option (List ℕ)) → number < 2 ^ 64 → name ≡ journal_name number
+pub later_none : (files : Files) (number : ℕ) (name : List ℕ) (file : Option (List ℕ)) → number < 2 ^ 64
+    → name ≡ journal_name number
     → ((n : ℕ) → number < n → n < 2 ^ 64 → files (journal_name n) ≡ None)
     → (n : ℕ) → number < n → n < 2 ^ 64 → with_file files name file (journal_name n) ≡ None
 later_none files number name file small named newest n later n_small =
@@ -88,8 +89,8 @@ module _ (old new : State) (store after : RecordStore) (sets : Sets) (stands : S
                   (λ last. has_right sets.since sets.waiting e (batch_has sets.waiting body e stands.batch last))
                   (pushed_either ready.bodies body e has);
               newest = λ n later small. later_none files store.number store.journal.name
-                  (Some (batches_text (ready.bodies ++ body ∷ []) ++ journal.gate ∷ [])) ready.small ready.named ready.newest n
-                  (subst (λ (k : ℕ). k < n) number later) small;
+                  (Some (batches_text (ready.bodies ++ body ∷ []) ++ journal.gate ∷ [])) ready.small ready.named
+                  ready.newest n (subst (λ (k : ℕ). k < n) number later) small;
             },
           );
         }
