@@ -1,0 +1,50 @@
+-- What is open of the sockets.
+use Rattle.std.specs.Prelude.{◌≡◌, ℕ, ◌<◌, ◌≤◌, Bool, true, false, is_some}
+use Rattle.slab.specs.Slab.{Slab, get}
+use Rattle.socket_source.specs.Steps.{with_open}
+use Rattle.socket_source.specs.declared.refusal.Reading.{Reading}
+use Rattle.socket_source.specs.declared.refusal.Reading.TheVariants.{Piece, Ended, Dry, Again}
+use Rattle.socket_source.specs.declared.step.ServerStep.{ServerStep}
+use Rattle.socket_source.specs.declared.step.ServerStep.TheVariants as step
+use Rattle.socket_source.specs.declared.step.ServerStep.TheVariants.{Opened, Datagram, TurnedAway, Tick, InputEnded, Finished, Failed}
+
+-- a number has a connection
+abbrev pub open_in : {T : Type 0} → Slab T → ℕ → Bool
+open_in connections n = is_some (get connections n)
+
+-- a connection was opened under a number that had none
+pub record IsOpenedAs {T : Type 0} (old new : Slab T) (limit conn : ℕ) : Type 0 where
+  pub vacant : open_in old conn ≡ false
+  pub below : conn < limit
+  pub opened : (n : ℕ) → open_in new n ≡ with_open conn (open_in old) n
+
+-- a read gives some octets, and no more than there is room for
+abbrev pub ReadsWithin : ℕ → Reading → Type 0
+ReadsWithin room (Piece len) = (0 < len) × (len ≤ room)
+ReadsWithin room (Ended end) = Unit {0}
+ReadsWithin room Dry = Unit {0}
+ReadsWithin room Again = Unit {0}
+
+-- the step is of this connection
+abbrev pub IsOf : ℕ → ServerStep → Type 0
+IsOf conn (Opened c listener framing peer) = ⊥
+IsOf conn (step.Piece c len) = c ≡ conn
+IsOf conn (step.Ended c end) = c ≡ conn
+IsOf conn (Datagram listener peer len) = ⊥
+IsOf conn (TurnedAway listener framing peer) = ⊥
+IsOf conn Tick = ⊥
+IsOf conn InputEnded = ⊥
+IsOf conn Finished = ⊥
+IsOf conn (Failed fault) = ⊥
+
+-- the step is of this listener
+abbrev pub IsAt : ℕ → ServerStep → Type 0
+IsAt listener (Opened conn l framing peer) = l ≡ listener
+IsAt listener (step.Piece conn len) = ⊥
+IsAt listener (step.Ended conn end) = ⊥
+IsAt listener (Datagram l peer len) = l ≡ listener
+IsAt listener (TurnedAway l framing peer) = l ≡ listener
+IsAt listener Tick = ⊥
+IsAt listener InputEnded = ⊥
+IsAt listener Finished = ⊥
+IsAt listener (Failed fault) = ⊥

@@ -1,0 +1,34 @@
+//! Many sockets as one source of steps, for a server that runs for weeks.
+//!
+//! A [`ServerSource`] gives steps: a connection opens under a number, octets come on it, it ends; a
+//! datagram comes; a period of time is up. A number names one connection at a time. [`SocketSource`]
+//! is over the sockets of the system, in one loop without threads; [`MemorySource`] is over a list.
+#![tactic(auto)]
+
+mod bound;
+mod connections;
+mod counts;
+mod input;
+mod limits;
+mod listener;
+mod memory_source;
+mod open_fault;
+mod opening;
+mod options;
+mod ready;
+mod refusal;
+mod socket_source;
+mod sockets;
+mod source;
+mod step;
+mod system;
+mod unix_path;
+
+pub use limits::{CONNECTIONS_MAX, PIECE_MAX};
+pub use listener::{Inherited, Listener};
+pub use memory_source::MemorySource;
+pub use open_fault::OpenFault;
+pub use options::SourceOptions;
+pub use socket_source::SocketSource;
+pub use source::ServerSource;
+pub use step::{ConnectionEnd, ServerStep, SourceFault};

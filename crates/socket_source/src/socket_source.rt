@@ -1,0 +1,76 @@
+//! The sockets of the system as a source of steps.
+ghost use Rattle.std.specs.Prelude.{length, max, min, IfOk, None};
+ghost use Rattle.socket_source.specs.Steps.{IsFresh};
+
+use crate::counts::StepCounts;
+use crate::limits::CONNECTIONS_MAX;
+use crate::listener::Listener;
+use crate::open_fault::OpenFault;
+use crate::options::SourceOptions;
+use crate::sockets::Sockets;
+use crate::source::ServerSource;
+use crate::step::ServerStep;
+use std::alloc::Global;
+use std::net::{Net, SocketAddr};
+use std::rt::{Clock, Files};
+
+/// The sockets of the system as one source of steps, in one loop without threads: one read a ready
+/// socket a turn, so that none waits for another.
+///
+/// A connection's error ends that connection alone. A listener stays whatever its calls answer: where
+/// the system has no descriptor left, it is tried again when a connection ends, and with each tick.
+/// While nothing comes, the process sleeps.
+#[derive(Drop)]
+pub struct SocketSource<'a, R> {
+    sockets: Sockets<'a, R>,
+    counts: StepCounts,
+}
+
+impl<'a, R: Net + Files + Clock> SocketSource<'a, R> {
+    /// Opens the sockets of all listeners, in their order. Inherited descriptors are looked at before
+    /// anything is opened; so this is called before files are.
+    pub fn open(
+        rt: &'a R,
+        alloc: Global,
+        listeners: &[Listener<'_>],
+        options: SourceOptions,
+    ) -> Result<SocketSource<'a, R>, OpenFault>
+        ensures { IfOk result (λ source. IsFresh (⟦<SocketSource<'a, R> as ServerSource>⟧.state source)
+            (max 1 (min options.connections CONNECTIONS_MAX)) (length listeners.now) None) }
+    {
+        match Sockets::open(rt, alloc, listeners, options) {
+            Ok(sockets) => Ok(SocketSource {
+                sockets,
+                counts: StepCounts::new(),
+            }),
+            Err(fault) => Err(fault),
+        }
+    }
+
+    /// The address of a listener, by its place in the list. One at a path has none.
+    pub fn local_addr(&self, listener: usize) -> Option<SocketAddr> {
+        self.sockets.listeners.get(listener)?.local_addr()
+    }
+}
+
+impl<'a, R: Clock> ServerSource for SocketSource<'a, R> {
+    ghost use Rattle.std.specs.Prelude.{None};
+    ghost use Rattle.socket_source.specs.Steps.{counts_of};
+    ghost use Rattle.socket_source.specs.Standings.{standing};
+
+    ghost state = { λ s. record {
+      standing = standing s.sockets;
+      counts = counts_of s.counts;
+      coming = None;
+    } };
+
+    fn next(&mut self, buf: &mut [u8]) -> ServerStep {
+        let step = self.sockets.next_step(buf);
+        self.counts.count(step);
+        step
+    }
+
+    fn close(&mut self, conn: u32) {
+        self.sockets.release(conn);
+    }
+}

@@ -1,0 +1,71 @@
+//! The steps of a server's source.
+
+use std::net::SocketAddr;
+use syslog_frame::Framing;
+
+/// How a connection ended.
+#[derive(Clone, Copy, Debug, PartialEq, Eq)]
+pub enum ConnectionEnd {
+    /// The peer ended it: all that it sent has come.
+    Closed,
+    /// It was reset, or its socket failed.
+    Reset,
+    /// Nothing came on it for as long as is waited for, and it was closed.
+    Idle,
+}
+
+/// Why a source gives nothing more.
+#[derive(Clone, Copy, Debug, PartialEq, Eq)]
+pub enum SourceFault {
+    /// The clock cannot be read.
+    Clock,
+    /// The system no longer tells which sockets are ready.
+    Poll,
+    /// The slice for the octets is empty.
+    NoRoom,
+    /// No step came in 2^64 - 1 turns.
+    Endless,
+}
+
+/// What a server's source gives next.
+#[derive(Clone, Copy, Debug, PartialEq, Eq)]
+pub enum ServerStep {
+    /// A connection was opened, under a number that no open connection has. The listener is the
+    /// one with that place in the list, from 0.
+    Opened {
+        conn: u32,
+        listener: usize,
+        framing: Framing,
+        peer: SocketAddr,
+    },
+    /// So many octets came on an open connection.
+    Piece {
+        conn: u32,
+        len: usize,
+    },
+    /// An open connection has ended. Its number may be given again from now on.
+    Ended {
+        conn: u32,
+        end: ConnectionEnd,
+    },
+    /// A datagram of so many octets came to a listener. A peer at a Unix socket has no address.
+    Datagram {
+        listener: usize,
+        peer: Option<SocketAddr>,
+        len: usize,
+    },
+    /// A connection came that there was no room for: it was closed at once.
+    TurnedAway {
+        listener: usize,
+        framing: Framing,
+        peer: SocketAddr,
+    },
+    /// The time of a period is up.
+    Tick,
+    /// Standard input has ended. What waits in the sockets still comes.
+    InputEnded,
+    /// Standard input has ended, and nothing waits in the sockets.
+    Finished,
+    /// The source failed.
+    Failed(SourceFault),
+}
