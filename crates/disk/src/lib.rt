@@ -3,9 +3,9 @@
 //! The model is the usual one. Octets that were written since the last sync of their file may be
 //! there in part, or be any others, in place of what was there too; nothing is longer than it was
 //! made. A write harms no octet beside it that is on the disk, also where a crash tears it: a drive
-//! that loses the whole of a sector of which it writes a part is none of these. A name that was made, taken or removed since the last sync of the folder may be as it was
-//! before, each name on its own. Once a sync has failed, no later sync promises anything: what was
-//! written before is written again to another file, or the process begins anew.
+//! that loses a whole sector when it writes a part of it is not covered. A name that was made, taken
+//! or removed since the last sync of the folder may be as it was before, each name on its own. Once
+//! a sync has failed, no later sync promises anything until the machine has started anew.
 //!
 //! A crash at any moment of a run is the same run over a disk that fails at every call from that
 //! moment on and changes nothing ([`Fuse`] is one): the run then ends with the state of the moment.
