@@ -20,7 +20,7 @@ use Rattle.archive_join.proofs.NextEntries.{at_number, next_closed, next_equal, 
 abbrev no_flags : List Head → List Bool
 no_flags hs = map (λ (h : Head). false) hs
 
-closed_or_not : (b : Bool) → (b ≡ true) ⊎ (b ≡ false)
+pub closed_or_not : (b : Bool) → (b ≡ true) ⊎ (b ≡ false)
 closed_or_not true = inl refl
 closed_or_not false = inr refl
 

@@ -3,6 +3,7 @@ pub mod Lists
 pub mod Fronts
 pub mod NextEntries
 pub mod Leasts
+pub mod Keys
 pub mod Sides
 pub mod Taking
 pub mod Ends

@@ -1,5 +1,6 @@
 -- The next entries of archives that are joined.
-use Rattle.std.specs.Prelude.{◌≡◌, ℕ, ◌+◌, ◌<◌, ◌⊎◌, ◌&&◌, not, Bool, true, false, List, [], ◌∷◌, ◌++◌, length, slice_index_or}
+use Rattle.std.specs.Prelude.{◌≡◌, ℕ, ◌+◌, ◌-◌, ◌^◌, ◌<◌, ℤ, pos, negsuc, ◌⊎◌, ◌&&◌, not, Bool, true, false}
+use Rattle.std.specs.Prelude.{List, [], ◌∷◌, ◌++◌, length, slice_index_or}
 use Rattle.std.specs.Prelude.{if◌then◌else◌, sum_by, map, slice_set, Option, Some, None}
 use Rattle.std.specs.List.{AllByRecursion}
 use Rattle.octet_devices.specs.Device.{InputState}
@@ -69,6 +70,15 @@ pub record IsLeast (hs some : List Head) (at : ℕ) : Type 0 where
   pub within : at < length hs
   pub unclosed : (h : Head) → IsAt hs at h → h.closed ≡ false
   pub least : (h : Head) → IsAt hs at h → AllByRecursion (IsNotAbove (current h.entries)) some
+
+-- the number by which an instant is compared: the least one for none
+abbrev pub key_of_instant : Option ℤ → ℤ
+key_of_instant None = negsuc (2 ^ 63 - 1)
+key_of_instant (Some i) = i
+
+-- the number by which the next entry of a head is compared: the greatest one, where it is closed
+abbrev pub key_of : Head → ℤ
+key_of h = if h.closed then pos (2 ^ 63 - 1) else key_of_instant (current h.entries).instant
 
 -- no head has an entry
 abbrev pub AreClosed : List Head → Type 0

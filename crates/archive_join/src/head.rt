@@ -23,7 +23,7 @@ impl Head {
     ghost use Rattle.std.specs.Prelude.{◌<◌, ◌≤◌, IfErr, IfOk, OnOk};
     ghost use Rattle.archive_text.specs.EntryViews.{entry_of};
     ghost use Rattle.archive_streams.specs.Faults.{SideFailures};
-    ghost use Rattle.archive_join.specs.Heads.{Fails, IsNew, Moves, height, is_next};
+    ghost use Rattle.archive_join.specs.Heads.{Fails, IsNew, Moves, height, is_next, key_of};
 
     /// Before the first entry.
     pub fn new(alloc: Global) -> Result<Head, AllocError>
@@ -58,6 +58,20 @@ impl Head {
                 self.closed = true;
                 Err(fault)
             }
+        }
+    }
+
+    /// The number by which its next entry is compared: that of its instant, the least for none. A
+    /// closed head has the greatest.
+    pub fn key(&self) -> i64
+        ensures { result ≡ key_of self.now }
+    {
+        if self.closed {
+            return i64::MAX;
+        }
+        match self.entries.entry().instant {
+            None => i64::MIN,
+            Some(instant) => instant.micros(),
         }
     }
 

@@ -1,7 +1,7 @@
 //! The least of the next entries.
 
-ghost use Rattle.std.specs.Prelude.{◌<◌, ◌+◌, MatchOption, length, take};
-ghost use Rattle.archive_join.specs.Heads.{AreClosed, IsFound, IsFoundIn};
+ghost use Rattle.std.specs.Prelude.{◌≡◌, ◌<◌, ◌+◌, MatchOption, length, map, take};
+ghost use Rattle.archive_join.specs.Heads.{AreClosed, IsFound, IsFoundIn, key_of};
 
 use crate::head::Head;
 use archive_text::compare;
@@ -15,8 +15,8 @@ pub struct Least {
     pub shared: bool,
 }
 
-// The least of the next entries with that of one head more.
-fn with_head(heads: &[Head], at: usize, least: Option<Least>) -> Option<Least>
+// The least of the next entries with that of one head more, whose octets are looked at.
+fn with_compared(heads: &[Head], at: usize, least: Option<Least>) -> Option<Least>
     requires at { at < length heads.now }
     requires found { IsFoundIn heads.now (take at heads.now) least }
     ensures { IsFoundIn heads.now (take (at + 1) heads.now) result }
@@ -40,13 +40,30 @@ fn with_head(heads: &[Head], at: usize, least: Option<Least>) -> Option<Least>
     }
 }
 
-/// The least of the next entries; None where all heads are closed.
-pub fn least_head(heads: &[Head]) -> Option<Least>
+// The least of the next entries with that of one head more. Most differ by their keys.
+#[inline(always)]
+fn with_head(heads: &[Head], keys: &[i64], at: usize, least: Option<Least>) -> Option<Least>
+    requires at { at < length heads.now }
+    requires keys { keys.now ≡ map key_of heads.now }
+    requires found { IsFoundIn heads.now (take at heads.now) least }
+    ensures { IsFoundIn heads.now (take (at + 1) heads.now) result }
+{
+    if let Some(before) = least {
+        if keys[at] > keys[before.at] {
+            return least;
+        }
+    }
+    with_compared(heads, at, least)
+}
+
+/// The least of the next entries, whose keys are these; None where all heads are closed.
+pub fn least_head(heads: &[Head], keys: &[i64]) -> Option<Least>
+    requires { keys.now ≡ map key_of heads.now }
     ensures { MatchOption result (AreClosed heads.now) (IsFound heads.now heads.now) }
 {
     let mut least = None;
     'heads: for at in 0..heads.len() {
-        least = with_head(heads, at, least);
+        least = with_head(heads, keys, at, least);
     }
     least
 }

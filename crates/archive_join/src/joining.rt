@@ -1,7 +1,7 @@
 //! Archives on their way into one, step by step.
 
-ghost use Rattle.std.specs.Prelude.{◌≡◌, vec_len};
-ghost use Rattle.archive_join.specs.Heads.{fault_of};
+ghost use Rattle.std.specs.Prelude.{◌≡◌, map, vec_len};
+ghost use Rattle.archive_join.specs.Heads.{fault_of, key_of};
 
 use crate::fault::JoinFault;
 use crate::head::Head;
@@ -11,15 +11,18 @@ use archive_streams::{EntriesFault, InputFault};
 use octet_devices::{BufferedOutput, Input, Output, WriteFault};
 use std::alloc::{AllocError, Global};
 
-/// Archives on their way into one: the head of each; whether it has the entry that was joined last,
-/// so that its next one is due; what is held back of what was kept, and how many entries those are.
+/// Archives on their way into one: the head of each, and its key; whether it has the entry that was
+/// joined last, so that its next one is due; what is held back of what was kept, and how many entries
+/// those are.
 #[derive(Drop)]
 pub struct Join {
     pub heads: Vec<Head>,
+    pub keys: Vec<i64>,
     pub holders: Vec<bool>,
     pub held: BufferedOutput,
     pub count: u64,
     pub ghost sizes: { vec_len holders ≡ vec_len heads },
+    pub ghost are_keys: { keys.items ≡ map key_of heads.items },
 }
 
 // The fault of the input of this number.
@@ -34,7 +37,7 @@ fn fault_of(input: usize, fault: EntriesFault) -> JoinFault
 }
 
 impl Join {
-    ghost use Rattle.std.specs.Prelude.{◌<◌, ℕ, List, false, length, map, slice_set, take};
+    ghost use Rattle.std.specs.Prelude.{◌<◌, ℕ, List, false, length, slice_set, take};
     ghost use Rattle.std.specs.Prelude.{IfErr, IfOk, IsErrOf, MatchOption, OnOk};
     ghost use Rattle.archive_join.specs.Failures.{ReadFailures, WriteFailures, failures_of};
     ghost use Rattle.archive_join.specs.Heads.{AreClosed, IsFound, IsLeast, total};
@@ -47,13 +50,17 @@ impl Join {
         ensures size { IfOk result (λ j. vec_len j.heads ≡ size) }
     {
         let mut heads = Vec::with_capacity(alloc, size)?;
+        let mut keys = Vec::with_capacity(alloc, size)?;
         let mut holders = Vec::with_capacity(alloc, size)?;
         'heads: while heads.len() < size {
-            heads.push(Head::new(alloc)?)?;
+            let head = Head::new(alloc)?;
+            keys.push(head.key())?;
+            heads.push(head)?;
             holders.push(true)?;
         }
         Ok(Join {
             heads,
+            keys,
             holders,
             held: BufferedOutput::new(),
             count: 0,
@@ -65,7 +72,7 @@ impl Join {
         ensures { MatchOption result (AreClosed self.now.heads.items)
             (IsFound self.now.heads.items self.now.heads.items) }
     {
-        least_head(&self.heads)
+        least_head(&self.heads, &self.keys)
     }
 
     // Notes which archives have the entry of the head of this number.
@@ -152,7 +159,9 @@ impl Join {
         if !self.holders[at] {
             return Ok(());
         }
-        match self.heads[at].advance(&mut inputs[at]) {
+        let advanced = self.heads[at].advance(&mut inputs[at]);
+        self.keys[at] = self.heads[at].key();
+        match advanced {
             Ok(()) => {
                 self.holders[at] = false;
                 Ok(())
