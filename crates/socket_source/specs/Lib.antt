@@ -4,3 +4,4 @@ pub mod Refusals
 pub mod Sockets
 pub mod Standings
 pub mod Waiting
+pub mod Opens

@@ -1,5 +1,6 @@
 //! The listeners are opened.
-ghost use Rattle.std.specs.Prelude.{◌≡◌, length, vec_len, IfOk};
+ghost use Rattle.std.specs.Prelude.{◌≡◌, length, vec_len, Bool, IfErr, IfOk};
+ghost use Rattle.socket_source.specs.Opens.{IsFaultOf};
 
 use crate::bound::{Bound, bind, check_inherited};
 use crate::listener::Listener;
@@ -15,7 +16,9 @@ const FIRST_INHERITED: u16 = 3;
 
 /// Finds a fault where a descriptor that was handed over is not what is asked for. It has to run
 /// before anything is opened, which could take its place.
-pub(crate) fn check_descriptors(listeners: &[Listener<'_>]) -> Result<(), OpenFault> {
+pub(crate) fn check_descriptors(listeners: &[Listener<'_>]) -> Result<(), OpenFault>
+    ensures { (waits : Bool) → IfErr result (IsFaultOf (length listeners.now) waits) }
+{
     let mut number = FIRST_INHERITED;
     for (listener, asked) in listeners.iter().enumerate() {
         if let Listener::Inherited(inherited) = asked {
@@ -53,7 +56,8 @@ pub(crate) fn open_listeners(
     listeners: &[Listener<'_>],
     receive_buffer: Option<u32>,
 ) -> Result<Vec<Bound>, OpenFault>
-    ensures { IfOk result (λ bound. vec_len bound ≡ length listeners.now) }
+    ensures all { IfOk result (λ bound. vec_len bound ≡ length listeners.now) }
+    ensures told { (waits : Bool) → IfErr result (IsFaultOf (length listeners.now) waits) }
 {
     let mut all = Vec::with_capacity(alloc, listeners.len())?;
     let mut inherited = FIRST_INHERITED;

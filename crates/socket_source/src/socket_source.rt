@@ -1,5 +1,6 @@
 //! The sockets of the system as a source of steps.
-ghost use Rattle.std.specs.Prelude.{length, max, min, IfOk, None};
+ghost use Rattle.std.specs.Prelude.{◌≡◌, ◌≤◌, length, max, min, IfErr, IfOk, None};
+ghost use Rattle.socket_source.specs.Opens.{IsFaultOf};
 ghost use Rattle.socket_source.specs.Steps.{IsFresh};
 
 use crate::counts::StepCounts;
@@ -35,8 +36,10 @@ impl<'a, R: Net + Files + Clock> SocketSource<'a, R> {
         listeners: &[Listener<'_>],
         options: SourceOptions,
     ) -> Result<SocketSource<'a, R>, OpenFault>
-        ensures { IfOk result (λ source. IsFresh (⟦<SocketSource<'a, R> as ServerSource>⟧.state source)
+        ensures fresh { IfOk result (λ source. IsFresh (⟦<SocketSource<'a, R> as ServerSource>⟧.state source)
             (max 1 (min options.connections CONNECTIONS_MAX)) (length listeners.now) None) }
+        // A listener's fault is that of one of these, and nobody asks about standard input in vain.
+        ensures told { IfErr result (IsFaultOf (length listeners.now) options.until_eof) }
     {
         match Sockets::open(rt, alloc, listeners, options) {
             Ok(sockets) => Ok(SocketSource {
@@ -48,7 +51,10 @@ impl<'a, R: Net + Files + Clock> SocketSource<'a, R> {
     }
 
     /// The address of a listener, by its place in the list. One at a path has none.
-    pub fn local_addr(&self, listener: usize) -> Option<SocketAddr> {
+    pub fn local_addr(&self, listener: usize) -> Option<SocketAddr>
+        ensures { (⟦<SocketSource<'a, R> as ServerSource>⟧.state self.now).standing.listeners ≤ listener
+            → result ≡ None }
+    {
         self.sockets.listeners.get(listener)?.local_addr()
     }
 }

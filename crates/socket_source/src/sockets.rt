@@ -1,5 +1,6 @@
 //! The sockets of the system, in one loop without threads.
-ghost use Rattle.std.specs.Prelude.{◌≡◌, ◌<◌, true, length, max, min, vec_len, IfOk, IfSome};
+ghost use Rattle.std.specs.Prelude.{◌≡◌, ◌<◌, true, length, max, min, vec_len, IfErr, IfOk, IfSome};
+ghost use Rattle.socket_source.specs.Opens.{IsFaultOf};
 ghost use Rattle.socket_source.specs.Sockets.{IsAt, IsOf};
 ghost use Rattle.socket_source.specs.Steps.{Becomes, IfLawful, IsLawful, IsVacant, without_open};
 
@@ -408,19 +409,20 @@ impl<'a, R: Net + Files + Clock> Sockets<'a, R> {
         listeners: &[Listener<'_>],
         options: SourceOptions,
     ) -> Result<Sockets<'a, R>, OpenFault>
-        ensures { IfOk result (λ sockets. IsVacant (standing sockets)
+        ensures vacant { IfOk result (λ sockets. IsVacant (standing sockets)
             (max 1 (min options.connections CONNECTIONS_MAX)) (length listeners.now)) }
+        ensures told { IfErr result (IsFaultOf (length listeners.now) options.until_eof) }
     {
-        check_descriptors(listeners)?;
+        if let Err(fault) = check_descriptors(listeners) {
+            return Err(fault);
+        }
         let poll = Poll::new(rt).map_err(OpenFault::System)?;
         let now = Instant::now(rt).map_err(OpenFault::System)?;
-        let bound = open_listeners(
-            rt,
-            alloc,
-            poll.registry(),
-            listeners,
-            options.receive_buffer,
-        )?;
+        let registry = poll.registry();
+        let bound = match open_listeners(rt, alloc, registry, listeners, options.receive_buffer) {
+            Ok(bound) => bound,
+            Err(fault) => return Err(fault),
+        };
         if options.until_eof {
             watch_input(poll.registry(), INPUT_NUMBER).map_err(OpenFault::Input)?;
         }
