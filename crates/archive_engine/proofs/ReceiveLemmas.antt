@@ -22,12 +22,14 @@ use Rattle.syslog_collect.specs.Outcomes.{IsOutcome}
 use Rattle.syslog_legacy.specs.declared.frame_reading.FrameReading.{FrameReading}
 use Rattle.syslog_collect.specs.Standing.{AreAt, Stands}
 use Rattle.syslog_collect.specs.declared.connection.Connection.{Connection}
+use Rattle.syslog_collect.specs.declared.connections.Connections.{Connections}
 use Rattle.syslog_collect.specs.declared.fault.CollectFault.{CollectFault}
 use Rattle.syslog_collect.specs.declared.fault.CollectFault.TheVariants.{AlreadyOpen, TooManyOpen, NotOpen, ConnFailed}
 use Rattle.syslog_collect.specs.declared.fault.CollectFault.TheVariants.{StreamTooLong, Unreleased, Unterminated}
 use Rattle.syslog_collect.specs.declared.fault.CollectFault.TheVariants.{Memory}
 use Rattle.syslog_collect.specs.declared.outcome.Outcome.{Outcome}
 use Rattle.syslog_collect.proofs.Headline.{first_settled, holds_just}
+use Rattle.syslog_collect.proofs.Ordered.{AreQuiet, waits_in_order}
 use Rattle.syslog_collect.proofs.Steps.{history_after-push}
 use Rattle.frame_engine.specs.Converted.{noted_line}
 use Rattle.driver.specs.Effects.{Done, nothing as none_done}
@@ -40,17 +42,17 @@ use Rattle.archive_engine.specs.Receiving.{LogsPiece, Receives, ReceivesDatagram
 
 -- ---- what was heard
 
-pub receives_datagram : (way : FrameReading) (cs : List Connection) (kept : List Entry) (octets : List ℕ)
+pub receives_datagram : (way : FrameReading) (cs : Connections) (kept : List Entry) (octets : List ℕ)
     → Stands way cs kept [] (Datagram octets ∷ []) → IsSettled cs → Receives way cs kept input.Datagram octets
 receives_datagram way cs kept octets stands settled =
     record { events = Datagram octets ∷ []; stands = stands; settled = settled; history = refl }
 
-pub receives_opening : (way : FrameReading) (cs : List Connection) (kept : List Entry) (kind : Framing)
+pub receives_opening : (way : FrameReading) (cs : Connections) (kept : List Entry) (kind : Framing)
     → Stands way cs kept [] (Opened 0 kind ∷ []) → IsSettled cs → Receives way cs kept (input.Stream kind) []
 receives_opening way cs kept kind stands settled =
     record { events = Opened 0 kind ∷ []; stands = stands; settled = settled; history = refl }
 
-pub receives_piece : (way : FrameReading) (cs ds : List Connection) (kept now : List Entry) (kind : Framing)
+pub receives_piece : (way : FrameReading) (cs ds : Connections) (kept now : List Entry) (kind : Framing)
     (given octets : List ℕ) → (r : Receives way cs kept (input.Stream kind) given)
     → Stands way ds now [] (r.events ++ Piece 0 octets ∷ []) → IsSettled ds
     → Receives way ds now (input.Stream kind) (given ++ octets)
@@ -127,7 +129,7 @@ logs_datagram way octets w v old new os (here, later, between, parts, (x, one, o
 )
 
 -- a datagram was heard, of which one outcome is told
-pub receives_one : (way : FrameReading) (ds : List Connection) (old kept : List Entry) (octets : List ℕ) (w v : ℕ → ℕ)
+pub receives_one : (way : FrameReading) (ds : Connections) (old kept : List Entry) (octets : List ℕ) (w v : ℕ → ℕ)
     (os : List Outcome) → Stands way ds kept [] (Datagram octets ∷ []) → IsSettled ds
     → IsLogOf way initial w (Datagram octets ∷ []) v old kept os → ReceivesDatagram way ds old kept octets os
 receives_one way ds old kept octets w v os stands settled logged =
@@ -182,7 +184,7 @@ heard_frames (input.Stream kind) octets frames (rest, are) = record {
 }
 
 -- the entries that are held are those of the received set
-pub holds_heard : (way : FrameReading) (cs : List Connection) (kept : List Entry) (framing : InputFraming)
+pub holds_heard : (way : FrameReading) (cs : Connections) (kept : List Entry) (framing : InputFraming)
     (octets : List ℕ)
     → Receives way cs kept framing octets → (x : Entry) → Has kept x ↔ IsReceivedIn way framing octets x
 holds_heard way cs kept framing octets r x =
@@ -217,7 +219,7 @@ good_start kind (frames, rest, at, bad) =
     bad.none (subst (Begins (Whole kind)) same.1 (begins_nothing kind))
 
 begins_at : (cs : List Connection) (kind : Framing) (given : List ℕ) (handled : List (List (List ℕ)))
-    → AreAt cs (opening kind given ∷ []) handled → IsSettled cs → ¬ (HoldsBadCount (opening kind given))
+    → AreAt cs (opening kind given ∷ []) handled → AreQuiet cs → ¬ (HoldsBadCount (opening kind given))
     → (frames : List (List ℕ)) (rest : List ℕ) → Frames kind given frames rest → Begins (Whole kind) rest
 begins_at [] kind given [] at settled good frames rest are = absurd at
 begins_at [] kind given (f ∷ fs) at settled good frames rest are = absurd at
@@ -236,13 +238,15 @@ begins_at (c ∷ cs) kind given (f ∷ fs) at settled good frames rest are = eli
   | inr broken ↦ absurd (good (f, broken.rest, broken.offset, broken.bad))
 ]
 
-pub begins_rest : (way : FrameReading) (cs : List Connection) (kept : List Entry) (kind : Framing) (given : List ℕ)
+pub begins_rest : (way : FrameReading) (cs : Connections) (kept : List Entry) (kind : Framing) (given : List ℕ)
     → Receives way cs kept (input.Stream kind) given → ¬ (HoldsBadCount (opening kind given))
     → (frames : List (List ℕ)) (rest : List ℕ) → Frames kind given frames rest → Begins (Whole kind) rest
 begins_rest way cs kept kind given r good =
-    let at = r.stands.stands_at in
-    begins_at cs kind given at.handled
-    (subst (λ (h : History). AreAt cs h.streams at.handled) r.history at.follow) r.settled good
+    let o = r.stands.stands_at in
+    let at = o.in_order in
+    let quiet : AreQuiet o.order = λ d. sym (waits_in_order cs o.order o.all d) ∙ r.settled d in
+    begins_at o.order kind given at.handled
+    (subst (λ (h : History). AreAt o.order h.streams at.handled) r.history at.follow) quiet good
 
 pub stops_whole : (U : Type 0) (kind : Framing) (given : List ℕ) (u : U) (h : History)
     → h ≡ heard (input.Stream kind) given → IsEnding 0 (Ok u) h → ¬ (HoldsBadCount (opening kind given))
@@ -251,7 +255,7 @@ stops_whole U kind given u h is ending good =
     let here = subst (λ (k : History). IsEnding {U = U} 0 (Ok u) k) is ending in
     elim here [ inl bad ↦ absurd (good bad) | inr whole ↦ whole ]
 
-pub stops_inside : (way : FrameReading) (U : Type 0) (cs : List Connection) (kept : List Entry) (kind : Framing)
+pub stops_inside : (way : FrameReading) (U : Type 0) (cs : Connections) (kept : List Entry) (kind : Framing)
     (given : List ℕ) (start : ℕ) → (r : Receives way cs kept (input.Stream kind) given)
     → IsEnding {U = U} 0 (Err (Unterminated start)) (history_of r.events)
     → ¬ (HoldsBadCount (opening kind given)) → StopsAt kind given (Some start)

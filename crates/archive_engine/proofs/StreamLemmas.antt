@@ -17,7 +17,7 @@ use Rattle.syslog_legacy.specs.declared.frame_reading.FrameReading.{FrameReading
 use Rattle.syslog_collect.specs.Frames.{IsSpelled}
 use Rattle.syslog_collect.specs.History.{HoldsBadCount}
 use Rattle.syslog_collect.specs.Outcomes.{AreReported, IsOutcome}
-use Rattle.syslog_collect.specs.declared.connection.Connection.{Connection}
+use Rattle.syslog_collect.specs.declared.connections.Connections.{Connections}
 use Rattle.syslog_collect.specs.declared.outcome.Outcome.{Outcome}
 use Rattle.syslog_collect.specs.declared.outcome.Outcome.TheVariants.{New, Held, Refused, RefusedLegacy, TooLong}
 use Rattle.syslog_collect.specs.declared.outcome.Outcome.TheVariants.{BadCount}
@@ -87,7 +87,7 @@ stream_whole way kind stream kept lines archive members noted =
 
 -- ---- a stream goes on
 
-pub stream_start : (way : FrameReading) (cs : List Connection) (kept : List Entry) (kind : Framing)
+pub stream_start : (way : FrameReading) (cs : Connections) (kept : List Entry) (kind : Framing)
     → Receives way cs kept (input.Stream kind) [] → StreamStands way kind cs kept 1 []
 stream_start way cs kept kind r = record {
   receives = r;
@@ -108,7 +108,7 @@ handled_of way kind given frames rest d are g =
 
 -- a piece without a bad count
 pub stream_more : (way : FrameReading) (kind : Framing) (given octets : List ℕ) (number next : ℕ)
-    (cs ds : List Connection) (kept now : List Entry) (os : List Outcome)
+    (cs ds : Connections) (kept now : List Entry) (os : List Outcome)
     → (s : StreamStands way kind cs kept number given)
     → Receives way ds now (input.Stream kind) (given ++ octets) → LogsPiece way kind given octets kept now os
     → has_bad_count os ≡ false → next ≡ number + length os
@@ -128,7 +128,7 @@ stream_more way kind given octets number next cs ds kept now os s r p good count
     }
 
 pub goes_on_more : (way : FrameReading) (kind : Framing) (given octets : List ℕ) (number : ℕ)
-    (cs ds : List Connection) (kept now : List Entry) (os : List Outcome) (before old new : Done)
+    (cs ds : Connections) (kept now : List Entry) (os : List Outcome) (before old new : Done)
     → (s : StreamStands way kind cs kept number given)
     → Receives way ds now (input.Stream kind) (given ++ octets) → LogsPiece way kind given octets kept now os
     → has_bad_count os ≡ false → new ≡ then_done old (noted_outcomes number os)
@@ -154,7 +154,7 @@ goes_on_more way kind given octets number cs ds kept now os before old new s r p
     }
 
 -- no octets came
-pub stream_still : (way : FrameReading) (kind : Framing) (given octets : List ℕ) (number : ℕ) (cs : List Connection)
+pub stream_still : (way : FrameReading) (kind : Framing) (given octets : List ℕ) (number : ℕ) (cs : Connections)
     (kept : List Entry) → octets ≡ [] → StreamStands way kind cs kept number given
     → StreamStands way kind cs kept number (given ++ octets)
 stream_still way kind given octets number cs kept none s =
@@ -168,7 +168,7 @@ goes_on_still way kind given octets d none g =
     (sym (ap (λ (x : List ℕ). given ++ x) none ∙ append-nil given)) g
 
 -- there is room for the numbers of the outcomes of a piece
-pub few_more : (way : FrameReading) (kind : Framing) (given octets : List ℕ) (number : ℕ) (cs : List Connection)
+pub few_more : (way : FrameReading) (kind : Framing) (given octets : List ℕ) (number : ℕ) (cs : Connections)
     (kept now : List Entry) (os : List Outcome) → StreamStands way kind cs kept number given
     → LogsPiece way kind given octets kept now os
     → number + length os ≤ length given + length given + length octets + 2
@@ -218,7 +218,7 @@ part_of_more kind stream some later all rest way d are split handled =
     }
 
 -- where some of its outcomes were noted
-pub part_some : (way : FrameReading) (kind : Framing) (given octets : List ℕ) (number : ℕ) (cs ds : List Connection)
+pub part_some : (way : FrameReading) (kind : Framing) (given octets : List ℕ) (number : ℕ) (cs ds : Connections)
     (kept now : List Entry) (os : List Outcome) (before old new : Done)
     → (s : StreamStands way kind cs kept number given) → LogsPiece way kind given octets kept now os
     → NotedSome number os old new → GoesOn (archive_handling way) kind given (then_done before old)
@@ -244,7 +244,7 @@ part_some way kind given octets number cs ds kept now os before old new s p some
 
 -- ---- a stream ends
 
-pub stream_ends : (way : FrameReading) (kind : Framing) (given : List ℕ) (number : ℕ) (cs : List Connection)
+pub stream_ends : (way : FrameReading) (kind : Framing) (given : List ℕ) (number : ℕ) (cs : Connections)
     (kept : List Entry) (before old new d : Done) → (s : StreamStands way kind cs kept number given)
     → IsArchive ENTRY_MAX kept → GoesOn (archive_handling way) kind given (then_done before old)
     → ReportsEnd noted_line kind given s.frames s.rest d → new ≡ then_done old d
@@ -263,7 +263,7 @@ stream_ends way kind given number cs kept before old new d s archive g reported 
     })
 
 -- a stream ended, and where it stops was noted
-pub stream_ended : (way k : FrameReading) (kind : Framing) (given : List ℕ) (number : ℕ) (cs : List Connection)
+pub stream_ended : (way k : FrameReading) (kind : Framing) (given : List ℕ) (number : ℕ) (cs : Connections)
     (kept now : List Entry) (before old new : Done) (stop : Option ℕ) → k ≡ way → now ≡ kept
     → IsArchive ENTRY_MAX kept → (s : StreamStands way kind cs kept number given)
     → GoesOn (archive_handling way) kind given (then_done before old)
@@ -311,7 +311,7 @@ same_frames way kind given more frames rest short long x = (
 )
 
 pub stream_stops : (way : FrameReading) (kind : Framing) (given octets more : List ℕ) (number : ℕ)
-    (cs ds : List Connection)
+    (cs ds : Connections)
     (kept now : List Entry) (os : List Outcome) (before old new : Done)
     → (s : StreamStands way kind cs kept number given) → IsArchive ENTRY_MAX now
     → Receives way ds now (input.Stream kind) (given ++ octets) → LogsPiece way kind given octets kept now os
@@ -361,7 +361,7 @@ stream_stops way kind given octets more number cs ds kept now os before old new 
 
 -- what is told of a piece that was taken, of a collector that reads frames so
 pub record TakesPiece (way k : FrameReading) (kind : Framing) (given octets : List ℕ) (number : ℕ)
-    (cs ds : List Connection)
+    (cs ds : Connections)
     (kept now : List Entry) (items os : List Outcome) : Type 0 where
   pub same_reading : k ≡ way
   pub stands : StreamStands way kind cs kept number given
@@ -372,7 +372,7 @@ pub record TakesPiece (way k : FrameReading) (kind : Framing) (given octets : Li
   pub same : os ≡ items
   pub few : length given + length octets ≤ most_octets
 
-taken : (way k : FrameReading) (kind : Framing) (given octets : List ℕ) (number : ℕ) (cs ds : List Connection)
+taken : (way k : FrameReading) (kind : Framing) (given octets : List ℕ) (number : ℕ) (cs ds : Connections)
     (kept now : List Entry) (items os : List Outcome)
     → TakesPiece way k kind given octets number cs ds kept now items os
     → Receives way ds now (input.Stream kind) (given ++ octets) × LogsPiece way kind given octets kept now os
@@ -386,7 +386,7 @@ taken way k kind given octets number cs ds kept now items os t =
           (t.logs kind given here)),
     )
 
-small : (way k : FrameReading) (kind : Framing) (given octets : List ℕ) (number : ℕ) (cs ds : List Connection)
+small : (way k : FrameReading) (kind : Framing) (given octets : List ℕ) (number : ℕ) (cs ds : Connections)
     (kept now : List Entry) (items os : List Outcome)
     → TakesPiece way k kind given octets number cs ds kept now items os → number + length os < 2 ^ 64
 small way k kind given octets number cs ds kept now items os t =
@@ -394,7 +394,7 @@ small way k kind given octets number cs ds kept now items os t =
     omega (arith, few_more way kind given octets number cs kept now os t.stands p, t.few)
 
 pub stream_continues : (way k : FrameReading) (kind : Framing) (given octets : List ℕ) (number next : ℕ)
-    (cs ds : List Connection) (kept now : List Entry) (items os : List Outcome) (bad : Bool) (before old new : Done)
+    (cs ds : Connections) (kept now : List Entry) (items os : List Outcome) (bad : Bool) (before old new : Done)
     → TakesPiece way k kind given octets number cs ds kept now items os
     → (number + length os < 2 ^ 64 → new ≡ then_done old (noted_outcomes number os)) → bad ≡ has_bad_count os
     → bad ≡ false → (number + length os < 2 ^ 64 → bad ≡ false → next ≡ number + length os)
@@ -411,7 +411,7 @@ stream_continues way k kind given octets number next cs ds kept now items os bad
     )
 
 pub stream_finishes : (way k : FrameReading) (kind : Framing) (given octets more : List ℕ) (number : ℕ)
-    (cs ds : List Connection) (kept now : List Entry) (items os : List Outcome) (bad : Bool) (before old new : Done)
+    (cs ds : Connections) (kept now : List Entry) (items os : List Outcome) (bad : Bool) (before old new : Done)
     → TakesPiece way k kind given octets number cs ds kept now items os → IsArchive ENTRY_MAX now
     → (number + length os < 2 ^ 64 → new ≡ then_done old (noted_outcomes number os)) → bad ≡ has_bad_count os
     → bad ≡ true → GoesOn (archive_handling way) kind given (then_done before old)
@@ -423,7 +423,7 @@ stream_finishes way k kind given octets more number cs ds kept now items os bad 
     stream_stops way kind given octets more number cs ds kept now os before old new t.stands archive r p (sym is ∙ met)
     (noted low) g
 
-pub stream_part : (way k : FrameReading) (kind : Framing) (given octets : List ℕ) (number : ℕ) (cs ds : List Connection)
+pub stream_part : (way k : FrameReading) (kind : Framing) (given octets : List ℕ) (number : ℕ) (cs ds : Connections)
     (kept now : List Entry) (items os : List Outcome) (before old new : Done)
     → TakesPiece way k kind given octets number cs ds kept now items os
     → (number + length os < 2 ^ 64 → NotedSome number os old new)
@@ -452,7 +452,7 @@ datagram_whole way octets kept lines archive members noted =
       whole = only_rest lines (text_of kept) none;
     }
 
-short_datagram : (way : FrameReading) (cs : List Connection) (first kept : List Entry) (octets : List ℕ) (x : Outcome)
+short_datagram : (way : FrameReading) (cs : Connections) (first kept : List Entry) (octets : List ℕ) (x : Outcome)
     → IsArchive ENTRY_MAX kept → Receives way cs kept input.Datagram octets → IsOutcome way first kept octets x
     → ArchiveDone way input.Datagram octets (with_rest (noted_outcome 1 x) (text_of kept))
 short_datagram way cs first kept octets x archive r out =
@@ -478,7 +478,7 @@ none_long way octets x long (frames, one, spelled) =
     of_one (inl (few, more)) = omega (arith, few, long)
     of_one (inr none) = none
 
-long_datagram : (way : FrameReading) (cs : List Connection) (first kept : List Entry) (octets stream : List ℕ)
+long_datagram : (way : FrameReading) (cs : Connections) (first kept : List Entry) (octets stream : List ℕ)
     (x : Outcome)
     → IsArchive ENTRY_MAX kept → Receives way cs kept input.Datagram octets → IsOutcome way first kept octets x
     → FRAME_MAX < length octets → FRAME_MAX < length stream
@@ -492,7 +492,7 @@ long_datagram way cs first kept octets stream x archive r out long longer =
     ))
     (inl (longer, ap (noted_outcome 1) (only_long way first kept octets x long out)))
 
-one_datagram : (way : FrameReading) (cs : List Connection) (first kept : List Entry) (octets stream : List ℕ)
+one_datagram : (way : FrameReading) (cs : Connections) (first kept : List Entry) (octets stream : List ℕ)
     (x : Outcome)
     → octets ≡ take (FRAME_MAX + 1) stream → IsArchive ENTRY_MAX kept → Receives way cs kept input.Datagram octets
     → IsOutcome way first kept octets x
@@ -517,7 +517,7 @@ noted_one (RefusedLegacy offset) = then_nothing (noted_line (line.LegacyNotUtf8 
 noted_one TooLong = then_nothing (noted_line (line.TooLong 1))
 noted_one (BadCount at) = refl
 
-pub datagram_ends : (way : FrameReading) (cs : List Connection) (first kept : List Entry) (octets given : List ℕ)
+pub datagram_ends : (way : FrameReading) (cs : Connections) (first kept : List Entry) (octets given : List ℕ)
     (os : List Outcome) (before old new : Done) → octets ≡ take (FRAME_MAX + 1) given → IsArchive ENTRY_MAX kept
     → ReceivesDatagram way cs first kept octets os → then_done before old ≡ nothing
     → new ≡ then_done old (noted_outcomes 1 os)

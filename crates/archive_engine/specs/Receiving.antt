@@ -10,7 +10,7 @@ use Rattle.syslog_collect.specs.Headline.{IsSettled}
 use Rattle.syslog_collect.specs.History.{AcceptedEvent, History, HoldsBadCount, Stream, history_of}
 use Rattle.syslog_collect.specs.Outcomes.{AreReported, IsOutcome}
 use Rattle.syslog_collect.specs.Standing.{Stands}
-use Rattle.syslog_collect.specs.declared.connection.Connection.{Connection}
+use Rattle.syslog_collect.specs.declared.connections.Connections.{Connections}
 use Rattle.syslog_collect.specs.declared.outcome.Outcome.{Outcome}
 use Rattle.frame_engine.specs.declared.input_framing.InputFraming.{InputFraming}
 use Rattle.frame_engine.specs.declared.input_framing.InputFraming.TheVariants as input
@@ -25,12 +25,12 @@ heard input.Datagram octets = record { streams = []; ended = []; datagrams = oct
 heard (input.Stream kind) octets = record { streams = opening kind octets ∷ []; ended = []; datagrams = [] }
 
 -- a collector over an empty store heard nothing
-pub record HeardNothing (way : FrameReading) (cs : List Connection) (kept : List Entry) : Type 0 where
+pub record HeardNothing (way : FrameReading) (cs : Connections) (kept : List Entry) : Type 0 where
   pub stands : Stands way cs kept [] []
   pub settled : IsSettled cs
 
 -- a collector over an empty store received these octets of an input, and no frame is left ready
-pub record Receives (way : FrameReading) (cs : List Connection) (kept : List Entry) (framing : InputFraming)
+pub record Receives (way : FrameReading) (cs : Connections) (kept : List Entry) (framing : InputFraming)
     (octets : List ℕ) : Type 0 where
   pub events : List AcceptedEvent
   pub stands : Stands way cs kept [] events
@@ -57,7 +57,7 @@ StopsAt kind stream (Some start) = (frames : List (List ℕ)) × (rest : List �
 
 -- a collector over an empty store was given these octets of a stream, none of which is bad; the next frame has this
 -- number
-pub record StreamStands (way : FrameReading) (kind : Framing) (cs : List Connection) (kept : List Entry) (number : ℕ)
+pub record StreamStands (way : FrameReading) (kind : Framing) (cs : Connections) (kept : List Entry) (number : ℕ)
     (given : List ℕ) : Type 0 where
   pub receives : Receives way cs kept (input.Stream kind) given
   pub frames : List (List ℕ)
@@ -67,7 +67,7 @@ pub record StreamStands (way : FrameReading) (kind : Framing) (cs : List Connect
   pub number_is : number ≡ length frames + 1
 
 -- a collector over an empty store was given a datagram, of which one outcome is told
-pub record ReceivesDatagram (way : FrameReading) (cs : List Connection) (old kept : List Entry) (octets : List ℕ)
+pub record ReceivesDatagram (way : FrameReading) (cs : Connections) (old kept : List Entry) (octets : List ℕ)
     (outcomes : List Outcome) : Type 0 where
   pub receives : Receives way cs kept input.Datagram octets
   pub outcome : Outcome

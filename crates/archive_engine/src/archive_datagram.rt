@@ -30,7 +30,7 @@ impl<S: Store + Drop> ArchiveDatagram<S> {
     /// A session before the first octet of a datagram.
     pub fn new(alloc: Global, reception: Reception<S>) -> ArchiveDatagram<S>
         ensures begun { HeardNothing reception.collector.reading
-            reception.collector.connections.items (S.entries reception.collector.store) →
+            reception.collector.connections (S.entries reception.collector.store) →
             HasBegun (⟦<ArchiveDatagram<S> as Session>⟧.stands result result)
             (⟦<ArchiveDatagram<S> as Session>⟧.means result) }
         ensures reading { result.reception.collector.reading ≡ reception.collector.reading }
@@ -55,7 +55,7 @@ impl<S: Store + Drop> Session for ArchiveDatagram<S> {
 
     ghost stands = { λ first now given.
         (now.reception.collector.reading ≡ first.reception.collector.reading)
-        × HeardNothing now.reception.collector.reading now.reception.collector.connections.items
+        × HeardNothing now.reception.collector.reading now.reception.collector.connections
         (S.entries now.reception.collector.store)
         × (now.kept.items ≡ take (FRAME_MAX + 1) given) };
 

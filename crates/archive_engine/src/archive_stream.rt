@@ -37,7 +37,7 @@ impl<S: Store + Drop> ArchiveStream<S> {
         mut reception: Reception<S>,
     ) -> Result<ArchiveStream<S>, AllocError>
         ensures begun { HeardNothing reception.collector.reading
-            reception.collector.connections.items (S.entries reception.collector.store) →
+            reception.collector.connections (S.entries reception.collector.store) →
             IfOk result (λ s. HasBegun (⟦<ArchiveStream<S> as Session>⟧.stands s s)
             (⟦<ArchiveStream<S> as Session>⟧.means s)) }
         ensures framing { IfOk result (λ s. s.framing ≡ framing) }
@@ -67,7 +67,7 @@ impl<S: Store + Drop> Session for ArchiveStream<S> {
     ghost stands = { λ first now given. (now.framing ≡ first.framing)
         × (now.reception.collector.reading ≡ first.reception.collector.reading)
         × StreamStands first.reception.collector.reading first.framing
-        now.reception.collector.connections.items (S.entries now.reception.collector.store)
+        now.reception.collector.connections (S.entries now.reception.collector.store)
         now.number given };
 
     fn take(&mut self, piece: &[u8], effects: &mut Effects) -> Result<Flow, AllocError> {

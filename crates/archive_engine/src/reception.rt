@@ -31,7 +31,7 @@ impl<S: Store + Drop> Reception<S> {
     /// Nothing was received. Frames are to be read so.
     pub fn new(alloc: Global, store: S, reading: FrameReading) -> Result<Reception<S>, AllocError>
         ensures fresh { S.entries store ≡ [] → IfOk result (λ r. HeardNothing r.collector.reading
-            r.collector.connections.items (S.entries r.collector.store)) }
+            r.collector.connections (S.entries r.collector.store)) }
         ensures reading { IfOk result (λ r. r.collector.reading ≡ reading) }
     {
         match Collector::with_reading(alloc, store, reading) {
@@ -46,22 +46,22 @@ impl<S: Store + Drop> Reception<S> {
     // Hands one event to the collector, and keeps its outcomes alone.
     fn run_event(&mut self, alloc: Global, event: Event<'_>) -> Result<(), AllocError>
         ensures stands { OnOk result ((first : List Entry) (before : List AcceptedEvent)
-            → Stands self.old.collector.reading self.old.collector.connections.items
+            → Stands self.old.collector.reading self.old.collector.connections
             (S.entries self.old.collector.store) first before
-            → Stands self.old.collector.reading self.new.collector.connections.items
+            → Stands self.old.collector.reading self.new.collector.connections
             (S.entries self.new.collector.store) first (before ++ accepted_event event.entry ∷ [])) }
         ensures settled { OnOk result ((first : List Entry) (before : List AcceptedEvent)
-            → Stands self.old.collector.reading self.old.collector.connections.items
+            → Stands self.old.collector.reading self.old.collector.connections
             (S.entries self.old.collector.store) first before
-            → IsSettled self.old.collector.connections.items
-            → IsSettled self.new.collector.connections.items) }
+            → IsSettled self.old.collector.connections
+            → IsSettled self.new.collector.connections) }
         ensures logged { OnOk result ((first : List Entry) (before : List AcceptedEvent)
-            → Stands self.old.collector.reading self.old.collector.connections.items
+            → Stands self.old.collector.reading self.old.collector.connections
             (S.entries self.old.collector.store) first before
-            → IsSettled self.old.collector.connections.items
+            → IsSettled self.old.collector.connections
             → IsLogOf self.old.collector.reading (history_of before)
-            (waiting self.old.collector.connections.items) (accepted_event event.entry ∷ [])
-            (waiting self.new.collector.connections.items) (S.entries self.old.collector.store)
+            (waiting self.old.collector.connections) (accepted_event event.entry ∷ [])
+            (waiting self.new.collector.connections) (S.entries self.old.collector.store)
             (S.entries self.new.collector.store) self.new.outcomes.items) }
         ensures reading { self.new.collector.reading ≡ self.old.collector.reading }
     {
@@ -75,9 +75,9 @@ impl<S: Store + Drop> Reception<S> {
     /// Receives a datagram.
     pub fn datagram(&mut self, alloc: Global, octets: &[u8]) -> Result<(), AllocError>
         ensures receives { HeardNothing self.old.collector.reading
-            self.old.collector.connections.items
+            self.old.collector.connections
             (S.entries self.old.collector.store) → OnOk result (ReceivesDatagram
-            self.old.collector.reading self.new.collector.connections.items
+            self.old.collector.reading self.new.collector.connections
             (S.entries self.old.collector.store) (S.entries self.new.collector.store)
             octets.now self.new.outcomes.items) }
         ensures reading { self.new.collector.reading ≡ self.old.collector.reading }
@@ -88,8 +88,8 @@ impl<S: Store + Drop> Reception<S> {
     /// Begins to receive a stream.
     pub fn open(&mut self, alloc: Global, framing: Framing) -> Result<(), AllocError>
         ensures receives { HeardNothing self.old.collector.reading
-            self.old.collector.connections.items (S.entries self.old.collector.store) →
-            OnOk result (Receives self.old.collector.reading self.new.collector.connections.items
+            self.old.collector.connections (S.entries self.old.collector.store) →
+            OnOk result (Receives self.old.collector.reading self.new.collector.connections
             (S.entries self.new.collector.store) (Stream framing) []) }
         ensures reading { self.new.collector.reading ≡ self.old.collector.reading }
     {
@@ -106,12 +106,12 @@ impl<S: Store + Drop> Reception<S> {
     pub fn piece(&mut self, alloc: Global, octets: &[u8]) -> Result<(), AllocError>
         requires { 0 < length octets.now }
         ensures receives { OnOk result ((kind : Framing) (given : List ℕ)
-            → Receives self.old.collector.reading self.old.collector.connections.items
+            → Receives self.old.collector.reading self.old.collector.connections
             (S.entries self.old.collector.store) (Stream kind) given
-            → Receives self.old.collector.reading self.new.collector.connections.items
+            → Receives self.old.collector.reading self.new.collector.connections
             (S.entries self.new.collector.store) (Stream kind) (given ++ octets.now)) }
         ensures logs { OnOk result ((kind : Framing) (given : List ℕ)
-            → Receives self.old.collector.reading self.old.collector.connections.items
+            → Receives self.old.collector.reading self.old.collector.connections
             (S.entries self.old.collector.store) (Stream kind) given
             → LogsPiece self.old.collector.reading kind given octets.now
             (S.entries self.old.collector.store) (S.entries self.new.collector.store)
@@ -125,7 +125,7 @@ impl<S: Store + Drop> Reception<S> {
     /// has one.
     pub fn end(&mut self) -> Option<u64>
         ensures stops { (kind : Framing) (given : List ℕ)
-            → Receives self.old.collector.reading self.old.collector.connections.items
+            → Receives self.old.collector.reading self.old.collector.connections
             (S.entries self.old.collector.store) (Stream kind) given
             → ¬ (HoldsBadCount (opening kind given)) → StopsAt kind given result }
         ensures same { self.new.collector.store ≡ self.old.collector.store }

@@ -5,9 +5,12 @@ use archive_pages::PagedArchive;
 use archive_vec::VecArchive;
 use std::alloc::Global;
 use std::test::Fail;
-use syslog_collect::{Advance, CONNECTIONS_MAX, CollectFault, Event, Outcome, RunEnd};
+use syslog_collect::{
+    Advance, CONNECTIONS_LIMIT, CONNECTIONS_MAX, CollectFault, Collector, Event, Outcome, RunEnd,
+};
 use syslog_frame::Framing;
 use syslog_grammar::{Fault, Field};
+use syslog_legacy::FrameReading;
 
 const A_AS_A_LINE: &[u8] = b"<13>1 - h a - - - x\n";
 
@@ -40,6 +43,31 @@ fn at_most_so_many_connections_are_opened(rt: HostRuntime) -> Result<(), Fail> {
     let ended = collector.advance(alloc, 101, A_COUNTED);
     assert_eq!(rt; ended, Err(CollectFault::NotOpen));
     assert_eq!(rt; collector.end_conn(8), Err(CollectFault::NotOpen));
+    Ok(())
+}
+
+#[test]
+fn as_many_connections_are_opened_as_are_asked_for(rt: HostRuntime) -> Result<(), Fail> {
+    let alloc = rt.alloc();
+    for (asked, most) in [(1, 64), (200, 200), (100_000, CONNECTIONS_LIMIT as u32)] {
+        let store = VecArchive::new(alloc);
+        let reading = FrameReading::from(None);
+        let Ok(mut collector) = Collector::with_connections(alloc, store, reading, asked) else {
+            return Err("no memory")?;
+        };
+        for place in 0..most {
+            let conn = place.wrapping_mul(0x9E37_79B1);
+            assert_eq!(rt; collector.open_conn(alloc, conn, Framing::Lf), Ok(()));
+        }
+        let one_more = collector.open_conn(alloc, 1, Framing::Lf);
+        assert_eq!(rt; one_more, Err(CollectFault::TooManyOpen), "above {most}");
+        let whole = collector.advance(alloc, 0, A_AS_A_LINE);
+        assert!(rt; whole.is_ok());
+        assert_eq!(rt; collector.end_conn(0x9E37_79B1), Ok(()));
+        assert_eq!(rt; collector.end_conn(0x9E37_79B1), Err(CollectFault::NotOpen));
+        assert_eq!(rt; collector.open_conn(alloc, 1, Framing::Lf), Ok(()));
+        assert_eq!(rt; text_of(alloc, collector.store())?.as_slice(), A_COUNTED);
+    }
     Ok(())
 }
 

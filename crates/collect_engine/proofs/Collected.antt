@@ -17,7 +17,7 @@ use Rattle.syslog_collect.specs.Headline.{IsSettled}
 use Rattle.syslog_collect.specs.History.{AcceptedEvent, initial}
 use Rattle.syslog_collect.specs.Logs.{waiting}
 use Rattle.syslog_collect.specs.Standing.{Stands}
-use Rattle.syslog_collect.specs.declared.connection.Connection.{Connection}
+use Rattle.syslog_collect.specs.declared.connections.Connections.{Connections}
 use Rattle.syslog_collect.proofs.Headline.{holds_just}
 use Rattle.collect_engine.specs.Collecting.{Collects, IfArchived, IsArchiveOf, NotesBehind, NotesOut, NotesThen, Served}
 use Rattle.collect_engine.specs.Collecting.{Takes, WritesOut, WritesText}
@@ -27,7 +27,7 @@ use Rattle.collect_engine.specs.Steps.{Given}
 use Rattle.collect_engine.specs.declared.serve_end.Stopped.{Stopped}
 use Rattle.collect_engine.specs.declared.serve_end.Stopped.TheVariants as stopped
 
-archive_of : (way k : FrameReading) (ds : List Connection) (now first : List Entry) (es : List AcceptedEvent) → k ≡ way
+archive_of : (way k : FrameReading) (ds : Connections) (now first : List Entry) (es : List AcceptedEvent) → k ≡ way
     → first ≡ [] → IsArchive ENTRY_MAX now → Stands k ds now first es → IsSettled ds → IsArchiveOf way es now
 archive_of way k ds now first es same empty archive stands settled = record {
   archive = archive;
@@ -44,7 +44,7 @@ if_archived (Err stopped.Memory) P Q f h = tt
 if_archived (Err stopped.MemoryAndNotes) P Q f h = tt
 
 -- what a store keeps that began empty, unless memory ran out
-pub archived : (end : Served) (way k : FrameReading) (ds : List Connection) (now first : List Entry)
+pub archived : (end : Served) (way k : FrameReading) (ds : Connections) (now first : List Entry)
     (es : List AcceptedEvent)
     → k ≡ way → first ≡ [] → IsArchive ENTRY_MAX now → Stands k ds now first es → UnlessMemory end (IsSettled ds)
     → IfArchived end (IsArchiveOf way es now)
@@ -52,7 +52,7 @@ archived end way k ds now first es same empty archive stands settled =
     if_archived end (IsSettled ds) (IsArchiveOf way es now)
     (λ quiet. archive_of way k ds now first es same empty archive stands quiet) settled
 
-pub from_nothing : (way k : FrameReading) (cs : List Connection) (v : ℕ → ℕ) (end : Served) (gs : List Given)
+pub from_nothing : (way k : FrameReading) (cs : Connections) (v : ℕ → ℕ) (end : Served) (gs : List Given)
     (es : List AcceptedEvent) (lines : List ℕ) → k ≡ way → IsSettled cs
     → StepsServed k initial (waiting cs) v end gs es lines → Collects way end gs es lines
 from_nothing way k cs v end gs es lines same settled served =

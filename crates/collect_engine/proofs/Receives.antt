@@ -17,7 +17,8 @@ use Rattle.syslog_collect.specs.Runs.{accepted_event, accepted_part, accepted_re
 use Rattle.syslog_collect.specs.Runs.{nonempty_piece}
 use Rattle.syslog_collect.specs.Standing.{Stands}
 use Rattle.syslog_collect.specs.Stops.{EndsWell, IsPieceCause, StopsAs, StopsAt}
-use Rattle.syslog_collect.specs.declared.connection.Connection.{Connection}
+use Rattle.syslog_collect.specs.declared.connections.Connections.{Connections}
+use Rattle.syslog_collect.specs.declared.limits.TheConstants.{CONNECTIONS_MAX}
 use Rattle.syslog_collect.specs.declared.event.Event.{Event}
 use Rattle.syslog_collect.specs.declared.event.Event.TheVariants.{Opened as event_Opened, Piece as event_Piece}
 use Rattle.syslog_collect.specs.declared.event.Event.TheVariants.{Ended as event_Ended, Datagram as event_Datagram}
@@ -61,10 +62,10 @@ pub part_of_one : (e : Event) (at n : ℕ) (fault : CollectFault) → at < 1
 part_of_one e zero n fault less = refl
 part_of_one e (suc at) n fault less = absurd (omega arith)
 
-pub stops_at_one : (way : FrameReading) (h : History) (v : ℕ → ℕ) (e : Event) (at n : ℕ) (fault : CollectFault)
-    → StopsAs way h v (e ∷ []) (Stopped at n fault) → StopsAt way h v e n fault
-stops_at_one way h v e zero n fault (less, stops) = stops
-stops_at_one way h v e (suc at) n fault (less, stops) = absurd (omega (arith, less))
+pub stops_at_one : (limit : ℕ) (way : FrameReading) (h : History) (v : ℕ → ℕ) (e : Event) (at n : ℕ) (fault : CollectFault)
+    → StopsAs limit way h v (e ∷ []) (Stopped at n fault) → StopsAt limit way h v e n fault
+stops_at_one limit way h v e zero n fault (less, stops) = stops
+stops_at_one limit way h v e (suc at) n fault (less, stops) = absurd (omega (arith, less))
 
 -- what was logged of it, with nothing before
 pub logs_of_one : (way : FrameReading) (h : History) (w v : ℕ → ℕ) (e : Event) (at n : ℕ) (fault : CollectFault)
@@ -84,25 +85,25 @@ some_fact None P C f h = absurd h
 some_fact (Some x) P C f h = f x h
 
 -- of a piece that is refused for another cause than memory nothing was taken
-none_taken : (way : FrameReading) (h : History) (v : ℕ → ℕ) (c n : ℕ) (o : Bor (List ℕ)) (fault : CollectFault)
-    → StopsAt way h v (event_Piece c o) n fault → IfNotMemory (received_as fault) (n ≡ 0)
-none_taken way h v c n o (Memory m) stops = tt
-none_taken way h v c n o NotOpen (few, inl e) = absurd (cc)
-none_taken way h v c n o NotOpen (few, inr is) = is.1
-none_taken way h v c n o ConnFailed (few, inl e) = absurd (cc)
-none_taken way h v c n o ConnFailed (few, inr is) =
+none_taken : (limit : ℕ) (way : FrameReading) (h : History) (v : ℕ → ℕ) (c n : ℕ) (o : Bor (List ℕ)) (fault : CollectFault)
+    → StopsAt limit way h v (event_Piece c o) n fault → IfNotMemory (received_as fault) (n ≡ 0)
+none_taken limit way h v c n o (Memory m) stops = tt
+none_taken limit way h v c n o NotOpen (few, inl e) = absurd (cc)
+none_taken limit way h v c n o NotOpen (few, inr is) = is.1
+none_taken limit way h v c n o ConnFailed (few, inl e) = absurd (cc)
+none_taken limit way h v c n o ConnFailed (few, inr is) =
     some_fact (stream_of c h.streams) (IsPieceCause way o.now n (v c) ConnFailed) (n ≡ 0) (λ s k. k.1) is
-none_taken way h v c n o StreamTooLong (few, inl e) = absurd (cc)
-none_taken way h v c n o StreamTooLong (few, inr is) =
+none_taken limit way h v c n o StreamTooLong (few, inl e) = absurd (cc)
+none_taken limit way h v c n o StreamTooLong (few, inr is) =
     some_fact (stream_of c h.streams) (IsPieceCause way o.now n (v c) StreamTooLong) (n ≡ 0) (λ s k. k.1) is
-none_taken way h v c n o AlreadyOpen (few, inl e) = absurd (cc)
-none_taken way h v c n o AlreadyOpen (few, inr is) = absurd is
-none_taken way h v c n o TooManyOpen (few, inl e) = absurd (cc)
-none_taken way h v c n o TooManyOpen (few, inr is) = absurd is
-none_taken way h v c n o Unreleased (few, inl e) = absurd (cc)
-none_taken way h v c n o Unreleased (few, inr is) = absurd is
-none_taken way h v c n o (Unterminated start) (few, inl e) = absurd (cc)
-none_taken way h v c n o (Unterminated start) (few, inr is) = absurd is
+none_taken limit way h v c n o AlreadyOpen (few, inl e) = absurd (cc)
+none_taken limit way h v c n o AlreadyOpen (few, inr is) = absurd is
+none_taken limit way h v c n o TooManyOpen (few, inl e) = absurd (cc)
+none_taken limit way h v c n o TooManyOpen (few, inr is) = absurd is
+none_taken limit way h v c n o Unreleased (few, inl e) = absurd (cc)
+none_taken limit way h v c n o Unreleased (few, inr is) = absurd is
+none_taken limit way h v c n o (Unterminated start) (few, inl e) = absurd (cc)
+none_taken limit way h v c n o (Unterminated start) (few, inr is) = absurd is
 
 if_not_memory : (r : Received) (P Q : Type 0) → (P → Q) → IfNotMemory r P → IfNotMemory r Q
 if_not_memory received.Accepted P Q f h = f h
@@ -136,34 +137,34 @@ each_same u v c none (less, others) d = elim (eqb_tells c d) [
 ]
 
 -- so no more frames wait than before
-less_waits : (way : FrameReading) (h : History) (u v : ℕ → ℕ) (e : Event) (n : ℕ) (fault : CollectFault) (a b : List Entry)
-    (os : List Outcome) → StopsAt way h v e n fault → LogsRefused way h u v e n a b os
+less_waits : (limit : ℕ) (way : FrameReading) (h : History) (u v : ℕ → ℕ) (e : Event) (n : ℕ) (fault : CollectFault) (a b : List Entry)
+    (os : List Outcome) → StopsAt limit way h v e n fault → LogsRefused way h u v e n a b os
     → IfNotMemory (received_as fault) ((d : ℕ) → v d ≤ u d)
-less_waits way h u v (event_Opened c k) n fault a b os stops (none, same, is) =
+less_waits limit way h u v (event_Opened c k) n fault a b os stops (none, same, is) =
     not_memory (received_as fault) _ (λ d. omega (arith, is d))
-less_waits way h u v (event_Piece c o) n fault a b os stops logs =
+less_waits limit way h u v (event_Piece c o) n fault a b os stops logs =
     if_not_memory (received_as fault) (n ≡ 0) ((d : ℕ) → v d ≤ u d)
-    (λ none. each_less u v c (same_waits way h u v c o n a b os none logs)) (none_taken way h v c n o fault stops)
-less_waits way h u v (event_Ended c) n fault a b os stops (none, same, is) =
+    (λ none. each_less u v c (same_waits way h u v c o n a b os none logs)) (none_taken limit way h v c n o fault stops)
+less_waits limit way h u v (event_Ended c) n fault a b os stops (none, same, is) =
     not_memory (received_as fault) _ (λ d. omega (arith, is d))
-less_waits way h u v (event_Datagram o) n fault a b os stops (none, same, is) =
+less_waits limit way h u v (event_Datagram o) n fault a b os stops (none, same, is) =
     not_memory (received_as fault) _ (λ d. omega (arith, is d))
 
 none_left : (a b c : ℕ) → a ≤ b → b ≡ c → c ≡ 0 → a ≡ 0
 none_left a b c x y z = omega arith
 
-pub refused_settled : (way : FrameReading) (cs ds : List Connection) (h : History) (e : Event) (at n : ℕ)
+pub refused_settled : (limit : ℕ) (way : FrameReading) (cs ds : Connections) (h : History) (e : Event) (at n : ℕ)
     (fault : CollectFault) (a b : List Entry) (log os : List Outcome)
-    → IsSettled cs → StopsAs way h (waiting ds) (e ∷ []) (Stopped at n fault)
+    → IsSettled cs → StopsAs limit way h (waiting ds) (e ∷ []) (Stopped at n fault)
     → Grows (LogsRun way h (waiting cs) (waiting ds) (e ∷ []) (Stopped at n fault) a b) log os
     → IfNotMemory (received_as fault) (IsSettled ds)
-refused_settled way cs ds h e at n fault a b log os settled stops (grown, grows, logs) =
+refused_settled limit way cs ds h e at n fault a b log os settled stops (grown, grows, logs) =
     let (u, mid, later, same, one, all) =
     logs_of_one way h (waiting cs) (waiting ds) e at n fault a b grown stops.0 logs in
     if_not_memory (received_as fault) ((d : ℕ) → waiting ds d ≤ u d) (IsSettled ds)
     (λ less d. none_left (waiting ds d) (u d) (waiting cs d) (less d) (same d) (settled d))
-    (less_waits way h u (waiting ds) e n fault mid b later
-    (stops_at_one way h (waiting ds) e at n fault stops) one)
+    (less_waits limit way h u (waiting ds) e n fault mid b later
+    (stops_at_one limit way h (waiting ds) e at n fault stops) one)
 
 -- ---- what is made of a refusal
 
@@ -180,19 +181,19 @@ memory_part way h w u v (event_Datagram o) n m a b os same logs = (refl, logs.0)
 nothing_of : (c n : ℕ) (o : Bor (List ℕ)) → n ≡ 0 → nonempty_piece c (take n o.now) ≡ []
 nothing_of c n o none = ap (λ (k : ℕ). nonempty_piece c (take k o.now)) none
 
-piece_as : (way : FrameReading) (h : History) (w u v : ℕ → ℕ) (c n : ℕ) (o : Bor (List ℕ)) (fault : CollectFault)
+piece_as : (limit : ℕ) (way : FrameReading) (h : History) (w u v : ℕ → ℕ) (c n : ℕ) (o : Bor (List ℕ)) (fault : CollectFault)
     (a b : List Entry) (os : List Outcome) → ((d : ℕ) → u d ≡ w d)
-    → LogsPart way h u v c (take n o.now) a b os → StopsAt way h v (event_Piece c o) n fault
+    → LogsPart way h u v c (take n o.now) a b os → StopsAt limit way h v (event_Piece c o) n fault
     → (IsSomeAnd (stream_of c h.streams) HoldsBadCount → w c ≡ 0)
     → ReceivesAs way h w v (Piece c o.now) (received_as fault) (kept_outcomes fault os)
     (nonempty_piece c (take n o.now))
-piece_as way h w u v c n o (Memory m) a b os same logs stops quiet =
+piece_as limit way h w u v c n o (Memory m) a b os same logs stops quiet =
     memory_part way h w u v (event_Piece c o) n m a b os same logs
-piece_as way h w u v c n o NotOpen a b os same logs (few, inl e) quiet = absurd (cc)
-piece_as way h w u v c n o NotOpen a b os same logs (few, inr is) quiet =
+piece_as limit way h w u v c n o NotOpen a b os same logs (few, inl e) quiet = absurd (cc)
+piece_as limit way h w u v c n o NotOpen a b os same logs (few, inr is) quiet =
     (nothing_of c n o is.1, refl, inl is.0)
-piece_as way h w u v c n o ConnFailed a b os same logs (few, inl e) quiet = absurd (cc)
-piece_as way h w u v c n o ConnFailed a b os same logs (few, inr is) quiet =
+piece_as limit way h w u v c n o ConnFailed a b os same logs (few, inl e) quiet = absurd (cc)
+piece_as limit way h w u v c n o ConnFailed a b os same logs (few, inr is) quiet =
     let none =
     some_fact (stream_of c h.streams) (IsPieceCause way o.now n (v c) ConnFailed) (n ≡ 0) (λ s k. k.1) is in
     let bad = some_map (stream_of c h.streams) (IsPieceCause way o.now n (v c) ConnFailed) HoldsBadCount (λ s k. k.0)
@@ -203,8 +204,8 @@ piece_as way h w u v c n o ConnFailed a b os same logs (few, inr is) quiet =
       λ d. each_same u v c (same c ∙ quiet bad) (same_waits way h u v c o n a b os none logs) d ∙ same d,
       bad,
     )
-piece_as way h w u v c n o StreamTooLong a b os same logs (few, inl e) quiet = absurd (cc)
-piece_as way h w u v c n o StreamTooLong a b os same logs (few, inr is) quiet =
+piece_as limit way h w u v c n o StreamTooLong a b os same logs (few, inl e) quiet = absurd (cc)
+piece_as limit way h w u v c n o StreamTooLong a b os same logs (few, inr is) quiet =
     let none = some_fact (stream_of c h.streams) (IsPieceCause way o.now n (v c) StreamTooLong) (n ≡ 0) (λ s k. k.1)
     is in (
       nothing_of c n o none,
@@ -212,92 +213,94 @@ piece_as way h w u v c n o StreamTooLong a b os same logs (few, inr is) quiet =
       inr (some_map (stream_of c h.streams) (IsPieceCause way o.now n (v c) StreamTooLong)
           (λ s. ¬ (HoldsBadCount s) × (POSITION_MAX < length s.octets + length o.now)) (λ s k. k.0) is),
     )
-piece_as way h w u v c n o AlreadyOpen a b os same logs (few, inl e) quiet = absurd (cc)
-piece_as way h w u v c n o AlreadyOpen a b os same logs (few, inr is) quiet = absurd is
-piece_as way h w u v c n o TooManyOpen a b os same logs (few, inl e) quiet = absurd (cc)
-piece_as way h w u v c n o TooManyOpen a b os same logs (few, inr is) quiet = absurd is
-piece_as way h w u v c n o Unreleased a b os same logs (few, inl e) quiet = absurd (cc)
-piece_as way h w u v c n o Unreleased a b os same logs (few, inr is) quiet = absurd is
-piece_as way h w u v c n o (Unterminated start) a b os same logs (few, inl e) quiet = absurd (cc)
-piece_as way h w u v c n o (Unterminated start) a b os same logs (few, inr is) quiet = absurd is
+piece_as limit way h w u v c n o AlreadyOpen a b os same logs (few, inl e) quiet = absurd (cc)
+piece_as limit way h w u v c n o AlreadyOpen a b os same logs (few, inr is) quiet = absurd is
+piece_as limit way h w u v c n o TooManyOpen a b os same logs (few, inl e) quiet = absurd (cc)
+piece_as limit way h w u v c n o TooManyOpen a b os same logs (few, inr is) quiet = absurd is
+piece_as limit way h w u v c n o Unreleased a b os same logs (few, inl e) quiet = absurd (cc)
+piece_as limit way h w u v c n o Unreleased a b os same logs (few, inr is) quiet = absurd is
+piece_as limit way h w u v c n o (Unterminated start) a b os same logs (few, inl e) quiet = absurd (cc)
+piece_as limit way h w u v c n o (Unterminated start) a b os same logs (few, inr is) quiet = absurd is
 
-opened_as : (way : FrameReading) (h : History) (w v : ℕ → ℕ) (c n : ℕ) (k : Framing) (fault : CollectFault)
-    (os : List Outcome) → os ≡ [] → StopsAt way h v (event_Opened c k) n fault
+opened_as : (limit : ℕ) (way : FrameReading) (h : History) (w v : ℕ → ℕ) (c n : ℕ) (k : Framing) (fault : CollectFault)
+    (os : List Outcome) → CONNECTIONS_MAX ≤ limit → os ≡ [] → StopsAt limit way h v (event_Opened c k) n fault
     → ReceivesAs way h w v (Opened c k) (received_as fault) (kept_outcomes fault os) []
-opened_as way h w v c n k (Memory m) os none stops = (refl, none)
-opened_as way h w v c n k AlreadyOpen os none (few, inl e) = absurd (cc)
-opened_as way h w v c n k AlreadyOpen os none (few, inr is) = (refl, refl, inl is)
-opened_as way h w v c n k TooManyOpen os none (few, inl e) = absurd (cc)
-opened_as way h w v c n k TooManyOpen os none (few, inr is) = (refl, refl, inr is.1)
-opened_as way h w v c n k NotOpen os none (few, inl e) = absurd (cc)
-opened_as way h w v c n k NotOpen os none (few, inr is) = absurd is
-opened_as way h w v c n k ConnFailed os none (few, inl e) = absurd (cc)
-opened_as way h w v c n k ConnFailed os none (few, inr is) = absurd is
-opened_as way h w v c n k StreamTooLong os none (few, inl e) = absurd (cc)
-opened_as way h w v c n k StreamTooLong os none (few, inr is) = absurd is
-opened_as way h w v c n k Unreleased os none (few, inl e) = absurd (cc)
-opened_as way h w v c n k Unreleased os none (few, inr is) = absurd is
-opened_as way h w v c n k (Unterminated start) os none (few, inl e) = absurd (cc)
-opened_as way h w v c n k (Unterminated start) os none (few, inr is) = absurd is
+opened_as limit way h w v c n k (Memory m) os many none stops = (refl, none)
+opened_as limit way h w v c n k AlreadyOpen os many none (few, inl e) = absurd (cc)
+opened_as limit way h w v c n k AlreadyOpen os many none (few, inr is) = (refl, refl, inl is)
+opened_as limit way h w v c n k TooManyOpen os many none (few, inl e) = absurd (cc)
+opened_as limit way h w v c n k TooManyOpen os many none (few, inr is) =
+    let full : CONNECTIONS_MAX ≤ length h.streams = omega (arith, many, is.1) in (refl, refl, inr full)
+opened_as limit way h w v c n k NotOpen os many none (few, inl e) = absurd (cc)
+opened_as limit way h w v c n k NotOpen os many none (few, inr is) = absurd is
+opened_as limit way h w v c n k ConnFailed os many none (few, inl e) = absurd (cc)
+opened_as limit way h w v c n k ConnFailed os many none (few, inr is) = absurd is
+opened_as limit way h w v c n k StreamTooLong os many none (few, inl e) = absurd (cc)
+opened_as limit way h w v c n k StreamTooLong os many none (few, inr is) = absurd is
+opened_as limit way h w v c n k Unreleased os many none (few, inl e) = absurd (cc)
+opened_as limit way h w v c n k Unreleased os many none (few, inr is) = absurd is
+opened_as limit way h w v c n k (Unterminated start) os many none (few, inl e) = absurd (cc)
+opened_as limit way h w v c n k (Unterminated start) os many none (few, inr is) = absurd is
 
-ended_as : (way : FrameReading) (h : History) (w v : ℕ → ℕ) (c n : ℕ) (fault : CollectFault) (os : List Outcome) → os ≡ []
-    → ((d : ℕ) → v d ≡ w d) → StopsAt way h v (event_Ended c) n fault
+ended_as : (limit : ℕ) (way : FrameReading) (h : History) (w v : ℕ → ℕ) (c n : ℕ) (fault : CollectFault) (os : List Outcome) → os ≡ []
+    → ((d : ℕ) → v d ≡ w d) → StopsAt limit way h v (event_Ended c) n fault
     → ReceivesAs way h w v (Ended c) (received_as fault) (kept_outcomes fault os) (accepted_refused_end c fault)
-ended_as way h w v c n (Memory m) os none same stops = (refl, none)
-ended_as way h w v c n (Unterminated start) os none same (few, inl e) = absurd (cc)
-ended_as way h w v c n (Unterminated start) os none same (few, inr is) = (refl, refl, same, is.0)
-ended_as way h w v c n NotOpen os none same (few, inl e) = absurd (cc)
-ended_as way h w v c n NotOpen os none same (few, inr is) = (refl, refl, inl is.0)
-ended_as way h w v c n Unreleased os none same (few, inl e) = absurd (cc)
-ended_as way h w v c n Unreleased os none same (few, inr is) = (refl, refl, inr is.1)
-ended_as way h w v c n AlreadyOpen os none same (few, inl e) = absurd (cc)
-ended_as way h w v c n AlreadyOpen os none same (few, inr is) = absurd is.0
-ended_as way h w v c n TooManyOpen os none same (few, inl e) = absurd (cc)
-ended_as way h w v c n TooManyOpen os none same (few, inr is) = absurd is.0
-ended_as way h w v c n ConnFailed os none same (few, inl e) = absurd (cc)
-ended_as way h w v c n ConnFailed os none same (few, inr is) = absurd is.0
-ended_as way h w v c n StreamTooLong os none same (few, inl e) = absurd (cc)
-ended_as way h w v c n StreamTooLong os none same (few, inr is) = absurd is.0
+ended_as limit way h w v c n (Memory m) os none same stops = (refl, none)
+ended_as limit way h w v c n (Unterminated start) os none same (few, inl e) = absurd (cc)
+ended_as limit way h w v c n (Unterminated start) os none same (few, inr is) = (refl, refl, same, is.0)
+ended_as limit way h w v c n NotOpen os none same (few, inl e) = absurd (cc)
+ended_as limit way h w v c n NotOpen os none same (few, inr is) = (refl, refl, inl is.0)
+ended_as limit way h w v c n Unreleased os none same (few, inl e) = absurd (cc)
+ended_as limit way h w v c n Unreleased os none same (few, inr is) = (refl, refl, inr is.1)
+ended_as limit way h w v c n AlreadyOpen os none same (few, inl e) = absurd (cc)
+ended_as limit way h w v c n AlreadyOpen os none same (few, inr is) = absurd is.0
+ended_as limit way h w v c n TooManyOpen os none same (few, inl e) = absurd (cc)
+ended_as limit way h w v c n TooManyOpen os none same (few, inr is) = absurd is.0
+ended_as limit way h w v c n ConnFailed os none same (few, inl e) = absurd (cc)
+ended_as limit way h w v c n ConnFailed os none same (few, inr is) = absurd is.0
+ended_as limit way h w v c n StreamTooLong os none same (few, inl e) = absurd (cc)
+ended_as limit way h w v c n StreamTooLong os none same (few, inr is) = absurd is.0
 
-datagram_as : (way : FrameReading) (h : History) (w v : ℕ → ℕ) (n : ℕ) (o : Bor (List ℕ)) (fault : CollectFault)
-    (os : List Outcome) → os ≡ [] → StopsAt way h v (event_Datagram o) n fault
+datagram_as : (limit : ℕ) (way : FrameReading) (h : History) (w v : ℕ → ℕ) (n : ℕ) (o : Bor (List ℕ)) (fault : CollectFault)
+    (os : List Outcome) → os ≡ [] → StopsAt limit way h v (event_Datagram o) n fault
     → ReceivesAs way h w v (Datagram o.now) (received_as fault) (kept_outcomes fault os) []
-datagram_as way h w v n o (Memory m) os none stops = (refl, none)
-datagram_as way h w v n o AlreadyOpen os none (few, inl e) = absurd (cc)
-datagram_as way h w v n o AlreadyOpen os none (few, inr is) = let e = is.0 in absurd (cc)
-datagram_as way h w v n o TooManyOpen os none (few, inl e) = absurd (cc)
-datagram_as way h w v n o TooManyOpen os none (few, inr is) = let e = is.0 in absurd (cc)
-datagram_as way h w v n o NotOpen os none (few, inl e) = absurd (cc)
-datagram_as way h w v n o NotOpen os none (few, inr is) = let e = is.0 in absurd (cc)
-datagram_as way h w v n o ConnFailed os none (few, inl e) = absurd (cc)
-datagram_as way h w v n o ConnFailed os none (few, inr is) = let e = is.0 in absurd (cc)
-datagram_as way h w v n o StreamTooLong os none (few, inl e) = absurd (cc)
-datagram_as way h w v n o StreamTooLong os none (few, inr is) = let e = is.0 in absurd (cc)
-datagram_as way h w v n o Unreleased os none (few, inl e) = absurd (cc)
-datagram_as way h w v n o Unreleased os none (few, inr is) = let e = is.0 in absurd (cc)
-datagram_as way h w v n o (Unterminated start) os none (few, inl e) = absurd (cc)
-datagram_as way h w v n o (Unterminated start) os none (few, inr is) = let e = is.0 in absurd (cc)
+datagram_as limit way h w v n o (Memory m) os none stops = (refl, none)
+datagram_as limit way h w v n o AlreadyOpen os none (few, inl e) = absurd (cc)
+datagram_as limit way h w v n o AlreadyOpen os none (few, inr is) = let e = is.0 in absurd (cc)
+datagram_as limit way h w v n o TooManyOpen os none (few, inl e) = absurd (cc)
+datagram_as limit way h w v n o TooManyOpen os none (few, inr is) = let e = is.0 in absurd (cc)
+datagram_as limit way h w v n o NotOpen os none (few, inl e) = absurd (cc)
+datagram_as limit way h w v n o NotOpen os none (few, inr is) = let e = is.0 in absurd (cc)
+datagram_as limit way h w v n o ConnFailed os none (few, inl e) = absurd (cc)
+datagram_as limit way h w v n o ConnFailed os none (few, inr is) = let e = is.0 in absurd (cc)
+datagram_as limit way h w v n o StreamTooLong os none (few, inl e) = absurd (cc)
+datagram_as limit way h w v n o StreamTooLong os none (few, inr is) = let e = is.0 in absurd (cc)
+datagram_as limit way h w v n o Unreleased os none (few, inl e) = absurd (cc)
+datagram_as limit way h w v n o Unreleased os none (few, inr is) = let e = is.0 in absurd (cc)
+datagram_as limit way h w v n o (Unterminated start) os none (few, inl e) = absurd (cc)
+datagram_as limit way h w v n o (Unterminated start) os none (few, inr is) = let e = is.0 in absurd (cc)
 
-event_as : (way : FrameReading) (h : History) (w u v : ℕ → ℕ) (e : Event) (n : ℕ) (fault : CollectFault) (a b : List Entry)
-    (os : List Outcome) → ((d : ℕ) → u d ≡ w d) → LogsRefused way h u v e n a b os → StopsAt way h v e n fault
+event_as : (limit : ℕ) (way : FrameReading) (h : History) (w u v : ℕ → ℕ) (e : Event) (n : ℕ) (fault : CollectFault) (a b : List Entry)
+    (os : List Outcome) → CONNECTIONS_MAX ≤ limit → ((d : ℕ) → u d ≡ w d) → LogsRefused way h u v e n a b os
+    → StopsAt limit way h v e n fault
     → ((c : ℕ) → IsSomeAnd (stream_of c h.streams) HoldsBadCount → w c ≡ 0)
     → ReceivesAs way h w v (accepted_event e) (received_as fault) (kept_outcomes fault os) (accepted_part e n fault)
-event_as way h w u v (event_Opened c k) n fault a b os same logs stops quiet =
-    opened_as way h w v c n k fault os logs.0 stops
-event_as way h w u v (event_Piece c o) n fault a b os same logs stops quiet =
-    piece_as way h w u v c n o fault a b os same logs stops (quiet c)
-event_as way h w u v (event_Ended c) n fault a b os same (none, kept, is) stops quiet =
-    ended_as way h w v c n fault os none (λ d. is d ∙ same d) stops
-event_as way h w u v (event_Datagram o) n fault a b os same logs stops quiet =
-    datagram_as way h w v n o fault os logs.0 stops
+event_as limit way h w u v (event_Opened c k) n fault a b os many same logs stops quiet =
+    opened_as limit way h w v c n k fault os many logs.0 stops
+event_as limit way h w u v (event_Piece c o) n fault a b os many same logs stops quiet =
+    piece_as limit way h w u v c n o fault a b os same logs stops (quiet c)
+event_as limit way h w u v (event_Ended c) n fault a b os many same (none, kept, is) stops quiet =
+    ended_as limit way h w v c n fault os none (λ d. is d ∙ same d) stops
+event_as limit way h w u v (event_Datagram o) n fault a b os many same logs stops quiet =
+    datagram_as limit way h w v n o fault os logs.0 stops
 
-pub stopped_as : (way : FrameReading) (cs : List Connection) (v : ℕ → ℕ) (kept first : List Entry) (es : List AcceptedEvent)
+pub stopped_as : (limit : ℕ) (way : FrameReading) (cs : Connections) (v : ℕ → ℕ) (kept first : List Entry) (es : List AcceptedEvent)
     (e : Event) (at n : ℕ) (fault : CollectFault) (a b : List Entry) (log os : List Outcome)
-    → Stands way cs kept first es → StopsAs way (history_of es) v (e ∷ []) (Stopped at n fault)
+    → CONNECTIONS_MAX ≤ limit → Stands way cs kept first es → StopsAs limit way (history_of es) v (e ∷ []) (Stopped at n fault)
     → Grows (LogsRun way (history_of es) (waiting cs) v (e ∷ []) (Stopped at n fault) a b) log os → log ≡ []
     → ReceivesAs way (history_of es) (waiting cs) v (accepted_event e) (received_as fault) (kept_outcomes fault os)
     (accepted_run (e ∷ []) (Stopped at n fault))
-stopped_as way cs v kept first es e at n fault a b log os was stops (grown, grows, logs) empty =
+stopped_as limit way cs v kept first es e at n fault a b log os many was stops (grown, grows, logs) empty =
     let h = history_of es in
     let (u, mid, later, same, one, all) = logs_of_one way h (waiting cs) v e at n fault a b grown stops.0 logs in
     let whole : later ≡ os = sym (grows ∙ ap (λ (z : List Outcome). z ++ grown) empty ∙ all) in
@@ -305,6 +308,6 @@ stopped_as way cs v kept first es e at n fault a b log os was stops (grown, grow
     (received_as fault) (kept_outcomes fault os) fs) (sym (part_of_one e at n fault stops.0))
     (subst (λ (z : List Outcome). ReceivesAs way h (waiting cs) v (accepted_event e) (received_as fault)
     (kept_outcomes fault z) (accepted_part e n fault)) whole
-    (event_as way h (waiting cs) u v e n fault mid b later same one
-    (stops_at_one way h v e at n fault stops)
+    (event_as limit way h (waiting cs) u v e n fault mid b later many same one
+    (stops_at_one limit way h v e at n fault stops)
     (λ c bad. broken_quiet way c cs kept first es was bad)))

@@ -11,8 +11,10 @@ use Rattle.syslog_collect.specs.History.{AcceptedEvent, History, HoldsBadCount, 
 use Rattle.syslog_collect.specs.Logs.{LogsOctets, LogsPart, ready_count, waiting}
 use Rattle.syslog_collect.specs.Standing.{AreAt, IsAt, Stands}
 use Rattle.syslog_collect.specs.declared.connection.Connection.{Connection}
+use Rattle.syslog_collect.specs.declared.connections.Connections.{Connections}
 use Rattle.syslog_collect.specs.declared.outcome.Outcome.{Outcome}
 use Rattle.syslog_collect.proofs.Moving.{good_open}
+use Rattle.syslog_collect.proofs.Ordered.{waiting_in, waits_in_order}
 
 -- ---- a connection whose octets hold a bad count has no frame that waits
 
@@ -24,7 +26,7 @@ broken_one x s d at bad = elim at.scanner [
 ]
 
 broken_at : (c : ℕ) (cs : List Connection) (ss : List Stream) (ds : List (List (List ℕ))) → AreAt cs ss ds
-    → IsSomeAnd (stream_of c ss) HoldsBadCount → waiting cs c ≡ 0
+    → IsSomeAnd (stream_of c ss) HoldsBadCount → waiting_in cs c ≡ 0
 broken_at c [] [] [] f h = absurd h
 broken_at c [] [] (d ∷ ds) f h = absurd f
 broken_at c [] (s ∷ ss) [] f h = absurd f
@@ -33,17 +35,19 @@ broken_at c (x ∷ xs) [] [] f h = absurd f
 broken_at c (x ∷ xs) [] (d ∷ ds) f h = absurd f
 broken_at c (x ∷ xs) (s ∷ ss) [] f h = absurd f
 broken_at c (x ∷ xs) (s ∷ ss) (d ∷ ds) f h =
-    subst (λ (n : ℕ). cond (eqb n c) (ready_count x.scanner.phase) (waiting xs c) ≡ 0) (sym f.0.number)
+    subst (λ (n : ℕ). cond (eqb n c) (ready_count x.scanner.phase) (waiting_in xs c) ≡ 0) (sym f.0.number)
     (elim (eqb s.number c) as (λ b. IsSomeAnd (cond b (Some s) (stream_of c ss)) HoldsBadCount
-    → cond b (ready_count x.scanner.phase) (waiting xs c) ≡ 0) [
+    → cond b (ready_count x.scanner.phase) (waiting_in xs c) ≡ 0) [
       | true ↦ λ bad. broken_one x s d f.0 bad
       | false ↦ λ bad. broken_at c xs ss ds f.1 bad
     ] h)
 
-pub broken_quiet : (way : FrameReading) (c : ℕ) (cs : List Connection) (kept first : List Entry) (es : List AcceptedEvent)
+pub broken_quiet : (way : FrameReading) (c : ℕ) (cs : Connections) (kept first : List Entry) (es : List AcceptedEvent)
     → Stands way cs kept first es → IsSomeAnd (stream_of c (history_of es).streams) HoldsBadCount → waiting cs c ≡ 0
 broken_quiet way c cs kept first es was bad =
-    broken_at c cs (history_of es).streams was.stands_at.handled was.stands_at.follow bad
+    let o = was.stands_at in
+    waits_in_order cs o.order o.all c
+    ∙ broken_at c o.order (history_of es).streams o.in_order.handled o.in_order.follow bad
 
 -- ---- where no octets came, no more frames wait than before
 

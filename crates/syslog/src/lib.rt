@@ -42,7 +42,7 @@ pub use syslog_archive::{
 
 // collectors and senders
 pub use syslog_collect::{
-    Advance, CONNECTIONS_MAX, CollectFault, Collector, Event, Outcome, RunEnd, SendFault, Sender,
+    Advance, CONNECTIONS_LIMIT, CONNECTIONS_MAX, CollectFault, Collector, Event, Outcome, RunEnd, SendFault, Sender,
     frames_have_one_reading, merged_archives, received_records, same_archives,
 };
 

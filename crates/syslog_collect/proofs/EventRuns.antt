@@ -25,7 +25,8 @@ use Rattle.syslog_collect.specs.Outcomes.{AreReported}
 use Rattle.syslog_collect.specs.Runs.{IfDone, Logs, LogsAdvance, accepted_all, accepted_by, accepted_datagram_end}
 use Rattle.syslog_collect.specs.Runs.{accepted_event, accepted_first, accepted_part, accepted_piece_end, event_end}
 use Rattle.syslog_collect.specs.Runs.{nonempty_piece, piece_octets}
-use Rattle.syslog_collect.specs.Standing.{IsAt, Stands, StandsAt}
+use Rattle.syslog_collect.specs.Standing.{IsAt, StandsInOrder as StandsAt}
+use Rattle.syslog_collect.proofs.Ordered.{StandsOrdered as Stands}
 use Rattle.syslog_collect.proofs.Places.{AdvancesOn, found_here, opening_at, place_from}
 use Rattle.syslog_collect.proofs.Steps.{advance_step, moved, step}
 

@@ -1,5 +1,5 @@
 -- A settled collector holds what was received.
-use Rattle.std.proofs.Common.{◌≡◌, ℕ, ◌+◌, cond, eqb, List, [], ◌∷◌, ◌++◌, length, inl, inr, refl, sym, ◌∙◌, ap, subst}
+use Rattle.std.proofs.Common.{◌≡◌, ℕ, ◌+◌, cond, List, [], ◌∷◌, ◌++◌, length, inl, inr, refl, sym, ◌∙◌, ap, subst}
 use Rattle.std.proofs.Common.{arith}
 use Rattle.std.specs.Prelude.{◌⊎◌, ◌↔◌, Some}
 use Rattle.std.proofs.lemmas.Bool.{eq-eqb}
@@ -14,11 +14,13 @@ use Rattle.archive_text.specs.Text.{IsArchive}
 use Rattle.archive_text.proofs.Ascending.{same_members}
 use Rattle.syslog_legacy.specs.declared.frame_reading.FrameReading.{FrameReading}
 use Rattle.syslog_collect.specs.declared.connection.Connection.{Connection}
+use Rattle.syslog_collect.specs.declared.connections.Connections.{Connections}
 use Rattle.syslog_collect.specs.Frames.{AreFramesOf, HasFrames, IsFramesOf, IsReceived, IsSpelled, all_of}
 use Rattle.syslog_collect.specs.Headline.{IsSettled, ReceivedBoth, ReceivedSame}
 use Rattle.syslog_collect.specs.History.{AcceptedEvent, Ended, History, Stream, history_of}
-use Rattle.syslog_collect.specs.Logs.{ready_count, waiting}
+use Rattle.syslog_collect.specs.Logs.{ready_count}
 use Rattle.syslog_collect.specs.Standing.{AreAt, IsAt, Stands}
+use Rattle.syslog_collect.proofs.Ordered.{AreQuiet, StandsOrdered, in_order, waiting_in as waiting, waits_in_order}
 use Rattle.syslog_collect.proofs.Places.{IsHandled, place_from}
 use Rattle.syslog_collect.proofs.Steps.{close_found}
 use Rattle.syslog_collect.proofs.Waiting.{ready_some, waiting_closed}
@@ -52,13 +54,13 @@ first_place : (x : Connection) (xs : List Connection) → place_from x.number 0 
 first_place x xs = rw (eq-eqb x.number x.number refl) refl
 
 -- where no frame waits, the first connection has none ready
-pub first_settled : (x : Connection) (xs : List Connection) → IsSettled (x ∷ xs) → ¬ (HasFrame x.scanner)
+pub first_settled : (x : Connection) (xs : List Connection) → AreQuiet (x ∷ xs) → ¬ (HasFrame x.scanner)
 first_settled x xs none = λ f. one_no (ready_count x.scanner.phase) (ready_some x.scanner.phase f)
     (first_waits x xs (none x.number))
 
 -- and since the open numbers differ, no other has
 each_settled : (way : FrameReading) (cs : List Connection) (kept first : List Entry) (es : List AcceptedEvent)
-    → Stands way cs kept first es → IsSettled cs → AreSettled cs
+    → StandsOrdered way cs kept first es → AreQuiet cs → AreSettled cs
 each_settled way [] kept first es was none = tt
 each_settled way (x ∷ xs) kept first es was none =
     let ready = first_waits x xs (none x.number) in
@@ -99,17 +101,20 @@ one_history h fs gs a b =
     ∙ ap (λ (z : List (List (List ℕ))). all_of b.open_frames ++ (all_of z ++ h.datagrams))
     (one_each h.ended a.ended_frames b.ended_frames a.ended_are b.ended_are) ∙ sym b.all
 
-pub holds_received : (way : FrameReading) (cs : List Connection) (kept first : List Entry) (es : List AcceptedEvent)
+pub holds_received : (way : FrameReading) (cs : Connections) (kept first : List Entry) (es : List AcceptedEvent)
     → Stands way cs kept first es → IsSettled cs → (x : Entry) → Has kept x ↔ (Has first x ⊎ IsReceived way es x)
 holds_received way cs kept first es was settled x =
     let h = history_of es in
-    let sa = was.stands_at in
+    let o = was.stands_at.order in
+    let sa = was.stands_at.in_order in
+    let quiet : AreQuiet o = λ d. sym (waits_in_order cs o was.stands_at.all d) ∙ settled d in
     let fs = all_of sa.handled ++ (all_of sa.ended_frames ++ h.datagrams) in
     let are : HasFrames h fs = record {
       open_frames = sa.handled;
       ended_frames = sa.ended_frames;
       open_are =
-          all_settled cs h.streams sa.handled sa.follow (each_settled way cs kept first es was settled);
+          all_settled o h.streams sa.handled sa.follow
+          (each_settled way o kept first es (in_order way cs kept first es was) quiet);
       ended_are = sa.ended_are;
       all = refl;
     } in (
@@ -122,7 +127,7 @@ holds_received way cs kept first es was settled x =
     )
 
 -- over an empty store, just what was received
-pub holds_just : (way : FrameReading) (cs : List Connection) (kept : List Entry) (es : List AcceptedEvent)
+pub holds_just : (way : FrameReading) (cs : Connections) (kept : List Entry) (es : List AcceptedEvent)
     → Stands way cs kept [] es → IsSettled cs → (x : Entry) → Has kept x ↔ IsReceived way es x
 holds_just way cs kept es was settled x =
     let h = holds_received way cs kept [] es was settled x in (
@@ -131,7 +136,7 @@ holds_just way cs kept es was settled x =
     )
 
 -- two settled collectors that received the same hold the same entries
-pub same_entries : (way : FrameReading) (most : ℕ) (cs ds : List Connection) (kept other : List Entry)
+pub same_entries : (way : FrameReading) (most : ℕ) (cs ds : Connections) (kept other : List Entry)
     (es fs : List AcceptedEvent) → IsArchive most kept → IsArchive most other
     → Stands way cs kept [] es → Stands way ds other [] fs → IsSettled cs → IsSettled ds → ReceivedSame way es fs
     → kept ≡ other
@@ -143,7 +148,7 @@ same_entries way most cs ds kept other es fs a b one two settled settled_too sam
     ((same x).1 ((holds_just way ds other fs two settled_too x).0 k)))
 
 -- the entries of two settled collectors together are those of a third that received what they did
-pub union_entries : (way : FrameReading) (most : ℕ) (cs ds bs : List Connection) (kept other all merged : List Entry)
+pub union_entries : (way : FrameReading) (most : ℕ) (cs ds bs : Connections) (kept other all merged : List Entry)
     (es fs gs : List AcceptedEvent) → IsArchive most all → IsArchive most merged
     → Stands way cs kept [] es → Stands way ds other [] fs → Stands way bs all [] gs → IsSettled cs → IsSettled ds
     → IsSettled bs

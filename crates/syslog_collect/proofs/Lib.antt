@@ -4,6 +4,7 @@ pub mod Received
 pub mod Ready
 pub mod Moving
 pub mod Gains
+pub mod Ordered
 pub mod Places
 pub mod Steps
 pub mod Collecting
@@ -15,3 +16,5 @@ pub mod Between
 pub mod EventRuns
 pub mod Logging
 pub mod Stopping
+pub mod Numbering
+pub mod Found

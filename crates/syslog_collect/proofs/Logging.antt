@@ -24,10 +24,11 @@ use Rattle.syslog_collect.specs.Frames.{IsFramesOf}
 use Rattle.syslog_collect.specs.History.{AcceptedEvent, Datagram, Ended, History, Opened, Piece, Stream, accept}
 use Rattle.syslog_collect.specs.History.{history_after, history_of, with_octets}
 use Rattle.syslog_collect.specs.Logs.{Grows, IsLogOf, LogsDatagram, LogsEvent, LogsEventEnd, LogsFirst, LogsOctets}
-use Rattle.syslog_collect.specs.Logs.{LogsPiece, LogsRefused, LogsRun, Reports, ready_count, waiting, waiting_after}
+use Rattle.syslog_collect.specs.Logs.{LogsPiece, LogsRefused, LogsRun, Reports, ready_count, waiting_after}
 use Rattle.syslog_collect.specs.Logs.{waiting_after_all}
 use Rattle.syslog_collect.specs.Runs.{IfDone, Logs, LogsAdvance, accepted_all, accepted_event, piece_octets}
-use Rattle.syslog_collect.specs.Standing.{IsAt, Stands}
+use Rattle.syslog_collect.specs.Standing.{IsAt}
+use Rattle.syslog_collect.proofs.Ordered.{StandsOrdered as Stands, waiting_in as waiting}
 use Rattle.syslog_collect.proofs.Places.{AtPlace, found_here, opening_at, place_from, set_same}
 use Rattle.syslog_collect.proofs.Waiting.{frames_waiting, place_set, ready_none, waiting_at, waiting_other, waiting_set}
 

@@ -19,7 +19,7 @@ use Rattle.syslog_collect.specs.declared.fault.CollectFault.{CollectFault}
 use Rattle.syslog_collect.specs.declared.fault.CollectFault.TheVariants.{AlreadyOpen, TooManyOpen, NotOpen, ConnFailed}
 use Rattle.syslog_collect.specs.declared.fault.CollectFault.TheVariants.{StreamTooLong, Unreleased, Unterminated}
 use Rattle.syslog_collect.specs.declared.fault.CollectFault.TheVariants.{Memory}
-use Rattle.syslog_collect.specs.declared.limits.TheConstants.{CONNECTIONS_MAX}
+use Rattle.syslog_collect.specs.declared.limits.TheConstants.{CONNECTIONS_LIMIT}
 use Rattle.syslog_collect.specs.declared.outcome.Outcome.{Outcome}
 use Rattle.syslog_collect.specs.Answers.{EndsWhole, IfRefused, IsAnswerAt, IsCause, IsUnfinished, Advances, AdvancesBy}
 use Rattle.syslog_collect.specs.Answers.{accepted_datagram, accepted_piece}
@@ -28,11 +28,12 @@ use Rattle.syslog_collect.specs.History.{Datagram, HoldsBadCount, Ended, History
 use Rattle.syslog_collect.specs.History.{Piece, Stream, AcceptedEvent, history_after, history_of, accept, initial}
 use Rattle.syslog_collect.specs.History.{stream_of}
 use Rattle.syslog_collect.specs.Outcomes.{IsOutcome}
-use Rattle.syslog_collect.specs.Standing.{IsAt, Stands, StandsAt}
+use Rattle.syslog_collect.specs.Standing.{IsAt, StandsInOrder as StandsAt}
 use Rattle.syslog_collect.proofs.Gains.{Joins, SpellSame, all_of-append, gains_also, gains_frame, gains_more}
 use Rattle.syslog_collect.proofs.Gains.{gains_nothing, gains_reported, joins_append, joins_before, spelled_after}
 use Rattle.syslog_collect.proofs.Gains.{spelled_before, spelled_either}
 use Rattle.syslog_collect.proofs.Moving.{good_open, open_unless_failed}
+use Rattle.syslog_collect.proofs.Ordered.{StandsOrdered as Stands}
 use Rattle.syslog_collect.proofs.Places.{AtPlace, IsHandled, AdvancesOn, advance_at, close_at, follow_push, found_at}
 use Rattle.syslog_collect.proofs.Places.{found_here, no_stream, opening_at, place_from, same_count, set_same}
 
@@ -195,13 +196,13 @@ not_open way c ls kept first es absent was =
 pub open_step : (way : FrameReading) (c : ℕ) (k : Framing) (scanner : Scan) (ls : List Connection)
     (kept first : List Entry)
     (es : List AcceptedEvent)
-    → place_from c 0 ls ≡ None → length ls < CONNECTIONS_MAX → Reads FRAME_MAX scanner k 0 [] [] [] → IsReading scanner
+    → place_from c 0 ls ≡ None → length ls < CONNECTIONS_LIMIT → Reads FRAME_MAX scanner k 0 [] [] [] → IsReading scanner
     → Stands way ls kept first es → Stands way (ls ++ record { number = c; scanner = scanner } ∷ []) kept first
     (es ++ Opened c k ∷ [])
 open_step way c k scanner ls kept first es absent room reads reading was =
     let h = history_of es in
     let sa = was.stands_at in
-    let few : length h.streams < CONNECTIONS_MAX = omega (arith, same_count ls h.streams sa.handled sa.follow, room) in
+    let few : length h.streams < CONNECTIONS_LIMIT = omega (arith, same_count ls h.streams sa.handled sa.follow, room) in
     let s : Stream = record { number = c; framing = k; octets = [] } in
     let past = all_of sa.ended_frames ++ h.datagrams in
     let same : all_of (sa.handled ++ [] ∷ []) ≡ all_of sa.handled =

@@ -30,10 +30,11 @@ use Rattle.syslog_collect.specs.Answers.{IsBadCount, IsCause, IsEnding, IsOpenin
 use Rattle.syslog_collect.specs.Answers.{accepted_count}
 use Rattle.syslog_collect.specs.History.{AcceptedEvent, History, HoldsBadCount, Stream, accept, history_after}
 use Rattle.syslog_collect.specs.History.{history_of, stream_of, with_octets}
-use Rattle.syslog_collect.specs.Logs.{ready_count, waiting}
+use Rattle.syslog_collect.specs.Logs.{ready_count}
 use Rattle.syslog_collect.specs.Outcomes.{IsRecordFrame, outcomes_of}
 use Rattle.syslog_collect.specs.Runs.{IfDone, Logs, accepted_all, accepted_event, event_end, piece_octets, used_before}
-use Rattle.syslog_collect.specs.Standing.{IsAt, Stands}
+use Rattle.syslog_collect.specs.Standing.{IsAt}
+use Rattle.syslog_collect.proofs.Ordered.{StandsOrdered as Stands, waiting_in as waiting}
 use Rattle.syslog_collect.specs.Stops.{EndWell, EndsWell, IfStopped, IsBetween, IsBetweenAt, IsPieceCause}
 use Rattle.syslog_collect.specs.Stops.{IsPieceRefusal, MayGoOn, StopsAs, StopsAt, StopsAtFirst, StopsPiece}
 use Rattle.syslog_collect.specs.Stops.{StopsPieceAt, StopsStep}
@@ -259,40 +260,40 @@ piece_refused way c n x y ls kept now first es o (end_Stopped taken fault) l m i
 
 -- ---- events
 
-pub opening_refused : (way : FrameReading) (h : History) (w : ℕ
-    → ℕ) (c : ℕ) (k : Framing) (r : Result (Unit {0}) CollectFault) → IsOpening c r h
-    → IfStopped (event_end r) (StopsAt way h w (event_Opened c k))
-opening_refused way h w c k (Ok u) cause = tt
-opening_refused way h w c k (Err fault) cause = (omega arith, inr cause)
+pub opening_refused : (limit : ℕ) (way : FrameReading) (h : History) (w : ℕ
+    → ℕ) (c : ℕ) (k : Framing) (r : Result (Unit {0}) CollectFault) → IsOpening limit c r h
+    → IfStopped (event_end r) (StopsAt limit way h w (event_Opened c k))
+opening_refused limit way h w c k (Ok u) cause = tt
+opening_refused limit way h w c k (Err fault) cause = (omega arith, inr cause)
 
-pub ending_refused : (way : FrameReading) (h : History) (w v : ℕ → ℕ) (c : ℕ) (r : Result (Unit {0}) CollectFault)
+pub ending_refused : (limit : ℕ) (way : FrameReading) (h : History) (w v : ℕ → ℕ) (c : ℕ) (r : Result (Unit {0}) CollectFault)
     → IsEnding c r h → IfUnreleased r (w c ≡ 1) → v c ≡ w c
-    → IfStopped (event_end r) (StopsAt way h v (event_Ended c))
-ending_refused way h w v c (Ok u) cause ready same = tt
-ending_refused way h w v c (Err fault) cause ready same =
+    → IfStopped (event_end r) (StopsAt limit way h v (event_Ended c))
+ending_refused limit way h w v c (Ok u) cause ready same = tt
+ending_refused limit way h w v c (Err fault) cause ready same =
     (omega arith, inr (cause, subst (λ (k : ℕ). IfUnreleased {U = Unit {0}} (Err fault) (k ≡ 1)) (sym same) ready))
 
-pub piece_event_refused : (way : FrameReading) (h : History) (w : ℕ → ℕ) (c : ℕ) (o : Bor (List ℕ)) (r : EventEnd)
+pub piece_event_refused : (limit : ℕ) (way : FrameReading) (h : History) (w : ℕ → ℕ) (c : ℕ) (o : Bor (List ℕ)) (r : EventEnd)
     → IfStopped r (λ taken fault. taken ≤ length o.now)
     → IfStopped r (λ taken fault. StopsPieceAt way c o.now taken (w c) fault h)
-    → IfStopped r (StopsAt way h w (event_Piece c o))
-piece_event_refused way h w c o end_Done within cause = tt
-piece_event_refused way h w c o (end_Stopped taken fault) within cause = (within, cause)
+    → IfStopped r (StopsAt limit way h w (event_Piece c o))
+piece_event_refused limit way h w c o end_Done within cause = tt
+piece_event_refused limit way h w c o (end_Stopped taken fault) within cause = (within, cause)
 
-pub datagram_refused : (way : FrameReading) (h : History) (w : ℕ → ℕ) (o : Bor (List ℕ)) (r : EventEnd)
+pub datagram_refused : (limit : ℕ) (way : FrameReading) (h : History) (w : ℕ → ℕ) (o : Bor (List ℕ)) (r : EventEnd)
     → IfStopped r (λ taken fault. (taken ≡ 0) × (fault ≡ Memory 0) × IsRecordFrame way o.now)
-    → IfStopped r (StopsAt way h w (event_Datagram o))
-datagram_refused way h w o end_Done cause = tt
-datagram_refused way h w o (end_Stopped taken fault) (none, memory, spelled) = (omega arith, inr (memory, spelled))
+    → IfStopped r (StopsAt limit way h w (event_Datagram o))
+datagram_refused limit way h w o end_Done cause = tt
+datagram_refused limit way h w o (end_Stopped taken fault) (none, memory, spelled) = (omega arith, inr (memory, spelled))
 
-pub first_stops : (way : FrameReading) (h : History) (w : ℕ
+pub first_stops : (limit : ℕ) (way : FrameReading) (h : History) (w : ℕ
     → ℕ) (es : List Event) (n taken : ℕ) (fault : CollectFault) (d : Event) → n < length es
-    → StopsAt way h w (get_or es n d) taken fault
-    → StopsAtFirst way h w (drop n es) taken fault
-first_stops way h w [] n taken fault d lt stops = absurd (omega arith)
-first_stops way h w (e ∷ es) zero taken fault d lt stops = stops
-first_stops way h w (e ∷ es) (suc n) taken fault d lt stops =
-    first_stops way h w es n taken fault d (omega arith) stops
+    → StopsAt limit way h w (get_or es n d) taken fault
+    → StopsAtFirst limit way h w (drop n es) taken fault
+first_stops limit way h w [] n taken fault d lt stops = absurd (omega arith)
+first_stops limit way h w (e ∷ es) zero taken fault d lt stops = stops
+first_stops limit way h w (e ∷ es) (suc n) taken fault d lt stops =
+    first_stops limit way h w es n taken fault d (omega arith) stops
 
 pub done_any : (r : EventEnd) → IfDone r (Unit {0})
 done_any end_Done = tt
@@ -320,7 +321,7 @@ end_well-whole h (e ∷ es) (suc n) is all =
     (all.0, end_well-whole (accept h (accepted_event e)) es n (omega arith) all.1)
 
 -- a run of one event
-pub one_stops : (way : FrameReading) (h : History) (w : ℕ → ℕ) (e : Event) (at taken : ℕ) (fault : CollectFault)
-    → StopsAs way h w (e ∷ []) (Stopped at taken fault) → (at ≡ 0) × StopsAt way h w e taken fault
-one_stops way h w e zero taken fault (lt, stops) = (refl, stops)
-one_stops way h w e (suc n) taken fault (lt, stops) = absurd (omega arith)
+pub one_stops : (limit : ℕ) (way : FrameReading) (h : History) (w : ℕ → ℕ) (e : Event) (at taken : ℕ) (fault : CollectFault)
+    → StopsAs limit way h w (e ∷ []) (Stopped at taken fault) → (at ≡ 0) × StopsAt limit way h w e taken fault
+one_stops limit way h w e zero taken fault (lt, stops) = (refl, stops)
+one_stops limit way h w e (suc n) taken fault (lt, stops) = absurd (omega arith)

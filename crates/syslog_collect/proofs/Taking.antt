@@ -22,9 +22,10 @@ use Rattle.syslog_collect.specs.declared.outcome.Outcome.TheVariants.{New, Held,
 use Rattle.syslog_collect.specs.declared.outcome.Outcome.TheVariants.{BadCount}
 use Rattle.syslog_collect.specs.Answers.{ComesInTurn, EndsFrameWith, IsTaken, IsWholeWith, StopsRight}
 use Rattle.syslog_collect.specs.History.{AcceptedEvent, Stream, history_of, stream_of}
-use Rattle.syslog_collect.specs.Logs.{ready_count, waiting}
+use Rattle.syslog_collect.specs.Logs.{ready_count}
 use Rattle.syslog_collect.specs.Outcomes.{HandlesFrame, HandlesReady, HasRecord}
-use Rattle.syslog_collect.specs.Standing.{IsAt, IsOpenAt, Stands}
+use Rattle.syslog_collect.specs.Standing.{IsAt, IsOpenAt}
+use Rattle.syslog_collect.proofs.Ordered.{StandsOrdered as Stands, waiting_in as waiting}
 use Rattle.syslog_collect.proofs.Moving.{IsPushed, ended_or_not, open_unless_failed, position_of}
 use Rattle.syslog_collect.proofs.Places.{found_here, opening_at, place_from}
 use Rattle.syslog_collect.proofs.Waiting.{ready_none, waiting_at}

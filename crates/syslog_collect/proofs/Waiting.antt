@@ -27,9 +27,10 @@ use Rattle.syslog_collect.specs.Frames.{IsFramesOf}
 use Rattle.syslog_collect.specs.History.{AcceptedEvent, Datagram, Ended, History, MayAcceptAll, Opened, Piece, Stream}
 use Rattle.syslog_collect.specs.History.{accept, history_after, history_of, initial, stream_of, with_octets, with_piece}
 use Rattle.syslog_collect.specs.History.{without}
-use Rattle.syslog_collect.specs.Logs.{ready_count, waiting, waiting_then}
-use Rattle.syslog_collect.specs.Standing.{AreAt, IsAt, Stands}
+use Rattle.syslog_collect.specs.Logs.{ready_count, waiting_then}
+use Rattle.syslog_collect.specs.Standing.{AreAt, IsAt}
 use Rattle.syslog_collect.proofs.Moving.{ended_or_not}
+use Rattle.syslog_collect.proofs.Ordered.{StandsOrdered as Stands, waiting_in as waiting}
 use Rattle.syslog_collect.proofs.Places.{AtPlace, IsHandled, found_here, place_from}
 use Rattle.syslog_collect.proofs.Steps.{close_found, history_after-push}
 
@@ -101,7 +102,7 @@ place_set c zero x y (l ∷ ls) e at = (
 )
 place_set c (suc i) x y (l ∷ ls) e at = (at.0, place_set c i x y ls e at.1)
 
-other_false : (a b d : ℕ) → a ≡ b → ¬ (b ≡ d) → eqb a d ≡ false
+pub other_false : (a b d : ℕ) → a ≡ b → ¬ (b ≡ d) → eqb a d ≡ false
 other_false a b d e ne = elim (eqb_tells a d) [ inl h ↦ absurd (ne (sym e ∙ h.1)) | inr h ↦ h.0 ]
 
 pub waiting_other : (c i d : ℕ) (x y : Connection) (ls : List Connection) → y.number ≡ x.number → AtPlace c ls i x
@@ -161,7 +162,7 @@ abbrev pub AreDistinct : List Stream → Type 0
 AreDistinct [] = Unit {0}
 AreDistinct (s ∷ ss) = (stream_of s.number ss ≡ None) × AreDistinct ss
 
-absent_first : (c : ℕ) (s : Stream) (ss : List Stream) → stream_of c (s ∷ ss) ≡ None
+pub absent_first : (c : ℕ) (s : Stream) (ss : List Stream) → stream_of c (s ∷ ss) ≡ None
     → (eqb s.number c ≡ false) × (stream_of c ss ≡ None)
 absent_first c s ss e =
     elim (eqb s.number c) as (λ b. cond b (Some s) (stream_of c ss) ≡ None → (b ≡ false) × (stream_of c ss ≡ None)) [
@@ -219,7 +220,7 @@ distinct_without c (s ∷ ss) d =
       | false ↦ (absent_without c s.number ss d.0, distinct_without c ss d.1)
     ]
 
-distinct_after : (h : History) (es : List AcceptedEvent) → AreDistinct h.streams → MayAcceptAll h es
+pub distinct_after : (h : History) (es : List AcceptedEvent) → AreDistinct h.streams → MayAcceptAll h es
     → AreDistinct (history_after h es).streams
 distinct_after h [] d may = d
 distinct_after h (Opened c k ∷ es) d may =
@@ -230,7 +231,7 @@ distinct_after h (Piece c o ∷ es) d may = distinct_after (accept h (Piece c o)
 distinct_after h (Ended c ∷ es) d may = distinct_after (accept h (Ended c)) es (distinct_without c h.streams d) may.1
 distinct_after h (Datagram o ∷ es) d may = distinct_after (accept h (Datagram o)) es d may.1
 
-absent_once : (c : ℕ) (ss : List Stream) → AreDistinct ss → stream_of c (without c ss) ≡ None
+pub absent_once : (c : ℕ) (ss : List Stream) → AreDistinct ss → stream_of c (without c ss) ≡ None
 absent_once c [] d = refl
 absent_once c (s ∷ ss) d = elim (eqb_tells s.number c) [
   | inl (same, eq) ↦ rw same (subst (λ (n : ℕ). stream_of n ss ≡ None) eq d.0)

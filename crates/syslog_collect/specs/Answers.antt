@@ -12,7 +12,6 @@ use Rattle.syslog_collect.specs.declared.fault.CollectFault.{CollectFault}
 use Rattle.syslog_collect.specs.declared.fault.CollectFault.TheVariants.{AlreadyOpen, TooManyOpen, NotOpen, ConnFailed}
 use Rattle.syslog_collect.specs.declared.fault.CollectFault.TheVariants.{StreamTooLong, Unreleased, Unterminated}
 use Rattle.syslog_collect.specs.declared.fault.CollectFault.TheVariants.{Memory}
-use Rattle.syslog_collect.specs.declared.limits.TheConstants.{CONNECTIONS_MAX}
 use Rattle.syslog_collect.specs.declared.outcome.Outcome.{Outcome}
 use Rattle.syslog_collect.specs.declared.outcome.Outcome.TheVariants.{New, Held, Refused, RefusedLegacy, TooLong}
 use Rattle.syslog_collect.specs.declared.outcome.Outcome.TheVariants.{BadCount}
@@ -222,17 +221,17 @@ abbrev pub accepted_datagram : {E : Type 0} → List ℕ → Result Outcome E �
 accepted_datagram octets (Ok o) = Datagram octets ∷ []
 accepted_datagram octets (Err fault) = []
 
--- what the opening of a number answers after a history, the first cause that holds
-abbrev pub IsOpening : {U : Type 0} → ℕ → Result U CollectFault → History → Type 0
-IsOpening c (Ok u) h = (stream_of c h.streams ≡ None) × (length h.streams < CONNECTIONS_MAX)
-IsOpening c (Err AlreadyOpen) h = IsSome (stream_of c h.streams)
-IsOpening c (Err TooManyOpen) h = (stream_of c h.streams ≡ None) × (CONNECTIONS_MAX ≤ length h.streams)
-IsOpening c (Err (Memory n)) h = (stream_of c h.streams ≡ None) × (length h.streams < CONNECTIONS_MAX) × (n ≡ 0)
-IsOpening c (Err NotOpen) h = ⊥
-IsOpening c (Err ConnFailed) h = ⊥
-IsOpening c (Err StreamTooLong) h = ⊥
-IsOpening c (Err Unreleased) h = ⊥
-IsOpening c (Err (Unterminated start)) h = ⊥
+-- what the opening of a number answers after a history, the first cause that holds, where so many may be open
+abbrev pub IsOpening : {U : Type 0} → ℕ → ℕ → Result U CollectFault → History → Type 0
+IsOpening limit c (Ok u) h = (stream_of c h.streams ≡ None) × (length h.streams < limit)
+IsOpening limit c (Err AlreadyOpen) h = IsSome (stream_of c h.streams)
+IsOpening limit c (Err TooManyOpen) h = (stream_of c h.streams ≡ None) × (limit ≤ length h.streams)
+IsOpening limit c (Err (Memory n)) h = (stream_of c h.streams ≡ None) × (length h.streams < limit) × (n ≡ 0)
+IsOpening limit c (Err NotOpen) h = ⊥
+IsOpening limit c (Err ConnFailed) h = ⊥
+IsOpening limit c (Err StreamTooLong) h = ⊥
+IsOpening limit c (Err Unreleased) h = ⊥
+IsOpening limit c (Err (Unterminated start)) h = ⊥
 
 -- the last frame of an opening begins at this position, and is unfinished
 abbrev pub IsUnfinished : ℕ → Stream → Type 0

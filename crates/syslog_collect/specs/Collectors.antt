@@ -1,11 +1,12 @@
 -- What public calls say of a collector: where it stands, and which of its frames wait.
-use Rattle.std.specs.Prelude.{◌≡◌, ◌≤◌, ℕ, List, ◌++◌, vec_capacity}
+use Rattle.std.specs.Prelude.{◌≡◌, ◌≤◌, ℕ, List, ◌++◌}
 use Rattle.archive_text.specs.Entries.{Entry}
 use Rattle.syslog_legacy.specs.declared.frame_reading.FrameReading.{FrameReading}
 use Rattle.syslog_collect.specs.declared.collector.Collector.{Collector}
 use Rattle.syslog_collect.specs.Headline.{IsSettled}
 use Rattle.syslog_collect.specs.History.{AcceptedEvent}
 use Rattle.syslog_collect.specs.Logs.{waiting}
+use Rattle.syslog_collect.specs.Numbers.{KeepsAll}
 use Rattle.syslog_collect.specs.Standing.{Stands as StandsWith}
 
 -- its store
@@ -16,34 +17,39 @@ store_of c = c.store
 abbrev pub reading_of : {S : Type 0} → Collector S → FrameReading
 reading_of c = c.reading
 
--- for how many connections its list has room
+-- for how many connections it has room
 abbrev pub room_of : {S : Type 0} → Collector S → ℕ
-room_of c = vec_capacity c.connections
+room_of c = c.connections.slots.capacity
+
+-- how many it may have open at a time
+abbrev pub limit_of : {S : Type 0} → Collector S → ℕ
+limit_of c = c.connections.limit
 
 -- how many frames of each number wait, since memory was refused for them: none or one
 abbrev pub waits_of : {S : Type 0} → Collector S → ℕ → ℕ
-waits_of c = waiting c.connections.items
+waits_of c = waiting c.connections
 
 -- no frame waits
 abbrev pub NoneWaits : {S : Type 0} → Collector S → Type 0
-NoneWaits c = IsSettled c.connections.items
+NoneWaits c = IsSettled c.connections
 
 -- of each number as many frames wait in both
 abbrev pub WaitAlike : {S : Type 0} → Collector S → Collector S → Type 0
-WaitAlike old new = (d : ℕ) → waiting new.connections.items d ≡ waiting old.connections.items d
+WaitAlike old new = (d : ℕ) → waiting new.connections d ≡ waiting old.connections d
 
 -- both have the same connections, each with the same octets
 abbrev pub HaveSameConnections : {S : Type 0} → Collector S → Collector S → Type 0
-HaveSameConnections old new = new.connections.items ≡ old.connections.items
+HaveSameConnections old new = KeepsAll old.connections new.connections
 
 -- it stands where first entries and the events since lead; a store's entries are told by a function
 abbrev pub Stands : {S : Type 0} → (S → List Entry) → Collector S → List Entry → List AcceptedEvent → Type 0
-Stands entries c first events = StandsWith c.reading c.connections.items (entries c.store) first events
+Stands entries c first events = StandsWith c.reading c.connections (entries c.store) first events
 
--- wherever it stood, it stands there with these events more; how it reads frames and its room are kept
+-- wherever it stood, it stands there with these events more; how it reads frames, its limit and its room are kept
 pub record GoesOn {S : Type 0} (entries : S → List Entry) (old new : Collector S) (accepted : List AcceptedEvent) : Type
     0 where
   pub stands : (first : List Entry) (events : List AcceptedEvent) → Stands entries old first events →
       Stands entries new first (events ++ accepted)
   pub reading : reading_of new ≡ reading_of old
+  pub limit : limit_of new ≡ limit_of old
   pub room : room_of old ≤ room_of new

@@ -1,14 +1,14 @@
 -- When no frame waits, and what was received alike.
 use Rattle.std.specs.Prelude.{◌≡◌, ◌⊎◌, ◌↔◌, ℕ, List}
-use Rattle.archive_text.specs.Entries.{Entry, Has}
+use Rattle.archive_text.specs.Entries.{Entry}
 use Rattle.syslog_legacy.specs.declared.frame_reading.FrameReading.{FrameReading}
-use Rattle.syslog_collect.specs.declared.connection.Connection.{Connection}
+use Rattle.syslog_collect.specs.declared.connections.Connections.{Connections}
 use Rattle.syslog_collect.specs.Frames.{IsReceived}
 use Rattle.syslog_collect.specs.History.{AcceptedEvent}
 use Rattle.syslog_collect.specs.Logs.{waiting}
 
 -- no frame of any number waits to be handled
-abbrev pub IsSettled : List Connection → Type 0
+abbrev pub IsSettled : Connections → Type 0
 IsSettled cs = (d : ℕ) → waiting cs d ≡ 0
 
 -- the received sets of two lists of events are equal

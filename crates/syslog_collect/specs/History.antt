@@ -4,7 +4,7 @@ use Rattle.std.specs.Prelude.{Option, Some, None, ◌==◌, IsSome, IsSomeAnd}
 use Rattle.syslog_frame.specs.Frames.{IsBadAt}
 use Rattle.syslog_frame.specs.declared.framing.Framing.{Framing}
 use Rattle.syslog_frame.specs.declared.limits.TheConstants.{POSITION_MAX}
-use Rattle.syslog_collect.specs.declared.limits.TheConstants.{CONNECTIONS_MAX}
+use Rattle.syslog_collect.specs.declared.limits.TheConstants.{CONNECTIONS_LIMIT}
 
 -- what a collector accepts: an opening of a number, octets of an open number, its end, a datagram
 pub data AcceptedEvent : Type 0 where
@@ -66,7 +66,7 @@ MayContinue o s = ¬ (HoldsBadCount s) × (length s.octets + length o ≤ POSITI
 
 -- the event may come after the history
 abbrev pub MayAccept : History → AcceptedEvent → Type 0
-MayAccept h (Opened c k) = (stream_of c h.streams ≡ None) × (length h.streams < CONNECTIONS_MAX)
+MayAccept h (Opened c k) = (stream_of c h.streams ≡ None) × (length h.streams < CONNECTIONS_LIMIT)
 MayAccept h (Piece c o) = IsSomeAnd (stream_of c h.streams) (MayContinue o)
 MayAccept h (Ended c) = IsSome (stream_of c h.streams)
 MayAccept h (Datagram o) = Unit {0}

@@ -1,6 +1,7 @@
 pub mod Frames
 pub mod History
 pub mod Outcomes
+pub mod Numbers
 pub mod Standing
 pub mod Collectors
 pub mod Answers

@@ -6,6 +6,7 @@ use Rattle.syslog_frame.specs.declared.phase.Phase.TheVariants.{BadCount as phas
 use Rattle.archive_text.specs.Entries.{Entry}
 use Rattle.syslog_legacy.specs.declared.frame_reading.FrameReading.{FrameReading}
 use Rattle.syslog_collect.specs.declared.connection.Connection.{Connection}
+use Rattle.syslog_collect.specs.declared.connections.Connections.{Connections}
 use Rattle.syslog_collect.specs.declared.event.Event.{Event}
 use Rattle.syslog_collect.specs.declared.event.Event.TheVariants.{Opened as event_Opened, Piece as event_Piece}
 use Rattle.syslog_collect.specs.declared.event.Event.TheVariants.{Ended as event_Ended, Datagram as event_Datagram}
@@ -18,11 +19,12 @@ use Rattle.syslog_collect.specs.declared.fault.CollectFault.{CollectFault}
 use Rattle.syslog_collect.specs.declared.fault.CollectFault.TheVariants.{AlreadyOpen, TooManyOpen, NotOpen, ConnFailed}
 use Rattle.syslog_collect.specs.declared.fault.CollectFault.TheVariants.{StreamTooLong, Unreleased, Unterminated}
 use Rattle.syslog_collect.specs.declared.fault.CollectFault.TheVariants.{Memory}
-use Rattle.std.specs.Prelude.{Result, Ok, Err}
+use Rattle.std.specs.Prelude.{Option, Some, None, Result, Ok, Err}
 use Rattle.syslog_collect.specs.Answers.{ReportsBadCount}
 use Rattle.syslog_collect.specs.Frames.{IsFramesOf}
 use Rattle.syslog_collect.specs.History.{AcceptedEvent, Datagram, Ended, History, HoldsBadCount, Opened, Piece, Stream}
 use Rattle.syslog_collect.specs.History.{accept, history_after, stream_of, with_octets}
+use Rattle.syslog_collect.specs.Numbers.{connection_in}
 use Rattle.syslog_collect.specs.Outcomes.{AreReported, IsOutcome}
 use Rattle.syslog_collect.specs.Runs.{accepted_all, accepted_event}
 use Rattle.syslog_collect.specs.declared.outcome.Outcome.{Outcome}
@@ -37,10 +39,14 @@ ready_count Inside = 0
 ready_count phase_BadCount = 0
 ready_count Failed = 0
 
--- how many frames of the connection of a number are ready and not handled
-abbrev pub waiting : List Connection → ℕ → ℕ
-waiting [] c = 0
-waiting (x ∷ xs) c = cond (x.number == c) (ready_count x.scanner.phase) (waiting xs c)
+-- how many frames of a connection are ready and not handled
+abbrev pub ready_in : Option Connection → ℕ
+ready_in None = 0
+ready_in (Some x) = ready_count x.scanner.phase
+
+-- of the connection of a number
+abbrev pub waiting : Connections → ℕ → ℕ
+waiting cs c = ready_in (connection_in cs c)
 
 -- the same after an event that was accepted: none of a number whose piece came
 abbrev pub waiting_after : (ℕ → ℕ) → AcceptedEvent → ℕ → ℕ

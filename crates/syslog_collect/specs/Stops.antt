@@ -50,14 +50,14 @@ IsPieceRefusal way c piece taken waits TooManyOpen h = ⊥
 IsPieceRefusal way c piece taken waits Unreleased h = ⊥
 IsPieceRefusal way c piece taken waits (Unterminated start) h = ⊥
 
--- why the call for an event is refused after a history, so many octets of a piece being taken; w tells how many frames
--- of each number wait then
-abbrev pub IsRefusal : FrameReading → History → (ℕ → ℕ) → Event → ℕ → CollectFault → Type 0
-IsRefusal way h w (event_Opened c k) taken fault = IsOpening {U = Unit {0}} c (Err fault) h
-IsRefusal way h w (event_Piece c o) taken fault = IsPieceRefusal way c o.now taken (w c) fault h
-IsRefusal way h w (event_Ended c) taken fault =
+-- why the call for an event is refused after a history, where so many connections may be open, so many octets of a piece
+-- being taken; w tells how many frames of each number wait then
+abbrev pub IsRefusal : ℕ → FrameReading → History → (ℕ → ℕ) → Event → ℕ → CollectFault → Type 0
+IsRefusal limit way h w (event_Opened c k) taken fault = IsOpening {U = Unit {0}} limit c (Err fault) h
+IsRefusal limit way h w (event_Piece c o) taken fault = IsPieceRefusal way c o.now taken (w c) fault h
+IsRefusal limit way h w (event_Ended c) taken fault =
     IsEnding {U = Unit {0}} c (Err fault) h × IfUnreleased {U = Unit {0}} (Err fault) (w c ≡ 1)
-IsRefusal way h w (event_Datagram o) taken fault = (fault ≡ Memory 0) × IsRecordFrame way o.now
+IsRefusal limit way h w (event_Datagram o) taken fault = (fault ≡ Memory 0) × IsRecordFrame way o.now
 
 -- the octets of a piece; other events have none
 abbrev pub octets_of : Event → List ℕ
@@ -81,20 +81,20 @@ IsBetweenFrames h w (event_Datagram o) taken = taken ≡ 0
 
 -- an event is refused after a history, so many octets of a piece being taken: the log has no room for an outcome,
 -- between frames; or the event's call is refused
-abbrev pub StopsAt : FrameReading → History → (ℕ → ℕ) → Event → ℕ → CollectFault → Type 0
-StopsAt way h w e taken fault = (taken ≤ length (octets_of e))
-    × (((fault ≡ Memory 0) × IsBetweenFrames h w e taken) ⊎ IsRefusal way h w e taken fault)
+abbrev pub StopsAt : ℕ → FrameReading → History → (ℕ → ℕ) → Event → ℕ → CollectFault → Type 0
+StopsAt limit way h w e taken fault = (taken ≤ length (octets_of e))
+    × (((fault ≡ Memory 0) × IsBetweenFrames h w e taken) ⊎ IsRefusal limit way h w e taken fault)
 
 -- the first of the events is
-abbrev pub StopsAtFirst : FrameReading → History → (ℕ → ℕ) → List Event → ℕ → CollectFault → Type 0
-StopsAtFirst way h w [] taken fault = ⊥
-StopsAtFirst way h w (e ∷ es) taken fault = StopsAt way h w e taken fault
+abbrev pub StopsAtFirst : ℕ → FrameReading → History → (ℕ → ℕ) → List Event → ℕ → CollectFault → Type 0
+StopsAtFirst limit way h w [] taken fault = ⊥
+StopsAtFirst limit way h w (e ∷ es) taken fault = StopsAt limit way h w e taken fault
 
 -- why a run after a history stopped: one of its events is refused after those before it
-abbrev pub StopsAs : FrameReading → History → (ℕ → ℕ) → List Event → RunEnd → Type 0
-StopsAs way h w es Done = Unit {0}
-StopsAs way h w es (Stopped at taken fault) =
-    (at < length es) × StopsAtFirst way (history_after h (accepted_all (take at es))) w (drop at es) taken fault
+abbrev pub StopsAs : ℕ → FrameReading → History → (ℕ → ℕ) → List Event → RunEnd → Type 0
+StopsAs limit way h w es Done = Unit {0}
+StopsAs limit way h w es (Stopped at taken fault) =
+    (at < length es) × StopsAtFirst limit way (history_after h (accepted_all (take at es))) w (drop at es) taken fault
 
 -- an event that ends an opening ends it at whole frames, or behind a bad count
 abbrev pub EndsWell : History → Event → Type 0

@@ -1,7 +1,6 @@
 //! The collector: streams in pieces, and datagrams, into a set of records.
 
-ghost use Rattle.std.specs.Prelude.{◌≡◌, ◌≤◌, ◌⊎◌, ◌↔◌, ◌++◌, ◌==◌, ℕ, List, [], IfErr, IfOk, IfSome, OnErr, OnOk};
-ghost use Rattle.std.specs.List.{position_from};
+ghost use Rattle.std.specs.Prelude.{◌≡◌, ◌≤◌, ◌⊎◌, ◌↔◌, ◌++◌, ◌==◌, ℕ, List, [], IfErr, IfOk, IfSome, OnErr, OnOk, max, min};
 ghost use Rattle.archive_text.specs.Entries.{Entry, Has};
 ghost use Rattle.archive_text.specs.Sets.{IsUnionOfEntries};
 ghost use Rattle.archive_text.specs.Text.{IsArchive, text_of};
@@ -10,7 +9,7 @@ ghost use Rattle.syslog_collect.specs.Answers.{IfRefused, IfUnreleased, IsAnswer
 ghost use Rattle.syslog_collect.specs.Answers.{IsUsedWithin, accepted_octets, dropped_octets, used_octets};
 ghost use Rattle.syslog_collect.specs.Answers.{accepted_datagram, accepted_ending, accepted_opening, accepted_piece};
 ghost use Rattle.syslog_collect.specs.Collectors.{GoesOn, HaveSameConnections, NoneWaits, Stands, WaitAlike};
-ghost use Rattle.syslog_collect.specs.Collectors.{reading_of, room_of, store_of, waits_of};
+ghost use Rattle.syslog_collect.specs.Collectors.{limit_of, reading_of, room_of, store_of, waits_of};
 ghost use Rattle.syslog_collect.specs.Frames.{IsReceived};
 ghost use Rattle.syslog_collect.specs.Headline.{ReceivedBoth, ReceivedSame};
 ghost use Rattle.syslog_collect.specs.History.{AcceptedEvent, history_of, stream_of};
@@ -19,8 +18,9 @@ ghost use Rattle.syslog_collect.specs.Outcomes.{IsOutcome, IsRecordFrame, outcom
 
 use crate::advancing::advance_connection;
 use crate::connection::{Connection, handle};
+use crate::connections::Connections;
 use crate::fault::{Advance, CollectFault};
-use crate::limits::CONNECTIONS_MAX;
+use crate::limits::{CONNECTIONS_LIMIT, CONNECTIONS_MAX};
 use crate::outcome::Outcome;
 use archive_text::{ENTRY_MAX, Store};
 use std::alloc::{AllocError, Global};
@@ -35,17 +35,8 @@ use syslog_legacy::{FrameReading, LegacyClock};
 #[derive(Drop)]
 pub struct Collector<S> {
     pub(crate) store: S,
-    pub(crate) connections: Vec<Connection>,
+    pub(crate) connections: Connections,
     pub(crate) reading: FrameReading,
-}
-
-/// Where the connection of a number is.
-pub(crate) fn place(connections: &[Connection], number: u32) -> Option<usize>
-    ensures { result ≡ position_from (λ c. c.number == number) 0 connections.now }
-{
-    connections
-        .iter()
-        .position(|connection| connection.number == number)
 }
 
 impl<S: Store> Collector<S> {
@@ -57,6 +48,7 @@ impl<S: Store> Collector<S> {
         ensures reading { IfOk result (λ c. reading_of c ≡ whole clock) }
         ensures back { IfErr result (λ s. s ≡ store) }
         ensures room { IfOk result (λ c. CONNECTIONS_MAX ≤ room_of c) }
+        ensures limit { IfOk result (λ c. limit_of c ≡ CONNECTIONS_MAX) }
     {
         Collector::with_reading(alloc, store, FrameReading { trim: false, clock })
     }
@@ -68,8 +60,28 @@ impl<S: Store> Collector<S> {
         ensures reading { IfOk result (λ c. reading_of c ≡ reading) }
         ensures back { IfErr result (λ s. s ≡ store) }
         ensures room { IfOk result (λ c. CONNECTIONS_MAX ≤ room_of c) }
+        ensures limit { IfOk result (λ c. limit_of c ≡ CONNECTIONS_MAX) }
     {
-        match Vec::with_capacity(alloc, CONNECTIONS_MAX) {
+        Collector::with_connections(alloc, store, reading, CONNECTIONS_MAX)
+    }
+
+    /// A collector as by [`Collector::with_reading`], with room for so many connections:
+    /// `CONNECTIONS_MAX` to `CONNECTIONS_LIMIT`, a number outside is taken for the nearest.
+    pub fn with_connections(
+        alloc: Global,
+        store: S,
+        reading: FrameReading,
+        connections: usize,
+    ) -> Result<Collector<S>, S>
+        ensures stands { IfOk result (λ c. Stands S.entries c (S.entries store) []) }
+        ensures settled { IfOk result (λ c. NoneWaits c) }
+        ensures reading { IfOk result (λ c. reading_of c ≡ reading) }
+        ensures back { IfErr result (λ s. s ≡ store) }
+        ensures room { IfOk result (λ c. limit_of c ≤ room_of c) }
+        ensures limit { IfOk result (λ c.
+            limit_of c ≡ max CONNECTIONS_MAX (min connections CONNECTIONS_LIMIT)) }
+    {
+        match Connections::new(alloc, connections) {
             Ok(connections) => Ok(Collector {
                 store,
                 connections,
@@ -82,8 +94,8 @@ impl<S: Store> Collector<S> {
     /// Opens a connection, by a number of the caller's. A number that was ended may be opened
     /// again, as a new stream.
     ///
-    /// It is refused, in this order, with `AlreadyOpen` if the number is open, `TooManyOpen` if
-    /// `CONNECTIONS_MAX` connections are, and `Memory { used: 0 }` if a growth is refused. A refusal
+    /// It is refused, in this order, with `AlreadyOpen` if the number is open, `TooManyOpen` if as many
+    /// connections are as the collector was made for, and `Memory { used: 0 }` if a growth is refused. A refusal
     /// changes nothing.
     pub fn open_conn(
         &mut self,
@@ -95,15 +107,15 @@ impl<S: Store> Collector<S> {
             (accepted_opening conn framing result) }
         ensures cause { (first : List Entry) (events : List AcceptedEvent)
             → Stands S.entries self.old first events
-            → IsOpening conn result (history_of events) }
+            → IsOpening (limit_of self.old) conn result (history_of events) }
         ensures waits { WaitAlike self.old self.new }
         ensures err { OnErr result (HaveSameConnections self.old self.new) }
         ensures store { store_of self.new ≡ store_of self.old }
     {
-        if place(&self.connections, conn).is_some() {
+        if self.connections.find(conn).is_some() {
             return Err(CollectFault::AlreadyOpen);
         }
-        if self.connections.len() >= CONNECTIONS_MAX {
+        if self.connections.is_full() {
             return Err(CollectFault::TooManyOpen);
         }
         let Ok(scanner) = Scanner::new(alloc, framing) else {
@@ -113,10 +125,10 @@ impl<S: Store> Collector<S> {
             number: conn,
             scanner,
         };
-        if let Err(_) = self.connections.push(connection) {
-            return Err(CollectFault::Memory { used: 0 });
+        match self.connections.open(connection) {
+            Ok(()) => Ok(()),
+            Err(_) => Err(CollectFault::Memory { used: 0 }),
         }
-        Ok(())
     }
 
     /// Takes octets of a connection's piece, and handles one frame at most. A frame that is ready
@@ -165,12 +177,12 @@ impl<S: Store> Collector<S> {
             × (store_of self.new ≡ store_of self.old)) }
         ensures err { OnErr result (S.entries (store_of self.new) ≡ S.entries (store_of self.old)) }
     {
-        match place(&self.connections, conn) {
+        match self.connections.find(conn) {
             None => Err(CollectFault::NotOpen),
-            Some(at) => advance_connection(
+            Some(place) => advance_connection(
                 alloc,
                 self.reading,
-                &mut self.connections[at],
+                &mut self.connections.slots[place],
                 &mut self.store,
                 piece,
             ),
@@ -210,22 +222,22 @@ impl<S: Store> Collector<S> {
             → WaitAlike self.old self.new }
         ensures store { store_of self.new ≡ store_of self.old }
     {
-        let at = match place(&self.connections, conn) {
+        let place = match self.connections.find(conn) {
             None => return Err(CollectFault::NotOpen),
-            Some(at) => at,
+            Some(place) => place,
         };
-        match self.connections[at].scanner.end() {
+        match self.connections.slots[place].scanner.end() {
             Err(EndFault::Unreleased) => Err(CollectFault::Unreleased),
             Err(EndFault::Unterminated { start }) => {
-                let _ = self.connections.remove(at);
+                self.connections.close(conn, place);
                 Err(CollectFault::Unterminated { start })
             }
             Err(EndFault::Failed) => {
-                let _ = self.connections.remove(at);
+                self.connections.close(conn, place);
                 Ok(())
             }
             Ok(()) => {
-                let _ = self.connections.remove(at);
+                self.connections.close(conn, place);
                 Ok(())
             }
         }

@@ -32,6 +32,7 @@
 mod advancing;
 mod collector;
 mod connection;
+mod connections;
 mod event;
 mod fault;
 mod law;
@@ -44,6 +45,6 @@ pub use collector::{Collector, merged_archives, same_archives};
 pub use event::{Event, RunEnd};
 pub use fault::{Advance, CollectFault};
 pub use law::{frames_have_one_reading, received_records};
-pub use limits::CONNECTIONS_MAX;
+pub use limits::{CONNECTIONS_LIMIT, CONNECTIONS_MAX};
 pub use outcome::Outcome;
 pub use syslog_sender::{SendFault, Sender};

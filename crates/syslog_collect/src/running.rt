@@ -2,7 +2,8 @@
 
 ghost use Rattle.std.specs.Prelude.{◌≡◌, ◌++◌, ◌<◌, ◌≤◌, ◌+◌, ℕ, List, length, vec_capacity, vec_len};
 ghost use Rattle.archive_text.specs.Entries.{Entry};
-ghost use Rattle.syslog_collect.specs.Collectors.{GoesOn, HaveSameConnections, Stands, reading_of, store_of, waits_of};
+ghost use Rattle.syslog_collect.specs.Collectors.{GoesOn, HaveSameConnections, Stands, limit_of, reading_of};
+ghost use Rattle.syslog_collect.specs.Collectors.{store_of, waits_of};
 ghost use Rattle.syslog_collect.specs.History.{AcceptedEvent, history_of};
 ghost use Rattle.syslog_collect.specs.Logs.{Grows, LogsDatagram, LogsEventEnd, LogsPiece, LogsRun};
 ghost use Rattle.syslog_collect.specs.Logs.{waiting_after_all};
@@ -13,9 +14,10 @@ ghost use Rattle.syslog_collect.specs.Stops.{EndWell, EndsWell, IfStopped, Stops
 ghost use Rattle.syslog_collect.specs.Stops.{done_events};
 ghost use Rattle.syslog_collect.specs.declared.fault.CollectFault.TheVariants.{Memory};
 
-use crate::collector::{Collector, place};
+use crate::collector::Collector;
 use crate::event::{Event, EventEnd, RunEnd};
 use crate::fault::CollectFault;
+use crate::limits::CONNECTIONS_MAX;
 use crate::outcome::Outcome;
 use crate::piece::{note, take_piece};
 use archive_text::Store;
@@ -45,15 +47,15 @@ impl<S: Store> Collector<S> {
             → IfStopped result (λ taken fault. StopsPieceAt (reading_of self.old) conn octets.now taken
             (waits_of self.new conn) fault (history_of events)) }
     {
-        match place(&self.connections, conn) {
+        match self.connections.find(conn) {
             None => EventEnd::Stopped {
                 taken: 0,
                 fault: CollectFault::NotOpen,
             },
-            Some(at) => take_piece(
+            Some(place) => take_piece(
                 alloc,
                 self.reading,
-                &mut self.connections[at],
+                &mut self.connections.slots[place],
                 &mut self.store,
                 octets,
                 log,
@@ -93,7 +95,7 @@ impl<S: Store> Collector<S> {
             (S.entries (store_of self.new))) log.old.items log.new.items }
         ensures cause { (first : List Entry) (events : List AcceptedEvent)
             → Stands S.entries self.old first events
-            → IfStopped result (StopsAt (reading_of self.old) (history_of events) (waits_of self.new)
+            → IfStopped result (StopsAt (limit_of self.old) (reading_of self.old) (history_of events) (waits_of self.new)
             event.entry) }
         ensures ends { (first : List Entry) (events : List AcceptedEvent)
             → Stands S.entries self.old first events
@@ -129,7 +131,9 @@ impl<S: Store> Collector<S> {
         // how much of a piece was taken there.
         ensures cause { (first : List Entry) (before : List AcceptedEvent)
             → Stands S.entries self.old first before
-            → StopsAs (reading_of self.old) (history_of before) (waits_of self.new) events.now result }
+            → StopsAs (limit_of self.old) (reading_of self.old) (history_of before) (waits_of self.new) events.now result }
+        // It may have so many connections open.
+        ensures many { CONNECTIONS_MAX ≤ limit_of self.old }
         // It did not stop at an end: the connection's last frame is whole, or it held a bad count.
         ensures ends { (first : List Entry) (before : List AcceptedEvent)
             → Stands S.entries self.old first before

@@ -29,13 +29,13 @@ returns-in-Ok-serve_steps g c =
     let old = c.in-Ok.collector in
     let new = c.serve_steps.new.collector in
     let first = g.S.Store.entries c.args.store in
-    let stands : Stands old.reading old.connections.items (g.S.Store.entries old.store) first [] = c.in-Ok.ensures.stands
+    let stands : Stands old.reading old.connections (g.S.Store.entries old.store) first [] = c.in-Ok.ensures.stands
     in
     let here = c.in-Ok-serve_steps in
     let made = here.ensures.served first [] stands in
     let settled = here.ensures.settled first [] stands c.in-Ok.ensures.settled in
     let end : Served = Ok here.refused in
-    let archive = archived end c.args.reading new.reading new.connections.items (g.S.Store.entries new.store) first made.1
+    let archive = archived end c.args.reading new.reading new.connections (g.S.Store.entries new.store) first made.1
     (c.serve_steps.ensures.reading ∙ c.in-Ok.ensures.reading) c.requires (g.S.Store.archive new.store) made.4 settled in
     let written = c.write_archive.ensures in (
       end,
@@ -45,7 +45,7 @@ returns-in-Ok-serve_steps g c =
       g.S.Store.entries c.store.result.now,
       written.0,
       made.3,
-      from_nothing c.args.reading old.reading old.connections.items (waiting new.connections.items) end made.0 made.1 made.2
+      from_nothing c.args.reading old.reading old.connections (waiting new.connections) end made.0 made.1 made.2
           c.in-Ok.ensures.reading c.in-Ok.ensures.settled made.6,
       subst (λ s. IsArchiveOf c.args.reading made.1 (g.S.Store.entries s)) (sym c.store.ensures.same) archive,
       subst (λ (n : ℕ). WritesText (text_of (g.S.Store.entries c.store.result.now)) n [] (codes "write fault\n")
@@ -61,13 +61,13 @@ returns g c =
     let old = c.in-Ok.collector in
     let new = c.serve_steps.new.collector in
     let first = g.S.Store.entries c.args.store in
-    let stands : Stands old.reading old.connections.items (g.S.Store.entries old.store) first [] = c.in-Ok.ensures.stands
+    let stands : Stands old.reading old.connections (g.S.Store.entries old.store) first [] = c.in-Ok.ensures.stands
     in
     let here = c.in-Err in
     let made = here.ensures.served first [] stands in
     let settled = here.ensures.settled first [] stands c.in-Ok.ensures.settled in
     let end : Served = Err here.stopped in
-    let archive = archived end c.args.reading new.reading new.connections.items (g.S.Store.entries new.store) first made.1
+    let archive = archived end c.args.reading new.reading new.connections (g.S.Store.entries new.store) first made.1
     (c.serve_steps.ensures.reading ∙ c.in-Ok.ensures.reading) c.requires (g.S.Store.archive new.store) made.4 settled in
     let written = c.stop.ensures in (
       end,
@@ -77,7 +77,7 @@ returns g c =
       g.S.Store.entries c.store-in-Err.result.now,
       written.0,
       made.3,
-      from_nothing c.args.reading old.reading old.connections.items (waiting new.connections.items) end made.0 made.1 made.2
+      from_nothing c.args.reading old.reading old.connections (waiting new.connections) end made.0 made.1 made.2
           c.in-Ok.ensures.reading c.in-Ok.ensures.settled made.6,
       subst (λ s. IfArchived end (IsArchiveOf c.args.reading made.1 (g.S.Store.entries s)))
           (sym c.store-in-Err.ensures.same) archive,

@@ -22,8 +22,8 @@ returns-in-Err-Step-clause-served g c first before was =
       made.4,
       made.5,
       inl (
-        stopped_as c.args.collector.now.reading (history_of before) (waiting c.args.collector.now.connections.items)
-            (waiting c.serve_steps.new.collector.connections.items) here.field-0 stopped.Step made.0 made.1
+        stopped_as c.args.collector.now.reading (history_of before) (waiting c.args.collector.now.connections)
+            (waiting c.serve_steps.new.collector.connections) here.field-0 stopped.Step made.0 made.1
             made.2 here.field-0-is made.6,
         stopped_fails here.field-0 stopped.Step _ _ here.field-0-is here.ensures.failures,
       ),
@@ -31,7 +31,7 @@ returns-in-Err-Step-clause-served g c first before was =
 
 pub returns-in-Err-Step-clause-settled : goal.returns-in-Err-Step-clause-settled
 returns-in-Err-Step-clause-settled g c first before was settled =
-    stopped_settled c.in-Err-Step.field-0 stopped.Step (IsSettled c.serve_steps.new.collector.connections.items)
+    stopped_settled c.in-Err-Step.field-0 stopped.Step (IsSettled c.serve_steps.new.collector.connections)
     c.in-Err-Step.field-0-is (c.in-Err-Step.ensures.settled first before was settled)
 
 pub returns-in-Err-Notes-clause-served : goal.returns-in-Err-Notes-clause-served
@@ -45,8 +45,8 @@ returns-in-Err-Notes-clause-served g c first before was =
       made.4,
       made.5,
       inr (
-        stopped_as c.args.collector.now.reading (history_of before) (waiting c.args.collector.now.connections.items)
-            (waiting c.serve_steps.new.collector.connections.items) here.field-0 stopped.Notes made.0 made.1
+        stopped_as c.args.collector.now.reading (history_of before) (waiting c.args.collector.now.connections)
+            (waiting c.serve_steps.new.collector.connections) here.field-0 stopped.Notes made.0 made.1
             made.2 here.field-0-is made.6,
         stopped_fails here.field-0 stopped.Notes _ _ here.field-0-is here.ensures.failures,
       ),
@@ -54,7 +54,7 @@ returns-in-Err-Notes-clause-served g c first before was =
 
 pub returns-in-Err-Notes-clause-settled : goal.returns-in-Err-Notes-clause-settled
 returns-in-Err-Notes-clause-settled g c first before was settled =
-    stopped_settled c.in-Err-Notes.field-0 stopped.Notes (IsSettled c.serve_steps.new.collector.connections.items)
+    stopped_settled c.in-Err-Notes.field-0 stopped.Notes (IsSettled c.serve_steps.new.collector.connections)
     c.in-Err-Notes.field-0-is (c.in-Err-Notes.ensures.settled first before was settled)
 
 pub returns-in-Err-Endless-clause-served : goal.returns-in-Err-Endless-clause-served
@@ -68,8 +68,8 @@ returns-in-Err-Endless-clause-served g c first before was =
       made.4,
       made.5,
       (
-        stopped_as c.args.collector.now.reading (history_of before) (waiting c.args.collector.now.connections.items)
-            (waiting c.serve_steps.new.collector.connections.items) here.field-0 stopped.Endless made.0 made.1
+        stopped_as c.args.collector.now.reading (history_of before) (waiting c.args.collector.now.connections)
+            (waiting c.serve_steps.new.collector.connections) here.field-0 stopped.Endless made.0 made.1
             made.2 here.field-0-is made.6,
         stopped_fails here.field-0 stopped.Endless _ _ here.field-0-is here.ensures.failures,
       ),
@@ -77,7 +77,7 @@ returns-in-Err-Endless-clause-served g c first before was =
 
 pub returns-in-Err-Endless-clause-settled : goal.returns-in-Err-Endless-clause-settled
 returns-in-Err-Endless-clause-settled g c first before was settled =
-    stopped_settled c.in-Err-Endless.field-0 stopped.Endless (IsSettled c.serve_steps.new.collector.connections.items)
+    stopped_settled c.in-Err-Endless.field-0 stopped.Endless (IsSettled c.serve_steps.new.collector.connections)
     c.in-Err-Endless.field-0-is (c.in-Err-Endless.ensures.settled first before was settled)
 
 pub returns-in-Err-Memory-clause-served : goal.returns-in-Err-Memory-clause-served
@@ -91,8 +91,8 @@ returns-in-Err-Memory-clause-served g c first before was =
       made.4,
       made.5,
       inl (
-        stopped_as c.args.collector.now.reading (history_of before) (waiting c.args.collector.now.connections.items)
-            (waiting c.serve_steps.new.collector.connections.items) here.field-0 stopped.Memory made.0 made.1
+        stopped_as c.args.collector.now.reading (history_of before) (waiting c.args.collector.now.connections)
+            (waiting c.serve_steps.new.collector.connections) here.field-0 stopped.Memory made.0 made.1
             made.2 here.field-0-is made.6,
         stopped_fails here.field-0 stopped.Memory _ _ here.field-0-is here.ensures.failures,
       ),
@@ -109,8 +109,8 @@ returns-in-Err-MemoryAndNotes-clause-served g c first before was =
       made.4,
       made.5,
       inr (
-        stopped_as c.args.collector.now.reading (history_of before) (waiting c.args.collector.now.connections.items)
-            (waiting c.serve_steps.new.collector.connections.items) here.field-0 stopped.MemoryAndNotes made.0 made.1
+        stopped_as c.args.collector.now.reading (history_of before) (waiting c.args.collector.now.connections)
+            (waiting c.serve_steps.new.collector.connections) here.field-0 stopped.MemoryAndNotes made.0 made.1
             made.2 here.field-0-is made.6,
         stopped_fails here.field-0 stopped.MemoryAndNotes _ _ here.field-0-is here.ensures.failures,
       ),

@@ -21,7 +21,7 @@ returns-in-Memory-clause-served g c first before was =
     let r = c.receive-received.result in
     let n = c.args.lines.now.number in
     let os = c.receive-received.new.outcomes.items in
-    let v = waiting c.receive-received.new.collector.connections.items in
+    let v = waiting c.receive-received.new.collector.connections in
     let e = accepted_event c.args.event in
     let lines =
     subst (λ (k : Received). NotesAs c.write-noted.result (lines_on n os k) noted.0) c.in-Memory.is noted.2 in (
@@ -30,7 +30,7 @@ returns-in-Memory-clause-served g c first before was =
       made.1,
       noted.1,
       out_of_memory_served c.args.collector.now.reading (history_of before)
-          (waiting c.args.collector.now.connections.items) v n c.write-noted.new.self.number e os made.0 noted.0
+          (waiting c.args.collector.now.connections) v n c.write-noted.new.self.number e os made.0 noted.0
           c.write-noted.result c.out_of_memory.result c.out_of_memory.ensures made.2 lines,
       tt,
     )
@@ -55,8 +55,8 @@ returns-in-Accepted-clause-served g c first before was =
       noted.0,
       made.1,
       noted.1,
-      event_served c.args.collector.now.reading (history_of before) (waiting c.args.collector.now.connections.items)
-          (waiting c.receive-received.new.collector.connections.items) n c.write.new.self.number
+      event_served c.args.collector.now.reading (history_of before) (waiting c.args.collector.now.connections)
+          (waiting c.receive-received.new.collector.connections) n c.write.new.self.number
           (accepted_event c.args.event) r os made.0 noted.0 c.write.result (going r c.in-Accepted.is) made.2 noted.2
           c.write.ensures.number,
       refused_told c.write.result (lines_on n os r) noted.0 c.write.new.self.refused c.args.lines.now.refused noted.2
@@ -66,6 +66,6 @@ returns-in-Accepted-clause-served g c first before was =
 pub returns-in-Accepted-clause-settled : goal.returns-in-Accepted-clause-settled
 returns-in-Accepted-clause-settled g c first before was settled =
     let r = c.receive-received.result in
-    let now = IsSettled c.receive-received.new.collector.connections.items in
+    let now = IsSettled c.receive-received.new.collector.connections in
     unless_memory c.write.result now
     (still_settled r now (going r c.in-Accepted.is) (c.receive-received.ensures.settled first before was settled))

@@ -12,7 +12,7 @@ returns-in-Failed-clause-served g c first before was = (
   [],
   [],
   gave_next _ _ _ _ (rw c.in-Failed.is at c.next-step.ensures),
-  subst (λ (es : List AcceptedEvent). Stands c.args.collector.now.reading c.args.collector.now.connections.items
+  subst (λ (es : List AcceptedEvent). Stands c.args.collector.now.reading c.args.collector.now.connections
       (g.S.Store.entries c.args.collector.now.store) first es) (sym (append-nil before)) was,
   appends_none (g.N.Output.state c.args.notes.now).taken,
   inl (refl, refl, refl, refl),
@@ -25,7 +25,7 @@ returns-in-Finished-clause-served g c first before was = (
   [],
   [],
   gave_next _ _ _ _ (rw c.in-Finished.is at c.next-step.ensures),
-  subst (λ (es : List AcceptedEvent). Stands c.args.collector.now.reading c.args.collector.now.connections.items
+  subst (λ (es : List AcceptedEvent). Stands c.args.collector.now.reading c.args.collector.now.connections
       (g.S.Store.entries c.args.collector.now.store) first es) (sym (append-nil before)) was,
   appends_none (g.N.Output.state c.args.notes.now).taken,
   (refl, λ d. refl, refl, refl, refl),

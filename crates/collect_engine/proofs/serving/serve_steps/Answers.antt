@@ -24,14 +24,14 @@ returns-in-Err-clause-served g c first before was =
       gave_push _ _ _ (length c.serve_next.new.buf) so_far.0 made.0 (omega (arith, so_far.7, c.loop-turn-test.true)) room
           so_far.3 made.3,
       subst (λ (fs : List AcceptedEvent). Stands c.serve_next.new.collector.reading
-          c.serve_next.new.collector.connections.items (g.S.Store.entries c.serve_next.new.collector.store) first fs)
+          c.serve_next.new.collector.connections (g.S.Store.entries c.serve_next.new.collector.store) first fs)
           (append_assoc before es made.1) made.4,
       Appends-trans _ _ _ so_far.2 made.2 so_far.5 made.5,
-      serves_stop c.args.collector.now.reading (history_of before) (waiting c.args.collector.now.connections.items)
-          (waiting c.loop-turn.collector.connections.items) (waiting c.serve_next.new.collector.connections.items)
+      serves_stop c.args.collector.now.reading (history_of before) (waiting c.args.collector.now.connections)
+          (waiting c.loop-turn.collector.connections) (waiting c.serve_next.new.collector.connections)
           c.loop-turn.lines.number so_far.0 made.0 es made.1 so_far.2 made.2 c.in-Err.stopped so_far.6
           (step_here c.args.collector.now.reading c.loop-turn.collector.reading before es
-          (waiting c.loop-turn.collector.connections.items) (waiting c.serve_next.new.collector.connections.items)
+          (waiting c.loop-turn.collector.connections) (waiting c.serve_next.new.collector.connections)
           c.loop-turn.lines.number c.serve_next.new.lines.number (Err c.in-Err.stopped) made.0 made.1 made.2
           c.loop-turn.invariant.reading made.6),
     )
@@ -58,16 +58,16 @@ returns-in-Ok-true-clause-served g c first before was =
       gave_push _ _ _ (length c.serve_next.new.buf) so_far.0 made.0 (omega (arith, so_far.7, c.loop-turn-test.true)) room
           so_far.3 made.3,
       subst (λ (fs : List AcceptedEvent). Stands c.serve_next.new.collector.reading
-          c.serve_next.new.collector.connections.items (g.S.Store.entries c.serve_next.new.collector.store) first fs)
+          c.serve_next.new.collector.connections (g.S.Store.entries c.serve_next.new.collector.store) first fs)
           (append_assoc before es made.1) made.4,
       Appends-trans _ _ _ so_far.2 made.2 so_far.5 made.5,
-      serves_end c.args.collector.now.reading (history_of before) (waiting c.args.collector.now.connections.items)
-          (waiting c.loop-turn.collector.connections.items) (waiting c.serve_next.new.collector.connections.items)
+      serves_end c.args.collector.now.reading (history_of before) (waiting c.args.collector.now.connections)
+          (waiting c.loop-turn.collector.connections) (waiting c.serve_next.new.collector.connections)
           c.loop-turn.lines.number c.serve_next.new.lines.number so_far.0 made.0 es made.1 so_far.2 made.2
           c.serve_next.new.lines.refused c.loop-turn.lines.refused c.in-Ok-true.field-0 c.in-Ok-true.field-0-test
           so_far.6
           (step_here c.args.collector.now.reading c.loop-turn.collector.reading before es
-          (waiting c.loop-turn.collector.connections.items) (waiting c.serve_next.new.collector.connections.items)
+          (waiting c.loop-turn.collector.connections) (waiting c.serve_next.new.collector.connections)
           c.loop-turn.lines.number c.serve_next.new.lines.number (Ok c.in-Ok-true.field-0) made.0 made.1 made.2
           c.loop-turn.invariant.reading made.6) so_far.8 made.7,
     )
@@ -84,7 +84,7 @@ returns-in_default-clause-served g c first before was = (
   [],
   [],
   gave_none (g.R.Source.state c.args.source.now),
-  subst (λ (es : List AcceptedEvent). Stands c.args.collector.now.reading c.args.collector.now.connections.items
+  subst (λ (es : List AcceptedEvent). Stands c.args.collector.now.reading c.args.collector.now.connections
       (g.S.Store.entries c.args.collector.now.store) first es) (sym (append-nil before)) was,
   appends_none (g.N.Output.state c.args.notes.now).taken,
   inl (refl, refl, refl),
@@ -102,7 +102,7 @@ loop-turn-init g c = record {
     [],
     [],
     gave_none (g.R.Source.state c.args.source.now),
-    subst (λ (es : List AcceptedEvent). Stands c.args.collector.now.reading c.args.collector.now.connections.items
+    subst (λ (es : List AcceptedEvent). Stands c.args.collector.now.reading c.args.collector.now.connections
         (g.S.Store.entries c.args.collector.now.store) first es) (sym (append-nil before)) was,
     appends_none (g.N.Output.state c.args.notes.now).taken,
     (λ d. refl, c.new-lines.ensures.number, refl, refl),
@@ -130,15 +130,15 @@ loop-turn-preserved g c = record {
         gave_push _ _ _ (length c.serve_next.new.buf) so_far.0 made.0 (omega (arith, so_far.7, c.loop-turn-test.true)) room
             so_far.3 made.3,
         subst (λ (fs : List AcceptedEvent). Stands c.serve_next.new.collector.reading
-            c.serve_next.new.collector.connections.items (g.S.Store.entries c.serve_next.new.collector.store) first fs)
+            c.serve_next.new.collector.connections (g.S.Store.entries c.serve_next.new.collector.store) first fs)
             (append_assoc before es made.1) made.4,
         Appends-trans _ _ _ so_far.2 made.2 so_far.5 made.5,
-        serves_one_more c.args.collector.now.reading (history_of before) (waiting c.args.collector.now.connections.items)
-            (waiting c.loop-turn.collector.connections.items) (waiting c.serve_next.new.collector.connections.items)
+        serves_one_more c.args.collector.now.reading (history_of before) (waiting c.args.collector.now.connections)
+            (waiting c.loop-turn.collector.connections) (waiting c.serve_next.new.collector.connections)
             c.loop-turn.lines.number c.serve_next.new.lines.number so_far.0 made.0 es made.1 so_far.2 made.2
             c.in-Ok-false.field-0 c.in-Ok-false.field-0-test so_far.6
             (step_here c.args.collector.now.reading c.loop-turn.collector.reading before es
-            (waiting c.loop-turn.collector.connections.items) (waiting c.serve_next.new.collector.connections.items)
+            (waiting c.loop-turn.collector.connections) (waiting c.serve_next.new.collector.connections)
             c.loop-turn.lines.number c.serve_next.new.lines.number (Ok c.in-Ok-false.field-0) made.0 made.1 made.2
             c.loop-turn.invariant.reading made.6),
         one_more so_far.0 made.0 c.loop-turn._turn so_far.7,

@@ -22,18 +22,18 @@ invariant-loop-turn g l = record {
   room : FRAME_MAX < vec_len l.buf;
   failures : (g.N.Output.state l.notes).failures ≡ (g.N.Output.state l.fn.notes).failures;
   settled : (first : List Entry) (before : List AcceptedEvent)
-      → Stands l.fn.collector.reading l.fn.collector.connections.items (g.S.Store.entries l.fn.collector.store) first
+      → Stands l.fn.collector.reading l.fn.collector.connections (g.S.Store.entries l.fn.collector.store) first
       before
-      → IsSettled l.fn.collector.connections.items → IsSettled l.collector.connections.items;
+      → IsSettled l.fn.collector.connections → IsSettled l.collector.connections;
   served : (first : List Entry) (before : List AcceptedEvent)
-      → Stands l.fn.collector.reading l.fn.collector.connections.items (g.S.Store.entries l.fn.collector.store) first
+      → Stands l.fn.collector.reading l.fn.collector.connections (g.S.Store.entries l.fn.collector.store) first
       before
       → (given : List Given) × (accepted : List AcceptedEvent) × (told : List ℕ)
       × GaveSteps (g.R.Source.state l.fn.source) (g.R.Source.state l.source) given
-      × Stands l.collector.reading l.collector.connections.items (g.S.Store.entries l.collector.store) first
+      × Stands l.collector.reading l.collector.connections (g.S.Store.entries l.collector.store) first
       (before ++ accepted)
       × Appends (g.N.Output.state l.fn.notes).taken (g.N.Output.state l.notes).taken told
-      × ServesAll l.fn.collector.reading (history_of before) (waiting l.fn.collector.connections.items)
-      (waiting l.collector.connections.items) 1 l.lines.number given accepted told
+      × ServesAll l.fn.collector.reading (history_of before) (waiting l.fn.collector.connections)
+      (waiting l.collector.connections) 1 l.lines.number given accepted told
       × (length given ≡ l._turn) × (l.lines.refused ≡ has_some told);
 }

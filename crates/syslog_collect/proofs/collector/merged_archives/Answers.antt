@@ -11,9 +11,9 @@ returns g c events others both merged readings all_readings one two three settle
     union =
     union_entries c.args.one.now.reading ENTRY_MAX _ _ _ _ _ _ merged events others both
     (g.U.Store.archive c.args.all.now.store) archive one
-    (subst (λ (k : FrameReading). Stands k c.args.two.now.connections.items
+    (subst (λ (k : FrameReading). Stands k c.args.two.now.connections
     (g.T.Store.entries c.args.two.now.store) [] others)
     (sym readings) two)
-    (subst (λ (k : FrameReading). Stands k c.args.all.now.connections.items
+    (subst (λ (k : FrameReading). Stands k c.args.all.now.connections
     (g.U.Store.entries c.args.all.now.store) [] both)
     (sym all_readings) three) settled settled_too settled_three received union

@@ -10,12 +10,12 @@ pub returns-clause-entries : goal.returns-clause-entries
 returns-clause-entries g c events others readings one two settled settled_too same =
     same_entries c.args.one.now.reading ENTRY_MAX _ _ _ _ events others (g.S.Store.archive c.args.one.now.store)
     (g.T.Store.archive c.args.two.now.store) one
-    (subst (λ (k : FrameReading). Stands k c.args.two.now.connections.items (g.T.Store.entries c.args.two.now.store) []
+    (subst (λ (k : FrameReading). Stands k c.args.two.now.connections (g.T.Store.entries c.args.two.now.store) []
     others) (sym readings) two) settled settled_too same
 
 pub returns-clause-texts : goal.returns-clause-texts
 returns-clause-texts g c events others readings one two settled settled_too same =
     ap text_of (same_entries c.args.one.now.reading ENTRY_MAX _ _ _ _ events others
     (g.S.Store.archive c.args.one.now.store) (g.T.Store.archive c.args.two.now.store) one
-    (subst (λ (k : FrameReading). Stands k c.args.two.now.connections.items (g.T.Store.entries c.args.two.now.store) []
+    (subst (λ (k : FrameReading). Stands k c.args.two.now.connections (g.T.Store.entries c.args.two.now.store) []
     others) (sym readings) two) settled settled_too same)

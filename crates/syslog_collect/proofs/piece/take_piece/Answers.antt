@@ -1,4 +1,4 @@
-use Rattle.std.proofs.Common.{◌+◌, ◌-◌, drop, inl, length, take, arith}
+use Rattle.std.proofs.Common.{◌+◌, ◌-◌, ◌∙◌, drop, inl, length, take, arith}
 use Rattle.syslog_collect.proofs.Pieces.{logs_of, logs_on, logs_on_advance, measure_falls, taken_all, taken_on}
 use Rattle.syslog_collect.proofs.Pieces.{within_rest}
 use Rattle.syslog_collect.proofs.Stopping.{piece_between, piece_goes_on, piece_stops, within_taken}
@@ -40,6 +40,7 @@ pieces-preserved g c =
     let m = c.in-On.used in
     record {
       within = omega (arith, within_rest p n m c.pieces.invariant.within c.in-On.ensures.within);
+      number = c.in-On.ensures.number ∙ c.pieces.invariant.number;
       so_far = λ s d at.
           logs_on c.args.reading c.args.connection.now c.pieces.connection c.take_step.new.connection
           (g.S.Store.entries c.args.store.now) (g.S.Store.entries c.pieces.store)

@@ -1,4 +1,4 @@
-use Rattle.std.proofs.Common.{ℕ, ◌+◌, ◌-◌, ◌≤◌, List, length, take}
+use Rattle.std.proofs.Common.{◌≡◌, ℕ, ◌+◌, ◌-◌, ◌≤◌, List, length, take}
 use Rattle.syslog_collect.specs.History.{Stream}
 use Rattle.syslog_collect.specs.Logs.{ready_count}
 use Rattle.syslog_collect.specs.Runs.{Logs, pending}
@@ -10,6 +10,7 @@ use Rattle.syslog_collect.proofs.piece.take_piece.Given as goal
 abbrev pub invariant-pieces : goal.invariant-pieces
 invariant-pieces g l = record {
   within : l.taken ≤ length l.piece;
+  number : l.connection.number ≡ l.fn.connection.number;
   so_far : (s : Stream) (d : List (List ℕ)) → IsAt l.fn.connection s d →
       Logs l.fn.reading l.fn.connection l.connection (g.S.Store.entries l.fn.store) (g.S.Store.entries l.store)
       (take l.taken l.piece) l.fn.log.items l.log.items s d;

@@ -14,8 +14,8 @@ pub returns-in_err-add_outcomes : goal.returns-in_err-add_outcomes
 returns-in_err-add_outcomes g c = λ first given before stands so_far few.
     let p = err_from_is_err_and c.from_residual-in_err-add_outcomes.result c.from_residual-in_err-add_outcomes.ensures.1 in
     let t : TakesPiece first.reception.collector.reading c.args.self.now.reception.collector.reading first.framing given
-    c.args.piece.now c.args.self.now.number c.args.self.now.reception.collector.connections.items
-    c.piece.new.self.collector.connections.items (g.S.Store.entries c.args.self.now.reception.collector.store)
+    c.args.piece.now c.args.self.now.number c.args.self.now.reception.collector.connections
+    c.piece.new.self.collector.connections (g.S.Store.entries c.args.self.now.reception.collector.store)
     (g.S.Store.entries c.piece.new.self.collector.store) c.piece.new.self.outcomes.items c.deref.result.now =
     record {
       same_reading = stands.1;
@@ -31,8 +31,8 @@ returns-in_err-add_outcomes g c = λ first given before stands so_far few.
 pub returns-then-branch : goal.returns-then-branch
 returns-then-branch g c = λ first given before stands so_far few.
     let t : TakesPiece first.reception.collector.reading c.args.self.now.reception.collector.reading first.framing given
-    c.args.piece.now c.args.self.now.number c.args.self.now.reception.collector.connections.items
-    c.piece.new.self.collector.connections.items (g.S.Store.entries c.args.self.now.reception.collector.store)
+    c.args.piece.now c.args.self.now.number c.args.self.now.reception.collector.connections
+    c.piece.new.self.collector.connections (g.S.Store.entries c.args.self.now.reception.collector.store)
     (g.S.Store.entries c.piece.new.self.collector.store) c.piece.new.self.outcomes.items c.deref.result.now =
     record {
       same_reading = stands.1;
@@ -49,8 +49,8 @@ returns-then-branch g c = λ first given before stands so_far few.
 pub returns : goal.returns
 returns g c = λ first given before stands so_far few.
     let t : TakesPiece first.reception.collector.reading c.args.self.now.reception.collector.reading first.framing given
-    c.args.piece.now c.args.self.now.number c.args.self.now.reception.collector.connections.items
-    c.piece.new.self.collector.connections.items (g.S.Store.entries c.args.self.now.reception.collector.store)
+    c.args.piece.now c.args.self.now.number c.args.self.now.reception.collector.connections
+    c.piece.new.self.collector.connections (g.S.Store.entries c.args.self.now.reception.collector.store)
     (g.S.Store.entries c.piece.new.self.collector.store) c.piece.new.self.outcomes.items c.deref.result.now =
     record {
       same_reading = stands.1;

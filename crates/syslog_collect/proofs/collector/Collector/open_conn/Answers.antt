@@ -1,118 +1,90 @@
-use Rattle.std.proofs.Common.{◌≡◌, ℕ, ◌<◌, List, length, is_some, inl, refl, sym, ◌∙◌, ap, subst, arith}
-use Rattle.std.specs.Prelude.{Option, Some, None, true, false}
-use Rattle.std.proofs.lemmas.Bool.{both_ways}
-use Rattle.syslog_collect.specs.declared.connection.Connection.{Connection}
-use Rattle.syslog_collect.specs.declared.limits.TheConstants.{CONNECTIONS_MAX}
+use Rattle.std.proofs.Common.{◌≡◌, ℕ, ◌<◌, is_some, refl, sym, ◌∙◌, arith}
+use Rattle.std.specs.Prelude.{Option, Some, None, true, false, IfNone, IfSome}
+use Rattle.syslog_collect.specs.Numbers.{HoldsAt, connection_in, count_in}
+use Rattle.syslog_collect.specs.declared.limits.TheConstants.{CONNECTIONS_LIMIT}
 use Rattle.syslog_collect.proofs.Collecting.{stays}
-use Rattle.syslog_collect.proofs.Places.{place_from}
-use Rattle.syslog_collect.proofs.Steps.{count_open, is_open, not_open, open_step, still}
-use Rattle.syslog_collect.specs.Logs.{waiting}
-use Rattle.syslog_collect.proofs.Waiting.{ready_none, waiting_push}
+use Rattle.syslog_collect.proofs.Found.{count_open, is_open, not_open, opened}
+use Rattle.syslog_collect.proofs.Numbering.{held_at}
 use Rattle.syslog_collect.proofs.collector.Collector.open_conn.Goals as goal
 
-none_of : (o : Option ℕ) → is_some o ≡ false → o ≡ None
-none_of None e = refl
-none_of (Some x) e = absurd (both_ways true e refl)
+is_held : (o : Option ℕ) (P : ℕ → Type 0) → is_some o ≡ true → IfSome o P → (n : ℕ) × P n
+is_held None P e h = absurd (cc)
+is_held (Some n) P e h = (n, h)
 
-some_of : (o : Option ℕ) → is_some o ≡ true → (n : ℕ) × (o ≡ Some n)
-some_of None e = absurd (both_ways false refl e)
-some_of (Some x) e = (x, refl)
+none_held : (o : Option ℕ) (P : Type 0) → is_some o ≡ false → IfNone o P → P
+none_held None P e h = h
+none_held (Some n) P e h = absurd (cc)
 
 pub returns-then-is_some-clause-cause : goal.returns-then-is_some-clause-cause
 returns-then-is_some-clause-cause g c first events was =
-    let found = some_of c.place.result (sym c.is_some.ensures ∙ c.if-is_some.true) in
-    let is = subst (λ (ls : List Connection). place_from c.args.conn 0 ls ≡ Some found.0) c.deref.ensures.value
-    (sym c.place.ensures ∙ found.1) in
-    is_open c.args.self.now.reading c.args.conn found.0 c.args.self.now.connections.items _ first events is was
+    let cs = c.args.self.now.connections in
+    let h = is_held c.find.result (HoldsAt cs c.args.conn) (sym c.is_some.ensures ∙ c.if-is_some.true)
+    c.find.ensures.found in
+    is_open c.args.self.now.reading c.args.conn h.1.connection cs _ first events
+    (held_at cs c.args.conn h.0 h.1.connection h.1 h.1.is).0 was
 
-pub returns-then-len-ge-CONNECTIONS_MAX-clause-cause : goal.returns-then-len-ge-CONNECTIONS_MAX-clause-cause
-returns-then-len-ge-CONNECTIONS_MAX-clause-cause g c first events was =
-    let absent = subst (λ (ls : List Connection). place_from c.args.conn 0 ls ≡ None) c.deref.ensures.value
-    (sym c.place.ensures ∙ none_of c.place.result (sym c.is_some.ensures ∙ c.if-is_some.false)) in (
-      not_open c.args.self.now.reading c.args.conn c.args.self.now.connections.items _ first events absent was,
-      omega (
-        arith,
-        c.len.ensures,
-        count_open c.args.self.now.reading c.args.self.now.connections.items _ first events
-            was,
-      ),
+pub returns-then-is_full-clause-cause : goal.returns-then-is_full-clause-cause
+returns-then-is_full-clause-cause g c first events was =
+    let cs = c.args.self.now.connections in
+    let none = none_held c.find.result (connection_in cs c.args.conn ≡ None) (sym c.is_some.ensures
+    ∙ c.if-is_some.false) c.find.ensures.none in
+    let full = c.is_full.ensures.full c.if-is_full.true in (
+      not_open c.args.self.now.reading c.args.conn cs _ first events none was,
+      omega (arith, full, count_open c.args.self.now.reading cs _ first events was),
     )
 
 pub returns-in_default-clause-cause : goal.returns-in_default-clause-cause
 returns-in_default-clause-cause g c first events was =
-    let absent = subst (λ (ls : List Connection). place_from c.args.conn 0 ls ≡ None) c.deref.ensures.value
-    (sym c.place.ensures ∙ none_of c.place.result (sym c.is_some.ensures ∙ c.if-is_some.false)) in (
-      not_open c.args.self.now.reading c.args.conn c.args.self.now.connections.items _ first events absent was,
-      omega (
-        arith,
-        c.len.ensures,
-        count_open c.args.self.now.reading c.args.self.now.connections.items _ first events
-            was,
-      ),
+    let cs = c.args.self.now.connections in
+    let none = none_held c.find.result (connection_in cs c.args.conn ≡ None) (sym c.is_some.ensures
+    ∙ c.if-is_some.false) c.find.ensures.none in
+    let room = c.is_full.ensures.room c.if-is_full.false in (
+      not_open c.args.self.now.reading c.args.conn cs _ first events none was,
+      omega (arith, room, count_open c.args.self.now.reading cs _ first events was),
       refl,
+    )
+
+pub returns-in-Err-clause-cause : goal.returns-in-Err-clause-cause
+returns-in-Err-clause-cause g c first events was =
+    let cs = c.args.self.now.connections in
+    let none = none_held c.find.result (connection_in cs c.args.conn ≡ None) (sym c.is_some.ensures
+    ∙ c.if-is_some.false) c.find.ensures.none in
+    let room = c.is_full.ensures.room c.if-is_full.false in (
+      not_open c.args.self.now.reading c.args.conn cs _ first events none was,
+      omega (arith, room, count_open c.args.self.now.reading cs _ first events was),
+      refl,
+    )
+
+pub returns-in-Ok-open-clause-cause : goal.returns-in-Ok-open-clause-cause
+returns-in-Ok-open-clause-cause g c first events was =
+    let cs = c.args.self.now.connections in
+    let none = none_held c.find.result (connection_in cs c.args.conn ≡ None) (sym c.is_some.ensures
+    ∙ c.if-is_some.false) c.find.ensures.none in
+    let room = c.is_full.ensures.room c.if-is_full.false in (
+      not_open c.args.self.now.reading c.args.conn cs _ first events none was,
+      omega (arith, room, count_open c.args.self.now.reading cs _ first events was),
     )
 
 pub returns-then-is_some-clause-goes_on : goal.returns-then-is_some-clause-goes_on
 returns-then-is_some-clause-goes_on g c = stays (g.S.Store.entries) c.args.self.now
 
-pub returns-then-len-ge-CONNECTIONS_MAX-clause-goes_on : goal.returns-then-len-ge-CONNECTIONS_MAX-clause-goes_on
-returns-then-len-ge-CONNECTIONS_MAX-clause-goes_on g c = stays (g.S.Store.entries) c.args.self.now
+pub returns-then-is_full-clause-goes_on : goal.returns-then-is_full-clause-goes_on
+returns-then-is_full-clause-goes_on g c = stays (g.S.Store.entries) c.args.self.now
 
 pub returns-in_default-clause-goes_on : goal.returns-in_default-clause-goes_on
 returns-in_default-clause-goes_on g c = stays (g.S.Store.entries) c.args.self.now
 
-pub returns-in-Err-clause-goes_on : goal.returns-in-Err-clause-goes_on
-returns-in-Err-clause-goes_on g c = record {
+pub returns-in-Ok-open-clause-goes_on : goal.returns-in-Ok-open-clause-goes_on
+returns-in-Ok-open-clause-goes_on g c = record {
   stands = λ first events was.
-      rw c.in-Err.ensures.items (still c.args.self.now.reading c.args.self.now.connections.items _ _ first events refl
-      was);
+      let cs = c.args.self.now.connections in
+      let none = none_held c.find.result (connection_in cs c.args.conn ≡ None) (sym c.is_some.ensures
+      ∙ c.if-is_some.false) c.find.ensures.none in
+      let room = c.is_full.ensures.room c.if-is_full.false in
+      let few : count_in cs < CONNECTIONS_LIMIT = omega (arith, room, cs.few) in
+      opened c.args.self.now.reading c.args.conn c.args.framing c.in-Ok.scanner cs _ _ first events none few
+      c.in-Ok.ensures.reads c.in-Ok.ensures.stands.1 c.in-Ok-open.ensures.ok was;
   reading = refl;
-  room = omega (arith, c.in-Err.ensures.capacity);
+  limit = c.in-Ok-open.ensures.ok.limit;
+  room = c.in-Ok-open.ensures.ok.room;
 }
-
-pub returns-in-Err-clause-cause : goal.returns-in-Err-clause-cause
-returns-in-Err-clause-cause g c first events was =
-    let absent = subst (λ (ls : List Connection). place_from c.args.conn 0 ls ≡ None) c.deref.ensures.value
-    (sym c.place.ensures ∙ none_of c.place.result (sym c.is_some.ensures ∙ c.if-is_some.false)) in (
-      not_open c.args.self.now.reading c.args.conn c.args.self.now.connections.items _ first events absent was,
-      omega (
-        arith,
-        c.len.ensures,
-        count_open c.args.self.now.reading c.args.self.now.connections.items _ first events
-            was,
-      ),
-      refl,
-    )
-
-pub returns-clause-goes_on : goal.returns-clause-goes_on
-returns-clause-goes_on g c = record {
-  stands = λ first events was.
-      let absent = subst (λ (ls : List Connection). place_from c.args.conn 0 ls ≡ None) c.deref.ensures.value
-      (sym c.place.ensures ∙ none_of c.place.result (sym c.is_some.ensures ∙ c.if-is_some.false)) in
-      let room : length c.args.self.now.connections.items < CONNECTIONS_MAX = omega (arith, c.len.ensures) in
-      rw c.in_default-push.ensures.items
-      (open_step c.args.self.now.reading c.args.conn c.args.framing c.in-Ok.scanner c.args.self.now.connections.items _
-      first events absent room c.in-Ok.ensures.reads c.in-Ok.ensures.stands.1 was);
-  reading = refl;
-  room = omega (arith, c.in_default-push.ensures.capacity);
-}
-
-pub returns-clause-cause : goal.returns-clause-cause
-returns-clause-cause g c first events was =
-    let absent = subst (λ (ls : List Connection). place_from c.args.conn 0 ls ≡ None) c.deref.ensures.value
-    (sym c.place.ensures ∙ none_of c.place.result (sym c.is_some.ensures ∙ c.if-is_some.false)) in (
-      not_open c.args.self.now.reading c.args.conn c.args.self.now.connections.items _ first events absent was,
-      omega (
-        arith,
-        c.len.ensures,
-        count_open c.args.self.now.reading c.args.self.now.connections.items _ first events
-            was,
-      ),
-    )
-
-pub returns-in-Err-clause-waits : goal.returns-in-Err-clause-waits
-returns-in-Err-clause-waits g c d = ap (λ (ls : List Connection). waiting ls d) c.in-Err.ensures.items
-
-pub returns-clause-waits : goal.returns-clause-waits
-returns-clause-waits g c d = rw c.in_default-push.ensures.items
-    (waiting_push _ c.args.self.now.connections.items d (ready_none _ (λ f. c.in-Ok.ensures.stands.1.0 (inl f))))

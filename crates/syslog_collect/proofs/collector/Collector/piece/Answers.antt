@@ -1,65 +1,74 @@
-use Rattle.std.proofs.Common.{◌≡◌, List, inr, refl, sym, subst, arith}
-use Rattle.std.specs.Prelude.{Some, None}
-use Rattle.syslog_collect.specs.declared.connection.Connection.{Connection}
+use Rattle.std.proofs.Common.{arith, inr, refl}
+use Rattle.slab.specs.Slab.{with_value}
 use Rattle.syslog_collect.specs.History.{history_of}
 use Rattle.syslog_collect.specs.Logs.{waiting}
 use Rattle.syslog_collect.specs.declared.fault.CollectFault.TheVariants.{NotOpen}
 use Rattle.syslog_collect.proofs.Collecting.{stays}
-use Rattle.syslog_collect.proofs.Logging.{nothing_of_piece, piece_logged}
-use Rattle.syslog_collect.proofs.Places.{place_from, within}
-use Rattle.syslog_collect.proofs.EventRuns.{piece_found}
-use Rattle.syslog_collect.proofs.Steps.{not_open}
-use Rattle.syslog_collect.proofs.Stopping.{piece_refused}
+use Rattle.syslog_collect.proofs.Found.{not_open, piece_logged, piece_refused, piece_taken}
+use Rattle.syslog_collect.proofs.Logging.{nothing_of_piece}
+use Rattle.syslog_collect.proofs.Numbering.{become_of, held_at}
 use Rattle.syslog_collect.proofs.collector.Collector.piece.Goals as goal
 
 pub index_mut-requires : goal.index_mut-requires
-index_mut-requires g c =
-    let is = subst (λ (ls : List Connection). place_from c.args.conn 0 ls ≡ Some c.in-Some.at) c.deref.ensures.value
-    (sym c.in-Some.ensures) in
-    omega (arith, within c.args.conn c.in-Some.at c.args.self.now.connections.items is)
+index_mut-requires g c = rw c.in-Some.ensures.found.is refl
 
 pub returns-in-None-clause-goes_on : goal.returns-in-None-clause-goes_on
 returns-in-None-clause-goes_on g c = stays (g.S.Store.entries) c.args.self.now
 
 pub returns-in-None-clause-logged : goal.returns-in-None-clause-logged
 returns-in-None-clause-logged g c first events was =
-    nothing_of_piece c.args.self.now.reading (history_of events) (waiting c.args.self.now.connections.items) c.args.conn
+    nothing_of_piece c.args.self.now.reading (history_of events) (waiting c.args.self.now.connections) c.args.conn
     c.args.octets.now NotOpen _ _
-
-pub returns-in-Some-clause-goes_on : goal.returns-in-Some-clause-goes_on
-returns-in-Some-clause-goes_on g c = record {
-  stands = λ first events was.
-      let is = subst (λ (ls : List Connection). place_from c.args.conn 0 ls ≡ Some c.in-Some.at) c.deref.ensures.value
-      (sym c.in-Some.ensures) in
-      piece_found c.args.self.now.reading c.args.conn c.in-Some.at c.index_mut.result.now c.take_piece.new.connection
-      c.args.self.now.connections.items _ _ first events c.args.octets.now c.take_piece.result _ _
-      is c.index_mut.ensures.value c.take_piece.ensures.moves c.take_piece.ensures.accepted was;
-  reading = refl;
-  room = omega arith;
-}
-
-pub returns-in-Some-clause-logged : goal.returns-in-Some-clause-logged
-returns-in-Some-clause-logged g c first events was =
-    let is = subst (λ (ls : List Connection). place_from c.args.conn 0 ls ≡ Some c.in-Some.at) c.deref.ensures.value
-    (sym c.in-Some.ensures) in
-    piece_logged c.args.self.now.reading c.args.conn c.in-Some.at c.index_mut.result.now c.take_piece.new.connection
-    c.args.self.now.connections.items (g.S.Store.entries c.args.self.now.store)
-    (g.S.Store.entries c.take_piece.new.store) first events c.args.octets.now c.take_piece.result c.args.log.now.items
-    c.take_piece.new.log.items is c.index_mut.ensures.value c.take_piece.ensures.moves
-    c.take_piece.ensures.accepted c.take_piece.ensures.settled was
 
 pub returns-in-None-clause-cause : goal.returns-in-None-clause-cause
 returns-in-None-clause-cause g c first events was =
-    let absent = subst (λ (ls : List Connection). place_from c.args.conn 0 ls ≡ None) c.deref.ensures.value
-    (sym c.in-None.ensures) in
-    inr (not_open c.args.self.now.reading c.args.conn c.args.self.now.connections.items _ first events absent was, refl)
+    inr (
+      not_open c.args.self.now.reading c.args.conn c.args.self.now.connections _ first events c.in-None.ensures.none
+          was,
+      refl,
+    )
+
+pub returns-in-Some-clause-goes_on : goal.returns-in-Some-clause-goes_on
+returns-in-Some-clause-goes_on g c =
+    let cs = c.args.self.now.connections in
+    let x = c.index_mut.result.now in
+    let y = c.take_piece.new.connection in
+    let holds = c.in-Some.ensures.found in
+    let is = (held_at cs c.args.conn c.in-Some.place x holds c.index_mut.ensures.value).0 in
+    record {
+      stands = λ first events was.
+          piece_taken c.args.self.now.reading c.args.conn x y cs _ _ _ first events c.args.octets.now c.take_piece.result
+          _ _ is c.take_piece.ensures.number (become_of cs _ c.args.conn c.in-Some.place x y holds c.index_mut.ensures.value
+          c.take_piece.ensures.number refl refl refl)
+          c.take_piece.ensures.moves c.take_piece.ensures.accepted was;
+      reading = refl;
+      limit = refl;
+      room = omega arith;
+    }
+
+pub returns-in-Some-clause-logged : goal.returns-in-Some-clause-logged
+returns-in-Some-clause-logged g c first events was =
+    let cs = c.args.self.now.connections in
+    let x = c.index_mut.result.now in
+    let y = c.take_piece.new.connection in
+    let holds = c.in-Some.ensures.found in
+    let is = (held_at cs c.args.conn c.in-Some.place x holds c.index_mut.ensures.value).0 in
+    let b = become_of cs (record cs { slots = with_value cs.slots c.in-Some.place y }) c.args.conn c.in-Some.place x y
+    holds c.index_mut.ensures.value c.take_piece.ensures.number refl refl refl in
+    piece_logged c.args.self.now.reading c.args.conn x y cs _ (g.S.Store.entries c.args.self.now.store)
+    (g.S.Store.entries c.take_piece.new.store) first events c.args.octets.now c.take_piece.result c.args.log.now.items
+    c.take_piece.new.log.items is c.take_piece.ensures.number b c.take_piece.ensures.moves
+    c.take_piece.ensures.accepted c.take_piece.ensures.settled was
 
 pub returns-in-Some-clause-cause : goal.returns-in-Some-clause-cause
 returns-in-Some-clause-cause g c first events was =
-    let is = subst (λ (ls : List Connection). place_from c.args.conn 0 ls ≡ Some c.in-Some.at) c.deref.ensures.value
-    (sym c.in-Some.ensures) in
-    piece_refused c.args.self.now.reading c.args.conn c.in-Some.at c.index_mut.result.now c.take_piece.new.connection
-    c.args.self.now.connections.items (g.S.Store.entries c.args.self.now.store)
+    let cs = c.args.self.now.connections in
+    let x = c.index_mut.result.now in
+    let y = c.take_piece.new.connection in
+    let holds = c.in-Some.ensures.found in
+    let is = (held_at cs c.args.conn c.in-Some.place x holds c.index_mut.ensures.value).0 in
+    let b = become_of cs (record cs { slots = with_value cs.slots c.in-Some.place y }) c.args.conn c.in-Some.place x y
+    holds c.index_mut.ensures.value c.take_piece.ensures.number refl refl refl in
+    piece_refused c.args.self.now.reading c.args.conn x y cs _ (g.S.Store.entries c.args.self.now.store)
     (g.S.Store.entries c.take_piece.new.store) first events c.args.octets.now c.take_piece.result c.args.log.now.items
-    c.take_piece.new.log.items is c.index_mut.ensures.value c.take_piece.ensures.moves
-    c.take_piece.ensures.cause was
+    c.take_piece.new.log.items is c.take_piece.ensures.number b c.take_piece.ensures.moves c.take_piece.ensures.cause was

@@ -1,4 +1,4 @@
-use Rattle.std.proofs.Common.{◌≡◌, ◌<◌, List, [], ◌∷◌, ◌++◌, length, get_or, take, sym, subst, arith}
+use Rattle.std.proofs.Common.{◌≡◌, ℕ, ◌<◌, List, [], ◌∷◌, ◌++◌, length, get_or, take, sym, subst, arith}
 use Rattle.syslog_frame.specs.declared.framing.Framing.TheVariants.{Counted}
 use Rattle.syslog_collect.specs.declared.event.Event.TheVariants.{Opened}
 use Rattle.syslog_collect.specs.History.{AcceptedEvent, History, history_of, initial}
@@ -35,9 +35,9 @@ returns-in-Stopped-clause-logged g c first before was =
     let a = g.S.Store.entries c.args.self.now.store in
     let b = g.S.Store.entries c.loop-at.self.store in
     let d = g.S.Store.entries c.run_event.new.self.store in
-    let u = waiting c.loop-at.self.connections.items in
-    let v = waiting c.run_event.new.self.connections.items in
-    run_stopped c.args.self.now.reading (history_of before) (waiting c.args.self.now.connections.items) u v es n
+    let u = waiting c.loop-at.self.connections in
+    let v = waiting c.run_event.new.self.connections in
+    run_stopped c.args.self.now.reading (history_of before) (waiting c.args.self.now.connections) u v es n
     c.in-Stopped.taken c.in-Stopped.fault (Opened 0 Counted) a b d c.args.log.now.items c.loop-at.log.items
     c.run_event.new.log.items
     here (c.loop-at.invariant.log first before was)
@@ -76,9 +76,9 @@ loop-at-preserved g c = record {
       let b = g.S.Store.entries c.loop-at.self.store in
       let d = g.S.Store.entries c.run_event.new.self.store in
       let e = get_or es n (Opened 0 Counted) in
-      let w = waiting c.args.self.now.connections.items in
-      let u = waiting c.loop-at.self.connections.items in
-      let v = waiting c.run_event.new.self.connections.items in
+      let w = waiting c.args.self.now.connections in
+      let u = waiting c.loop-at.self.connections in
+      let v = waiting c.run_event.new.self.connections in
       subst (λ (ts : List AcceptedEvent). Grows (IsLogOf c.args.self.now.reading (history_of before) w ts v a d)
       c.args.log.now.items c.run_event.new.log.items) (sym (accepted_all-next es n (Opened 0 Counted) here))
       (grows_push c.args.self.now.reading (history_of before) w so_far e u v a b d c.args.log.now.items
@@ -106,8 +106,8 @@ returns-clause-goes_on g c =
 
 pub returns-clause-waits : goal.returns-clause-waits
 returns-clause-waits g c first before was d =
-    let w = waiting c.args.self.now.connections.items in
-    let v = waiting c.loop-at.self.connections.items in
+    let w = waiting c.args.self.now.connections in
+    let v = waiting c.loop-at.self.connections in
     let so_far = accepted_all (take c.loop-at.at c.args.events.now) in
     let (os, grown, logs) = c.loop-at.invariant.log first before was in
     subst (λ (ts : List AcceptedEvent). v d ≡ waiting_after_all w ts d)
@@ -117,8 +117,8 @@ returns-clause-waits g c first before was d =
 pub returns-clause-logged : goal.returns-clause-logged
 returns-clause-logged g c first before was =
     subst (λ (ts : List AcceptedEvent). Grows
-    (IsLogOf c.args.self.now.reading (history_of before) (waiting c.args.self.now.connections.items) ts
-    (waiting c.loop-at.self.connections.items)
+    (IsLogOf c.args.self.now.reading (history_of before) (waiting c.args.self.now.connections) ts
+    (waiting c.loop-at.self.connections)
     (g.S.Store.entries c.args.self.now.store) (g.S.Store.entries c.loop-at.self.store)) c.args.log.now.items
     c.loop-at.log.items)
     (accepted_all-whole c.args.events.now c.loop-at.at (omega arith)) (c.loop-at.invariant.log first before was)
@@ -129,15 +129,18 @@ returns-in-Stopped-clause-cause g c first before was =
     let n = c.loop-at.at in
     let here : n < length es = omega arith in
     let so_far = accepted_all (take n es) in
-    let w = waiting c.run_event.new.self.connections.items in
+    let w = waiting c.run_event.new.self.connections in
     let stops = c.in-Stopped.ensures.cause first (before ++ so_far) (c.loop-at.invariant.goes_on.stands first before was) in (
       here,
-      first_stops c.args.self.now.reading _ w es n c.in-Stopped.taken c.in-Stopped.fault (Opened 0 Counted) here
-          (subst (λ (h : History). StopsAt c.args.self.now.reading h w (get_or es n
+      first_stops c.args.self.now.connections.limit c.args.self.now.reading _ w es n c.in-Stopped.taken c.in-Stopped.fault (Opened 0 Counted) here
+          (subst (λ (h : History). StopsAt c.args.self.now.connections.limit c.args.self.now.reading h w (get_or es n
           (Opened 0 Counted)) c.in-Stopped.taken
           c.in-Stopped.fault) (history_after-append initial before so_far)
-          (subst (λ (k : FrameReading). StopsAt k (history_of (before ++ so_far)) w (get_or es n (Opened 0 Counted))
-          c.in-Stopped.taken c.in-Stopped.fault) c.loop-at.invariant.goes_on.reading stops)),
+          (subst (λ (k : FrameReading). StopsAt c.args.self.now.connections.limit k (history_of (before ++ so_far)) w
+          (get_or es n (Opened 0 Counted)) c.in-Stopped.taken c.in-Stopped.fault) c.loop-at.invariant.goes_on.reading
+          (subst (λ (m : ℕ). StopsAt m c.loop-at.self.reading (history_of (before ++ so_far)) w
+          (get_or es n (Opened 0 Counted)) c.in-Stopped.taken c.in-Stopped.fault) c.loop-at.invariant.goes_on.limit
+          stops))),
     )
 
 pub returns-clause-ends : goal.returns-clause-ends

@@ -12,8 +12,8 @@ abbrev pub invariant-loop-at : goal.invariant-loop-at
 invariant-loop-at g l = record {
   goes_on : GoesOn (g.S.Store.entries) l.fn.self l.self (accepted_all (take l.at l.events));
   log : (first : List Entry) (before : List AcceptedEvent) → Stands (g.S.Store.entries) l.fn.self first before →
-      Grows (IsLogOf l.fn.self.reading (history_of before) (waiting l.fn.self.connections.items)
-      (accepted_all (take l.at l.events)) (waiting l.self.connections.items)
+      Grows (IsLogOf l.fn.self.reading (history_of before) (waiting l.fn.self.connections)
+      (accepted_all (take l.at l.events)) (waiting l.self.connections)
       (g.S.Store.entries l.fn.self.store) (g.S.Store.entries l.self.store)) l.fn.log.items l.log.items;
   ends : (first : List Entry) (before : List AcceptedEvent) → Stands (g.S.Store.entries) l.fn.self first before →
       EndWell (history_of before) (take l.at l.events);

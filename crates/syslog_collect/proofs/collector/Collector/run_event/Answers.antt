@@ -1,6 +1,5 @@
 use Rattle.std.proofs.Common.{List, arith, inl, ap, ◌∙◌, refl, sym, subst}
 use Rattle.syslog_collect.specs.History.{AcceptedEvent, history_of}
-use Rattle.syslog_collect.specs.declared.connection.Connection.{Connection}
 use Rattle.syslog_collect.specs.declared.event.Event.{Event}
 use Rattle.syslog_collect.specs.declared.event.Event.TheVariants.{Opened, Ended}
 use Rattle.syslog_collect.specs.declared.event.EventEnd.{EventEnd}
@@ -15,6 +14,7 @@ use Rattle.syslog_collect.proofs.Logging.{piece_event_logged}
 use Rattle.syslog_collect.proofs.EventRuns.{accepted_nothing, datagram_accepted, ending_accepted, opening_accepted}
 use Rattle.syslog_collect.proofs.EventRuns.{piece_accepted}
 use Rattle.syslog_collect.proofs.Collecting.{stays}
+use Rattle.syslog_collect.proofs.Found.{waits_keep}
 use Rattle.syslog_collect.specs.Stops.{EndsWell, IfStopped, StopsAt}
 use Rattle.syslog_collect.proofs.Stopping.{datagram_refused, done_any, ending_done, ending_refused, opening_refused}
 use Rattle.syslog_collect.proofs.Stopping.{piece_event_refused}
@@ -27,7 +27,7 @@ returns-then-is_err-clause-goes_on g c =
 
 pub returns-then-is_err-clause-logged : goal.returns-then-is_err-clause-logged
 returns-then-is_err-clause-logged g c first events was =
-    nothing_logged c.args.self.now.reading (history_of events) (waiting c.args.self.now.connections.items) c.args.event
+    nothing_logged c.args.self.now.reading (history_of events) (waiting c.args.self.now.connections) c.args.event
     (Memory 0) (g.S.Store.entries c.args.self.now.store) c.args.log.now.items c.reserve.new.self.items
     c.reserve.ensures.items
 
@@ -68,8 +68,8 @@ returns-in-Datagram-clause-goes_on g c =
 pub returns-in-Opened-clause-logged : goal.returns-in-Opened-clause-logged
 returns-in-Opened-clause-logged g c first events was =
     let h = history_of events in
-    let w = waiting c.args.self.now.connections.items in
-    let v = waiting c.open_conn.new.self.connections.items in
+    let w = waiting c.args.self.now.connections in
+    let v = waiting c.open_conn.new.self.connections in
     let a = g.S.Store.entries c.args.self.now.store in
     let b = g.S.Store.entries c.open_conn.new.self.store in
     subst (λ (e : Event). Grows (LogsEventEnd c.args.self.now.reading h w v e c.end_of.result a b) c.args.log.now.items
@@ -81,8 +81,8 @@ returns-in-Opened-clause-logged g c first events was =
 pub returns-in-Piece-clause-logged : goal.returns-in-Piece-clause-logged
 returns-in-Piece-clause-logged g c first events was =
     let h = history_of events in
-    let w = waiting c.args.self.now.connections.items in
-    let v = waiting c.piece.new.self.connections.items in
+    let w = waiting c.args.self.now.connections in
+    let v = waiting c.piece.new.self.connections in
     let a = g.S.Store.entries c.args.self.now.store in
     let b = g.S.Store.entries c.piece.new.self.store in
     subst (λ (e : Event). Grows (LogsEventEnd c.args.self.now.reading h w v e c.piece.result a b) c.args.log.now.items
@@ -95,8 +95,8 @@ returns-in-Piece-clause-logged g c first events was =
 pub returns-in-Ended-clause-logged : goal.returns-in-Ended-clause-logged
 returns-in-Ended-clause-logged g c first events was =
     let h = history_of events in
-    let w = waiting c.args.self.now.connections.items in
-    let v = waiting c.end_conn.new.self.connections.items in
+    let w = waiting c.args.self.now.connections in
+    let v = waiting c.end_conn.new.self.connections in
     let a = g.S.Store.entries c.args.self.now.store in
     let b = g.S.Store.entries c.end_conn.new.self.store in
     subst (λ (e : Event). Grows (LogsEventEnd c.args.self.now.reading h w v e c.end_of-in-Ended.result a b)
@@ -108,8 +108,8 @@ returns-in-Ended-clause-logged g c first events was =
 pub returns-in-Datagram-clause-logged : goal.returns-in-Datagram-clause-logged
 returns-in-Datagram-clause-logged g c first events was =
     let h = history_of events in
-    let w = waiting c.args.self.now.connections.items in
-    let v = waiting c.logged_datagram.new.self.connections.items in
+    let w = waiting c.args.self.now.connections in
+    let v = waiting c.logged_datagram.new.self.connections in
     let a = g.S.Store.entries c.args.self.now.store in
     let b = g.S.Store.entries c.logged_datagram.new.self.store in
     subst (λ (e : Event). Grows (LogsEventEnd c.args.self.now.reading h w v e c.logged_datagram.result a b)
@@ -117,7 +117,7 @@ returns-in-Datagram-clause-logged g c first events was =
     (datagram_logged c.args.self.now.reading h w v c.in-Datagram.octets c.logged_datagram.result a b
     c.args.log.now.items
     c.logged_datagram.new.log.items
-    (λ d. ap (λ (ls : List Connection). waiting ls d) c.logged_datagram.ensures.connections)
+    (waits_keep c.args.self.now.connections _ c.logged_datagram.ensures.connections)
     (subst (λ (l : List Outcome). Grows (LogsDatagram c.args.self.now.reading c.in-Datagram.octets.now
     c.logged_datagram.result a b) l c.logged_datagram.new.log.items) c.reserve.ensures.items
     c.logged_datagram.ensures.logged))
@@ -129,41 +129,41 @@ returns-then-is_err-clause-cause g c first events was =
 pub returns-in-Opened-clause-cause : goal.returns-in-Opened-clause-cause
 returns-in-Opened-clause-cause g c first events was =
     let h = history_of events in
-    let w = waiting c.open_conn.new.self.connections.items in
-    subst (λ (e : Event). IfStopped c.end_of.result (StopsAt c.args.self.now.reading h w e)) (sym c.in-Opened.is)
-    (subst (λ (r : EventEnd). IfStopped r (StopsAt c.args.self.now.reading h w
+    let w = waiting c.open_conn.new.self.connections in
+    subst (λ (e : Event). IfStopped c.end_of.result (StopsAt c.args.self.now.connections.limit c.args.self.now.reading h w e)) (sym c.in-Opened.is)
+    (subst (λ (r : EventEnd). IfStopped r (StopsAt c.args.self.now.connections.limit c.args.self.now.reading h w
     (Opened c.in-Opened.conn c.in-Opened.framing))) (sym c.end_of.ensures)
-    (opening_refused c.args.self.now.reading h w c.in-Opened.conn c.in-Opened.framing c.open_conn.result
+    (opening_refused c.args.self.now.connections.limit c.args.self.now.reading h w c.in-Opened.conn c.in-Opened.framing c.open_conn.result
     (c.open_conn.ensures.cause first events was)))
 
 pub returns-in-Piece-clause-cause : goal.returns-in-Piece-clause-cause
 returns-in-Piece-clause-cause g c first events was =
     let h = history_of events in
-    let w = waiting c.piece.new.self.connections.items in
-    subst (λ (e : Event). IfStopped c.piece.result (StopsAt c.args.self.now.reading h w e)) (sym c.in-Piece.is)
-    (piece_event_refused c.args.self.now.reading h w c.in-Piece.conn c.in-Piece.octets c.piece.result
+    let w = waiting c.piece.new.self.connections in
+    subst (λ (e : Event). IfStopped c.piece.result (StopsAt c.args.self.now.connections.limit c.args.self.now.reading h w e)) (sym c.in-Piece.is)
+    (piece_event_refused c.args.self.now.connections.limit c.args.self.now.reading h w c.in-Piece.conn c.in-Piece.octets c.piece.result
     c.piece.ensures.within (c.piece.ensures.cause first events was))
 
 pub returns-in-Ended-clause-cause : goal.returns-in-Ended-clause-cause
 returns-in-Ended-clause-cause g c first events was =
     let h = history_of events in
-    let w = waiting c.args.self.now.connections.items in
-    let v = waiting c.end_conn.new.self.connections.items in
-    subst (λ (e : Event). IfStopped c.end_of-in-Ended.result (StopsAt c.args.self.now.reading h v e))
+    let w = waiting c.args.self.now.connections in
+    let v = waiting c.end_conn.new.self.connections in
+    subst (λ (e : Event). IfStopped c.end_of-in-Ended.result (StopsAt c.args.self.now.connections.limit c.args.self.now.reading h v e))
     (sym c.in-Ended.is)
-    (subst (λ (r : EventEnd). IfStopped r (StopsAt c.args.self.now.reading h v (Ended c.in-Ended.conn)))
+    (subst (λ (r : EventEnd). IfStopped r (StopsAt c.args.self.now.connections.limit c.args.self.now.reading h v (Ended c.in-Ended.conn)))
     (sym c.end_of-in-Ended.ensures)
-    (ending_refused c.args.self.now.reading h w v c.in-Ended.conn c.end_conn.result
+    (ending_refused c.args.self.now.connections.limit c.args.self.now.reading h w v c.in-Ended.conn c.end_conn.result
     (c.end_conn.ensures.cause first events was) (c.end_conn.ensures.ready first events was)
     (c.end_conn.ensures.waits first events was c.in-Ended.conn)))
 
 pub returns-in-Datagram-clause-cause : goal.returns-in-Datagram-clause-cause
 returns-in-Datagram-clause-cause g c first events was =
     let h = history_of events in
-    let w = waiting c.logged_datagram.new.self.connections.items in
-    subst (λ (e : Event). IfStopped c.logged_datagram.result (StopsAt c.args.self.now.reading h w e))
+    let w = waiting c.logged_datagram.new.self.connections in
+    subst (λ (e : Event). IfStopped c.logged_datagram.result (StopsAt c.args.self.now.connections.limit c.args.self.now.reading h w e))
     (sym c.in-Datagram.is)
-    (datagram_refused c.args.self.now.reading h w c.in-Datagram.octets c.logged_datagram.result
+    (datagram_refused c.args.self.now.connections.limit c.args.self.now.reading h w c.in-Datagram.octets c.logged_datagram.result
     c.logged_datagram.ensures.cause)
 
 pub returns-in-Opened-clause-ends : goal.returns-in-Opened-clause-ends
