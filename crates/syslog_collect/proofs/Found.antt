@@ -261,13 +261,6 @@ waits_advanced piece (Err StreamTooLong) c y cs ds was now within b quiet waits 
 waits_advanced piece (Err Unreleased) c y cs ds was now within b quiet waits same d = absurd within
 waits_advanced piece (Err (Unterminated start)) c y cs ds was now within b quiet waits same d = absurd within
 
-pub waits_opened : (x : Connection) (cs ds : Connections) → connection_in cs x.number ≡ None → Opens cs ds x
-    → ready_count x.scanner.phase ≡ 0 → (d : ℕ) → waiting ds d ≡ waiting cs d
-waits_opened x cs ds none opens quiet d = ap ready_in (opens.at d) ∙ elim (eqb_tells x.number d) [
-  | inl (here, eq) ↦ rw here (quiet ∙ sym (ap ready_in (subst (λ (n : ℕ). connection_in cs n ≡ None) eq none)))
-  | inr (other, ne) ↦ rw other refl
-]
-
 pub waits_closed : (c : ℕ) (x : Connection) (cs ds : Connections) → connection_in cs c ≡ Some x → Closes cs ds c
     → ready_count x.scanner.phase ≡ 0 → (d : ℕ) → waiting ds d ≡ waiting cs d
 waits_closed c x cs ds is closes quiet d = ap ready_in (closes.at d) ∙ elim (eqb_tells c d) [

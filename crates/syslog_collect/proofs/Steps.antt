@@ -138,32 +138,6 @@ advance_found way c n x y ls kept now first es None outcomes is item moves was =
 advance_found way c n x y ls kept now first es (Some o) outcomes is item moves was =
     advance_step way c n x y ls kept now first es o outcomes (found_here c n x ls is item) moves was
 
--- where a connection is what it was, so are all
-pub unchanged_found : {T A : Type 0} (r : Result A CollectFault) (c n : ℕ) (x y : Connection) (ls : List Connection)
-    (was now : T)
-    → place_from c 0 ls ≡ Some n → x ≡ get_or ls n x → IfRefused r ((y ≡ x) × (now ≡ was))
-    → IfRefused r ((set_at ls n y ≡ ls) × (now ≡ was))
-unchanged_found {T = T} {A = A} r c n x y ls was now is item h = each r h
-  where
-    all : (y ≡ x) × (now ≡ was) → (set_at ls n y ≡ ls) × (now ≡ was)
-    all (same, kept) = (
-      ap (λ (z : Connection). set_at ls n z) same
-          ∙ set_same c n x ls (found_here c n x ls is item),
-      kept,
-    )
-
-    each : (q : Result A CollectFault) → IfRefused q ((y ≡ x) × (now ≡ was))
-        → IfRefused q ((set_at ls n y ≡ ls) × (now ≡ was))
-    each (Ok a) k = tt
-    each (Err (Memory m)) k = tt
-    each (Err (Unterminated start)) k = tt
-    each (Err AlreadyOpen) k = all k
-    each (Err TooManyOpen) k = all k
-    each (Err NotOpen) k = all k
-    each (Err ConnFailed) k = all k
-    each (Err StreamTooLong) k = all k
-    each (Err Unreleased) k = all k
-
 -- why an advance is refused
 answer_at : (way : FrameReading) (c : ℕ) (piece : List ℕ) (r : Result Advance CollectFault) (h : History) (s : Stream)
     → stream_of c h.streams ≡ Some s → IsCause way piece r s → IsAnswerAt way c piece r h

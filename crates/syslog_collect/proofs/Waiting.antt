@@ -127,35 +127,6 @@ waiting_set c i k x y ls e at is d = elim (eqb_tells c d) [
   | inr (other, ne) ↦ rw other (waiting_other c i d x y ls e at ne)
 ]
 
-pub waiting_push : (c : Connection) (ls : List Connection) (d : ℕ) → ready_count c.scanner.phase ≡ 0
-    → waiting (ls ++ c ∷ []) d ≡ waiting ls d
-waiting_push c [] d e = elim (eqb c.number d) as (λ b. cond b (ready_count c.scanner.phase) 0 ≡ 0)
-    [ true ↦ e | false ↦ refl ]
-waiting_push c (l ∷ ls) d e = ap (λ (m : ℕ). cond (eqb l.number d) (ready_count l.scanner.phase) m)
-    (waiting_push c ls d e)
-
--- after an advance
-pub waiting_advance : {T : Type 0} (piece : List ℕ) (r : Result Advance CollectFault) (c n : ℕ) (x y : Connection)
-    (ls : List Connection) (was now : T) → IsUsedWithin piece r → place_from c 0 ls ≡ Some n → x ≡ get_or ls n x
-    → y.number ≡ x.number
-    → OnOk r (¬ (HasReady y.scanner)) → IfMemory r (HasFrame y.scanner)
-    → IfRefused r ((set_at ls n y ≡ ls) × (now ≡ was)) → (d : ℕ)
-    → waiting (set_at ls n y) d ≡ waiting_then r c (waiting ls) d
-waiting_advance piece (Ok a) c n x y ls was now within is item e quiet waits same d =
-    waiting_set c n 0 x y ls e (found_here c n x ls is item) (ready_none y.scanner.phase (λ f. quiet (inl f))) d
-waiting_advance piece (Err (Memory m)) c n x y ls was now within is item e quiet waits same d =
-    waiting_set c n 1 x y ls e (found_here c n x ls is item) (ready_some y.scanner.phase waits) d
-waiting_advance piece (Err AlreadyOpen) c n x y ls was now within is item e quiet waits same d = absurd within
-waiting_advance piece (Err TooManyOpen) c n x y ls was now within is item e quiet waits same d = absurd within
-waiting_advance piece (Err NotOpen) c n x y ls was now within is item e quiet waits same d =
-    ap (λ (zs : List Connection). waiting zs d) same.0
-waiting_advance piece (Err ConnFailed) c n x y ls was now within is item e quiet waits same d =
-    ap (λ (zs : List Connection). waiting zs d) same.0
-waiting_advance piece (Err StreamTooLong) c n x y ls was now within is item e quiet waits same d =
-    ap (λ (zs : List Connection). waiting zs d) same.0
-waiting_advance piece (Err Unreleased) c n x y ls was now within is item e quiet waits same d = absurd within
-waiting_advance piece (Err (Unterminated start)) c n x y ls was now within is item e quiet waits same d = absurd within
-
 -- ---- distinct numbers
 
 abbrev pub AreDistinct : List Stream → Type 0

@@ -22,7 +22,8 @@
 //! - Collectors: `Stands`, where a collector is after events over a first set, and `GoesOn`: each
 //!   call's clause `goes_on` says that it then stands at these events with those that the call
 //!   accepted. `waits_of`, how many frames of a number wait, since memory was refused for them, and
-//!   `NoneWaits`. Standing has the same over the parts of a collector.
+//!   `NoneWaits`. Standing has the same over the parts of a collector, and Numbers the connection of a
+//!   number.
 //! - Answers and Runs: what a call or a run accepted, as a function of its answer, and the cause of
 //!   each refusal. Stops: why a run stopped. Outcomes: what becomes of a frame.
 //! - Logs: `LogsRun`, the log of a run, outcome by outcome.
