@@ -3,6 +3,7 @@
 
 usage: tests/run.py PROGRAM INJECTION [PART..]
        tests/run.py soak PROGRAM [--seconds N | --cases N] [--seed N] [--jobs N]
+       tests/run.py algebra PROGRAM [--rounds N] [--seed N]
        tests/run.py mutants [--jobs N] [CRATE..]
        tests/run.py senders PROGRAM [--tools FOLDER]
        tests/run.py load PROGRAM [--tools FOLDER] [--records N] [--rounds N]
@@ -40,7 +41,7 @@ from lib.results import Results
 PARTS = {part.__name__: part for part in
          (commands, mutated, sending, legacy, collect, sockets, descriptors, archives, algebra, auditing, bindings, verdicts, costs,
           libraries, soak)}
-ALONE = {"soak": "hostile.soak", "mutants": "mutants.run", "senders": "peers.senders", "load": "peers.load",
+ALONE = {"soak": "hostile.soak", "algebra": "hostile.archives", "mutants": "mutants.run", "senders": "peers.senders", "load": "peers.load",
          "cluster": "peers.cluster"}
 
 

@@ -5,20 +5,13 @@ from random import Random
 from cases.commands import row
 from cases.mutated import mutations
 from cases.rows import A, EXAMPLE, HELLO, MARK, NIL, entries
+from hostile.archives import POOL, TIMES, rounds
 from lib import algebra as second
 from lib.faults import each_allocation, each_call
 from lib.reference import archive_text, canonical, read
 
 PAIRS = {"common": second.common, "minus": second.minus, "diff": second.diff}
-TIMES = ["-", "0000-01-01T00:00:00.000000Z", "1969-12-31T23:59:59.999999Z", "2026-11-24T23:59:59.999999Z",
-         "2026-11-25T00:00:00.000000Z", "2026-11-25T10:00:00.000000Z", "2026-11-25T10:59:59.999999Z", "2026-12-01T00:00:00.000000Z",
-         "9999-12-31T23:59:59.999999Z"]
-# records of all times, with what conditions ask for
-POOL = [canonical(read(f"<{priority}>1 {time} {words} {data}{message}".encode()))
-        for time in TIMES for priority, words, data, message in [
-            (0, "- - - -", "-", ""), (13, "h a 1 m", "[b]", " x"), (14, "h - - -", "[a k=\"v\"][b]", " \n"), (191, "g a - m", "-", " é"),
-            (30, "h b 2 -", "[-]", "")]]
-BOUNDS = [time for time in TIMES[1:]] + ["2026-11-25T01:00:00+01:00", "2026-11-25T10:30:00Z", "2026-11-25T10:30:00.5-00:30"]
+
 NOT_TIMES = ["", "-", "2026-11-25", "2026-11-25T10:00:00", "2026-11-25T10:00:00Zx", " 2026-11-25T10:00:00Z", "2026-02-29T10:00:00Z",
              "9999-12-31T23:59:59-00:01", "0000-01-01T00:00:00+00:01", "2026-11-25t10:00:00z", "2026-11-25T10:00:60Z"]
 LATE = entries(canonical(read(b"<13>1 2026-11-25T10:30:00Z - - - - -")))
@@ -98,53 +91,6 @@ def calls(program, results, folder):
         each_call(program, results, *run)
 
 
-def broken(random, text):
-    """The text with one octet less, more or changed, or cut off."""
-    at, kind = random.randrange(len(text) + 1), random.randrange(4)
-    if kind == 0:
-        return text[:at]
-    octet = bytes([random.choice(b"0123456789 <>-[]\n\x00\xff")])
-    return text[:at] + (octet if kind != 1 else b"") + text[at + (kind != 2):]
-
-
-def some_archive(random):
-    text = archive_text(random.sample(POOL, random.randrange(0, 9)))
-    return broken(random, text) if random.random() < 0.3 else text
-
-
-def some_conditions(random):
-    given = {}
-    if random.random() < 0.15:
-        given["only_undated"] = True
-    else:
-        given.update({name: random.choice(BOUNDS) for name in ("from", "to") if random.random() < 0.4})
-    for name, values in [("undated", [True]), ("severity", ["emerg", "err", "notice", "info", "debug"]), ("facility", ["kern", "user", "local7", "daemon"]),
-                         ("host", ["h", "g", "-", "x"]), ("app", ["a", "b", "-"]), ("proc", ["1", "2", "-"]), ("msgid", ["m", "-"]),
-                         ("id", ["a", "b", "-", "c"])]:
-        if random.random() < 0.15:
-            given[name] = random.choice(values)
-    return second.Conditions(**given)
-
-
-def random_archives(program, results, folder, rounds, seed=512):
-    """Random archives, some of them broken, through every command, beside the second reader."""
-    random = Random(seed)
-    for _ in range(rounds):
-        texts = [some_archive(random) for _ in range(3)]
-        names = [folder.file(f"random{n}", text) for n, text in enumerate(texts)]
-        for name, answer in PAIRS.items():
-            seen, right = program.run([name, *names[:2]]), answer(*texts[:2])
-            results.check(f"{name} of random archives", seen == right, f"{texts[:2]} {seen} {right}")
-        seen, right = program.run(["union", *names]), second.union(*texts)
-        results.check("union of random archives", seen == right, f"{texts} {seen} {right}")
-        conditions = some_conditions(random)
-        seen, right = program.run(["select", *conditions.words()], texts[0]), second.select(texts[0], conditions)
-        results.check(f"select {conditions.words()}", seen == right, f"{texts[0]} {seen} {right}")
-        by = random.choice(["month", "day", "hour"])
-        seen, right = program.run(["digest", "--by", by], texts[1]), second.digest(texts[1], by)
-        results.check(f"digest by {by}", seen == right, f"{texts[1]} {seen} {right}")
-
-
 def at_every_octet(program, results, folder):
     """Two archives that are cut, and changed, at every octet."""
     left, right = archive_text(POOL[2:12:3]), archive_text(POOL[3:13:2])
@@ -215,12 +161,12 @@ JSON_FRAMES = [
     NIL + b"[-] \xc3"]
 
 
-def algebra(program, results, rounds=700):
+def algebra(program, results):
     folder = program.folder
     tables(program, results, folder)
     files(program, results, folder)
     calls(program, results, folder)
     at_every_octet(program, results, folder)
-    random_archives(program, results, folder, rounds)
+    rounds(program, results, folder, 700, seed=512)
     laws(program, results, folder)
     as_json(program, results, [frame for frame in JSON_FRAMES + mutations(20_000) if frame])

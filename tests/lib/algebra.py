@@ -3,10 +3,9 @@ and the lines of `show --json`. Each answers status, output and notes."""
 import base64
 import hashlib
 import json
-from datetime import date
 
-from lib.reference import (EPOCH, CYCLE, FACILITIES, MARK, SEVERITIES, Record, archive_read, archive_text, instant, is_utf8, place,
-                           read, shown, timestamp)
+from lib.reference import (FACILITIES, MARK, SEVERITIES, Answers, Record, answer, archive_read, archive_text, instant, is_utf8, lines_of,
+                           place, read, shown, timestamp)
 
 
 def met(texts):
@@ -149,3 +148,10 @@ def record_json(record):
     line = "{" + ",".join(f'"{name}":{value}' for name, value in pairs) + "}"
     json.loads(line)
     return line.encode() + b"\n"
+
+
+def show_json(octets, framing="counted"):
+    """What `show --json` answers."""
+    answers = Answers(octets, framing)
+    refused = answers.refused()
+    return answer(b"".join(record_json(one) for _, one in answers.records()), lines_of(refused), refused)

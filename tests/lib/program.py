@@ -1,5 +1,7 @@
 """A program that is tried: its runs, the same with calls that fail, and how many calls a run makes."""
 import os
+import select
+import struct
 import subprocess
 from collections import namedtuple
 from pathlib import Path
@@ -34,12 +36,16 @@ class Folder:
         path.write_bytes(octets)
         return str(path)
 
+    def preloaded(self, name):
+        """A library of this folder that is preloaded before the program."""
+        path = self.path / f"{name}.so"
+        if not path.exists():
+            subprocess.run(["gcc", "-shared", "-fPIC", "-O1", "-o", str(path), str(HERE / f"{name}.c"), "-ldl"], check=True)
+        return str(path)
+
     def shim(self):
         """The library that makes calls fail."""
-        path = self.path / "shim.so"
-        if not path.exists():
-            subprocess.run(["gcc", "-shared", "-fPIC", "-O1", "-o", str(path), str(HERE / "shim.c"), "-ldl"], check=True)
-        return str(path)
+        return self.preloaded("shim")
 
 
 class Program:
@@ -65,3 +71,53 @@ class Program:
         environment, made = self.counting(**chosen)
         self.run(words, octets, environment)
         return made()
+
+
+class Resident(Program):
+    """A program of which one process makes all runs (resident.c), each in some microseconds."""
+
+    SECONDS = 60  # for one run
+    WORDS = 600  # of one run
+
+    def __init__(self, path, folder):
+        super().__init__(path, folder)
+        self.streams = [os.memfd_create(name) for name in ("input", "output", "notes")]
+        self.process = None
+
+    def start(self):
+        (asks, self.asks), (self.answers, answers) = os.pipe(), os.pipe()
+        environment = {**os.environ, "LD_PRELOAD": self.folder.preloaded("resident"), "RESIDENT": f"{asks} {answers}"}
+        stdin, stdout, stderr = self.streams
+        self.process = subprocess.Popen([self.path, *["-"] * self.WORDS], stdin=stdin, stdout=stdout, stderr=stderr,
+                                        pass_fds=(asks, answers), env=environment)
+        os.close(asks)
+        os.close(answers)
+
+    def end(self):
+        """Ends the process; gives its status."""
+        os.close(self.asks)
+        os.close(self.answers)
+        process, self.process = self.process, None
+        return process.wait()
+
+    def status(self, words):
+        """The status of a run; where the process ends in its place, that of the process."""
+        text = b"".join(word.encode() + b"\0" for word in [self.path, *words])
+        os.write(self.asks, struct.pack("N", len(text)) + text)
+        if not select.select([self.answers], [], [], self.SECONDS)[0]:
+            self.process.kill()
+            self.end()
+            return "not ended"
+        answer = os.read(self.answers, 4)
+        return struct.unpack("i", answer)[0] if answer else f"ended with {self.end()}"
+
+    def run(self, words, octets=b""):
+        """Status, output and notes of one run."""
+        if not self.process:
+            self.start()
+        for stream in self.streams:
+            os.ftruncate(stream, 0)
+            os.lseek(stream, 0, os.SEEK_SET)
+        os.pwrite(self.streams[0], octets, 0)
+        status = self.status(words)
+        return status, *(os.pread(stream, os.fstat(stream).st_size, 0) for stream in self.streams[1:])

@@ -7,7 +7,7 @@ fault is the length of the longest prefix that some record begins with.
 """
 import re
 from datetime import date
-from functools import cached_property
+from functools import cached_property, lru_cache
 
 NAME = rb'[!#-<>-\\^-~]{1,32}'
 VALUE = rb'(?:[^"\\\]]|\\.)*'
@@ -545,6 +545,15 @@ def archive_text(records):
     return counted(sorted(set(records), key=place))
 
 
+@lru_cache(maxsize=512)
+def entry_fault(octets, form):
+    """Why octets are no entry of an archive, with a place for where they stand; None where they are one."""
+    record = read(octets)
+    if isinstance(record, bytes):
+        return f"bad-entry {{at}} {record.decode()}"
+    return None if form(record) == octets else "not-canonical {at}"
+
+
 def archive_read(text, form=canonical):
     """The records of a text up to its first fault, in the text's order, and the fault, or None."""
     records, at = [], 0
@@ -558,11 +567,9 @@ def archive_read(text, form=canonical):
         if end > len(text):
             return records, f"bad-frame {len(text)}"
         octets = text[seen.end():end]
-        record = read(octets)
-        if isinstance(record, bytes):
-            return records, f"bad-entry {at} {record.decode()}"
-        if form(record) != octets:
-            return records, f"not-canonical {at}"
+        fault = entry_fault(octets, form)
+        if fault:
+            return records, fault.format(at=at)
         if records and place(octets) <= place(records[-1]):
             return records, f"not-ascending {at}"
         records.append(octets)
