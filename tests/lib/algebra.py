@@ -3,9 +3,14 @@ and the lines of `show --json`. Each answers status, output and notes."""
 import base64
 import hashlib
 import json
+from functools import lru_cache
 
 from lib.reference import (FACILITIES, MARK, SEVERITIES, Answers, Record, answer, archive_read, archive_text, instant, is_utf8, lines_of,
                            place, read, shown, timestamp)
+
+
+# what is known of records, which random archives have again and again
+reading, showing = lru_cache(maxsize=1_024)(read), lru_cache(maxsize=1_024)(shown)
 
 
 def met(texts):
@@ -47,7 +52,7 @@ def minus(left, right):
 
 
 def diff_lines(xs, ys):
-    return b"".join((b"< " if one in xs else b"> ") + shown(one) + b"\n" for one in sorted(xs ^ ys, key=place))
+    return b"".join((b"< " if one in xs else b"> ") + showing(one) + b"\n" for one in sorted(xs ^ ys, key=place))
 
 
 def diff(left, right):
@@ -71,7 +76,7 @@ class Conditions:
         return words
 
     def hold(self, octets):
-        record, given = read(octets), self.given
+        record, given = reading(octets), self.given
         assert isinstance(record, Record)
         begin, end = (instant(given[name].encode()) if name in given else None for name in ("from", "to"))
         if record.micros is None:
@@ -127,6 +132,7 @@ def word_json(word):
     return "null" if word == b"-" else text_json(word.decode())
 
 
+@lru_cache(maxsize=1_024)
 def record_json(record):
     """The line of a record."""
     pairs = [("priority", str(record.priority)), ("facility", text_json(FACILITIES[record.priority // 8])),
@@ -152,6 +158,6 @@ def record_json(record):
 
 def show_json(octets, framing="counted"):
     """What `show --json` answers."""
-    answers = Answers(octets, framing)
+    answers = Answers(octets, framing, reading)
     refused = answers.refused()
     return answer(b"".join(record_json(one) for _, one in answers.records()), lines_of(refused), refused)

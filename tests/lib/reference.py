@@ -554,27 +554,28 @@ def entry_fault(octets, form):
     return None if form(record) == octets else "not-canonical {at}"
 
 
+@lru_cache(maxsize=4)
 def archive_read(text, form=canonical):
     """The records of a text up to its first fault, in the text's order, and the fault, or None."""
     records, at = [], 0
     while at < len(text):
         seen = COUNT.match(text, at)
         if not seen:
-            return records, f"bad-frame {COUNT_PREFIX.match(text, at).end()}"
+            return tuple(records), f"bad-frame {COUNT_PREFIX.match(text, at).end()}"
         end = seen.end() + int(seen.group(1))
         if end - seen.end() > ENTRY_MAX:
-            return records, f"entry-too-long {at}"
+            return tuple(records), f"entry-too-long {at}"
         if end > len(text):
-            return records, f"bad-frame {len(text)}"
+            return tuple(records), f"bad-frame {len(text)}"
         octets = text[seen.end():end]
         fault = entry_fault(octets, form)
         if fault:
-            return records, fault.format(at=at)
+            return tuple(records), fault.format(at=at)
         if records and place(octets) <= place(records[-1]):
-            return records, f"not-ascending {at}"
+            return tuple(records), f"not-ascending {at}"
         records.append(octets)
         at = end
-    return records, None
+    return tuple(records), None
 
 
 def merge(left, right):
