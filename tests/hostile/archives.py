@@ -122,8 +122,9 @@ def main(words):
     results, begun = Results(), time.monotonic()
 
     def told(played):
-        if played % 10_000 == 0:
-            print(f"{played} rounds, {time.monotonic() - begun:.0f} seconds", file=sys.stderr, flush=True)
+        if played % 1_000 == 0:
+            print(f"{played} rounds: {results.passed} passed, {results.failed} failed, in {time.monotonic() - begun:.0f} seconds",
+                  file=sys.stderr, flush=True)
 
     with tempfile.TemporaryDirectory(dir="/dev/shm" if Path("/dev/shm").is_dir() else None) as path:
         folder = Folder(path)
