@@ -9,7 +9,10 @@ package syslogbox
 import "C"
 
 import (
+	"bufio"
 	"fmt"
+	"io"
+	"time"
 	"unsafe"
 )
 
@@ -19,7 +22,7 @@ type Kind uint32
 // Field says where: a number of enum syslogbox_field.
 type Field uint32
 
-// The kinds of faults.
+// The kinds of faults; the header of the library says what each means.
 const (
 	Syntax       Kind = C.SYSLOGBOX_SYNTAX
 	InstantRange Kind = C.SYSLOGBOX_INSTANT_RANGE
@@ -33,7 +36,58 @@ const (
 	NoRoom       Kind = C.SYSLOGBOX_NO_ROOM
 	NoMemory     Kind = C.SYSLOGBOX_NO_MEMORY
 	BadClock     Kind = C.SYSLOGBOX_BAD_CLOCK
+	NoElement    Kind = C.SYSLOGBOX_NO_ELEMENT
+	NoParam      Kind = C.SYSLOGBOX_NO_PARAM
 )
+
+// The fields of RFC 5424, section 6, and which of two archives.
+const (
+	NoField             Field = C.SYSLOGBOX_NO_FIELD
+	FieldPriority       Field = C.SYSLOGBOX_PRIORITY
+	FieldVersion        Field = C.SYSLOGBOX_VERSION
+	FieldTimestamp      Field = C.SYSLOGBOX_TIMESTAMP
+	FieldHostname       Field = C.SYSLOGBOX_HOSTNAME
+	FieldAppName        Field = C.SYSLOGBOX_APP_NAME
+	FieldProcID         Field = C.SYSLOGBOX_PROC_ID
+	FieldMsgID          Field = C.SYSLOGBOX_MSG_ID
+	FieldStructuredData Field = C.SYSLOGBOX_STRUCTURED_DATA
+	FieldMessage        Field = C.SYSLOGBOX_MESSAGE
+	Left                Field = C.SYSLOGBOX_LEFT
+	Right               Field = C.SYSLOGBOX_RIGHT
+)
+
+// The most octets of a record in a frame that the program reads, and of one in an archive.
+const (
+	FrameMax = C.SYSLOGBOX_FRAME_MAX
+	EntryMax = C.SYSLOGBOX_ENTRY_MAX
+)
+
+var kinds = map[Kind]string{
+	Syntax: "syntax", InstantRange: "instant out of range", RepeatedID: "repeated id", NotUTF8: "no UTF-8",
+	BadFrame: "bad frame", EntryTooLong: "entry too long", BadEntry: "entry that is no record",
+	NotCanonical: "entry that is not canonical", NotAscending: "entry that does not ascend", NoRoom: "no room",
+	NoMemory: "no memory", BadClock: "bad clock", NoElement: "no such element", NoParam: "no such parameter",
+}
+
+var fields = map[Field]string{
+	FieldPriority: "priority", FieldVersion: "version", FieldTimestamp: "timestamp", FieldHostname: "hostname",
+	FieldAppName: "app-name", FieldProcID: "procid", FieldMsgID: "msgid", FieldStructuredData: "structured-data",
+	FieldMessage: "message", Left: "left archive", Right: "right archive",
+}
+
+func (k Kind) String() string {
+	if name, known := kinds[k]; known {
+		return name
+	}
+	return fmt.Sprintf("kind %d", uint32(k))
+}
+
+func (f Field) String() string {
+	if name, known := fields[f]; known {
+		return name
+	}
+	return fmt.Sprintf("field %d", uint32(f))
+}
 
 // Fault says why octets are refused: what is wrong, where, and at which octet from 0 on.
 type Fault struct {
@@ -43,7 +97,10 @@ type Fault struct {
 }
 
 func (f *Fault) Error() string {
-	return fmt.Sprintf("syslogbox: kind %d, field %d, octet %d", f.Kind, f.Field, f.Offset)
+	if f.Field == NoField {
+		return fmt.Sprintf("syslogbox: %v at octet %d", f.Kind, f.Offset)
+	}
+	return fmt.Sprintf("syslogbox: %v: %v at octet %d", f.Field, f.Kind, f.Offset)
 }
 
 // Framing says how records are framed on a stream (RFC 6587).
@@ -66,8 +123,11 @@ func faultOf(f *C.struct_syslogbox_fault) *Fault {
 	return &Fault{Kind(f.kind), Field(f.field), uint64(f.offset)}
 }
 
+// writing is a call that writes into a room.
+type writing func(out *C.uint8_t, room C.size_t, fault *C.struct_syslogbox_fault) C.int64_t
+
 // text gives what a call wrote into a room.
-func text(room int, call func(out *C.uint8_t, room C.size_t, fault *C.struct_syslogbox_fault) C.int64_t) ([]byte, error) {
+func text(room int, call writing) ([]byte, error) {
 	out := make([]byte, room)
 	var fault C.struct_syslogbox_fault
 	n := call(octets(out), C.size_t(len(out)), &fault)
@@ -127,6 +187,11 @@ type Record struct {
 	Message                          []byte // without the BOM
 }
 
+// Time gives the instant in UTC; false where the record has none.
+func (r *Record) Time() (time.Time, bool) {
+	return time.UnixMicro(r.Micros).UTC(), r.HasTime
+}
+
 func cut(record []byte, s C.struct_syslogbox_span) []byte {
 	return record[s.offset : s.offset+s.len]
 }
@@ -178,16 +243,37 @@ func View(record []byte) (*Record, error) {
 	return r, nil
 }
 
+// CountError says that no count of a frame goes on with an octet: its offset in the piece.
+type CountError struct{ Offset int }
+
+func (e *CountError) Error() string {
+	return fmt.Sprintf("syslogbox: no count goes on with octet %d", e.Offset)
+}
+
 // Next gives the next frame of a stream that begins with the piece, and how many octets it takes; 0 where none is whole
-// yet, and an error where no frame begins so.
+// yet, and a *CountError where no frame begins so.
 func Next(framing Framing, piece []byte) (frame []byte, taken int, err error) {
 	var start, end C.size_t
 	n := C.syslogbox_frame(C.int(framing), octets(piece), C.size_t(len(piece)), &start, &end)
-	if n < 0 {
-		return nil, 0, fmt.Errorf("syslogbox: no frame goes on with octet %d", int(start))
-	}
-	if n == 0 {
+	switch {
+	case n == -2:
+		return nil, 0, fmt.Errorf("syslogbox: there is no framing %d", int(framing))
+	case n < 0:
+		return nil, 0, &CountError{int(start)}
+	case n == 0:
 		return nil, 0, nil
 	}
 	return piece[start:end], int(n), nil
+}
+
+// Split gives a function by which a bufio.Scanner goes over the frames of a stream; its Buffer sets how long one may
+// be. A stream that ends inside a frame is io.ErrUnexpectedEOF.
+func Split(framing Framing) bufio.SplitFunc {
+	return func(piece []byte, atEnd bool) (int, []byte, error) {
+		frame, taken, err := Next(framing, piece)
+		if err == nil && taken == 0 && atEnd && len(piece) > 0 {
+			err = io.ErrUnexpectedEOF
+		}
+		return taken, frame, err
+	}
 }

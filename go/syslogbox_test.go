@@ -4,7 +4,9 @@ import (
 	"bufio"
 	"bytes"
 	"encoding/hex"
+	"errors"
 	"fmt"
+	"io"
 	"os"
 	"strings"
 	"testing"
@@ -42,9 +44,64 @@ func TestFrames(t *testing.T) {
 	if _, taken, err = Next(LF, nil); taken != 0 || err != nil {
 		t.Fatal(taken, err)
 	}
-	if _, _, err = Next(Counted, []byte("x")); err == nil {
-		t.Fatal("a bad count was taken")
+	var refused *CountError
+	if _, _, err = Next(Counted, []byte("12x")); !errors.As(err, &refused) || refused.Offset != 2 {
+		t.Fatal(err)
 	}
+	if _, _, err = Next(3, []byte("x")); err == nil {
+		t.Fatal("there is no such framing")
+	}
+}
+
+func TestSplit(t *testing.T) {
+	long := "100000 " + strings.Repeat("x", 100_000)
+	for _, row := range []struct {
+		stream string
+		count  int
+		err    error
+	}{
+		{"", 0, nil}, {long, 1, nil}, {"3 abc" + long, 2, nil}, {long + "4 de", 1, io.ErrUnexpectedEOF},
+		{"1 ax", 1, &CountError{}},
+	} {
+		frames := bufio.NewScanner(strings.NewReader(row.stream))
+		frames.Buffer(nil, FrameMax+16)
+		frames.Split(Split(Counted))
+		count := 0
+		for frames.Scan() {
+			count++
+		}
+		if count != row.count || fmt.Sprint(frames.Err()) != fmt.Sprint(row.err) {
+			t.Fatalf("%.20q: %d %v", row.stream, count, frames.Err())
+		}
+	}
+	lines := bufio.NewScanner(strings.NewReader("a\n\nb\n"))
+	lines.Split(Split(LF))
+	for _, right := range []string{"a", "", "b"} {
+		if !lines.Scan() || lines.Text() != right {
+			t.Fatalf("%q for %q", lines.Text(), right)
+		}
+	}
+	if lines.Scan() || lines.Err() != nil {
+		t.Fatal(lines.Err())
+	}
+}
+
+func ExampleCheck() {
+	fmt.Println(Check(hello))
+	fmt.Println(Check([]byte("<0>1")))
+	// Output:
+	// <nil>
+	// syslogbox: version: syntax at octet 4
+}
+
+func ExampleView() {
+	record, err := View([]byte("<165>1 2003-10-11T22:14:15.003Z host app - - - hi"))
+	if err != nil {
+		panic(err)
+	}
+	time, _ := record.Time()
+	fmt.Println(record.Hostname, record.AppName, time)
+	// Output: host app 2003-10-11 22:14:15.003 +0000 UTC
 }
 
 func TestUnion(t *testing.T) {

@@ -2,6 +2,7 @@
 rows and random octets, with rooms that are an octet too small, and with null pointers."""
 import ast
 import contextlib
+import ctypes
 import doctest
 import importlib
 import io
@@ -172,7 +173,28 @@ def in_python(program, results, folder, frames, answers):
     results.check("Python: the module's examples", doctest.testmod(module).failed == 0)
     python_streams(results, module, some)
     python_checks(results, module, frames, answers)
+    all_checked(results, module, frames, answers)
+    version = run("sh", [ROOT / "scripts/version.sh"])[1].decode().strip()
+    results.check("Python: the version is the program's", module.__version__ == version, f"{module.__version__} for {version}")
     python_logging(program, results, folder, module)
+
+
+def all_checked(results, module, frames, answers):
+    """The records of a list that are none, with line feeds and without octets too."""
+    lines = b"<0>1 - - - - - -\n<0>1 - - - - - -"
+    frames, answers = [b"", lines, *frames], [(1, 1, 0), (1, 8, 16), *answers]
+    for name, rows in [("all", list(zip(frames, answers))), ("without line feeds", [row for row in zip(frames, answers) if b"\n" not in row[0]]),
+                       ("records", [row for row in zip(frames, answers) if isinstance(row[1], bytes)])]:
+        right = [(n, *answer) for n, (_, answer) in enumerate(rows) if not isinstance(answer, bytes)]
+        seen = [(n, fault.kind, fault.field, fault.offset) for n, fault in module.check_all(frame for frame, _ in rows)]
+        results.check(f"Python: many are checked, {name}", seen == right, f"{len(seen)} for {len(right)}")
+    results.check("Python: none are checked", list(module.check_all([])) == [])
+    for call in (module.check, module.is_record, module.canonical, module.view):
+        try:
+            call("<0>1 - - - - - -")
+            results.check(f"Python: {call.__name__} refuses a str", False)
+        except (TypeError, ctypes.ArgumentError):
+            results.check(f"Python: {call.__name__} refuses a str", True)
 
 
 def python_checks(results, module, frames, answers):
