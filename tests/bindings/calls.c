@@ -6,6 +6,7 @@
  *   calls frames FRAMING FILE       prints for each frame of a stream what `check` prints of it
  *   calls union LEFT RIGHT          writes the union of two archives, or prints its fault
  *   calls nulls                     null pointers with a length of 0
+ *   calls memory                    prints which calls fail for memory, under a malloc that fails (tests/lib/shim.c)
  *
  * Octets stand right before memory that may not be touched, so that an octet too far ends the run; each call gets a room that is just
  * large enough, one that is larger and one that is an octet too small. The first answer that is wrong is printed, and the status is 1.
@@ -16,6 +17,7 @@
 #include <string.h>
 #include <sys/mman.h>
 #include <syslogbox.h>
+#include <unistd.h>
 
 #define EXPECT(holds)                                                        \
     do {                                                                     \
@@ -419,6 +421,42 @@ static void nulls(void)
     writes(legacy, &packet, (struct octets){.at = (uint8_t *)nil, .len = sizeof nil - 1});
 }
 
+/* A call that takes memory answers; or it fails for that alone, leaves its room, and its name is printed. */
+static void takes_memory(const char *name, writing *call, const void *input)
+{
+    struct syslogbox_fault fault = {0, 0, 0};
+    struct octets out = of_length(PAGE);
+
+    if (call(input, out.at, out.len, &fault) < 0) {
+        EXPECT(is_fault(fault, SYSLOGBOX_NO_MEMORY, 0, 0) && is_filled(out.at, out.len));
+        /* printf would take memory too */
+        EXPECT(write(1, name, strlen(name)) == (ssize_t)strlen(name));
+    }
+    release(out);
+}
+
+static void memory(void)
+{
+    static const char text[] = "<13>1 2026-11-25T10:00:00+01:00 h a 1 m [b l=\"\"][a k=\"\\\"v\"] x";
+    static const char entry[] = "16 <0>1 - - - - - -";
+    struct octets record = {.at = (uint8_t *)text, .len = sizeof text - 1}, raw = {.at = (uint8_t *)"\\\"v", .len = 3};
+    struct octets both[2] = {{.at = (uint8_t *)entry, .len = sizeof entry - 1}, {.at = (uint8_t *)entry, .len = sizeof entry - 1}};
+    struct packet packet = {2003, 0, {.at = (uint8_t *)"<13>Oct 11 22:14:15 h a[1]: x", .len = 29}};
+    struct syslogbox_parts p;
+    struct syslogbox_element e;
+    struct syslogbox_param q;
+    size_t start, end;
+
+    EXPECT(syslogbox_check(record.at, record.len, NULL) && syslogbox_view(record.at, record.len, &p, NULL) && p.elements == 2);
+    EXPECT(syslogbox_element(record.at, record.len, 1, &e, NULL) && syslogbox_param(record.at, record.len, 1, 0, &q, NULL));
+    EXPECT(syslogbox_frame(SYSLOGBOX_COUNTED, both->at, both->len, &start, &end) == 19);
+    EXPECT(syslogbox_pass(SYSLOGBOX_COUNTED, both->at, both->len, &start) == 19 && start == 1);
+    takes_memory("canonical\n", canonical, &record);
+    takes_memory("value\n", value, &raw);
+    takes_memory("union\n", joined, both);
+    takes_memory("legacy\n", legacy, &packet);
+}
+
 int main(int argc, char **argv)
 {
     const char *mode = argc > 1 ? argv[1] : "";
@@ -438,6 +476,8 @@ int main(int argc, char **argv)
         unite(argv[2], argv[3]);
     } else if (!strcmp(mode, "nulls")) {
         nulls();
+    } else if (!strcmp(mode, "memory")) {
+        memory();
     } else {
         return 2;
     }

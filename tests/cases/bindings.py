@@ -84,6 +84,22 @@ def in_c(program, results, folder, frames, answers):
         results.same(f"C: packets of {year}", run(calls, ["legacy", str(year), str(minutes), packed]), (0, b"", b""))
     streams(program, results, folder, calls, frames)
     unions(program, results, folder, calls)
+    without_memory(program, results, folder)
+
+
+def without_memory(program, results, folder):
+    """Each call of malloc fails in turn: one call of the library fails for it, and those that take no memory never do."""
+    calls, built, said = compiled(folder, "unsanitized", [ROOT / "tests/bindings/calls.c"], "-O1")
+    results.check("C: the calls are compiled without sanitizers", built, said)
+    refused = []
+    while built:
+        status, name, notes = run(calls, ["memory"], environment=program.failing(malloc=len(refused) + 1))
+        if (status, name, notes) == (0, b"", b""):
+            break
+        refused.append(name)
+        results.check(f"C: allocation {len(refused)}", status == 0 and name.count(b"\n") == 1, f"{status} {name} {notes}")
+        built = status == 0
+    results.check("C: memory is refused", sorted(set(refused)) == [b"canonical\n", b"legacy\n", b"union\n", b"value\n"], str(refused))
 
 
 def streams(program, results, folder, calls, frames):
@@ -314,10 +330,12 @@ def in_go(results, folder, frames, answers):
     to = folder.path / "prefix"
     subprocess.run(["sh", "scripts/library.sh", to], cwd=ROOT, check=True, stdout=subprocess.DEVNULL)
     subprocess.run(["sh", "scripts/install-library.sh", to], cwd=ROOT, check=True)
-    environment = {"PKG_CONFIG_PATH": str(to / "lib/pkgconfig"), "LD_LIBRARY_PATH": str(to / "lib"), "GOFLAGS": "-mod=mod",
-                   "SYSLOGBOX_ANSWERS": written(folder, "records", frames, answers)}
-    status, output, notes = run("go", ["test", "-count=1", "./..."], environment=environment, cwd=ROOT / "go")
-    results.check("Go: its tests pass", status == 0, (output + notes)[-400:].decode(errors="replace"))
+    # go keeps what pkg-config told for another folder, but for other flags of its own
+    environment = {"PKG_CONFIG_PATH": str(to / "lib/pkgconfig"), "LD_LIBRARY_PATH": str(to / "lib"), "CGO_LDFLAGS": f"-L{to}/lib",
+                   "GOFLAGS": "-mod=mod", "SYSLOGBOX_ANSWERS": written(folder, "records", frames, answers)}
+    for words in (["vet", "./..."], ["test", "-count=1", "./..."]):
+        status, output, notes = run("go", words, environment=environment, cwd=ROOT / "go", timeout=300)
+        results.check(f"Go: go {words[0]}", status == 0, (output + notes)[-400:].decode(errors="replace"))
 
 
 def examples(program, results, folder, frames):
