@@ -1,10 +1,12 @@
 """Runs the commands on archives as sets on random archives, beside the second reader.
 
-Each round has three archives of a few records of one small pool, so that they have some in common. Most rounds draw them
-anew, half of them right and half of them hostile; one draw in two thousand is of right ones, one of which is then broken at
-every octet in turn, each way a round of its own. Each round goes through merge, common, minus and diff of two, union of
-three, and select, digest and show --json of one; and the status, the output and the notes are compared, octet by octet,
-with what the rules give. The same seed gives the same rounds.
+Each round has three archives of a few records of one small pool, so that they have some in common. Most rounds draw
+them anew, half of them right and half of them hostile; one draw in two thousand is of right ones, one of which is then
+broken at every octet in turn, each way a round of its own. Each round goes through merge, common, minus and diff of
+two, union of three, and select, digest and show --json of one; and the status, the output and the notes are compared,
+octet by octet, with what the rules give. The same seed gives the same rounds.
+
+One process of the program makes all runs (tests/lib/resident.c), so that a round takes some milliseconds.
 """
 import argparse
 import itertools
@@ -22,17 +24,17 @@ from lib.results import Results
 
 PAIRS = {"merge": reference.merge, "common": second.common, "minus": second.minus, "diff": second.diff}
 TIMES = ["-", "0000-01-01T00:00:00.000000Z", "1969-12-31T23:59:59.999999Z", "2026-11-24T23:59:59.999999Z",
-         "2026-11-25T00:00:00.000000Z", "2026-11-25T10:00:00.000000Z", "2026-11-25T10:59:59.999999Z", "2026-12-01T00:00:00.000000Z",
-         "9999-12-31T23:59:59.999999Z"]
+         "2026-11-25T00:00:00.000000Z", "2026-11-25T10:00:00.000000Z", "2026-11-25T10:59:59.999999Z",
+         "2026-12-01T00:00:00.000000Z", "9999-12-31T23:59:59.999999Z"]
 BOUNDS = [*TIMES[1:], "2026-11-25T01:00:00+01:00", "2026-11-25T10:30:00Z", "2026-11-25T10:30:00.5-00:30"]
 # records of all times, with what conditions ask for
 POOL = [canonical(read(f"<{priority}>1 {time} {words} {data}{message}".encode()))
         for time in TIMES for priority, words, data, message in [
-            (0, "- - - -", "-", ""), (13, "h a 1 m", "[b]", " x"), (14, "h - - -", "[a k=\"v\"][b]", " \n"), (191, "g a - m", "-", " é"),
-            (30, "h b 2 -", "[-]", "")]]
-CONDITIONS = {"undated": [True], "severity": ["emerg", "err", "notice", "info", "debug"], "facility": ["kern", "user", "local7", "daemon"],
-              "host": ["h", "g", "-", "x"], "app": ["a", "b", "-"], "proc": ["1", "2", "-"], "msgid": ["m", "-"],
-              "id": ["a", "b", "-", "c"]}
+            (0, "- - - -", "-", ""), (13, "h a 1 m", "[b]", " x"), (14, "h - - -", "[a k=\"v\"][b]", " \n"),
+            (191, "g a - m", "-", " é"), (30, "h b 2 -", "[-]", "")]]
+CONDITIONS = {"undated": [True], "severity": ["emerg", "err", "notice", "info", "debug"],
+              "facility": ["kern", "user", "local7", "daemon"], "host": ["h", "g", "-", "x"], "app": ["a", "b", "-"],
+              "proc": ["1", "2", "-"], "msgid": ["m", "-"], "id": ["a", "b", "-", "c"]}
 SWEEP = 2_000  # of so many draws, one is broken at every octet
 LONGEST = 150  # octets of a hostile record
 
@@ -123,7 +125,8 @@ def main(words):
 
     def told(played):
         if played % 1_000 == 0:
-            print(f"{played} rounds: {results.passed} passed, {results.failed} failed, in {time.monotonic() - begun:.0f} seconds",
+            seconds = time.monotonic() - begun
+            print(f"{played} rounds: {results.passed} passed, {results.failed} failed, in {seconds:.0f} seconds",
                   file=sys.stderr, flush=True)
 
     with tempfile.TemporaryDirectory(dir="/dev/shm" if Path("/dev/shm").is_dir() else None) as path:

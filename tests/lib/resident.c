@@ -1,8 +1,8 @@
 /* Preloaded before a program: its main runs again and again in one process.
 
-   RESIDENT has the numbers of two descriptors, "ASKS ANSWERS". From ASKS come the words of each run, its own name first:
-   their length as a size_t, and then each with a null octet behind it. Its status goes to ANSWERS as an int. At the end of
-   ASKS the process ends. What main has freed stays in the process, so that it finds memory that is not zero.
+   RESIDENT has the numbers of two descriptors, "ASKS ANSWERS". From ASKS come the words of each run, its own name
+   first: their length as a size_t, and then each with a null octet behind it. Its status goes to ANSWERS as an int. At
+   the end of ASKS the process ends. What main has freed stays in the process, so that it finds memory that is not zero.
 
    The program may keep the array of words that it was started with, so those of each run are put there: it is started
    with as many as a run has at most.
@@ -51,8 +51,11 @@ static int again(int argc, char **argv, char **environment) {
   return 0;
 }
 
-int __libc_start_main(entry *main, int argc, char **argv, void (*init)(void), void (*fini)(void), void (*unload)(void), void *stack) {
-  int (*next)(entry *, int, char **, void (*)(void), void (*)(void), void (*)(void), void *) = dlsym(RTLD_NEXT, "__libc_start_main");
+typedef void hook(void);
+typedef int starting(entry *, int, char **, hook *, hook *, hook *, void *);
+
+int __libc_start_main(entry *main, int argc, char **argv, hook *init, hook *fini, hook *unload, void *stack) {
+  starting *next = (starting *)dlsym(RTLD_NEXT, "__libc_start_main");
   first = main;
   return next(again, argc, argv, init, fini, unload, stack);
 }
