@@ -25,7 +25,7 @@ import time as clock
 from dataclasses import dataclass, field
 from datetime import datetime, timedelta, timezone
 from pathlib import Path
-from typing import BinaryIO, Callable, Iterable, Iterator, List, Mapping, Optional, Tuple
+from typing import Any, BinaryIO, Callable, Dict, Iterable, Iterator, List, Mapping, Optional, Tuple, Type
 
 __all__ = ["ENTRY_MAX", "FRAME_MAX", "ArchiveError", "Element", "Field", "Formatter", "Framing", "Handler", "Kind", "PacketError",
            "Record", "RecordError", "StreamError", "SyslogError", "canonical", "check", "check_all", "check_stream", "framed",
@@ -167,7 +167,7 @@ def _path() -> str:
 _OCTETS, _SIZE, _POINTER = ctypes.c_char_p, ctypes.c_size_t, ctypes.c_void_p
 
 
-def _call(name: str, result: object, *arguments: object, library: Optional[ctypes.CDLL] = None) -> Callable[..., int]:
+def _call(name: str, result: Any, *arguments: Any, library: Optional[ctypes.CDLL] = None) -> Callable[..., int]:
     function = (library or _library)[f"syslogbox_{name}"]  # each time another object, with types of its own
     function.restype, function.argtypes = result, arguments
     return function
@@ -190,19 +190,19 @@ _union = _call("union", ctypes.c_int64, _OCTETS, _SIZE, _OCTETS, _SIZE, _POINTER
 _legacy = _call("legacy", ctypes.c_int64, ctypes.c_int, ctypes.c_int, _OCTETS, _SIZE, _POINTER, _SIZE, _POINTER)
 
 
-def _raise(error: type, fault: _Fault) -> None:
+def _raise(error: Type[SyslogError], fault: _Fault) -> None:
     if fault.kind == Kind.NO_MEMORY:
         raise MemoryError("libsyslogbox is out of memory")
     raise error(fault.kind, fault.field, fault.offset)
 
 
-def _text(error: type, call: Callable[..., int], room: int, *arguments: object) -> bytes:
+def _text(error: Type[SyslogError], call: Callable[..., int], room: int, *arguments: object) -> bytes:
     """What a call writes, into so much room."""
     out, fault = ctypes.create_string_buffer(max(room, 1)), _Fault()
     written = call(*arguments, out, room, ctypes.byref(fault))
     if written < 0:
         _raise(error, fault)
-    return out.raw[:written]
+    return out[:written]
 
 
 # ---- records
@@ -279,9 +279,9 @@ class Record:
         """The message as text; octets that are no UTF-8 are replaced."""
         return self.message.decode("utf-8", "replace")
 
-    def asdict(self) -> dict:
+    def asdict(self) -> Dict[str, Any]:
         """The parts by the keys of `syslogbox show --json`, with the instant in microseconds as `micros`."""
-        data: dict = {element.id: [list(param) for param in element.params] for element in self.elements}
+        data = {element.id: [list(param) for param in element.params] for element in self.elements}
         return {"priority": self.priority, "facility": self.facility, "severity": self.severity, "micros": self.micros,
                 "host": self.hostname, "app": self.app_name, "proc": self.proc_id, "msgid": self.msg_id, "data": data,
                 "message": self.message, "bom": self.bom}
@@ -387,11 +387,16 @@ class _Stream:
                 return False
 
 
+def _address(octets: bytes) -> int:
+    """Where octets stand in memory, as long as they are held."""
+    return ctypes.cast(_OCTETS(octets), _POINTER).value or 0
+
+
 def _bounds(held: bytes, framing: int) -> Iterator[Tuple[int, int, int, int]]:
     """Of each frame how many octets it takes, where it begins on the stream, and its own first and last; and at last of
     what is no whole frame."""
     start, end = ctypes.c_size_t(), ctypes.c_size_t()
-    address = ctypes.cast(held, _POINTER).value or 0
+    address = _address(held)
     at, taken = 0, 1
     while taken > 0:
         taken = _frame(framing, address + at, len(held) - at, ctypes.byref(start), ctypes.byref(end))
@@ -445,7 +450,7 @@ def check_stream(stream: bytes, framing: Framing = Framing.COUNTED) -> Iterator[
     on or the stream ends inside one.
     """
     count, start, end = ctypes.c_size_t(), ctypes.c_size_t(), ctypes.c_size_t()
-    framing, address = Framing(framing), ctypes.cast(stream, _POINTER).value or 0
+    framing, address = Framing(framing), _address(stream)
     at, number, taken = 0, 0, 1
     while taken > 0:
         at += _pass(framing, address + at, len(stream) - at, ctypes.byref(count))
@@ -536,7 +541,7 @@ class Formatter(logging.Formatter):
     @staticmethod
     def _data(record: logging.LogRecord) -> bytes:
         elements: Mapping[str, Mapping[str, object]] = getattr(record, "structured_data", None) or {}
-        by_id: dict = {}
+        by_id: Dict[str, List[Tuple[str, object]]] = {}
         for name, params in elements.items():
             by_id.setdefault(_UNNAMED.sub("_", name)[:32] or "_", []).extend(params.items())
         text = "".join(
@@ -562,9 +567,15 @@ class Handler(logging.Handler):
         self.file, self.framing = file, framing
         self.setFormatter(formatter or Formatter())
 
+    def setFormatter(self, fmt: Optional[logging.Formatter]) -> None:
+        if not isinstance(fmt, Formatter):
+            raise TypeError("the formatter is a syslogbox.Formatter")
+        super().setFormatter(fmt)
+        self.octets = fmt.octets
+
     def emit(self, record: logging.LogRecord) -> None:
         try:
-            octets = self.formatter.octets(record)
+            octets = self.octets(record)
             if self.framing == Framing.LF:
                 # a line has no line feed: those of a message of many lines become spaces
                 octets = octets.replace(b"\n", b" ")
