@@ -25,7 +25,7 @@ import time as clock
 from dataclasses import dataclass, field
 from datetime import datetime, timedelta, timezone
 from pathlib import Path
-from typing import Any, BinaryIO, Callable, Dict, Iterable, Iterator, List, Mapping, Optional, Tuple, Type
+from typing import Any, BinaryIO, Callable, Dict, Iterable, Iterator, List, Mapping, Optional, Tuple, Type, cast
 
 __all__ = ["ENTRY_MAX", "FRAME_MAX", "ArchiveError", "Element", "Field", "Formatter", "Framing", "Handler", "Kind", "PacketError",
            "Record", "RecordError", "StreamError", "SyslogError", "canonical", "check", "check_all", "check_stream", "framed",
@@ -202,7 +202,7 @@ def _text(error: Type[SyslogError], call: Callable[..., int], room: int, *argume
     written = call(*arguments, out, room, ctypes.byref(fault))
     if written < 0:
         _raise(error, fault)
-    return out[:written]
+    return cast(bytes, out[:written])
 
 
 # ---- records
