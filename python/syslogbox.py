@@ -25,7 +25,7 @@ import time as clock
 from dataclasses import dataclass, field
 from datetime import datetime, timedelta, timezone
 from pathlib import Path
-from typing import Any, BinaryIO, Callable, Dict, Iterable, Iterator, List, Mapping, Optional, Tuple, Type, cast
+from typing import Any, BinaryIO, Callable, Dict, Iterable, Iterator, List, Mapping, Optional, Tuple, Type
 
 __all__ = ["ENTRY_MAX", "FRAME_MAX", "ArchiveError", "Element", "Field", "Formatter", "Framing", "Handler", "Kind", "PacketError",
            "Record", "RecordError", "StreamError", "SyslogError", "canonical", "check", "check_all", "check_stream", "framed",
@@ -198,11 +198,12 @@ def _raise(error: Type[SyslogError], fault: _Fault) -> None:
 
 def _text(error: Type[SyslogError], call: Callable[..., int], room: int, *arguments: object) -> bytes:
     """What a call writes, into so much room."""
-    out, fault = ctypes.create_string_buffer(max(room, 1)), _Fault()
-    written = call(*arguments, out, room, ctypes.byref(fault))
+    # an array of ctypes would need a type of its own for each length
+    out, fault = bytearray(max(room, 1)), _Fault()
+    written = call(*arguments, ctypes.byref(ctypes.c_char.from_buffer(out)), room, ctypes.byref(fault))
     if written < 0:
         _raise(error, fault)
-    return cast(bytes, out[:written])
+    return bytes(memoryview(out)[:written])
 
 
 # ---- records
@@ -396,10 +397,11 @@ def _bounds(held: bytes, framing: int) -> Iterator[Tuple[int, int, int, int]]:
     """Of each frame how many octets it takes, where it begins on the stream, and its own first and last; and at last of
     what is no whole frame."""
     start, end = ctypes.c_size_t(), ctypes.c_size_t()
+    to_start, to_end = ctypes.byref(start), ctypes.byref(end)
     address = _address(held)
     at, taken = 0, 1
     while taken > 0:
-        taken = _frame(framing, address + at, len(held) - at, ctypes.byref(start), ctypes.byref(end))
+        taken = _frame(framing, address + at, len(held) - at, to_start, to_end)
         yield taken, at, at + start.value, at + end.value
         at += taken
 
