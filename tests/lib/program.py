@@ -94,7 +94,9 @@ class Resident(Program):
         os.close(answers)
 
     def end(self):
-        """Ends the process; gives its status."""
+        """Ends the process, if there is one; gives its status."""
+        if not self.process:
+            return None
         os.close(self.asks)
         os.close(self.answers)
         process, self.process = self.process, None
