@@ -12,6 +12,7 @@ import (
 	"bufio"
 	"fmt"
 	"io"
+	"math"
 	"time"
 	"unsafe"
 )
@@ -104,7 +105,7 @@ func (f *Fault) Error() string {
 }
 
 // Framing says how records are framed on a stream (RFC 6587).
-type Framing int
+type Framing int32
 
 // Octet counting (3.4.1), and lines (3.4.2).
 const (
@@ -153,10 +154,18 @@ func Canonical(record []byte) ([]byte, error) {
 	})
 }
 
+// number gives an int of C, which for one that has none is out of each call's range too.
+func number(n int) C.int {
+	if n < math.MinInt32 || n > math.MaxInt32 {
+		return math.MaxInt32
+	}
+	return C.int(n)
+}
+
 // Legacy gives the canonical form of the record that a packet is read as, in a year and so many minutes ahead of UTC.
 func Legacy(year, offsetMinutes int, packet []byte) ([]byte, error) {
 	return text(2*len(packet)+64, func(out *C.uint8_t, room C.size_t, fault *C.struct_syslogbox_fault) C.int64_t {
-		return C.syslogbox_legacy(C.int(year), C.int(offsetMinutes), octets(packet), C.size_t(len(packet)), out, room, fault)
+		return C.syslogbox_legacy(number(year), number(offsetMinutes), octets(packet), C.size_t(len(packet)), out, room, fault)
 	})
 }
 

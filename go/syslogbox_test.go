@@ -112,6 +112,20 @@ func TestUnion(t *testing.T) {
 	}
 }
 
+func TestLegacy(t *testing.T) {
+	packet := []byte("<13>Oct 11 22:14:15 h a[1]: x")
+	text, err := Legacy(2003, 120, packet)
+	if err != nil || string(text) != "<13>1 2003-10-11T20:14:15.000000Z h a 1 - - x" {
+		t.Fatalf("%q %v", text, err)
+	}
+	for _, clock := range [][2]int{{0, 0}, {9_999, 0}, {2003, 1_440}, {2003 + 1<<32, 0}, {2003, 1 << 32}, {-1 << 40, 0}} {
+		_, err := Legacy(clock[0], clock[1], packet)
+		if fault, refused := err.(*Fault); !refused || fault.Kind != BadClock {
+			t.Fatalf("%v: %v", clock, err)
+		}
+	}
+}
+
 // The answers of the program: a line a record, its octets in hexadecimal and "ok CANONICAL" or "KIND FIELD OFFSET".
 func TestAnswers(t *testing.T) {
 	path := os.Getenv("SYSLOGBOX_ANSWERS")
