@@ -165,7 +165,8 @@ func number(n int) C.int {
 // Legacy gives the canonical form of the record that a packet is read as, in a year and so many minutes ahead of UTC.
 func Legacy(year, offsetMinutes int, packet []byte) ([]byte, error) {
 	return text(2*len(packet)+64, func(out *C.uint8_t, room C.size_t, fault *C.struct_syslogbox_fault) C.int64_t {
-		return C.syslogbox_legacy(number(year), number(offsetMinutes), octets(packet), C.size_t(len(packet)), out, room, fault)
+		year, minutes := number(year), number(offsetMinutes)
+		return C.syslogbox_legacy(year, minutes, octets(packet), C.size_t(len(packet)), out, room, fault)
 	})
 }
 
