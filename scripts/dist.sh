@@ -45,7 +45,9 @@ tarball() {
     name=syslogbox-$version
     link "$dist/static" -static
     sh scripts/install.sh "$dist/static" "$dist/$name"
-    install -m 644 README.md CHANGELOG.md "$dist/$name/"
+    for page in README.md CHANGELOG.md docs/*.md docs/pictures/*.svg cluster/README.md; do
+        install -D -m 644 "$page" "$dist/$name/$page"
+    done
     (cd "$dist/$name" && find . -type f | sort | xargs sha256sum) > "$dist/sums"
     mv "$dist/sums" "$dist/$name/SHA256SUMS"
     settle "$dist/$name"

@@ -28,6 +28,7 @@ from cases.collect import collect
 from cases.commands import commands
 from cases.costs import costs
 from cases.descriptors import descriptors
+from cases.documents import documents
 from cases.legacy import legacy
 from cases.libraries import libraries
 from cases.mutated import mutated
@@ -39,10 +40,10 @@ from lib.program import Folder, Program
 from lib.results import Results
 
 PARTS = {part.__name__: part for part in
-         (commands, mutated, sending, legacy, collect, sockets, descriptors, archives, algebra, auditing, bindings, verdicts, costs,
-          libraries, soak)}
-ALONE = {"soak": "hostile.soak", "algebra": "hostile.archives", "mutants": "mutants.run", "senders": "peers.senders", "load": "peers.load",
-         "cluster": "peers.cluster"}
+         (commands, mutated, sending, legacy, collect, sockets, descriptors, archives, algebra, auditing, documents, bindings,
+          verdicts, costs, libraries, soak)}
+ALONE = {"soak": "hostile.soak", "algebra": "hostile.archives", "mutants": "mutants.run", "senders": "peers.senders",
+         "load": "peers.load", "cluster": "peers.cluster"}
 
 
 def main(words):

@@ -1,7 +1,7 @@
 """docs/AUDITING.md: its commands, run as they stand, print what it says."""
 import re
-import subprocess
 
+from lib import tours
 from lib.program import ROOT
 from lib.reference import archive_text
 
@@ -12,23 +12,14 @@ THERE = b"<13>1 2026-11-25T10:40:00.000000Z h a - - - only there"
 
 
 def auditing(program, results):
-    folder = program.folder.path / "audit"
-    folder.mkdir(exist_ok=True)
+    folder, path = tours.folder_of(program, "audit")
     (folder / "here").write_bytes(archive_text(COMMON + [HERE]))
     (folder / "there").write_bytes(archive_text(COMMON + [THERE]))
-    (folder / "syslogbox").symlink_to(program.path)
-    steps = []  # a command, and the lines that are shown under it
-    for line in (ROOT / "docs" / "AUDITING.md").read_text().splitlines():
-        if line.startswith("    $ "):
-            steps.append((line[6:], []))
-        elif line.startswith("    ") and steps:
-            steps[-1][1].append(line[4:])
+    steps = tours.steps((ROOT / "docs/AUDITING.md").read_text())
     for command, shown in steps:
-        seen = subprocess.run(["bash", "-c", f'PATH="$PWD:$PATH"; {command}'], cwd=folder, capture_output=True, text=True)
-        status = 1 if command.startswith("syslogbox diff") else 0
-        results.check(f"AUDITING.md: {command}", seen.returncode == status and seen.stderr == "", f"{seen}")
-        if shown:
-            results.check(f"AUDITING.md shows what is printed: {command}", seen.stdout.splitlines() == shown, seen.stdout)
+        right = 1 if command.startswith("syslogbox diff") else 0
+        status, seen = tours.take(command, folder, path)
+        results.check(f"AUDITING.md shows what is printed: {command}", (status, seen) == (right, shown), f"{status} {seen}")
     whole = archive_text(COMMON + [HERE, THERE])
     results.check("AUDITING.md: both sites have all in the end",
                   len(steps) > 8 and [(folder / name).read_bytes() for name in ("whole", "whole.there")] == [whole] * 2)

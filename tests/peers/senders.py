@@ -6,7 +6,7 @@ archives of the ways are compared with one another, octet for octet; with --trim
 that was sent beside what came of it.
 
 The packages of Debian conflict with one another, so FOLDER may hold one or both of the daemons as `dpkg -x` unpacks them;
-what is not there is looked for on the path. What is found nowhere is skipped. docs/SENDERS.md has the output of a run.
+what is not there is looked for on the path. What is found nowhere is skipped. docs/SENDERS.md has what it tells.
 """
 import argparse
 import socket

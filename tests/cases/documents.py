@@ -1,0 +1,216 @@
+"""The documents: their links and anchors, the files, targets and commands that they name, their tours, their pictures, and the
+figures and the cases of README that a test can hold."""
+import fnmatch
+import json
+import os
+import re
+import subprocess
+from functools import cache
+from pathlib import Path
+from xml.etree import ElementTree
+
+from lib import reference, tours
+from lib.program import ROOT
+from lib.reference import archive_text
+from peers.records import PLAIN
+
+DOCUMENTS = [path for folder in (".", "docs", "cluster") for path in sorted((ROOT / folder).glob("*.md"))]
+TOURS = ["README.md", "docs/COMMANDS.md"]  # those that begin in an empty folder
+README_LINES, COLUMNS = 150, 120
+FENCED = re.compile(r"^```.*?^```$", re.MULTILINE | re.DOTALL)
+SPAN = re.compile(r"`([^`]+)`")
+LINK = re.compile(r"\[[^\]]*\]\(([^)\s]+)\)")
+PATH = re.compile(r"[\w.*-]+(/[\w.*-]+)*/?")
+SUFFIXES = (".rt", ".antt", ".py", ".sh", ".md", ".c", ".h", ".json", ".svg", ".jsonl")
+MADE = {"build", "out"}  # folders that are there only after a run
+PARTS_OF_A_CRATE = {"src", "specs", "proofs", "must-fail"}
+
+
+def name_of(document):
+    return str(document.relative_to(ROOT))
+
+
+@cache
+def prose(document):
+    """A document without its blocks of code."""
+    text = FENCED.sub("", document.read_text())
+    return "\n".join(line for line in text.splitlines() if not line.startswith("    "))
+
+
+def code(document):
+    """The lines of a document's blocks of code."""
+    text = document.read_text()
+    marked = [line for block in FENCED.findall(text) for line in block.splitlines()]
+    return marked + [line for line in text.splitlines() if line.startswith("    ")]
+
+
+@cache
+def files():
+    """The names of all files and folders of the repository, below a slash, but what runs have made."""
+    names = []
+    for folder, folders, inside in os.walk(ROOT):
+        folders[:] = [name for name in folders if name not in MADE | {".git"}]
+        names += [f"/{(Path(folder) / name).relative_to(ROOT)}" for name in folders + inside]
+    return names
+
+
+def headings(document):
+    """The anchors of a document, as they are made of its headings."""
+    titles = re.findall(r"^#+ (.*)$", FENCED.sub("", document.read_text()), re.MULTILINE)
+    return [re.sub(r"[^\w\- ]", "", title.lower()).replace(" ", "-") for title in titles]
+
+
+def links(results):
+    count = 0
+    for document in DOCUMENTS:
+        for link in LINK.findall(SPAN.sub("code", prose(document))):
+            if "://" in link:
+                continue
+            count += 1
+            name, _, anchor = link.partition("#")
+            target = (document.parent / name).resolve() if name else document
+            results.check(f"{name_of(document)}: {link} is there", target.exists() and ROOT in target.parents, link)
+            if anchor and target.exists():
+                results.check(f"{name_of(document)}: {link} has its anchor", anchor in headings(target), headings(target))
+    results.check("the documents have links", count > 30, str(count))
+
+
+def is_path(word):
+    """Whether a word looks like the name of a file of the repository; a name that stands for any is `*`."""
+    if not PATH.fullmatch(word) or word.split("/")[0] in MADE:
+        return False
+    first = word.split("/")[0]
+    inside = "/" in word and (first in PARTS_OF_A_CRATE or (ROOT / first).is_dir() or (ROOT / "crates" / first).is_dir())
+    return inside or (word.endswith(SUFFIXES) and word not in SUFFIXES)
+
+
+def is_there(word):
+    pattern = f"*/{word.rstrip('/')}"
+    return any(fnmatch.fnmatchcase(name, pattern) for name in files())
+
+
+def spans(document):
+    return SPAN.findall(prose(document))
+
+
+def words_of(span):
+    """The words of a span, as paths are written: without a dot at the front, and with stars for names of any kind."""
+    return [re.sub(r"\b(CRATE|FOLDER|FILE|LIST|OUT)\b", "*", word.removeprefix("./")) for word in span.split()]
+
+
+def paths(results):
+    seen = {word: document for document in DOCUMENTS for span in spans(document) for word in words_of(span) if is_path(word)}
+    for word, document in seen.items():
+        results.check(f"{name_of(document)}: the file {word} is there", is_there(word))
+    results.check("the documents name files", len(seen) > 100, str(len(seen)))
+
+
+def named(results):
+    """Targets of make, parts of tests/run.py, commands and options are there."""
+    makefile, tests = (ROOT / "Makefile").read_text(), (ROOT / "tests/run.py").read_text()
+    manual = (ROOT / "man/syslogbox.1").read_text().replace("\\-", "-")
+    commands = set(re.findall(r"^\.It Cm (\w+)", manual, re.MULTILINE))
+    for document in DOCUMENTS:
+        for span in spans(document):
+            words = span.split()
+            if words[0] == "make" and words[1:] and re.fullmatch("[a-z-]+", words[1]):
+                results.check(f"{name_of(document)}: {span}", re.search(rf"^{words[1]}:", makefile, re.MULTILINE))
+            if "tests/run.py" in words[:-1]:
+                part = words[words.index("tests/run.py") + 1]
+                results.check(f"{name_of(document)}: {span}", not part.islower() or re.search(rf"\b{part}\b", tests))
+        for line in spans(document) + code(document):
+            for command in re.findall(r"\bsyslogbox ([a-z]+)\b", line):
+                results.check(f"{name_of(document)}: the command {command} is there", command in commands, line)
+    for option in re.findall(r"--([a-z]+(?:-[a-z]+)*)", (ROOT / "docs/COMMANDS.md").read_text()):
+        results.check(f"docs/COMMANDS.md: the option --{option} is in the manual", re.search(rf"Fl -{option}\b", manual))
+
+
+def widths(results):
+    lines = (ROOT / "README.md").read_text().splitlines()
+    results.check(f"README.md has at most {README_LINES} lines", len(lines) <= README_LINES, str(len(lines)))
+    wide = [n for n, line in enumerate(lines, 1) if len(line) > COLUMNS]
+    results.check(f"README.md has no line above {COLUMNS} columns", not wide, str(wide))
+    for document in DOCUMENTS:
+        wide = [line for line in prose(document).splitlines() if len(line) > COLUMNS and not line.startswith("|")]
+        results.check(f"{name_of(document)} has no line above {COLUMNS} columns but rows of tables", not wide, str(wide[:1]))
+
+
+def tables(results):
+    """The rows of a table have as many cells as its head."""
+    for document in DOCUMENTS:
+        lines = SPAN.sub("code", prose(document)).splitlines()
+        bad = [row for head, row in zip(lines, lines[1:])
+               if head.startswith("|") and row.startswith("|") and head.count("|") != row.count("|")]
+        results.check(f"{name_of(document)}: the rows of a table have as many cells as its head", not bad, str(bad[:1]))
+
+
+def take_tour(program, results, name):
+    """Each command of a tour prints what is shown."""
+    taken = tours.steps((ROOT / name).read_text())
+    results.check(f"{name} has a tour", len(taken) > 1)
+    folder, path = tours.folder_of(program, f"tour of {Path(name).stem}")
+    for command, shown in taken:
+        status, seen = tours.take(command, folder, path)
+        results.check(f"{name} shows what is printed: {command}", seen == shown and (shown or status == 0), f"{status} {seen}")
+
+
+def is_picture(path):
+    try:
+        root = ElementTree.parse(path).getroot()
+    except ElementTree.ParseError:
+        return False
+    return root.tag.endswith("}svg") and root.get("viewBox") is not None
+
+
+def in_a_table(figures, lines):
+    """Whether a row has all of the figures, or each is in a row of its own with its name."""
+    texts = {name: f"{figure:.2f}" for name, figure in figures.items()}
+    return (any(all(text in line for text in texts.values()) for line in lines)
+            or all(any(name in line and text in line for line in lines) for name, text in texts.items()))
+
+
+def pictures(results):
+    for path in sorted((ROOT / "docs/pictures").glob("*.svg")):
+        results.check(f"{path.name} is a picture", is_picture(path))
+    drawn = (ROOT / "docs/pictures/speed.svg").read_text()
+    told = "".join((ROOT / "docs" / name).read_text() for name in ("PERFORMANCE.md", "SENDERS.md"))
+    rows = [line for line in told.splitlines() if line.startswith("|")]
+    for figure in re.findall(r"(?<![\d.])\d\.\d\d(?![\d.])", (ROOT / "README.md").read_text()):
+        results.check(f"README.md has the figure {figure} from a table", any(figure in line for line in rows))
+    for part in json.loads((ROOT / "bench/figures.json").read_text()).values():
+        dated = part["date"] in drawn and part["date"] in told.replace("\n", " ")
+        results.check(f"the date of {part['title']} is in the picture and in the text", dated, part["date"])
+        for row, figures in part["rows"].items():
+            drawn_all = all(f">{figure:.2f}<" in drawn for figure in figures.values())
+            results.check(f"{part['title']}, {row}: the figures are drawn: run bench/plot", drawn_all, str(figures))
+            results.check(f"{part['title']}, {row}: the figures are in a table", in_a_table(figures, rows), str(figures))
+
+
+def beside_others(program, results):
+    """What README's table says of this program and of sort, by running them."""
+    records = [octets for _, octets in PLAIN]
+    right = [reference.canonical(reference.read(octets)) for octets in records]
+    counted = b"".join(reference.framed("counted", octets) for octets in records)
+    lines = b"".join(reference.framed("lf", octets) for octets in records)
+    results.check("the records that are sent are 74", len(records) == 74)
+    seen = program.run(["convert", "--framing", "counted"], counted)
+    results.same("each stays the same record", seen, (0, b"".join(reference.framed("counted", one) for one in right), b""))
+    for framing, octets in ("counted", counted), ("lf", lines):
+        seen = program.run(["archive", "--framing", framing], octets)
+        results.same(f"their archive, {framing}", seen, (0, archive_text(right), b""))
+    one = b"<14>1 2024-03-01T00:30:00+01:00 h a - - -\n<14>1 2024-02-29T23:30:00.0Z h a - - -\n"
+    kept = subprocess.run(["sort", "-u"], input=one, capture_output=True).stdout.count(b"\n")
+    status, archive, _ = program.run(["archive", "--framing", "lf"], one)
+    results.check("one record in two spellings", (kept, status, archive.count(b"<14>1 ")) == (2, 0, 1), f"{kept} {archive}")
+
+
+def documents(program, results):
+    links(results)
+    paths(results)
+    named(results)
+    widths(results)
+    tables(results)
+    for name in TOURS:
+        take_tour(program, results, name)
+    pictures(results)
+    beside_others(program, results)
