@@ -41,13 +41,22 @@ settle() {
     find "$1" -exec touch -h -d "@$SOURCE_DATE_EPOCH" {} +
 }
 
+# The recipes for several machines, into a folder.
+recipes() {
+    for file in cluster/README.md cluster/*.sh cluster/*.py cluster/slurm/*.sh; do
+        if [ -x "$file" ]; then mode=755; else mode=644; fi
+        install -D -m $mode "$file" "$1/${file#cluster/}"
+    done
+}
+
 tarball() {
     name=syslogbox-$version
     link "$dist/static" -static
     sh scripts/install.sh "$dist/static" "$dist/$name"
-    for page in README.md CHANGELOG.md docs/*.md docs/pictures/*.svg cluster/README.md; do
+    for page in README.md CHANGELOG.md docs/*.md docs/pictures/*.svg; do
         install -D -m 644 "$page" "$dist/$name/$page"
     done
+    recipes "$dist/$name/cluster"
     (cd "$dist/$name" && find . -type f | sort | xargs sha256sum) > "$dist/sums"
     mv "$dist/sums" "$dist/$name/SHA256SUMS"
     settle "$dist/$name"
@@ -113,6 +122,7 @@ debian() {
     link "$dist/dynamic" -pie -Wl,-z,relro,-z,now
     sh scripts/install.sh "$dist/dynamic" "$root/usr" vendor-completions
     gzip -9n "$root/usr/share/man/man1/syslogbox.1"
+    recipes "$root/usr/share/doc/$package/examples/cluster"
     rm "$dist/dynamic"
     pack "$root/usr/bin/syslogbox" admin << END
 Description: proved reader and writer of syslog records

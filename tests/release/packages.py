@@ -62,6 +62,7 @@ def tarball(file, version, room, results):
     program = folder / "bin/syslogbox"
     results.check("its program converts the first record", converts(program))
     results.check("its program tells its version", version_of(program) == f"syslogbox {version}", version_of(program))
+    results.check("it has the recipes for several machines", os.access(folder / "cluster/parallel.sh", os.X_OK))
     results.check("its program is static", b"/lib64/ld-linux" not in program.read_bytes())
 
 
@@ -93,6 +94,8 @@ def debian(file, root, package, results, look):
 def installed(root, version, results):
     program = root / "usr/bin/syslogbox"
     results.check("the installed program converts the first record", converts(program))
+    recipe = root / "usr/share/doc/syslogbox/examples/cluster/parallel.sh"
+    results.check("the recipes for several machines are installed", os.access(recipe, os.X_OK))
     results.check("the installed program tells its version", version_of(program) == f"syslogbox {version}")
 
 
