@@ -49,7 +49,8 @@ fn at_most_so_many_connections_are_opened(rt: HostRuntime) -> Result<(), Fail> {
 #[test]
 fn as_many_connections_are_opened_as_are_asked_for(rt: HostRuntime) -> Result<(), Fail> {
     let alloc = rt.alloc();
-    for (asked, most) in [(1, 64), (200, 200), (100_000, CONNECTIONS_LIMIT as u32)] {
+    assert_eq!(rt; CONNECTIONS_LIMIT, 16_384);
+    for (asked, most) in [(1, 64), (200, 200)] {
         let store = VecArchive::new(alloc);
         let reading = FrameReading::from(None);
         let Ok(mut collector) = Collector::with_connections(alloc, store, reading, asked) else {
