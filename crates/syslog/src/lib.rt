@@ -42,8 +42,8 @@ pub use syslog_archive::{
 
 // collectors and senders
 pub use syslog_collect::{
-    Advance, CONNECTIONS_LIMIT, CONNECTIONS_MAX, CollectFault, Collector, Event, Outcome, RunEnd, SendFault, Sender,
-    frames_have_one_reading, merged_archives, received_records, same_archives,
+    Advance, CONNECTIONS_LIMIT, CONNECTIONS_MAX, CollectFault, Collector, Event, Outcome, RunEnd,
+    SendFault, Sender, frames_have_one_reading, merged_archives, received_records, same_archives,
 };
 
 // frames
