@@ -36,7 +36,11 @@ no_file xs name absent = ap (λ (e : Entry). is_some e.now) (lookup_none name xs
 
 pub missing : (xs : List MemoryEntry) (name : List ℕ) (part : Type 0) → IsAbsent name xs
     → FailsAt (state_of xs) (state_of xs) name Missing part
-missing xs name part absent = record { done = inl (nothing_done xs); missing = λ _. no_file xs name absent }
+missing xs name part absent = record {
+  done = inl (nothing_done xs);
+  missing = λ _. no_file xs name absent;
+  not_exists = λ no. absurd (cc no);
+}
 
 pub has_no_cause : {T : Type 0} (result : Result T DiskFault) → NeverFails result → HasCause ⊥ ⊥ result
 has_no_cause result never = record { stays = λ none. none; failed = never.not_failed; full = never.not_full }
@@ -67,6 +71,7 @@ module _ (xs : List MemoryEntry) (name : List ℕ) (i : ℕ) (e : MemoryEntry) (
         (option_map file_of) is in
         subst (λ (o : Option File). IsSomeAnd o (λ f. Gives f from buf n)) (sym here) gives;
     missing = λ no. absurd (cc no);
+    not_exists = λ no. absurd (cc no);
   }
 
   pub read_none : (from : ℕ) (buf : List ℕ) → e.now ≡ None
@@ -76,6 +81,7 @@ module _ (xs : List MemoryEntry) (name : List ℕ) (i : ℕ) (e : MemoryEntry) (
     gives = λ _. tt;
     missing = λ _. ap (λ (m : Entry). is_some m.now) stands ∙ ap
         (λ (o : Option MemoryFile). is_some (option_map file_of o)) is;
+    not_exists = λ no. absurd (cc no);
   }
 
 pub read_missing : (xs : List MemoryEntry) (name : List ℕ) (from : ℕ) (buf : List ℕ) → IsAbsent name xs
@@ -83,8 +89,8 @@ pub read_missing : (xs : List MemoryEntry) (name : List ℕ) (from : ℕ) (buf :
 read_missing xs name from buf absent = record {
   same = nothing_done xs;
   gives = λ _. tt;
-  missing = λ _. no_file xs name
-      absent;
+  missing = λ _. no_file xs name absent;
+  not_exists = λ no. absurd (cc no);
 }
 
 module _ (xs : List MemoryEntry) (name : List ℕ) (i : ℕ) (e f : MemoryEntry) (first : IsFirst xs name i)
@@ -113,7 +119,7 @@ module _ (xs : List MemoryEntry) (name : List ℕ) (i : ℕ) (e f : MemoryEntry)
     entry = becomes (λ m. record m { now = Some (change of.0) }) of.2;
   }
   file_changes change part (Err fault) of = record
-      { done = inl (stays of.0); missing = λ is. ap (λ (m : Entry). is_some m.now) was ∙ of.1 is }
+      { done = inl (stays of.0); missing = λ is. ap (λ (m : Entry). is_some m.now) was ∙ of.1 is; not_exists = of.2 }
 
   pub file_made : {T : Type 0} (result : Result T DiskFault) → MakesFile (entry_of e) (entry_of f) result
       → Creates (state_of xs) (state_of (set xs i f)) name result
@@ -121,7 +127,7 @@ module _ (xs : List MemoryEntry) (name : List ℕ) (i : ℕ) (e f : MemoryEntry)
     none = ap (λ (m : Entry). m.now) was ∙ of.0;
     entry = becomes (λ m. record (retired m) { now = Some (settled []) }) of.1;
   }
-  file_made (Err fault) of = (inl (stays of.0), λ is. ap (λ (m : Entry). is_some m.now) was ∙ of.1 is)
+  file_made (Err fault) of = (inl (stays of.0), λ is. ap (λ (m : Entry). is_some m.now) was ∙ of.1 is, of.2)
 
   pub file_removed : {T : Type 0} (result : Result T DiskFault) → RemovesFileOf (entry_of e) (entry_of f) result
       → Removes (state_of xs) (state_of (set xs i f)) name result
@@ -131,8 +137,8 @@ module _ (xs : List MemoryEntry) (name : List ℕ) (i : ℕ) (e f : MemoryEntry)
   }
   file_removed (Err fault) of = record {
     done = inl (stays of.0);
-    missing = λ is. ap (λ (m : Entry). is_some m.now) was
-        ∙ of.1 is;
+    missing = λ is. ap (λ (m : Entry). is_some m.now) was ∙ of.1 is;
+    not_exists = of.2;
   }
 
 -- the file of an entry is changed

@@ -41,6 +41,7 @@ no_source xs ys from to same none = record {
   done = inl (record { entries = same; lost = refl });
   missing = λ _. ap
       (λ (m : Entry). is_some m.now) (sym (same from)) ∙ none;
+  not_exists = λ no. absurd (cc no);
 }
 
 -- the target has no room in its past
@@ -54,8 +55,8 @@ no_memory xs ys from to j f r result same target at name is fault err memory =
     subst (Renames (state_of xs) (state_of (set ys j r)) from to) (sym err)
     (record {
       done = inl (record { entries = λ n. stays.entries n ∙ same n; lost = refl });
-      missing = λ no. absurd
-          (cc (no, memory));
+      missing = λ no. absurd (cc (no, memory));
+      not_exists = λ no. absurd (cc (no, memory));
     })
 
 module _ (xs : List MemoryEntry) (from to : List ℕ) (i j : ℕ) (e f r t m : MemoryEntry) (file : Option MemoryFile)

@@ -22,10 +22,12 @@ pub record ChangesFile (old new : State) (name : List ℕ) (change : File → Fi
   pub was : (old.entries name).now ≡ Some file
   pub entry : ChangesEntry old new name (record (old.entries name) { now = Some (change file) })
 
--- a call on the file of a name failed: nothing was done, or this; and there is no file where the fault says so
+-- a call on the file of a name failed: nothing was done, or this; there is no file where the fault says so, and it never
+-- says that there is one
 pub record FailsAt (old new : State) (name : List ℕ) (fault : DiskFault) (part : Type 0) : Type 0 where
   pub done : IsUnchanged old new ⊎ part
   pub missing : fault ≡ Missing → IsNone (old.entries name).now
+  pub not_exists : fault ≢ Exists
 
 -- octets are written at the end of a file
 abbrev pub Appends : {T : Type 0} → State → State → List ℕ → List ℕ → Result T DiskFault → Type 0
@@ -64,7 +66,8 @@ pub record CreatesFile (old new : State) (name : List ℕ) : Type 0 where
 abbrev pub Creates : {T : Type 0} → State → State → List ℕ → Result T DiskFault → Type 0
 Creates old new name result = MatchResult result
     (λ _. CreatesFile old new name)
-    (λ fault. (IsUnchanged old new ⊎ CreatesFile old new name) × (fault ≡ Exists → IsSome (old.entries name).now))
+    (λ fault. (IsUnchanged old new ⊎ CreatesFile old new name) × (fault ≡ Exists → IsSome (old.entries name).now)
+    × (fault ≢ Missing))
 
 -- the file under a name is removed
 pub record RemovesFile (old new : State) (name : List ℕ) : Type 0 where
@@ -109,10 +112,16 @@ pub record Reads (old new : State) (name : List ℕ) (at : ℕ) (buf : List ℕ)
   pub same : IsUnchanged old new
   pub gives : old.lost ≡ false → IfOk result (λ n. IsSomeAnd (old.entries name).now (λ file. Gives file at buf n))
   pub missing : IsErrOf result Missing → IsNone (old.entries name).now
+  pub not_exists : IsErrOf result Exists → ⊥
 
 -- the names that have a file; once a sync has failed, any
 abbrev pub AreNames : State → List (List ℕ) → Type 0
 AreNames state names = state.lost ≡ false → (name : List ℕ) → Contains names name ↔ IsSome (state.entries name).now
+
+-- a call on the folder is not refused for a file
+pub record IsOfFolder {T : Type 0} (result : Result T DiskFault) : Type 0 where
+  pub not_missing : IsErrOf result Missing → ⊥
+  pub not_exists : IsErrOf result Exists → ⊥
 
 -- `Failed` and `Full` are told only of a disk that has failed, which it then has for good
 pub record HasCause {T : Type 0} (before now : Type 0) (result : Result T DiskFault) : Type 0 where

@@ -16,10 +16,11 @@ abbrev pub IsNoneOf : List ℕ → ℕ → Type 0
 IsNoneOf [] i = Unit {0}
 IsNoneOf (place ∷ places) i = (i ≢ place) × IsNoneOf places i
 
--- A crash leaves any length between, the octets that are on the disk, and any others.
+-- A crash leaves any length between, the octets that are on the disk, and any others. What is shown is always one of the
+-- things that it may leave.
 pub record MayBecome (file : File) (octets : List ℕ) : Type 0 where
-  pub no_shorter : file.synced ≤ length octets
-  pub no_longer : length octets ≤ file.longest
+  pub no_shorter : min file.synced (length file.shown) ≤ length octets
+  pub no_longer : length octets ≤ max file.longest (length file.shown)
   pub kept : (i : ℕ) → i < file.synced → IsNoneOf file.rewritten i → slice_index octets i ≡ slice_index file.shown i
 
 -- a file of these octets, all on the disk

@@ -51,17 +51,17 @@ pub record NeverFails {T : Type 0} (result : Result T DiskFault) : Type 0 where
 abbrev pub ChangesFileOf : {T : Type 0} → Entry → Entry → (File → File) → Result T DiskFault → Type 0
 ChangesFileOf old new change result = MatchResult result
     (λ _. (file : File) × (old.now ≡ Some file) × (new ≡ record old { now = Some (change file) }))
-    (λ fault. (new ≡ old) × (fault ≡ Missing → IsNone old.now))
+    (λ fault. (new ≡ old) × (fault ≡ Missing → IsNone old.now) × (fault ≢ Exists))
 
 abbrev pub MakesFile : {T : Type 0} → Entry → Entry → Result T DiskFault → Type 0
 MakesFile old new result = MatchResult result
     (λ _. (old.now ≡ None) × (new ≡ record (retired old) { now = Some (settled []) }))
-    (λ fault. (new ≡ old) × (fault ≡ Exists → IsSome old.now))
+    (λ fault. (new ≡ old) × (fault ≡ Exists → IsSome old.now) × (fault ≢ Missing))
 
 abbrev pub RemovesFileOf : {T : Type 0} → Entry → Entry → Result T DiskFault → Type 0
 RemovesFileOf old new result = MatchResult result
     (λ _. IsSome old.now × (new ≡ retired old))
-    (λ fault. (new ≡ old) × (fault ≡ Missing → IsNone old.now))
+    (λ fault. (new ≡ old) × (fault ≡ Missing → IsNone old.now) × (fault ≢ Exists))
 
 -- the folder was synced
 abbrev pub AreKept : List MemoryEntry → List MemoryEntry → Type 0

@@ -1,7 +1,7 @@
 //! What is asked of a disk.
 ghost use Rattle.std.specs.Prelude.{◌≤◌, ℕ, IfOk, length};
 ghost use Rattle.disk.specs.States.{State};
-ghost use Rattle.disk.specs.Calls.{Appends, AreNames, Creates, Cuts, HasCause, IsUnchanged};
+ghost use Rattle.disk.specs.Calls.{Appends, AreNames, Creates, Cuts, HasCause, IsOfFolder, IsUnchanged};
 ghost use Rattle.disk.specs.Calls.{Overwrites, Reads, Removes, Renames, Syncs, SyncsNames};
 
 use crate::{DiskFault, FileName};
@@ -26,6 +26,7 @@ pub trait Disk {
     fn names(&mut self, alloc: Global) -> Result<Vec<FileName>, DiskFault>
         ensures names { tells self.new → IfOk result (λ v. AreNames (state self.old) v.items) }
         ensures done { tells self.new → IsUnchanged (state self.old) (state self.new) }
+        ensures of_folder { tells self.new → IsOfFolder result }
         ensures told { tells self.new → tells self.old }
         ensures cause { HasCause (has_failed self.old) (has_failed self.new) result };
 
@@ -86,6 +87,7 @@ pub trait Disk {
     /// Brings the names of the folder to the disk.
     fn sync_names(&mut self) -> Result<(), DiskFault>
         ensures done { tells self.new → SyncsNames (state self.old) (state self.new) result }
+        ensures of_folder { tells self.new → IsOfFolder result }
         ensures told { tells self.new → tells self.old }
         ensures cause { HasCause (has_failed self.old) (has_failed self.new) result };
 }

@@ -36,22 +36,22 @@ earlier (file ∷ past) last octets (inl h) = inr (inl h)
 earlier (file ∷ past) last octets (inr h) =
     elim (earlier past last octets h) [ inl k ↦ inl k | inr k ↦ inr (inr k) ]
 
-short_file : (file : File) (octets : Option (List ℕ)) → file.longest ≤ 1 → IsSomeAnd octets (MayBecome file)
-    → IsSomeAnd octets (λ found. HasBatches found [])
-short_file file None few h = absurd h
-short_file file (Some octets) few h = few_octets octets (omega (arith, few, h.no_longer))
+short_file : (file : File) (octets : Option (List ℕ)) → length file.shown ≤ 1 → file.longest ≤ 1
+    → IsSomeAnd octets (MayBecome file) → IsSomeAnd octets (λ found. HasBatches found [])
+short_file file None short few h = absurd h
+short_file file (Some octets) short few h = few_octets octets (omega (arith, short, few, h.no_longer))
 
-leaves_young : (entry : Entry) (file : File) (octets : Option (List ℕ)) → file.longest ≤ 1
+leaves_young : (entry : Entry) (file : File) (octets : Option (List ℕ)) → length file.shown ≤ 1 → file.longest ≤ 1
     → NameMayLeave (record (retired entry) { now = Some file }) octets
     → NameMayLeave entry octets ⊎ IsSomeAnd octets (λ found. HasBatches found [])
-leaves_young entry file octets few (inl now) = inr (short_file file octets few now)
-leaves_young entry file octets few (inr (inl past)) =
+leaves_young entry file octets short few (inl now) = inr (short_file file octets short few now)
+leaves_young entry file octets short few (inr (inl past)) =
     elim (earlier entry.past entry.now octets past) [ inl k ↦ inl (inl k) | inr k ↦ inl (inr (inl k)) ]
-leaves_young entry file octets few (inr (inr moved)) = inl (inr (inr moved))
+leaves_young entry file octets short few (inr (inr moved)) = inl (inr (inr moved))
 
 pub young_leaves : (old new : State) (name : List ℕ) → Young old new name → LeavesNoBatch old new name
 young_leaves old new name y octets may =
-    leaves_young (old.entries name) y.file octets y.longest
+    leaves_young (old.entries name) y.file octets y.short y.longest
     (subst (λ (e : Entry). NameMayLeave e octets) y.entry may)
 
 -- the file is made

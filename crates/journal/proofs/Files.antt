@@ -2,6 +2,7 @@
 use Rattle.std.proofs.Common.{◌≡◌, ⊎_elim, ℕ, suc, ◌+◌, ◌<◌, ◌≤◌, List, [], ◌∷◌, ◌++◌, length, get_or, take, drop, refl}
 use Rattle.std.proofs.Common.{sym, ◌∙◌, ap, subst, arith, length-append, take-append-drop}
 use Rattle.std.proofs.lemmas.Bool.{cases_eq}
+use Rattle.std.proofs.lemmas.List.{length-set, length-take}
 use Rattle.std.proofs.lemmas.List.{ext_get_or, length-take-le, get_or-take, get_or_at, get_or-set_other, set_at}
 use Rattle.disk.specs.Files.{File, IsNoneOf, MayBecome, settled, overwritten}
 
@@ -10,7 +11,8 @@ pub front_stays : (file : File) (front c : List ℕ) → length front ≤ file.s
     → take (length front) file.shown ≡ front → MayBecome file c → c ≡ front ++ drop (length front) c
 front_stays file front c synced none shows may =
     let n = length front in
-    let long : n ≤ length c = omega (arith, may.no_shorter, synced) in
+    let whole : n ≤ length file.shown = omega (arith, ap length shows, length-take n file.shown) in
+    let long : n ≤ length c = omega (arith, may.no_shorter, synced, whole) in
     let each : (i : ℕ) → i < length (take n c) → get_or (take n c) i 0 ≡ get_or front i 0 = λ i within.
     let below : i < n = omega (arith, within, length-take-le n c long) in
     let apart : IsNoneOf file.rewritten i = subst (λ (l : List ℕ). IsNoneOf l i) (sym none) tt in
@@ -26,7 +28,7 @@ module _ (front : List ℕ) (gate octet : ℕ) (behind c : List ℕ)
   size = length-append front (gate ∷ behind)
 
   long : length c ≡ length front + suc (length behind)
-  long = omega (arith, size, may.no_shorter, may.no_longer)
+  long = omega (arith, size, length-set (front ++ gate ∷ behind) (length front) octet, may.no_shorter, may.no_longer)
 
   each : (i : ℕ) → i < length c → get_or c i 0 ≡ get_or (front ++ get_or c (length front) 0 ∷ behind) i 0
   each i within = ⊎_elim

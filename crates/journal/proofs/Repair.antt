@@ -3,6 +3,7 @@ use Rattle.std.proofs.Common.{◌≡◌, ◌≢◌, ⊎_elim, ℕ, ◌+◌, ◌<
 use Rattle.std.proofs.Common.{if◌then◌else◌, refl, sym, ◌∙◌, ap, subst, arith, append_assoc, length-append, length-drop}
 use Rattle.std.specs.Int.{w32, to_le_bytes}
 use Rattle.std.proofs.lemmas.Bool.{cases_eq}
+use Rattle.std.proofs.lemmas.List.{length-take}
 use Rattle.std.proofs.lemmas.List.{append-nil, take_all, take_at, drop_at, drop_all, drop_more, set_at}
 use Rattle.disk.specs.Files.{File, MayBecome, settled, appended, appended_in_part, overwritten, cut_to}
 use Rattle.disk.specs.States.{State}
@@ -70,12 +71,12 @@ module _ (old new : State) (name file : List ℕ) (bodies : List (List ℕ)) (en
 
   -- one octet is written behind the batches
   one_more : (f : File) → file ≡ batches_text bodies → f.synced ≡ length file → f.rewritten ≡ []
-      → f.longest ≤ length file + 1 → take (length file) f.shown ≡ file → (c : List ℕ) → MayBecome f c
-      → HasBatches c bodies
-  one_more f whole synced none longest shows c may =
+      → f.longest ≤ length file + 1 → length f.shown ≤ length file + 1 → take (length file) f.shown ≡ file
+      → (c : List ℕ) → MayBecome f c → HasBatches c bodies
+  one_more f whole synced none longest short_shown shows c may =
       let is = front_stays f file c (omega (arith, synced)) none shows may in
       let short : length (drop (length file) c) ≤ 1 = omega
-      (arith, length-drop (length file) c, may.no_longer, longest) in
+      (arith, length-drop (length file) c, may.no_longer, longest, short_shown) in
       record {
         tail = drop (length file) c;
         text = is ∙ ap (λ (l : List ℕ). l ++ drop (length file) c) whole;
@@ -95,6 +96,7 @@ module _ (old new : State) (name file : List ℕ) (bodies : List (List ℕ)) (en
         shut = λ zero_is. absurd (cc zero_is);
         shown = ap (λ (l : List ℕ). l ++ 0 ∷ []) (none_behind all);
         leaves = one_more (appended (0 ∷ []) (settled file)) (none_behind all) refl refl (omega arith)
+            (omega (arith, length-append file (0 ∷ [])))
             (take_at file (0 ∷ []) (length file) refl);
         sized = ends.sized;
       }
@@ -110,6 +112,7 @@ module _ (old new : State) (name file : List ℕ) (bodies : List (List ℕ)) (en
       leaves new name f (λ found. found ≡ bodies) next.entry (λ c may. (
         bodies,
         one_more f (none_behind all) refl refl (omega arith)
+            (omega (arith, length-append file (take part.0 (0 ∷ [])), length-take {A = ℕ} part.0 (0 ∷ [])))
             (take_at file (take part.0 (0 ∷ [])) (length file) refl) c may,
         refl,
       )))

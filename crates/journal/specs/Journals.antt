@@ -95,6 +95,10 @@ abbrev pub KeepsOrSettlesOthers : State → State → List ℕ → Type 0
 KeepsOrSettlesOthers old new name = (other : List ℕ) → other ≢ name
     → (new.entries other ≡ old.entries other) ⊎ (new.entries other ≡ kept (old.entries other))
 
+-- each other name is on the disk as it was
+abbrev pub SettlesOthers : State → State → List ℕ → Type 0
+SettlesOthers old new name = (other : List ℕ) → other ≢ name → new.entries other ≡ kept (old.entries other)
+
 -- a crash leaves under a name what it might have left there before, or a journal without batches
 abbrev pub LeavesNoBatch : State → State → List ℕ → Type 0
 LeavesNoBatch old new name = (octets : Option (List ℕ)) → NameMayLeave (new.entries name) octets

@@ -1,6 +1,6 @@
 //! A journal that is written.
 ghost use Rattle.std.specs.Prelude.{◌≡◌, ◌⊎◌, ◌^◌, ◌<◌, ◌≤◌, ◌++◌, ◌∷◌, [], length, List, ℕ};
-ghost use Rattle.std.specs.Prelude.{IfOk, IsErrOf, OnOk};
+ghost use Rattle.std.specs.Prelude.{IfOk, IsErrOf, IsNone, IsSome, OnOk};
 ghost use Rattle.journal.specs.Batches.{closed_batch};
 
 use disk::{Disk, DiskFault, FileName};
@@ -42,7 +42,7 @@ fn written(alloc: Global, body: &[u8]) -> Result<Vec<u8>, AllocError>
 impl Journal {
     ghost use Rattle.journal.specs.Journals.{end_of, name_of, IsSound, Stands};
     ghost use Rattle.journal.specs.Journals.{KeepsOrSettlesOthers, KeepsOthers, LeavesBatches};
-    ghost use Rattle.journal.specs.Journals.{LeavesNoBatch, WithOrWithout};
+    ghost use Rattle.journal.specs.Journals.{LeavesNoBatch, SettlesOthers, WithOrWithout};
 
     /// Makes an empty journal under a name that has no file. Once it has returned `Ok`, every crash
     /// leaves it.
@@ -57,8 +57,15 @@ impl Journal {
         ensures others { D.tells disk.new
             → KeepsOrSettlesOthers (D.state disk.old) (D.state disk.new) name }
 
+        ensures settles { OnOk result (D.tells disk.new → IsSound (D.state disk.old)
+            → SettlesOthers (D.state disk.old) (D.state disk.new) name) }
+
         ensures told { D.tells disk.new → D.tells disk.old }
         ensures failed { IsErrOf result DiskFault.Failed → D.has_failed disk.new }
+        ensures full { IsErrOf result DiskFault.Full → D.has_failed disk.new }
+        ensures exists { D.tells disk.new → IsErrOf result DiskFault.Exists
+            → IsSome ((D.state disk.old).entries name).now }
+        ensures not_missing { D.tells disk.new → ¬ (IsErrOf result DiskFault.Missing) }
     {
         disk.create(&name)?;
         disk.append(&name, &[CLOSED])?;
@@ -96,6 +103,9 @@ impl Journal {
         ensures failed { IsErrOf result DiskFault.Failed → D.has_failed disk.new }
         ensures full { IsErrOf result DiskFault.Full
             → D.has_failed disk.new ⊎ ((2 ^ 62 ≤ end_of self.old) ⊎ (2 ^ 32 ≤ length body.now)) }
+        ensures missing { D.tells disk.new → IsErrOf result DiskFault.Missing
+            → IsNone ((D.state disk.old).entries (name_of self.old)).now }
+        ensures not_exists { D.tells disk.new → ¬ (IsErrOf result DiskFault.Exists) }
     {
         if self.end >= LENGTH_MAX {
             return Err(DiskFault::Full);

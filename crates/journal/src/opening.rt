@@ -1,11 +1,12 @@
 //! A journal is opened.
-ghost use Rattle.std.specs.Prelude.{◌≡◌, ◌≤◌, ◌<◌, ◌^◌, length, List, ℕ, IfOk, IsErrOf, OnOk};
+ghost use Rattle.std.specs.Prelude.{◌≡◌, ◌≤◌, ◌<◌, ◌^◌, length, List, ℕ, IfOk, IsErrOf, IsNone, OnOk};
 ghost use Rattle.std.specs.Prelude.{◌⊎◌, Option, Some};
 ghost use Rattle.disk.specs.Files.{File};
 ghost use Rattle.disk.specs.States.{NameMayLeave};
 ghost use Rattle.journal.specs.Batches.{batches_text, HasBatches};
 ghost use Rattle.journal.specs.Journals.{EndsAt, IsAtRest, IsClosing, IsOnDisk, KeepsOrSettlesOthers};
-ghost use Rattle.journal.specs.Journals.{KeepsOthers, LeavesThese, OpensOn, Shows, name_of};
+ghost use Rattle.journal.specs.Journals.{IsSound, KeepsOthers, LeavesThese, OpensOn, SettlesOthers, Shows};
+ghost use Rattle.journal.specs.Journals.{name_of};
 
 use crate::reading::{end_of_batches, read_all};
 use crate::{Journal, JournalFault};
@@ -29,6 +30,10 @@ fn shut<D: Disk>(disk: &mut D, name: &FileName, file: &[u8], end: usize) -> Resu
     ensures others { D.tells disk.new → KeepsOthers (D.state disk.old) (D.state disk.new) name.now }
     ensures told { D.tells disk.new → D.tells disk.old }
     ensures failed { IsErrOf result DiskFault.Failed → D.has_failed disk.new }
+    ensures full { IsErrOf result DiskFault.Full → D.has_failed disk.new }
+    ensures missing { D.tells disk.new → IsErrOf result DiskFault.Missing
+        → IsNone ((D.state disk.old).entries name.now).now }
+    ensures not_exists { D.tells disk.new → ¬ (IsErrOf result DiskFault.Exists) }
 {
     if end == file.len() {
         disk.append(name, &[CLOSED])?;
@@ -53,6 +58,10 @@ fn cut_behind<D: Disk>(disk: &mut D, name: &FileName, end: u64) -> Result<(), Di
     ensures others { D.tells disk.new → KeepsOthers (D.state disk.old) (D.state disk.new) name.now }
     ensures told { D.tells disk.new → D.tells disk.old }
     ensures failed { IsErrOf result DiskFault.Failed → D.has_failed disk.new }
+    ensures full { IsErrOf result DiskFault.Full → D.has_failed disk.new }
+    ensures missing { D.tells disk.new → IsErrOf result DiskFault.Missing
+        → IsNone ((D.state disk.old).entries name.now).now }
+    ensures not_exists { D.tells disk.new → ¬ (IsErrOf result DiskFault.Exists) }
 {
     // The closed octet has to be on the disk first: a crash in the cut may leave anything behind it.
     disk.sync(name)?;
@@ -75,9 +84,15 @@ pub fn settle<D: Disk>(disk: &mut D, name: &FileName) -> Result<(), DiskFault>
         → NameMayLeave ((D.state disk.old).entries name.now) octets ⊎ (octets ≡ Some file.shown) }
     ensures others { D.tells disk.new
         → KeepsOrSettlesOthers (D.state disk.old) (D.state disk.new) name.now }
+    ensures settles { OnOk result (D.tells disk.new → IsSound (D.state disk.old)
+        → SettlesOthers (D.state disk.old) (D.state disk.new) name.now) }
 
     ensures told { D.tells disk.new → D.tells disk.old }
     ensures failed { IsErrOf result DiskFault.Failed → D.has_failed disk.new }
+    ensures full { IsErrOf result DiskFault.Full → D.has_failed disk.new }
+    ensures missing { D.tells disk.new → IsErrOf result DiskFault.Missing
+        → IsNone ((D.state disk.old).entries name.now).now }
+    ensures not_exists { D.tells disk.new → ¬ (IsErrOf result DiskFault.Exists) }
 {
     disk.sync(name)?;
     disk.sync_names()?;
@@ -106,6 +121,12 @@ pub fn open<D: Disk>(
     ensures name { IfOk result (λ r. name_of r.0 ≡ name) }
     ensures told { D.tells disk.new → D.tells disk.old }
     ensures failed { IsErrOf result (JournalFault.Disk DiskFault.Failed) → D.has_failed disk.new }
+    ensures full { IsErrOf result (JournalFault.Disk DiskFault.Full) → D.has_failed disk.new }
+    ensures missing { D.tells disk.new → IsErrOf result (JournalFault.Disk DiskFault.Missing)
+        → IsNone ((D.state disk.old).entries name).now }
+    ensures not_exists { D.tells disk.new → ¬ (IsErrOf result (JournalFault.Disk DiskFault.Exists)) }
+    ensures too_long { D.tells disk.new → IsErrOf result JournalFault.TooLong → (file : List ℕ)
+        → IsOnDisk (D.state disk.old) name file → 2 ^ 40 ≤ length file }
 {
     let mut file = read_all(alloc, disk, &name)?;
     let end = end_of_batches(&file);

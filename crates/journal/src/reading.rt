@@ -1,5 +1,5 @@
 //! The batches of a journal's file.
-ghost use Rattle.std.specs.Prelude.{◌≡◌, ◌≤◌, ◌++◌, length, List, ℕ, IfNone, IfOk, IfSome, IsErrOf};
+ghost use Rattle.std.specs.Prelude.{◌≡◌, ◌≤◌, ◌^◌, ◌++◌, length, List, ℕ, IfNone, IfOk, IfSome, IsErrOf, IsNone};
 ghost use Rattle.disk.specs.Calls.{IsUnchanged};
 ghost use Rattle.journal.specs.Batches.{BeginsWithBatch, IsClosed};
 ghost use Rattle.journal.specs.Journals.{EndsAt, IsOnDisk};
@@ -58,6 +58,12 @@ pub(crate) fn read_all<D: Disk>(
     ensures same { D.tells disk.new → IsUnchanged (D.state disk.old) (D.state disk.new) }
     ensures told { D.tells disk.new → D.tells disk.old }
     ensures failed { IsErrOf result (JournalFault.Disk DiskFault.Failed) → D.has_failed disk.new }
+    ensures full { IsErrOf result (JournalFault.Disk DiskFault.Full) → D.has_failed disk.new }
+    ensures missing { D.tells disk.new → IsErrOf result (JournalFault.Disk DiskFault.Missing)
+        → IsNone ((D.state disk.old).entries name.now).now }
+    ensures not_exists { D.tells disk.new → ¬ (IsErrOf result (JournalFault.Disk DiskFault.Exists)) }
+    ensures too_long { D.tells disk.new → IsErrOf result JournalFault.TooLong → (file : List ℕ)
+        → IsOnDisk (D.state disk.old) name.now file → 2 ^ 40 ≤ length file }
 {
     let mut octets = Vec::new(alloc);
     let mut piece = [0u8; PIECE];
