@@ -4,11 +4,12 @@ use Rattle.std.proofs.Common.{length, take, refl, sym, subst, ◌∙◌, ap, ari
 use Rattle.std.specs.Prelude.{Option, None, Some, IsSomeAnd, IsTrue}
 use Rattle.std.proofs.lemmas.List.{length-append, length-take}
 use Rattle.disk.specs.Files.{File, MayBecome, settled, appended, appended_in_part}
-use Rattle.disk.specs.States.{AnyMayBe, Entry, MayBe, NameMayLeave, State, retired}
-use Rattle.disk.specs.Calls.{ChangesFile, CreatesFile, FailsAt, IsUnchanged, Loses}
+use Rattle.disk.specs.Memory.{shown_now}
+use Rattle.disk.specs.States.{AnyMayBe, Entry, MayBe, NameMayLeave, State, kept, retired}
+use Rattle.disk.specs.Calls.{ChangesFile, CreatesFile, FailsAt, IsUnchanged, Loses, SettlesNames}
 use Rattle.disk.specs.declared.fault.DiskFault.{DiskFault}
 use Rattle.journal.specs.Batches.{HasBatches, IsBody, open_batch}
-use Rattle.journal.specs.Journals.{LeavesNoBatch}
+use Rattle.journal.specs.Journals.{LeavesNoBatch, ShowsNoBatch}
 
 -- a file under the name, in place of what was there, that is at most one octet long whatever a crash leaves of it
 pub record Young (old new : State) (name : List ℕ) : Type 0 where
@@ -49,10 +50,27 @@ leaves_young entry file octets short few (inr (inl past)) =
     elim (earlier entry.past entry.now octets past) [ inl k ↦ inl (inl k) | inr k ↦ inl (inr (inl k)) ]
 leaves_young entry file octets short few (inr (inr moved)) = inl (inr (inr moved))
 
-pub young_leaves : (old new : State) (name : List ℕ) → Young old new name → LeavesNoBatch old new name
+young_leaves : (old new : State) (name : List ℕ) → Young old new name → LeavesNoBatch old new name
 young_leaves old new name y octets may =
     leaves_young (old.entries name) y.file octets y.short y.longest
     (subst (λ (e : Entry). NameMayLeave e octets) y.entry may)
+
+-- the name is as it was, or such a file is under it
+abbrev pub AsWasOrYoung : State → State → List ℕ → Type 0
+AsWasOrYoung old new name = (new.entries name ≡ old.entries name) ⊎ Young old new name
+
+pub begun_leaves : (old new : State) (name : List ℕ) → AsWasOrYoung old new name → LeavesNoBatch old new name
+begun_leaves old new name (inl same) octets may = inl (subst (λ (e : Entry). NameMayLeave e octets) same may)
+begun_leaves old new name (inr young) octets may = young_leaves old new name young octets may
+
+pub begun_shows : (old new : State) (name : List ℕ) → AsWasOrYoung old new name
+    → shown_now (old.entries name) ≡ None → ShowsNoBatch new name
+begun_shows old new name (inl same) none octets some =
+    let there : shown_now (new.entries name) ≡ None = ap shown_now same ∙ none in absurd (cc (there, some))
+begun_shows old new name (inr young) none octets some =
+    let there : shown_now (new.entries name) ≡ Some young.file.shown = ap shown_now young.entry in
+    let is : young.file.shown ≡ octets = cc (there, some) in
+    subst (λ (l : List ℕ). HasBatches l []) is (few_octets young.file.shown young.short)
 
 -- the file is made
 pub young_made : (old new : State) (name : List ℕ) → CreatesFile old new name → Young old new name
@@ -60,11 +78,10 @@ young_made old new name made =
     record { file = settled []; entry = made.entry.here; short = omega arith; longest = omega arith }
 
 -- or it may be
-pub made_leaves : (old new : State) (name : List ℕ) → IsUnchanged old new ⊎ CreatesFile old new name
-    → LeavesNoBatch old new name
-made_leaves old new name (inl same) octets may =
-    inl (subst (λ (e : Entry). NameMayLeave e octets) (same.entries name) may)
-made_leaves old new name (inr made) octets may = young_leaves old new name (young_made old new name made) octets may
+pub made_begun : (old new : State) (name : List ℕ) → IsUnchanged old new ⊎ CreatesFile old new name
+    → AsWasOrYoung old new name
+made_begun old new name (inl same) = inl (same.entries name)
+made_begun old new name (inr made) = inr (young_made old new name made)
 
 -- its entry is as it was
 still_young : (old mid new : State) (name : List ℕ) → Young old mid name → new.entries name ≡ mid.entries name
@@ -98,9 +115,9 @@ octet_written old mid new name made c =
 
 pub octet_failed : (old mid new : State) (name : List ℕ) (fault : DiskFault) → CreatesFile old mid name
     → FailsAt mid new name fault ((n : ℕ) × ChangesFile mid new name (appended_in_part n (0 ∷ [])))
-    → LeavesNoBatch old new name
+    → AsWasOrYoung old new name
 octet_failed old mid new name fault made f =
-    young_leaves old new name (elim f.done [
+    inr (elim f.done [
       | inl same ↦ still_young old mid new name (young_made old mid name made) (same.entries name)
       | inr (n, c) ↦ changed old mid new name (appended_in_part n (0 ∷ [])) (settled []) made.entry.here c (one_octet n)
           (omega arith)
@@ -108,9 +125,9 @@ octet_failed old mid new name fault made f =
 
 -- the file is synced
 pub sync_failed : (old mid new : State) (name : List ℕ) (fault : DiskFault) → Young old mid name
-    → FailsAt mid new name fault (Loses mid new) → LeavesNoBatch old new name
+    → FailsAt mid new name fault (Loses mid new) → AsWasOrYoung old new name
 sync_failed old mid new name fault y f =
-    young_leaves old new name (elim f.done [
+    inr (elim f.done [
       | inl same ↦ still_young old mid new name y (same.entries name)
       | inr lost ↦ still_young old mid new name y (lost.entries name)
     ])
@@ -129,8 +146,20 @@ synced old mid new name y c =
 
 -- the names are not
 pub names_failed : (old mid new : State) (name : List ℕ) → Young old mid name → IsUnchanged mid new ⊎ Loses mid new
-    → LeavesNoBatch old new name
-names_failed old mid new name y (inl same) =
-    young_leaves old new name (still_young old mid new name y (same.entries name))
-names_failed old mid new name y (inr lost) =
-    young_leaves old new name (still_young old mid new name y (lost.entries name))
+    → AsWasOrYoung old new name
+names_failed old mid new name y (inl same) = inr (still_young old mid new name y (same.entries name))
+names_failed old mid new name y (inr lost) = inr (still_young old mid new name y (lost.entries name))
+
+-- and they are
+pub names_settled : (old mid new : State) (name : List ℕ) → Young old mid name → SettlesNames mid new
+    → ShowsNoBatch new name
+names_settled old mid new name y settles octets some =
+    let same : shown_now (new.entries name) ≡ shown_now (mid.entries name) =
+    ap shown_now (settles.entries name) ∙ if_shown mid.lost (mid.entries name) in
+    let there : shown_now (mid.entries name) ≡ Some y.file.shown = ap shown_now y.entry in
+    let is : y.file.shown ≡ octets = cc (same, there, some) in
+    subst (λ (l : List ℕ). HasBatches l []) is (few_octets y.file.shown y.short)
+  where
+    if_shown : (lost : Bool) (e : Entry) → shown_now (if lost then e else kept e) ≡ shown_now e
+    if_shown true e = refl
+    if_shown false e = refl

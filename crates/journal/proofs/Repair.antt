@@ -21,7 +21,7 @@ pub same_octets : (octets c : List ℕ) → MayBecome (settled octets) c → c �
 same_octets octets c may =
     let is = front_stays (settled octets) octets c (omega arith) refl (take_all (length octets) octets (omega arith))
     may in
-    let none : drop (length octets) c ≡ [] = drop_all (length octets) c may.no_longer in
+    let none : drop (length octets) c ≡ [] = drop_all (length octets) c (omega (arith, may.no_longer)) in
     is ∙ ap (λ (l : List ℕ). octets ++ l) none ∙ append-nil octets
 
 -- a batch has five octets at least

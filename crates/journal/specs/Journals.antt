@@ -2,6 +2,7 @@
 use Rattle.std.specs.Prelude.{◌≡◌, ◌≢◌, ◌⊎◌, ℕ, false, List, [], ◌∷◌, ◌++◌, length, Option, Some, IsSomeAnd}
 use Rattle.std.specs.List.{AllByRecursion}
 use Rattle.disk.specs.Files.{File, MayBecome, settled}
+use Rattle.disk.specs.Memory.{shown_now}
 use Rattle.disk.specs.States.{Entry, State, NameMayLeave, kept}
 use Rattle.journal.specs.Batches.{batches_text, HasBatches, IsBody, IsClosed}
 use Rattle.journal.specs.declared.journal.Journal.{Journal}
@@ -98,6 +99,14 @@ KeepsOrSettlesOthers old new name = (other : List ℕ) → other ≢ name
 -- each other name is on the disk as it was
 abbrev pub SettlesOthers : State → State → List ℕ → Type 0
 SettlesOthers old new name = (other : List ℕ) → other ≢ name → new.entries other ≡ kept (old.entries other)
+
+-- what a read shows under each name is what it showed
+abbrev pub ShowsTheSame : State → State → Type 0
+ShowsTheSame old new = (name : List ℕ) → shown_now (new.entries name) ≡ shown_now (old.entries name)
+
+-- what a read shows under a name has no batches
+abbrev pub ShowsNoBatch : State → List ℕ → Type 0
+ShowsNoBatch state name = (octets : List ℕ) → shown_now (state.entries name) ≡ Some octets → HasBatches octets []
 
 -- a crash leaves under a name what it might have left there before, or a journal without batches
 abbrev pub LeavesNoBatch : State → State → List ℕ → Type 0

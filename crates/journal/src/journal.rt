@@ -1,6 +1,7 @@
 //! A journal that is written.
 ghost use Rattle.std.specs.Prelude.{◌≡◌, ◌⊎◌, ◌^◌, ◌<◌, ◌≤◌, ◌++◌, ◌∷◌, [], length, List, ℕ};
-ghost use Rattle.std.specs.Prelude.{IfOk, IsErrOf, IsNone, IsSome, OnOk};
+ghost use Rattle.std.specs.Prelude.{IfOk, IsErrOf, IsNone, IsSome, None, OnOk};
+ghost use Rattle.disk.specs.Memory.{shown_now};
 ghost use Rattle.journal.specs.Batches.{closed_batch};
 
 use disk::{Disk, DiskFault, FileName};
@@ -42,7 +43,7 @@ fn written(alloc: Global, body: &[u8]) -> Result<Vec<u8>, AllocError>
 impl Journal {
     ghost use Rattle.journal.specs.Journals.{end_of, name_of, IsSound, Stands};
     ghost use Rattle.journal.specs.Journals.{KeepsOrSettlesOthers, KeepsOthers, LeavesBatches};
-    ghost use Rattle.journal.specs.Journals.{LeavesNoBatch, SettlesOthers, WithOrWithout};
+    ghost use Rattle.journal.specs.Journals.{LeavesNoBatch, SettlesOthers, ShowsNoBatch, WithOrWithout};
 
     /// Makes an empty journal under a name that has no file. Once it has returned `Ok`, every crash
     /// leaves it.
@@ -59,6 +60,8 @@ impl Journal {
 
         ensures settles { OnOk result (D.tells disk.new → IsSound (D.state disk.old)
             → SettlesOthers (D.state disk.old) (D.state disk.new) name) }
+        ensures shows { D.tells disk.new → shown_now ((D.state disk.old).entries name) ≡ None
+            → ShowsNoBatch (D.state disk.new) name }
 
         ensures told { D.tells disk.new → D.tells disk.old }
         ensures failed { IsErrOf result DiskFault.Failed → D.has_failed disk.new }

@@ -6,7 +6,7 @@ ghost use Rattle.disk.specs.States.{NameMayLeave};
 ghost use Rattle.journal.specs.Batches.{batches_text, HasBatches};
 ghost use Rattle.journal.specs.Journals.{EndsAt, IsAtRest, IsClosing, IsOnDisk, KeepsOrSettlesOthers};
 ghost use Rattle.journal.specs.Journals.{IsSound, KeepsOthers, LeavesThese, OpensOn, SettlesOthers, Shows};
-ghost use Rattle.journal.specs.Journals.{name_of};
+ghost use Rattle.journal.specs.Journals.{ShowsTheSame, name_of};
 
 use crate::reading::{end_of_batches, read_all};
 use crate::{Journal, JournalFault};
@@ -86,6 +86,7 @@ pub fn settle<D: Disk>(disk: &mut D, name: &FileName) -> Result<(), DiskFault>
         → KeepsOrSettlesOthers (D.state disk.old) (D.state disk.new) name.now }
     ensures settles { OnOk result (D.tells disk.new → IsSound (D.state disk.old)
         → SettlesOthers (D.state disk.old) (D.state disk.new) name.now) }
+    ensures shows { D.tells disk.new → ShowsTheSame (D.state disk.old) (D.state disk.new) }
 
     ensures told { D.tells disk.new → D.tells disk.old }
     ensures failed { IsErrOf result DiskFault.Failed → D.has_failed disk.new }
@@ -122,8 +123,8 @@ pub fn open<D: Disk>(
     ensures told { D.tells disk.new → D.tells disk.old }
     ensures failed { IsErrOf result (JournalFault.Disk DiskFault.Failed) → D.has_failed disk.new }
     ensures full { IsErrOf result (JournalFault.Disk DiskFault.Full) → D.has_failed disk.new }
-    ensures missing { D.tells disk.new → IsErrOf result (JournalFault.Disk DiskFault.Missing)
-        → IsNone ((D.state disk.old).entries name).now }
+    ensures not_missing { D.tells disk.new → (file : List ℕ) → IsOnDisk (D.state disk.old) name file
+        → ¬ (IsErrOf result (JournalFault.Disk DiskFault.Missing)) }
     ensures not_exists { D.tells disk.new → ¬ (IsErrOf result (JournalFault.Disk DiskFault.Exists)) }
     ensures too_long { D.tells disk.new → IsErrOf result JournalFault.TooLong → (file : List ℕ)
         → IsOnDisk (D.state disk.old) name file → 2 ^ 40 ≤ length file }
