@@ -3,7 +3,7 @@ use Rattle.std.proofs.Common.{◌≡◌, ◌⊎◌, inl, inr, ℕ, ◌≤◌, Li
 use Rattle.std.proofs.lemmas.List.{append-nil}
 use Rattle.std.specs.List.{AllByRecursion}
 use Rattle.std.specs.Prelude.{Some}
-use Rattle.journal.specs.Batches.{HasBatches}
+use Rattle.journal.specs.Batches.{HasBatches, IsBody, batches_text}
 use Rattle.journal.proofs.Readings.{one_reading}
 use Rattle.archive_text.specs.Entries.{Entry, Has, IsEntry}
 use Rattle.archive_text.specs.Text.{BeginsWithEntry, entry_text, text_of}
@@ -13,6 +13,7 @@ use Rattle.archive_text.proofs.Texts.{entry_carries, no_text, one_beginning, tex
 use Rattle.record_store.specs.Holdings.{BatchHas, BatchesHave, HeldAt, IsBatch, JournalHas}
 use Rattle.record_store.specs.Names.{IsJournal}
 use Rattle.record_store.proofs.Named.{not_both}
+use Rattle.record_store.proofs.Readings.{none_short}
 
 -- ---- a batch is of one list of entries
 
@@ -101,3 +102,17 @@ pub held_in_journal : (name file : List ℕ) (bodies : List (List ℕ)) (e : Ent
     → HasBatches file bodies → BatchesHave bodies e → HeldAt name (Some file) e
 held_in_journal name file bodies e is batches has =
     inl (is, record { bodies = bodies; batches = batches; has = has })
+
+-- batches and nothing behind them
+pub text_has : (text : List ℕ) (bodies : List (List ℕ)) → text ≡ batches_text bodies → AllByRecursion IsBody bodies
+    → HasBatches text bodies
+text_has text bodies is sized = record {
+  tail = [];
+  text = is ∙ sym (append-nil (batches_text bodies));
+  closed = none_short [] (omega arith);
+  sized = sized;
+}
+
+-- no batches have no entries
+pub nothing_has : (text : List ℕ) (e : Entry) → text ≡ [] → JournalHas text e → ⊥
+nothing_has text e none has = journal_has text [] e (text_has text [] none tt) has

@@ -1,10 +1,8 @@
 -- A batch is committed.
-use Rattle.std.proofs.Common.{◌≡◌, ◌≢◌, ◌⊎◌, inl, inr, ⊎_elim, ℕ, Bool, true, false, if◌then◌else◌, List, []}
-use Rattle.std.proofs.Common.{◌∷◌, ◌++◌, sym, ap, subst, ◌∙◌}
-use Rattle.std.specs.Prelude.{Option, None, Some, IsSomeAnd, bytes_eq}
-use Rattle.std.proofs.lemmas.Bool.{cases_Bool}
-use Rattle.std.proofs.lemmas.Slice.Eq.{bytes_eq-Decides}
+use Rattle.std.proofs.Common.{◌≡◌, ◌⊎◌, inl, inr, ⊎_elim, ℕ, ◌<◌, ◌^◌, List, [], ◌∷◌, ◌++◌, refl, sym, ap, subst, ◌∙◌}
+use Rattle.std.specs.Prelude.{Option, None, Some, IsSomeAnd}
 use Rattle.disk.specs.Files.{settled}
+use Rattle.disk.specs.Memory.{shown_now}
 use Rattle.disk.specs.States.{Entry as DiskEntry, Files, NameMayLeave, State}
 use Rattle.journal.specs.Batches.{HasBatches, batches_text}
 use Rattle.journal.specs.Journals.{KeepsOthers, LeavesBatches, Stands as JournalStands, WithOrWithout, only_file}
@@ -12,58 +10,25 @@ use Rattle.journal.specs.declared.journal.Journal.{Journal}
 use Rattle.journal.proofs.Batches.{before_closed}
 use Rattle.archive_text.specs.Entries.{Entry, Has}
 use Rattle.archive_text.proofs.Members.{has_either}
-use Rattle.record_store.specs.Crashes.{Keeps, MayLeaveCounted, Rests, resting}
-use Rattle.record_store.specs.Holdings.{BatchHas, BatchesHave, Held, HeldAt, Holds, IsBatch}
-use Rattle.record_store.specs.Names.{Counts, IsJournal}
-use Rattle.record_store.proofs.Batches.{batch_has, held_in_journal, journal_holds, push_has, pushed_either, pushed_has}
-use Rattle.record_store.proofs.Folders.{HoldsAt, goes_on, one_changes, rests_is}
-use Rattle.record_store.proofs.Leavings.{only_is, resting_one}
+use Rattle.record_store.specs.Crashes.{Keeps, MayLeaveCounted}
+use Rattle.record_store.specs.Holdings.{BatchHas, BatchesHave, Held, HeldAt, IsBatch}
+use Rattle.record_store.specs.Names.{IsJournal, journal_name}
+use Rattle.record_store.specs.Shown.{NoneShownAbove, ShowsWithin}
+use Rattle.record_store.specs.Stores.{AreAmong}
+use Rattle.record_store.proofs.Batches.{batch_has, held_in_journal, journal_has, journal_holds, push_has, pushed_either}
+use Rattle.record_store.proofs.Batches.{pushed_has}
+use Rattle.record_store.proofs.Covering.{CoveredAt, Covers, covers_keeps, one_covers, others_same}
+use Rattle.record_store.proofs.Folders.{HoldsAt}
+use Rattle.record_store.proofs.Leavings.{left_shown, only_is, resting_may}
+use Rattle.record_store.proofs.Showing.{within_of}
 
--- ---- another file under a name
-
-abbrev pub with_file : Files → List ℕ → Option (List ℕ) → Files
-with_file files name file other = if bytes_eq other name then file else files other
-
-pub with-here : (files : Files) (name other : List ℕ) (file : Option (List ℕ)) → other ≡ name
-    → with_file files name file other ≡ file
-with-here files name other file is =
-    ap (λ (b : Bool). if b then file else files other) ((bytes_eq-Decides other name).1 is)
-
-pub with-other : (files : Files) (name other : List ℕ) (file : Option (List ℕ)) → other ≢ name
-    → with_file files name file other ≡ files other
-with-other files name other file apart =
-    ap (λ (b : Bool). if b then file else files other)
-    (⊎_elim (λ yes. absurd (apart ((bytes_eq-Decides other name).0 yes))) (λ no. no) (cases_Bool (bytes_eq other name)))
-
-pub rests_with : (new : State) (files : Files) (name : List ℕ) (file : Option (List ℕ))
-    → ((other : List ℕ) → Counts other → other ≢ name → new.entries other ≡ resting (files other))
-    → new.entries name ≡ resting file → new.lost ≡ false → Rests new (with_file files name file)
-rests_with new files name file others here sound = record {
-  entries = λ other counts. ⊎_elim
-      (λ yes.
-      let is : other ≡ name = (bytes_eq-Decides other name).0 yes in
-      ap new.entries is ∙ here ∙ ap resting (sym (with-here files name other file is)))
-      (λ no.
-      let apart : other ≢ name = λ is. let yes : bytes_eq other name ≡ true = (bytes_eq-Decides other name).1 is in
-      absurd (cc (yes, no)) in
-      others other counts apart ∙ ap resting (sym (with-other files name other file apart)))
-      (cases_Bool (bytes_eq other name));
-  sound = sound;
-}
-
--- ---- a journal's file
-
-module _ (old : State) (journal : Journal) (files : Files) (bodies : List (List ℕ)) (is : IsJournal journal.name)
-    (rests : Rests old files) (stands : JournalStands journal old bodies) where
+module _ (old : State) (journal : Journal) (bodies : List (List ℕ)) (is : IsJournal journal.name)
+    (stands : JournalStands journal old bodies) where
   abbrev file : List ℕ
   file = batches_text bodies ++ stands.gate ∷ []
 
-  pub has : HasBatches (batches_text bodies ++ stands.gate ∷ []) bodies
+  has : HasBatches (batches_text bodies ++ stands.gate ∷ []) bodies
   has = before_closed bodies stands.gate [] stands.closed stands.sized
-
-  pub file_is : files journal.name ≡ Some (batches_text bodies ++ stands.gate ∷ [])
-  file_is = resting_one (files journal.name) (batches_text bodies ++ stands.gate ∷ [])
-      (sym (rests.entries journal.name (inl is)) ∙ stands.entry)
 
   module _ (new : State) (body : List ℕ) (keeps : KeepsOthers old new journal.name)
       (leaves : LeavesBatches new journal.name (WithOrWithout bodies body)) where
@@ -92,19 +57,38 @@ module _ (old : State) (journal : Journal) (files : Files) (bodies : List (List 
           (nothing_else found e which (journal_holds journal.name f found e is batches held));
     }
 
-    pub commit_holds : (after : Files) → MayLeaveCounted new after → Holds files after (BatchHas body)
-    commit_holds after may =
-        one_changes files after journal.name (BatchHas body)
-        (λ other counts apart. rests_is old files after other rests counts
-        (subst (λ (e : DiskEntry). NameMayLeave e (after other)) (keeps other apart) (may other counts)))
-        (subst (λ (o : Option (List ℕ)). HoldsAt journal.name o (after journal.name) (BatchHas body)) (sym file_is)
-        (holds_at (after journal.name) (leaves (after journal.name) (may journal.name (inl is)))))
+    commit_covers : Covers old new (BatchHas body)
+    commit_covers =
+        one_covers old new journal.name (BatchHas body) (inl is) (others_same old new journal.name keeps)
+        (λ octets may. record {
+          was = Some file;
+          may = subst (λ (e : DiskEntry). NameMayLeave e (Some file)) (sym stands.entry) (resting_may (Some file));
+          holds = holds_at octets (leaves octets may);
+        })
 
     pub commit_keeps : (committed received waiting : List Entry) → Keeps old committed received
-        → IsBatch waiting body → ((e : Entry) → Has waiting e → Has received e) → Keeps new committed received
+        → IsBatch waiting body → AreAmong waiting received → Keeps new committed received
     commit_keeps committed received waiting keeps_then batch within =
-        goes_on old new files committed received (BatchHas body) rests keeps_then
-        (λ e has_e. within e (batch_has waiting body e batch has_e)) commit_holds
+        covers_keeps old new (BatchHas body) commit_covers committed received
+        (λ e has_e. within e (batch_has waiting body e batch has_e)) keeps_then
+
+    -- what a read shows
+    pub commit_within : (number : ℕ) (waiting since : List Entry) → number < 2 ^ 64
+        → journal.name ≡ journal_name number → NoneShownAbove new number → IsBatch waiting body
+        → AreAmong waiting since → ((e : Entry) → BatchesHave bodies e → Has since e) → ShowsWithin new since
+    commit_within number waiting since small named above batch waits within =
+        let left = left_shown (new.entries journal.name)
+        (λ f. (found : List (List ℕ)) × HasBatches f found × WithOrWithout bodies body found) leaves in
+        within_of new number left.0 since
+        (record {
+          small = small;
+          shown = ap (λ (n : List ℕ). shown_now (new.entries n)) (sym named) ∙ left.1;
+          none_above = above;
+        })
+        (λ e held. ⊎_elim
+        (λ before. within e before)
+        (λ last. waits e (batch_has waiting body e batch last))
+        (nothing_else left.2.0 e left.2.2 (journal_has left.0 left.2.0 e left.2.1 held)))
 
     -- the batch is there
     module _ (after_journal : Journal) (same : after_journal.name ≡ journal.name)
@@ -132,8 +116,7 @@ module _ (old : State) (journal : Journal) (files : Files) (bodies : List (List 
       }
 
       pub committed_keeps : (committed received waiting : List Entry) → Keeps old committed received
-          → IsBatch waiting body → ((e : Entry) → Has waiting e → Has received e)
-          → Keeps new (committed ++ waiting) received
+          → IsBatch waiting body → AreAmong waiting received → Keeps new (committed ++ waiting) received
       committed_keeps committed received waiting keeps_then batch within =
           let before = commit_keeps committed received waiting keeps_then batch within in
           record {
@@ -143,7 +126,3 @@ module _ (old : State) (journal : Journal) (files : Files) (bodies : List (List 
                 (has_either committed waiting e has_e);
             nothing_forged = before.nothing_forged;
           }
-
-      pub committed_rests : Rests new (with_file files journal.name (Some file_then))
-      committed_rests = rests_with new files journal.name (Some file_then)
-          (λ other counts apart. keeps other apart ∙ rests.entries other counts) entry_then stands_then.sound

@@ -1,69 +1,101 @@
 -- An empty journal is made.
-use Rattle.std.proofs.Common.{◌≡◌, ◌≢◌, ◌⊎◌, inl, inr, ⊎_elim, ℕ, List, [], ◌∷◌, sym, ap, subst, ◌∙◌}
+use Rattle.std.proofs.Common.{◌≡◌, ◌≢◌, ◌⊎◌, inl, inr, ⊎_elim, ℕ, ◌<◌, ◌^◌, List, [], ◌∷◌, refl, sym, ap, subst, ◌∙◌, arith}
 use Rattle.std.specs.Prelude.{Option, None, Some, IsSomeAnd}
-use Rattle.disk.specs.States.{Entry as DiskEntry, Files, NameMayLeave, State, kept}
+use Rattle.disk.specs.Files.{File}
+use Rattle.disk.specs.Memory.{shown_now}
+use Rattle.disk.specs.States.{MayBe, State}
 use Rattle.journal.specs.Batches.{HasBatches}
-use Rattle.journal.specs.Journals.{KeepsOrSettlesOthers, LeavesNoBatch, Stands as JournalStands}
-use Rattle.journal.specs.declared.journal.Journal.{Journal}
-use Rattle.archive_text.specs.Entries.{Entry}
-use Rattle.record_store.specs.Crashes.{Keeps, MayLeaveCounted, Rests, resting}
-use Rattle.record_store.specs.Holdings.{HeldAt, Holds}
-use Rattle.record_store.specs.Names.{Counts, IsJournal}
-use Rattle.record_store.proofs.Batches.{journal_holds}
-use Rattle.record_store.proofs.Committing.{rests_with, with_file}
-use Rattle.record_store.proofs.Folders.{HoldsAt, goes_on, nothing, one_changes}
-use Rattle.record_store.proofs.Leavings.{resting_is, resting_kept}
+use Rattle.journal.specs.Journals.{KeepsOrSettlesOthers, LeavesNoBatch, SettlesOthers, ShowsNoBatch}
+use Rattle.journal.specs.Journals.{Stands as JournalStands}
+use Rattle.archive_text.specs.Entries.{Entry, Has}
+use Rattle.record_store.specs.Crashes.{Keeps}
+use Rattle.record_store.specs.Holdings.{IsBatch}
+use Rattle.record_store.specs.Names.{IsJournal, journal_name}
+use Rattle.record_store.specs.Shown.{NoneShownAbove, ShowsNoJournal, ShowsWithin, journal_shown}
+use Rattle.record_store.specs.Stores.{AreAmong, IsReady, Stands, begun}
+use Rattle.record_store.specs.declared.store.RecordStore.{RecordStore}
+use Rattle.record_store.proofs.Batches.{journal_holds, no_batch}
+use Rattle.record_store.proofs.Covering.{CoveredAt, Covers, covered_as_before, covers_keeps, one_covers, others_settled}
+use Rattle.record_store.proofs.Folders.{HoldsAt, nothing}
+use Rattle.record_store.proofs.Leavings.{none_kept, none_shown, settled_shown}
+use Rattle.record_store.proofs.Named.{numbers_apart}
+use Rattle.record_store.proofs.Showing.{begun_within, ready_shows}
 
--- what rests and is settled rests
-pub settled_rests : (was : Option (List ℕ)) (old new : DiskEntry) → old ≡ resting was
-    → (new ≡ old) ⊎ (new ≡ kept old) → new ≡ resting was
-settled_rests was old new rests (inl same) = same ∙ rests
-settled_rests was old new rests (inr on_disk) = on_disk ∙ ap kept rests ∙ resting_kept was
+module _ (old new : State) (number : ℕ) (name : List ℕ) (small : number < 2 ^ 64) (named : name ≡ journal_name number)
+    (none : journal_shown old number ≡ None) (others : KeepsOrSettlesOthers old new name) where
+  pub begun_is_journal : IsJournal name
+  begun_is_journal = record { number = number; small = small; name_is = named }
 
-module _ (old new : State) (name : List ℕ) (files : Files) (is : IsJournal name) (rests : Rests old files)
-    (none : files name ≡ None) (others : KeepsOrSettlesOthers old new name) where
-  pub others_rest : (other : List ℕ) → Counts other → other ≢ name → new.entries other ≡ resting (files other)
-  others_rest other counts apart =
-      settled_rests (files other) (old.entries other) (new.entries other) (rests.entries other counts)
-      (others other apart)
+  no_file : (old.entries name).now ≡ None
+  no_file = none_shown (old.entries name) (ap (λ (n : List ℕ). shown_now (old.entries n)) named ∙ none)
 
-  none_or_empty : (octets : Option (List ℕ)) → (octets ≡ None) ⊎ IsSomeAnd octets (λ file. HasBatches file [])
+  holds_none : (octets : Option (List ℕ)) → IsSomeAnd octets (λ file. HasBatches file [])
       → HoldsAt name None octets nothing
-  none_or_empty octets (inl gone) = record {
+  holds_none None empty = absurd empty
+  holds_none (Some file) empty = record {
     kept = λ e held. absurd held;
-    only = λ e held. inl (subst (λ (o : Option (List ℕ)). HeldAt name o e) gone held);
-  }
-  none_or_empty None (inr empty) = absurd empty
-  none_or_empty (Some file) (inr empty) = record {
-    kept = λ e held. absurd held;
-    only = λ e held. absurd (journal_holds name file [] e is empty held);
+    only = λ e held. absurd (journal_holds name file [] e begun_is_journal empty held);
   }
 
-  leaves_none : LeavesNoBatch old new name → (octets : Option (List ℕ)) → NameMayLeave (new.entries name) octets
-      → (octets ≡ None) ⊎ IsSomeAnd octets (λ file. HasBatches file [])
-  leaves_none leaves octets may = ⊎_elim
-      (λ was. inl (resting_is (files name) octets
-      (subst (λ (e : DiskEntry). NameMayLeave e octets) (rests.entries name (inl is)) was) ∙ none))
-      (λ empty. inr empty)
-      (leaves octets may)
+  pub create_covers : LeavesNoBatch old new name → Covers old new nothing
+  create_covers leaves =
+      one_covers old new name nothing (inl begun_is_journal) (others_settled old new name others)
+      (λ octets may. ⊎_elim
+      (λ before. covered_as_before old name octets nothing before)
+      (λ empty. record { was = None; may = inl (subst (λ (f : Option File). MayBe f None) (sym no_file) refl); holds = holds_none octets empty })
+      (leaves octets may))
 
-  pub create_holds : LeavesNoBatch old new name → (after : Files) → MayLeaveCounted new after
-      → Holds files after nothing
-  create_holds leaves after may =
-      one_changes files after name nothing
-      (λ other counts apart. resting_is (files other) (after other)
-      (subst (λ (e : DiskEntry). NameMayLeave e (after other)) (others_rest other counts apart) (may other counts)))
-      (subst (λ (o : Option (List ℕ)). HoldsAt name o (after name) nothing) (sym none)
-      (none_or_empty (after name) (leaves_none leaves (after name) (may name (inl is)))))
-
-  pub create_keeps : (committed received : List Entry) → Keeps old committed received → LeavesNoBatch old new name
+  pub create_keeps : LeavesNoBatch old new name → (committed received : List Entry) → Keeps old committed received
       → Keeps new committed received
-  create_keeps committed received keeps leaves =
-      goes_on old new files committed received nothing rests keeps (λ e none_given. absurd none_given)
-      (create_holds leaves)
+  create_keeps leaves committed received keeps =
+      covers_keeps old new nothing (create_covers leaves) committed received (λ e none_given. absurd none_given) keeps
 
-  pub create_rests : (journal : Journal) → journal.name ≡ name → (stands : JournalStands journal new [])
-      → Rests new (with_file files name (Some (stands.gate ∷ [])))
-  create_rests journal named stands =
-      rests_with new files name (Some (stands.gate ∷ [])) others_rest
-      (ap new.entries (sym named) ∙ stands.entry) stands.sound
+  pub create_within : (since : List Entry) → ShowsNoBatch new name → ShowsWithin old since → ShowsWithin new since
+  create_within since no_batch within =
+      begun_within old new number since small none
+      (subst (λ (n : List ℕ). ShowsNoBatch new n) named no_batch)
+      (λ other apart. settled_shown (old.entries other) (new.entries other)
+      (others other (λ is. apart (is ∙ named))))
+      within
+
+  -- it is ready for entries
+  pub create_ready : (store : RecordStore) (since : List Entry) → NoneShownAbove old number → store.number ≡ number
+      → store.journal.name ≡ name → SettlesOthers old new name → JournalStands store.journal new []
+      → IsReady store new since
+  create_ready store since above number_is name_is settles journal = record {
+    small = subst (λ (n : ℕ). n < 2 ^ 64) (sym number_is) small;
+    named = name_is ∙ named ∙ ap journal_name (sym number_is);
+    bodies = [];
+    stands = journal;
+    has = λ e has. absurd has;
+    newest = λ n later n_small.
+        let over : number < n = subst (λ (k : ℕ). k < n) number_is later in
+        settles (journal_name n) (numbers_apart number n small over n_small name named)
+        ∙ none_kept (old.entries (journal_name n)) (above n over n_small);
+  }
+
+  pub create_stands : (store : RecordStore) (committed received since : List Entry) → LeavesNoBatch old new name
+      → Keeps old committed received → AreAmong since received → NoneShownAbove old number → store.number ≡ number
+      → store.batch.items ≡ [] → store.journal.name ≡ name → SettlesOthers old new name
+      → JournalStands store.journal new [] → Stands store new (begun committed received since)
+  create_stands store committed received since leaves keeps among above number_is empty name_is settles journal =
+      let ready = create_ready store since above number_is name_is settles journal in
+      record {
+        keeps = create_keeps leaves committed received keeps;
+        batch = subst (IsBatch []) (sym empty) no_batch;
+        waits = λ e has. absurd has;
+        within = among;
+        ready = λ whole. ready;
+        shows = λ sound. ready_shows store new since ready;
+      }
+
+-- ---- a folder that shows no journal
+
+pub none_named : (state : State) (name : List ℕ) → name ≡ journal_name 1 → ShowsNoJournal state
+    → shown_now (state.entries name) ≡ None
+none_named state name named none =
+    ap (λ (n : List ℕ). shown_now (state.entries n)) named ∙ none 1 (omega arith)
+
+pub none_within : (state : State) → ShowsNoJournal state → (since : List Entry) → ShowsWithin state since
+none_within state none since number octets newest e has =
+    let gone : journal_shown state number ≡ None = none number newest.small in absurd (cc (gone, newest.shown))

@@ -6,7 +6,7 @@ use Rattle.archive_text.specs.Entries.{Entry, Has}
 use Rattle.record_store.specs.Crashes.{Keeps, MayLeaveCounted, Rests}
 use Rattle.record_store.specs.Holdings.{Held, HeldAt, Holds}
 use Rattle.record_store.specs.Names.{Counts}
-use Rattle.record_store.proofs.Leavings.{resting_is, resting_may}
+use Rattle.record_store.proofs.Leavings.{resting_is}
 use Rattle.record_store.proofs.Named.{same_or_apart}
 
 -- what holds something counts
@@ -55,27 +55,11 @@ module _ (before after : Files) (name : List ℕ) (given : Entry → Type 0)
 
 -- ---- a folder that rests
 
-pub rests_may : (state : State) (files : Files) → Rests state files → MayLeaveCounted state files
-rests_may state files rests name counts =
-    subst (λ (e : DiskEntry). NameMayLeave e (files name)) (sym (rests.entries name counts)) (resting_may (files name))
-
 pub rests_is : (state : State) (files after : Files) (name : List ℕ) → Rests state files → Counts name
     → NameMayLeave (state.entries name) (after name) → after name ≡ files name
 rests_is state files after name rests counts may =
     resting_is (files name) (after name)
     (subst (λ (e : DiskEntry). NameMayLeave e (after name)) (rests.entries name counts) may)
-
--- a call whatever it does: each folder that a crash leaves holds what was there, and what was received
-pub goes_on : (old new : State) (files : Files) (committed received : List Entry) (given : Entry → Type 0)
-    → Rests old files → Keeps old committed received → ((e : Entry) → given e → Has received e)
-    → ((after : Files) → MayLeaveCounted new after → Holds files after given) → Keeps new committed received
-goes_on old new files committed received given rests keeps were holds =
-    let here = rests_may old files rests in
-    record {
-      nothing_lost = λ after may e has. (holds after may).kept e (keeps.nothing_lost files here e has);
-      nothing_forged = λ after may e held. ⊎_elim (keeps.nothing_forged files here e) (were e)
-          ((holds after may).only e held);
-    }
 
 -- nothing is given
 abbrev pub nothing : Entry → Type 0

@@ -1,7 +1,9 @@
 -- What a crash may leave under one name.
-use Rattle.std.proofs.Common.{◌≡◌, ◌⊎◌, inl, inr, ℕ, List, [], ◌∷◌, ◌++◌, refl, ap, arith}
-use Rattle.std.specs.Prelude.{Option, None, Some}
-use Rattle.disk.specs.Files.{File, settled}
+use Rattle.std.proofs.Common.{◌≡◌, ◌⊎◌, inl, inr, ℕ, List, [], ◌∷◌, ◌++◌, refl, ap, subst, arith}
+use Rattle.std.specs.Prelude.{Option, None, Some, IsSomeAnd, false}
+use Rattle.std.specs.Option.{option_map}
+use Rattle.disk.specs.Files.{File, MayBecome, settled}
+use Rattle.disk.specs.Memory.{shown_now}
 use Rattle.disk.specs.States.{AnyMayBe, Entry, MayBe, NameMayLeave, kept, retired}
 use Rattle.journal.specs.Journals.{only_file}
 use Rattle.journal.proofs.Repair.{same_octets}
@@ -25,10 +27,65 @@ resting_is None octets (inr (inl past)) = absurd past
 resting_is None octets (inr (inr moved)) = absurd (cc moved)
 resting_is (Some text) octets may = only_is text octets may
 
+-- what is shown may be left
+pub shown_may : (file : File) → MayBecome file file.shown
+shown_may file = record { no_shorter = omega arith; no_longer = omega arith; kept = λ i below apart. refl }
+
+shown_may_be : (file : Option File) → MayBe file (option_map (λ (f : File). f.shown) file)
+shown_may_be None = refl
+shown_may_be (Some file) = shown_may file
+
+pub shown_left : (entry : Entry) → NameMayLeave entry (shown_now entry)
+shown_left entry = inl (shown_may_be entry.now)
+
+-- where a file is left whatever a crash does, one is shown
+pub left_shown : (entry : Entry) (Q : List ℕ → Type 0)
+    → ((octets : Option (List ℕ)) → NameMayLeave entry octets → IsSomeAnd octets Q)
+    → (octets : List ℕ) × (shown_now entry ≡ Some octets) × Q octets
+left_shown entry Q leaves = of (shown_now entry) refl (leaves (shown_now entry) (shown_left entry))
+  where
+    of : (o : Option (List ℕ)) → shown_now entry ≡ o → IsSomeAnd o Q
+        → (octets : List ℕ) × (shown_now entry ≡ Some octets) × Q octets
+    of None is q = absurd q
+    of (Some octets) is q = (octets, is, q)
+
+-- the file that is shown
+pub shown_file : (now : Option File) (octets : List ℕ) → option_map (λ (f : File). f.shown) now ≡ Some octets
+    → (file : File) × (now ≡ Some file) × (file.shown ≡ octets)
+shown_file None octets is = absurd (cc is)
+shown_file (Some file) octets is = (file, refl, cc is)
+
+none_now : (now : Option File) → option_map (λ (f : File). f.shown) now ≡ None → now ≡ None
+none_now None is = refl
+none_now (Some file) is = absurd (cc is)
+
+-- where none is shown, there is none
+pub none_shown : (entry : Entry) → shown_now entry ≡ None → entry.now ≡ None
+none_shown entry none = none_now entry.now none
+
+-- and once the folder is synced nothing is left
+pub none_kept : (entry : Entry) → shown_now entry ≡ None → kept entry ≡ resting None
+none_kept entry none =
+    ap (λ (now : Option File). record { now = now; past = []; moved = false }) (none_shown entry none)
+
+-- a name that is on the disk now leaves no more than before
+pub settled_may : (old new : Entry) (octets : Option (List ℕ)) → (new ≡ old) ⊎ (new ≡ kept old)
+    → NameMayLeave new octets → NameMayLeave old octets
+settled_may old new octets (inl same) may = subst (λ (e : Entry). NameMayLeave e octets) same may
+settled_may old new octets (inr on_disk) may = elim (subst (λ (e : Entry). NameMayLeave e octets) on_disk may) [
+  | inl now ↦ inl now
+  | inr (inl none) ↦ absurd none
+  | inr (inr moved) ↦ absurd (cc moved)
+]
+
+pub settled_shown : (old new : Entry) → (new ≡ old) ⊎ (new ≡ kept old) → shown_now new ≡ shown_now old
+settled_shown old new (inl same) = ap shown_now same
+settled_shown old new (inr on_disk) = ap shown_now on_disk
+
 pub resting_may : (was : Option (List ℕ)) → NameMayLeave (resting was) was
 resting_may None = inl refl
 resting_may (Some text) =
-    inl (record { no_shorter = omega arith; no_longer = omega arith; kept = λ i below apart. refl })
+    inl (shown_may (settled text))
 
 -- it is settled already
 pub resting_kept : (was : Option (List ℕ)) → kept (resting was) ≡ resting was

@@ -1,5 +1,7 @@
 pub mod Batches
+pub mod Causing
 pub mod Committing
+pub mod Covering
 pub mod Creating
 pub mod Folders
 pub mod Leavings
@@ -11,4 +13,5 @@ pub mod Numbered
 pub mod Opened
 pub mod Placed
 pub mod Readings
+pub mod Showing
 pub mod Standing

@@ -3,7 +3,7 @@ use Rattle.std.proofs.Common.{◌≡◌, ⊎_elim, ℕ, ◌<◌, ◌^◌, List, 
 use Rattle.std.specs.Prelude.{Contains, Option, None, Some, IfNone, IfSome, IsNone}
 use Rattle.std.proofs.lemmas.List.Elements.{Contains-append_left, Contains-push, Contains-push_cases}
 use Rattle.record_store.specs.Names.{IsGreater, IsJournal, IsNewest, IsUpTo, NoneAbove, journal_name}
-use Rattle.record_store.proofs.Standing.{other_number}
+use Rattle.record_store.proofs.Named.{other_number}
 
 none_contained : (x : List ℕ) → Contains [] x → ⊥
 none_contained x (k, below, same) = omega (arith, below)

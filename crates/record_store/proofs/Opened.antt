@@ -1,162 +1,185 @@
--- A folder's newest journal is opened.
-use Rattle.std.proofs.Common.{◌≡◌, inl, ℕ, ◌<◌, ◌^◌, List, [], ◌∷◌, ◌++◌, refl, sym, ap, subst, ◌∙◌, arith}
-use Rattle.std.specs.Prelude.{Option, None, Some, IsSome, IsSomeAnd}
-use Rattle.std.proofs.lemmas.List.{append-nil}
-use Rattle.std.specs.List.{AllByRecursion}
-use Rattle.disk.specs.States.{Entry as DiskEntry, Files, NameMayLeave, State}
-use Rattle.journal.specs.Batches.{HasBatches, IsBody, batches_text}
+-- A journal that a read shows is brought to the disk and opened.
+use Rattle.std.proofs.Common.{◌≡◌, ◌⊎◌, inl, inr, ⊎_elim, ℕ, ◌<◌, ◌^◌, List, [], ◌∷◌, ◌++◌, refl, sym, ap, subst, ◌∙◌}
+use Rattle.std.specs.Prelude.{Option, None, Some, IsSomeAnd, Result, Ok, Err}
+use Rattle.disk.specs.Calls.{IsUnchanged}
+use Rattle.disk.specs.Files.{File}
+use Rattle.disk.specs.Memory.{shown_now}
+use Rattle.disk.specs.States.{Entry as DiskEntry, Files, NameMayLeave, State, kept}
+use Rattle.journal.specs.Batches.{HasBatches}
 use Rattle.journal.specs.declared.journal.Journal.{Journal}
-use Rattle.journal.specs.Journals.{IsOnDisk, KeepsOthers, LeavesThese, OpensOn}
+use Rattle.journal.specs.Journals.{IsOnDisk, IsSound, KeepsOrSettlesOthers, KeepsOthers, LeavesThese, OpensOn}
+use Rattle.journal.specs.Journals.{SettlesOthers, Shows, ShowsTheSame}
 use Rattle.archive_text.specs.Entries.{Entry, Has}
-use Rattle.record_store.specs.Crashes.{Keeps, MayLeaveCounted, Rests, resting}
-use Rattle.record_store.specs.Holdings.{BatchesHave, Held, HeldAt, Holds, IsBatch, JournalHas}
+use Rattle.record_store.specs.Crashes.{Keeps, MayLeaveCounted}
+use Rattle.record_store.specs.Holdings.{BatchesHave, HeldAt, IsBatch, JournalHas}
 use Rattle.record_store.specs.Names.{IsJournal, journal_name}
-use Rattle.record_store.specs.Stores.{IsNewestOf, Stands, begun}
+use Rattle.record_store.specs.Shown.{GivesNewest, GivesShown, IsNewestShown, ShowsNoJournal, ShowsTheBatches}
+use Rattle.record_store.specs.Shown.{ShowsWithin, journal_shown}
+use Rattle.record_store.specs.Stores.{AreAmong, IsReady, Stands, begun}
 use Rattle.record_store.specs.declared.store.RecordStore.{RecordStore}
-use Rattle.record_store.proofs.Batches.{held_in_journal, journal_has, journal_holds, no_batch}
-use Rattle.record_store.proofs.Committing.{rests_with, with_file}
-use Rattle.record_store.proofs.Folders.{HoldsAt, goes_on, nothing, one_changes, rests_is}
-use Rattle.record_store.proofs.Readings.{none_short, some_batches}
-use Rattle.record_store.proofs.Standing.{later_none}
+use Rattle.record_store.proofs.Batches.{held_in_journal, journal_holds, no_batch, nothing_has, text_has}
+use Rattle.record_store.proofs.Covering.{CoveredAt, Covers, covered_as_before, covers_keeps, one_covers, others_same}
+use Rattle.record_store.proofs.Covering.{others_settled}
+use Rattle.record_store.proofs.Folders.{HoldsAt, nothing}
+use Rattle.record_store.proofs.Leavings.{left_shown, none_kept, resting_may, shown_file, shown_left}
+use Rattle.record_store.proofs.Named.{numbers_apart}
+use Rattle.record_store.proofs.Readings.{some_batches}
+use Rattle.record_store.proofs.Showing.{ready_shows, text_given}
 
--- what is there is some file
-pub some_file : (file : Option (List ℕ)) → IsSome file → (octets : List ℕ) × (file ≡ Some octets)
-some_file None some = absurd (cc some)
-some_file (Some octets) some = (octets, refl)
+-- ---- what is shown is brought to the disk
 
--- where a read shows a file there is one
-pub shown_some : (was : Option (List ℕ)) → IsSome (resting was).now → IsSome was
-shown_some None some = absurd (cc some)
-shown_some (Some octets) some = refl
+-- what may be left is what is shown, or what might have been left before
+abbrev pub LeavesShown : State → State → List ℕ → Type 0
+LeavesShown old new name = (file : File) (octets : Option (List ℕ)) → Shows old name file
+    → NameMayLeave (new.entries name) octets → NameMayLeave (old.entries name) octets ⊎ (octets ≡ Some file.shown)
 
-pub shown_none : (was : Option (List ℕ)) → ¬ (IsSome (resting was).now) → was ≡ None
-shown_none None none = refl
-shown_none (Some octets) none = absurd (none refl)
+module _ (old new : State) (name octets : List ℕ) (is : IsJournal name) (sound : IsSound old)
+    (shown : shown_now (old.entries name) ≡ Some octets) where
+  shows_file : Shows old name (shown_file (old.entries name).now octets shown).0
+  shows_file = record { now = (shown_file (old.entries name).now octets shown).1; sound = sound }
 
--- batches and nothing behind them
-pub text_has : (text : List ℕ) (bodies : List (List ℕ)) → text ≡ batches_text bodies → AllByRecursion IsBody bodies
-    → HasBatches text bodies
-text_has text bodies is sized = record {
-  tail = [];
-  text = is ∙ sym (append-nil (batches_text bodies));
-  closed = none_short [] (omega arith);
-  sized = sized;
+  settle_covers : KeepsOrSettlesOthers old new name → LeavesShown old new name → Covers old new nothing
+  settle_covers others leaves =
+      one_covers old new name nothing (inl is) (others_settled old new name others)
+      (λ found may. ⊎_elim
+      (λ before. covered_as_before old name found nothing before)
+      (λ (same : found ≡ Some (shown_file (old.entries name).now octets shown).0.shown).
+      covered_as_before old name found nothing
+      (subst (NameMayLeave (old.entries name))
+      (shown ∙ sym (same ∙ ap (λ (l : List ℕ). Some l) (shown_file (old.entries name).now octets shown).2))
+      (shown_left (old.entries name))))
+      (leaves (shown_file (old.entries name).now octets shown).0 found shows_file may))
+
+  pub settle_keeps : KeepsOrSettlesOthers old new name → LeavesShown old new name
+      → (committed received : List Entry) → Keeps old committed received → Keeps new committed received
+  settle_keeps others leaves committed received keeps =
+      covers_keeps old new nothing (settle_covers others leaves) committed received (λ e none. absurd none) keeps
+
+pub settled_on_disk : (old new : State) (name octets : List ℕ) → IsSound old
+    → shown_now (old.entries name) ≡ Some octets
+    → ((file : File) → Shows old name file → IsOnDisk new name file.shown) → IsOnDisk new name octets
+settled_on_disk old new name octets sound shown on_disk =
+    let file = shown_file (old.entries name).now octets shown in
+    subst (IsOnDisk new name) file.2 (on_disk file.0 (record { now = file.1; sound = sound }))
+
+pub settled_shows : (old new : State) (name : List ℕ) → ShowsTheSame old new → ShowsTheBatches old new name
+settled_shows old new name same = record {
+  others = λ other apart. same other;
+  here = λ octets bodies shown has. (octets, same name ∙ shown, has);
 }
 
--- no batches have no entries
-pub nothing_has : (text : List ℕ) (e : Entry) → text ≡ [] → JournalHas text e → ⊥
-nothing_has text e none has = journal_has text [] e (text_has text [] none tt) has
+-- ---- and opened
 
-module _ (old new : State) (name : List ℕ) (files : Files) (file : List ℕ) (is : IsJournal name)
-    (rests : Rests old files) (there : files name ≡ Some file) (others : KeepsOthers old new name) where
-  pub on_disk : IsOnDisk old name file
-  on_disk = record { entry = rests.entries name (inl is) ∙ ap resting there; sound = rests.sound }
-
-  module _ (leaves : (bodies : List (List ℕ)) → HasBatches file bodies → LeavesThese new name bodies) where
-    abbrev bodies : List (List ℕ)
-    bodies = (some_batches file).0
-
-    holds_at : (octets : Option (List ℕ))
-        → IsSomeAnd octets (λ f. (found : List (List ℕ)) × HasBatches f found × (found ≡ bodies))
-        → HoldsAt name (Some file) octets nothing
-    holds_at None some = absurd some
-    holds_at (Some f) (found, has, same) = record {
-      kept = λ e held. held_in_journal name f found e is has
-          (subst (λ (b : List (List ℕ)). BatchesHave b e) (sym same)
-          (journal_holds name file bodies e is (some_batches file).1 held));
-      only = λ e held. inl (held_in_journal name file bodies e is (some_batches file).1
-          (subst (λ (b : List (List ℕ)). BatchesHave b e) same (journal_holds name f found e is has held)));
-    }
-
-    pub open_holds : (after : Files) → MayLeaveCounted new after → Holds files after nothing
-    open_holds after may =
-        one_changes files after name nothing
-        (λ other counts apart. rests_is old files after other rests counts
-        (subst (λ (e : DiskEntry). NameMayLeave e (after other)) (others other apart) (may other counts)))
-        (subst (λ (o : Option (List ℕ)). HoldsAt name o (after name) nothing) (sym there)
-        (holds_at (after name) (leaves bodies (some_batches file).1 (after name) (may name (inl is)))))
-
-    pub open_keeps : (committed received : List Entry) → Keeps old committed received → Keeps new committed received
-    open_keeps committed received keeps =
-        goes_on old new files committed received nothing rests keeps (λ e none. absurd none) open_holds
-
-    pub opened_stands : (store : RecordStore) (committed received since : List Entry) (text : List ℕ)
-        → Keeps old committed received → store.number < 2 ^ 64 → name ≡ journal_name store.number
-        → store.journal.name ≡ name → store.batch.items ≡ []
-        → ((n : ℕ) → store.number < n → n < 2 ^ 64 → files (journal_name n) ≡ None)
-        → OpensOn store.journal new file text → ((e : Entry) → JournalHas text e → Has since e)
-        → Stands store new (begun committed received since)
-    opened_stands store committed received since text keeps small named same empty none_above opens are = record {
-      keeps = open_keeps committed received keeps;
-      batch = subst (IsBatch []) (sym empty) no_batch;
-      within = λ e has. absurd has;
-      ready = λ not_broken. (
-        with_file files name (Some (batches_text opens.bodies ++ opens.stands.gate ∷ [])),
-        record {
-          rests = rests_with new files name (Some (batches_text opens.bodies ++ opens.stands.gate ∷ []))
-              (λ other counts apart. others other apart ∙ rests.entries other counts)
-              (ap new.entries (sym same) ∙ opens.stands.entry) opens.stands.sound;
-          small = small;
-          named = same ∙ named;
-          bodies = opens.bodies;
-          stands = opens.stands;
-          has = λ e has. are e (record {
-            bodies = opens.bodies;
-            batches = text_has text opens.bodies opens.text_is opens.has.sized;
-            has = has;
-          });
-          newest = later_none files store.number name (Some (batches_text opens.bodies ++ opens.stands.gate ∷ [])) small
-              named
-              none_above;
-        },
-      );
-    }
-
--- ---- the journal of the greatest number
-
-module _ (old new : State) (name : List ℕ) (files : Files) (number : ℕ) (rests : Rests old files)
-    (newest : IsNewestOf files number) (small : number < 2 ^ 64) (named : name ≡ journal_name number)
-    (others : KeepsOthers old new name)
+module _ (old new : State) (name octets : List ℕ) (on_disk : IsOnDisk old name octets)
     (leaves : (file : List ℕ) (bodies : List (List ℕ)) → IsOnDisk old name file → HasBatches file bodies
-    → LeavesThese new name bodies) where
-  numbered : IsJournal name
-  numbered = record { number = number; small = small; name_is = named }
+    → LeavesThese new name bodies) (others : KeepsOthers old new name) where
+  open_holds : (is : IsJournal name) (found : Option (List ℕ))
+      → IsSomeAnd found (λ f. (bodies : List (List ℕ)) × HasBatches f bodies × (bodies ≡ (some_batches octets).0))
+      → HoldsAt name (Some octets) found nothing
+  open_holds is None some = absurd some
+  open_holds is (Some f) (bodies, has, same) = record {
+    kept = λ e held. held_in_journal name f bodies e is has
+        (subst (λ (b : List (List ℕ)). BatchesHave b e) (sym same)
+        (journal_holds name octets (some_batches octets).0 e is (some_batches octets).1 held));
+    only = λ e held. inl (held_in_journal name octets (some_batches octets).0 e is (some_batches octets).1
+        (subst (λ (b : List (List ℕ)). BatchesHave b e) same (journal_holds name f bodies e is has held)));
+  }
 
-  its_file : (octets : List ℕ) × (files (journal_name number) ≡ Some octets)
-  its_file = some_file (files (journal_name number)) newest.some
+  open_covers : IsJournal name → Covers old new nothing
+  open_covers is =
+      one_covers old new name nothing (inl is) (others_same old new name others)
+      (λ found may. record {
+        was = Some octets;
+        may = subst (λ (e : DiskEntry). NameMayLeave e (Some octets)) (sym on_disk.entry) (resting_may (Some octets));
+        holds = open_holds is found (leaves octets (some_batches octets).0 on_disk (some_batches octets).1 found may);
+      })
 
-  is_there : files name ≡ Some its_file.0
-  is_there = ap files named ∙ its_file.1
+  pub open_keeps : IsJournal name → (committed received : List Entry) → Keeps old committed received
+      → Keeps new committed received
+  open_keeps is committed received keeps =
+      covers_keeps old new nothing (open_covers is) committed received (λ e none. absurd none) keeps
 
-  is_on_disk : IsOnDisk old name its_file.0
-  is_on_disk = on_disk old new name files its_file.0 numbered rests is_there others
+  pub open_shows : (zero : State) → ShowsTheSame zero old → ShowsTheBatches zero new name
+  open_shows zero same = record {
+    others = λ other apart. ap shown_now (others other apart) ∙ same other;
+    here = λ file bodies shown has.
+        let is : Some file ≡ Some octets = sym shown ∙ sym (same name) ∙ ap shown_now on_disk.entry in
+        let one : file ≡ octets = cc is in
+        let left = left_shown (new.entries name)
+        (λ f. (found : List (List ℕ)) × HasBatches f found × (found ≡ bodies))
+        (leaves octets bodies on_disk (subst (λ (l : List ℕ). HasBatches l bodies) one has)) in
+        (left.0, left.1, subst (HasBatches left.0) left.2.2 left.2.1);
+  }
 
-  its_leaves : (found : List (List ℕ)) → HasBatches its_file.0 found → LeavesThese new name found
-  its_leaves found has = leaves its_file.0 found is_on_disk has
+pub opened_settles : (zero one two : State) (name : List ℕ) → SettlesOthers zero one name → KeepsOthers one two name
+    → SettlesOthers zero two name
+opened_settles zero one two name settles keeps other apart = keeps other apart ∙ settles other apart
 
-  pub journal_keeps : (committed received : List Entry) → Keeps old committed received → Keeps new committed received
-  journal_keeps committed received keeps =
-      open_keeps old new name files its_file.0 numbered rests is_there others its_leaves committed received keeps
+-- ---- the store of the newest journal
 
-  pub journal_stands : (store : RecordStore) (committed received since : List Entry) (text : List ℕ)
-      → Keeps old committed received → store.number ≡ number → store.journal.name ≡ name → store.batch.items ≡ []
-      → ((file : List ℕ) → IsOnDisk old name file → OpensOn store.journal new file text)
+module _ (old new : State) (number : ℕ) (octets : List ℕ) (newest : IsNewestShown old number octets) (name : List ℕ)
+    (named : name ≡ journal_name number) where
+  pub newest_is_journal : IsJournal name
+  newest_is_journal = record { number = number; small = newest.small; name_is = named }
+
+  pub newest_shown : shown_now (old.entries name) ≡ Some octets
+  newest_shown = ap (λ (n : List ℕ). shown_now (old.entries n)) named ∙ newest.shown
+
+  pub opened_stands : (store : RecordStore) (committed received since : List Entry) (text : List ℕ)
+      → Keeps new committed received → AreAmong since received → store.number ≡ number → store.journal.name ≡ name
+      → store.batch.items ≡ [] → SettlesOthers old new name → OpensOn store.journal new octets text
       → ((e : Entry) → JournalHas text e → Has since e) → Stands store new (begun committed received since)
-  journal_stands store committed received since text keeps number_is same empty opens are =
-      opened_stands old new name files its_file.0 numbered rests is_there others its_leaves store committed received
-      since text keeps (subst (λ (n : ℕ). n < 2 ^ 64) (sym number_is) small) (named ∙ ap journal_name (sym number_is)) same
-      empty (λ n later fits. newest.none_above n (subst (λ (k : ℕ). k < n) number_is later) fits)
-      (opens its_file.0 is_on_disk) are
-
-  -- what the batches have, the folder holds
-  pub journal_held : (journal : Journal) (text : List ℕ)
-      → ((file : List ℕ) → IsOnDisk old name file → OpensOn journal new file text) → (e : Entry) → JournalHas text e
-      → Held files e
-  journal_held journal text opens e has =
-      let o = opens its_file.0 is_on_disk in
+  opened_stands store committed received since text keeps among number_is same empty settles opens are =
+      let ready : IsReady store new since = record {
+        small = subst (λ (n : ℕ). n < 2 ^ 64) (sym number_is) newest.small;
+        named = same ∙ named ∙ ap journal_name (sym number_is);
+        bodies = opens.bodies;
+        stands = opens.stands;
+        has = λ e has. are e (record {
+          bodies = opens.bodies;
+          batches = text_has text opens.bodies opens.text_is opens.has.sized;
+          has = has;
+        });
+        newest = λ n later small.
+            let above : number < n = subst (λ (k : ℕ). k < n) number_is later in
+            settles (journal_name n) (numbers_apart number n newest.small above small name named)
+            ∙ none_kept (old.entries (journal_name n)) (newest.none_above n above small);
+      } in
       record {
-        name = name;
-        at = subst (λ (f : Option (List ℕ)). HeldAt name f e) (sym is_there)
-            (held_in_journal name its_file.0 o.bodies e numbered o.has
-            (journal_has text o.bodies e (text_has text o.bodies o.text_is o.has.sized) has));
+        keeps = keeps;
+        batch = subst (IsBatch []) (sym empty) no_batch;
+        waits = λ e has. absurd has;
+        within = among;
+        ready = λ whole. ready;
+        shows = λ sound. ready_shows store new since ready;
       }
+
+  pub opened_gives : (journal : Journal) (text : List ℕ) → OpensOn journal new octets text
+      → GivesShown old number text
+  opened_gives journal text opens = record {
+    octets = octets;
+    newest = newest;
+    bodies = opens.bodies;
+    has = opens.has;
+    text_is = opens.text_is;
+  }
+
+-- ---- what is given
+
+pub given_received : (state : State) (number : ℕ) (text : List ℕ) (committed received : List Entry) (e : Entry)
+    → Keeps state committed received → GivesNewest state number text → JournalHas text e → Has received e
+given_received state number text committed received e keeps (inl gives) has =
+    keeps.nothing_forged (λ name. shown_now (state.entries name)) (λ name counts. shown_left (state.entries name)) e
+    (record {
+      name = journal_name number;
+      at = subst (λ (o : Option (List ℕ)). HeldAt (journal_name number) o e) (sym gives.newest.shown)
+          (inl (record { number = number; small = gives.newest.small; name_is = refl },
+          text_given state number text e gives has));
+    })
+given_received state number text committed received e keeps (inr none) has = absurd (nothing_has text e none.2 has)
+
+pub given_within : (state : State) (number : ℕ) (text : List ℕ) (since : List Entry) (e : Entry)
+    → ShowsWithin state since → GivesNewest state number text → JournalHas text e → Has since e
+given_within state number text since e within (inl gives) has =
+    within number gives.octets gives.newest e (text_given state number text e gives has)
+given_within state number text since e within (inr none) has = absurd (nothing_has text e none.2 has)

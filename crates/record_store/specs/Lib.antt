@@ -1,5 +1,7 @@
+pub mod Causes
 pub mod Crashes
 pub mod Holdings
 pub mod Names
 pub mod Puts
+pub mod Shown
 pub mod Stores

@@ -1,13 +1,14 @@
 -- What a store is on a disk.
-use Rattle.std.specs.Prelude.{◌≡◌, ℕ, ◌^◌, ◌<◌, List, [], ◌∷◌, ◌++◌, None, IsSome, IsTrue, false, length}
-use Rattle.disk.specs.States.{Files, State}
+use Rattle.std.specs.Prelude.{◌≡◌, ℕ, ◌^◌, ◌<◌, List, [], ◌∷◌, ◌++◌, None, IsTrue, false, length}
+use Rattle.disk.specs.States.{State}
 use Rattle.journal.specs.Journals.{Stands as JournalStands}
 use Rattle.archive_text.specs.Entries.{Entry, Has}
 use Rattle.archive_text.specs.Faults.{IsEntryFault}
 use Rattle.archive_text.specs.declared.limits.TheConstants.{ENTRY_MAX}
-use Rattle.record_store.specs.Crashes.{Keeps, Rests}
+use Rattle.record_store.specs.Crashes.{Keeps, resting}
 use Rattle.record_store.specs.Holdings.{BatchesHave, IsBatch}
 use Rattle.record_store.specs.Names.{journal_name}
+use Rattle.record_store.specs.Shown.{ShowsWithin}
 use Rattle.record_store.specs.declared.fault.AppendFault.{AppendFault}
 use Rattle.record_store.specs.declared.fault.AppendFault.TheVariants.{Entry as Entry_fault, TooLong, Broken, Memory}
 use Rattle.record_store.specs.declared.store.RecordStore.{RecordStore}
@@ -23,8 +24,16 @@ IsAppendFault store octets TooLong = ENTRY_MAX < length octets
 IsAppendFault store octets Broken = IsBroken store
 IsAppendFault store octets Memory = Unit {0}
 
--- What became of the entries that a store was given: committed for good; received at all; those of its journal, which
--- came since the last checkpoint; and those that wait for the next commit.
+-- each of these entries is one of those
+abbrev pub AreAmong : List Entry → List Entry → Type 0
+AreAmong these those = (e : Entry) → Has these e → Has those e
+
+-- the number of the store's journal
+abbrev pub number_of : RecordStore → ℕ
+number_of store = store.number
+
+-- What became of the entries that a store was given: committed for good; received at all; those that came since the last
+-- checkpoint; and those of them that wait for the next commit.
 pub record Sets : Type 0 where
   pub committed : List Entry
   pub received : List Entry
@@ -38,40 +47,39 @@ begun committed received since =
 
 -- one entry more waits
 abbrev pub with_waiting : Sets → Entry → Sets
-with_waiting sets e = record sets { received = sets.received ++ e ∷ []; waiting = sets.waiting ++ e ∷ [] }
+with_waiting sets e = record {
+  committed = sets.committed;
+  received = sets.received ++ e ∷ [];
+  since = sets.since ++ e ∷ [];
+  waiting = sets.waiting ++ e ∷ [];
+}
 
 -- those that wait are committed
 abbrev pub all_committed : Sets → Sets
-all_committed sets = record sets {
+all_committed sets = record {
   committed = sets.committed ++ sets.waiting;
-  since = sets.since ++ sets.waiting;
+  received = sets.received;
+  since = sets.since;
   waiting = [];
 }
 
--- The folder rests, and the store's journal is one of its files, with these entries and no others; no file has the name
--- of a later journal.
-pub record IsReady (store : RecordStore) (state : State) (since : List Entry) (files : Files) : Type 0 where
-  pub rests : Rests state files
+-- The store's journal is on the disk, with entries that came since the last checkpoint and no others, and there is no
+-- later one, whatever a crash leaves.
+pub record IsReady (store : RecordStore) (state : State) (since : List Entry) : Type 0 where
   pub small : store.number < 2 ^ 64
   pub named : store.journal.name ≡ journal_name store.number
   pub bodies : List (List ℕ)
   pub stands : JournalStands store.journal state bodies
   pub has : (e : Entry) → BatchesHave bodies e → Has since e
-  pub newest : (n : ℕ) → store.number < n → n < 2 ^ 64 → files (journal_name n) ≡ None
+  pub newest : (n : ℕ) → store.number < n → n < 2 ^ 64 → state.entries (journal_name n) ≡ resting None
 
--- What a crash leaves of the folder holds all that is committed, and nothing that was not received; what waits was
--- received; and unless a call has failed the folder is ready for the next.
+-- What a crash leaves of the folder holds all that is committed, and nothing that was not received; what waits came since
+-- the last checkpoint, and what came since was received; unless a call has failed the journal is ready for the next; and
+-- where none of the failed calls was a sync, what a read shows in the newest journal came since the last checkpoint.
 pub record Stands (store : RecordStore) (state : State) (sets : Sets) : Type 0 where
   pub keeps : Keeps state sets.committed sets.received
   pub batch : IsBatch sets.waiting store.batch.items
-  pub within : (e : Entry) → Has sets.waiting e → Has sets.received e
-  pub ready : store.broken ≡ false → (files : Files) × IsReady store state sets.since files
-
--- the folder has no journal
-abbrev pub HasNoJournal : Files → Type 0
-HasNoJournal files = (n : ℕ) → n < 2 ^ 64 → files (journal_name n) ≡ None
-
--- the folder has the journal of this number, and none of a greater one
-pub record IsNewestOf (files : Files) (number : ℕ) : Type 0 where
-  pub some : IsSome (files (journal_name number))
-  pub none_above : (n : ℕ) → number < n → n < 2 ^ 64 → files (journal_name n) ≡ None
+  pub waits : AreAmong sets.waiting sets.since
+  pub within : AreAmong sets.since sets.received
+  pub ready : store.broken ≡ false → IsReady store state sets.since
+  pub shows : state.lost ≡ false → ShowsWithin state sets.since

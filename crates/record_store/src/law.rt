@@ -1,6 +1,7 @@
 //! Laws of stores, as contracts of functions that do nothing.
 ghost use Rattle.std.specs.Prelude.{List};
 ghost use Rattle.disk.specs.States.{Files, MayLeave, State};
+ghost use Rattle.journal.specs.Journals.{IsSound};
 ghost use Rattle.archive_text.specs.Entries.{Entry, Has};
 ghost use Rattle.record_store.specs.Crashes.{Keeps, Rests};
 ghost use Rattle.record_store.specs.Holdings.{Held};
@@ -16,9 +17,10 @@ pub fn after_a_crash()
 {}
 
 /// Once the machine has started anew, with what the crash left on the disk, the folder keeps what
-/// it kept. So `open` may follow, and any calls and crashes behind it.
+/// it kept, and no sync has failed. So `open` may follow, and any calls and crashes behind it.
 pub fn after_a_restart()
-    ensures { (state anew : State) (files : Files) (committed received : List Entry)
+    ensures keeps { (state anew : State) (files : Files) (committed received : List Entry)
         → Keeps state committed received → MayLeave state files → Rests anew files
         → Keeps anew committed received }
+    ensures sound { (anew : State) (files : Files) → Rests anew files → IsSound anew }
 {}

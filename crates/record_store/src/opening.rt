@@ -1,16 +1,55 @@
 //! A store is opened.
-ghost use Rattle.std.specs.Prelude.{[], List, IfOk};
-ghost use Rattle.disk.specs.States.{Files};
+ghost use Rattle.std.specs.Prelude.{◌≡◌, [], List, ℕ, Some, IfErr, IfOk, OnOk};
+ghost use Rattle.disk.specs.Memory.{shown_now};
+ghost use Rattle.journal.specs.Journals.{IsSound, OpensOn, SettlesOthers, name_of};
 ghost use Rattle.archive_text.specs.Entries.{Entry, Has};
-ghost use Rattle.record_store.specs.Crashes.{Keeps, Rests};
-ghost use Rattle.record_store.specs.Holdings.{Held, JournalHas};
-ghost use Rattle.record_store.specs.Stores.{IsBroken, IsNewestOf, Stands, begun};
+ghost use Rattle.record_store.specs.Causes.{IsCause, IsJournalCause, newest_causes};
+ghost use Rattle.record_store.specs.Causes.{opening_causes, shown_causes};
+ghost use Rattle.record_store.specs.Crashes.{Keeps};
+ghost use Rattle.record_store.specs.Holdings.{JournalHas};
+ghost use Rattle.record_store.specs.Names.{IsJournal};
+ghost use Rattle.record_store.specs.Shown.{GivesNewest, GivesShown, IsNewestShown, ShowsTheBatches};
+ghost use Rattle.record_store.specs.Shown.{ShowsWithin};
+ghost use Rattle.record_store.specs.Stores.{AreAmong, IsBroken, Stands, begun, number_of};
 
 use crate::RecordStore;
 use crate::fault::StoreFault;
 use crate::names::{name_of_journal, newest};
-use disk::Disk;
+use disk::{Disk, FileName};
+use journal::{Journal, JournalFault};
 use std::alloc::Global;
+
+// Opens the journal that a read shows under a name, once what is shown is on the disk.
+fn open_shown<D: Disk>(
+    alloc: Global,
+    disk: &mut D,
+    name: FileName,
+) -> Result<(Journal, Vec<u8>), JournalFault>
+    ensures opened { IfOk result (λ r. D.tells disk.new → IsSound (D.state disk.old)
+        → (octets : List ℕ) → shown_now ((D.state disk.old).entries name) ≡ Some octets
+        → OpensOn r.0 (D.state disk.new) octets r.1.items) }
+    ensures settles { OnOk result (D.tells disk.new → IsSound (D.state disk.old)
+        → SettlesOthers (D.state disk.old) (D.state disk.new) name) }
+    ensures name { IfOk result (λ r. name_of r.0 ≡ name) }
+
+    // whatever the result is: so at every moment
+    ensures any_moment { D.tells disk.new → IsSound (D.state disk.old) → IsJournal name
+        → (octets : List ℕ) → shown_now ((D.state disk.old).entries name) ≡ Some octets
+        → (committed received : List Entry) → Keeps (D.state disk.old) committed received
+        → Keeps (D.state disk.new) committed received }
+    ensures shows { D.tells disk.new → IsSound (D.state disk.old)
+        → (octets : List ℕ) → shown_now ((D.state disk.old).entries name) ≡ Some octets
+        → ShowsTheBatches (D.state disk.old) (D.state disk.new) name }
+
+    ensures told { D.tells disk.new → D.tells disk.old }
+    ensures cause { IfErr result (IsJournalCause
+        (shown_causes (D.tells disk.new) (D.has_failed disk.new) (D.state disk.old) name)) }
+{
+    if let Err(fault) = journal::settle(disk, &name) {
+        return Err(JournalFault::Disk(fault));
+    }
+    journal::open(alloc, disk, name)
+}
 
 // Opens the journal of a number.
 fn open_journal<D: Disk>(
@@ -18,25 +57,32 @@ fn open_journal<D: Disk>(
     disk: &mut D,
     number: u64,
 ) -> Result<(RecordStore, Vec<u8>), StoreFault>
-    ensures opened { IfOk result (λ r. D.tells disk.new → (files : Files)
-        (committed received since : List Entry) → Rests (D.state disk.old) files
-        → IsNewestOf files number → Keeps (D.state disk.old) committed received
-        → ((e : Entry) → JournalHas r.1.items e → Has since e)
+    ensures opened { IfOk result (λ r. D.tells disk.new → IsSound (D.state disk.old)
+        → (octets : List ℕ) → IsNewestShown (D.state disk.old) number octets
+        → (committed received since : List Entry) → Keeps (D.state disk.old) committed received
+        → AreAmong since received → ((e : Entry) → JournalHas r.1.items e → Has since e)
         → Stands r.0 (D.state disk.new) (begun committed received since)) }
+    ensures gives { IfOk result (λ r. D.tells disk.new → IsSound (D.state disk.old)
+        → (octets : List ℕ) → IsNewestShown (D.state disk.old) number octets
+        → GivesShown (D.state disk.old) (number_of r.0) r.1.items) }
 
     // whatever the result is: so at every moment
-    ensures any_moment { D.tells disk.new → (files : Files) (committed received : List Entry)
-        → Rests (D.state disk.old) files → IsNewestOf files number
-        → Keeps (D.state disk.old) committed received
+    ensures any_moment { D.tells disk.new → IsSound (D.state disk.old)
+        → (octets : List ℕ) → IsNewestShown (D.state disk.old) number octets
+        → (committed received : List Entry) → Keeps (D.state disk.old) committed received
         → Keeps (D.state disk.new) committed received }
+    ensures shows { D.tells disk.new → IsSound (D.state disk.old)
+        → (octets : List ℕ) → IsNewestShown (D.state disk.old) number octets
+        → (since : List Entry) → ShowsWithin (D.state disk.old) since
+        → ShowsWithin (D.state disk.new) since }
 
-    ensures held { IfOk result (λ r. D.tells disk.new → (files : Files) → Rests (D.state disk.old) files
-        → IsNewestOf files number → (e : Entry) → JournalHas r.1.items e → Held files e) }
     ensures whole { IfOk result (λ r. ¬ (IsBroken r.0)) }
     ensures told { D.tells disk.new → D.tells disk.old }
+    ensures cause { IfErr result (IsCause
+        (newest_causes (D.tells disk.new) (D.has_failed disk.new) (D.state disk.old) number)) }
 {
     let name = name_of_journal(alloc, number)?;
-    match journal::open(alloc, disk, name) {
+    match open_shown(alloc, disk, name) {
         Ok((journal, batches)) => {
             let store = RecordStore {
                 journal,
@@ -50,27 +96,38 @@ fn open_journal<D: Disk>(
     }
 }
 
-/// Opens the store of a folder, as after a restart of the machine: the folder's files are on the
-/// disk as they are read. It gives the batches of the newest journal, one behind the other as
-/// `journal::batch_len` finds them, whose entries came since the last checkpoint. What a crash left
-/// behind them is cut. A folder without a journal gets one. The store keeps what the folder keeps:
-/// whatever moment a crash comes, committed ⊆ S ⊆ received.
+/// Opens the store of a folder, after a restart of the machine or where the process alone has ended.
+/// It gives the batches of the newest journal that a read shows, one behind the other as
+/// `journal::batch_len` finds them, whose entries came since the last checkpoint; they are on the
+/// disk then, and what was behind them is cut. A folder without a journal gets one. The store keeps
+/// what the folder keeps: whatever moment a crash comes, committed ⊆ S ⊆ received. It can say so
+/// only where no sync has failed since the machine was started.
+///
+/// # Errors
+/// The disk's fault, want of memory, or a journal that is too long to be opened.
 pub fn open<D: Disk>(alloc: Global, disk: &mut D) -> Result<(RecordStore, Vec<u8>), StoreFault>
-    ensures opened { IfOk result (λ r. D.tells disk.new → (files : Files)
-        (committed received since : List Entry) → Rests (D.state disk.old) files
-        → Keeps (D.state disk.old) committed received
-        → ((e : Entry) → JournalHas r.1.items e → Has since e)
+    ensures opened { IfOk result (λ r. D.tells disk.new → IsSound (D.state disk.old)
+        → (committed received since : List Entry) → Keeps (D.state disk.old) committed received
+        → AreAmong since received → ((e : Entry) → JournalHas r.1.items e → Has since e)
         → Stands r.0 (D.state disk.new) (begun committed received since)) }
+    ensures newest { IfOk result (λ r. D.tells disk.new → IsSound (D.state disk.old)
+        → GivesNewest (D.state disk.old) (number_of r.0) r.1.items) }
+    ensures received { IfOk result (λ r. D.tells disk.new → IsSound (D.state disk.old)
+        → (committed received : List Entry) → Keeps (D.state disk.old) committed received
+        → (e : Entry) → JournalHas r.1.items e → Has received e) }
 
     // whatever the result is: so at every moment
-    ensures any_moment { D.tells disk.new → (files : Files) (committed received : List Entry)
-        → Rests (D.state disk.old) files → Keeps (D.state disk.old) committed received
+    ensures any_moment { D.tells disk.new → IsSound (D.state disk.old)
+        → (committed received : List Entry) → Keeps (D.state disk.old) committed received
         → Keeps (D.state disk.new) committed received }
+    ensures shows { D.tells disk.new → IsSound (D.state disk.old)
+        → (since : List Entry) → ShowsWithin (D.state disk.old) since
+        → ShowsWithin (D.state disk.new) since }
 
-    ensures held { IfOk result (λ r. D.tells disk.new → (files : Files) → Rests (D.state disk.old) files
-        → (e : Entry) → JournalHas r.1.items e → Held files e) }
     ensures whole { IfOk result (λ r. ¬ (IsBroken r.0)) }
     ensures told { D.tells disk.new → D.tells disk.old }
+    ensures cause { IfErr result (IsCause
+        (opening_causes (D.tells disk.new) (D.has_failed disk.new) (D.state disk.old))) }
 {
     let names = match disk.names(alloc) {
         Ok(names) => names,

@@ -1,10 +1,13 @@
 //! A store that is written.
 ghost use Rattle.std.specs.Prelude.{◌≡◌, ◌↔◌, [], List, IfErr, IfOk, IsErr, IsErrOf, OnErr, OnOk};
-ghost use Rattle.disk.specs.States.{Files, State};
+ghost use Rattle.disk.specs.States.{State};
+ghost use Rattle.journal.specs.Journals.{IsSound};
 ghost use Rattle.archive_text.specs.Entries.{Entry, IsEntry};
-ghost use Rattle.record_store.specs.Crashes.{Keeps, Rests};
-ghost use Rattle.record_store.specs.Stores.{HasNoJournal, IsAppendFault, IsBroken, Sets, Stands};
-ghost use Rattle.record_store.specs.Stores.{all_committed, begun, with_waiting};
+ghost use Rattle.record_store.specs.Causes.{IsCause, commit_causes, first_causes};
+ghost use Rattle.record_store.specs.Crashes.{Keeps};
+ghost use Rattle.record_store.specs.Shown.{ShowsNoJournal, ShowsWithin};
+ghost use Rattle.record_store.specs.Stores.{AreAmong, IsAppendFault, IsBroken, Sets, Stands};
+ghost use Rattle.record_store.specs.Stores.{all_committed, begun, number_of, with_waiting};
 
 use crate::batch::put_entry;
 use crate::fault::{AppendFault, StoreFault};
@@ -27,19 +30,24 @@ pub struct RecordStore {
 impl RecordStore {
     // Makes the first journal, in a folder that has none.
     pub(crate) fn begin<D: Disk>(alloc: Global, disk: &mut D) -> Result<RecordStore, StoreFault>
-        ensures made { IfOk result (λ store. D.tells disk.new → (files : Files)
-            (committed received : List Entry) → Rests (D.state disk.old) files → HasNoJournal files
-            → Keeps (D.state disk.old) committed received
-            → Stands store (D.state disk.new) (begun committed received [])) }
+        ensures made { IfOk result (λ store. D.tells disk.new → IsSound (D.state disk.old)
+            → ShowsNoJournal (D.state disk.old) → (committed received since : List Entry)
+            → Keeps (D.state disk.old) committed received → AreAmong since received
+            → Stands store (D.state disk.new) (begun committed received since)) }
+        ensures number { IfOk result (λ store. number_of store ≡ 1) }
 
         // whatever the result is: so at every moment
-        ensures any_moment { D.tells disk.new → (files : Files) (committed received : List Entry)
-            → Rests (D.state disk.old) files → HasNoJournal files
+        ensures any_moment { D.tells disk.new → IsSound (D.state disk.old)
+            → ShowsNoJournal (D.state disk.old) → (committed received : List Entry)
             → Keeps (D.state disk.old) committed received
             → Keeps (D.state disk.new) committed received }
+        ensures shows { D.tells disk.new → ShowsNoJournal (D.state disk.old)
+            → (since : List Entry) → ShowsWithin (D.state disk.new) since }
 
         ensures whole { IfOk result (λ store. ¬ (IsBroken store)) }
         ensures told { D.tells disk.new → D.tells disk.old }
+        ensures cause { IfErr result (IsCause
+            (first_causes (D.tells disk.new) (D.has_failed disk.new) (D.state disk.old))) }
     {
         let name = name_of_journal(alloc, 1)?;
         match Journal::create(disk, name) {
@@ -101,6 +109,8 @@ impl RecordStore {
         ensures broken { IsErrOf result StoreFault.Broken ↔ IsBroken self.old }
         ensures breaks { IsErr result ↔ IsBroken self.new }
         ensures told { D.tells disk.new → D.tells disk.old }
+        ensures cause { IfErr result (IsCause
+            (commit_causes (D.tells disk.new) (D.has_failed disk.new) self.old (D.state disk.old))) }
     {
         if self.broken {
             return Err(StoreFault::Broken);

@@ -1,32 +1,86 @@
-use Rattle.std.proofs.Common.{◌<◌, ◌^◌, arith, refl}
-use Rattle.record_store.proofs.Opened.{journal_held, journal_keeps, journal_stands}
+use Rattle.std.proofs.Common.{List, ℕ, refl, subst}
+use Rattle.record_store.specs.Causes.{newest_causes, shown_causes}
+use Rattle.record_store.specs.Shown.{ShowsTheBatches}
+use Rattle.record_store.proofs.Causing.{journal_weaker}
+use Rattle.record_store.proofs.Opened.{newest_is_journal, newest_shown, opened_gives, opened_stands}
+use Rattle.record_store.proofs.Showing.{batches_within}
 use Rattle.record_store.proofs.opening.open_journal.Goals as goal
 
 pub returns-in-Ok-clause-opened : goal.returns-in-Ok-clause-opened
-returns-in-Ok-clause-opened g c tells files committed received since rests newest keeps are =
-    let small : c.args.number < 2 ^ 64 = omega (arith, c.ranges.number.fits) in
-    journal_stands (g.D.Disk.state c.args.disk.now) (g.D.Disk.state c.open.new.disk) c.in_ok-name.name files
-    c.args.number rests newest small c.in_ok-name.ensures (c.open.ensures.others tells)
-    (c.open.ensures.any_moment tells) _ committed received since c.in-Ok.batches.items keeps refl c.in-Ok.ensures.name
-    c.new.ensures.items (c.in-Ok.ensures.opened tells) are
+returns-in-Ok-clause-opened g c tells sound octets newest committed received since keeps among are =
+    let zero = g.D.Disk.state c.args.disk.now in
+    let new = g.D.Disk.state c.open_shown.new.disk in
+    let number = c.args.number in
+    let name = c.in_ok-name.name in
+    let named = c.in_ok-name.ensures in
+    let is = newest_is_journal zero new number octets newest name named in
+    let shown = newest_shown zero new number octets newest name named in
+    opened_stands zero new number octets newest name named _ committed received since c.in-Ok.batches.items
+    (c.open_shown.ensures.any_moment tells sound is octets shown committed received keeps) among refl c.in-Ok.ensures.name
+    c.new.ensures.items (c.in-Ok.ensures.settles tells sound) (c.in-Ok.ensures.opened tells sound octets shown) are
+
+pub returns-in-Ok-clause-gives : goal.returns-in-Ok-clause-gives
+returns-in-Ok-clause-gives g c tells sound octets newest =
+    let zero = g.D.Disk.state c.args.disk.now in
+    let new = g.D.Disk.state c.open_shown.new.disk in
+    let name = c.in_ok-name.name in
+    let shown = newest_shown zero new c.args.number octets newest name c.in_ok-name.ensures in
+    opened_gives zero new c.args.number octets newest name c.in_ok-name.ensures c.in-Ok.journal c.in-Ok.batches.items
+    (c.in-Ok.ensures.opened tells sound octets shown)
 
 pub returns-in-Ok-clause-any_moment : goal.returns-in-Ok-clause-any_moment
-returns-in-Ok-clause-any_moment g c tells files committed received rests newest keeps =
-    let small : c.args.number < 2 ^ 64 = omega (arith, c.ranges.number.fits) in
-    journal_keeps (g.D.Disk.state c.args.disk.now) (g.D.Disk.state c.open.new.disk) c.in_ok-name.name files
-    c.args.number rests newest small c.in_ok-name.ensures (c.open.ensures.others tells)
-    (c.open.ensures.any_moment tells) committed received keeps
+returns-in-Ok-clause-any_moment g c tells sound octets newest committed received keeps =
+    let zero = g.D.Disk.state c.args.disk.now in
+    let new = g.D.Disk.state c.open_shown.new.disk in
+    let name = c.in_ok-name.name in
+    let is = newest_is_journal zero new c.args.number octets newest name c.in_ok-name.ensures in
+    let shown = newest_shown zero new c.args.number octets newest name c.in_ok-name.ensures in
+    c.open_shown.ensures.any_moment tells sound is octets shown committed received keeps
+
+pub returns-in-Ok-clause-shows : goal.returns-in-Ok-clause-shows
+returns-in-Ok-clause-shows g c tells sound octets newest since within =
+    let zero = g.D.Disk.state c.args.disk.now in
+    let new = g.D.Disk.state c.open_shown.new.disk in
+    let name = c.in_ok-name.name in
+    let shown = newest_shown zero new c.args.number octets newest name c.in_ok-name.ensures in
+    batches_within zero new c.args.number octets since newest
+    (subst (λ (n : List ℕ). ShowsTheBatches zero new n) c.in_ok-name.ensures
+    (c.open_shown.ensures.shows tells sound octets shown)) within
 
 pub returns-in-Err-clause-any_moment : goal.returns-in-Err-clause-any_moment
-returns-in-Err-clause-any_moment g c tells files committed received rests newest keeps =
-    let small : c.args.number < 2 ^ 64 = omega (arith, c.ranges.number.fits) in
-    journal_keeps (g.D.Disk.state c.args.disk.now) (g.D.Disk.state c.open.new.disk) c.in_ok-name.name files
-    c.args.number rests newest small c.in_ok-name.ensures (c.open.ensures.others tells)
-    (c.open.ensures.any_moment tells) committed received keeps
+returns-in-Err-clause-any_moment g c tells sound octets newest committed received keeps =
+    let zero = g.D.Disk.state c.args.disk.now in
+    let new = g.D.Disk.state c.open_shown.new.disk in
+    let name = c.in_ok-name.name in
+    let is = newest_is_journal zero new c.args.number octets newest name c.in_ok-name.ensures in
+    let shown = newest_shown zero new c.args.number octets newest name c.in_ok-name.ensures in
+    c.open_shown.ensures.any_moment tells sound is octets shown committed received keeps
 
-pub returns-in-Ok-clause-held : goal.returns-in-Ok-clause-held
-returns-in-Ok-clause-held g c tells files rests newest e has =
-    let small : c.args.number < 2 ^ 64 = omega (arith, c.ranges.number.fits) in
-    journal_held (g.D.Disk.state c.args.disk.now) (g.D.Disk.state c.open.new.disk) c.in_ok-name.name files
-    c.args.number rests newest small c.in_ok-name.ensures (c.open.ensures.others tells)
-    (c.open.ensures.any_moment tells) c.in-Ok.journal c.in-Ok.batches.items (c.in-Ok.ensures.opened tells) e has
+pub returns-in-Err-clause-shows : goal.returns-in-Err-clause-shows
+returns-in-Err-clause-shows g c tells sound octets newest since within =
+    let zero = g.D.Disk.state c.args.disk.now in
+    let new = g.D.Disk.state c.open_shown.new.disk in
+    let name = c.in_ok-name.name in
+    let shown = newest_shown zero new c.args.number octets newest name c.in_ok-name.ensures in
+    batches_within zero new c.args.number octets since newest
+    (subst (λ (n : List ℕ). ShowsTheBatches zero new n) c.in_ok-name.ensures
+    (c.open_shown.ensures.shows tells sound octets shown)) within
+
+pub returns-in-Err-clause-cause : goal.returns-in-Err-clause-cause
+returns-in-Err-clause-cause g c =
+    let zero = g.D.Disk.state c.args.disk.now in
+    let new = g.D.Disk.state c.open_shown.new.disk in
+    let name = c.in_ok-name.name in
+    journal_weaker
+    (shown_causes (g.D.Disk.tells c.open_shown.new.disk) (g.D.Disk.has_failed c.open_shown.new.disk) zero name)
+    (newest_causes (g.D.Disk.tells c.open_shown.new.disk) (g.D.Disk.has_failed c.open_shown.new.disk) zero c.args.number)
+    (λ failed. failed) (λ full. full)
+    (λ other tells sound octets newest.
+    other tells sound octets (newest_shown zero new c.args.number octets newest name c.in_ok-name.ensures))
+    (λ long tells sound octets newest. record {
+      number = c.args.number;
+      octets = octets;
+      newest = newest;
+      long = long tells sound octets (newest_shown zero new c.args.number octets newest name c.in_ok-name.ensures);
+    })
+    c.in-Err.fault c.in-Err.ensures.cause

@@ -10,9 +10,9 @@ returns-in-Err-clause-any_moment g c tells sets stands =
     let new = g.D.Disk.state c.commit.new.disk in
     let whole : store.broken ≡ false = search rules in
     let ready = stands.ready whole in
-    commit_any old new store store sets stands ready.0 ready.1 (c.commit.ensures.others tells)
-    (subst (λ (b : List ℕ). LeavesBatches new store.journal.name (WithOrWithout ready.1.bodies b)) c.deref.ensures.value
-    (c.commit.ensures.any_moment tells ready.1.bodies ready.1.stands))
+    commit_any old new store store sets stands ready (c.commit.ensures.others tells)
+    (subst (λ (b : List ℕ). LeavesBatches new store.journal.name (WithOrWithout ready.bodies b)) c.deref.ensures.value
+    (c.commit.ensures.any_moment tells ready.bodies ready.stands))
 
 pub returns-in-Err-clause-err : goal.returns-in-Err-clause-err
 returns-in-Err-clause-err g c tells sets stands =
@@ -21,9 +21,9 @@ returns-in-Err-clause-err g c tells sets stands =
     let new = g.D.Disk.state c.commit.new.disk in
     let whole : store.broken ≡ false = search rules in
     let ready = stands.ready whole in
-    commit_err old new store _ sets stands ready.0 ready.1 (c.commit.ensures.others tells)
-    (subst (λ (b : List ℕ). LeavesBatches new store.journal.name (WithOrWithout ready.1.bodies b)) c.deref.ensures.value
-    (c.commit.ensures.any_moment tells ready.1.bodies ready.1.stands)) refl refl
+    commit_err old new store _ sets stands ready (c.commit.ensures.others tells)
+    (subst (λ (b : List ℕ). LeavesBatches new store.journal.name (WithOrWithout ready.bodies b)) c.deref.ensures.value
+    (c.commit.ensures.any_moment tells ready.bodies ready.stands)) refl refl
 
 pub returns-in-Ok-clause-any_moment : goal.returns-in-Ok-clause-any_moment
 returns-in-Ok-clause-any_moment g c tells sets stands =
@@ -32,9 +32,9 @@ returns-in-Ok-clause-any_moment g c tells sets stands =
     let new = g.D.Disk.state c.commit.new.disk in
     let whole : store.broken ≡ false = search rules in
     let ready = stands.ready whole in
-    commit_any old new store store sets stands ready.0 ready.1 (c.commit.ensures.others tells)
-    (subst (λ (b : List ℕ). LeavesBatches new store.journal.name (WithOrWithout ready.1.bodies b)) c.deref.ensures.value
-    (c.commit.ensures.any_moment tells ready.1.bodies ready.1.stands))
+    commit_any old new store store sets stands ready (c.commit.ensures.others tells)
+    (subst (λ (b : List ℕ). LeavesBatches new store.journal.name (WithOrWithout ready.bodies b)) c.deref.ensures.value
+    (c.commit.ensures.any_moment tells ready.bodies ready.stands))
 
 pub returns-in-Ok-clause-committed : goal.returns-in-Ok-clause-committed
 returns-in-Ok-clause-committed g c tells sets stands =
@@ -44,9 +44,9 @@ returns-in-Ok-clause-committed g c tells sets stands =
     let whole : store.broken ≡ false = search rules in
     let none : c.clear.new.self.items ≡ [] = search rules in
     let ready = stands.ready whole in
-    let bodies = ready.1.bodies in
-    commit_ok old new store _ sets stands ready.0 ready.1 (c.commit.ensures.others tells)
+    let bodies = ready.bodies in
+    commit_ok old new store _ sets stands ready (c.commit.ensures.others tells)
     (subst (λ (b : List ℕ). LeavesBatches new store.journal.name (WithOrWithout bodies b)) c.deref.ensures.value
-    (c.commit.ensures.any_moment tells bodies ready.1.stands)) none refl c.commit.ensures.name
+    (c.commit.ensures.any_moment tells bodies ready.stands)) none refl c.commit.ensures.name
     (subst (λ (b : List ℕ). JournalStands c.commit.new.self new (bodies ++ b ∷ [])) c.deref.ensures.value
-    (c.in-Ok.ensures.committed tells bodies ready.1.stands))
+    (c.in-Ok.ensures.committed tells bodies ready.stands))

@@ -1,0 +1,99 @@
+-- Why a call on a store fails.
+use Rattle.std.specs.Prelude.{◌≡◌, ◌≢◌, ◌≤◌, ◌⊎◌, ℕ, ◌^◌, List, Some, length}
+use Rattle.disk.specs.Memory.{shown_now}
+use Rattle.disk.specs.States.{State}
+use Rattle.disk.specs.declared.fault.DiskFault.{DiskFault}
+use Rattle.disk.specs.declared.fault.DiskFault.TheVariants.{Missing, Exists, Full, Failed, Memory}
+use Rattle.journal.specs.Journals.{IsSound, end_of}
+use Rattle.journal.specs.declared.fault.JournalFault.{JournalFault}
+use Rattle.journal.specs.declared.fault.JournalFault.TheVariants.{Disk, TooLong}
+use Rattle.record_store.specs.Shown.{IsNewestShown, ShowsNoJournal}
+use Rattle.record_store.specs.Stores.{IsBroken, Sets, Stands}
+use Rattle.record_store.specs.declared.fault.StoreFault.{StoreFault}
+use Rattle.record_store.specs.declared.fault.StoreFault.TheVariants.{Broken, Journal, Folder, Memory as No_memory}
+use Rattle.record_store.specs.declared.store.RecordStore.{RecordStore}
+
+-- what has to be so where a fault is told: that a call has failed before; that the disk failed; that it is full, or too
+-- much is asked of it; that a file was missing or in the way; that a journal is too long
+pub record Causes : Type 1 where
+  pub broken : Type 0
+  pub failed : Type 0
+  pub full : Type 0
+  pub other : Type 0
+  pub long : Type 0
+
+-- want of memory needs no cause
+abbrev pub IsDiskCause : Causes → DiskFault → Type 0
+IsDiskCause causes Missing = causes.other
+IsDiskCause causes Exists = causes.other
+IsDiskCause causes Full = causes.full
+IsDiskCause causes Failed = causes.failed
+IsDiskCause causes Memory = Unit {0}
+
+abbrev pub IsJournalCause : Causes → JournalFault → Type 0
+IsJournalCause causes (Disk fault) = IsDiskCause causes fault
+IsJournalCause causes TooLong = causes.long
+
+abbrev pub IsCause : Causes → StoreFault → Type 0
+IsCause causes Broken = causes.broken
+IsCause causes (Journal number fault) = IsJournalCause causes fault
+IsCause causes (Folder fault) = IsDiskCause causes fault
+IsCause causes No_memory = Unit {0}
+
+-- the newest journal that is shown is too long to be opened
+pub record ShowsTooLong (state : State) : Type 0 where
+  pub number : ℕ
+  pub octets : List ℕ
+  pub newest : IsNewestShown state number octets
+  pub long : 2 ^ 40 ≤ length octets
+
+-- of the opening of a journal that a read shows
+abbrev pub shown_causes : Type 0 → Type 0 → State → List ℕ → Causes
+shown_causes tells failed state name = record {
+  broken = ⊥;
+  failed = failed;
+  full = failed;
+  other = tells → IsSound state → (octets : List ℕ) → shown_now (state.entries name) ≢ Some octets;
+  long = tells → IsSound state → (octets : List ℕ) → shown_now (state.entries name) ≡ Some octets
+      → 2 ^ 40 ≤ length octets;
+}
+
+-- of the opening of the newest journal that a read shows
+abbrev pub newest_causes : Type 0 → Type 0 → State → ℕ → Causes
+newest_causes tells failed state number = record {
+  broken = ⊥;
+  failed = failed;
+  full = failed;
+  other = tells → IsSound state → (octets : List ℕ) → ¬ (IsNewestShown state number octets);
+  long = tells → IsSound state → (octets : List ℕ) → IsNewestShown state number octets → ShowsTooLong state;
+}
+
+-- of the making of the first journal
+abbrev pub first_causes : Type 0 → Type 0 → State → Causes
+first_causes tells failed state = record {
+  broken = ⊥;
+  failed = failed;
+  full = failed;
+  other = tells → ¬ (ShowsNoJournal state);
+  long = ⊥;
+}
+
+-- of an opening: no file is missing or in the way unless a sync has failed
+abbrev pub opening_causes : Type 0 → Type 0 → State → Causes
+opening_causes tells failed state = record {
+  broken = ⊥;
+  failed = failed;
+  full = failed;
+  other = tells → IsSound state → ⊥;
+  long = tells → IsSound state → ShowsTooLong state;
+}
+
+-- of a commit: nor for a store that stands; a journal of 2 ^ 62 octets and a batch of 2 ^ 32 are full
+abbrev pub commit_causes : Type 0 → Type 0 → RecordStore → State → Causes
+commit_causes tells failed store state = record {
+  broken = IsBroken store;
+  failed = failed;
+  full = failed ⊎ ((2 ^ 62 ≤ end_of store.journal) ⊎ (2 ^ 32 ≤ length store.batch.items));
+  other = tells → (sets : Sets) → ¬ (Stands store state sets);
+  long = ⊥;
+}
