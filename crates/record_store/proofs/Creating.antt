@@ -3,7 +3,7 @@ use Rattle.std.proofs.Common.{◌≡◌, ◌≢◌, ◌⊎◌, inl, inr, ⊎_eli
 use Rattle.std.specs.Prelude.{Option, None, Some, IsSomeAnd}
 use Rattle.disk.specs.Files.{File}
 use Rattle.disk.specs.Memory.{shown_now}
-use Rattle.disk.specs.States.{MayBe, State}
+use Rattle.disk.specs.States.{MayBe, NameMayLeave, State}
 use Rattle.journal.specs.Batches.{HasBatches}
 use Rattle.journal.specs.Journals.{KeepsOrSettlesOthers, LeavesNoBatch, SettlesOthers, ShowsNoBatch}
 use Rattle.journal.specs.Journals.{Stands as JournalStands}
@@ -37,13 +37,20 @@ module _ (old new : State) (number : ℕ) (name : List ℕ) (small : number < 2 
     only = λ e held. absurd (journal_holds name file [] e begun_is_journal empty held);
   }
 
+  pub create_at : LeavesNoBatch old new name → (octets : Option (List ℕ)) → NameMayLeave (new.entries name) octets
+      → CoveredAt old name octets nothing
+  create_at leaves octets may = ⊎_elim
+      (λ before. covered_as_before old name octets nothing before)
+      (λ empty. record {
+        was = None;
+        may = inl (subst (λ (f : Option File). MayBe f None) (sym no_file) refl);
+        holds = holds_none octets empty;
+      })
+      (leaves octets may)
+
   pub create_covers : LeavesNoBatch old new name → Covers old new nothing
   create_covers leaves =
-      one_covers old new name nothing (inl begun_is_journal) (others_settled old new name others)
-      (λ octets may. ⊎_elim
-      (λ before. covered_as_before old name octets nothing before)
-      (λ empty. record { was = None; may = inl (subst (λ (f : Option File). MayBe f None) (sym no_file) refl); holds = holds_none octets empty })
-      (leaves octets may))
+      one_covers old new name nothing (inl begun_is_journal) (others_settled old new name others) (create_at leaves)
 
   pub create_keeps : LeavesNoBatch old new name → (committed received : List Entry) → Keeps old committed received
       → Keeps new committed received

@@ -15,3 +15,4 @@ pub mod Placed
 pub mod Readings
 pub mod Showing
 pub mod Standing
+pub mod Successions

@@ -173,8 +173,10 @@ given_received state number text committed received e keeps (inl gives) has =
     (record {
       name = journal_name number;
       at = subst (λ (o : Option (List ℕ)). HeldAt (journal_name number) o e) (sym gives.newest.shown)
-          (inl (record { number = number; small = gives.newest.small; name_is = refl },
-          text_given state number text e gives has));
+          (inl (
+            record { number = number; small = gives.newest.small; name_is = refl },
+            text_given state number text e gives has,
+          ));
     })
 given_received state number text committed received e keeps (inr none) has = absurd (nothing_has text e none.2 has)
 

@@ -25,6 +25,18 @@ pub ready_named : (store : RecordStore) (state : State) (since : List Entry) →
 ready_named store state since ready =
     record { number = store.number; small = ready.small; name_is = ready.named }
 
+-- of another store with the same journal
+pub ready_as : (store after : RecordStore) (state : State) (since : List Entry) → after.journal ≡ store.journal
+    → after.number ≡ store.number → IsReady store state since → IsReady after state since
+ready_as store after state since same_journal same_number ready = record {
+  small = subst (λ (n : ℕ). n < 2 ^ 64) (sym same_number) ready.small;
+  named = ap (λ (j : Journal). j.name) same_journal ∙ ready.named ∙ ap journal_name (sym same_number);
+  bodies = ready.bodies;
+  stands = subst (λ (j : Journal). JournalStands j state ready.bodies) (sym same_journal) ready.stands;
+  has = ready.has;
+  newest = λ n later small. ready.newest n (subst (λ (k : ℕ). k < n) same_number later) small;
+}
+
 -- ---- a commit
 
 module _ (old new : State) (store after : RecordStore) (sets : Sets) (stands : Stands store old sets)

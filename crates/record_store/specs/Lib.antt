@@ -5,3 +5,4 @@ pub mod Names
 pub mod Puts
 pub mod Shown
 pub mod Stores
+pub mod Turns

@@ -2,6 +2,7 @@
 use Rattle.std.specs.Prelude.{◌≡◌, ℕ, ◌^◌, ◌<◌, List, [], ◌∷◌, ◌++◌, None, IsTrue, false, length}
 use Rattle.disk.specs.States.{State}
 use Rattle.journal.specs.Journals.{Stands as JournalStands}
+use Rattle.journal.specs.declared.journal.Journal.{Journal}
 use Rattle.archive_text.specs.Entries.{Entry, Has}
 use Rattle.archive_text.specs.Faults.{IsEntryFault}
 use Rattle.archive_text.specs.declared.limits.TheConstants.{ENTRY_MAX}
@@ -17,6 +18,10 @@ use Rattle.record_store.specs.declared.store.RecordStore.{RecordStore}
 abbrev pub IsBroken : RecordStore → Type 0
 IsBroken store = IsTrue store.broken
 
+-- none has
+abbrev pub IsWhole : RecordStore → Type 0
+IsWhole store = store.broken ≡ false
+
 -- why these octets are not added to a batch
 abbrev pub IsAppendFault : RecordStore → List ℕ → AppendFault → Type 0
 IsAppendFault store octets (Entry_fault fault) = IsEntryFault octets fault
@@ -31,6 +36,9 @@ AreAmong these those = (e : Entry) → Has these e → Has those e
 -- the number of the store's journal
 abbrev pub number_of : RecordStore → ℕ
 number_of store = store.number
+
+abbrev pub journal_of : RecordStore → Journal
+journal_of store = store.journal
 
 -- What became of the entries that a store was given: committed for good; received at all; those that came since the last
 -- checkpoint; and those of them that wait for the next commit.

@@ -18,6 +18,7 @@ mod putting;
 mod store;
 #[cfg(test)]
 mod tests;
+mod turning;
 
 pub use fault::{AppendFault, StoreFault};
 pub use law::{after_a_crash, after_a_restart};

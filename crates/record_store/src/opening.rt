@@ -1,5 +1,5 @@
 //! A store is opened.
-ghost use Rattle.std.specs.Prelude.{◌≡◌, [], List, ℕ, Some, IfErr, IfOk, OnOk};
+ghost use Rattle.std.specs.Prelude.{◌≡◌, ◌↔◌, [], List, ℕ, Some, IfErr, IfOk, IsErr, OnOk};
 ghost use Rattle.disk.specs.Memory.{shown_now};
 ghost use Rattle.journal.specs.Journals.{IsSound, OpensOn, SettlesOthers, name_of};
 ghost use Rattle.archive_text.specs.Entries.{Entry, Has};
@@ -136,5 +136,46 @@ pub fn open<D: Disk>(alloc: Global, disk: &mut D) -> Result<(RecordStore, Vec<u8
     match newest(&names) {
         Some(number) => open_journal(alloc, disk, number),
         None => Ok((RecordStore::begin(alloc, disk)?, Vec::new(alloc))),
+    }
+}
+
+impl RecordStore {
+    ghost use Rattle.record_store.specs.Stores.{Sets};
+
+    /// Opens the store again after a call has failed for a full disk or for want of memory: its newest
+    /// journal is brought to the disk and cut behind its batches. The batch that waits is still there, so
+    /// the next commit writes it; where the journal has it already, twice is the same set. Once a sync
+    /// has failed it can promise nothing until the machine is started anew.
+    ///
+    /// # Errors
+    /// Those of `open`. The store is broken then, and may be opened again as it is.
+    pub fn reopen<D: Disk>(&mut self, alloc: Global, disk: &mut D) -> Result<(), StoreFault>
+        // whatever the result is: so at every moment
+        ensures stands { D.tells disk.new → IsSound (D.state disk.old) → (sets : Sets)
+            → Stands self.old (D.state disk.old) sets → Stands self.new (D.state disk.new) sets }
+
+        ensures breaks { IsErr result ↔ IsBroken self.new }
+        ensures told { D.tells disk.new → D.tells disk.old }
+        ensures cause { IfErr result (IsCause
+            (opening_causes (D.tells disk.new) (D.has_failed disk.new) (D.state disk.old))) }
+    {
+        match open(alloc, disk) {
+            Ok((opened, _batches)) => {
+                let RecordStore {
+                    journal,
+                    number,
+                    batch: _,
+                    broken: _,
+                } = opened;
+                self.journal = journal;
+                self.number = number;
+                self.broken = false;
+                Ok(())
+            }
+            Err(fault) => {
+                self.broken = true;
+                Err(fault)
+            }
+        }
     }
 }

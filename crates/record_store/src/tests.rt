@@ -89,3 +89,97 @@ fn an_opening_may_stop_at_any_call(rt: HostRuntime) -> Result<(), Fail> {
     }
     Ok(())
 }
+
+// A commit that is stopped at each of its calls, and then the disk has room again: the store is
+// opened again, and the next commit writes what waited.
+#[test]
+fn a_batch_waits_for_a_disk_with_room(rt: HostRuntime) -> Result<(), Fail> {
+    let alloc = rt.alloc();
+    for calls in 0..6 {
+        let (disk, mut store) = begun(alloc)?;
+        store.append(SECOND).ok().ok_or("refused")?;
+        let mut fuse = Fuse::new(disk, calls);
+        let done = store.commit(alloc, &mut fuse);
+        let mut disk = fuse.into_inner();
+        if done.is_err() {
+            store.reopen(alloc, &mut disk)?;
+            store.commit(alloc, &mut disk)?;
+        }
+        let mut disk = disk.crash(0, Some(1), true)?;
+        let (_store, batches) = open(alloc, &mut disk)?;
+        assert!(rt; has(&batches, FIRST), "at {calls}");
+        assert!(rt; has(&batches, SECOND), "at {calls}");
+    }
+    Ok(())
+}
+
+// An opening again that is stopped at each of its calls, with a crash whatever it leaves.
+#[test]
+fn an_opening_again_may_stop_at_any_call(rt: HostRuntime) -> Result<(), Fail> {
+    let alloc = rt.alloc();
+    for calls in 0..12 {
+        for octet in [None, Some(0), Some(1)] {
+            let (disk, mut store) = begun(alloc)?;
+            store.append(SECOND).ok().ok_or("refused")?;
+            let mut fuse = Fuse::new(disk, calls);
+            let done = store.reopen(alloc, &mut fuse);
+            let mut disk = fuse.into_inner();
+            if done.is_err() {
+                assert_eq!(rt; store.commit(alloc, &mut disk), Err(StoreFault::Broken));
+                store.reopen(alloc, &mut disk)?;
+            }
+            let mut disk = disk.crash(1, octet, true)?;
+            let (_store, batches) = open(alloc, &mut disk)?;
+            assert!(rt; has(&batches, FIRST), "at {calls}, {octet:?}");
+        }
+    }
+    Ok(())
+}
+
+// A turn that is stopped at each of its calls, with a crash whatever it leaves: a folder has the
+// journal from before, or the next one without batches.
+#[test]
+fn a_turn_may_stop_at_any_call(rt: HostRuntime) -> Result<(), Fail> {
+    let alloc = rt.alloc();
+    for calls in 0..8 {
+        for octet in [None, Some(0), Some(1)] {
+            let (disk, mut store) = begun(alloc)?;
+            let mut fuse = Fuse::new(disk, calls);
+            let done = store.turn(alloc, &mut fuse);
+            let mut disk = fuse.into_inner().crash(1, octet, calls % 2 == 0)?;
+            let (mut store, batches) = open(alloc, &mut disk)?;
+            assert!(rt;
+                batches.is_empty() || has(&batches, FIRST),
+                "at {calls}, {octet:?}"
+            );
+            assert!(rt;
+                batches.is_empty() || done.is_err(),
+                "at {calls}, {octet:?}"
+            );
+            store.append(SECOND).ok().ok_or("refused")?;
+            store.commit(alloc, &mut disk)?;
+            let (_store, batches) = open(alloc, &mut disk)?;
+            assert!(rt; has(&batches, SECOND), "at {calls}, {octet:?}");
+        }
+    }
+    Ok(())
+}
+
+// A process is killed in a commit: what a read shows is brought to the disk before it is used.
+#[test]
+fn a_store_is_opened_after_a_kill(rt: HostRuntime) -> Result<(), Fail> {
+    let alloc = rt.alloc();
+    for calls in 0..6 {
+        let (disk, mut store) = begun(alloc)?;
+        store.append(SECOND).ok().ok_or("refused")?;
+        let mut fuse = Fuse::new(disk, calls);
+        let _stopped = store.commit(alloc, &mut fuse);
+        let mut disk = fuse.into_inner();
+        let (_store, shown) = open(alloc, &mut disk)?;
+        let mut disk = disk.crash(0, Some(1), true)?;
+        let (_store, batches) = open(alloc, &mut disk)?;
+        assert!(rt; has(&batches, FIRST), "at {calls}");
+        assert_eq!(rt; has(&batches, SECOND), has(&shown, SECOND), "at {calls}");
+    }
+    Ok(())
+}
