@@ -3,6 +3,7 @@ pub mod Causing
 pub mod Committing
 pub mod Covering
 pub mod Creating
+pub mod Drafted
 pub mod Folders
 pub mod Leavings
 pub mod Named

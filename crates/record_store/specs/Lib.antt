@@ -3,6 +3,7 @@ pub mod Crashes
 pub mod Holdings
 pub mod Names
 pub mod Puts
+pub mod Segments
 pub mod Shown
 pub mod Stores
 pub mod Turns

@@ -15,6 +15,7 @@ mod law;
 mod names;
 mod opening;
 mod putting;
+mod segment;
 mod store;
 #[cfg(test)]
 mod tests;
@@ -24,4 +25,5 @@ pub use fault::{AppendFault, StoreFault};
 pub use law::{after_a_crash, after_a_restart};
 pub use opening::open;
 pub use putting::put;
+pub use segment::{SegmentDraft, SegmentFault};
 pub use store::RecordStore;

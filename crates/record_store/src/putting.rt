@@ -7,7 +7,7 @@ ghost use Rattle.record_store.specs.Puts.{KeepsOrSettlesApart, LeavesOldOr};
 use disk::{Disk, DiskFault, FileName};
 
 // Removes a file, if there is one.
-fn clear<D: Disk>(disk: &mut D, name: &FileName) -> Result<(), DiskFault>
+pub(crate) fn clear<D: Disk>(disk: &mut D, name: &FileName) -> Result<(), DiskFault>
     ensures sound { OnOk result (D.tells disk.new → IsSound (D.state disk.old) → IsSound (D.state disk.new)) }
     ensures others { D.tells disk.new → KeepsOthers (D.state disk.old) (D.state disk.new) name.now }
     ensures told { D.tells disk.new → D.tells disk.old }

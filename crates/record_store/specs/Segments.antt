@@ -1,0 +1,41 @@
+-- Segments, as they are written.
+use Rattle.std.specs.Prelude.{◌≡◌, ℕ, List, ◌∷◌, ◌++◌, Option, Some, codes, false}
+use Rattle.std.specs.List.{AllByRecursion}
+use Rattle.disk.specs.Memory.{shown_now}
+use Rattle.disk.specs.States.{NameMayLeave, State}
+use Rattle.hex.specs.Hex.{encode_lower}
+use Rattle.sha2.specs.Hashers.{Holds256}
+use Rattle.sha2.specs.Sha256.{sha256}
+use Rattle.archive_text.specs.Entries.{Entry, Has}
+use Rattle.archive_text.specs.Text.{IsArchive, text_of}
+use Rattle.archive_text.specs.declared.limits.TheConstants.{ENTRY_MAX}
+use Rattle.archive_digest.specs.Periods.{IsIn}
+use Rattle.archive_digest.specs.declared.period.Period.TheVariants.{Day}
+use Rattle.record_store.specs.Holdings.{HeldAt}
+use Rattle.record_store.specs.declared.segment.SegmentDraft.{SegmentDraft}
+
+-- DAY.HEX.archive, HEX the SHA-256 of the text
+abbrev pub segment_name : List ℕ → List ℕ → List ℕ
+segment_name day text = day ++ 46 ∷ encode_lower (sha256 text) ++ codes ".archive"
+
+-- the name of the draft
+abbrev pub draft_of : SegmentDraft → List ℕ
+draft_of draft = draft.name
+
+-- the draft's file has this text so far, and no sync has failed
+pub record Drafts (draft : SegmentDraft) (state : State) (text : List ℕ) : Type 0 where
+  pub shown : shown_now (state.entries draft.name) ≡ Some text
+  pub sound : state.lost ≡ false
+  pub hashed : Holds256 draft.hasher text
+
+-- a text is the archive of these entries of a day
+pub record IsSegmentOf (day text : List ℕ) (es : List Entry) : Type 0 where
+  pub archive : IsArchive ENTRY_MAX es
+  pub text_is : text ≡ text_of es
+  pub days : AllByRecursion (IsIn Day day) es
+
+-- What a crash may leave under a name holds no other entries than these: so it is where a file of the name has the octets
+-- that its name says, unless SHA-256 collides, and where there is none.
+abbrev pub HoldsNoMore : State → List ℕ → List Entry → Type 0
+HoldsNoMore state name es = (octets : Option (List ℕ)) → NameMayLeave (state.entries name) octets → (e : Entry)
+    → HeldAt name octets e → Has es e

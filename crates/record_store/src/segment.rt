@@ -1,0 +1,199 @@
+//! A segment is written, a piece at a time.
+ghost use Rattle.std.specs.Prelude.{◌≡◌, ◌≢◌, ◌++◌, ◌∷◌, ◌↔◌, [], All, IfOk, IfSome, IsTrue, List, ℕ};
+ghost use Rattle.std.specs.Prelude.{OnOk, codes};
+ghost use Rattle.disk.specs.Files.{File};
+ghost use Rattle.hex.specs.Hex.{encode_lower};
+ghost use Rattle.sha2.specs.Hashers.{Holds256};
+ghost use Rattle.sha2.specs.Sha256.{sha256};
+ghost use Rattle.journal.specs.Journals.{IsOnDisk, IsSound, KeepsOthers, Shows};
+ghost use Rattle.record_store.specs.Names.{IsHexadecimal, IsSegment};
+ghost use Rattle.record_store.specs.Puts.{KeepsOrSettlesApart, LeavesOldOr};
+
+use crate::putting::clear;
+use disk::{Disk, DiskFault, FileName};
+use sha2::{Digest, Sha256};
+use std::alloc::{AllocError, Global};
+use thiserror::Error;
+
+// the octets of a SHA-256 in hexadecimal
+const HEX_LEN: usize = 64;
+
+/// A segment that is written: a file under the name of a draft, until all of it is on the disk.
+#[derive(Drop)]
+pub struct SegmentDraft {
+    name: FileName,
+    hasher: Sha256,
+}
+
+/// Why a segment was not finished.
+#[derive(Clone, Copy, Debug, PartialEq, Eq, Error)]
+pub enum SegmentFault {
+    #[error("{0}")]
+    Disk(DiskFault),
+    /// A file's name cannot begin with the day.
+    #[error("no name of a day")]
+    Day,
+}
+
+impl From<DiskFault> for SegmentFault {
+    ghost use Rattle.std.specs.Prelude.{◌≡◌};
+    ghost use Rattle.record_store.specs.declared.segment.SegmentFault.TheVariants.{Disk};
+
+    ghost from_gives = { λ fault wrapped. wrapped ≡ Disk fault };
+
+    fn from(fault: DiskFault) -> SegmentFault {
+        SegmentFault::Disk(fault)
+    }
+}
+
+impl From<AllocError> for SegmentFault {
+    ghost use Rattle.std.specs.Prelude.{◌≡◌};
+    ghost use Rattle.disk.specs.declared.fault.DiskFault.TheVariants.{Memory};
+    ghost use Rattle.record_store.specs.declared.segment.SegmentFault.TheVariants.{Disk};
+
+    ghost from_gives = { λ _ wrapped. wrapped ≡ Disk Memory };
+
+    fn from(_: AllocError) -> SegmentFault {
+        SegmentFault::Disk(DiskFault::Memory)
+    }
+}
+
+fn are_hexadecimal(octets: &[u8]) -> bool
+    ensures { IsTrue result ↔ All IsHexadecimal octets.now }
+{
+    octets
+        .iter()
+        .all(|octet| matches!(*octet, b'0'..=b'9' | b'a'..=b'f'))
+}
+
+// The digest of what was hashed, in hexadecimal.
+fn hexadecimal(hasher: Sha256) -> [u8; HEX_LEN]
+    ensures { (text : List ℕ) → Holds256 hasher text → result ≡ encode_lower (sha256 text) }
+{
+    let mut hex = [0; HEX_LEN];
+    let _ = hex::encode_to_slice(hasher.finalize(), &mut hex);
+    hex
+}
+
+// The name of the segment of a day, if it is one.
+fn name_of_segment(
+    alloc: Global,
+    day: &[u8],
+    hex: &[u8; HEX_LEN],
+) -> Result<Option<FileName>, AllocError>
+    ensures name { IfOk result (λ found. IfSome found (λ name.
+        name ≡ day.now ++ 46 ∷ hex.now ++ codes ".archive")) }
+    ensures segment { IfOk result (λ found. IfSome found (λ name. IsSegment day.now name)) }
+{
+    if !are_hexadecimal(hex) {
+        return Ok(None);
+    }
+    let mut octets = day.to_vec(alloc)?;
+    octets.push(b'.')?;
+    octets.extend_from_slice(hex)?;
+    octets.extend_from_slice(b".archive")?;
+    FileName::new(alloc, &octets)
+}
+
+// Brings a draft to the disk and gives it its name, in place of what is there.
+fn place<D: Disk>(disk: &mut D, draft: &FileName, name: &FileName) -> Result<(), DiskFault>
+    ensures placed { OnOk result (D.tells disk.new → (file : File)
+        → Shows (D.state disk.old) draft.now file → name.now ≢ draft.now
+        → IsOnDisk (D.state disk.new) name.now file.shown) }
+
+    // whatever the result is: so at every moment
+    ensures any_moment { D.tells disk.new → (file : File) → Shows (D.state disk.old) draft.now file
+        → name.now ≢ draft.now
+        → LeavesOldOr (D.state disk.old) (D.state disk.new) name.now file.shown }
+    ensures others { D.tells disk.new → KeepsOrSettlesApart (D.state disk.old) (D.state disk.new)
+        draft.now name.now }
+
+    ensures told { D.tells disk.new → D.tells disk.old }
+{
+    disk.sync(draft)?;
+    disk.rename(draft, name)?;
+    disk.sync_names()
+}
+
+impl SegmentDraft {
+    ghost use Rattle.archive_text.specs.Entries.{Entry};
+    ghost use Rattle.record_store.specs.Crashes.{Keeps};
+    ghost use Rattle.record_store.specs.Names.{Counts};
+    ghost use Rattle.record_store.specs.Segments.{Drafts, HoldsNoMore, IsSegmentOf, draft_of};
+    ghost use Rattle.record_store.specs.Segments.{segment_name};
+    ghost use Rattle.record_store.specs.Stores.{AreAmong};
+
+    /// Begins a segment under the name of a draft, in place of what is there.
+    pub fn begin<D: Disk>(disk: &mut D, name: FileName) -> Result<SegmentDraft, DiskFault>
+        ensures begun { IfOk result (λ draft. D.tells disk.new → IsSound (D.state disk.old)
+            → Drafts draft (D.state disk.new) []) }
+        ensures name { IfOk result (λ draft. draft_of draft ≡ name) }
+        ensures others { D.tells disk.new → KeepsOthers (D.state disk.old) (D.state disk.new) name }
+        ensures told { D.tells disk.new → D.tells disk.old }
+    {
+        clear(disk, &name)?;
+        disk.create(&name)?;
+        Ok(SegmentDraft {
+            name,
+            hasher: Sha256::new(),
+        })
+    }
+
+    /// Writes the next piece of the segment. After an `Err` begin it again.
+    pub fn push<D: Disk>(&mut self, disk: &mut D, piece: &[u8]) -> Result<(), DiskFault>
+        ensures pushed { OnOk result (D.tells disk.new → (text : List ℕ)
+            → Drafts self.old (D.state disk.old) text
+            → Drafts self.new (D.state disk.new) (text ++ piece.now)) }
+        ensures name { draft_of self.new ≡ draft_of self.old }
+        ensures others { D.tells disk.new
+            → KeepsOthers (D.state disk.old) (D.state disk.new) (draft_of self.old) }
+        ensures told { D.tells disk.new → D.tells disk.old }
+    {
+        disk.append(&self.name, piece)?;
+        self.hasher.update(piece);
+        Ok(())
+    }
+
+    /// Brings the segment to the disk and gives it its name, `DAY.HEX.archive` with the SHA-256 of its
+    /// octets. Once it has returned `Ok`, every crash leaves it, so each of its entries is held; a crash
+    /// at any moment loses nothing, and holds nothing else but its entries. The name of the draft is to
+    /// be none that counts. A file that has the segment's name already is replaced: by the same
+    /// octets, unless it is damaged or SHA-256 collides.
+    pub fn finish<D: Disk>(
+        self,
+        alloc: Global,
+        disk: &mut D,
+        day: &[u8],
+    ) -> Result<FileName, SegmentFault>
+        ensures finished { IfOk result (λ name. D.tells disk.new → (text : List ℕ)
+            → Drafts self (D.state disk.old) text → ¬ (Counts (draft_of self))
+            → IsOnDisk (D.state disk.new) name text) }
+        ensures name { IfOk result (λ name. D.tells disk.new → (text : List ℕ)
+            → Drafts self (D.state disk.old) text → name ≡ segment_name day.now text) }
+        ensures segment { IfOk result (λ name. IsSegment day.now name) }
+
+        // whatever the result is: so at every moment
+        ensures any_moment { D.tells disk.new → (text : List ℕ) (es : List Entry)
+            → Drafts self (D.state disk.old) text → IsSegmentOf day.now text es
+            → ¬ (Counts (draft_of self))
+            → HoldsNoMore (D.state disk.old) (segment_name day.now text) es
+            → (committed received : List Entry) → AreAmong es received
+            → Keeps (D.state disk.old) committed received
+            → Keeps (D.state disk.new) committed received }
+        ensures others { D.tells disk.new → (text : List ℕ) → Drafts self (D.state disk.old) text
+            → KeepsOrSettlesApart (D.state disk.old) (D.state disk.new) (draft_of self)
+            (segment_name day.now text) }
+
+        ensures told { D.tells disk.new → D.tells disk.old }
+    {
+        let SegmentDraft {
+            name: draft,
+            hasher,
+        } = self;
+        let Some(name) = name_of_segment(alloc, day, &hexadecimal(hasher))? else {
+            return Err(SegmentFault::Day);
+        };
+        place(disk, &draft, &name)?;
+        Ok(name)
+    }
+}
