@@ -1,5 +1,5 @@
 -- A batch is committed.
-use Rattle.std.proofs.Common.{◌≡◌, ◌⊎◌, inl, inr, ⊎_elim, ℕ, ◌<◌, ◌^◌, List, [], ◌∷◌, ◌++◌, refl, sym, ap, subst, ◌∙◌}
+use Rattle.std.proofs.Common.{◌≡◌, ◌⊎◌, inl, inr, ⊎_elim, ℕ, ◌<◌, ◌^◌, List, [], ◌∷◌, ◌++◌, sym, ap, subst, ◌∙◌}
 use Rattle.std.specs.Prelude.{Option, None, Some, IsSomeAnd}
 use Rattle.disk.specs.Files.{settled}
 use Rattle.disk.specs.Memory.{shown_now}
@@ -17,7 +17,7 @@ use Rattle.record_store.specs.Shown.{NoneShownAbove, ShowsWithin}
 use Rattle.record_store.specs.Stores.{AreAmong}
 use Rattle.record_store.proofs.Batches.{batch_has, held_in_journal, journal_has, journal_holds, push_has, pushed_either}
 use Rattle.record_store.proofs.Batches.{pushed_has}
-use Rattle.record_store.proofs.Covering.{CoveredAt, Covers, covers_keeps, one_covers, others_same}
+use Rattle.record_store.proofs.Covering.{Covers, covers_keeps, one_covers, others_same}
 use Rattle.record_store.proofs.Folders.{HoldsAt}
 use Rattle.record_store.proofs.Leavings.{left_shown, only_is, resting_may}
 use Rattle.record_store.proofs.Showing.{within_of}

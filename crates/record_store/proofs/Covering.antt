@@ -1,5 +1,5 @@
 -- What a crash may leave of a folder, against what it might have left before.
-use Rattle.std.proofs.Common.{◌≡◌, ◌≢◌, ◌⊎◌, inl, inr, ⊎_elim, ℕ, Bool, if◌then◌else◌, List, refl, sym, ap, subst}
+use Rattle.std.proofs.Common.{◌≡◌, ◌≢◌, ◌⊎◌, inl, ⊎_elim, ℕ, Bool, if◌then◌else◌, List, refl, sym, ap, subst}
 use Rattle.std.specs.Prelude.{Option, bytes_eq}
 use Rattle.std.proofs.lemmas.Bool.{cases_Bool}
 use Rattle.std.proofs.lemmas.Slice.Eq.{bytes_eq-Decides}
@@ -7,7 +7,7 @@ use Rattle.disk.specs.Calls.{IsUnchanged}
 use Rattle.disk.specs.States.{Entry as DiskEntry, Files, NameMayLeave, State, kept}
 use Rattle.archive_text.specs.Entries.{Entry, Has}
 use Rattle.record_store.specs.Crashes.{Keeps, MayLeaveCounted}
-use Rattle.record_store.specs.Holdings.{HeldAt, Holds}
+use Rattle.record_store.specs.Holdings.{Holds}
 use Rattle.record_store.specs.Names.{Counts}
 use Rattle.record_store.proofs.Folders.{HoldsAt, one_changes}
 use Rattle.record_store.proofs.Leavings.{settled_may}

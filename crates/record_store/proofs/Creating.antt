@@ -1,5 +1,5 @@
 -- An empty journal is made.
-use Rattle.std.proofs.Common.{◌≡◌, ◌≢◌, ◌⊎◌, inl, inr, ⊎_elim, ℕ, ◌<◌, ◌^◌, List, [], ◌∷◌, refl, sym, ap, subst, ◌∙◌, arith}
+use Rattle.std.proofs.Common.{◌≡◌, ◌⊎◌, inl, ⊎_elim, ℕ, ◌<◌, ◌^◌, List, [], refl, sym, ap, subst, ◌∙◌, arith}
 use Rattle.std.specs.Prelude.{Option, None, Some, IsSomeAnd}
 use Rattle.disk.specs.Files.{File}
 use Rattle.disk.specs.Memory.{shown_now}
@@ -7,7 +7,7 @@ use Rattle.disk.specs.States.{MayBe, NameMayLeave, State}
 use Rattle.journal.specs.Batches.{HasBatches}
 use Rattle.journal.specs.Journals.{KeepsOrSettlesOthers, LeavesNoBatch, SettlesOthers, ShowsNoBatch}
 use Rattle.journal.specs.Journals.{Stands as JournalStands}
-use Rattle.archive_text.specs.Entries.{Entry, Has}
+use Rattle.archive_text.specs.Entries.{Entry}
 use Rattle.record_store.specs.Crashes.{Keeps}
 use Rattle.record_store.specs.Holdings.{IsBatch}
 use Rattle.record_store.specs.Names.{IsJournal, journal_name}

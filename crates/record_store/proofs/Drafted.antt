@@ -1,24 +1,30 @@
 -- A segment is brought to the disk.
-use Rattle.std.proofs.Common.{◌≡◌, ◌≢◌, ◌⊎◌, inl, inr, ⊎_elim, ℕ, Bool, if◌then◌else◌, List, ◌∷◌, ◌++◌, sym, ap, subst, ◌∙◌}
-use Rattle.std.specs.Prelude.{Option, None, Some}
-use Rattle.std.specs.List.{AllByRecursion}
+use Rattle.std.proofs.Common.{◌≡◌, ◌≢◌, ◌⊎◌, inl, inr, ⊎_elim, ℕ, ◌<◌, ◌^◌, Bool, if◌then◌else◌, List, refl, sym, ap, subst, ◌∙◌}
+use Rattle.std.specs.Prelude.{Option, Some, false}
 use Rattle.disk.specs.Calls.{ChangesFile, FailsAt, Loses}
 use Rattle.disk.specs.Files.{File, settled}
 use Rattle.disk.specs.Memory.{shown_now}
-use Rattle.disk.specs.States.{Entry as DiskEntry, NameMayLeave, State}
+use Rattle.disk.specs.States.{Entry as DiskEntry, NameMayLeave, State, kept}
 use Rattle.disk.specs.declared.fault.DiskFault.{DiskFault}
-use Rattle.journal.specs.Journals.{IsSound, KeepsOthers, Shows}
+use Rattle.journal.specs.Journals.{IsOnDisk, IsSound, KeepsOthers, Shows}
 use Rattle.archive_text.specs.Entries.{Entry, Has}
 use Rattle.record_store.specs.Crashes.{Keeps}
-use Rattle.record_store.specs.Holdings.{HeldAt, SegmentHas}
-use Rattle.record_store.specs.Names.{Counts, IsSegment}
+use Rattle.record_store.specs.Holdings.{HeldAt, IsBatch}
+use Rattle.record_store.specs.Names.{Counts, IsSegment, journal_name}
+use Rattle.record_store.specs.Shown.{journal_shown}
 use Rattle.record_store.specs.Puts.{KeepsOrSettlesApart, LeavesOldOr}
-use Rattle.record_store.specs.Segments.{HoldsNoMore, IsSegmentOf}
-use Rattle.record_store.specs.Stores.{AreAmong}
-use Rattle.record_store.proofs.Covering.{CoveredAt, Covers, OthersLeaveLess, covered_as_before, covers_keeps, one_covers}
+use Rattle.record_store.specs.Segments.{HoldsNoMore, IsSegmentOf, JournalsSettle}
+use Rattle.record_store.specs.Stores.{AreAmong, IsReady, Sets, Stands}
+use Rattle.record_store.specs.Turns.{HeldApart}
+use Rattle.record_store.specs.declared.store.RecordStore.{RecordStore}
+use Rattle.record_store.proofs.Covering.{CoveredAt, OthersLeaveLess, covered_as_before, covers_keeps, less_covers}
+use Rattle.record_store.proofs.Covering.{one_covers}
 use Rattle.record_store.proofs.Batches.{one_batch}
-use Rattle.record_store.proofs.Leavings.{settled_may, shown_file, shown_left}
+use Rattle.record_store.proofs.Leavings.{only_is, settled_may, settled_shown, shown_file, shown_left}
 use Rattle.record_store.proofs.Named.{not_both}
+use Rattle.record_store.proofs.Showing.{same_within}
+use Rattle.record_store.proofs.Standing.{ready_as}
+use Rattle.record_store.proofs.Successions.{one_apart}
 
 -- the draft is on the disk
 pub draft_synced : (old new : State) (name : List ℕ) (file : File) → Shows old name file
@@ -51,7 +57,7 @@ shows_of state name text shown sound =
 module _ (old new : State) (draft name day text : List ℕ) (es : List Entry) (segment : IsSegment day name)
     (is : IsSegmentOf day text es) (no_more : HoldsNoMore old name es) (apart : ¬ (Counts draft))
     (leaves : LeavesOldOr old new name text) (others : KeepsOrSettlesApart old new draft name) where
-  segment_has : (e : Entry) → Has es e → HeldAt name (Some text) e
+  pub segment_has : (e : Entry) → Has es e → HeldAt name (Some text) e
   segment_has e has = inr (
     day,
     segment,
@@ -64,7 +70,7 @@ module _ (old new : State) (draft name day text : List ℕ) (es : List Entry) (s
     },
   )
 
-  others_less : OthersLeaveLess old new name
+  pub others_less : OthersLeaveLess old new name
   others_less other counts differs octets may =
       settled_may (old.entries other) (new.entries other) octets
       (others other (λ same. apart (subst Counts same counts)) differs) may
@@ -104,3 +110,95 @@ module _ (old new : State) (draft name day text : List ℕ) (es : List Entry) (s
 -- a name that does not count is that of no segment
 pub name_apart : (draft day name : List ℕ) → IsSegment day name → ¬ (Counts draft) → name ≢ draft
 name_apart draft day name segment apart is = apart (inr (day, subst (IsSegment day) is segment))
+
+-- ---- a store stands on beside a segment
+
+journal_counts : (n : ℕ) → n < 2 ^ 64 → Counts (journal_name n)
+journal_counts n small = inl (record { number = n; small = small; name_is = refl })
+
+module _ (old new : State) (store after : RecordStore) (sets : Sets) (stands : Stands store old sets)
+    (settles : JournalsSettle old new)
+    (keeps : Keeps new sets.committed sets.received) (same_batch : after.batch.items ≡ store.batch.items)
+    (same_journal : after.journal ≡ store.journal) (same_number : after.number ≡ store.number) where
+  beside_shows : (n : ℕ) → n < 2 ^ 64 → journal_shown new n ≡ journal_shown old n
+  beside_shows n small =
+      settled_shown (old.entries (journal_name n)) (new.entries (journal_name n)) (settles n small)
+
+  beside_ready : new.lost ≡ false → IsReady store old sets.since → IsReady store new sets.since
+  beside_ready sound ready = record {
+    small = ready.small;
+    named = ready.named;
+    bodies = ready.bodies;
+    stands = record {
+      gate = ready.stands.gate;
+      closed = ready.stands.closed;
+      entry =
+          let was = ap old.entries (sym ready.named) ∙ ready.stands.entry in
+          ap new.entries ready.named
+          ∙ ⊎_elim (λ same. same ∙ was) (λ on_disk. on_disk ∙ ap kept was) (settles store.number ready.small);
+      sound = sound;
+      end = ready.stands.end;
+      sized = ready.stands.sized;
+    };
+    has = ready.has;
+    newest = λ n later small.
+        let was = ready.newest n later small in
+        ⊎_elim (λ same. same ∙ was) (λ on_disk. on_disk ∙ ap kept was) (settles n small);
+  }
+
+  pub beside_stands : (after.broken ≡ false → (store.broken ≡ false) × (new.lost ≡ false))
+      → (new.lost ≡ false → old.lost ≡ false) → Stands after new sets
+  beside_stands whole sound = record {
+    keeps = keeps;
+    batch = subst (IsBatch sets.waiting) (sym same_batch) stands.batch;
+    waits = stands.waits;
+    within = stands.within;
+    ready = λ not_broken.
+        let before = whole not_broken in
+        ready_as store after new sets.since same_journal same_number
+        (beside_ready before.1 (stands.ready before.0));
+    shows = λ still. same_within old new sets.since beside_shows (stands.shows (sound still));
+  }
+
+-- only the draft's file changes
+pub aside_stands : (old new : State) (draft : List ℕ) → KeepsOthers old new draft → ¬ (Counts draft)
+    → new.lost ≡ old.lost → (store : RecordStore) (sets : Sets) → Stands store old sets → Stands store new sets
+aside_stands old new draft others apart lost store sets stands =
+    beside_stands old new store store sets stands
+    (λ n small. inl (others (journal_name n) (λ is. apart (subst Counts is (journal_counts n small)))))
+    (covers_keeps old new (λ e. ⊥)
+    (less_covers old new (λ e. ⊥)
+    (λ name counts octets may. subst (λ (e : DiskEntry). NameMayLeave e octets)
+    (others name (λ is. apart (subst Counts is counts))) may))
+    sets.committed sets.received (λ e none. absurd none) stands.keeps)
+    refl refl refl
+    (λ whole. (whole, lost ∙ (stands.ready whole).stands.sound))
+    (λ sound. sym lost ∙ sound)
+
+pub journals_settle : (old new : State) (draft name day : List ℕ) → IsSegment day name → ¬ (Counts draft)
+    → KeepsOrSettlesApart old new draft name → JournalsSettle old new
+journals_settle old new draft name day segment apart others n small =
+    others (journal_name n) (λ same. apart (subst Counts same (journal_counts n small)))
+    (λ same. not_both day name (record { number = n; small = small; name_is = sym same }) segment)
+
+-- a segment gets its name
+module _ (old new : State) (draft name day text : List ℕ) (es : List Entry) (segment : IsSegment day name)
+    (is : IsSegmentOf day text es) (no_more : HoldsNoMore old name es) (apart : ¬ (Counts draft))
+    (leaves : LeavesOldOr old new name text) (others : KeepsOrSettlesApart old new draft name) where
+  pub segment_held : (number : ℕ) → number < 2 ^ 64 → IsOnDisk new name text
+      → HeldApart new (journal_name number) es
+  segment_held number small on_disk files may e has = (
+    name,
+    λ same. not_both day name (record { number = number; small = small; name_is = same }) segment,
+    subst (λ (o : Option (List ℕ)). HeldAt name o e)
+        (sym (only_is text (files name) (subst (λ (x : DiskEntry). NameMayLeave x (files name)) on_disk.entry
+        (may name (inr (day, segment))))))
+        (segment_has old new draft name day text es segment is no_more apart leaves others e has),
+  )
+
+  pub segment_still : (journal : List ℕ) (held : List Entry) → HeldApart old journal held
+      → HeldApart new journal held
+  segment_still journal held holds =
+      one_apart old new name (λ e. Has es e) (inr (day, segment))
+      (others_less old new draft name day text es segment is no_more apart leaves others)
+      (segment_at old new draft name day text es segment is no_more apart leaves others) journal held holds

@@ -2,7 +2,7 @@
 use Rattle.std.proofs.Common.{◌≡◌, ◌≢◌, ◌⊎◌, inl, inr, ⊎_elim, ℕ, List, sym, subst}
 use Rattle.std.specs.Prelude.{Option, None, Some}
 use Rattle.disk.specs.States.{Entry as DiskEntry, Files, MayLeave, NameMayLeave, State}
-use Rattle.archive_text.specs.Entries.{Entry, Has}
+use Rattle.archive_text.specs.Entries.{Entry}
 use Rattle.record_store.specs.Crashes.{Keeps, MayLeaveCounted, Rests}
 use Rattle.record_store.specs.Holdings.{Held, HeldAt, Holds}
 use Rattle.record_store.specs.Names.{Counts}

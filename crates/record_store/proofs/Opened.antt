@@ -1,24 +1,23 @@
 -- A journal that a read shows is brought to the disk and opened.
-use Rattle.std.proofs.Common.{◌≡◌, ◌⊎◌, inl, inr, ⊎_elim, ℕ, ◌<◌, ◌^◌, List, [], ◌∷◌, ◌++◌, refl, sym, ap, subst, ◌∙◌}
-use Rattle.std.specs.Prelude.{Option, None, Some, IsSomeAnd, Result, Ok, Err}
-use Rattle.disk.specs.Calls.{IsUnchanged}
+use Rattle.std.proofs.Common.{◌≡◌, ◌⊎◌, inl, inr, ⊎_elim, ℕ, ◌<◌, ◌^◌, List, [], refl, sym, ap, subst, ◌∙◌}
+use Rattle.std.specs.Prelude.{Option, None, Some, IsSomeAnd}
 use Rattle.disk.specs.Files.{File}
 use Rattle.disk.specs.Memory.{shown_now}
-use Rattle.disk.specs.States.{Entry as DiskEntry, Files, NameMayLeave, State, kept}
+use Rattle.disk.specs.States.{Entry as DiskEntry, NameMayLeave, State, kept}
 use Rattle.journal.specs.Batches.{HasBatches}
 use Rattle.journal.specs.declared.journal.Journal.{Journal}
 use Rattle.journal.specs.Journals.{IsOnDisk, IsSound, KeepsOrSettlesOthers, KeepsOthers, LeavesThese, OpensOn}
 use Rattle.journal.specs.Journals.{SettlesOthers, Shows, ShowsTheSame}
 use Rattle.archive_text.specs.Entries.{Entry, Has}
-use Rattle.record_store.specs.Crashes.{Keeps, MayLeaveCounted}
+use Rattle.record_store.specs.Crashes.{Keeps}
 use Rattle.record_store.specs.Holdings.{BatchesHave, HeldAt, IsBatch, JournalHas}
 use Rattle.record_store.specs.Names.{IsJournal, journal_name}
-use Rattle.record_store.specs.Shown.{GivesNewest, GivesShown, IsNewestShown, ShowsNoJournal, ShowsTheBatches}
-use Rattle.record_store.specs.Shown.{ShowsWithin, journal_shown}
+use Rattle.record_store.specs.Shown.{GivesNewest, GivesShown, IsNewestShown, ShowsTheBatches}
+use Rattle.record_store.specs.Shown.{ShowsWithin}
 use Rattle.record_store.specs.Stores.{AreAmong, IsReady, Stands, begun}
 use Rattle.record_store.specs.declared.store.RecordStore.{RecordStore}
 use Rattle.record_store.proofs.Batches.{held_in_journal, journal_holds, no_batch, nothing_has, text_has}
-use Rattle.record_store.proofs.Covering.{CoveredAt, Covers, covered_as_before, covers_keeps, one_covers, others_same}
+use Rattle.record_store.proofs.Covering.{Covers, covered_as_before, covers_keeps, one_covers, others_same}
 use Rattle.record_store.proofs.Covering.{others_settled}
 use Rattle.record_store.proofs.Folders.{HoldsAt, nothing}
 use Rattle.record_store.proofs.Leavings.{left_shown, none_kept, resting_may, shown_file, shown_left}
@@ -110,10 +109,6 @@ module _ (old new : State) (name octets : List ℕ) (on_disk : IsOnDisk old name
         (leaves octets bodies on_disk (subst (λ (l : List ℕ). HasBatches l bodies) one has)) in
         (left.0, left.1, subst (HasBatches left.0) left.2.2 left.2.1);
   }
-
-pub opened_settles : (zero one two : State) (name : List ℕ) → SettlesOthers zero one name → KeepsOthers one two name
-    → SettlesOthers zero two name
-opened_settles zero one two name settles keeps other apart = keeps other apart ∙ settles other apart
 
 -- ---- the store of the newest journal
 

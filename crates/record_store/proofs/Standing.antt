@@ -1,11 +1,11 @@
 -- A store from call to call.
 use Rattle.std.proofs.Common.{◌≡◌, ⊎_elim, ℕ, ◌<◌, ◌≤◌, ◌^◌, List, [], ◌∷◌, ◌++◌, length, sym, ap, subst, ◌∙◌}
-use Rattle.std.specs.Prelude.{None, false, true}
+use Rattle.std.specs.Prelude.{None, true}
 use Rattle.disk.specs.Memory.{shown_now}
 use Rattle.disk.specs.States.{State}
 use Rattle.journal.specs.declared.journal.Journal.{Journal}
 use Rattle.journal.specs.Journals.{KeepsOthers, LeavesBatches, Stands as JournalStands, WithOrWithout}
-use Rattle.archive_text.specs.Entries.{Entry, Has, IsEntry}
+use Rattle.archive_text.specs.Entries.{Entry, IsEntry}
 use Rattle.archive_text.specs.Text.{entry_text}
 use Rattle.archive_text.specs.declared.limits.TheConstants.{ENTRY_MAX}
 use Rattle.archive_text.proofs.Members.{has_either, has_left, has_right}

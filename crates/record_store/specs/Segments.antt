@@ -1,8 +1,8 @@
 -- Segments, as they are written.
-use Rattle.std.specs.Prelude.{◌≡◌, ℕ, List, ◌∷◌, ◌++◌, Option, Some, codes, false}
+use Rattle.std.specs.Prelude.{◌≡◌, ◌⊎◌, ℕ, ◌^◌, ◌<◌, List, ◌∷◌, ◌++◌, Option, Some, codes, false}
 use Rattle.std.specs.List.{AllByRecursion}
 use Rattle.disk.specs.Memory.{shown_now}
-use Rattle.disk.specs.States.{NameMayLeave, State}
+use Rattle.disk.specs.States.{NameMayLeave, State, kept}
 use Rattle.hex.specs.Hex.{encode_lower}
 use Rattle.sha2.specs.Hashers.{Holds256}
 use Rattle.sha2.specs.Sha256.{sha256}
@@ -12,6 +12,8 @@ use Rattle.archive_text.specs.declared.limits.TheConstants.{ENTRY_MAX}
 use Rattle.archive_digest.specs.Periods.{IsIn}
 use Rattle.archive_digest.specs.declared.period.Period.TheVariants.{Day}
 use Rattle.record_store.specs.Holdings.{HeldAt}
+use Rattle.record_store.specs.Names.{Counts, journal_name}
+use Rattle.record_store.specs.Stores.{AreAmong}
 use Rattle.record_store.specs.declared.segment.SegmentDraft.{SegmentDraft}
 
 -- DAY.HEX.archive, HEX the SHA-256 of the text
@@ -39,3 +41,18 @@ pub record IsSegmentOf (day text : List ℕ) (es : List Entry) : Type 0 where
 abbrev pub HoldsNoMore : State → List ℕ → List Entry → Type 0
 HoldsNoMore state name es = (octets : Option (List ℕ)) → NameMayLeave (state.entries name) octets → (e : Entry)
     → HeldAt name octets e → Has es e
+
+-- what was drafted is the archive of these entries of a day, which were received, and the draft's name does not count
+pub record IsOfSegment (draft : SegmentDraft) (state : State) (day : List ℕ) (es received : List Entry) : Type 0 where
+  pub text : List ℕ
+  pub drafts : Drafts draft state text
+  pub is : IsSegmentOf day text es
+  pub apart : ¬ (Counts draft.name)
+  pub no_more : HoldsNoMore state (segment_name day text) es
+  pub among : AreAmong es received
+
+-- the journals are as they were, but that what is there may be on the disk now
+abbrev pub JournalsSettle : State → State → Type 0
+JournalsSettle old new = (n : ℕ) → n < 2 ^ 64
+    → (new.entries (journal_name n) ≡ old.entries (journal_name n))
+    ⊎ (new.entries (journal_name n) ≡ kept (old.entries (journal_name n)))

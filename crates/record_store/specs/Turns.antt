@@ -5,7 +5,6 @@ use Rattle.archive_text.specs.Entries.{Entry, Has}
 use Rattle.record_store.specs.Causes.{Causes}
 use Rattle.record_store.specs.Crashes.{MayLeaveCounted}
 use Rattle.record_store.specs.Holdings.{HeldAt}
-use Rattle.record_store.specs.Names.{journal_name}
 use Rattle.record_store.specs.Shown.{journal_shown}
 use Rattle.record_store.specs.Stores.{IsBroken, Sets, Stands}
 use Rattle.record_store.specs.declared.store.RecordStore.{RecordStore}

@@ -1,5 +1,5 @@
 //! A whole file is put under a name.
-ghost use Rattle.std.specs.Prelude.{◌≢◌, IsErrOf, OnOk};
+ghost use Rattle.std.specs.Prelude.{◌≡◌, ◌≢◌, IsErrOf, IsNone, OnOk};
 ghost use Rattle.disk.specs.Files.{settled};
 ghost use Rattle.journal.specs.Journals.{IsOnDisk, IsSound, KeepsOthers, Shows};
 ghost use Rattle.record_store.specs.Puts.{KeepsOrSettlesApart, LeavesOldOr};
@@ -9,9 +9,14 @@ use disk::{Disk, DiskFault, FileName};
 // Removes a file, if there is one.
 pub(crate) fn clear<D: Disk>(disk: &mut D, name: &FileName) -> Result<(), DiskFault>
     ensures sound { OnOk result (D.tells disk.new → IsSound (D.state disk.old) → IsSound (D.state disk.new)) }
+    ensures same { D.tells disk.new → (D.state disk.new).lost ≡ (D.state disk.old).lost }
+    ensures gone { OnOk result (D.tells disk.new → IsNone ((D.state disk.new).entries name.now).now) }
     ensures others { D.tells disk.new → KeepsOthers (D.state disk.old) (D.state disk.new) name.now }
     ensures told { D.tells disk.new → D.tells disk.old }
     ensures failed { IsErrOf result DiskFault.Failed → D.has_failed disk.new }
+    ensures full { IsErrOf result DiskFault.Full → D.has_failed disk.new }
+    ensures not_missing { D.tells disk.new → ¬ (IsErrOf result DiskFault.Missing) }
+    ensures not_exists { D.tells disk.new → ¬ (IsErrOf result DiskFault.Exists) }
 {
     match disk.remove(name) {
         Err(DiskFault::Missing) => Ok(()),
@@ -26,6 +31,9 @@ fn draft<D: Disk>(disk: &mut D, name: &FileName, text: &[u8]) -> Result<(), Disk
     ensures others { D.tells disk.new → KeepsOthers (D.state disk.old) (D.state disk.new) name.now }
     ensures told { D.tells disk.new → D.tells disk.old }
     ensures failed { IsErrOf result DiskFault.Failed → D.has_failed disk.new }
+    ensures full { IsErrOf result DiskFault.Full → D.has_failed disk.new }
+    ensures not_missing { D.tells disk.new → ¬ (IsErrOf result DiskFault.Missing) }
+    ensures not_exists { D.tells disk.new → ¬ (IsErrOf result DiskFault.Exists) }
 {
     clear(disk, name)?;
     disk.create(name)?;
@@ -54,6 +62,10 @@ pub fn put<D: Disk>(
 
     ensures told { D.tells disk.new → D.tells disk.old }
     ensures failed { IsErrOf result DiskFault.Failed → D.has_failed disk.new }
+    ensures full { IsErrOf result DiskFault.Full → D.has_failed disk.new }
+    ensures not_missing { D.tells disk.new → IsSound (D.state disk.old)
+        → ¬ (IsErrOf result DiskFault.Missing) }
+    ensures not_exists { D.tells disk.new → ¬ (IsErrOf result DiskFault.Exists) }
 {
     draft(disk, draft_name, text)?;
     disk.rename(draft_name, name)?;

@@ -1,5 +1,5 @@
 //! A segment is written, a piece at a time.
-ghost use Rattle.std.specs.Prelude.{◌≡◌, ◌≢◌, ◌++◌, ◌∷◌, ◌↔◌, [], All, IfOk, IfSome, IsTrue, List, ℕ};
+ghost use Rattle.std.specs.Prelude.{◌≡◌, ◌≢◌, ◌<◌, ◌^◌, ◌++◌, ◌∷◌, ◌↔◌, [], All, IfOk, IfSome, IsTrue, List, ℕ};
 ghost use Rattle.std.specs.Prelude.{OnOk, codes};
 ghost use Rattle.disk.specs.Files.{File};
 ghost use Rattle.hex.specs.Hex.{encode_lower};
@@ -9,6 +9,7 @@ ghost use Rattle.journal.specs.Journals.{IsOnDisk, IsSound, KeepsOthers, Shows};
 ghost use Rattle.record_store.specs.Names.{IsHexadecimal, IsSegment};
 ghost use Rattle.record_store.specs.Puts.{KeepsOrSettlesApart, LeavesOldOr};
 
+use crate::RecordStore;
 use crate::putting::clear;
 use disk::{Disk, DiskFault, FileName};
 use sha2::{Digest, Sha256};
@@ -118,10 +119,11 @@ fn place<D: Disk>(disk: &mut D, draft: &FileName, name: &FileName) -> Result<(),
 impl SegmentDraft {
     ghost use Rattle.archive_text.specs.Entries.{Entry};
     ghost use Rattle.record_store.specs.Crashes.{Keeps};
-    ghost use Rattle.record_store.specs.Names.{Counts};
-    ghost use Rattle.record_store.specs.Segments.{Drafts, HoldsNoMore, IsSegmentOf, draft_of};
+    ghost use Rattle.record_store.specs.Names.{Counts, journal_name};
+    ghost use Rattle.record_store.specs.Segments.{Drafts, IsOfSegment, JournalsSettle, draft_of};
     ghost use Rattle.record_store.specs.Segments.{segment_name};
-    ghost use Rattle.record_store.specs.Stores.{AreAmong};
+    ghost use Rattle.record_store.specs.Stores.{Sets, Stands};
+    ghost use Rattle.record_store.specs.Turns.{HeldApart};
 
     /// Begins a segment under the name of a draft, in place of what is there.
     pub fn begin<D: Disk>(disk: &mut D, name: FileName) -> Result<SegmentDraft, DiskFault>
@@ -129,6 +131,11 @@ impl SegmentDraft {
             → Drafts draft (D.state disk.new) []) }
         ensures name { IfOk result (λ draft. draft_of draft ≡ name) }
         ensures others { D.tells disk.new → KeepsOthers (D.state disk.old) (D.state disk.new) name }
+
+        // whatever the result is: so at every moment
+        ensures stands { D.tells disk.new → ¬ (Counts name) → (store : RecordStore) (sets : Sets)
+            → Stands store (D.state disk.old) sets → Stands store (D.state disk.new) sets }
+
         ensures told { D.tells disk.new → D.tells disk.old }
     {
         clear(disk, &name)?;
@@ -147,6 +154,12 @@ impl SegmentDraft {
         ensures name { draft_of self.new ≡ draft_of self.old }
         ensures others { D.tells disk.new
             → KeepsOthers (D.state disk.old) (D.state disk.new) (draft_of self.old) }
+
+        // whatever the result is: so at every moment
+        ensures stands { D.tells disk.new → ¬ (Counts (draft_of self.old)) → (store : RecordStore)
+            (sets : Sets) → Stands store (D.state disk.old) sets
+            → Stands store (D.state disk.new) sets }
+
         ensures told { D.tells disk.new → D.tells disk.old }
     {
         disk.append(&self.name, piece)?;
@@ -172,17 +185,21 @@ impl SegmentDraft {
             → Drafts self (D.state disk.old) text → name ≡ segment_name day.now text) }
         ensures segment { IfOk result (λ name. IsSegment day.now name) }
 
+        ensures held { OnOk result (D.tells disk.new → (es received : List Entry)
+            → IsOfSegment self (D.state disk.old) day.now es received → (number : ℕ) → number < 2 ^ 64
+            → HeldApart (D.state disk.new) (journal_name number) es) }
+
         // whatever the result is: so at every moment
-        ensures any_moment { D.tells disk.new → (text : List ℕ) (es : List Entry)
-            → Drafts self (D.state disk.old) text → IsSegmentOf day.now text es
-            → ¬ (Counts (draft_of self))
-            → HoldsNoMore (D.state disk.old) (segment_name day.now text) es
-            → (committed received : List Entry) → AreAmong es received
+        ensures any_moment { D.tells disk.new → (es committed received : List Entry)
+            → IsOfSegment self (D.state disk.old) day.now es received
             → Keeps (D.state disk.old) committed received
             → Keeps (D.state disk.new) committed received }
-        ensures others { D.tells disk.new → (text : List ℕ) → Drafts self (D.state disk.old) text
-            → KeepsOrSettlesApart (D.state disk.old) (D.state disk.new) (draft_of self)
-            (segment_name day.now text) }
+        ensures journals { D.tells disk.new → ¬ (Counts (draft_of self))
+            → JournalsSettle (D.state disk.old) (D.state disk.new) }
+        ensures still_held { D.tells disk.new → (es received : List Entry)
+            → IsOfSegment self (D.state disk.old) day.now es received
+            → (name : List ℕ) (others : List Entry) → HeldApart (D.state disk.old) name others
+            → HeldApart (D.state disk.new) name others }
 
         ensures told { D.tells disk.new → D.tells disk.old }
     {
@@ -195,5 +212,55 @@ impl SegmentDraft {
         };
         place(disk, &draft, &name)?;
         Ok(name)
+    }
+}
+
+impl RecordStore {
+    ghost use Rattle.std.specs.Prelude.{IsErr};
+    ghost use Rattle.archive_text.specs.Entries.{Entry};
+    ghost use Rattle.record_store.specs.Names.{journal_name};
+    ghost use Rattle.record_store.specs.Segments.{IsOfSegment};
+    ghost use Rattle.record_store.specs.Stores.{IsBroken, Sets, Stands, number_of};
+    ghost use Rattle.record_store.specs.Turns.{HeldApart};
+
+    /// Finishes a segment of entries that the store has received. Once it has returned `Ok`, a file
+    /// that is not the journal holds each of them, whatever a crash leaves, so that `turn` may follow
+    /// where all that came since the last checkpoint is in segments. The sets stay as they are at every
+    /// moment.
+    ///
+    /// # Errors
+    /// The disk's fault, or want of memory. The store is broken then.
+    pub fn add_segment<D: Disk>(
+        &mut self,
+        alloc: Global,
+        disk: &mut D,
+        draft: SegmentDraft,
+        day: &[u8],
+    ) -> Result<(), SegmentFault>
+        ensures held { OnOk result (D.tells disk.new → (es received : List Entry)
+            → IsOfSegment draft (D.state disk.old) day.now es received
+            → (number : ℕ) → number < 2 ^ 64
+            → HeldApart (D.state disk.new) (journal_name number) es) }
+
+        // whatever the result is: so at every moment
+        ensures stands { D.tells disk.new → (es : List Entry) (sets : Sets)
+            → IsOfSegment draft (D.state disk.old) day.now es sets.received
+            → Stands self.old (D.state disk.old) sets → Stands self.new (D.state disk.new) sets }
+        ensures still_held { D.tells disk.new → (es received : List Entry)
+            → IsOfSegment draft (D.state disk.old) day.now es received
+            → (name : List ℕ) (others : List Entry) → HeldApart (D.state disk.old) name others
+            → HeldApart (D.state disk.new) name others }
+
+        ensures number { number_of self.new ≡ number_of self.old }
+        ensures breaks { IsErr result → IsBroken self.new }
+        ensures told { D.tells disk.new → D.tells disk.old }
+    {
+        match draft.finish(alloc, disk, day) {
+            Ok(_name) => Ok(()),
+            Err(fault) => {
+                self.broken = true;
+                Err(fault)
+            }
+        }
     }
 }

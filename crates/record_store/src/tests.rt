@@ -1,5 +1,5 @@
-use crate::{AppendFault, RecordStore, StoreFault, open};
-use disk::{Fuse, MemoryDisk};
+use crate::{AppendFault, RecordStore, SegmentDraft, SegmentFault, StoreFault, open};
+use disk::{Disk, FileName, Fuse, MemoryDisk};
 use std::alloc::Global;
 use std::test::Fail;
 
@@ -24,6 +24,21 @@ fn begun(alloc: Global) -> Result<(MemoryDisk, RecordStore), Fail> {
     store.append(FIRST).ok().ok_or("refused")?;
     store.commit(alloc, &mut disk)?;
     Ok((disk, store))
+}
+
+// the first record as a segment
+fn write_segment<D: Disk>(
+    alloc: Global,
+    store: &mut RecordStore,
+    disk: &mut D,
+) -> Result<(), SegmentFault> {
+    let Some(name) = FileName::new(alloc, b"new.archive")? else {
+        return Err(SegmentFault::Day);
+    };
+    let mut draft = SegmentDraft::begin(disk, name)?;
+    draft.push(disk, b"16 ")?;
+    draft.push(disk, FIRST)?;
+    store.add_segment(alloc, disk, draft, b"undated")
 }
 
 #[test]
@@ -180,6 +195,31 @@ fn a_store_is_opened_after_a_kill(rt: HostRuntime) -> Result<(), Fail> {
         let (_store, batches) = open(alloc, &mut disk)?;
         assert!(rt; has(&batches, FIRST), "at {calls}");
         assert_eq!(rt; has(&batches, SECOND), has(&shown, SECOND), "at {calls}");
+    }
+    Ok(())
+}
+
+// A segment that is stopped at each of its calls, with a crash whatever it leaves: the journal has
+// the record still, and once it was told as finished the folder has the segment.
+#[test]
+fn a_segment_may_stop_at_any_call(rt: HostRuntime) -> Result<(), Fail> {
+    let alloc = rt.alloc();
+    for calls in 0..8 {
+        for octet in [None, Some(0), Some(1)] {
+            let (disk, mut store) = begun(alloc)?;
+            let mut fuse = Fuse::new(disk, calls);
+            let done = write_segment(alloc, &mut store, &mut fuse).is_ok();
+            let mut disk = fuse.into_inner().crash(1, octet, calls % 2 == 0)?;
+            let mut segments = 0;
+            for name in &disk.names(alloc)? {
+                if name.as_octets().starts_with(b"undated.") {
+                    segments += 1;
+                }
+            }
+            assert!(rt; segments == 1 || !done, "at {calls}, {octet:?}");
+            let (_store, batches) = open(alloc, &mut disk)?;
+            assert!(rt; has(&batches, FIRST), "at {calls}, {octet:?}");
+        }
     }
     Ok(())
 }

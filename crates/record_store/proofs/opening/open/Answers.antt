@@ -1,4 +1,4 @@
-use Rattle.std.proofs.Common.{◌≡◌, ◌<◌, ◌^◌, inl, inr, List, ℕ, refl, sym, ◌∙◌, arith, subst}
+use Rattle.std.proofs.Common.{◌<◌, ◌^◌, inl, inr, List, ℕ, sym, ◌∙◌, arith, subst}
 use Rattle.std.proofs.lemmas.Result.{IfOk-weaker, err_from_is_err_and}
 use Rattle.std.specs.Prelude.{Option, Some, None, IfErr}
 use Rattle.record_store.specs.Causes.{IsCause, first_causes, newest_causes, opening_causes}
@@ -6,7 +6,6 @@ use Rattle.record_store.specs.Names.{IsNewest}
 use Rattle.record_store.proofs.Batches.{nothing_has}
 use Rattle.record_store.proofs.Causing.{cause_weaker, disk_cause, result_weaker}
 use Rattle.record_store.proofs.Covering.{unchanged_keeps}
-use Rattle.record_store.proofs.Creating.{none_within}
 use Rattle.record_store.proofs.Newly.{gives_still, newest_of, newest_still, none_newest, none_still, too_long_still}
 use Rattle.record_store.proofs.Opened.{given_received}
 use Rattle.record_store.proofs.Showing.{same_within, unchanged_shown}

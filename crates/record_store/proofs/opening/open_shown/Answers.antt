@@ -1,8 +1,6 @@
-use Rattle.std.proofs.Common.{ap}
-use Rattle.disk.specs.Memory.{shown_now}
 use Rattle.record_store.specs.Causes.{shown_causes}
 use Rattle.record_store.proofs.Causing.{journal_cause}
-use Rattle.record_store.proofs.Opened.{open_keeps, open_shows, opened_settles, settle_keeps, settled_on_disk, settled_shows}
+use Rattle.record_store.proofs.Opened.{open_keeps, open_shows, settle_keeps, settled_on_disk, settled_shows}
 use Rattle.record_store.proofs.opening.open_shown.Goals as goal
 
 pub returns-in-Err-clause-any_moment : goal.returns-in-Err-clause-any_moment

@@ -1,43 +1,10 @@
 use Rattle.std.proofs.Common.{◌≡◌, ◌∷◌, ◌++◌, List, ℕ, ap, subst, sym, ◌∙◌}
 use Rattle.std.specs.Prelude.{codes}
-use Rattle.disk.specs.States.{State}
 use Rattle.journal.specs.Journals.{IsOnDisk}
 use Rattle.record_store.specs.Puts.{LeavesOldOr}
 use Rattle.record_store.specs.Segments.{HoldsNoMore, segment_name}
-use Rattle.record_store.proofs.Drafted.{name_apart, segment_keeps, shows_of}
+use Rattle.record_store.proofs.Drafted.{journals_settle, name_apart, segment_held, segment_keeps, segment_still, shows_of}
 use Rattle.record_store.proofs.segment.SegmentDraft.finish.Goals as goal
-
-pub returns-in_err-place-clause-any_moment : goal.returns-in_err-place-clause-any_moment
-returns-in_err-place-clause-any_moment g c tells text es drafts is apart no_more committed received among keeps =
-    let zero = g.D.Disk.state c.args.disk.now in
-    let new = g.D.Disk.state c.place.new.disk in
-    let named : c.in-Some.name ≡ segment_name c.args.day.now text =
-    (rw c.in-Some.is at c.in_ok-name.ensures.name) ∙ ap (λ (h : List ℕ). c.args.day.now ++ 46 ∷ h ++ codes ".archive")
-    (c.hexadecimal.ensures text drafts.hashed) in
-    let file = shows_of zero c.args.self.name text drafts.shown drafts.sound in
-    let segment = rw c.in-Some.is at c.in_ok-name.ensures.segment in
-    let differs = name_apart c.args.self.name c.args.day.now c.in-Some.name segment apart in
-    segment_keeps zero new c.args.self.name c.in-Some.name c.args.day.now text es segment is
-    (subst (λ (n : List ℕ). HoldsNoMore zero n es) (sym named) no_more) apart
-    (subst (λ (t : List ℕ). LeavesOldOr zero new c.in-Some.name t) file.2
-    (c.place.ensures.any_moment tells file.0 file.1 differs)) (c.place.ensures.others tells) committed received among
-    keeps
-
-pub returns-clause-any_moment : goal.returns-clause-any_moment
-returns-clause-any_moment g c tells text es drafts is apart no_more committed received among keeps =
-    let zero = g.D.Disk.state c.args.disk.now in
-    let new = g.D.Disk.state c.place.new.disk in
-    let named : c.in-Some.name ≡ segment_name c.args.day.now text =
-    (rw c.in-Some.is at c.in_ok-name.ensures.name) ∙ ap (λ (h : List ℕ). c.args.day.now ++ 46 ∷ h ++ codes ".archive")
-    (c.hexadecimal.ensures text drafts.hashed) in
-    let file = shows_of zero c.args.self.name text drafts.shown drafts.sound in
-    let segment = rw c.in-Some.is at c.in_ok-name.ensures.segment in
-    let differs = name_apart c.args.self.name c.args.day.now c.in-Some.name segment apart in
-    segment_keeps zero new c.args.self.name c.in-Some.name c.args.day.now text es segment is
-    (subst (λ (n : List ℕ). HoldsNoMore zero n es) (sym named) no_more) apart
-    (subst (λ (t : List ℕ). LeavesOldOr zero new c.in-Some.name t) file.2
-    (c.place.ensures.any_moment tells file.0 file.1 differs)) (c.place.ensures.others tells) committed received among
-    keeps
 
 pub returns-clause-finished : goal.returns-clause-finished
 returns-clause-finished g c tells text drafts apart =
@@ -47,3 +14,96 @@ returns-clause-finished g c tells text drafts apart =
     let differs = name_apart c.args.self.name c.args.day.now c.in-Some.name segment apart in
     subst (λ (t : List ℕ). IsOnDisk (g.D.Disk.state c.place.new.disk) c.in-Some.name t) file.2
     (c.in_ok-place.ensures.placed tells file.0 file.1 differs)
+
+pub returns-clause-held : goal.returns-clause-held
+returns-clause-held g c tells es received of number small =
+    let zero = g.D.Disk.state c.args.disk.now in
+    let new = g.D.Disk.state c.place.new.disk in
+    let named : c.in-Some.name ≡ segment_name c.args.day.now of.text =
+    (rw c.in-Some.is at c.in_ok-name.ensures.name)
+    ∙ ap (λ (h : List ℕ). c.args.day.now ++ 46 ∷ h ++ codes ".archive") (c.hexadecimal.ensures of.text of.drafts.hashed) in
+    let file = shows_of zero c.args.self.name of.text of.drafts.shown of.drafts.sound in
+    let segment = rw c.in-Some.is at c.in_ok-name.ensures.segment in
+    let differs = name_apart c.args.self.name c.args.day.now c.in-Some.name segment of.apart in
+    segment_held zero new c.args.self.name c.in-Some.name c.args.day.now of.text es segment of.is
+    (subst (λ (n : List ℕ). HoldsNoMore zero n es) (sym named) of.no_more) of.apart
+    (subst (λ (t : List ℕ). LeavesOldOr zero new c.in-Some.name t) file.2
+    (c.place.ensures.any_moment tells file.0 file.1 differs)) (c.place.ensures.others tells) number small
+    (subst (λ (t : List ℕ). IsOnDisk new c.in-Some.name t) file.2
+    (c.in_ok-place.ensures.placed tells file.0 file.1 differs))
+
+pub returns-in_err-place-clause-any_moment : goal.returns-in_err-place-clause-any_moment
+returns-in_err-place-clause-any_moment g c tells es committed received of keeps =
+    let zero = g.D.Disk.state c.args.disk.now in
+    let new = g.D.Disk.state c.place.new.disk in
+    let named : c.in-Some.name ≡ segment_name c.args.day.now of.text =
+    (rw c.in-Some.is at c.in_ok-name.ensures.name)
+    ∙ ap (λ (h : List ℕ). c.args.day.now ++ 46 ∷ h ++ codes ".archive") (c.hexadecimal.ensures of.text of.drafts.hashed) in
+    let file = shows_of zero c.args.self.name of.text of.drafts.shown of.drafts.sound in
+    let segment = rw c.in-Some.is at c.in_ok-name.ensures.segment in
+    let differs = name_apart c.args.self.name c.args.day.now c.in-Some.name segment of.apart in
+    segment_keeps zero new c.args.self.name c.in-Some.name c.args.day.now of.text es segment of.is
+    (subst (λ (n : List ℕ). HoldsNoMore zero n es) (sym named) of.no_more) of.apart
+    (subst (λ (t : List ℕ). LeavesOldOr zero new c.in-Some.name t) file.2
+    (c.place.ensures.any_moment tells file.0 file.1 differs)) (c.place.ensures.others tells) committed received of.among
+    keeps
+
+pub returns-in_err-place-clause-journals : goal.returns-in_err-place-clause-journals
+returns-in_err-place-clause-journals g c tells apart =
+    let segment = rw c.in-Some.is at c.in_ok-name.ensures.segment in
+    journals_settle (g.D.Disk.state c.args.disk.now) (g.D.Disk.state c.place.new.disk) c.args.self.name c.in-Some.name
+    c.args.day.now segment apart (c.place.ensures.others tells)
+
+pub returns-in_err-place-clause-still_held : goal.returns-in_err-place-clause-still_held
+returns-in_err-place-clause-still_held g c tells es received of name others holds =
+    let zero = g.D.Disk.state c.args.disk.now in
+    let new = g.D.Disk.state c.place.new.disk in
+    let named : c.in-Some.name ≡ segment_name c.args.day.now of.text =
+    (rw c.in-Some.is at c.in_ok-name.ensures.name)
+    ∙ ap (λ (h : List ℕ). c.args.day.now ++ 46 ∷ h ++ codes ".archive") (c.hexadecimal.ensures of.text of.drafts.hashed) in
+    let file = shows_of zero c.args.self.name of.text of.drafts.shown of.drafts.sound in
+    let segment = rw c.in-Some.is at c.in_ok-name.ensures.segment in
+    let differs = name_apart c.args.self.name c.args.day.now c.in-Some.name segment of.apart in
+    segment_still zero new c.args.self.name c.in-Some.name c.args.day.now of.text es segment of.is
+    (subst (λ (n : List ℕ). HoldsNoMore zero n es) (sym named) of.no_more) of.apart
+    (subst (λ (t : List ℕ). LeavesOldOr zero new c.in-Some.name t) file.2
+    (c.place.ensures.any_moment tells file.0 file.1 differs)) (c.place.ensures.others tells) name others
+    holds
+
+pub returns-clause-any_moment : goal.returns-clause-any_moment
+returns-clause-any_moment g c tells es committed received of keeps =
+    let zero = g.D.Disk.state c.args.disk.now in
+    let new = g.D.Disk.state c.place.new.disk in
+    let named : c.in-Some.name ≡ segment_name c.args.day.now of.text =
+    (rw c.in-Some.is at c.in_ok-name.ensures.name)
+    ∙ ap (λ (h : List ℕ). c.args.day.now ++ 46 ∷ h ++ codes ".archive") (c.hexadecimal.ensures of.text of.drafts.hashed) in
+    let file = shows_of zero c.args.self.name of.text of.drafts.shown of.drafts.sound in
+    let segment = rw c.in-Some.is at c.in_ok-name.ensures.segment in
+    let differs = name_apart c.args.self.name c.args.day.now c.in-Some.name segment of.apart in
+    segment_keeps zero new c.args.self.name c.in-Some.name c.args.day.now of.text es segment of.is
+    (subst (λ (n : List ℕ). HoldsNoMore zero n es) (sym named) of.no_more) of.apart
+    (subst (λ (t : List ℕ). LeavesOldOr zero new c.in-Some.name t) file.2
+    (c.place.ensures.any_moment tells file.0 file.1 differs)) (c.place.ensures.others tells) committed received of.among
+    keeps
+
+pub returns-clause-journals : goal.returns-clause-journals
+returns-clause-journals g c tells apart =
+    let segment = rw c.in-Some.is at c.in_ok-name.ensures.segment in
+    journals_settle (g.D.Disk.state c.args.disk.now) (g.D.Disk.state c.place.new.disk) c.args.self.name c.in-Some.name
+    c.args.day.now segment apart (c.place.ensures.others tells)
+
+pub returns-clause-still_held : goal.returns-clause-still_held
+returns-clause-still_held g c tells es received of name others holds =
+    let zero = g.D.Disk.state c.args.disk.now in
+    let new = g.D.Disk.state c.place.new.disk in
+    let named : c.in-Some.name ≡ segment_name c.args.day.now of.text =
+    (rw c.in-Some.is at c.in_ok-name.ensures.name)
+    ∙ ap (λ (h : List ℕ). c.args.day.now ++ 46 ∷ h ++ codes ".archive") (c.hexadecimal.ensures of.text of.drafts.hashed) in
+    let file = shows_of zero c.args.self.name of.text of.drafts.shown of.drafts.sound in
+    let segment = rw c.in-Some.is at c.in_ok-name.ensures.segment in
+    let differs = name_apart c.args.self.name c.args.day.now c.in-Some.name segment of.apart in
+    segment_still zero new c.args.self.name c.in-Some.name c.args.day.now of.text es segment of.is
+    (subst (λ (n : List ℕ). HoldsNoMore zero n es) (sym named) of.no_more) of.apart
+    (subst (λ (t : List ℕ). LeavesOldOr zero new c.in-Some.name t) file.2
+    (c.place.ensures.any_moment tells file.0 file.1 differs)) (c.place.ensures.others tells) name others
+    holds
