@@ -1,8 +1,10 @@
 //! Locks on a folder.
+ghost use Rattle.std.specs.Prelude.{◌≡◌};
+ghost use Rattle.folder_disk.specs.Locks.{lock_name};
 
 use crate::open_files::with_slash;
 use std::fs::{File, OpenOptions, TryLockError};
-use std::io;
+use std::io::{self, ErrorKind};
 use std::rt::Files;
 use thiserror::Error;
 
@@ -17,7 +19,9 @@ pub enum LockFile {
 
 impl LockFile {
     /// The file's name in the folder.
-    pub fn name(self) -> &'static str {
+    pub fn name(self) -> &'static str
+        ensures { result.now ≡ lock_name self }
+    {
         match self {
             LockFile::Writing => "lock",
             LockFile::Compaction => "lock.compact",
@@ -44,6 +48,9 @@ pub struct FolderLock {
 }
 
 fn open_lock<R: Files + AllocGlobal>(rt: &R, folder: &str, lock: LockFile) -> io::Result<R::File> {
+    if folder.is_empty() {
+        return Err(ErrorKind::NotFound.into()); // the name of no folder, as it is to `FolderDisk`
+    }
     let mut path = with_slash(rt.alloc(), folder)?;
     path.push_str(lock.name())?;
     OpenOptions::new()

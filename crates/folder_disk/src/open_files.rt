@@ -210,18 +210,27 @@ impl<R: Files + AllocGlobal + Clone + Drop> OpenFiles<R> {
         }
     }
 
+    /// A file that is open stays so under its new name: one that was not synced may be synced yet.
     pub(crate) fn rename(&mut self, from: &FileName, to: &FileName) -> io::Result<()> {
-        self.close(from);
+        let new_name = to.copy(self.alloc())?;
+        let old_path = self.path_of(from)?;
+        let new_path = self.path_of(to)?;
+        fs::rename(&self.rt, old_path.as_str(), new_path.as_str())?;
+        if from.as_octets() == to.as_octets() {
+            return Ok(());
+        }
         self.close(to);
-        let from = self.path_of(from)?;
-        let to = self.path_of(to)?;
-        fs::rename(&self.rt, from.as_str(), to.as_str())
+        if let Some(i) = self.position(from) {
+            self.opened[i].name = new_name;
+        }
+        Ok(())
     }
 
     pub(crate) fn remove(&mut self, name: &FileName) -> io::Result<()> {
-        self.close(name);
         let path = self.path_of(name)?;
-        fs::remove_file(&self.rt, path.as_str())
+        fs::remove_file(&self.rt, path.as_str())?;
+        self.close(name);
+        Ok(())
     }
 
     pub(crate) fn sync_names(&self) -> io::Result<()> {

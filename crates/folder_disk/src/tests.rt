@@ -209,10 +209,12 @@ fn as_many_files_as_there_are_can_be_used(rt: HostRuntime) -> Result<(), Fail> {
 #[test]
 fn a_lock_is_held_by_one_value(rt: HostRuntime) -> Result<(), Fail> {
     let path = unused_path(&rt, "locks")?;
-    let found = FolderLock::take(&rt, path.as_str(), LockFile::Writing);
-    assert!(rt;
-        matches!(found, Err(LockFault::Failed(error)) if error.kind() == ErrorKind::NotFound)
-    );
+    for missing in ["", path.as_str()] {
+        let found = FolderLock::take(&rt, missing, LockFile::Writing);
+        assert!(rt;
+            matches!(found, Err(LockFault::Failed(error)) if error.kind() == ErrorKind::NotFound)
+        );
+    }
     drop(FolderDisk::create(&rt, path.as_str())?);
     let writing = FolderLock::take(&rt, path.as_str(), LockFile::Writing)?;
     let compaction = FolderLock::take(&rt, path.as_str(), LockFile::Compaction)?;

@@ -1,0 +1,8 @@
+-- The names of the files that are locked.
+use Rattle.std.specs.Prelude.{ℕ, List, codes}
+use Rattle.folder_disk.specs.declared.lock.LockFile.{LockFile}
+use Rattle.folder_disk.specs.declared.lock.LockFile.TheVariants.{Writing, Compaction}
+
+abbrev pub lock_name : LockFile → List ℕ
+lock_name Writing = codes "lock"
+lock_name Compaction = codes "lock.compact"
