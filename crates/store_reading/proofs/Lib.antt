@@ -1,0 +1,13 @@
+pub mod Batched
+pub mod DayOrders
+pub mod DaysRead
+pub mod Held
+pub mod Joined
+pub mod Nearest
+pub mod NextDays
+pub mod Parted
+pub mod Ranged
+pub mod SameSets
+pub mod SegmentNames
+pub mod Segments
+pub mod Written

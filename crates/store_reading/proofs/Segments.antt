@@ -1,0 +1,135 @@
+-- Segments are read, and opened.
+use Rattle.std.proofs.Common.{◌≡◌, ◌⊎◌, ℕ, List, [], ◌∷◌, ◌++◌, Option, None, Some, inl, inr, refl, sym, ap}
+use Rattle.std.proofs.Common.{subst, ◌∙◌}
+use Rattle.std.proofs.Common.{append-nil, arith}
+use Rattle.std.specs.Prelude.{ℤ, IsSomeAnd}
+use Rattle.disk.specs.States.{Files}
+use Rattle.octet_devices.specs.Device.{InputState}
+use Rattle.archive_text.specs.Entries.{Entry, Has}
+use Rattle.archive_text.specs.Text.{IsArchive, text_of}
+use Rattle.archive_text.specs.declared.limits.TheConstants.{ENTRY_MAX}
+use Rattle.archive_text.proofs.Members.{all_append}
+use Rattle.archive_text.proofs.Texts.{same_text}
+use Rattle.archive_streams.specs.Entries.{current, Ends, Reads, ReadsOne}
+use Rattle.archive_streams.specs.declared.entries.ArchiveEntries.{ArchiveEntries}
+use Rattle.archive_digest.specs.Periods.{IsPeriodOf}
+use Rattle.archive_digest.specs.declared.period.Period.TheVariants.{Day}
+use Rattle.archive_join.specs.Holders.{IsHeld}
+use Rattle.record_store.specs.Holdings.{SegmentHas}
+use Rattle.record_store.specs.Names.{IsSegment}
+use Rattle.store_reading.specs.Days.{IsOf}
+use Rattle.store_reading.specs.Folders.{IsUnused, Opens}
+use Rattle.store_reading.specs.Segments.{AreSegmentsOf, HasAsSegment, IsSegmentInput, IsWholeOf, NamesHave, ReadsOf}
+use Rattle.store_reading.proofs.Held.{no_name, some_before, some_either, some_last}
+use Rattle.store_reading.proofs.Joined.{archives_push, held_push, rest_of, whole_rest}
+
+-- ---- a segment is read
+
+pub reads_none : (day : List ℕ) (s : ArchiveEntries) (d : InputState) → Reads s d d [] → ReadsOf day s d d
+reads_none day s d none = record { entries = []; reads = none; days = tt }
+
+-- the day of an entry's instant is the day
+pub of_found : (day found : List ℕ) (i : Option ℤ) (e : Entry) → IsPeriodOf Day i found → found ≡ day
+    → i ≡ e.instant → IsOf day e
+of_found day found i e lies is same =
+    subst (λ (j : Option ℤ). IsPeriodOf Day j day) same (subst (IsPeriodOf Day i) is lies)
+
+pub reads_more : (day : List ℕ) (s t : ArchiveEntries) (d e f : InputState) → ReadsOf day s d e → ReadsOne s t e f
+    → IsOf day (current t) → ReadsOf day t d f
+reads_more day s t d e f r one of = record {
+  entries = r.entries ++ current t ∷ [];
+  reads = one.reads d r.entries r.reads;
+  days = all_append (IsOf day) r.entries (current t ∷ []) r.days (of, tt);
+}
+
+pub whole_of : (day : List ℕ) (s t : ArchiveEntries) (d e f : InputState) → ReadsOf day s d e → Ends s t e f
+    → IsWholeOf day d f
+whole_of day s t d e f r ends = record { entries = r.entries; whole = ends.whole d r.entries r.reads; days = r.days }
+
+-- ---- a segment is opened
+
+segment_at : (files : Files) (name day : List ℕ) (c e d : InputState) (o : Option (List ℕ)) → files name ≡ o
+    → IsSomeAnd o (λ octets. c.left ≡ Some octets) → IsWholeOf day c e → IsSomeAnd o (λ octets. d.left ≡ Some octets)
+    → IsUnused d → IsSegmentInput files name day d
+segment_at files name day c e d None is opened w again unused = absurd opened
+segment_at files name day c e d (Some file) is opened w again unused =
+    let r = rest_of c.left e.left (text_of w.entries) file w.whole.consumed opened in
+    let none = whole_rest e.left r.0 r.1 w.whole.none_left in
+    let text : file ≡ text_of w.entries =
+    r.2 ∙ ap (λ (t : List ℕ). text_of w.entries ++ t) none ∙ append-nil (text_of w.entries) in
+    record {
+      entries = w.entries;
+      input = record { unused = unused; left = again ∙ ap Some text; archive = w.whole.archive };
+      file = is ∙ ap Some text;
+      days = w.days;
+    }
+
+pub segment_input : (files : Files) (name day : List ℕ) (c e d : InputState) → Opens files name c → IsWholeOf day c e
+    → Opens files name d → IsUnused d → IsSegmentInput files name day d
+segment_input files name day c e d opened w again unused =
+    segment_at files name day c e d (files name) refl opened w again unused
+
+-- ---- the segments of a day
+
+pub segments_none : (files : Files) (day : List ℕ) → AreSegmentsOf files [] day []
+segments_none files day = record {
+  entries = [];
+  inputs = tt;
+  have = λ e. (λ h. absurd h, λ h. absurd (no_name (λ (n : List ℕ). HasAsSegment files day n e) h));
+}
+
+pub segments_other : (files : Files) (names : List (List ℕ)) (name day : List ℕ) (ds : List InputState)
+    → AreSegmentsOf files names day ds → ¬ (IsSegment day name) → AreSegmentsOf files (names ++ name ∷ []) day ds
+segments_other files names name day ds s not = record {
+  entries = s.entries;
+  inputs = s.inputs;
+  have = λ e. (
+    λ h. some_before names name (λ (n : List ℕ). HasAsSegment files day n e) ((s.have e).0 h),
+    λ h. elim (some_either names name (λ (n : List ℕ). HasAsSegment files day n e) h) [
+      | inl before ↦ (s.have e).1 before
+      | inr last ↦ absurd (not last.0)
+    ],
+  );
+}
+
+has_is : (day : List ℕ) (xs : List Entry) (e : Entry) → IsArchive ENTRY_MAX xs → SegmentHas day (text_of xs) e
+    → Has xs e
+has_is day xs e archive h =
+    subst (λ (l : List Entry). Has l e) (same_text ENTRY_MAX ENTRY_MAX h.entries xs (omega arith) (omega arith)
+    h.archive archive
+    (sym h.text_is)) h.has
+
+pub segments_more : (files : Files) (names : List (List ℕ)) (name day : List ℕ) (ds : List InputState) (d : InputState)
+    → AreSegmentsOf files names day ds → IsSegment day name → IsSegmentInput files name day d
+    → AreSegmentsOf files (names ++ name ∷ []) day (ds ++ d ∷ [])
+segments_more files names name day ds d s segment i = record {
+  entries = s.entries ++ i.entries ∷ [];
+  inputs = archives_push ds s.entries d i.entries s.inputs i.input;
+  have = λ e. (
+    λ h. there e ((held_push s.entries i.entries e).0 h),
+    λ h. (held_push s.entries i.entries e).1
+        (back e h),
+  );
+}
+  where
+    there : (e : Entry) → IsHeld s.entries e ⊎ Has i.entries e → NamesHave files (names ++ name ∷ []) day e
+    there e (inl h) = some_before names name (λ (n : List ℕ). HasAsSegment files day n e) ((s.have e).0 h)
+    there e (inr h) =
+        some_last names name (λ (n : List ℕ). HasAsSegment files day n e) (
+          segment,
+          subst (λ (o : Option (List ℕ)). IsSomeAnd o (λ file. SegmentHas day file e)) (sym i.file) (record {
+            entries = i.entries;
+            archive = i.input.archive;
+            text_is = refl;
+            days = i.days;
+            has = h;
+          }),
+        )
+
+    back : (e : Entry) → NamesHave files (names ++ name ∷ []) day e → IsHeld s.entries e ⊎ Has i.entries e
+    back e h =
+        elim (some_either names name (λ (n : List ℕ). HasAsSegment files day n e) h) [
+          | inl before ↦ inl ((s.have e).1 before)
+          | inr last ↦ inr (has_is day i.entries e i.input.archive
+              (subst (λ (o : Option (List ℕ)). IsSomeAnd o (λ file. SegmentHas day file e)) i.file last.1))
+        ]

@@ -1,0 +1,39 @@
+use Rattle.std.proofs.Common.{List, ℕ, [], ◌∷◌, ◌++◌, take, refl, sym, ap, subst, ◌∙◌}
+use Rattle.std.proofs.lemmas.List.{take_all, take_more}
+use Rattle.disk.specs.States.{Files}
+use Rattle.store_reading.specs.Journals.{Adds, HasAsJournal, NamedJournalsHave}
+use Rattle.store_reading.specs.Sources.{set_entries}
+use Rattle.store_reading.proofs.Batched.{names_more, names_none}
+use Rattle.store_reading.proofs.journals.add_journals.Goals as goal
+
+pub names-init : goal.names-init
+names-init g c = record {
+  told = λ t. t;
+  same = λ t. refl;
+  adds = λ t. names_none (g.F.Folder.files c.args.folder.now) (set_entries c.args.set.now);
+}
+
+pub names-preserved : goal.names-preserved
+names-preserved g c =
+    let first = take c.names.name-index c.args.names.now in
+    let files = g.F.Folder.files c.args.folder.now in
+    let old = set_entries c.args.set.now in
+    let mid = set_entries c.names.set in
+    let new = set_entries c.add_journal.new.set in
+    let more = take_more c.args.names.now c.names.name-index c.name-item.result c.names-test.true
+    ∙ ap (λ (n : List ℕ). first ++ n ∷ []) (sym c.name-item.is) in
+    record {
+      told = λ t. c.names.invariant.told (c.add_journal.ensures.told t);
+      same = λ t. c.add_journal.ensures.same t ∙ c.names.invariant.same (c.add_journal.ensures.told t);
+      adds = λ t. let before = c.add_journal.ensures.told t in
+          subst (λ (l : List (List ℕ)). Adds old new (NamedJournalsHave files l)) (sym more)
+          (names_more files first c.name-item.result old mid new (c.names.invariant.adds before)
+          (subst (λ (f : Files). Adds mid new (HasAsJournal f c.name-item.result)) (c.names.invariant.same before)
+          (c.in_ok-add_journal.ensures.adds t)));
+    }
+
+pub returns-clause-adds : goal.returns-clause-adds
+returns-clause-adds g c t =
+    subst (λ (l : List (List ℕ)). Adds (set_entries c.args.set.now) (set_entries c.names.set)
+    (NamedJournalsHave (g.F.Folder.files c.args.folder.now) l))
+    (take_all c.names.name-index c.args.names.now c.names-test.false) (c.names.invariant.adds t)

@@ -1,0 +1,20 @@
+use Rattle.std.proofs.Common.{[], ◌∷◌, map, sym, ap, subst, ◌∙◌}
+use Rattle.std.proofs.lemmas.List.{map-append}
+use Rattle.store_reading.specs.Sets.{AreOfDay}
+use Rattle.store_reading.specs.Sources.{source_state}
+use Rattle.store_reading.specs.declared.source.Source.TheVariants.{Octets}
+use Rattle.store_reading.proofs.Joined.{octets_input, of_day}
+use Rattle.store_reading.proofs.reading.day_inputs.Goals as goal
+
+pub returns-clause-inputs : goal.returns-clause-inputs
+returns-clause-inputs g c t listed xs archive is =
+    let state = source_state g.F.File.Input.state in
+    let files = g.F.Folder.files c.args.folder.now in
+    let day = c.args.day.now in
+    subst (AreOfDay files day xs)
+    (sym (ap (map state) c.in_ok-push.ensures.items
+    ∙ map-append state c.in_ok-inputs.inputs.items (Octets c.new.result ∷ [])))
+    (of_day files c.open_day.new.names.items day xs (map state c.in_ok-inputs.inputs.items)
+    (state (Octets c.new.result))
+    (c.open_day.ensures.names t listed) (c.in_ok-inputs.ensures.opened t)
+    (octets_input (state (Octets c.new.result)) c.args.text.now xs c.new.ensures is archive))

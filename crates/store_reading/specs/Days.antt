@@ -1,0 +1,23 @@
+-- The days that segments are named by.
+use Rattle.std.specs.Prelude.{◌≡◌, ◌⊎◌, ℕ, ◌<◌, List, Option, None, Some, codes, length}
+use Rattle.syslog_value.specs.Order.{OctetsBelow}
+use Rattle.archive_text.specs.Entries.{Entry}
+use Rattle.archive_digest.specs.Periods.{IsIn}
+use Rattle.archive_digest.specs.declared.period.Period.TheVariants.{Day}
+
+-- the name of a day: `undated`, or the ten octets of a date
+abbrev pub IsDayText : List ℕ → Type 0
+IsDayText day = (day ≡ codes "undated") ⊎ (length day ≡ 10)
+
+-- the entry is of the day
+abbrev pub IsOf : List ℕ → Entry → Type 0
+IsOf day e = IsIn Day day e
+
+-- a day comes before another: `undated` first, as the shorter one, then the earlier date
+abbrev pub IsDayBelow : List ℕ → List ℕ → Type 0
+IsDayBelow a b = (length a < length b) ⊎ ((length a ≡ length b) × OctetsBelow a b)
+
+-- a day comes behind the last one, if there was any
+abbrev pub IsAfter : Option (List ℕ) → List ℕ → Type 0
+IsAfter None day = Unit {0}
+IsAfter (Some last) day = IsDayBelow last day

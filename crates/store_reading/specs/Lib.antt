@@ -1,0 +1,9 @@
+pub mod Days
+pub mod Folders
+pub mod Names
+pub mod Ranges
+pub mod Segments
+pub mod Journals
+pub mod Parts
+pub mod Sets
+pub mod Sources

@@ -1,0 +1,133 @@
+//! The days of a folder, one behind the other.
+ghost use Rattle.std.specs.Prelude.{◌≡◌, ◌≤◌, ◌↔◌, ℕ, List, IfNone, IfSome, IsSomeAnd, IsTrue, length, option_map};
+ghost use Rattle.archive_text.specs.Entries.{Entry};
+ghost use Rattle.archive_join.specs.Ranges.{IsOfRange};
+ghost use Rattle.store_reading.specs.Days.{IsAfter, IsOf};
+ghost use Rattle.store_reading.specs.Names.{AddsDay, AddsName, IsFirstDay, IsNextDay, IsNextSegment};
+ghost use Rattle.store_reading.specs.Parts.{BeginsApart, BeginsWithDay, PartsAt};
+
+use crate::day::Day;
+use crate::names::segment_day;
+use archive_sets::{Condition, InRange};
+use archive_text::{ENTRY_MAX, EntryView, read_entry};
+use disk::FileName;
+
+// What is behind the first entry of a text, where that is of the day.
+fn behind_of<'a>(text: &'a [u8], day: &Day) -> Option<&'a [u8]>
+    ensures some { IfSome result (λ behind. BeginsWithDay day.now text.now behind.now) }
+    ensures none { IfNone result (BeginsApart day.now text.now) }
+{
+    match read_entry(ENTRY_MAX as u64, text) {
+        Ok((entry, behind)) => {
+            if Day::of(entry.instant).is(day) {
+                return Some(behind);
+            }
+            None
+        }
+        Err(_) => None,
+    }
+}
+
+/// How many octets the entries of a day have at the beginning of an archive's text.
+pub(crate) fn day_len(text: &[u8], day: &Day) -> usize
+    ensures within { result ≤ length text.now }
+    ensures parts { PartsAt day.now text.now result }
+{
+    let mut rest = text;
+    'entries: while let Some(behind) = behind_of(rest, day) {
+        rest = behind;
+    }
+    text.len() - rest.len()
+}
+
+// The day of the first entry of an archive's text.
+fn first_day(text: &[u8]) -> Option<Day>
+    ensures { (day : List ℕ) → IsFirstDay text.now day → IsSomeAnd result (λ found. found ≡ day) }
+{
+    match read_entry(ENTRY_MAX as u64, text) {
+        Ok((entry, _)) => Some(Day::of(entry.instant)),
+        Err(_) => None,
+    }
+}
+
+// Whether a day comes behind the last one, if there was any.
+fn is_after(last: Option<&Day>, day: &Day) -> bool
+    ensures { IsTrue result ↔ IsAfter (option_map (λ d. d.now) last.entry) day.now }
+{
+    match last {
+        None => true,
+        Some(last) => last.is_before(day),
+    }
+}
+
+// Of the next day so far and one more day, which of both comes next behind the last one.
+fn nearer(last: Option<&Day>, next: Option<Day>, day: Day) -> Option<Day>
+    ensures { AddsDay (option_map (λ d. d.now) last.entry) day next result }
+{
+    if !is_after(last, &day) {
+        return next;
+    }
+    match next {
+        None => Some(day),
+        Some(next) => {
+            if day.is_before(&next) {
+                return Some(day);
+            }
+            Some(next)
+        }
+    }
+}
+
+// Of the next day so far and the day of the segment that has a name, which of both comes next.
+fn with_name(name: &[u8], last: Option<&Day>, next: Option<Day>) -> Option<Day>
+    ensures { AddsName (option_map (λ d. d.now) last.entry) name.now next result }
+{
+    match segment_day(name) {
+        None => next,
+        Some(day) => nearer(last, next, day),
+    }
+}
+
+// The next day of a segment behind the last one.
+fn next_segment_day(names: &[FileName], last: Option<&Day>) -> Option<Day>
+    ensures { IsNextSegment (option_map (λ d. d.now) last.entry) names.now result }
+{
+    let mut next = None;
+    'names: for name in names {
+        next = with_name(name.as_octets(), last, next);
+    }
+    next
+}
+
+/// The next day behind the last one, of those of segments and that of the first entry of an archive's
+/// text.
+pub(crate) fn next_day(names: &[FileName], text: &[u8], last: Option<&Day>) -> Option<Day>
+    ensures { IsNextDay (option_map (λ d. d.now) last.entry) names.now text.now result }
+{
+    let next = next_segment_day(names, last);
+    match first_day(text) {
+        None => next,
+        Some(day) => nearer(last, next, day),
+    }
+}
+
+/// Whether no instant of a day is in a range.
+pub(crate) fn is_outside(range: &InRange, day: &Day) -> bool
+    ensures { IsTrue result → (e : Entry) → IsOf day.now e → ¬ (IsOfRange range.now e) }
+{
+    if day.is(&Day::undated()) {
+        return !range.holds(&EntryView {
+            instant: None,
+            octets: b"",
+        });
+    }
+    if let Some(from) = range.from {
+        if day.is_before(&Day::of(Some(from))) {
+            return true;
+        }
+    }
+    if let Some(to) = range.to {
+        return Day::of(Some(to)).is_before(day);
+    }
+    false
+}

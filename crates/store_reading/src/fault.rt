@@ -1,0 +1,112 @@
+//! Why a folder was not read.
+
+use archive_streams::{EntriesFault, InputFault};
+use archive_text::ArchiveFault;
+use disk::{DiskFault, FileName};
+use std::alloc::{AllocError, AllocFailed};
+use thiserror::Error;
+
+/// What is wrong with the octets of a file. Positions count from its first octet.
+#[derive(Clone, Copy, Debug, PartialEq, Eq, Error)]
+pub enum FileFault {
+    /// A segment is no archive, or a batch of a journal no row of entries.
+    #[error("{0}")]
+    Archive(ArchiveFault),
+    /// An entry of a segment is of another day; `at` is its first digit.
+    #[error("another day at {at}")]
+    OtherDay { at: u64 },
+}
+
+/// Why a folder was not read.
+#[derive(Debug, Drop, Error)]
+pub enum ReadFault {
+    /// The names of the folder could not be had.
+    #[error("the folder: {fault}")]
+    Folder { fault: DiskFault },
+    /// A file could not be opened.
+    #[error("a file: {fault}")]
+    Open { name: FileName, fault: DiskFault },
+    /// A file is damaged.
+    #[error("a file: {fault}")]
+    Damaged { name: FileName, fault: FileFault },
+    /// A file failed as it was read.
+    #[error("a file: {fault}")]
+    Read { name: FileName, fault: InputFault },
+    /// Files were gone each time that they were listed.
+    #[error("files are gone as soon as they are listed")]
+    Gone,
+    /// There are more days than `DAYS_MAX`.
+    #[error("too many days")]
+    TooManyDays,
+    /// The writer failed after it took so many octets of the day that was written.
+    #[error("the writer failed")]
+    Write,
+    /// An allocation failed.
+    #[error("out of memory")]
+    Memory,
+}
+
+impl From<AllocError> for ReadFault {
+    ghost use Rattle.std.specs.Prelude.{◌≡◌};
+    ghost use Rattle.store_reading.specs.declared.fault.ReadFault.TheVariants.{Memory};
+
+    ghost from_gives = { λ _ fault. fault ≡ Memory };
+
+    fn from(_: AllocError) -> ReadFault {
+        ReadFault::Memory
+    }
+}
+
+impl<T: Drop> From<AllocFailed<T>> for ReadFault {
+    ghost use Rattle.std.specs.Prelude.{◌≡◌};
+    ghost use Rattle.store_reading.specs.declared.fault.ReadFault.TheVariants.{Memory};
+
+    ghost from_gives = { λ _ fault. fault ≡ Memory };
+
+    fn from(_: AllocFailed<T>) -> ReadFault {
+        ReadFault::Memory
+    }
+}
+
+/// Why a file is not what it should be.
+#[derive(Clone, Copy, Debug, PartialEq, Eq)]
+pub(crate) enum CheckFault {
+    Damaged(FileFault),
+    Input(InputFault),
+    Memory,
+}
+
+impl From<AllocError> for CheckFault {
+    ghost use Rattle.std.specs.Prelude.{◌≡◌};
+    ghost use Rattle.store_reading.specs.declared.fault.CheckFault.TheVariants.{Memory};
+
+    ghost from_gives = { λ _ fault. fault ≡ Memory };
+
+    fn from(_: AllocError) -> CheckFault {
+        CheckFault::Memory
+    }
+}
+
+impl From<EntriesFault> for CheckFault {
+    ghost use Rattle.std.specs.Prelude.{⊤};
+
+    ghost from_gives = { λ _ _. ⊤ };
+
+    fn from(fault: EntriesFault) -> CheckFault {
+        match fault {
+            EntriesFault::Archive(fault) => CheckFault::Damaged(FileFault::Archive(fault)),
+            EntriesFault::Input(fault) => CheckFault::Input(fault),
+        }
+    }
+}
+
+impl CheckFault {
+    /// The fault of the file of a name.
+    pub(crate) fn of(self, name: FileName) -> ReadFault {
+        match self {
+            CheckFault::Damaged(fault) => ReadFault::Damaged { name, fault },
+            CheckFault::Input(fault) => ReadFault::Read { name, fault },
+            CheckFault::Memory => ReadFault::Memory,
+        }
+    }
+}

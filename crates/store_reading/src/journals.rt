@@ -1,0 +1,224 @@
+//! The entries of journals.
+ghost use Rattle.std.specs.Prelude.{◌≡◌, ◌++◌, IfNone, IfOk, IfSome, OnOk};
+ghost use Rattle.journal.specs.Batches.{IsBody, IsClosed, open_batch};
+ghost use Rattle.archive_text.specs.Entries.{IsEntry};
+ghost use Rattle.archive_text.specs.EntryViews.{entry_of};
+ghost use Rattle.archive_text.specs.Text.{IsArchive, text_of};
+ghost use Rattle.record_store.specs.Holdings.{BatchHas, JournalHas};
+ghost use Rattle.store_reading.specs.Folders.{AreNamesOf};
+ghost use Rattle.store_reading.specs.Journals.{Adds, AddsFirst, AddsJournal, GivesAll, HasAsJournal, IsOfJournals};
+ghost use Rattle.store_reading.specs.Journals.{NamedJournalsHave};
+ghost use Rattle.store_reading.specs.Sources.{set_entries};
+
+use crate::fault::{CheckFault, FileFault, ReadFault};
+use crate::folder::Folder;
+use crate::names::is_journal;
+use crate::segment::open_file;
+use archive_pages::PagedArchive;
+use archive_streams::InputFault;
+use archive_text::{AddFault, ArchiveFault, ENTRY_MAX, EntryView, Store, read_entry};
+use disk::FileName;
+use journal::batch_len;
+use octet_devices::{Input, ReadAllFault, ToWrite, read_all};
+use std::alloc::Global;
+use syslog_grammar::view;
+
+// the most octets of a journal that is read
+const JOURNAL_MAX: usize = 1 << 40;
+
+// the octets before those of a batch
+const HEAD: usize = 5;
+
+// how often the names are listed
+pub(crate) const LISTINGS: usize = 64;
+
+// Adds an entry to a set.
+fn add_entry(alloc: Global, set: &mut PagedArchive, entry: &EntryView<'_>) -> Result<(), CheckFault>
+    requires { IsEntry (entry_of entry.now) }
+    ensures { OnOk result (Adds (set_entries set.old)
+        (set_entries set.new) (λ e. entry_of entry.now ≡ e)) }
+{
+    let Ok(shown) = view(entry.octets) else {
+        return Err(CheckFault::Damaged(FileFault::Archive(ArchiveFault::NotCanonical { at: 0 })));
+    };
+    match set.add_view(alloc, &shown) {
+        Ok(_) => Ok(()),
+        Err(AddFault::TooLong) => Err(CheckFault::Damaged(FileFault::Archive(
+            ArchiveFault::EntryTooLong { at: 0 },
+        ))),
+        Err(AddFault::Memory) => Err(CheckFault::Memory),
+    }
+}
+
+// Adds the entry that a text begins with, and gives what is behind it. A fault counts from `at`.
+fn add_first<'a>(
+    alloc: Global,
+    set: &mut PagedArchive,
+    text: &'a [u8],
+    at: u64,
+) -> Result<&'a [u8], CheckFault>
+    ensures { IfOk result (λ behind. AddsFirst text.now behind.now (set_entries set.old)
+        (set_entries set.new)) }
+{
+    match read_entry(ENTRY_MAX as u64, text) {
+        Ok((entry, behind)) => {
+            add_entry(alloc, set, &entry)?;
+            Ok(behind)
+        }
+        Err(fault) => Err(CheckFault::Damaged(FileFault::Archive(fault.later(at)))),
+    }
+}
+
+// Adds the entries of a batch, which begins at an offset of its journal.
+fn add_batch(
+    alloc: Global,
+    set: &mut PagedArchive,
+    body: &[u8],
+    offset: u64,
+) -> Result<(), CheckFault>
+    ensures { OnOk result (Adds (set_entries set.old) (set_entries set.new) (BatchHas body.now)) }
+{
+    let mut rest = body;
+    'entries: while !rest.is_empty() {
+        let read = (body.len() as u64).saturating_sub(rest.len() as u64);
+        rest = add_first(alloc, set, rest, offset.saturating_add(read))?;
+    }
+    Ok(())
+}
+
+// The first batch, and what is behind it.
+fn first_batch(octets: &[u8]) -> Option<(&[u8], &[u8])>
+    ensures some { IfSome result (λ r. IsBody r.0.now
+        × (octets.now ≡ open_batch r.0.now ++ r.1.now)) }
+    ensures none { IfNone result (IsClosed octets.now) }
+{
+    let len = batch_len(octets)?;
+    let (_, behind) = octets.split_at(HEAD);
+    Some(behind.split_at(len))
+}
+
+// Adds the entries of all batches of a journal.
+fn add_batches(alloc: Global, set: &mut PagedArchive, file: &[u8]) -> Result<(), CheckFault>
+    ensures { OnOk result (Adds (set_entries set.old) (set_entries set.new) (JournalHas file.now)) }
+{
+    let mut rest = file;
+    'batches: while let Some((body, behind)) = first_batch(rest) {
+        let end = (file.len() as u64).saturating_sub(behind.len() as u64);
+        add_batch(alloc, set, body, end.saturating_sub(body.len() as u64))?;
+        rest = behind;
+    }
+    Ok(())
+}
+
+// Reads a journal.
+fn read_octets<R: Input>(alloc: Global, reader: &mut R) -> Result<Vec<u8>, CheckFault>
+    ensures { IfOk result (λ v. GivesAll (R.state reader.old) (R.state reader.new) v.items) }
+{
+    match read_all(alloc, reader, JOURNAL_MAX) {
+        Ok(octets) => {
+            if octets.len() < JOURNAL_MAX {
+                return Ok(octets);
+            }
+            Err(CheckFault::Input(InputFault::Endless))
+        }
+        Err(ReadAllFault::Device) => Err(CheckFault::Input(InputFault::Device)),
+        Err(ReadAllFault::Endless) => Err(CheckFault::Input(InputFault::Endless)),
+        Err(ReadAllFault::Memory) => Err(CheckFault::Memory),
+    }
+}
+
+fn add_octets<R: Input>(
+    alloc: Global,
+    set: &mut PagedArchive,
+    reader: &mut R,
+) -> Result<(), CheckFault>
+    ensures { OnOk result (AddsJournal (R.state reader.old) (set_entries set.old)
+        (set_entries set.new)) }
+{
+    let octets = read_octets(alloc, reader)?;
+    add_batches(alloc, set, &octets)
+}
+
+// Adds the entries of the file of a name, where that is a journal.
+fn add_journal<F: Folder>(
+    alloc: Global,
+    folder: &mut F,
+    name: &FileName,
+    set: &mut PagedArchive,
+) -> Result<(), ReadFault>
+    ensures adds { OnOk result (F.tells folder.new → Adds (set_entries set.old)
+        (set_entries set.new) (HasAsJournal (F.files folder.old) name.now)) }
+    ensures same { F.tells folder.new → F.files folder.new ≡ F.files folder.old }
+    ensures told { F.tells folder.new → F.tells folder.old }
+{
+    if !is_journal(name.as_octets()) {
+        return Ok(());
+    }
+    let mut file = open_file(alloc, folder, name)?;
+    match add_octets(alloc, set, &mut file) {
+        Ok(()) => Ok(()),
+        Err(fault) => Err(fault.of(name.copy(alloc)?)),
+    }
+}
+
+// Adds the entries of all journals that are among these names.
+fn add_journals<F: Folder>(
+    alloc: Global,
+    folder: &mut F,
+    names: &[FileName],
+    set: &mut PagedArchive,
+) -> Result<(), ReadFault>
+    ensures adds { OnOk result (F.tells folder.new
+        → Adds (set_entries set.old)
+        (set_entries set.new) (NamedJournalsHave (F.files folder.old) names.now)) }
+    ensures same { F.tells folder.new → F.files folder.new ≡ F.files folder.old }
+    ensures told { F.tells folder.new → F.tells folder.old }
+{
+    'names: for name in names {
+        add_journal(alloc, folder, name, set)?;
+    }
+    Ok(())
+}
+
+/// The names of a folder's files.
+pub(crate) fn list<F: Folder>(alloc: Global, folder: &mut F) -> Result<Vec<FileName>, ReadFault>
+    ensures names { F.tells folder.new → IfOk result (λ v. AreNamesOf (F.files folder.old) v.items) }
+    ensures same { F.tells folder.new → F.files folder.new ≡ F.files folder.old }
+    ensures told { F.tells folder.new → F.tells folder.old }
+{
+    match folder.names(alloc) {
+        Ok(names) => Ok(names),
+        Err(fault) => Err(ReadFault::Folder { fault }),
+    }
+}
+
+// The text of a set.
+fn set_text(alloc: Global, set: &PagedArchive) -> Result<Vec<u8>, ReadFault>
+    ensures text { IfOk result (λ v. v.items ≡ text_of (set_entries set.now)) }
+    ensures archive { IsArchive ENTRY_MAX (set_entries set.now) }
+{
+    let mut text = ToWrite::new(Vec::new(alloc));
+    match set.write(&mut text) {
+        Ok(()) => Ok(text.into_inner()),
+        Err(_) => Err(ReadFault::Memory),
+    }
+}
+
+/// The archive of the entries that a folder's journals have. Where one is gone that was listed, the
+/// names are listed again: a checkpoint has made segments of it.
+pub(crate) fn read_journals<F: Folder>(alloc: Global, folder: &mut F) -> Result<Vec<u8>, ReadFault>
+    ensures journals { F.tells folder.new → IfOk result (λ v. IsOfJournals (F.files folder.old) v.items) }
+    ensures same { F.tells folder.new → F.files folder.new ≡ F.files folder.old }
+    ensures told { F.tells folder.new → F.tells folder.old }
+{
+    'listings: for _ in 0..LISTINGS {
+        let names = list(alloc, folder)?;
+        let mut set = PagedArchive::new(alloc);
+        match add_journals(alloc, folder, &names, &mut set) {
+            Ok(()) => return set_text(alloc, &set),
+            Err(ReadFault::Gone) => {}
+            Err(fault) => return Err(fault),
+        }
+    }
+    Err(ReadFault::Gone)
+}

@@ -1,0 +1,92 @@
+//! The segments of a day are opened.
+ghost use Rattle.std.specs.Prelude.{◌≡◌, ◌↔◌, IfOk, IsTrue, OnOk, map};
+ghost use Rattle.record_store.specs.Names.{IsSegment};
+ghost use Rattle.store_reading.specs.Folders.{AreNamesOf};
+ghost use Rattle.store_reading.specs.Segments.{AddsSegment, AreSegmentsOf};
+ghost use Rattle.store_reading.specs.Sources.{source_state};
+
+use crate::day::Day;
+use crate::fault::ReadFault;
+use crate::folder::Folder;
+use crate::journals::{LISTINGS, list};
+use crate::names::segment_day;
+use crate::segment::open_segment;
+use crate::source::Source;
+use disk::FileName;
+use std::alloc::Global;
+
+/// Whether a name is that of a segment of a day.
+pub(crate) fn is_segment_of(name: &[u8], day: &Day) -> bool
+    ensures { IsTrue result ↔ IsSegment day.now name.now }
+{
+    let text = day.as_octets();
+    match segment_day(name) {
+        None => false,
+        Some(found) => found.as_octets() == text,
+    }
+}
+
+// Opens the file of a name, where that is a segment of the day.
+fn open_named<F: Folder>(
+    alloc: Global,
+    folder: &mut F,
+    name: &FileName,
+    day: &Day,
+    inputs: &mut Vec<Source<'_, F::File>>,
+) -> Result<(), ReadFault>
+    ensures opened { OnOk result (F.tells folder.new → AddsSegment (F.files folder.old) name.now day.now
+        (map (source_state F.File.state) inputs.old.items)
+        (map (source_state F.File.state) inputs.new.items)) }
+    ensures same { F.tells folder.new → F.files folder.new ≡ F.files folder.old }
+    ensures told { F.tells folder.new → F.tells folder.old }
+{
+    if !is_segment_of(name.as_octets(), day) {
+        return Ok(());
+    }
+    let file = open_segment(alloc, folder, name, day)?;
+    inputs.push(Source::File(file))?;
+    Ok(())
+}
+
+// The segments of a day that are among these names.
+fn open_all<'a, F: Folder>(
+    alloc: Global,
+    folder: &mut F,
+    names: &[FileName],
+    day: &Day,
+) -> Result<Vec<Source<'a, F::File>>, ReadFault>
+    ensures opened { IfOk result (λ v. F.tells folder.new → AreSegmentsOf (F.files folder.old) names.now
+        day.now (map (source_state F.File.state) v.items)) }
+    ensures same { F.tells folder.new → F.files folder.new ≡ F.files folder.old }
+    ensures told { F.tells folder.new → F.tells folder.old }
+{
+    let mut inputs = Vec::new(alloc);
+    'names: for name in names {
+        open_named(alloc, folder, name, day, &mut inputs)?;
+    }
+    Ok(inputs)
+}
+
+/// The segments of a day. Where one is gone that was listed, the names are listed again: a compaction
+/// has joined the day's segments.
+pub(crate) fn open_day<'a, F: Folder>(
+    alloc: Global,
+    folder: &mut F,
+    names: &mut Vec<FileName>,
+    day: &Day,
+) -> Result<Vec<Source<'a, F::File>>, ReadFault>
+    ensures opened { IfOk result (λ v. F.tells folder.new → AreSegmentsOf (F.files folder.old)
+        names.new.items day.now (map (source_state F.File.state) v.items)) }
+    ensures names { F.tells folder.new → AreNamesOf (F.files folder.old) names.old.items
+        → AreNamesOf (F.files folder.old) names.new.items }
+    ensures same { F.tells folder.new → F.files folder.new ≡ F.files folder.old }
+    ensures told { F.tells folder.new → F.tells folder.old }
+{
+    'listings: for _ in 0..LISTINGS {
+        match open_all(alloc, folder, names, day) {
+            Err(ReadFault::Gone) => *names = list(alloc, folder)?,
+            opened => return opened,
+        }
+    }
+    Err(ReadFault::Gone)
+}

@@ -1,0 +1,191 @@
+//! The archive of what a folder holds is written.
+ghost use Rattle.std.specs.Prelude.{◌≡◌, IfOk, MatchResult, map};
+ghost use Rattle.store_reading.specs.Folders.{AreNamesOf};
+ghost use Rattle.store_reading.specs.Journals.{IsOfJournals};
+ghost use Rattle.store_reading.specs.Sets.{AreInputsOf, DayOutcome, WritesPart, WritesSet};
+ghost use Rattle.store_reading.specs.Sources.{source_state};
+
+use crate::day::Day;
+use crate::days::{day_len, is_outside, next_day};
+use crate::fault::{CheckFault, FileFault, ReadFault};
+use crate::folder::Folder;
+use crate::journals::{list, read_journals};
+use crate::of_range::OfRange;
+use crate::opening::{is_segment_of, open_day};
+use crate::source::Source;
+use archive_join::{JoinFault, join_streams};
+use archive_sets::InRange;
+use archive_streams::InputFault;
+use disk::FileName;
+use octet_devices::{FromRead, Output};
+use std::alloc::Global;
+
+/// The most days of a folder that is read: those of the years 0 to 9999, and some.
+pub const DAYS_MAX: usize = 4_000_000;
+
+// The fault of the input of this number, which is that of a segment of the day.
+fn fault_at(
+    alloc: Global,
+    names: &[FileName],
+    day: &Day,
+    input: usize,
+    fault: CheckFault,
+) -> ReadFault {
+    let mut at: usize = 0;
+    for name in names {
+        if is_segment_of(name.as_octets(), day) {
+            if at == input {
+                return match name.copy(alloc) {
+                    Ok(name) => fault.of(name),
+                    Err(_) => ReadFault::Memory,
+                };
+            }
+            at = at.saturating_add(1);
+        }
+    }
+    ReadFault::Gone
+}
+
+// Why the segments of a day were not joined.
+fn join_fault(alloc: Global, names: &[FileName], day: &Day, fault: JoinFault) -> ReadFault {
+    match fault {
+        JoinFault::Archive { input, fault } => fault_at(
+            alloc,
+            names,
+            day,
+            input,
+            CheckFault::Damaged(FileFault::Archive(fault)),
+        ),
+        JoinFault::Read { input } => {
+            fault_at(
+                alloc,
+                names,
+                day,
+                input,
+                CheckFault::Input(InputFault::Device),
+            )
+        }
+        JoinFault::Endless { input } => {
+            fault_at(
+                alloc,
+                names,
+                day,
+                input,
+                CheckFault::Input(InputFault::Endless),
+            )
+        }
+        JoinFault::Write { sent: _ } => ReadFault::Write,
+        JoinFault::Memory => ReadFault::Memory,
+    }
+}
+
+// The inputs of a day: its segments, and its entries of the journals, of which this is the text.
+fn day_inputs<'a, F: Folder>(
+    alloc: Global,
+    folder: &mut F,
+    names: &mut Vec<FileName>,
+    day: &Day,
+    text: &'a [u8],
+) -> Result<Vec<Source<'a, F::File>>, ReadFault>
+    ensures inputs { IfOk result (λ v. F.tells folder.new
+        → AreNamesOf (F.files folder.old) names.old.items
+        → AreInputsOf (F.files folder.old) day.now text.now (map (source_state F.File.state) v.items)) }
+    ensures names { F.tells folder.new → AreNamesOf (F.files folder.old) names.old.items
+        → AreNamesOf (F.files folder.old) names.new.items }
+    ensures same { F.tells folder.new → F.files folder.new ≡ F.files folder.old }
+    ensures told { F.tells folder.new → F.tells folder.old }
+{
+    let mut inputs = open_day(alloc, folder, names, day)?;
+    inputs.push(Source::Octets(FromRead::new(text)))?;
+    Ok(inputs)
+}
+
+// Writes what a day has in the range: what its segments have, and its entries of the journals, of
+// which this is the text.
+fn read_day<F: Folder, W: Output>(
+    alloc: Global,
+    folder: &mut F,
+    names: &mut Vec<FileName>,
+    day: &Day,
+    text: &[u8],
+    kept: &OfRange,
+    writer: &mut W,
+) -> Result<(), ReadFault>
+    ensures outcome { F.tells folder.new → AreNamesOf (F.files folder.old) names.old.items
+        → DayOutcome result (F.files folder.old) kept.now.range day.now text.now
+        (W.state writer.old).taken (W.state writer.new).taken }
+    ensures names { F.tells folder.new → AreNamesOf (F.files folder.old) names.old.items
+        → AreNamesOf (F.files folder.old) names.new.items }
+    ensures same { F.tells folder.new → F.files folder.new ≡ F.files folder.old }
+    ensures told { F.tells folder.new → F.tells folder.old }
+{
+    if is_outside(&kept.range, day) {
+        return Ok(());
+    }
+    let mut inputs = day_inputs(alloc, folder, names, day, text)?;
+    match join_streams(alloc, kept, inputs.as_mut_slice(), writer) {
+        Ok(_) => Ok(()),
+        Err(fault) => Err(join_fault(alloc, names, day, fault)),
+    }
+}
+
+// Writes all days, with the journals' entries, of which this is the text.
+fn read_days<F: Folder, W: Output>(
+    alloc: Global,
+    folder: &mut F,
+    names: &mut Vec<FileName>,
+    text: &[u8],
+    kept: &OfRange,
+    writer: &mut W,
+) -> Result<(), ReadFault>
+    ensures outcome { F.tells folder.new → AreNamesOf (F.files folder.old) names.old.items
+        → IsOfJournals (F.files folder.old) text.now
+        → MatchResult result
+        (λ _. WritesSet (F.files folder.old) kept.now.range (W.state writer.old).taken
+        (W.state writer.new).taken)
+        (λ _. WritesPart (F.files folder.old) kept.now.range (W.state writer.old).taken
+        (W.state writer.new).taken) }
+    ensures same { F.tells folder.new → F.files folder.new ≡ F.files folder.old }
+    ensures told { F.tells folder.new → F.tells folder.old }
+{
+    let mut rest = text;
+    let mut last: Option<Day> = None;
+    'days: for _ in 0..DAYS_MAX {
+        let Some(day) = next_day(names, rest, last.as_ref()) else {
+            return Ok(());
+        };
+        let (of_day, behind) = rest.split_at(day_len(rest, &day));
+        read_day(alloc, folder, names, &day, of_day, kept, writer)?;
+        rest = behind;
+        last = Some(day);
+    }
+    Err(ReadFault::TooManyDays)
+}
+
+/// Writes the archive of the records that a folder holds, of a range of time.
+///
+/// The journals are read first, into memory; then the segments, day by day, each of them once to see
+/// that it is an archive of entries of its day, and once as it is joined. Days that have no instant in
+/// the range are not opened. Where a file is gone that was listed, the names are listed again.
+///
+/// # Errors
+/// The first fault that is met, and at which file. What was written then is a prefix of the archive.
+pub fn read<F: Folder, W: Output>(
+    alloc: Global,
+    folder: &mut F,
+    range: InRange,
+    writer: &mut W,
+) -> Result<(), ReadFault>
+    // the whole archive, or a prefix of it
+    ensures outcome { F.tells folder.new → MatchResult result
+        (λ _. WritesSet (F.files folder.old) range (W.state writer.old).taken
+        (W.state writer.new).taken)
+        (λ _. WritesPart (F.files folder.old) range (W.state writer.old).taken
+        (W.state writer.new).taken) }
+    ensures same { F.tells folder.new → F.files folder.new ≡ F.files folder.old }
+    ensures told { F.tells folder.new → F.tells folder.old }
+{
+    let text = read_journals(alloc, folder)?;
+    let mut names = list(alloc, folder)?;
+    read_days(alloc, folder, &mut names, &text, &OfRange { range }, writer)
+}

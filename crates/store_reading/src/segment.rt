@@ -1,0 +1,80 @@
+//! A segment is read.
+ghost use Rattle.std.specs.Prelude.{◌≡◌, IfOk, OnOk};
+ghost use Rattle.store_reading.specs.Folders.{IsUnused, Opens};
+ghost use Rattle.store_reading.specs.Segments.{IsSegmentInput, IsWholeOf};
+
+use crate::day::Day;
+use crate::fault::{CheckFault, FileFault, ReadFault};
+use crate::folder::Folder;
+use archive_streams::ArchiveEntries;
+use disk::{DiskFault, FileName};
+use itoa::Buffer;
+use octet_devices::Input;
+use std::alloc::Global;
+
+// The number of octets of the text of an entry.
+fn text_len(octets: &[u8]) -> u64 {
+    let count = Buffer::new().format(octets.len()).len() as u64;
+    (octets.len() as u64).saturating_add(count.saturating_add(1))
+}
+
+/// Reads a segment to its end: it is an archive, and all of its entries are of the day.
+pub(crate) fn check_segment<R: Input>(
+    alloc: Global,
+    day: &Day,
+    reader: &mut R,
+) -> Result<(), CheckFault>
+    ensures { OnOk result (IsWholeOf day.now (R.state reader.old) (R.state reader.new)) }
+{
+    let mut entries = ArchiveEntries::new(alloc)?;
+    let mut at: u64 = 0;
+    'entries: while entries.next(reader)? {
+        let entry = entries.entry();
+        if !Day::of(entry.instant).is(day) {
+            return Err(CheckFault::Damaged(FileFault::OtherDay { at }));
+        }
+        at = at.saturating_add(text_len(entry.octets));
+    }
+    Ok(())
+}
+
+/// Opens a file.
+pub(crate) fn open_file<F: Folder>(
+    alloc: Global,
+    folder: &mut F,
+    name: &FileName,
+) -> Result<F::File, ReadFault>
+    ensures opened { F.tells folder.new → IfOk result (λ file.
+        Opens (F.files folder.old) name.now (F.File.state file)) }
+    ensures unused { IfOk result (λ file. IsUnused (F.File.state file)) }
+    ensures same { F.tells folder.new → F.files folder.new ≡ F.files folder.old }
+    ensures told { F.tells folder.new → F.tells folder.old }
+{
+    match folder.open(alloc, name) {
+        Ok(file) => Ok(file),
+        Err(DiskFault::Missing) => Err(ReadFault::Gone),
+        Err(fault) => Err(ReadFault::Open {
+            name: name.copy(alloc)?,
+            fault,
+        }),
+    }
+}
+
+/// Opens a segment of a day, once it was read to its end: it is an archive of entries of the day.
+pub(crate) fn open_segment<F: Folder>(
+    alloc: Global,
+    folder: &mut F,
+    name: &FileName,
+    day: &Day,
+) -> Result<F::File, ReadFault>
+    ensures input { F.tells folder.new → IfOk result (λ file.
+        IsSegmentInput (F.files folder.old) name.now day.now (F.File.state file)) }
+    ensures same { F.tells folder.new → F.files folder.new ≡ F.files folder.old }
+    ensures told { F.tells folder.new → F.tells folder.old }
+{
+    let mut file = open_file(alloc, folder, name)?;
+    match check_segment(alloc, day, &mut file) {
+        Ok(()) => open_file(alloc, folder, name),
+        Err(fault) => Err(fault.of(name.copy(alloc)?)),
+    }
+}
