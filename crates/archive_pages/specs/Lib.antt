@@ -3,3 +3,4 @@ pub mod Pages
 pub mod Places
 pub mod Props
 pub mod Ranks
+pub mod Paged

@@ -3,6 +3,7 @@
 
 ghost use Rattle.std.specs.Prelude.{◌≡◌, ◌<◌, ◌≤◌, ◌+◌, ◌++◌, ◌^◌, [], length, IfOk};
 ghost use Rattle.archive_text.specs.EntryViews.{entry_of};
+ghost use Rattle.archive_pages.specs.Paged.{blocks_room};
 ghost use Rattle.archive_pages.specs.Spans.{IsWithin, Keeps, block_at, blocks_of};
 ghost use Rattle.archive_pages.specs.Spans.{entry_at, lists_of, octets_at, stored, stored_len};
 
@@ -90,6 +91,19 @@ impl Arena {
         Arena {
             blocks: Vec::new(alloc),
         }
+    }
+
+    /// The octets that the entries and their lengths take, and the ends of blocks that were too short
+    /// for the next one.
+    pub fn room(&self) -> usize
+        ensures { result ≡ blocks_room (blocks_of self.now) }
+    {
+        let count = self.blocks.len();
+        if count == 0 {
+            return 0;
+        }
+        let full = (count - 1).saturating_mul(BLOCK);
+        full.saturating_add(self.blocks[count - 1].len())
     }
 
     /// The octets of a span.

@@ -22,6 +22,9 @@ use syslog_value::Record;
 // more records than any memory holds
 const RECORDS_MAX: usize = 1_099_511_627_776;
 
+// the octets of a page and of its place in the index
+const PAGE_ROOM: usize = 4128;
+
 /// A set of records in memory, made for millions of them. Its entries lie in pages of at most 256,
 /// in ascending order, under an index in order; their octets lie in blocks of 1 MiB.
 ///
@@ -43,6 +46,8 @@ pub struct PagedArchive {
 }
 
 impl PagedArchive {
+    ghost use Rattle.archive_pages.specs.Paged.{room_of};
+
     /// An empty set, which takes no memory.
     pub fn new(alloc: Global) -> PagedArchive
         ensures { ⟦<PagedArchive as Store>⟧.entries result ≡ [] }
@@ -54,6 +59,15 @@ impl PagedArchive {
             count: 0,
             scratch: Vec::new(alloc),
         }
+    }
+
+    /// The octets that the set takes in memory: those of its entries, of the pages that they lie in,
+    /// and of the index. An empty set takes none.
+    pub fn room(&self) -> usize
+        ensures { result ≡ room_of self.now }
+    {
+        let pages = self.pages.len().saturating_mul(PAGE_ROOM);
+        self.arena.room().saturating_add(pages)
     }
 }
 
