@@ -53,7 +53,7 @@ bench: all
 soak: all
 	python3 tests/run.py soak build/syslogbox $(SOAK)
 
-# Puts the program, its manual and its completions below DESTDIR and PREFIX, and the library for C.
+# Puts the program, its manual pages and its completions below DESTDIR and PREFIX, and the library for C.
 install: all lib
 	sh scripts/install.sh build/syslogbox $(DESTDIR)$(PREFIX)
 	sh scripts/install-library.sh $(DESTDIR)$(PREFIX)

@@ -121,7 +121,7 @@ debian() {
     package=syslogbox root=$dist/debian
     link "$dist/dynamic" -pie -Wl,-z,relro,-z,now
     sh scripts/install.sh "$dist/dynamic" "$root/usr" vendor-completions
-    gzip -9n "$root/usr/share/man/man1/syslogbox.1"
+    gzip -9n "$root"/usr/share/man/man[1-8]/*
     recipes "$root/usr/share/doc/$package/examples/cluster"
     rm "$dist/dynamic"
     pack "$root/usr/bin/syslogbox" admin << END

@@ -1,10 +1,12 @@
 #!/bin/sh
-# Puts a program, its manual, completions and units below a folder: install.sh PROGRAM FOLDER [ZSH_FOLDER]
+# Puts a program, its manual pages, completions and units below a folder: install.sh PROGRAM FOLDER [ZSH_FOLDER]
 set -eu
 cd "$(dirname "$0")/.."
 program=$1 to=$2 zsh=${3:-site-functions}
 install -D -m 755 "$program" "$to/bin/syslogbox"
-install -D -m 644 man/syslogbox.1 "$to/share/man/man1/syslogbox.1"
+for page in man/*.[1-8]; do
+    install -D -m 644 "$page" "$to/share/man/man${page##*.}/${page##*/}"
+done
 install -D -m 644 completions/syslogbox.bash "$to/share/bash-completion/completions/syslogbox"
 install -D -m 644 completions/_syslogbox "$to/share/zsh/$zsh/_syslogbox"
 install -D -m 644 completions/syslogbox.fish "$to/share/fish/vendor_completions.d/syslogbox.fish"

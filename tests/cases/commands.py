@@ -1,8 +1,7 @@
-"""The commands on standard input: the tables, the manual's examples, and devices and calls that fail."""
+"""The commands on standard input: the tables, the examples of the manual pages, and devices and calls that fail."""
 import os
 import re
 import select
-import shutil
 import subprocess
 from pathlib import Path
 from random import Random
@@ -13,7 +12,7 @@ from lib import reference
 from lib.faults import each_allocation, each_call
 from lib.program import ROOT
 
-MANUAL = ROOT / "man/syslogbox.1"
+PAGES = sorted((ROOT / "man").glob("*.[1-8]"))
 
 
 def row(program, results, name, words, octets, status, output, notes):
@@ -51,22 +50,19 @@ def tables(program, results):
 
 
 def unescaped(text):
-    """The lines of a literal block of the manual as they are shown."""
+    """The lines of a literal block of a manual page as they are shown."""
     return text.replace("\\-", "-").replace("\\(aq", "'").replace("\\e", "\\").replace("\\&", "")
 
 
-def manual(program, results):
-    """Each example of the manual, run by a shell, prints what follows it."""
-    examples = MANUAL.read_text().split(".Sh EXAMPLES")[1].split(".Sh ")[0]
+def manual(program, results, page):
+    """Each example of a manual page, run by a shell, prints what follows it."""
+    examples = page.read_text().split(".Sh EXAMPLES")[1].split(".Sh ")[0]
     blocks = [unescaped(block) for block in re.findall(r"\.Bd -literal.*?\n(.*?)\.Ed\n", examples, re.DOTALL)]
-    if shutil.which("groff"):
-        done = subprocess.run(["groff", "-ww", "-mandoc", "-Tutf8", str(MANUAL)], capture_output=True)
-        results.check("the manual is laid out without a warning", done.returncode == 0 and done.stderr == b"", str(done.stderr))
-    results.check("the manual has examples", len(blocks) >= 10 and len(blocks) % 2 == 0, str(len(blocks)))
+    results.check(f"{page.name} has examples", len(blocks) > 2 and len(blocks) % 2 == 0, str(len(blocks)))
     for command, output in zip(blocks[::2], blocks[1::2]):
         path = f"{Path(program.path).parent}:{os.environ['PATH']}"
         done = subprocess.run(["sh", "-c", command], env={**os.environ, "PATH": path}, capture_output=True, text=True)
-        results.check(f"example: {command}", done.stdout == output, done.stdout)
+        results.check(f"{page.name}: example: {command}", done.stdout == output, done.stdout)
 
 
 def devices(program, results):
@@ -163,7 +159,9 @@ def live(program, results):
 
 def commands(program, results):
     tables(program, results)
-    manual(program, results)
+    results.check("there are manual pages", len(PAGES) > 1, str(PAGES))
+    for page in PAGES:
+        manual(program, results, page)
     devices(program, results)
     memory(program, results)
     calls(program, results)

@@ -1,9 +1,10 @@
-"""The documents: their links and anchors, the files, targets and commands that they name, their tours, their pictures, and the
-figures and the cases of README that a test can hold."""
+"""The documents: their links and anchors, the files, targets and commands that they name, their tours, their pictures, the
+figures and the cases of README that a test can hold, and the layout and the references of the manual's pages."""
 import fnmatch
 import json
 import os
 import re
+import shutil
 import subprocess
 from functools import cache
 from pathlib import Path
@@ -16,6 +17,8 @@ from peers.records import PLAIN
 
 DOCUMENTS = [path for folder in (".", "docs", "cluster") for path in sorted((ROOT / folder).glob("*.md"))]
 TOURS = ["README.md", "docs/COMMANDS.md"]  # those that begin in an empty folder
+PAGES = sorted((ROOT / "man").glob("*.[1-8]"))
+LINTERS = [["groff", "-ww", "-mandoc", "-Tutf8"], ["mandoc", "-T", "lint", "-W", "warning"]]
 README_LINES, COLUMNS = 150, 120
 FENCED = re.compile(r"^```.*?^```$", re.MULTILINE | re.DOTALL)
 SPAN = re.compile(r"`([^`]+)`")
@@ -108,8 +111,8 @@ def paths(results):
 def named(results):
     """Targets of make, parts of tests/run.py, commands and options are there."""
     makefile, tests = (ROOT / "Makefile").read_text(), (ROOT / "tests/run.py").read_text()
-    manual = (ROOT / "man/syslogbox.1").read_text().replace("\\-", "-")
-    commands = set(re.findall(r"^\.It Cm (\w+)", manual, re.MULTILINE))
+    page = (ROOT / "man/syslogbox.1").read_text().replace("\\-", "-")
+    commands = set(re.findall(r"^\.It Cm (\w+)", page, re.MULTILINE))
     for document in DOCUMENTS:
         for span in spans(document):
             words = span.split()
@@ -122,7 +125,41 @@ def named(results):
             for command in re.findall(r"\bsyslogbox ([a-z]+)\b", line):
                 results.check(f"{name_of(document)}: the command {command} is there", command in commands, line)
     for option in re.findall(r"--([a-z]+(?:-[a-z]+)*)", (ROOT / "docs/COMMANDS.md").read_text()):
-        results.check(f"docs/COMMANDS.md: the option --{option} is in the manual", re.search(rf"Fl -{option}\b", manual))
+        results.check(f"docs/COMMANDS.md: the option --{option} is in the manual", re.search(rf"Fl -{option}\b", page))
+
+
+def laid_out(results, page):
+    """groff and mandoc, if they are here, have nothing to say on a manual page."""
+    for words in LINTERS:
+        if shutil.which(words[0]) is None:
+            continue
+        done = subprocess.run([*words, str(page)], capture_output=True)
+        said = done.stderr + (done.stdout if "lint" in words else b"")
+        results.check(f"{page.name}: {words[0]} has nothing to say", done.returncode == 0 and not said, said.decode())
+
+
+def sections_of(page):
+    return re.findall(r"^\.S[hs] (.*)$", page.read_text(), re.MULTILINE)
+
+
+def manual(results):
+    """The manual's pages: their layout, and the sections and pages that they refer to."""
+    results.check("the manual has pages", len(PAGES) > 1, str(PAGES))
+    for page in PAGES:
+        laid_out(results, page)
+        text = page.read_text().replace("\\-", "-")
+        for section in re.findall(r"^\.Sx (.*?)[ .,;:)]*$", text, re.MULTILINE):
+            results.check(f"{page.name}: the section {section} is there", section in sections_of(page))
+        for section, name, number in re.findall(r'^\.Dq (.*)\nin\n\.Xr (syslogbox[\w-]*) (\d)', text, re.MULTILINE):
+            other = ROOT / f"man/{name}.{number}"
+            found = other.is_file() and section in sections_of(other)
+            results.check(f"{page.name}: {name}({number}) has the section {section}", found)
+        seen = re.findall(r"^\.Xr (\S+) (\d)", text.split(".Sh SEE ALSO")[1], re.MULTILINE)
+        for other in PAGES:
+            listed = (other.stem, other.suffix[1:]) in seen
+            results.check(f"{page.name}: {other.name} is in SEE ALSO", listed or other == page, str(seen))
+        for name, number in re.findall(r"^\.Xr (syslogbox[\w-]*) (\d)", text, re.MULTILINE):
+            results.check(f"{page.name}: the page {name}({number}) is there", (ROOT / f"man/{name}.{number}").is_file())
 
 
 def widths(results):
@@ -208,6 +245,7 @@ def documents(program, results):
     links(results)
     paths(results)
     named(results)
+    manual(results)
     widths(results)
     tables(results)
     for name in TOURS:

@@ -1,10 +1,11 @@
 """The packages: the same octets wherever they are made, and installed, run and removed in a clean root."""
+import gzip
 import os
 import subprocess
 import tarfile
 
 from first import RECORD
-from results import clone, lacking, name_sources, run
+from results import ROOT, clone, lacking, name_sources, run
 
 
 def made(folder, **environment):
@@ -21,6 +22,13 @@ def converts(program):
 
 def version_of(program):
     return subprocess.run([program, "--version"], capture_output=True, text=True).stderr.strip()
+
+
+def manual(share, suffix, unpacked, results):
+    """Each page of the manual is in the folder of its section below `share`."""
+    for page in sorted((ROOT / "man").iterdir()):
+        file = share / f"man/man{page.suffix[1:]}/{page.name}{suffix}"
+        results.check(f"{file.name} is installed", file.is_file() and unpacked(file.read_bytes()) == page.read_bytes(), str(file))
 
 
 def packages(room, results):
@@ -64,6 +72,7 @@ def tarball(file, version, room, results):
     results.check("its program tells its version", version_of(program) == f"syslogbox {version}", version_of(program))
     results.check("it has the recipes for several machines", os.access(folder / "cluster/parallel.sh", os.X_OK))
     results.check("its program is static", b"/lib64/ld-linux" not in program.read_bytes())
+    manual(folder / "share", "", bytes, results)
 
 
 def debian(file, root, package, results, look):
@@ -97,6 +106,7 @@ def installed(root, version, results):
     recipe = root / "usr/share/doc/syslogbox/examples/cluster/parallel.sh"
     results.check("the recipes for several machines are installed", os.access(recipe, os.X_OK))
     results.check("the installed program tells its version", version_of(program) == f"syslogbox {version}")
+    manual(root / "usr/share", ".gz", gzip.decompress, results)
 
 
 def library(root, version, room, results):
