@@ -1,5 +1,5 @@
 -- What a set in memory and in runs holds.
-use Rattle.std.specs.Prelude.{◌≡◌, ◌≤◌, ◌⊎◌, List, [], map, false, true}
+use Rattle.std.specs.Prelude.{◌≡◌, ◌≤◌, ◌⊎◌, ℕ, List, [], map, false, true}
 use Rattle.octet_devices.specs.Device.{InputState}
 use Rattle.archive_text.specs.Entries.{Entry}
 use Rattle.archive_pages.specs.Paged.{entries_in, room_of}
@@ -17,6 +17,10 @@ pub record Keeps {P R : Type 0} (tells : P → Type 0) (state : R → InputState
 -- a run was lost
 abbrev pub IsLost : {P R : Type 0} → SpilledArchive P R → Type 0
 IsLost s = s.lost ≡ true
+
+-- the octets that its pages may take
+abbrev pub limit_of : {P R : Type 0} → SpilledArchive P R → ℕ
+limit_of s = s.room
 
 -- its pages take no more than their room, or they have no entry
 abbrev pub IsInRoom : {P R : Type 0} → SpilledArchive P R → Type 0

@@ -7,6 +7,7 @@ use octet_devices::{DeviceFault, FromRead, ToWrite};
 use std::alloc::Global;
 use std::fs::{self, OpenOptions};
 use std::io::{self, ErrorKind, Read, Seek, SeekFrom, Write};
+use std::os::unix::fs::OpenOptionsExt;
 use std::rt::Files;
 
 /// How many names are tried for a file, since others may have taken them.
@@ -69,7 +70,7 @@ impl<R: Files + AllocGlobal + Clone + Drop> FolderSpill<R> {
         })
     }
 
-    // Makes a file that nothing else has open, under a name that was free.
+    // Makes a file that nothing else has open, under a name that was free, for its owner alone.
     fn create(&mut self) -> io::Result<R::File> {
         for _ in 0..NAMES_MAX {
             let front = self.front.as_str();
@@ -77,7 +78,7 @@ impl<R: Files + AllocGlobal + Clone + Drop> FolderSpill<R> {
             let path = format!(in self.rt.alloc(); "{front}{number}")?;
             self.next = self.next.saturating_add(1);
             let mut options = OpenOptions::new();
-            options.read(true).write(true).create_new(true);
+            options.read(true).write(true).create_new(true).mode(0o600);
             match options.open(&self.rt, path.as_str()) {
                 Ok(file) => {
                     fs::remove_file(&self.rt, path.as_str())?;

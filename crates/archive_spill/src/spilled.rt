@@ -47,12 +47,13 @@ impl<P: Spill + Drop> SpilledArchive<P, P::Run> {
     ghost use Rattle.archive_text.specs.declared.limits.TheConstants.{ENTRY_MAX};
     ghost use Rattle.archive_pages.specs.Paged.{entries_in};
     ghost use Rattle.archive_spill.specs.Runs.{AreSame};
-    ghost use Rattle.archive_spill.specs.Sets.{Holds, IsInRoom, IsLost, Keeps};
+    ghost use Rattle.archive_spill.specs.Sets.{Holds, IsInRoom, IsLost, Keeps, limit_of};
     ghost use Rattle.archive_spill.specs.Writing.{IsOfRuns, WritesOut};
 
     /// An empty set, which may take so many octets in memory.
     pub fn new(alloc: Global, spill: P, room: usize) -> SpilledArchive<P, P::Run>
-        ensures { P.tells spill → Holds P.tells P.Run.state result [] }
+        ensures empty { P.tells spill → Holds P.tells P.Run.state result [] }
+        ensures limit { limit_of result ≡ room }
     {
         SpilledArchive {
             alloc,
@@ -79,8 +80,13 @@ impl<P: Spill + Drop> SpilledArchive<P, P::Run> {
             → Holds P.tells P.Run.state self.old es → Holds P.tells P.Run.state self.new es)) }
         ensures long { IsErrOf result SpillFault.TooLong →
             (e : Entry) → IsEntryOf record.now e → ENTRY_MAX < length e.octets }
+        ensures same { IsErrOf result SpillFault.TooLong → (es : List Entry)
+            → Holds P.tells P.Run.state self.old es → Holds P.tells P.Run.state self.new es }
+        ensures spill { IsErrOf result SpillFault.Spill → IsLost self.new }
+        ensures not_output { ¬ (IsErrOf result SpillFault.Output) }
         ensures lost { IsLost self.old → IsErrOf result SpillFault.Spill × IsLost self.new }
         ensures room { OnOk result (IsInRoom self.new) }
+        ensures limit { limit_of self.new ≡ limit_of self.old }
     {
         if self.lost {
             return Err(SpillFault::Spill);
@@ -103,8 +109,13 @@ impl<P: Spill + Drop> SpilledArchive<P, P::Run> {
         ensures long { IsErrOf result SpillFault.TooLong →
             (b : List ℕ) → IsViewOf b (view_parts view.now) → (r : Parts ℤ) (e : Entry)
             → WellFormed r b → IsEntryOf r e → ENTRY_MAX < length e.octets }
+        ensures same { IsErrOf result SpillFault.TooLong → (es : List Entry)
+            → Holds P.tells P.Run.state self.old es → Holds P.tells P.Run.state self.new es }
+        ensures spill { IsErrOf result SpillFault.Spill → IsLost self.new }
+        ensures not_output { ¬ (IsErrOf result SpillFault.Output) }
         ensures lost { IsLost self.old → IsErrOf result SpillFault.Spill × IsLost self.new }
         ensures room { OnOk result (IsInRoom self.new) }
+        ensures limit { limit_of self.new ≡ limit_of self.old }
     {
         if self.lost {
             return Err(SpillFault::Spill);
@@ -151,6 +162,7 @@ impl<P: Spill + Drop> SpilledArchive<P, P::Run> {
         ensures err { OnErr result (IsLost self.new) }
         ensures fault { IsOfRuns result }
         ensures room { OnOk result (IsInRoom self.new) }
+        ensures limit { limit_of self.new ≡ limit_of self.old }
     {
         if self.pages.room() <= self.room {
             return Ok(());
@@ -168,6 +180,7 @@ impl<P: Spill + Drop> SpilledArchive<P, P::Run> {
             → Keeps P.tells P.Run.state self.new es) }
         ensures none { OnOk result (entries_in self.new.pages ≡ []) }
         ensures lost { self.new.lost ≡ self.old.lost }
+        ensures limit { limit_of self.new ≡ limit_of self.old }
         ensures fault { IsOfRuns result }
     {
         let run = write_run(&mut self.spill, &self.pages)?;
@@ -189,6 +202,7 @@ impl<P: Spill + Drop> SpilledArchive<P, P::Run> {
             (vec_len self.new.runs + self.old.at_once ≡ vec_len self.old.runs + 1) }
         ensures at_once { self.new.at_once ≡ self.old.at_once }
         ensures lost { self.new.lost ≡ self.old.lost }
+        ensures limit { limit_of self.new ≡ limit_of self.old }
         ensures fault { IsOfRuns result }
     {
         let first = self.runs.len() - self.at_once;
@@ -207,6 +221,7 @@ impl<P: Spill + Drop> SpilledArchive<P, P::Run> {
             → Keeps P.tells P.Run.state self.new es) }
         ensures pages { self.new.pages ≡ self.old.pages }
         ensures lost { self.new.lost ≡ self.old.lost }
+        ensures limit { limit_of self.new ≡ limit_of self.old }
         ensures fault { IsOfRuns result }
     {
         let mut count = self.spilled;

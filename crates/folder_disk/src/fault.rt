@@ -8,7 +8,7 @@ use std::io::{Error, ErrorKind};
 #[derive(Debug, Drop)]
 pub struct FileError {
     /// The file's name in the folder; none where the error is of the folder itself, or memory for
-    /// the name could not be had.
+    /// the name could not be read.
     pub name: Option<FileName>,
     /// What the system told.
     pub error: Error,

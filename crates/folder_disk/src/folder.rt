@@ -10,6 +10,7 @@ use crate::open_files::OpenFiles;
 use disk::{Disk, DiskFault, FileName};
 use std::alloc::Global;
 use std::fs::OpenFile;
+use std::os::unix::fs::DirBuilderExt;
 use std::path::{AsPath, Path};
 use std::rt::Files;
 use std::{fs, io};
@@ -49,12 +50,12 @@ impl<R: Files + AllocGlobal + Clone + Drop> FolderDisk<R> {
         })
     }
 
-    /// The disk of a folder, which is made where it is missing, but not its parent. The parent is
+    /// The disk of a folder, which is made where it is missing, for its owner alone, but not its parent. The parent is
     /// synced, so that the folder's name is on the disk.
     pub fn create(rt: &R, path: &str) -> io::Result<FolderDisk<R>>
         ensures { IfOk result (λ disk. IsNone (last_error_of disk)) }
     {
-        match fs::create_dir(rt, path) {
+        match fs::DirBuilder::new().mode(0o700).create(rt, path) {
             Ok(()) => {}
             Err(error) if error.kind() == io::ErrorKind::AlreadyExists => {}
             Err(error) => return Err(error),

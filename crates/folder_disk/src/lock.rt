@@ -5,6 +5,7 @@ ghost use Rattle.folder_disk.specs.Locks.{lock_name};
 use crate::open_files::with_slash;
 use std::fs::{File, OpenOptions, TryLockError};
 use std::io::{self, ErrorKind};
+use std::os::unix::fs::OpenOptionsExt;
 use std::rt::Files;
 use thiserror::Error;
 
@@ -56,6 +57,7 @@ fn open_lock<R: Files + AllocGlobal>(rt: &R, folder: &str, lock: LockFile) -> io
     OpenOptions::new()
         .write(true)
         .create(true)
+        .mode(0o600)
         .open(rt, path.as_str())
 }
 

@@ -6,6 +6,7 @@ use disk::FileName;
 use std::alloc::{AllocError, Global};
 use std::fs::{OpenFile, OpenOptions};
 use std::io::{self, ErrorKind};
+use std::os::unix::fs::OpenOptionsExt;
 use std::rt::Files;
 use std::{fs, str};
 
@@ -168,6 +169,7 @@ impl<R: Files + AllocGlobal + Clone + Drop> OpenFiles<R> {
             .read(true)
             .write(true)
             .create_new(true)
+            .mode(0o600)
             .open(&self.rt, path.as_str())?;
         self.close(name);
         self.keep(name, file, true)?;

@@ -1,12 +1,13 @@
 //! A durable store of syslog records: a folder that holds a set of records through crashes.
 //!
 //! A folder has journals (`journal.N`: batches of records in the order in which they came) and
-//! segments (`DAY.HEX.archive`: archives of the records of a day, whole since they have their name).
+//! segments (`DAY.HEX.archive`: archives of the records of a day, complete from the moment they have their name).
 //! What it holds is what these have; files of other names count for nothing.
 //!
 //! Whatever moment a crash comes, what the folder holds afterwards is a set S with
 //! committed ⊆ S ⊆ received. Each call of [`RecordStore`] says so of every state that it may end
-//! with, so of every moment (see `disk`).
+//! with, so of every moment (see `disk`), as long as no sync has failed; `turn` where other files hold
+//! what the journal has.
 #![tactic(auto)]
 
 mod batch;

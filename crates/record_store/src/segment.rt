@@ -253,6 +253,7 @@ impl RecordStore {
 
         ensures number { number_of self.new ≡ number_of self.old }
         ensures breaks { IsErr result → IsBroken self.new }
+        ensures goes_on { OnOk result (IsBroken self.new → IsBroken self.old) }
         ensures told { D.tells disk.new → D.tells disk.old }
     {
         match draft.finish(alloc, disk, day) {

@@ -62,6 +62,8 @@ fn remove_journal<D: Disk>(alloc: Global, disk: &mut D, number: u64) -> Result<(
     // whatever the result is: so at every moment
     ensures done { D.tells disk.new → IsUnchanged (D.state disk.old) (D.state disk.new)
         ⊎ RemovesFile (D.state disk.old) (D.state disk.new) (journal_name number) }
+    ensures removed { OnOk result (D.tells disk.new
+        → journal_shown (D.state disk.new) number ≡ None) }
 
     ensures told { D.tells disk.new → D.tells disk.old }
     ensures cause { IfErr result (IsCause
@@ -96,6 +98,8 @@ fn succeed<D: Disk>(alloc: Global, disk: &mut D, number: u64) -> Result<Journal,
         → ShowsWithin (D.state disk.new) since }
 
     ensures fits { OnOk result (number + 1 < 2 ^ 64) }
+    ensures removed { OnOk result (D.tells disk.new
+        → journal_shown (D.state disk.new) number ≡ None) }
     ensures told { D.tells disk.new → D.tells disk.old }
     ensures cause { (store : RecordStore) → IsWhole store → number_of store ≡ number → IfErr result (IsCause
         (turn_causes (D.tells disk.new) (D.has_failed disk.new) store (D.state disk.old))) }
@@ -112,7 +116,7 @@ impl RecordStore {
     /// Begins the journal of the next number, on the disk, and only then removes the one before. Where
     /// other files hold each entry that came since the last checkpoint, whatever a crash leaves, no
     /// entry has come since; those that waited are committed by these files, and wait no more. It
-    /// promises nothing where they are not held: `JournaledArchive` writes the segments before.
+    /// promises nothing where they are not held: segments are written before (`add_segment`).
     ///
     /// # Errors
     /// The disk's fault, want of memory, or `Full` where there is no greater number. The folder keeps
@@ -127,6 +131,9 @@ impl RecordStore {
             → HeldApart (D.state disk.old) (journal_name (number_of self.old)) sets.since
             → Stands self.new (D.state disk.new) sets) }
 
+        ensures number { OnOk result (number_of self.new ≡ number_of self.old + 1) }
+        ensures removed { OnOk result (D.tells disk.new
+            → journal_shown (D.state disk.new) (number_of self.old) ≡ None) }
         ensures breaks { IsErr result ↔ IsBroken self.new }
         ensures told { D.tells disk.new → D.tells disk.old }
         ensures cause { IfErr result (IsCause

@@ -9,7 +9,7 @@ use thiserror::Error;
 /// What is wrong with the octets of a file. Positions count from its first octet.
 #[derive(Clone, Copy, Debug, PartialEq, Eq, Error)]
 pub enum FileFault {
-    /// A segment is no archive, or a batch of a journal no row of entries.
+    /// A segment is no archive, or a batch of a journal no sequence of entries.
     #[error("{0}")]
     Archive(ArchiveFault),
     /// An entry of a segment is of another day; `at` is its first digit.
@@ -20,7 +20,7 @@ pub enum FileFault {
 /// Why a folder was not read.
 #[derive(Debug, Drop, Error)]
 pub enum ReadFault {
-    /// The names of the folder could not be had.
+    /// The names of the folder could not be read.
     #[error("the folder: {fault}")]
     Folder { fault: DiskFault },
     /// A file could not be opened.
@@ -38,7 +38,7 @@ pub enum ReadFault {
     /// There are more days than `DAYS_MAX`.
     #[error("too many days")]
     TooManyDays,
-    /// The writer failed after it took so many octets of the day that was written.
+    /// The writer failed.
     #[error("the writer failed")]
     Write,
     /// An allocation failed.

@@ -10,7 +10,7 @@ use std::alloc::Global;
 
 /// A folder of files that are opened to be read, many at a time.
 ///
-/// A file that is open goes on being read where its name is removed. A folder in memory tells
+/// A file that is open goes on being read where its name is removed. A folder in memory may tell
 /// contracts what its files have; one of the system does not, since no contract can say what a file
 /// gives, and every clause on what files have speaks of folders that do.
 pub trait Folder {
