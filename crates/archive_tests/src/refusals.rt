@@ -50,7 +50,7 @@ fn at_most_so_many_connections_are_opened(rt: HostRuntime) -> Result<(), Fail> {
 fn as_many_connections_are_opened_as_are_asked_for(rt: HostRuntime) -> Result<(), Fail> {
     let alloc = rt.alloc();
     assert_eq!(rt; CONNECTIONS_LIMIT, 16_384);
-    for (asked, most) in [(1, 64), (200, 200)] {
+    for (asked, most) in [(1, 64_u32), (200, 200)] {
         let store = VecArchive::new(alloc);
         let reading = FrameReading::from(None);
         let Ok(mut collector) = Collector::with_connections(alloc, store, reading, asked) else {
