@@ -86,25 +86,28 @@ changelog() {
     printf '\n -- %s  %s\n' "$maintainer" "$of"
 }
 
-# The file control of a package below a folder: control FOLDER FILE SECTION, where FILE is one that needs libc; standard
-# input has its description.
+# The libc that a file needs, as a package depends on it.
+libc_of() {
+    echo "libc6 (>= $(objdump -T "$1" | sed -n 's/.*GLIBC_\([0-9.]*\).*/\1/p' | sort -V | tail -n 1))"
+}
+
+# The file control of a package below a folder: control FOLDER DEPENDS SECTION; standard input has its description.
 control() {
     octets=$(find "$1/usr" -type f -exec cat {} + | wc -c)
-    libc=$(objdump -T "$2" | sed -n 's/.*GLIBC_\([0-9.]*\).*/\1/p' | sort -V | tail -n 1)
     cat << END
 Package: $package
 Version: $version
 Architecture: amd64
 Maintainer: $maintainer
 Installed-Size: $(((octets + 1023) / 1024))
-Depends: libc6 (>= $libc)
+Depends: $2
 Section: $3
 Priority: optional
 END
     cat
 }
 
-# What each Debian package has, and the package itself: pack FILE SECTION, as `control` takes them.
+# What each Debian package has, and the package itself: pack DEPENDS SECTION, as `control` takes them.
 pack() {
     doc=$root/usr/share/doc/$package
     mkdir -p "$doc" "$root/DEBIAN"
@@ -124,7 +127,7 @@ debian() {
     gzip -9n "$root"/usr/share/man/man[1-8]/*
     recipes "$root/usr/share/doc/$package/examples/cluster"
     rm "$dist/dynamic"
-    pack "$root/usr/bin/syslogbox" admin << END
+    pack "$(libc_of "$root/usr/bin/syslogbox")" admin << END
 Description: proved reader and writer of syslog records
  syslogbox reads syslog records (RFC 5424) from datagrams and streams, says
  where octets stop being a record, writes records in their one canonical form,
@@ -133,20 +136,34 @@ Description: proved reader and writer of syslog records
 END
 }
 
+# The library for C: the shared library in a package of its own, named for its version of the calls.
 debian_library() {
-    package=libsyslogbox-dev root=$dist/library lib=lib/x86_64-linux-gnu
+    lib=lib/x86_64-linux-gnu library=$dist/library
     sh scripts/library.sh /usr $lib > /dev/null
-    sh scripts/install-library.sh "$root/usr" $lib
-    install -D -m 644 docs/LIBRARY.md "$root/usr/share/doc/$package/LIBRARY.md"
-    strip --strip-debug "$root/usr/$lib/libsyslogbox.a"
-    strip --strip-unneeded "$root/usr/$lib/libsyslogbox.so.0"
-    pack "$root/usr/$lib/libsyslogbox.so.0" libdevel << END
-Description: proved reader and writer of syslog records, for C
+    sh scripts/install-library.sh "$library/usr" $lib
+    strip --strip-debug "$library/usr/$lib/libsyslogbox.a"
+    strip --strip-unneeded "$library/usr/$lib/libsyslogbox.so.0"
+
+    package=libsyslogbox0 root=$dist/shared
+    mkdir -p "$root/usr/$lib" "$root/DEBIAN"
+    mv "$library/usr/$lib/libsyslogbox.so.0" "$root/usr/$lib/"
+    echo "libsyslogbox 0 libsyslogbox0 (>= $version)" > "$root/DEBIAN/shlibs"
+    echo "activate-noawait ldconfig" > "$root/DEBIAN/triggers"
+    pack "$(libc_of "$root/usr/$lib/libsyslogbox.so.0")" libs << END
+Description: proved reader and writer of syslog records, as a shared library
  libsyslogbox has the calls of syslogbox for programs in C and in languages
  that call C: whether octets are a syslog record (RFC 5424) and where they stop
  being one, their parts, their one canonical form, frames of streams, legacy
- packets, and the union of archives. It has the header, a static and a shared
- library. Each call is proved to meet its contract.
+ packets, and the union of archives. Each call is proved to meet its contract.
+END
+
+    package=libsyslogbox-dev root=$library
+    install -D -m 644 docs/LIBRARY.md "$root/usr/share/doc/$package/LIBRARY.md"
+    pack "libsyslogbox0 (= $version)" libdevel << END
+Description: proved reader and writer of syslog records, for programs in C
+ libsyslogbox has the calls of syslogbox for programs in C and in languages
+ that call C. This package has what such programs are built with: the header,
+ the static library and the file for pkg-config.
 END
 }
 

@@ -52,10 +52,11 @@ def packages(room, results):
     for name, file in files.items():
         if name.endswith(".tar.gz"):
             tarball(file, version, room, results)
-        elif name.startswith("libsyslogbox-dev"):
-            debian(file, room / "library", "libsyslogbox-dev", results, lambda root: library(root, version, room, results))
-        else:
-            debian(file, room / "root", "syslogbox", results, lambda root: installed(root, version, results))
+    packed = {name.split("_")[0]: file for name, file in files.items() if name.endswith(".deb")}
+    if packed:
+        debian(["syslogbox"], packed, room / "root", results, lambda root: installed(root, version, results))
+        both = ["libsyslogbox0", "libsyslogbox-dev"]
+        debian(both, packed, room / "library", results, lambda root: library(root, version, room, results))
     with open(folder / "crates.txt", "a", encoding="utf-8") as crates:
         crates.write("# changed\n")
     results.check("make dist refuses a release of other sources", "built from other sources" in made(folder)[1])
@@ -75,29 +76,31 @@ def tarball(file, version, room, results):
     manual(folder / "share", "", bytes, results)
 
 
-def debian(file, root, package, results, look):
-    """A package has no error, is installed in a clean root and looked at there, and leaves nothing."""
+def debian(packages, packed, root, results, look):
+    """Packages have no error, are installed in a clean root and looked at there, and leave nothing."""
     if lacking("lintian"):
         results.skip("lintian has no error", "there is no lintian")
     else:
-        status, said = run(["lintian", "--allow-root", "--fail-on", "error", str(file)])
-        results.check(f"lintian has no error in {package}", status == 0, said)
+        for name in packages:
+            status, said = run(["lintian", "--allow-root", "--fail-on", "error", str(packed[name])])
+            results.check(f"lintian has no error in {name}", status == 0, said)
     if os.geteuid():
-        results.skip("the package in a clean root", "only root installs it")
+        results.skip("the packages in a clean root", "only root installs them")
         return
     for name in ["info", "updates"]:
         (root / "var/lib/dpkg" / name).mkdir(parents=True)
-    # the one package that it depends on, as this machine has it
+    # the one package that they depend on, as this machine has it
     (root / "var/lib/dpkg/status").write_text(run(["dpkg", "-s", "libc6"])[1] + "\n")
     before = files_of(root)
+    named = " and ".join(packages)
     dpkg = {"env": {**os.environ, "PATH": f"{os.environ['PATH']}:/usr/sbin:/sbin"}}
-    status, said = run(["dpkg", f"--root={root}", "--install", str(file)], **dpkg)
-    results.check(f"dpkg installs {package}", status == 0, said)
+    status, said = run(["dpkg", f"--root={root}", "--install", *(str(packed[name]) for name in packages)], **dpkg)
+    results.check(f"dpkg installs {named}", status == 0, said)
     if status == 0:
         look(root)
-    status, said = run(["dpkg", f"--root={root}", "--purge", package], **dpkg)
-    results.check(f"dpkg removes {package}", status == 0, said)
-    results.check(f"nothing of {package} is left behind", files_of(root) == before, str(files_of(root) ^ before))
+    status, said = run(["dpkg", f"--root={root}", "--purge", *packages], **dpkg)
+    results.check(f"dpkg removes {named}", status == 0, said)
+    results.check(f"nothing of {named} is left behind", files_of(root) == before, str(files_of(root) ^ before))
 
 
 def installed(root, version, results):
