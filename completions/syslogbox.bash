@@ -3,17 +3,22 @@
 # The options of a command.
 _syslogbox_options() {
     case $1 in
-        archive) echo "--framing --trim --legacy --zone --dialect --help" ;;
+        archive) echo "--framing --spill --memory --trim --legacy --zone --dialect --help" ;;
         check) echo "--framing --summary --trim --legacy --zone --dialect --help" ;;
         show) echo "--framing --json --trim --legacy --zone --dialect --help" ;;
         convert) echo "--framing --to --trim --legacy --zone --dialect --help" ;;
-        merge | migrate | union | common | minus | diff) echo "--help" ;;
+        merge | migrate | union | common | minus | diff | verify) echo "--help" ;;
         select)
             echo "--from --to --undated --only-undated --severity --facility --host --app --proc --msgid --id --help"
             ;;
         digest) echo "--by --help" ;;
         send) echo "--facility --severity --up-to --framing --host --app --proc --msgid --micros --help" ;;
         collect) echo "--trim --legacy --zone --dialect --help" ;;
+        read) echo "--from --to --undated --help" ;;
+        serve)
+            echo "--udp --counted --lf --unix --inherited --connections --idle --commit --checkpoint --until-eof"
+            echo "--trim --legacy --zone --dialect --help"
+            ;;
     esac
 }
 
@@ -28,25 +33,31 @@ _syslogbox_values() {
             echo "local0 local1 local2 local3 local4 local5 local6 local7"
             ;;
         *" --dialect") echo "bsd wide" ;;
+        *" --inherited") echo "udp counted lf" ;;
         *" --severity" | *" --up-to") echo "emerg alert crit err warning notice info debug" ;;
         *" --legacy" | *" --zone" | *" --host" | *" --app" | *" --proc" | *" --msgid" | *" --micros") ;;
-        *" --from" | *" --to" | *" --id") ;;
+        *" --from" | *" --to" | *" --id" | *" --memory" | *" --udp" | *" --counted" | *" --lf") ;;
+        *" --connections" | *" --idle" | *" --commit" | *" --checkpoint") ;;
         *) return 1 ;;
     esac
 }
 
 _syslogbox() {
     local command=${COMP_WORDS[1]} word=$2 previous=$3 files="" words
-    local commands="check convert show archive merge union common minus diff select digest migrate send collect help"
+    local commands="check convert show archive merge union common minus diff select digest migrate send collect"
+    commands="$commands serve read verify help"
     if [ "$COMP_CWORD" -eq 1 ]; then
         words="$commands --help --version"
     elif [ "$command" = help ]; then
         words=$commands
+    elif [ "$previous" = --spill ] || [ "$previous" = --unix ]; then
+        files=-f
+        compopt -o filenames 2> /dev/null
     elif ! words=$(_syslogbox_values "$command" "$previous"); then
         words=$(_syslogbox_options "$command")
         case "$command $COMP_CWORD" in
             "collect 2") words="$words udp counted lf" ;;
-            merge* | migrate* | union* | common* | minus* | diff*)
+            merge* | migrate* | union* | common* | minus* | diff* | serve* | read* | verify*)
                 files=-f
                 compopt -o filenames 2> /dev/null
                 ;;

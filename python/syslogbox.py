@@ -7,7 +7,7 @@
 >>> syslogbox.check(b"<0>1")
 Traceback (most recent call last):
     ...
-syslogbox.RecordError: a fault of the syntax in the version at octet 4
+syslogbox.RecordError: a syntax error in the version at octet 4
 
 Octets are `bytes`; offsets count them from 0. What is refused raises an exception that tells the kind, the field and
 the octet. The library is found by the variable SYSLOGBOX_LIBRARY, beside this file, or by the system.
@@ -86,9 +86,9 @@ class Framing(enum.IntEnum):
 
 
 MEANINGS = {
-    Kind.SYNTAX: "a fault of the syntax in the {field} at octet {offset}",
+    Kind.SYNTAX: "a syntax error in the {field} at octet {offset}",
     Kind.INSTANT_RANGE: "the instant of the timestamp at octet {offset} is out of range",
-    Kind.REPEATED_ID: "the element's id at octet {offset} stands there a second time",
+    Kind.REPEATED_ID: "the element's id at octet {offset} is repeated",
     Kind.NOT_UTF8: "the message is no UTF-8 at octet {offset}",
     Kind.BAD_FRAME: "the {field} archive has a bad frame at octet {offset}",
     Kind.ENTRY_TOO_LONG: "the {field} archive has an entry that is too long at octet {offset}",

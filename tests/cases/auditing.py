@@ -5,23 +5,21 @@ from lib import tours
 from lib.program import ROOT
 from lib.reference import archive_text
 
-COMMON = [b"<13>1 - h a - - - undated"] + [
-    b"<13>1 2026-11-%02dT%02d:00:00.000000Z h a - - - both" % (day, hour) for day in (24, 25) for hour in (9, 10, 11)]
+BOTH = b"<13>1 2026-11-25T09:00:00.000000Z h a - - - both"
 HERE = b"<13>1 2026-11-25T10:20:00.000000Z h a - - - only here"
 THERE = b"<13>1 2026-11-25T10:40:00.000000Z h a - - - only there"
 
 
 def auditing(program, results):
     folder, path = tours.folder_of(program, "audit")
-    (folder / "here").write_bytes(archive_text(COMMON + [HERE]))
-    (folder / "there").write_bytes(archive_text(COMMON + [THERE]))
     steps = tours.steps((ROOT / "docs/AUDITING.md").read_text())
     for command, shown in steps:
         right = 1 if command.startswith("syslogbox diff") else 0
         status, seen = tours.take(command, folder, path)
         results.check(f"AUDITING.md shows what is printed: {command}", (status, seen) == (right, shown), f"{status} {seen}")
-    whole = archive_text(COMMON + [HERE, THERE])
+    whole = archive_text([BOTH, HERE, THERE])
     results.check("AUDITING.md: both sites have all in the end",
                   len(steps) > 8 and [(folder / name).read_bytes() for name in ("whole", "whole.there")] == [whole] * 2)
     results.check("AUDITING.md names commands of the program",
-                  set(re.findall(r"syslogbox (\w+)", "\n".join(command for command, _ in steps))) == {"digest", "select", "diff", "minus", "common", "union"})
+                  set(re.findall(r"syslogbox (\w+)", "\n".join(command for command, _ in steps)))
+                  == {"archive", "digest", "select", "diff", "minus", "common", "union"})

@@ -17,6 +17,7 @@
      SHIM_RECEIVE_AGAIN=N the same is interrupted (EINTR)
      SHIM_RECEIVE_SHORT=N the same gives at most one octet, if it is of a connection
      SHIM_COUNTS=FILE     how many of each were made, written at the end
+     SHIM_SPEED=N         the clock that no one sets goes N times as fast, and waits for sockets end so much earlier
 
    Others make each call of a socket answer as a wrong source would, where they are set to a number that is not 0:
 
@@ -35,7 +36,9 @@
 #include <stdio.h>
 #include <stdlib.h>
 #include <string.h>
+#include <sys/epoll.h>
 #include <sys/socket.h>
+#include <time.h>
 #include <unistd.h>
 
 static unsigned long allocations, opens, nulls, reads, writes, binds, accepts, receives;
@@ -216,6 +219,27 @@ ssize_t write(int fd, const void *octets, size_t size) {
   if (writes == chosen("SHIM_WRITE")) { errno = EIO; return -1; }
   if (writes == chosen("SHIM_WRITE_SHORT") && size > 1) size = 1;
   return next(fd, octets, size);
+}
+
+int clock_gettime(clockid_t clock, struct timespec *time) {
+  static int (*next)(clockid_t, struct timespec *);
+  static struct timespec first;
+  if (!next) next = (int (*)(clockid_t, struct timespec *))next_of("clock_gettime");
+  int status = next(clock, time);
+  long long speed = (long long)chosen("SHIM_SPEED");
+  if (status != 0 || speed == 0 || clock != CLOCK_MONOTONIC) return status;
+  if (first.tv_sec == 0) first = *time;
+  long long passed = speed * ((time->tv_sec - first.tv_sec) * 1000000000LL + time->tv_nsec - first.tv_nsec);
+  time->tv_sec = first.tv_sec + (first.tv_nsec + passed) / 1000000000;
+  time->tv_nsec = (first.tv_nsec + passed) % 1000000000;
+  return 0;
+}
+
+int epoll_wait(int fd, struct epoll_event *events, int most, int millis) {
+  static int (*next)(int, struct epoll_event *, int, int);
+  if (!next) next = (int (*)(int, struct epoll_event *, int, int))next_of("epoll_wait");
+  int speed = (int)chosen("SHIM_SPEED");
+  return next(fd, events, most, millis > 0 && speed ? (millis + speed - 1) / speed : millis);
 }
 
 __attribute__((destructor)) static void report(void) {

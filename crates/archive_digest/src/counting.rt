@@ -1,4 +1,4 @@
-//! The entries of an archive are counted to its end.
+//! The entries of an archive are counted, up to its end.
 
 ghost use Rattle.std.specs.Prelude.{MatchResult};
 ghost use Rattle.archive_sets.specs.Failures.{ReadFailures, WriteFailures};
@@ -10,7 +10,7 @@ use archive_sets::SelectFault;
 use octet_devices::{Input, Output};
 
 impl Digesting {
-    /// Counts each entry up to the end of the archive.
+    /// Counts each entry up to the end of the archive. It fails at the first fault that is met.
     pub fn count_all<R: Input, W: Output>(
         &mut self,
         period: Period,

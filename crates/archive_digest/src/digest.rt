@@ -86,19 +86,19 @@ impl Digesting {
 }
 
 /// Reads an archive, the text of a set of records, and writes its digest: for each period that has
-/// records, ascending, `PERIOD COUNT OCTETS SHA256` and a line feed, and last the same of all records
-/// as `total`. PERIOD is `undated`, or the first octets of a canonical timestamp (RFC 5424, section
-/// 6.2.3): `2026-11`, `2026-11-25` or `2026-11-25T10`, in UTC. COUNT is a number of records, OCTETS
-/// that of the octets of their archive, SHA256 its hash (FIPS 180-4) in lower-case hexadecimal.
-/// Answers how many records there are.
+/// records, ascending, `PERIOD COUNT OCTETS SHA256` and a line feed, and finally the same for all
+/// records as `total`. PERIOD is `undated`, or the first octets of a canonical timestamp (RFC 5424,
+/// section 6.2.3): `2026-11`, `2026-11-25` or `2026-11-25T10`, in UTC. COUNT is how many records
+/// there are, OCTETS how many octets their archive has, and SHA256 its hash (FIPS 180-4) in
+/// lower-case hexadecimal. The answer is the number of all records.
 ///
-/// Room for two entries and for a piece of `ENTRIES_READ_MAX` octets of the reader is reserved first,
-/// and no further memory is taken. In itself the call has 16,384 octets that are held back.
+/// Room for two entries and for a piece of `ENTRIES_READ_MAX` octets of the reader is reserved
+/// first, and no further memory is taken. The call itself holds back up to 16,384 octets.
 ///
 /// # Errors
 /// The first fault that is met, as `select_stream` of `archive_sets` answers it. The lines of the
-/// periods before that of the last entry that was read are written first; where the writer fails then,
-/// that is the answer. `Memory` only before anything is read or written.
+/// periods before that of the last entry that was read are written first; if the writer fails then,
+/// that is the answer. `Memory` comes only before anything is read or written.
 pub fn digest_stream<R: Input, W: Output>(
     alloc: Global,
     period: Period,

@@ -17,13 +17,16 @@ use archive_streams::{ArchiveEntries, EntriesFault, InputFault};
 use octet_devices::{BufferedOutput, Input, Output, WriteFault};
 use std::alloc::{AllocError, Global};
 
-/// A digest under way: what was read of the archive, what is held back of the lines, what the latest
-/// period is called, and what was counted.
+/// A digest under way.
 #[derive(Drop)]
 pub struct Digesting {
+    /// What was read of the archive.
     pub entries: ArchiveEntries,
+    /// What is held back of the lines.
     pub held: BufferedOutput,
+    /// What the latest period is called.
     pub name: PeriodName,
+    /// What was counted.
     pub tally: Tally,
 }
 
@@ -37,7 +40,7 @@ fn goes_on(tally: &Tally, name: &PeriodName, next: &PeriodName) -> bool
 }
 
 impl Digesting {
-    /// Before the first entry.
+    /// A digest before the first entry. It fails only when out of memory.
     pub fn new(alloc: Global) -> Result<Digesting, AllocError>
         ensures { IfOk result IsFresh }
     {
@@ -49,7 +52,8 @@ impl Digesting {
         })
     }
 
-    /// Reads the next entry and answers true, or finds the end and answers false.
+    /// Reads the next entry and answers true, or finds the end and answers false. It fails if there
+    /// is neither.
     pub fn advance<R: Input>(&mut self, reader: &mut R) -> Result<bool, SelectFault>
         requires { IsOpen self.old.entries }
         ensures kept { KeepsOutput self.old self.new }
@@ -71,8 +75,8 @@ impl Digesting {
         }
     }
 
-    /// Counts the entry that was read last. Where a further period begins with it, the line of the one
-    /// before is put first.
+    /// Counts the entry that was read last. If a new period begins with it, the line of the one
+    /// before is put first; it fails if the writer does.
     pub fn count<W: Output>(&mut self, period: Period, writer: &mut W) -> Result<(), SelectFault>
         ensures entries { self.new.entries ≡ self.old.entries }
         ensures counts { OnOk result (Counts period self.old self.new (W.state writer.old).taken

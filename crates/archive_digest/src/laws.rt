@@ -6,7 +6,7 @@ ghost use Rattle.archive_digest.specs.Digests.{IsDivided, Part};
 
 use crate::period::Period;
 
-/// Entries are divided in one way, so an archive has one digest.
+/// Entries are divided into periods in one way, so an archive has one digest.
 pub fn digests_are_one(period: Period)
     ensures { (xs : List Entry) (ps qs : List Part) → IsDivided period xs ps
         → IsDivided period xs qs → ps ≡ qs }

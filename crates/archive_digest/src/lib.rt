@@ -1,6 +1,6 @@
-//! The digest of an archive of syslog records: for each month, day or hour that has records, how many
-//! they are, how many octets their archive has, and its SHA-256. Two sites compare a few lines, and
-//! send each other only the periods that differ.
+//! The digest of an archive of syslog records: for each month, day or hour that has records, how
+//! many they are, how many octets their archive has, and its SHA-256. Two sites compare a few
+//! lines, and send each other only the periods that differ.
 //!
 //! [`digest_stream`] writes it as the archive is read from a device.
 #![tactic(auto)]

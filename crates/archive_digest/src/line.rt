@@ -35,8 +35,8 @@ fn put_last<W: Output>(
     held.put(writer, b"\n")
 }
 
-/// Puts the line of entries behind what is held: a name, how many they are, how many octets their text
-/// has, and its SHA-256.
+/// Puts the line of entries behind what is held: a name, how many entries there are, how many
+/// octets their text has, and its SHA-256. A fault counts octets from the first one ever put.
 pub fn put_line<W: Output>(
     held: &mut BufferedOutput,
     writer: &mut W,

@@ -44,7 +44,7 @@ fn name_len(period: Period) -> usize
 }
 
 impl PeriodName {
-    /// Before the first period.
+    /// The name before the first period, of no octets.
     pub fn none() -> PeriodName
         ensures { result ≡ [] }
     {
@@ -54,7 +54,7 @@ impl PeriodName {
         }
     }
 
-    /// What the period of an instant is called, or that of none.
+    /// What the period of an instant is called, or that of records without one.
     pub fn of(period: Period, instant: Option<Instant>) -> PeriodName
         ensures { IsPeriodOf period instant result }
     {
@@ -77,7 +77,7 @@ impl PeriodName {
         &self.text[..self.len]
     }
 
-    /// Whether the name is another.
+    /// Whether the other name is the same.
     pub fn is(&self, other: &PeriodName) -> bool
         ensures { IsTrue result ↔ (self.now ≡ other.now) }
     {

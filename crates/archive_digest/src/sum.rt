@@ -13,14 +13,17 @@ ghost use Rattle.archive_digest.specs.Sums.{IsSumOf};
 use itoa::Buffer;
 use sha2::{Digest, Sha256};
 
-/// The octets of a SHA-256 in hexadecimal.
+/// How many octets a SHA-256 has in hexadecimal.
 pub const HEX_LEN: usize = 64;
 
-/// How many entries there are, how many octets their text has, and what was hashed of it.
+/// How many entries there are, how many octets their text has, and what was hashed of that.
 #[derive(Drop)]
 pub struct Sum {
+    /// How many entries there are.
     pub records: u64,
+    /// How many octets their text has.
     pub octets: u64,
+    /// The hash of the text so far.
     pub hasher: Sha256,
 }
 
@@ -40,7 +43,7 @@ fn hash_entry(hasher: &mut Sha256, octets: &[u8]) -> u64
 }
 
 impl Sum {
-    /// Of no entries.
+    /// The sum of no entries.
     pub fn new() -> Sum
         ensures { IsSumOf result [] }
     {
@@ -51,7 +54,7 @@ impl Sum {
         }
     }
 
-    /// One entry more, with these octets.
+    /// Adds an entry with these octets.
     pub fn add(&mut self, octets: &[u8])
         ensures { (es : List Entry) (e : Entry) → e.octets ≡ octets.now
             → length (text_of (es ++ e ∷ [])) < 2 ^ 64 → IsSumOf self.old es

@@ -7,16 +7,18 @@ ghost use Rattle.archive_digest.specs.Sums.{IsSumOf, IsTallyOf};
 
 use crate::sum::Sum;
 
-/// The sum of all entries, and that of the latest: none of its own while they are all, so that those
-/// of the first period are hashed once.
+/// The sum of all entries, and that of the latest ones.
 #[derive(Drop)]
 pub struct Tally {
+    /// The sum of all entries.
     pub total: Sum,
+    /// That of the entries of the latest period; None while that is all of them, so that those of
+    /// the first period are hashed only once.
     pub latest: Option<Sum>,
 }
 
 impl Tally {
-    /// Of no entries.
+    /// The tally of no entries.
     pub fn new() -> Tally
         ensures { IsTallyOf result [] [] }
     {
@@ -26,7 +28,7 @@ impl Tally {
         }
     }
 
-    /// One entry more, with these octets.
+    /// Adds an entry with these octets.
     pub fn add(&mut self, octets: &[u8])
         ensures { (xs latest : List Entry) (e : Entry) → e.octets ≡ octets.now
             → length (text_of (xs ++ e ∷ [])) < 2 ^ 64
@@ -39,7 +41,7 @@ impl Tally {
         }
     }
 
-    /// From now on the latest entries are others.
+    /// Begins a new period: from now on the latest entries are others.
     pub fn begin(&mut self)
         ensures { (xs latest : List Entry) → IsTallyOf self.old xs latest
             → IsTallyOf self.new xs [] }

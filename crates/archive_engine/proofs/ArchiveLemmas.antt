@@ -1,15 +1,12 @@
 -- What comes of an input that is archived.
-use Rattle.std.proofs.Common.{◌≡◌, List, [], ℕ, ◌++◌, refl, sym, ap, subst, ◌∙◌}
+use Rattle.std.proofs.Common.{◌≡◌, List, [], ℕ, ◌++◌, refl, sym, ap, ◌∙◌}
 use Rattle.std.specs.Prelude.{OnOk, Result, Ok, Err}
-use Rattle.syslog_frame.specs.declared.framing.Framing.{Framing}
 use Rattle.syslog_legacy.specs.declared.frame_reading.FrameReading.{FrameReading}
 use Rattle.archive_text.specs.Entries.{Entry}
 use Rattle.archive_text.specs.Text.{text_of}
 use Rattle.archive_text.proofs.Ascending.{same_members}
 use Rattle.driver.specs.Effects.{Done, IsPrefixOf, nothing}
 use Rattle.driver.specs.Sessions.{HasOneOutput}
-use Rattle.frame_engine.specs.Converted.{noted_line}
-use Rattle.frame_engine.specs.Sessions.{input_meaning}
 use Rattle.frame_engine.specs.declared.input_framing.InputFraming.{InputFraming}
 use Rattle.frame_engine.specs.declared.input_framing.InputFraming.TheVariants.{Datagram, Stream}
 use Rattle.frame_engine.proofs.SessionLemmas.{nothing_goes_on, nothing_part}
@@ -17,7 +14,7 @@ use Rattle.archive_engine.specs.Archived.{ArchiveDone, IsArchiveOf, archive_hand
 use Rattle.archive_engine.proofs.StreamLemmas.{lines_only}
 
 -- an input has one archive
-one_archive : (way : FrameReading) (framing : InputFraming) (stream : List ℕ) (es fs : List Entry)
+pub one_archive : (way : FrameReading) (framing : InputFraming) (stream : List ℕ) (es fs : List Entry)
     → IsArchiveOf way framing stream es → IsArchiveOf way framing stream fs → es ≡ fs
 one_archive way framing stream es fs a b =
     same_members es fs a.archive.ascending b.archive.ascending (λ x has. (b.members x).1 ((a.members x).0 has))
@@ -36,12 +33,12 @@ no_output : (text : List ℕ) (d : Done) → d.output ≡ [] → IsPrefixOf d.ou
 no_output text d none = (text, ap (λ (x : List ℕ). x ++ text) (sym none))
 
 -- of the frames of an input lines alone come
-so_far_only : (way : FrameReading) (framing : InputFraming) (given : List ℕ) (d : Done)
+pub so_far_only : (way : FrameReading) (framing : InputFraming) (given : List ℕ) (d : Done)
     → (archive_meaning way framing).so_far given d → d.output ≡ []
 so_far_only way Datagram given d h = ap output_of h
 so_far_only way (Stream kind) given d h = lines_only way 1 h.frames d h.handled
 
-part_only : (way : FrameReading) (framing : InputFraming) (given : List ℕ) (d : Done)
+pub part_only : (way : FrameReading) (framing : InputFraming) (given : List ℕ) (d : Done)
     → (archive_meaning way framing).part given d → d.output ≡ []
 part_only way Datagram given d h = ap output_of h
 part_only way (Stream kind) given d h = lines_only way 1 h.frames d h.handled

@@ -1,8 +1,11 @@
 pub mod ArchiveLemmas
 pub mod FaultLemmas
+pub mod GatheringLemmas
 pub mod MergeLemmas
 pub mod MigrateLemmas
 pub mod OutcomeLemmas
 pub mod ReceiveLemmas
+pub mod SpilledEnds
+pub mod SpilledLines
 pub mod StreamLemmas
 pub mod WrittenLemmas

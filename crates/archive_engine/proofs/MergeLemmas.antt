@@ -1,7 +1,7 @@
 -- What comes of two archives that were joined.
-use Rattle.std.proofs.Common.{◌≡◌, ℕ, ◌+◌, ◌<◌, ◌^◌, ◌⊎◌, List, [], ◌++◌, Option, None, Some, IfSome, codes, length}
+use Rattle.std.proofs.Common.{◌≡◌, ℕ, ◌<◌, ◌⊎◌, List, [], ◌++◌, Option, None, Some, IfSome, codes, length}
 use Rattle.std.proofs.Common.{refl, sym, subst, inl, inr, arith}
-use Rattle.std.specs.Prelude.{IsErrOf, Ok, Err}
+use Rattle.std.specs.Prelude.{Ok, Err}
 use Rattle.std.specs.Io.KnownBytes.{Appends, Consumes, IsAtEnd}
 use Rattle.std.proofs.KnownBytes.{Appends-nil, Consumes-whole}
 use Rattle.std.proofs.lemmas.List.{append-nil}
@@ -18,10 +18,9 @@ use Rattle.archive_streams.specs.Steps.{TellsFailures}
 use Rattle.archive_streams.specs.Stopped.{Stopped}
 use Rattle.archive_streams.specs.declared.fault.MergeFault.{MergeFault}
 use Rattle.archive_streams.specs.declared.fault.MergeFault.TheVariants.{Left, Right, Read, Endless, Write, Memory}
-use Rattle.archive_streams.specs.declared.fault.Side.TheVariants.{Left as side_Left, Right as side_Right}
 use Rattle.archive_streams.proofs.Joining.{SideAt, prefix_of_union}
 use Rattle.frame_engine.specs.Converted.{goes_out}
-use Rattle.driver.specs.Devices.{OutputFailed, Reports}
+use Rattle.driver.specs.Devices.{Reports}
 use Rattle.driver.specs.Effects.{Done, status_of}
 use Rattle.driver.specs.declared.status.TheConstants.{DONE, FAULT, NO_MEMORY}
 use Rattle.archive_engine.specs.Answered.{AnswersWith}

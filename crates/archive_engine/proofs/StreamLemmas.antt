@@ -1,5 +1,5 @@
 -- An input that is archived: how its session goes on, and how it ends.
-use Rattle.std.proofs.Common.{◌≡◌, ℕ, ◌+◌, ◌*◌, ◌<◌, ◌≤◌, inl, inr, List, [], ◌∷◌, ◌++◌, Bool, true, false, Option}
+use Rattle.std.proofs.Common.{◌≡◌, ℕ, ◌+◌, ◌<◌, ◌≤◌, inl, inr, List, [], ◌∷◌, ◌++◌, Bool, true, false, Option}
 use Rattle.std.proofs.Common.{length, take, refl, sym, ap, ap₂, subst, ◌∙◌, arith, append_assoc}
 use Rattle.std.specs.Prelude.{◌↔◌, ◌^◌, ◌||◌}
 use Rattle.std.specs.List.{AllByRecursion, flat_map}
@@ -25,9 +25,8 @@ use Rattle.driver.specs.Effects.{Done, nothing, then_done}
 use Rattle.driver.specs.Sessions.{most_octets, with_rest}
 use Rattle.frame_engine.specs.Converted.{noted_line}
 use Rattle.frame_engine.specs.Handling.{HandledFrom}
-use Rattle.frame_engine.specs.Sessions.{GoesOn, input_meaning}
+use Rattle.frame_engine.specs.Sessions.{GoesOn}
 use Rattle.frame_engine.specs.Streams.{HasPart, ReportsEnd, StreamDone}
-use Rattle.frame_engine.specs.declared.input_framing.InputFraming.{InputFraming}
 use Rattle.frame_engine.specs.declared.input_framing.InputFraming.TheVariants as input
 use Rattle.frame_engine.specs.declared.line.Line.TheVariants as line
 use Rattle.frame_engine.proofs.HandlingLemmas.{or_false, same_done, then_assoc, then_nothing}

@@ -1,7 +1,10 @@
 pub mod Answered
 pub mod Archived
 pub mod FaultLines
+pub mod Gathering
+pub mod GatheringLaws
 pub mod Merged
 pub mod Migrated
 pub mod Outcomes
 pub mod Receiving
+pub mod Spilled

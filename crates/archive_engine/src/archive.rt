@@ -15,11 +15,11 @@ use std::alloc::Global;
 use syslog_legacy::FrameReading;
 
 /// Writes the records of the rest of the input as an archive: each once, in its canonical form, in
-/// the one order of archives. A line on each frame that is refused, and on an end or a count that
-/// is, goes to the diagnostics. Returns the exit status: `DONE` where nothing was refused, else
-/// `REFUSED`; `FAULT` where a device failed or the input has no end; `NO_MEMORY` where memory ran
-/// out. Of the last two no archive is written, unless the output failed behind a part of it. Behind
-/// a bad count no more is read.
+/// the one order of archives. A line on each frame that is refused, on a bad count and on an end
+/// inside a frame goes to the diagnostics. Returns the exit status: `DONE` if nothing was refused,
+/// else `REFUSED`; `FAULT` if a device failed or the input has no end; `NO_MEMORY` if memory ran
+/// out. After the last two no archive is written, unless the output failed behind a part of it.
+/// After a bad count nothing more is read.
 pub fn archive_input<R: Input, W: Output, N: Output>(
     alloc: Global,
     input_framing: InputFraming,

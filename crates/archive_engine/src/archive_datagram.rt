@@ -14,8 +14,8 @@ use syslog_frame::FRAME_MAX;
 // one octet more than a frame has tells a datagram that is too long
 const KEPT_MAX: usize = FRAME_MAX + 1;
 
-/// A datagram whose record is collected. A line on a refusal goes to the diagnostics; the archive is
-/// the rest of its output. Of one that is too long no more than its first octets are kept.
+/// A datagram whose record is collected. A line on a refusal goes to the diagnostics; the archive
+/// is the rest of its output. Of one that is too long only the first octets are kept.
 #[derive(Drop)]
 pub struct ArchiveDatagram<S> {
     alloc: Global,

@@ -11,8 +11,8 @@ use octet_devices::{Output, WriteFault};
 use std::alloc::{AllocError, Global};
 use syslog_frame::Framing;
 
-/// A stream whose records are collected. A line on each refusal goes to the diagnostics; the archive
-/// is the rest of its output. It ends at a bad MSG-LEN, or where its input does.
+/// A stream whose records are collected. A line on each refusal goes to the diagnostics; the
+/// archive is the rest of its output. It ends at a bad MSG-LEN, or where its input ends.
 #[derive(Drop)]
 pub struct ArchiveStream<S> {
     alloc: Global,

@@ -47,8 +47,8 @@ fn line_on(alloc: Global, words: &[u8], fault: ArchiveFault) -> Result<Vec<u8>, 
     Ok(line)
 }
 
-/// Reports why a text is no archive, behind words that say which, and returns this exit status; or
-/// `FAULT` where the line cannot be written, and `NO_MEMORY` where memory runs out for it.
+/// Reports why a text is no archive, behind words that say which text, and returns this exit
+/// status; or `FAULT` if the line cannot be written, and `NO_MEMORY` if memory runs out for it.
 pub fn report_archive_fault<N: Output>(
     alloc: Global,
     words: &[u8],

@@ -1,18 +1,23 @@
 //! What the commands on archives do, over any devices: [`archive_input`] writes the records of an
-//! input as an archive, [`merge_archives`] joins two archives, [`migrate_archive`] brings an old one
-//! into the present form.
+//! input as an archive, [`merge_archives`] joins two archives, and [`migrate_archive`] brings one
+//! of the old form into the new one.
 #![tactic(auto)]
 
 mod archive;
 mod archive_datagram;
+mod archive_spilled;
 mod archive_stream;
 mod faults;
+mod gathered_stream;
+mod gathering;
 mod lines;
 mod merge;
 mod migrate;
 mod reception;
+mod spill_stop;
 
 pub use archive::archive_input;
+pub use archive_spilled::{SPILLED_READ_MAX, archive_spilled_input};
 pub use faults::report_archive_fault;
 pub use merge::merge_archives;
 pub use migrate::migrate_archive;

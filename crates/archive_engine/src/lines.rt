@@ -29,10 +29,10 @@ fn add_outcome(outcome: Outcome, number: u64, effects: &mut Effects) -> Result<b
 }
 
 /// Adds the lines on the refusals among outcomes, up to a bad count. `number` is that of the first
-/// outcome, and afterwards that of the next. Returns whether a bad count is among them.
+/// outcome, and afterwards that of the next one. Returns whether a bad count is among them.
 ///
 /// # Errors
-/// Out of memory: the lines on the outcomes before one of them were added.
+/// Out of memory: the lines on the outcomes before some one of them were added.
 pub fn add_outcomes(
     outcomes: &[Outcome],
     number: &mut u64,

@@ -41,9 +41,9 @@ fn report_merge_fault<N: Output>(alloc: Global, fault: MergeFault, diagnostics: 
     }
 }
 
-/// Joins two archives and writes the text of the union. Returns the exit status: `DONE` where both
-/// are archives, else `REFUSED`; `FAULT` where a device failed or an input has no end; `NO_MEMORY`
-/// where memory ran out. A line says what was refused or failed, and on which side.
+/// Joins two archives and writes the text of the union. Returns the exit status: `DONE` if both are
+/// archives, else `REFUSED`; `FAULT` if a device failed or an input has no end; `NO_MEMORY` if
+/// memory ran out. A line says what was refused or failed, and on which side.
 pub fn merge_archives<R1: Input, R2: Input, W: Output, N: Output>(
     alloc: Global,
     left: &mut R1,

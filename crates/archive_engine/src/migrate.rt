@@ -1,4 +1,4 @@
-//! `migrate`: an old archive is brought into the present form.
+//! `migrate`: an archive of the old form is brought into the new one.
 
 ghost use Rattle.driver.specs.Devices.{devices};
 ghost use Rattle.archive_engine.specs.Migrated.{RanMigrate};
@@ -9,9 +9,9 @@ use driver::{DONE, FAULT, NO_MEMORY, REFUSED, report};
 use octet_devices::{Input, Output, ReadAllFault, read_all, write_all};
 use std::alloc::Global;
 
-/// Reads an old archive and writes the archive of its records, with their elements by id. Returns
-/// the exit status: `DONE`; `REFUSED` where the text is no old archive, and nothing is written;
-/// `FAULT` where a device failed or the input has no end; `NO_MEMORY` where memory ran out.
+/// Reads an archive of the old form and writes the archive of its records, with their elements by
+/// id. Returns the exit status: `DONE`; `REFUSED` if the text is no such archive, and then nothing
+/// is written; `FAULT` if a device failed or the input has no end; `NO_MEMORY` if memory ran out.
 pub fn migrate_archive<R: Input, W: Output, N: Output>(
     alloc: Global,
     old: &mut R,

@@ -23,12 +23,15 @@ const CONN: u32 = 0;
 /// A collector that receives one input, and the outcomes of what it received last.
 #[derive(Drop)]
 pub struct Reception<S> {
+    /// The collector.
     pub collector: Collector<S>,
+    /// The outcomes of what it received last.
     pub outcomes: Vec<Outcome>,
 }
 
 impl<S: Store + Drop> Reception<S> {
-    /// Nothing was received. Frames are to be read so.
+    /// A collector over a store, which has received nothing and reads frames as this says. It fails
+    /// only when out of memory.
     pub fn new(alloc: Global, store: S, reading: FrameReading) -> Result<Reception<S>, AllocError>
         ensures fresh { S.entries store ≡ [] → IfOk result (λ r. HeardNothing r.collector.reading
             r.collector.connections (S.entries r.collector.store)) }
@@ -72,7 +75,7 @@ impl<S: Store + Drop> Reception<S> {
         }
     }
 
-    /// Receives a datagram.
+    /// Receives a datagram. It fails only when out of memory.
     pub fn datagram(&mut self, alloc: Global, octets: &[u8]) -> Result<(), AllocError>
         ensures receives { HeardNothing self.old.collector.reading
             self.old.collector.connections
@@ -85,7 +88,7 @@ impl<S: Store + Drop> Reception<S> {
         self.run_event(alloc, Event::Datagram { octets })
     }
 
-    /// Begins to receive a stream.
+    /// Begins to receive a stream. It fails only when out of memory.
     pub fn open(&mut self, alloc: Global, framing: Framing) -> Result<(), AllocError>
         ensures receives { HeardNothing self.old.collector.reading
             self.old.collector.connections (S.entries self.old.collector.store) →
@@ -102,7 +105,7 @@ impl<S: Store + Drop> Reception<S> {
         )
     }
 
-    /// Receives octets of a stream.
+    /// Receives octets of the stream. It fails only when out of memory.
     pub fn piece(&mut self, alloc: Global, octets: &[u8]) -> Result<(), AllocError>
         requires { 0 < length octets.now }
         ensures receives { OnOk result ((kind : Framing) (given : List ℕ)
@@ -121,8 +124,8 @@ impl<S: Store + Drop> Reception<S> {
         self.run_event(alloc, Event::Piece { conn: CONN, octets })
     }
 
-    /// Ends a stream that was received to its end. Returns where its unfinished frame begins, if it
-    /// has one.
+    /// Ends the stream, of which all octets were received. Returns the position at which its
+    /// unfinished frame begins, if it has one.
     pub fn end(&mut self) -> Option<u64>
         ensures stops { (kind : Framing) (given : List ℕ)
             → Receives self.old.collector.reading self.old.collector.connections

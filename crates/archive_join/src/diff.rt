@@ -8,7 +8,7 @@ use crate::shown::put_shown;
 use archive_text::EntryView;
 use octet_devices::{BufferedOutput, Output, WriteFault};
 
-/// A line for each record that one of two archives has alone: `< ` where it is the first, else `> `,
+/// A line for each record that only one of two archives has: `< ` if that is the first, else `> `,
 /// and the record's canonical octets as they are shown.
 #[derive(Clone, Copy, Debug, PartialEq, Eq)]
 pub struct Diff;

@@ -9,12 +9,13 @@ use octet_devices::Input;
 use std::alloc::{AllocError, Global};
 use std::cmp::Ordering;
 
-/// An archive that is joined. Until it is closed, the entry that was read last is the next one to be
-/// joined, or the one that was joined last.
+/// An archive that is being joined. Until it is closed, the entry that was read last is the next
+/// one to be joined, or the one that was joined last.
 #[derive(Drop)]
 pub struct Head {
+    /// The archive, read entry by entry.
     pub entries: ArchiveEntries,
-    /// Whether the end was found, or a fault.
+    /// Whether its end or a fault was found.
     pub closed: bool,
     pub ghost open: { closed ≡ false → IsOpen entries },
 }
@@ -25,7 +26,7 @@ impl Head {
     ghost use Rattle.archive_streams.specs.Faults.{SideFailures};
     ghost use Rattle.archive_join.specs.Heads.{Fails, IsNew, Moves, height, is_next, key_of};
 
-    /// Before the first entry.
+    /// An archive before its first entry. It fails only when out of memory.
     pub fn new(alloc: Global) -> Result<Head, AllocError>
         ensures { IfOk result IsNew }
     {
@@ -35,7 +36,8 @@ impl Head {
         })
     }
 
-    /// Reads the next entry, or finds the end. Where it is closed, nothing happens.
+    /// Reads the next entry, or finds the end. If it is closed, nothing happens. It fails if there
+    /// is neither, and then it is closed.
     pub fn advance<R: Input>(&mut self, reader: &mut R) -> Result<(), EntriesFault>
         ensures moves { OnOk result (Moves self.old self.new (R.state reader.old)
             (R.state reader.new)) }
@@ -61,8 +63,8 @@ impl Head {
         }
     }
 
-    /// The number by which its next entry is compared: that of its instant, the least for none. A
-    /// closed head has the greatest.
+    /// The number by which its next entry is compared: that of its instant, or the least one if it
+    /// has none. A closed head has the greatest one.
     pub fn key(&self) -> i64
         ensures { result ≡ key_of self.now }
     {

@@ -7,11 +7,12 @@ use crate::head::Head;
 use archive_text::compare;
 use std::cmp::Ordering;
 
-/// The least of the next entries: the number of the first head that has it, and whether others have
-/// it too.
+/// The least of the next entries.
 #[derive(Clone, Copy, Debug, PartialEq, Eq)]
 pub struct Least {
+    /// The number of the first head that has it.
     pub at: usize,
+    /// Whether other heads have it too.
     pub shared: bool,
 }
 
@@ -56,7 +57,7 @@ fn with_head(heads: &[Head], keys: &[i64], at: usize, least: Option<Least>) -> O
     with_compared(heads, at, least)
 }
 
-/// The least of the next entries, whose keys are these; None where all heads are closed.
+/// The least of the next entries, which have these keys; None if all heads are closed.
 pub fn least_head(heads: &[Head], keys: &[i64]) -> Option<Least>
     requires { keys.now ≡ map key_of heads.now }
     ensures { MatchOption result (AreClosed heads.now) (IsFound heads.now heads.now) }

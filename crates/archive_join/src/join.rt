@@ -78,7 +78,7 @@ impl Join {
         Ok(())
     }
 
-    /// Joins the archives, and writes what is held back before a fault is answered.
+    /// Joins the archives; what is held back is written before a fault is answered.
     fn run<K: Kept, R: Input, W: Output>(
         &mut self,
         kept: &K,
@@ -115,18 +115,20 @@ impl Join {
 }
 
 /// Reads archives, each the text of a set of records, in one pass, and writes what is kept of their
-/// entries, by who has them, in the order of an archive. Answers how many entries are kept.
+/// entries, depending on who has them, in the order of an archive. It gives the number of entries
+/// that are kept.
 ///
-/// Room for two entries of each archive and for a piece of `ENTRIES_READ_MAX` octets of its reader is
-/// reserved first, and no further memory is taken. In itself the call has 16,384 octets that are held
-/// back, so that they leave by large pieces.
+/// Room for two entries of each archive and for a piece of `ENTRIES_READ_MAX` octets of its reader
+/// is reserved first, and no further memory is taken. The call itself holds back up to 16,384
+/// octets, so that they leave in large pieces.
 ///
-/// The next entries are read in the order of the inputs: first of all, and then of each input that
-/// had the least one, once that was joined. Each input is read to its end.
+/// The next entries are read in the order of the inputs: first one of each, and then one of each
+/// input that had the least entry, once that was joined. Each input is read to its end.
 ///
 /// # Errors
-/// The first fault that is met in this order. What is kept of the entries before it is written first;
-/// where the writer fails then, that is the answer. `Memory` only before anything is read or written.
+/// The first fault that is met in this order. What is kept of the entries before it is written
+/// first; if the writer fails then, that is the answer. `Memory` comes only before anything is read
+/// or written.
 pub fn join_streams<K: Kept, R: Input, W: Output>(
     alloc: Global,
     kept: &K,

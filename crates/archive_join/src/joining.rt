@@ -11,15 +11,18 @@ use archive_streams::{EntriesFault, InputFault};
 use octet_devices::{BufferedOutput, Input, Output, WriteFault};
 use std::alloc::{AllocError, Global};
 
-/// Archives on their way into one: the head of each, and its key; whether it has the entry that was
-/// joined last, so that its next one is due; what is held back of what was kept, and how many entries
-/// those are.
+/// Archives on their way into one.
 #[derive(Drop)]
 pub struct Join {
+    /// The head of each.
     pub heads: Vec<Head>,
+    /// The key of each head.
     pub keys: Vec<i64>,
+    /// Whether each has the entry that was joined last, so that its next one is due.
     pub holders: Vec<bool>,
+    /// What is held back of what was kept.
     pub held: BufferedOutput,
+    /// How many entries were kept.
     pub count: u64,
     pub ghost sizes: { vec_len holders ≡ vec_len heads },
     pub ghost are_keys: { keys.items ≡ map key_of heads.items },
@@ -44,7 +47,8 @@ impl Join {
     ghost use Rattle.archive_join.specs.Joining.{AreHolders, IsFresh, KeepsOutput, TakeHalts, Takes};
     ghost use Rattle.archive_join.specs.Sides.{AdvanceHalts, Advances, AreIdle, Nears, NearsAt};
 
-    /// So many archives, before their first entries. Room for all is reserved.
+    /// As many archives as `size` says, before their first entries. Room for all of them is
+    /// reserved; it fails only when out of memory.
     pub fn new(alloc: Global, size: usize) -> Result<Join, AllocError>
         ensures fresh { IfOk result IsFresh }
         ensures size { IfOk result (λ j. vec_len j.heads ≡ size) }
@@ -67,7 +71,7 @@ impl Join {
         })
     }
 
-    /// The least of the next entries; None at the end of all.
+    /// The least of the next entries; None when all archives are at their ends.
     pub fn least(&self) -> Option<Least>
         ensures { MatchOption result (AreClosed self.now.heads.items)
             (IsFound self.now.heads.items self.now.heads.items) }
@@ -89,7 +93,7 @@ impl Join {
         }
     }
 
-    /// Notes which archives have the least entry, as no next entry is due.
+    /// Notes which archives have the least entry. No next entry may be due.
     pub fn note(&mut self, least: Least)
         requires idle { AreIdle self.old.holders.items }
         requires found { IsFound self.old.heads.items self.old.heads.items least }
@@ -103,7 +107,8 @@ impl Join {
         self.holders[least.at] = true;
     }
 
-    /// Puts the entry of the head of this number behind what was kept, where it is kept.
+    /// Puts the entry of the head with this number behind what was kept, if it is to be kept. It
+    /// fails if the writer does.
     pub fn take<K: Kept, W: Output>(
         &mut self,
         kept: &K,
@@ -170,7 +175,8 @@ impl Join {
         }
     }
 
-    /// Reads the next entry of each archive where it is due, in their order.
+    /// Reads the next entry of each archive for which it is due, in their order. It fails at the
+    /// first fault that is met.
     pub fn advance<R: Input>(&mut self, inputs: &mut [R]) -> Result<(), JoinFault>
         requires { length inputs.old ≡ vec_len self.old.heads }
         ensures size { vec_len self.new.heads ≡ vec_len self.old.heads }
@@ -195,7 +201,8 @@ impl Join {
         Ok(())
     }
 
-    /// Reads the next entry of each archive that has the least entry, in their order.
+    /// Reads the next entry of each archive that has the least entry, in their order. It fails at
+    /// the first fault that is met.
     pub fn advance_holders<R: Input>(
         &mut self,
         least: Least,

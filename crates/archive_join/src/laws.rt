@@ -17,7 +17,7 @@ use crate::minus::Minus;
 use crate::union::Union;
 use archive_sets::Condition;
 
-/// What is kept of archives is one list of entries, and an archive.
+/// What is kept of archives is a single list of entries, and an archive.
 pub fn kept_entries_are_archives<K: Kept>(kept: &K)
     ensures one { (xss : List (List Entry)) (ys zs : List Entry) → AreKept (K.keeps kept.now) xss ys
         → AreKept (K.keeps kept.now) xss zs → ys ≡ zs }
@@ -42,7 +42,7 @@ pub fn union_of_two_is_what_merging_gives(kept: &Union)
         → kept_text (⟦<Union as Kept>⟧.text kept.now) xss zs ≡ text_of zs }
 {}
 
-/// A union is that of all sets, whatever the order and the grouping.
+/// A union is that of all the sets, whatever their order and grouping.
 pub fn union_is_that_of_all_sets(kept: &Union)
     ensures same { (xss yss : List (List Entry)) (zs ws : List Entry)
         → ((e : Entry) → IsHeld xss e ↔ IsHeld yss e)
@@ -58,8 +58,8 @@ pub fn union_is_that_of_all_sets(kept: &Union)
         → AreKept (⟦<Union as Kept>⟧.keeps kept.now) (xss ++ yss) ws → zs ≡ ws }
 {}
 
-/// Archives of half-open ranges of instants that have none in common, in ascending order and with
-/// the records without a time in the first, may be concatenated: that is the archive of their union.
+/// Archives of half-open ranges of instants that do not overlap, in ascending order and with the
+/// records without a time in the first, may be concatenated: that is the archive of their union.
 pub fn archives_of_ranges_are_concatenated(kept: &Union)
     ensures { (most : ℕ) (ranges : List InRange) (xss : List (List Entry)) → AreInTurn ranges
         → AreOfRanges most ranges xss
@@ -68,8 +68,8 @@ pub fn archives_of_ranges_are_concatenated(kept: &Union)
         × (text_of zs ≡ flat_map text_of xss) }
 {}
 
-/// What an archive has in common with another, and what it has that the other has not, are disjoint,
-/// and their union is the archive.
+/// What an archive has in common with another, and what only it has, are disjoint, and their union
+/// is the archive.
 pub fn common_and_minus_part_an_archive(common: &Common, minus: &Minus)
     ensures disjoint { (xs ys cs ms : List Entry) (e : Entry)
         → AreKept (⟦<Common as Kept>⟧.keeps common.now) (xs ∷ ys ∷ []) cs
@@ -80,8 +80,8 @@ pub fn common_and_minus_part_an_archive(common: &Common, minus: &Minus)
         → AreKept (⟦<Minus as Kept>⟧.keeps minus.now) (xs ∷ ys ∷ []) ms → IsUnion cs ms xs }
 {}
 
-/// Two archives are equal exactly where neither has what the other has not, and exactly where they do
-/// not differ.
+/// Two archives are equal exactly if neither has what the other lacks, and exactly if they do not
+/// differ.
 pub fn equal_archives_do_not_differ(minus: &Minus, diff: &Diff)
     ensures minus { (xs ys : List Entry) → IsAscending xs → IsAscending ys
         → (AreKept (⟦<Minus as Kept>⟧.keeps minus.now) (xs ∷ ys ∷ []) []
@@ -90,8 +90,8 @@ pub fn equal_archives_do_not_differ(minus: &Minus, diff: &Diff)
         → AreKept (⟦<Diff as Kept>⟧.keeps diff.now) (xs ∷ ys ∷ []) [] ↔ (xs ≡ ys) }
 {}
 
-/// What is selected of what two archives have in common, or of what one has alone, is that of what is
-/// selected of each.
+/// What is selected of what two archives have in common, or of what only one has, is what those
+/// selected of each have in common, or what only one of these has.
 pub fn selecting_distributes_over_common_and_minus<C: Condition>(
     condition: &C,
     common: &Common,

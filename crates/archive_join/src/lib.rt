@@ -1,8 +1,8 @@
-//! Many archives, each the text of a set of syslog records and larger than memory, joined in one pass
-//! as they are read from devices.
+//! Many archives, each the text of a set of syslog records and possibly larger than memory, joined
+//! in one pass as they are read from devices.
 //!
-//! [`join_streams`] writes what is [`Kept`] of each entry, by who has it: [`Union`], [`Common`] and
-//! [`Minus`] write an archive, [`Diff`] lines.
+//! [`join_streams`] writes what is [`Kept`] of each entry, depending on who has it: [`Union`],
+//! [`Common`] and [`Minus`] write an archive, [`Diff`] lines.
 #![tactic(auto)]
 
 mod common;

@@ -1,4 +1,4 @@
-//! What an archive has and others have not.
+//! What one archive has and others lack.
 
 ghost use Rattle.std.specs.Prelude.{◌≡◌, ◌↔◌, Bool, IsTrue, false};
 ghost use Rattle.std.specs.List.{AllByRecursion};
@@ -9,7 +9,7 @@ use crate::kept::Kept;
 use archive_text::{EntryView, put_entry};
 use octet_devices::{BufferedOutput, Output, WriteFault};
 
-/// The archive of the records that the first of the archives has, and no other.
+/// The archive of the records that the first of the archives has and no other one.
 #[derive(Clone, Copy, Debug, PartialEq, Eq)]
 pub struct Minus;
 

@@ -40,8 +40,8 @@ fn put_escape<W: Output>(
 }
 
 /// Puts octets behind what is held as they are shown: the printable octets of ASCII as themselves,
-/// but for the quotation mark and the backslash, every other octet as `\x` and two hexadecimal
-/// digits. A fault counts from the first octet ever put.
+/// except for the quotation mark and the backslash; every other octet as `\x` and two hexadecimal
+/// digits. A fault counts octets from the first one ever put.
 pub fn put_shown<W: Output>(
     held: &mut BufferedOutput,
     writer: &mut W,

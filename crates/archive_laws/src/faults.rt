@@ -14,14 +14,14 @@ pub fn archives_have_no_fault()
         → ArchiveText most rs t → ¬ (IsArchiveFault most t fault) }
 {}
 
-/// A fault under one limit, but an entry that is too long, is one under each larger limit.
+/// A fault under one limit, except that of an entry too long, is one under each larger limit.
 pub fn larger_limits_keep_faults()
     ensures { (most more : ℕ) (t : List ℕ) (fault : ArchiveFault) → most ≤ more → more ≤ COUNT_MAX
         → ((at : ℕ) → ¬ (fault ≡ EntryTooLong at)) → IsArchiveFault most t fault
         → IsArchiveFault more t fault }
 {}
 
-/// A text has one fault at most.
+/// A text has at most one fault.
 pub fn texts_have_one_fault()
     ensures { (most : ℕ) (t : List ℕ) (f g : ArchiveFault) → most ≤ COUNT_MAX
         → IsArchiveFault most t f → IsArchiveFault most t g → f ≡ g }

@@ -1,4 +1,4 @@
-//! Laws of archives. Each function does nothing, and its contract is the law; but
+//! Laws of archives. Each function does nothing, and its contract is the law; only
 //! [`archive_or_fault`] reads a text, to find which of the two holds of it.
 #![tactic(auto)]
 

@@ -12,7 +12,7 @@ ghost use Rattle.archive_laws.specs.Judging.{IsLast, IsRead};
 use archive_text::{ArchiveFault, ENTRY_MAX, EntryView, compare, read_entry};
 use std::cmp::Ordering;
 
-/// Whether an entry goes on behind ascending entries, of which this is the last.
+/// Whether an entry comes behind ascending entries, of which this is the last.
 fn goes_on(last: &Option<EntryView<'_>>, entry: &EntryView<'_>) -> bool
     ensures above { IsTrue result → (es : List Entry) → IsLast es last.now → IsAscending es
         → IsAscending (es ++ entry_of entry.now ∷ []) }
@@ -29,7 +29,7 @@ fn goes_on(last: &Option<EntryView<'_>>, entry: &EntryView<'_>) -> bool
     }
 }
 
-/// Reads one entry more behind those that were read, and gives it and what is left.
+/// Reads one more entry behind those that were read, and gives it and what is left.
 fn read_on<'a>(
     text: &'a [u8],
     rest: &'a [u8],
@@ -52,7 +52,7 @@ fn read_on<'a>(
     Ok((entry, behind))
 }
 
-/// A text is that of a set, or has a fault, which is given.
+/// The fault of a text, or None: then it is the text of a set.
 pub fn archive_or_fault(text: &[u8]) -> Option<ArchiveFault>
     ensures { MatchOption result ((rs : List (Parts ℤ)) × ArchiveText ENTRY_MAX rs text.now)
         (IsArchiveFault ENTRY_MAX text.now) }

@@ -21,7 +21,7 @@ pub fn records_have_one_new_form()
     ensures valid { (r q : Parts ℤ) → IsUnsortedRecord r → IsNewForm r q → IsRecord q }
 {}
 
-/// The canonical octets of a new form are as many as the old ones.
+/// The canonical octets of a new form are as many as those of the old one.
 pub fn migrated_octets_are_as_many()
     ensures { (r q : Parts ℤ) (b c : List ℕ) → Canonical r b → IsNewForm r q → Canonical q c
         → length c ≡ length b }
@@ -41,7 +41,7 @@ pub fn sets_by_id_are_migrated_already()
         → OldText most rs t → ArchiveText most qs t → AreSame rs qs × IsMigration rs qs }
 {}
 
-/// An old text that is migrated gives the entries of the migrated set, and no fault.
+/// An old text that is migrated gives the entries of the migrated set, without a fault.
 pub fn old_texts_give_the_migrated_set()
     ensures set { (rs qs : List (Parts ℤ)) (t : List ℕ) (es : List Entry) → OldText ENTRY_MAX rs t
         → IsMigration rs qs → Migrates t [] es → AreEntriesOf qs es }

@@ -1,5 +1,5 @@
-//! Archives from the time when the elements of a record stood in the order of the octets, brought
-//! into the form in which they stand by id.
+//! Archives of the old form, in which the elements of a record stand in the order of its octets,
+//! brought into the form in which they stand by id.
 //!
 //! [`migrate_into`] reads such an old archive and adds its records to a store, whose text is then
 //! the new archive.

@@ -26,8 +26,8 @@ fn is_above(last: &Option<EntryView<'_>>, entry: &EntryView<'_>) -> bool
     }
 }
 
-/// Reads the old entry that the rest of a text begins with, above the last one before it, and gives
-/// what follows it. The rest is `offset` octets from the start of the text.
+/// Reads the old entry that the rest of a text begins with, which must be above the last one, and
+/// gives what follows it. The rest begins `offset` octets behind the start of the text.
 fn next_old<'a>(
     rest: &'a [u8],
     offset: u64,
@@ -50,8 +50,8 @@ fn next_old<'a>(
     Ok((old, behind))
 }
 
-/// Adds the record of an old entry. Its new canonical octets are as many as the old ones, so they
-/// are never too long.
+/// Adds the record of an old entry. Its new canonical octets are as many as the old ones, so there
+/// are never too many of them.
 fn add_old<S: Store>(alloc: Global, store: &mut S, old: &OldEntry<'_>) -> Result<(), AllocError>
     requires entry { IsOldEntry (old_entry_of old.now) }
     requires fits { length old.now.entry.octets.now ≤ ENTRY_MAX }
@@ -66,14 +66,14 @@ fn add_old<S: Store>(alloc: Global, store: &mut S, old: &OldEntry<'_>) -> Result
     }
 }
 
-/// Reads an old archive and adds each of its records to a store, with the elements by id: in a store
-/// that held none, they are the migrated archive.
+/// Reads an old archive and adds each of its records, with the elements by id, to a store. If the
+/// store held none, its text is then the migrated archive.
 ///
-/// Under a fault the store may hold a part of the records besides those that it held.
+/// After a fault the store may hold some of the records besides those that it held.
 ///
 /// # Errors
 ///
-/// The fault of the text, by the rules of old archives, or that a growth was refused.
+/// The fault of the text, by the rules of old archives, or that an allocation failed.
 pub fn migrate_into<S: Store>(alloc: Global, text: &[u8], store: &mut S) -> Result<(), ReadFault>
     ensures ok { OnOk result (Migrates text.now (S.entries store.old) (S.entries store.new)) }
     ensures err { IfErr result (IsMigrateFault text.now) }

@@ -10,15 +10,17 @@ use archive_text::{ArchiveFault, EntryFault, EntryView};
 use syslog_frame::{MsgLen, msg_len};
 use syslog_grammar::{RecordView, is_canon_unsorted, view};
 
-/// An entry of an old archive, as it lies in octets, and what a view of the octets shows.
+/// An entry of an old archive, as it lies in octets.
 #[derive(Clone, Copy, Debug, PartialEq, Eq)]
 pub struct OldEntry<'a> {
+    /// The entry, by the old form.
     pub entry: EntryView<'a>,
+    /// What a view of its octets shows.
     pub view: RecordView<'a>,
 }
 
-/// The old entry that the octets are: they are the canonical form of a record whose elements are in
-/// any order.
+/// The old entry that the octets are, if they are the canonical form of a record with its elements
+/// in any order. Else the fault says why not.
 pub fn old_entry_of_octets(octets: &[u8]) -> Result<OldEntry<'_>, EntryFault>
     ensures entry { IfOk result (λ old. IsOldEntry (old_entry_of old)) }
     ensures octets { IfOk result (λ old. old.entry.octets.now ≡ octets.now) }
@@ -40,7 +42,7 @@ pub fn old_entry_of_octets(octets: &[u8]) -> Result<OldEntry<'_>, EntryFault>
 }
 
 /// Reads the old entry of at most `most` octets that a text begins with, and gives what follows it.
-/// The fault's positions count from the start of this text.
+/// Positions of the fault count from the start of this text.
 pub fn read_old_entry(most: u64, text: &[u8]) -> Result<(OldEntry<'_>, &[u8]), ArchiveFault>
     ensures entry { MatchResult result
         (λ x. BeginsWithOldEntry most text.now (old_entry_of x.0) x.1.now)

@@ -12,11 +12,11 @@ use archive_vec::{ReadFault, VecArchive};
 use octet_devices::ToWrite;
 use std::alloc::Global;
 
-/// The text of the archive that an old archive is migrated into.
+/// The text of the archive into which an old archive is migrated.
 ///
 /// # Errors
 ///
-/// The fault of the text, by the rules of old archives, or that a growth was refused.
+/// The fault of the text, by the rules of old archives, or that an allocation failed.
 pub fn migrate(alloc: Global, text: &[u8]) -> Result<Vec<u8>, ReadFault>
     ensures ok { IfOk result (λ octets. (es : List Entry) × IsArchive ENTRY_MAX es
         × Migrates text.now [] es × (octets.items ≡ text_of es)) }

@@ -4,3 +4,4 @@ pub mod Searching
 pub mod Adding
 pub mod Writings
 pub mod Records
+pub mod Onward

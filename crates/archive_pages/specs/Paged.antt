@@ -1,15 +1,20 @@
 -- What a set of pages holds, and how much memory it takes. Numbers stay at the largest of 64 bits.
 use Rattle.std.specs.Prelude.{ℕ, ◌+◌, ◌-◌, ◌*◌, ◌^◌, List, length, min, vec_len}
 use Rattle.archive_text.specs.Entries.{Entry}
-use Rattle.archive_pages.specs.Pages.{entries_of}
-use Rattle.archive_pages.specs.Spans.{block_at, blocks_of, lists_of}
+use Rattle.archive_pages.specs.Pages.{after, entries_of}
+use Rattle.archive_pages.specs.Spans.{block_at, blocks_of, entries_at, lists_of}
 use Rattle.archive_pages.specs.declared.arena.TheConstants.{BLOCK}
 use Rattle.archive_pages.specs.declared.paged.PagedArchive.{PagedArchive}
 use Rattle.archive_pages.specs.declared.paged.TheConstants.{PAGE_ROOM}
+use Rattle.archive_pages.specs.declared.reading.Place.{Place}
 
 -- its entries, in order
 abbrev pub entries_in : PagedArchive → List Entry
 entries_in s = entries_of (blocks_of s.arena) (lists_of s.pages.items)
+
+-- those behind a place
+abbrev pub entries_from : PagedArchive → Place → List Entry
+entries_from s place = entries_at (blocks_of s.arena) (after (lists_of s.pages.items) place.page place.index)
 
 -- a number, or the largest of 64 bits
 abbrev pub at_most_all : ℕ → ℕ

@@ -1,5 +1,5 @@
-//! The octets of entries, in few large blocks that only grow at their end. Each entry lies there
-//! behind its length, which has four octets.
+//! The octets of entries, in few large blocks that grow only at their end. Each entry lies there
+//! behind its length, which takes four octets.
 
 ghost use Rattle.std.specs.Prelude.{◌≡◌, ◌<◌, ◌≤◌, ◌+◌, ◌++◌, ◌^◌, [], length, IfOk};
 ghost use Rattle.archive_text.specs.EntryViews.{entry_of};
@@ -20,8 +20,11 @@ const PREFIX: usize = 4;
 /// An entry: the rank of its instant, and where its length and octets are in an arena.
 #[derive(Clone, Copy, Debug)]
 pub struct Span {
+    /// The rank of its instant, 0 for none.
     pub rank: u64,
+    /// The index of the block that it lies in.
     pub block: u32,
+    /// The offset of its length in that block, in octets.
     pub start: u32,
 }
 
@@ -93,8 +96,8 @@ impl Arena {
         }
     }
 
-    /// The octets that the entries and their lengths take, and the ends of blocks that were too short
-    /// for the next one.
+    /// How many octets the entries and their lengths take, with the ends of blocks that were too
+    /// short for the next entry.
     pub fn room(&self) -> usize
         ensures { result ≡ blocks_room (blocks_of self.now) }
     {
@@ -115,7 +118,8 @@ impl Arena {
         &text[PREFIX..PREFIX + read_len(text)]
     }
 
-    /// Copies the octets of an entry, and answers its span. All entries stay where they are.
+    /// Copies the octets of an entry, and gives its span. All other entries stay where they are. It
+    /// fails only when out of memory.
     pub fn push(&mut self, alloc: Global, entry: &EntryView<'_>) -> Result<Span, AllocError>
         requires { length entry.now.octets.now ≤ ENTRY_MAX }
         ensures within { IfOk result (λ s. IsWithin (blocks_of self.new) s) }

@@ -9,7 +9,7 @@ use crate::rank::rank_of;
 use archive_text::EntryView;
 use std::cmp::Ordering;
 
-/// How the entry of a span compares with an entry. Its octets are read only where the instants are
+/// How the entry of a span compares with an entry. Its octets are read only if the instants are
 /// equal.
 #[inline]
 pub fn compare_span(arena: &Arena, span: Span, entry: &EntryView<'_>) -> Ordering

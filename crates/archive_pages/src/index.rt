@@ -76,8 +76,8 @@ fn add_at(
     insert_span(alloc, pages, page, index, span)
 }
 
-/// Adds an entry, and notes how pages begin then. All growths come before a change of a page, of
-/// the index or of the ranks, and a refused one leaves them as they were.
+/// Adds an entry, and notes how pages begin then. All memory is allocated before a page, the index
+/// or the ranks are changed; if that fails, they are as they were.
 pub fn add_entry(
     alloc: Global,
     arena: &mut Arena,

@@ -9,10 +9,12 @@ mod page;
 mod paged;
 mod rank;
 mod ranks;
+mod reading;
 mod search;
 mod writing;
 
 pub use paged::PagedArchive;
+pub use reading::Place;
 
 #[cfg(test)]
 mod tests;

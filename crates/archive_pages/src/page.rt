@@ -14,7 +14,7 @@ pub const PAGE_MAX: usize = 256;
 // how many entries the first of two pages has after a split
 const LOWER: usize = 128;
 
-/// A page of the first spans and then the second ones.
+/// A page of the first spans and then the second ones. It fails only when out of memory.
 pub fn page_of(alloc: Global, first: &[Span], second: &[Span]) -> Result<Vec<Span>, AllocError>
     ensures { IfOk result (λ page. page.items ≡ first.now ++ second.now) }
 {
@@ -24,7 +24,8 @@ pub fn page_of(alloc: Global, first: &[Span], second: &[Span]) -> Result<Vec<Spa
     Ok(page)
 }
 
-/// The two pages of a full page and one more span: its first 128 spans, and the other 129.
+/// The two pages of a full page and one more span: its first 128 spans, and the other 129. It fails
+/// only when out of memory.
 pub fn split(
     alloc: Global,
     page: &[Span],
@@ -69,7 +70,7 @@ fn replace_by_both(
     Ok(())
 }
 
-/// Puts a span into a page, which is split where it is full.
+/// Puts a span into a page, which is split if it is full. If an allocation fails, nothing changes.
 pub fn insert_span(
     alloc: Global,
     pages: &mut Vec<Vec<Span>>,

@@ -11,7 +11,9 @@ ghost use Rattle.archive_pages.specs.declared.paged.TheConstants.{RECORDS_MAX};
 
 use crate::arena::{Arena, Span};
 use crate::index::{add_entry, holds_entry};
+use crate::rank::instant_of;
 use crate::ranks::Ranks;
+use crate::reading::{Place, span_from};
 use crate::writing::write_pages;
 use archive_text::{AddFault, Added, ENTRY_MAX, EntryView, Store};
 use octet_devices::{Output, WriteFault};
@@ -26,12 +28,12 @@ const RECORDS_MAX: usize = 1_099_511_627_776;
 const PAGE_ROOM: usize = 4128;
 
 /// A set of records in memory, made for millions of them. Its entries lie in pages of at most 256,
-/// in ascending order, under an index in order; their octets lie in blocks of 1 MiB.
+/// in ascending order, under an ordered index; their octets lie in blocks of 1 MiB.
 ///
-/// An entry takes its canonical octets and some 20 to 36 more. One that is above all others is found
-/// so by one comparison; any other by the comparison of some thirty instants, and of octets in some
-/// twenty entries of its instant at most. More than 2^40 records, or 2^32 blocks, are answered as out
-/// of memory.
+/// An entry takes its canonical octets and some 20 to 36 more. One that is above all others is
+/// placed after a single comparison; any other after comparing some thirty instants and the octets
+/// of at most some twenty entries with the same instant. More than 2^40 records, or 2^32 blocks,
+/// are answered as out of memory.
 #[derive(Debug, Drop)]
 pub struct PagedArchive {
     arena: Arena,
@@ -46,7 +48,8 @@ pub struct PagedArchive {
 }
 
 impl PagedArchive {
-    ghost use Rattle.archive_pages.specs.Paged.{room_of};
+    ghost use Rattle.std.specs.Prelude.{◌∷◌, IfNone, IfSome};
+    ghost use Rattle.archive_pages.specs.Paged.{entries_from, room_of};
 
     /// An empty set, which takes no memory.
     pub fn new(alloc: Global) -> PagedArchive
@@ -61,13 +64,28 @@ impl PagedArchive {
         }
     }
 
-    /// The octets that the set takes in memory: those of its entries, of the pages that they lie in,
-    /// and of the index. An empty set takes none.
+    /// How many octets the set takes in memory: those of its entries, of the pages that they lie
+    /// in, and of the index. An empty set takes none.
     pub fn room(&self) -> usize
         ensures { result ≡ room_of self.now }
     {
         let pages = self.pages.len().saturating_mul(PAGE_ROOM);
         self.arena.room().saturating_add(pages)
+    }
+
+    /// The entry behind a place, and the place behind that entry; `None` if there is no further
+    /// one. From `Place::first` on, all entries come in their order.
+    pub fn next(&self, place: Place) -> Option<(EntryView<'_>, Place)>
+        ensures some { IfSome result (λ r. entries_from self.now place
+            ≡ entry_of r.0 ∷ entries_from self.now r.1) }
+        ensures none { IfNone result (entries_from self.now place ≡ []) }
+    {
+        let (span, behind) = span_from(&self.pages, place)?;
+        let entry = EntryView {
+            instant: instant_of(span.rank),
+            octets: self.arena.octets(span),
+        };
+        Some((entry, behind))
     }
 }
 

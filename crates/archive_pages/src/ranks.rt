@@ -6,7 +6,7 @@ ghost use Rattle.archive_pages.specs.Ranks.{HasRoom, ranks_of};
 use crate::arena::Span;
 use std::alloc::{AllocError, Global};
 
-/// The ranks with which pages begin. A search begins where they point to; nothing else rests on them.
+/// The ranks with which pages begin. A search begins where they point; nothing else depends on them.
 #[derive(Debug, Drop)]
 pub struct Ranks {
     ranks: Vec<u64>,
@@ -21,14 +21,14 @@ fn first_rank(page: &[Span]) -> u64 {
 }
 
 impl Ranks {
-    /// Of no pages. It takes no memory.
+    /// The ranks of no pages. They take no memory.
     pub fn new(alloc: Global) -> Ranks {
         Ranks {
             ranks: Vec::new(alloc),
         }
     }
 
-    /// The index of the last page that begins with a rank up to this one, as far as is known.
+    /// The index of the last page that begins with at most this rank, as far as the ranks tell.
     pub fn guess(&self, rank: u64) -> usize {
         let mut first = 0;
         let mut count = self.ranks.len();
@@ -42,7 +42,7 @@ impl Ranks {
         first
     }
 
-    /// Makes room for one rank more. The ranks stay.
+    /// Makes room for one more rank. The ranks stay as they are. It fails only when out of memory.
     pub fn reserve(&mut self) -> Result<(), AllocError>
         ensures same { ranks_of self.new ≡ ranks_of self.old }
         ensures room { OnOk result (HasRoom self.new) }
@@ -60,8 +60,8 @@ impl Ranks {
         }
     }
 
-    /// Notes a span that was put into a page, before the span of this index. Where there are more
-    /// pages than ranks, there is one rank more then.
+    /// Notes a span that was put into a page, before the span with this index. If there are more
+    /// pages than ranks, one rank is added.
     pub fn note(&mut self, pages: &[Vec<Span>], page: usize, index: usize)
         requires { HasRoom self.old }
         ensures { length (ranks_of self.old) < length pages.now

@@ -113,9 +113,9 @@ fn page_for(arena: &Arena, pages: &[Vec<Span>], guess: usize, entry: &EntryView<
     low.saturating_sub(1)
 }
 
-/// Where an entry goes among pages: into this page, before the span of this index. None where
-/// it is held. An entry above all others takes one comparison; else the search begins at the page
-/// that is guessed.
+/// Where an entry belongs among pages: in this page, before the span with this index. None if it is
+/// held. An entry above all others takes one comparison; for any other the search begins at the
+/// page that is guessed.
 pub fn place_of(
     arena: &Arena,
     pages: &[Vec<Span>],

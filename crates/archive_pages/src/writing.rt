@@ -78,7 +78,8 @@ fn put_pages<W: Output>(
     Ok(())
 }
 
-/// Writes the text of the entries of all pages.
+/// Writes the text of the entries of all pages. If the writer fails, the first octets of the text
+/// were written, as many as the fault says.
 pub fn write_pages<W: Output>(
     writer: &mut W,
     arena: &Arena,

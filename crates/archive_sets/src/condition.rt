@@ -6,7 +6,7 @@ ghost use Rattle.archive_text.specs.EntryViews.{entry_of};
 
 use archive_text::EntryView;
 
-/// A condition that each record of an archive meets or does not meet, by its entry.
+/// A condition that each record of an archive meets or does not meet, as its entry tells.
 pub trait Condition {
     // the entries that meet it
     ghost meets: { Self → Entry → Type 0 };
@@ -31,7 +31,9 @@ impl Condition for OnlyUndated {
 /// Records that meet two conditions.
 #[derive(Clone, Copy, Debug, PartialEq, Eq)]
 pub struct Both<A, B> {
+    /// The one condition.
     pub first: A,
+    /// The other one.
     pub second: B,
 }
 

@@ -21,7 +21,7 @@ use archive_text::EntryView;
 use syslog_grammar::{Elements, RecordView, view};
 use syslog_value::{Facility, Priority, Severity};
 
-/// The times that records may have.
+/// Which times records may have.
 #[derive(Clone, Copy, Debug, PartialEq, Eq)]
 pub enum Times {
     /// Those of a range.
@@ -41,12 +41,12 @@ impl Condition for Times {
     }
 }
 
-/// What is asked of a field of the header that is a word.
+/// What is asked of a field of the header that is a word (RFC 5424, sections 6.2.4 to 6.2.7).
 #[derive(Clone, Copy, Debug, PartialEq, Eq)]
 pub enum AskedWord<'a> {
     /// Nothing.
     Any,
-    /// That there is none.
+    /// That it is NILVALUE.
     Absent,
     /// That it is this word.
     Is(&'a [u8]),
@@ -108,19 +108,22 @@ fn has_asked_id(asked: Option<&[u8]>, elements: Elements<'_>) -> bool
     }
 }
 
-/// All conditions that a record may have to meet. Where a field is None or `Any`, there is no
-/// condition on it.
+/// All conditions that a record may have to meet. A field that is None or `Any` is no condition.
 #[derive(Clone, Copy, Debug, PartialEq, Eq)]
 pub struct Conditions<'a> {
-    /// The times that it may have.
+    /// Which times it may have.
     pub times: Times,
-    /// It is as severe as this, or more severe.
+    /// It is as severe as this or more severe.
     pub severity: Option<Severity>,
     /// It is of this facility.
     pub facility: Option<Facility>,
+    /// What HOSTNAME has to be.
     pub hostname: AskedWord<'a>,
+    /// What APP-NAME has to be.
     pub app_name: AskedWord<'a>,
+    /// What PROCID has to be.
     pub proc_id: AskedWord<'a>,
+    /// What MSGID has to be.
     pub msg_id: AskedWord<'a>,
     /// It has an element with this id.
     pub id: Option<&'a [u8]>,

@@ -1,4 +1,4 @@
-//! What is selected of an archive is copied to its end.
+//! What is selected of an archive is copied, up to its end.
 
 ghost use Rattle.std.specs.Prelude.{MatchResult};
 ghost use Rattle.archive_sets.specs.Failures.{ReadFailures, WriteFailures};
@@ -10,7 +10,8 @@ use crate::selection::Selection;
 use octet_devices::{Input, Output};
 
 impl Selection {
-    /// Puts each entry that meets the condition, up to the end of the archive.
+    /// Puts each entry that meets the condition behind what was selected, up to the end of the
+    /// archive. It fails at the first fault that is met.
     pub fn copy<C: Condition, R: Input, W: Output>(
         &mut self,
         condition: &C,

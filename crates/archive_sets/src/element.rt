@@ -1,4 +1,4 @@
-//! Records with an element of an id.
+//! Records that have an element with some id.
 
 ghost use Rattle.std.specs.Prelude.{◌↔◌, List, IsTrue};
 ghost use Rattle.octet_language.specs.Language.{Each};
@@ -14,6 +14,7 @@ use syslog_grammar::{Elements, view};
 /// Records that have an element with this id.
 #[derive(Clone, Copy, Debug, PartialEq, Eq)]
 pub struct HasElement<'a> {
+    /// The id (SD-ID, RFC 5424, section 6.3.2).
     pub id: &'a [u8],
 }
 

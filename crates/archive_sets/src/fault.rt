@@ -1,4 +1,4 @@
-//! Why an archive was not selected from.
+//! Why records were not all selected.
 
 use archive_text::ArchiveFault;
 use thiserror::Error;
@@ -12,13 +12,13 @@ pub enum SelectFault {
     /// The reader failed.
     #[error("the reader failed")]
     Read,
-    /// The reader was called `READER_CALLS` times and did not give its end.
+    /// The reader was called `READER_CALLS` times without giving its end.
     #[error("the input has no end")]
     Endless,
-    /// The writer failed after it took so many octets.
+    /// The writer failed after `sent` octets.
     #[error("the writer failed after {sent} octets")]
     Write { sent: u64 },
-    /// The room was refused.
+    /// The room could not be allocated.
     #[error("out of memory")]
     Memory,
 }

@@ -15,10 +15,11 @@ use syslog_value::{Facility, Priority, Severity};
 /// Records as severe as this or more severe.
 #[derive(Clone, Copy, Debug, PartialEq, Eq)]
 pub struct AsSevereAs {
+    /// The least severe of the severities.
     pub severity: Severity,
 }
 
-/// Whether a priority has a severity as severe as this, or a more severe one.
+/// Whether the severity of a priority is this one or a more severe one.
 pub fn is_as_severe(priority: Priority, severity: Severity) -> bool
     ensures { IsTrue result ↔ (priority % 8 ≤ severity_code severity) }
 {
@@ -39,6 +40,7 @@ impl Condition for AsSevereAs {
 /// Records of a facility.
 #[derive(Clone, Copy, Debug, PartialEq, Eq)]
 pub struct OfFacility {
+    /// The facility.
     pub facility: Facility,
 }
 
@@ -60,10 +62,12 @@ impl Condition for OfFacility {
     }
 }
 
-/// Records that have a word in a field of the header, or, where it is None, none.
+/// Records that have this word in a field of the header, or NILVALUE if it is None.
 #[derive(Clone, Copy, Debug, PartialEq, Eq)]
 pub struct HasWord<'a> {
+    /// The field.
     pub field: WordField,
+    /// The word; None for NILVALUE.
     pub word: Option<&'a [u8]>,
 }
 

@@ -1,5 +1,5 @@
-//! Sets of syslog records, each kept as an archive larger than memory: what is chosen of one as it is
-//! read from a device.
+//! Sets of syslog records, each kept as an archive that may be larger than memory: what is chosen
+//! of one as it is read from a device.
 //!
 //! [`select_stream`] writes the archive of the records that meet a [`Condition`].
 #![tactic(auto)]

@@ -1,4 +1,4 @@
-//! The records of a range of time.
+//! The records in a range of time.
 
 ghost use Rattle.std.specs.Prelude.{◌≡◌, ◌↔◌, ◌<ℤ◌, ◌≤ℤ◌, IfSome, IsTrue, ℤ};
 ghost use Rattle.archive_sets.specs.Conditions.{IsInRange};
@@ -7,15 +7,15 @@ use crate::condition::Condition;
 use archive_text::EntryView;
 use syslog_value::Instant;
 
-/// Records of a half-open range of time. A record without a time is in it where the range has no
-/// bound, or where `undated` says so.
+/// Records in a half-open range of time. A record without a time is in it if the range has no
+/// bound, or if `undated` says so.
 #[derive(Clone, Copy, Debug, PartialEq, Eq)]
 pub struct InRange {
-    /// The first instant of the range; None: it has no first one.
+    /// The first instant in the range; None: there is no first one.
     pub from: Option<Instant>,
-    /// The first instant behind the range; None: it has no end.
+    /// The first instant behind the range; None: the range has no end.
     pub to: Option<Instant>,
-    /// Whether records without a time are in the range.
+    /// Whether records without a time are in the range even if it has a bound.
     pub undated: bool,
 }
 

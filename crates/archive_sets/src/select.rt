@@ -12,7 +12,7 @@ use octet_devices::{Input, Output, WriteFault};
 use std::alloc::Global;
 
 impl Selection {
-    /// Selects to the end of the archive, and writes what is held back before a fault is answered.
+    /// Selects up to the end of the archive; what is held back is written before a fault is answered.
     fn run<C: Condition, R: Input, W: Output>(
         &mut self,
         condition: &C,
@@ -44,14 +44,15 @@ impl Selection {
 }
 
 /// Reads an archive, the text of a set of records, and writes the archive of those that meet the
-/// condition. Answers how many they are.
+/// condition. It gives their number.
 ///
-/// Room for two entries and for a piece of `ENTRIES_READ_MAX` octets of the reader is reserved first,
-/// and no further memory is taken. In itself the call has 16,384 octets that are held back, so that
-/// they leave by large pieces.
+/// Room for two entries and for a piece of `ENTRIES_READ_MAX` octets of the reader is reserved
+/// first, and no further memory is taken. The call itself holds back up to 16,384 octets, so that
+/// they leave in large pieces.
 ///
 /// # Errors
-/// The first fault that is met. What is selected of the entries before it is written first; where the
+/// The first fault that is met. What is selected of the entries before it is written first; if the
+/// writer fails then, that is the answer. `Memory` comes only before anything is read or written.
 /// writer fails then, that is the answer. `Memory` only before anything is read or written.
 pub fn select_stream<C: Condition, R: Input, W: Output>(
     alloc: Global,

@@ -12,17 +12,19 @@ use archive_text::put_entry;
 use octet_devices::{BufferedOutput, Input, Output, WriteFault};
 use std::alloc::{AllocError, Global};
 
-/// A selection under way: what was read of the archive, what is held back of the text of what was
-/// selected, and how many entries that has.
+/// A selection under way.
 #[derive(Drop)]
 pub struct Selection {
+    /// What was read of the archive.
     pub entries: ArchiveEntries,
+    /// What is held back of the text of what was selected.
     pub held: BufferedOutput,
+    /// How many entries that text has.
     pub count: u64,
 }
 
 impl Selection {
-    /// Before the first entry.
+    /// A selection before the first entry. It fails only when out of memory.
     pub fn new(alloc: Global) -> Result<Selection, AllocError>
         ensures { IfOk result IsFresh }
     {
@@ -33,7 +35,8 @@ impl Selection {
         })
     }
 
-    /// Reads the next entry and answers true, or finds the end and answers false.
+    /// Reads the next entry and answers true, or finds the end and answers false. It fails if there
+    /// is neither.
     pub fn advance<R: Input>(&mut self, reader: &mut R) -> Result<bool, SelectFault>
         requires { IsOpen self.old.entries }
         ensures kept { KeepsOutput self.old self.new }
@@ -55,7 +58,8 @@ impl Selection {
         }
     }
 
-    /// Puts the entry that was read last behind what was selected, where it meets the condition.
+    /// Puts the entry that was read last behind what was selected, if it meets the condition. It
+    /// fails if the writer does.
     pub fn keep<C: Condition, W: Output>(
         &mut self,
         condition: &C,

@@ -8,13 +8,13 @@ pub enum SpillFault {
     /// The canonical form of the record has more than `ENTRY_MAX` octets.
     #[error("the canonical record is too long for an archive")]
     TooLong,
-    /// A run could not be made or written, or was not read as it was written.
+    /// A run could not be made or written, or is not read back as it was written.
     #[error("the spill failed")]
     Spill,
     /// The output failed.
     #[error("the writer failed")]
     Output,
-    /// Memory was refused.
+    /// An allocation failed.
     #[error("out of memory")]
     Memory,
 }

@@ -10,10 +10,10 @@ use std::io::{self, ErrorKind, Read, Seek, SeekFrom, Write};
 use std::os::unix::fs::OpenOptionsExt;
 use std::rt::Files;
 
-/// How many names are tried for a file, since others may have taken them.
+/// How many names are tried for a file, since others may be taken.
 const NAMES_MAX: u64 = 65_536;
 
-/// Runs in files of a folder, each without a name: it is removed as soon as it is open, and its room
+/// Runs in files of a folder. Each has no name: it is removed as soon as it is open, and its room
 /// is free again once it is closed. No contract knows its octets.
 #[derive(Drop)]
 pub struct FolderSpill<R> {
@@ -24,7 +24,7 @@ pub struct FolderSpill<R> {
     next: u64,
 }
 
-/// A file whose calls are made again where a signal interrupted them.
+/// A file whose calls are made again if a signal interrupted them.
 #[derive(Drop)]
 pub struct Uninterrupted<F> {
     file: F,
@@ -59,7 +59,7 @@ impl<F: Write> Write for Uninterrupted<F> {
 }
 
 impl<R: Files + AllocGlobal + Clone + Drop> FolderSpill<R> {
-    /// Runs in a folder, which has to be there once one is made.
+    /// Runs in a folder, which must be there by the time one is made. It fails only when out of memory.
     pub fn new(rt: &R, folder: &str) -> io::Result<FolderSpill<R>> {
         let mut front = String::from_str(rt.alloc(), folder)?;
         front.push_str("/syslogbox.run.")?;

@@ -34,7 +34,7 @@ fn fault_of(fault: JoinFault, told: SpillFault) -> SpillFault
 /// Writes the archive of pages as a run.
 ///
 /// # Errors
-/// `Spill`: there is no such run.
+/// `Spill`: the run could not be made or written.
 pub fn write_run<P: Spill>(spill: &mut P, pages: &PagedArchive) -> Result<P::Run, SpillFault>
     ensures written { P.tells spill.old → IfOk result (λ run.
         IsRunOf (P.Run.state run) (entries_in pages.now)) }
@@ -56,7 +56,7 @@ pub fn write_run<P: Spill>(spill: &mut P, pages: &PagedArchive) -> Result<P::Run
 /// Joins runs into one.
 ///
 /// # Errors
-/// `Spill` or `Memory`: some octets of the runs were read.
+/// `Spill` or `Memory`: some octets of the runs may have been read.
 pub fn join_runs<P: Spill>(
     alloc: Global,
     spill: &mut P,
@@ -84,7 +84,7 @@ pub fn join_runs<P: Spill>(
 /// Joins the runs behind the first ones into one.
 ///
 /// # Errors
-/// As `join_runs`.
+/// As for [`join_runs`].
 pub fn join_behind<P: Spill>(
     alloc: Global,
     spill: &mut P,

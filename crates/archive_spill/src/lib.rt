@@ -1,8 +1,8 @@
 //! A set of syslog records that may be larger than memory.
 //!
-//! [`SpilledArchive`] keeps what fits in its room in memory. The rest goes out to a [`Spill`] as runs,
-//! each the text of an archive, and is joined with it when the set is written. [`FolderSpill`] has its
-//! runs in files of a folder, [`MemorySpill`] in memory.
+//! [`SpilledArchive`] keeps in memory what fits in its room. The rest goes out to a [`Spill`] as
+//! runs, each the text of an archive, and is joined with it when the set is written.
+//! [`FolderSpill`] keeps its runs in files of a folder, [`MemorySpill`] in memory.
 #![tactic(auto)]
 
 mod fault;

@@ -7,22 +7,22 @@ use octet_devices::{DeviceFault, FromRead, Fuse, ToWrite};
 use std::alloc::Global;
 use std::io::Cursor;
 
-/// A call on a run.
+/// A call on a run, at which it fails.
 #[derive(Clone, Copy, Debug, PartialEq, Eq)]
 pub enum SpillCall {
     /// It is made.
     Make,
-    /// It is written: so many calls have passed.
+    /// It is written, and `calls` calls have been made.
     Write { calls: u64 },
-    /// It has taken so many octets, as a disk that is full then.
+    /// It is written, and has taken `octets` octets, like a disk that is full.
     Full { octets: u64 },
     /// It is reopened.
     Reopen,
-    /// It is read: so many calls have passed.
+    /// It is read, and `calls` calls have been made.
     Read { calls: u64 },
 }
 
-/// Runs in memory, of which one may fail at some call.
+/// Runs in memory, one of which may fail at some call.
 #[derive(Debug, Drop)]
 pub struct MemorySpill {
     alloc: Global,
@@ -33,7 +33,7 @@ pub struct MemorySpill {
 }
 
 impl MemorySpill {
-    /// No call fails.
+    /// Runs of which no call fails.
     pub fn new(alloc: Global) -> MemorySpill {
         MemorySpill {
             alloc,
@@ -42,7 +42,7 @@ impl MemorySpill {
         }
     }
 
-    /// The run of this number, from 0, fails at this call.
+    /// Runs of which the one with this number, from 0, fails at this call.
     pub fn failing(alloc: Global, run: u64, call: SpillCall) -> MemorySpill {
         MemorySpill {
             alloc,

@@ -4,13 +4,13 @@ ghost use Rattle.std.specs.Prelude.{◌≡◌, Some, [], IfOk};
 
 use octet_devices::{DeviceFault, Input, Output};
 
-/// Where the runs of a set go that does not fit in memory. A run is written at its end, and then read
-/// from its beginning. Nothing is left of it once it is dropped.
+/// Where the runs of a set go that does not fit in memory. A run is written at its end, and then
+/// read from its beginning. Nothing is left of it once it is dropped.
 pub trait Spill {
-    /// A run that is written.
+    /// A run that is being written.
     type Written: Output + Drop;
 
-    /// A run that is read.
+    /// A run that is being read.
     type Run: Input + Drop;
 
     // its runs report their octets
@@ -19,7 +19,7 @@ pub trait Spill {
     /// Makes a run of no octets.
     ///
     /// # Errors
-    /// There is none then.
+    /// The run could not be made.
     fn make(&mut self) -> Result<Self::Written, DeviceFault>
         ensures empty { tells self.old →
             IfOk result (λ run. (Self.Written.state run).taken ≡ Some []) }
@@ -28,7 +28,7 @@ pub trait Spill {
     /// Goes back to the beginning of a run, to read what was written.
     ///
     /// # Errors
-    /// The run is lost then.
+    /// The run is lost.
     fn reopen(&mut self, written: Self::Written) -> Result<Self::Run, DeviceFault>
         ensures left { tells self.old →
             IfOk result (λ run. (Self.Run.state run).left ≡ (Self.Written.state written).taken) }

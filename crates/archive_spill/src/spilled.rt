@@ -13,11 +13,11 @@ use std::alloc::Global;
 use syslog_grammar::RecordView;
 use syslog_value::Record;
 
-/// A set of records of which so much is in memory as its room allows; the rest went out to a spill,
-/// as runs, each of them an archive.
+/// A set of records, as many of them in memory as its room allows; the rest has gone out to a
+/// spill, as runs, each of them an archive.
 ///
-/// Each time that as many runs went out as are joined at once, these are joined into one, and so are
-/// as many of those; so each record is written once for each power of that number, and few runs are
+/// Whenever as many runs are out as are joined at once, they are joined into one, and so are as
+/// many of those. So each record is written once for each power of that number, and few runs are
 /// open.
 #[derive(Drop)]
 pub struct SpilledArchive<P, R> {
@@ -50,7 +50,7 @@ impl<P: Spill + Drop> SpilledArchive<P, P::Run> {
     ghost use Rattle.archive_spill.specs.Sets.{Holds, IsInRoom, IsLost, Keeps, limit_of};
     ghost use Rattle.archive_spill.specs.Writing.{IsOfRuns, WritesOut};
 
-    /// An empty set, which may take so many octets in memory.
+    /// An empty set, which may take `room` octets in memory.
     pub fn new(alloc: Global, spill: P, room: usize) -> SpilledArchive<P, P::Run>
         ensures empty { P.tells spill → Holds P.tells P.Run.state result [] }
         ensures limit { limit_of result ≡ room }
@@ -67,12 +67,12 @@ impl<P: Spill + Drop> SpilledArchive<P, P::Run> {
         }
     }
 
-    /// Adds a record. Where the set takes more than its room in memory then, it goes out to the spill,
+    /// Adds a record. If the set then takes more than its room in memory, it goes out to the spill,
     /// so that it is within its room again.
     ///
     /// # Errors
-    /// `TooLong` and, where the record got no memory, `Memory`: the set is as it was. Else `Spill` or
-    /// `Memory`: a run is lost, and from then on each call answers `Spill`.
+    /// `TooLong`, or `Memory` if there was none for the record: the set is as it was. Otherwise
+    /// `Spill` or `Memory`: a run is lost, and from then on each call answers `Spill`.
     pub fn add(&mut self, record: &Record) -> Result<(), SpillFault>
         ensures ok { OnOk result ((es : List Entry) → Holds P.tells P.Run.state self.old es
             → (e : Entry) × IsEntryOf record.now e × Holds P.tells P.Run.state self.new (e ∷ es)) }
@@ -98,7 +98,7 @@ impl<P: Spill + Drop> SpilledArchive<P, P::Run> {
         }
     }
 
-    /// Adds the record that a view shows, as `add` does.
+    /// Adds the record that a view shows, as `add` does. The errors are those of `add`.
     pub fn add_view(&mut self, view: &RecordView<'_>) -> Result<(), SpillFault>
         ensures ok { OnOk result ((b : List ℕ) → IsViewOf b (view_parts view.now)
             → (es : List Entry) → Holds P.tells P.Run.state self.old es
@@ -127,15 +127,33 @@ impl<P: Spill + Drop> SpilledArchive<P, P::Run> {
         }
     }
 
-    /// How many runs are there.
+    /// Makes a run and drops it, to tell whether there can be one.
+    ///
+    /// # Errors
+    /// `Spill`: there cannot.
+    pub fn check_spill(&mut self) -> Result<(), SpillFault>
+        ensures same { (es : List Entry) → Holds P.tells P.Run.state self.old es
+            → Holds P.tells P.Run.state self.new es }
+        ensures fault { OnErr result (IsErrOf result SpillFault.Spill) }
+        ensures lost { IsLost self.old → IsLost self.new }
+        ensures room { IsInRoom self.old → IsInRoom self.new }
+        ensures limit { limit_of self.new ≡ limit_of self.old }
+    {
+        match self.spill.make() {
+            Ok(_run) => Ok(()),
+            Err(_) => Err(SpillFault::Spill),
+        }
+    }
+
+    /// How many runs are out.
     pub fn runs(&self) -> usize
         ensures { result ≡ vec_len self.now.runs }
     {
         self.runs.len()
     }
 
-    /// Writes the archive of the set. The pages go out to the spill first, unless all of the set is in
-    /// memory, so that the runs are joined in their room.
+    /// Writes the archive of the set. Unless all of the set is in memory, its pages go out to the
+    /// spill first, so that the runs can be joined in their room.
     ///
     /// # Errors
     /// `Output`, `Spill` or `Memory`: a prefix of the archive was written.

@@ -17,8 +17,8 @@ use octet_devices::Input;
 use std::alloc::{AllocError, Global};
 use std::mem::swap;
 
-/// An archive, larger than memory, that is read entry by entry from a reader. It holds two entries,
-/// whatever the archive holds: the one that was read last, and room for the next one.
+/// An archive, possibly larger than memory, that is read entry by entry from a reader. It holds two
+/// entries, whatever the archive holds: the one that was read last, and room for the next one.
 #[derive(Drop)]
 pub struct ArchiveEntries {
     reader: ArchiveReader,
@@ -39,12 +39,12 @@ impl ArchiveEntries {
     ghost use Rattle.archive_streams.specs.Entries.{ReadsOne};
     ghost use Rattle.archive_streams.specs.Faults.{SideFailures};
 
-    /// Before the first entry. Room for two entries is reserved, for each `ENTRY_MAX` octets and 11
-    /// for its length and space, and for `ENTRIES_READ_MAX` octets of the reader; no further memory
-    /// is taken.
+    /// An archive before its first entry. Room is reserved for two entries, `ENTRY_MAX` octets each
+    /// and 11 more for its length and space, and for `ENTRIES_READ_MAX` octets of the reader; no
+    /// further memory is taken.
     ///
     /// # Errors
-    /// The room was refused.
+    /// The room could not be allocated.
     pub fn new(alloc: Global) -> Result<ArchiveEntries, AllocError>
         ensures open { IfOk result IsOpen }
         ensures none { IfOk result (λ s. (d : InputState) → Reads s d d []) }
@@ -57,14 +57,14 @@ impl ArchiveEntries {
     }
 
     /// Reads the next entry, which must be above the one before it, and answers true; or finds the
-    /// end, and answers false. After the end or a fault, the same is answered again, and nothing is
-    /// read.
+    /// end, and answers false. After the end or a fault, the same answer is given again, and
+    /// nothing is read.
     ///
-    /// All calls are to be given the same reader, which is called `READER_CALLS` times at most, for
+    /// All calls must be given the same reader. It is called at most `READER_CALLS` times, for
     /// `ENTRIES_READ_MAX` octets each.
     ///
     /// # Errors
-    /// What follows is no entry, the reader failed, or it gave no end in so many calls.
+    /// What follows is no entry, the reader failed, or it did not give its end in so many calls.
     pub fn next<R: Input>(&mut self, reader: &mut R) -> Result<bool, SideFault>
         // what was read before goes on with an entry; or it is the whole archive, or the front of
         // what was given
@@ -103,7 +103,7 @@ impl ArchiveEntries {
         }
     }
 
-    /// The entry that was read last; before the first, one of no octets.
+    /// The entry that was read last; before the first one, an entry of no octets.
     pub fn entry(&self) -> EntryView<'_>
         ensures { entry_of result ≡ current self.now }
     {

@@ -7,18 +7,20 @@ use std::alloc::{AllocError, Global};
 use std::cmp::Ordering;
 use syslog_value::Instant;
 
-/// The most octets of a length and its space.
+/// The most octets that a length and its space have.
 pub const COUNT_TEXT: usize = 11;
 
-/// The most octets of the text of an entry: its length, a space and the entry.
+/// The most octets that the text of an entry has: its length, a space and the entry.
 pub const TEXT_MAX: usize = ENTRY_MAX + COUNT_TEXT;
 
-/// The text of an entry: its length, a space and its octets, which begin at `start`; and its
-/// instant. No text is no entry.
+/// The text of an entry, and its instant. An empty text is no entry.
 #[derive(Drop)]
 pub struct EntryText {
+    /// Its length, a space and its octets; its room is for `TEXT_MAX` octets.
     pub text: Vec<u8>,
+    /// The offset of its octets in the text.
     pub start: usize,
+    /// Its instant, if it has one.
     pub instant: Option<Instant>,
 }
 
@@ -26,7 +28,7 @@ impl EntryText {
     ghost use Rattle.archive_text.specs.EntryViews.{entry_of};
     ghost use Rattle.archive_streams.specs.EntryTexts.{entry_in, IsAbove};
 
-    /// Room for an entry.
+    /// Room for an entry, and none yet. It fails only when out of memory.
     pub fn new(alloc: Global) -> Result<EntryText, AllocError>
         ensures room { IfOk result (λ e. TEXT_MAX ≤ vec_capacity e.text) }
         ensures empty { IfOk result (λ e. e.text.items ≡ []) }
@@ -39,7 +41,7 @@ impl EntryText {
         })
     }
 
-    /// The entry.
+    /// The entry, lent from its text.
     pub fn view(&self) -> EntryView<'_>
         requires { self.now.start ≤ vec_len self.now.text }
         ensures { entry_of result ≡ entry_in self.now }
@@ -51,7 +53,7 @@ impl EntryText {
         }
     }
 
-    /// Whether the entry is above another, if that is one.
+    /// Whether the entry is above another one, or that one is no entry.
     pub fn is_above(&self, last: &EntryText) -> bool
         requires within { self.now.start ≤ vec_len self.now.text }
         requires last { last.now.start ≤ vec_len last.now.text }

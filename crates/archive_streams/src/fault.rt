@@ -9,7 +9,7 @@ pub enum InputFault {
     /// The reader failed.
     #[error("the reader failed")]
     Device,
-    /// It was called `READER_CALLS` times and did not give its end.
+    /// It was called `READER_CALLS` times without giving its end.
     #[error("the input has no end")]
     Endless,
 }
@@ -17,7 +17,7 @@ pub enum InputFault {
 /// Why no entry was read.
 #[derive(Clone, Copy, Debug, PartialEq, Eq, Error)]
 pub enum SideFault {
-    /// The octets go on with no entry.
+    /// What follows is no entry of an archive.
     #[error("{0}")]
     Archive(ArchiveFault),
     /// No octets were read.
@@ -28,29 +28,31 @@ pub enum SideFault {
 /// One of two archives.
 #[derive(Clone, Copy, Debug, PartialEq, Eq)]
 pub enum Side {
+    /// The left one.
     Left,
+    /// The right one.
     Right,
 }
 
 /// Why two archives were not joined.
 #[derive(Clone, Copy, Debug, PartialEq, Eq, Error)]
 pub enum MergeFault {
-    /// The left is no archive.
+    /// The left one is no archive.
     #[error("left: {0}")]
     Left(ArchiveFault),
-    /// The right is no archive.
+    /// The right one is no archive.
     #[error("right: {0}")]
     Right(ArchiveFault),
     /// A reader failed.
     #[error("a reader failed")]
     Read(Side),
-    /// A reader was called `READER_CALLS` times and did not give its end.
+    /// A reader was called `READER_CALLS` times without giving its end.
     #[error("an input has no end")]
     Endless(Side),
-    /// The writer failed after it took so many octets.
+    /// The writer failed after `sent` octets.
     #[error("the writer failed after {sent} octets")]
     Write { sent: u64 },
-    /// The room was refused.
+    /// The room could not be allocated.
     #[error("out of memory")]
     Memory,
 }

@@ -16,7 +16,7 @@ use std::alloc::Global;
 use std::cmp::Ordering;
 
 impl Merge {
-    /// Writes the next entry, and reads the next one of each side that it was of.
+    /// Writes the next entry, and reads the next one of each side that has it.
     fn turn<R1: Input, R2: Input, W: Output>(
         &mut self,
         order: Ordering,
@@ -84,7 +84,7 @@ impl Merge {
         Ok(())
     }
 
-    /// Writes what is held back, and answers how many entries were joined.
+    /// Writes what is held back, and gives the number of entries that were joined.
     fn finish<W: Output>(&mut self, writer: &mut W) -> Result<u64, MergeFault>
         ensures ok { IfOk result (λ n. IsFinished self.old (W.state writer.old)
             (W.state writer.new) n) }
@@ -98,7 +98,7 @@ impl Merge {
         }
     }
 
-    /// Joins the two, and writes what is held back before a fault is answered.
+    /// Joins the two; what is held back is written before a fault is answered.
     fn run<R1: Input, R2: Input, W: Output>(
         &mut self,
         left: &mut R1,
@@ -131,16 +131,16 @@ impl Merge {
     }
 }
 
-/// Joins two archives, each the text of a set of records, into the text of the union. Answers how
-/// many entries that has.
+/// Joins two archives, each the text of a set of records, into the text of the union, and gives the
+/// number of its entries.
 ///
-/// Room for three entries is reserved first, for each `ENTRY_MAX` octets and 11 for its length and
-/// space, and for a piece of `READ_MAX` octets of each reader; no further memory is taken. In itself
-/// the call has 16,384 octets that are held back, so that they leave by large pieces.
+/// Room is reserved first for three entries, `ENTRY_MAX` octets each and 11 more for its length and
+/// space, and for a piece of `READ_MAX` octets of each reader; no further memory is taken. The call
+/// itself holds back up to 16,384 octets, so that they leave in large pieces.
 ///
-/// An entry of the left is read, then one of the right. The lesser is written, or an equal pair
-/// once, and then the next one of each input that was written is read, the left first. The first
-/// fault that is met in this order is the answer, and what is held back is written before it.
+/// An entry of the left is read, then one of the right. The lesser is written, or equal ones once;
+/// then the next entry of each input that had it is read, the left one first. The first fault in
+/// this order is the answer, and what is held back is written before it.
 pub fn merge_streams<R1: Input, R2: Input, W: Output>(
     alloc: Global,
     left: &mut R1,

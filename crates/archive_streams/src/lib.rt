@@ -1,5 +1,5 @@
-//! Two archives of syslog records, each a text larger than memory, are joined as they are read from
-//! two devices and written to a third.
+//! Two archives of syslog records, each possibly larger than memory, are joined as they are read
+//! from two devices and written to a third.
 //!
 //! [`merge_streams`] holds three entries, whatever the archives hold. [`ArchiveEntries`] reads one
 //! archive entry by entry, and holds two.

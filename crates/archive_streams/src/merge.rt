@@ -13,14 +13,18 @@ use std::alloc::{AllocError, Global};
 use std::cmp::Ordering;
 use std::mem::swap;
 
-/// Two archives on their way into one: what was read of each, the entry that was written last, what
-/// is held back of the text, and how many entries that has.
+/// Two archives on their way into one.
 #[derive(Drop)]
 pub struct Merge {
+    /// What was read of the left one.
     pub left: ArchiveReader,
+    /// What was read of the right one.
     pub right: ArchiveReader,
+    /// The entry that was written last.
     pub last: EntryText,
+    /// What is held back of the text.
     pub held: BufferedOutput,
+    /// How many entries that text has.
     pub count: u64,
     pub ghost left_size: { size_of left.pieces ≡ READ_MAX },
     pub ghost right_size: { size_of right.pieces ≡ READ_MAX },
@@ -38,7 +42,7 @@ impl Merge {
     ghost use Rattle.archive_streams.specs.Steps.{RightWritten, TakesLeft, TakesRight, TellsLeft};
     ghost use Rattle.archive_streams.specs.Steps.{TellsRight, TellsWriter};
 
-    /// Before the first entries.
+    /// Two archives before their first entries. It fails only when out of memory.
     pub fn new(alloc: Global) -> Result<Merge, AllocError>
         ensures due { IfOk result IsLeftDue }
         ensures empty { IfOk result (λ m. m.right.entry.text.items ≡ []) }
@@ -54,8 +58,8 @@ impl Merge {
         })
     }
 
-    /// How the next entries of the two sides compare, where a side at its end is above the other.
-    /// None where both are at their ends.
+    /// How the next entries of the two sides compare; a side at its end counts as above the other.
+    /// None if both are at their ends.
     pub fn order(&self) -> Option<Ordering>
         requires { IsSteady self.now }
         ensures { MatchOption result (rank self.now ≡ 0) (λ order. IsNextOrder order self.now) }
@@ -72,7 +76,7 @@ impl Merge {
         Some(compare(&self.left.entry.view(), &self.right.entry.view()))
     }
 
-    /// Reads the next entry of the left, or finds its end.
+    /// Reads the next entry of the left, or finds its end. Faults are those of the left.
     pub fn advance_left<R: Input>(&mut self, left: &mut R) -> Result<(), MergeFault>
         requires { IsLeftDue self.old }
         ensures on { OnOk result (LeftIsOn self.old self.new) }
@@ -91,7 +95,7 @@ impl Merge {
         }
     }
 
-    /// Reads the next entry of the right, or finds its end.
+    /// Reads the next entry of the right, or finds its end. Faults are those of the right.
     pub fn advance_right<R: Input>(&mut self, right: &mut R) -> Result<(), MergeFault>
         requires { IsRightDue self.old }
         ensures on { OnOk result (RightIsOn self.old self.new) }
@@ -110,7 +114,7 @@ impl Merge {
         }
     }
 
-    /// Writes the next entry of the left.
+    /// Writes the next entry of the left. It fails if the writer does.
     pub fn write_left<W: Output>(&mut self, writer: &mut W) -> Result<(), MergeFault>
         requires steady { IsSteady self.old }
         requires some { self.old.left.entry.text.items ≢ [] }
@@ -130,7 +134,7 @@ impl Merge {
         }
     }
 
-    /// Writes the next entry of the right.
+    /// Writes the next entry of the right. It fails if the writer does.
     pub fn write_right<W: Output>(&mut self, writer: &mut W) -> Result<(), MergeFault>
         requires steady { IsSteady self.old }
         requires some { self.old.right.entry.text.items ≢ [] }

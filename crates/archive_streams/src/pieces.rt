@@ -1,4 +1,4 @@
-//! What a reader gave and was not yet used.
+//! What a reader gave and has not been used yet.
 
 ghost use Rattle.std.specs.Prelude.{◌≡◌, ◌≤◌, ◌<◌, ◌+◌, ◌++◌, [], length, drop, take, false};
 ghost use Rattle.std.specs.Prelude.{IfOk, IsTrue, IsErrOf, OnErr, vec_capacity, vec_len};
@@ -12,15 +12,18 @@ use std::alloc::{AllocError, Global};
 /// The most octets that [`ArchiveEntries`](crate::ArchiveEntries) asks of a reader per call.
 pub const ENTRIES_READ_MAX: usize = 262_144;
 
-/// A reader's octets, a piece at a time, of as many octets as `piece` has at most: from `start` to
-/// `end` they were given and not yet used. `calls` of the reader were made, and `ends` of them gave
-/// the end.
+/// The octets of a reader, a piece at a time.
 #[derive(Drop)]
 pub struct Pieces {
+    /// The last piece, in a vector of as many octets as a piece has at most.
     pub piece: Vec<u8>,
+    /// Where in it the octets begin that have not been used yet.
     pub start: usize,
+    /// Where in it they end.
     pub end: usize,
+    /// How often the reader was called.
     pub calls: u64,
+    /// How often it gave its end: 0 or 1.
     pub ends: u64,
     pub ghost some: { 0 < vec_len piece },
     pub ghost most: { vec_len piece ≤ ENTRIES_READ_MAX },
@@ -33,7 +36,8 @@ pub struct Pieces {
 impl Pieces {
     ghost use Rattle.archive_streams.specs.Pieces.{unused, size_of, FailuresOf, ReadsOn, TakesMore};
 
-    /// Before the first call. Room for a piece of this size is reserved.
+    /// The pieces of a reader before its first call. Room for a piece of `size` octets is reserved;
+    /// it fails only when out of memory.
     pub fn new(alloc: Global, size: usize) -> Result<Pieces, AllocError>
         requires some { 0 < size }
         requires most { size ≤ ENTRIES_READ_MAX }
@@ -51,15 +55,16 @@ impl Pieces {
         })
     }
 
-    /// The octets that are not yet used.
+    /// The octets that have not been used yet.
     pub fn rest(&self) -> &[u8]
         ensures { result.now ≡ unused self.now }
     {
         &self.piece[self.start..self.end]
     }
 
-    /// Calls the reader where all octets are used, and says whether there are any then. At the end
-    /// there are none, and the reader is not called again.
+    /// Calls the reader if all octets are used, and tells whether there are any then. At the end
+    /// there are none, and the reader is not called again. It fails as the variants of
+    /// [`InputFault`] say.
     pub fn fill<R: Input>(&mut self, reader: &mut R) -> Result<bool, InputFault>
         ensures reads { ReadsOn self.old self.new
             (R.state reader.old) (R.state reader.new)
@@ -98,8 +103,8 @@ impl Pieces {
         }
     }
 
-    /// Moves octets behind a text, `most` at most, and says whether there were any. Only at the end
-    /// there are none.
+    /// Moves octets, `most` at most, behind a text, and tells whether there were any. There are
+    /// none only at the end. It fails as the variants of [`InputFault`] say.
     pub fn take<R: Input>(
         &mut self,
         reader: &mut R,
@@ -130,7 +135,7 @@ impl Pieces {
         Ok(true)
     }
 
-    /// Moves so many octets behind a text.
+    /// Moves the next `used` octets behind a text.
     pub fn move_behind(&mut self, text: &mut Vec<u8>, used: usize)
         requires within { used ≤ length (unused self.old) }
         requires room { vec_len text.old + used ≤ vec_capacity text.old }

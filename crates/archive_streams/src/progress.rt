@@ -9,6 +9,6 @@ pub enum Progress {
     Open,
     /// The end was found.
     Ended,
-    /// No entry could be read, for this fault.
+    /// An entry could not be read, for this reason.
     Stopped(SideFault),
 }

@@ -1,4 +1,4 @@
-//! One entry is read from the text of an archive, as its octets come in pieces of any cut.
+//! One entry is read from the text of an archive whose octets come in pieces, cut anywhere.
 
 ghost use Rattle.std.specs.Prelude.{◌≡◌, ◌<◌, ◌≤◌, ◌+◌, ◌++◌, [], false, IsTrue};
 ghost use Rattle.std.specs.Prelude.{IfErr, IfOk, IfSome, IsNone, OnOk};
@@ -17,14 +17,14 @@ use archive_text::{ArchiveFault, ENTRY_MAX};
 use octet_devices::Input;
 use syslog_frame::{MsgLen, msg_len};
 
-/// What one octet more makes of a length.
+/// What one more octet makes of a length.
 #[derive(Clone, Copy, Debug)]
 pub enum CountStep {
-    /// There is none, at the end before the first digit.
+    /// There is no length: the end came before the first digit.
     End,
-    /// It goes on.
+    /// The length goes on.
     More,
-    /// It is whole, with its space.
+    /// The length is whole, with its space.
     Whole(u64),
 }
 
@@ -98,7 +98,7 @@ fn read_count<R: Input>(
     }
 }
 
-/// Reads so many octets behind a text.
+/// Reads so many octets, and puts them behind a text.
 fn read_octets<R: Input>(
     pieces: &mut Pieces,
     reader: &mut R,
@@ -133,8 +133,8 @@ fn read_octets<R: Input>(
     Ok(())
 }
 
-/// Takes the text of an entry that lies whole in what the reader gave last, and answers where its
-/// octets begin.
+/// Takes the text of an entry that lies whole in what the reader gave last, and gives the offset of
+/// its octets.
 fn take_whole(pieces: &mut Pieces, text: &mut Vec<u8>) -> Option<usize>
     requires empty { text.old.items ≡ [] }
     requires room { TEXT_MAX ≤ vec_capacity text.old }
@@ -158,8 +158,8 @@ fn take_whole(pieces: &mut Pieces, text: &mut Vec<u8>) -> Option<usize>
     Some(used)
 }
 
-/// Reads the text of an entry that is cut, piece by piece, or finds the end before it. Answers where
-/// its octets begin.
+/// Reads the text of an entry that is cut, piece by piece, or finds the end before it. It gives the
+/// offset of the entry's octets.
 fn read_cut<R: Input>(
     pieces: &mut Pieces,
     reader: &mut R,
@@ -190,7 +190,7 @@ fn read_cut<R: Input>(
     Ok(Some(start))
 }
 
-/// Reads the text of an entry, or finds the end before it. Answers where its octets begin.
+/// Reads the text of an entry, or finds the end before it. It gives the offset of the entry's octets.
 fn read_text<R: Input>(
     pieces: &mut Pieces,
     reader: &mut R,
@@ -216,7 +216,8 @@ fn read_text<R: Input>(
     }
 }
 
-/// Reads the next entry, or finds the end before it.
+/// Reads the next entry, or finds the end before it. It fails if what follows is no entry, the
+/// reader fails, or it gives no end.
 pub fn read_entry<R: Input>(
     pieces: &mut Pieces,
     reader: &mut R,

@@ -15,12 +15,14 @@ use archive_text::ArchiveFault;
 use octet_devices::Input;
 use std::alloc::{AllocError, Global};
 
-/// An archive that is read entry by entry: the entry that was read last, or none at the end, and
-/// the position of the first octet behind it.
+/// An archive that is read entry by entry.
 #[derive(Drop)]
 pub struct ArchiveReader {
+    /// The pieces in which it is read.
     pub pieces: Pieces,
+    /// The position of the first octet behind the entry that was read last.
     pub position: u64,
+    /// The entry that was read last, or none at the end.
     pub entry: EntryText,
 }
 
@@ -28,7 +30,8 @@ impl ArchiveReader {
     ghost use Rattle.archive_streams.specs.Sides.{HoldsNext, IsNear, IsNextFault, IsOn};
     ghost use Rattle.archive_streams.specs.Sides.{ReadiesSide, StopsSide};
 
-    /// Before the first entry. The reader is to be asked for so many octets a call.
+    /// An archive before its first entry, whose reader is asked for `size` octets per call. It
+    /// fails only when out of memory.
     pub fn new(alloc: Global, size: usize) -> Result<ArchiveReader, AllocError>
         requires some { 0 < size }
         requires most { size ≤ ENTRIES_READ_MAX }
@@ -48,7 +51,9 @@ impl ArchiveReader {
         })
     }
 
-    /// Reads the next entry, which must be above the last one, or finds the end.
+    /// Reads the next entry, which must be above the last one, and answers true; or finds the end,
+    /// and answers false. It fails if what follows is no such entry, the reader fails, or it gives
+    /// no end.
     pub fn next<R: Input>(&mut self, reader: &mut R, last: &EntryText) -> Result<bool, SideFault>
         requires room { TEXT_MAX ≤ vec_capacity self.old.entry.text }
         requires last { last.now.start ≤ vec_len last.now.text }
@@ -84,7 +89,8 @@ impl ArchiveReader {
         }
     }
 
-    /// Reads the next entry behind the last one, which was joined, or finds the end.
+    /// Reads the next entry behind the last one that was joined, or finds the end. The faults are
+    /// those of `next`.
     pub fn advance<R: Input>(&mut self, reader: &mut R, last: &EntryText) -> Result<(), SideFault>
         requires room { TEXT_MAX ≤ vec_capacity self.old.entry.text }
         requires last { last.now.start ≤ vec_len last.now.text }

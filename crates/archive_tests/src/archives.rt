@@ -1,4 +1,4 @@
-//! Archives whose texts are known from outside.
+//! Archives whose texts are known independently.
 
 use crate::support::{A, ARCHIVE, B, C, store_of, text_of};
 use archive_pages::PagedArchive;

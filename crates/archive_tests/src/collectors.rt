@@ -57,7 +57,7 @@ fn datagrams_and_a_line_are_archived(rt: HostRuntime) -> Result<(), Fail> {
     Ok(())
 }
 
-/// The two counted streams, each in two pieces, in turns.
+/// The two counted streams, each in two pieces, by turns.
 fn turns<'a>(first: (&'a [u8], &'a [u8]), second: (&'a [u8], &'a [u8])) -> [Event<'a>; 8] {
     let framing = Framing::Counted;
     [

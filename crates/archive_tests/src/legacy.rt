@@ -14,8 +14,8 @@ const CRON: &[u8] = b"<13>Feb  5 17:32:18 10.0.0.99 cron[42]: x";
 
 const BFG: &[u8] = b"Use the BFG!";
 
-/// The archive of the two, of the record A and of the empty packet, under a clock of 2001 that is
-/// five hours behind UTC.
+/// The archive of the two packets, of the record A and of the empty packet, under a clock of 2001
+/// that is five hours behind UTC.
 const ARCHIVE: &[u8] = b"17 <13>1 - - - - - -\
     30 <13>1 - - - - - - Use the BFG!\
     19 <13>1 - h a - - - x\
@@ -27,7 +27,7 @@ const LINES: &[u8] = b"<13>Feb  5 17:32:18 10.0.0.99 cron[42]: x\nUse the BFG!\n
 const COUNTED: &[u8] =
     b"12 Use the BFG!41 <13>Feb  5 17:32:18 10.0.0.99 cron[42]: x19 <13>1 - h a - - - x";
 
-/// A message that begins with the byte order mark, and is no UTF-8 from its second octet on.
+/// A message that begins with the byte order mark, and is not UTF-8 from its second octet on.
 const NO_UTF8: &[u8] = b"\xef\xbb\xbfA\xff";
 
 fn clock() -> Result<LegacyClock, Fail> {

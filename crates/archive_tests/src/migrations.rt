@@ -1,4 +1,4 @@
-//! Archives whose elements were kept in the order of the octets.
+//! Archives of the old form, whose elements stand in the order of the octets.
 
 use crate::support::ARCHIVE;
 use archive_migration::{ReadFault, migrate};

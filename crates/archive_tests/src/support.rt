@@ -8,18 +8,22 @@ use syslog_collect::{Collector, Event, Outcome, RunEnd};
 use syslog_grammar::view;
 use syslog_legacy::LegacyClock;
 
+/// A record without a time.
 pub const A: &[u8] = b"<13>1 - h a - - - x";
 
+/// A record of 23:30 UTC.
 pub const B: &[u8] = b"<14>1 2024-02-29T23:30:00.000000Z h a - - - y";
 
+/// A record of 23:00 UTC, half an hour before B.
 pub const C: &[u8] = b"<12>1 2024-02-29T23:00:00.000000Z h a - - - z";
 
-/// The archive of the three.
+/// The archive of the three records.
 pub const ARCHIVE: &[u8] = b"19 <13>1 - h a - - - x\
     45 <12>1 2024-02-29T23:00:00.000000Z h a - - - z\
     45 <14>1 2024-02-29T23:30:00.000000Z h a - - - y";
 
-/// A store with the records of these octets added.
+/// A store with the records of these octets added. It fails if octets are no record or memory runs
+/// out.
 pub fn store_of<S: Store + Drop>(
     alloc: Global,
     mut store: S,
@@ -32,14 +36,15 @@ pub fn store_of<S: Store + Drop>(
     Ok(store)
 }
 
-/// The text of a store.
+/// The text of a store. It fails only when out of memory.
 pub fn text_of<S: Store>(alloc: Global, store: &S) -> Result<Vec<u8>, Fail> {
     let mut writer = ToWrite::new(Vec::new(alloc));
     store.write(&mut writer)?;
     Ok(writer.into_inner())
 }
 
-/// A collector over a store, which reads legacy packets under a clock, if it has one.
+/// A collector over a store, which reads legacy packets under a clock, if it has one. It fails only
+/// when out of memory.
 pub fn collector_under<S: Store + Drop>(
     alloc: Global,
     clock: Option<LegacyClock>,
@@ -51,12 +56,13 @@ pub fn collector_under<S: Store + Drop>(
     }
 }
 
-/// A collector over a store.
+/// A collector over a store. It fails only when out of memory.
 pub fn collector<S: Store + Drop>(alloc: Global, store: S) -> Result<Collector<S>, Fail> {
     collector_under(alloc, None, store)
 }
 
-/// The end of a run over events, what it logs, and the text of the archive then.
+/// The end of a run over events, what it logs, and the text of the archive then. It fails only when
+/// out of memory.
 pub fn collected<S: Store + Drop>(
     alloc: Global,
     store: S,
@@ -65,7 +71,7 @@ pub fn collected<S: Store + Drop>(
     collected_under(alloc, None, store, events)
 }
 
-/// The same, where legacy packets are read under a clock, if there is one.
+/// The same, with legacy packets read under a clock, if there is one.
 pub fn collected_under<S: Store + Drop>(
     alloc: Global,
     clock: Option<LegacyClock>,

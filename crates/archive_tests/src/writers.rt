@@ -10,8 +10,8 @@ use std::process::Abort;
 use std::test::Fail;
 use syslog_grammar::view;
 
-/// The answer of a write, and what a device took that passes so many octets and then fails, and
-/// that fails at the call after so many.
+/// The answer of a write, and what was taken by a device that passes so many octets and then fails,
+/// and that fails at the call after the first ones.
 fn written<S: Store>(
     alloc: Global,
     store: &S,
@@ -23,7 +23,8 @@ fn written<S: Store>(
     (answer, writer.into_inner().into_inner())
 }
 
-/// Each number of octets after which the device fails: so many were written, as the answer says.
+/// For each number of octets after which the device fails: so many were written, as the answer
+/// says.
 fn each_octet_fails<S: Store>(rt: &(impl Abort + AllocGlobal), store: &S) {
     assert_eq!(rt; ARCHIVE.len(), 118);
     for sent in 0..118 {
@@ -63,7 +64,7 @@ fn long_store<S: Store + Drop>(alloc: Global, mut store: S) -> Result<S, Fail> {
 }
 
 /// Each write fails in turn: what was written is a prefix, and as long as the answer says. Gives
-/// how many writes there are.
+/// the number of writes.
 fn each_write_fails<S: Store>(rt: &(impl Abort + AllocGlobal), store: &S) -> Result<u64, Fail> {
     let alloc = rt.alloc();
     let text = text_of(alloc, store)?;

@@ -9,28 +9,28 @@ use thiserror::Error;
 /// Why octets are no entry of an archive.
 #[derive(Clone, Copy, Debug, PartialEq, Eq, Error)]
 pub enum EntryFault {
-    /// The octets are no well-formed record.
+    /// The octets are no well-formed record. The offset of the fault counts from the first of them.
     #[error("{0}")]
     Bad(Fault),
-    /// The octets are a record, and not its canonical form.
+    /// The octets are a record, but not its canonical form.
     #[error("not canonical")]
     NotCanonical,
 }
 
-/// Why a text is no archive. Positions count octets from the start of the text; `at` of the last
-/// four is the first digit of the entry.
+/// Why a text is no archive. Positions count octets from the start of the text, from 0; `at` of the
+/// last four is the position of the entry's first digit.
 #[derive(Clone, Copy, Debug, PartialEq, Eq, Error)]
 pub enum ArchiveFault {
-    /// No MSG-LEN goes on with the octet there, or the text ends inside an entry.
+    /// No MSG-LEN can continue with the octet there, or the text ends inside an entry.
     #[error("bad frame at {at}")]
     BadFrame { at: u64 },
-    /// The entry has more octets than an archive may hold.
+    /// The entry has more octets than an archive allows.
     #[error("entry too long at {at}")]
     EntryTooLong { at: u64 },
-    /// The octets of the entry are no record. The offset in `fault` counts from the entry's octets.
+    /// The octets of the entry are no record. The offset in `fault` counts from the first of them.
     #[error("bad entry at {at}: {fault}")]
     BadEntry { at: u64, fault: Fault },
-    /// The octets of the entry are a record, and not its canonical form.
+    /// The octets of the entry are a record, but not its canonical form.
     #[error("not canonical at {at}")]
     NotCanonical { at: u64 },
     /// The entry is not above the one before it.
@@ -39,8 +39,8 @@ pub enum ArchiveFault {
 }
 
 impl ArchiveFault {
-    /// The same fault in a text with so many octets before this one. A position that would pass
-    /// `u64::MAX` stays there.
+    /// The same fault in a text that has `octets` octets before this one. A position that would
+    /// exceed `u64::MAX` becomes that.
     pub fn later(self, octets: u64) -> ArchiveFault
         ensures fits { octets + position_of self < 2 ^ 64 → result ≡ later octets self }
         ensures passes { 2 ^ 64 ≤ octets + position_of self

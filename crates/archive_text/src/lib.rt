@@ -1,7 +1,7 @@
 //! The text of an archive: a finite set of syslog records, written as the canonical octets of each,
 //! once, in one order, each with its length before it. Equal sets are equal texts.
 //!
-//! [`EntryView`] is an entry as it is lent, [`read_entry`] reads one from a text, [`compare`] orders
+//! [`EntryView`] is an entry that is lent, [`read_entry`] reads one from a text, [`compare`] orders
 //! two, [`put_entry`] writes one. [`Store`] is what an archive in memory offers.
 #![tactic(auto)]
 

@@ -24,13 +24,13 @@ pub enum Added {
     Held,
 }
 
-/// Why a record was not added.
+/// Why a record was not added: the first of these that holds.
 #[derive(Clone, Copy, Debug, PartialEq, Eq, Error)]
 pub enum AddFault {
     /// Its canonical form has more than `ENTRY_MAX` octets.
     #[error("the canonical record is too long for an archive")]
     TooLong,
-    /// A growth was refused.
+    /// An allocation failed.
     #[error("out of memory")]
     Memory,
 }
@@ -45,7 +45,7 @@ pub trait Store {
     // they are an archive: strictly ascending entries of records, each within the limit
     ghost archive: { (s : Self) → IsArchive ENTRY_MAX (entries s) };
 
-    /// Adds a record. A refusal leaves the set as it was.
+    /// Adds a record. A refusal, as the variants of [`AddFault`] say, leaves the set as it was.
     fn add(&mut self, alloc: Global, record: &Record) -> Result<Added, AddFault>
         ensures ok { IfOk result (λ added.
             AddsRecord record.now (entries self.old) (entries self.new) added) }
@@ -70,7 +70,7 @@ pub trait Store {
         }
     }
 
-    /// Whether a record is held.
+    /// Whether a record is held. It fails only when out of memory.
     fn holds(&self, alloc: Global, record: &Record) -> Result<bool, AllocError>
         ensures { IfOk result (λ held. (e : Entry) → IsEntryOf record.now e →
             (IsTrue held ↔ Has (entries self.now) e)) };
@@ -79,8 +79,8 @@ pub trait Store {
     fn len(&self) -> usize
         ensures { result ≡ length (entries self.now) };
 
-    /// Writes the text of the archive. Under a fault its first octets were written, so many as the
-    /// fault says.
+    /// Writes the text of the archive. If the writer fails, the first octets of the text were
+    /// written, as many as the fault says.
     fn write<W: Output>(&self, writer: &mut W) -> Result<(), WriteFault>
         ensures { WritesAll (W.state writer.old) (W.state writer.new) (text_of (entries self.now))
             result };

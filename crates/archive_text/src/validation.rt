@@ -11,7 +11,8 @@ use crate::fault::{ArchiveFault, EntryFault};
 use syslog_frame::{MsgLen, msg_len};
 use syslog_grammar::view_and_form;
 
-/// The entry that the octets are: they are the canonical form of a record.
+/// The entry that the octets are, if they are the canonical form of a record. Else the fault says
+/// why not.
 pub fn entry_of_octets(octets: &[u8]) -> Result<EntryView<'_>, EntryFault>
     ensures entry { IfOk result (λ v. IsEntry (entry_of v) × (v.octets.now ≡ octets.now)) }
     ensures fault { MatchResult result (λ _. Unit {0}) (IsEntryFault octets.now) }
@@ -29,8 +30,8 @@ pub fn entry_of_octets(octets: &[u8]) -> Result<EntryView<'_>, EntryFault>
     })
 }
 
-/// Reads the entry of at most `most` octets that a text begins with, and gives what follows it. The
-/// fault's positions count from the start of this text.
+/// Reads the entry of at most `most` octets that a text begins with, and gives what follows it.
+/// Positions of the fault count from the start of this text.
 pub fn read_entry(most: u64, text: &[u8]) -> Result<(EntryView<'_>, &[u8]), ArchiveFault>
     ensures { MatchResult result
         (λ x. BeginsWithEntry most text.now (entry_of x.0) x.1.now)

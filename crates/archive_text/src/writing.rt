@@ -7,8 +7,8 @@ ghost use Rattle.syslog_frame.specs.declared.framing.Framing.TheVariants.{Counte
 use itoa::Buffer;
 use octet_devices::{BufferedOutput, Output, WriteFault};
 
-/// Puts the text of the entry with these octets behind what is held: their length, a space and the
-/// octets (RFC 6587, 3.4.1). A fault counts from the first octet ever put.
+/// Puts the text of the entry with these octets behind what is held: their number, a space and the
+/// octets (RFC 6587, 3.4.1). A fault counts octets from the first one ever put.
 pub fn put_entry<W: Output>(
     held: &mut BufferedOutput,
     writer: &mut W,

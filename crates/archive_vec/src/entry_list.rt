@@ -15,7 +15,7 @@ use std::alloc::{AllocError, Global};
 use std::cmp::Ordering;
 use std::marker::Model;
 
-/// Entries of records, strictly ascending, none above the limit of an archive.
+/// Entries of records, strictly ascending, none of more than `ENTRY_MAX` octets.
 #[derive(Drop)]
 pub struct EntryList {
     octets: Vec<u8>,
@@ -36,7 +36,7 @@ impl Model for EntryList {
 }
 
 impl EntryList {
-    /// No entries.
+    /// A list without entries.
     pub fn new(alloc: Global) -> EntryList
         ensures { result ≡ [] }
     {
@@ -55,7 +55,7 @@ impl EntryList {
         self.spans.len()
     }
 
-    /// The entry with so many below it.
+    /// The entry at an index, which is how many entries are below it.
     pub fn at(&self, index: usize) -> EntryView<'_>
         requires { index < length self.now }
         ensures { slice_get self.now index ≡ Some (entry_of result) }
@@ -92,7 +92,8 @@ impl EntryList {
         Err(low)
     }
 
-    /// The index of an entry, or where it goes. An entry above all others is found so at once.
+    /// The index of an entry, or else where it belongs. An entry above all others is found by one
+    /// comparison.
     pub fn find(&self, entry: &EntryView<'_>) -> Result<usize, usize>
         ensures { IsFound self.now (entry_of entry.now) result }
     {
@@ -107,7 +108,7 @@ impl EntryList {
         }
     }
 
-    /// Inserts an entry at an index where it goes.
+    /// Inserts an entry at the index where it belongs. If an allocation fails, nothing changes.
     pub fn insert(&mut self, index: usize, entry: &EntryView<'_>) -> Result<(), AllocError>
         requires gap { IsGap self.old (entry_of entry.now) index }
         requires entry { IsEntry (entry_of entry.now) }
@@ -149,7 +150,7 @@ impl EntryList {
         }
     }
 
-    /// Adds an entry, or finds it.
+    /// Adds an entry, unless it is there already. A refusal changes nothing.
     pub fn add(&mut self, entry: &EntryView<'_>) -> Result<Added, AddFault>
         requires { IsEntry (entry_of entry.now) }
         ensures ok { IfOk result (λ added. AddsEntry (entry_of entry.now) self.old self.new added) }
@@ -177,7 +178,7 @@ impl EntryList {
         }
     }
 
-    /// Puts an entry behind the others.
+    /// Puts an entry behind the others. If an allocation fails, nothing changes.
     pub fn push(&mut self, entry: &EntryView<'_>) -> Result<(), AllocError>
         requires below { AllByRecursion (λ x. IsBelow x (entry_of entry.now)) self.old }
         requires entry { IsEntry (entry_of entry.now) }

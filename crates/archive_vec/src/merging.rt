@@ -24,7 +24,7 @@ impl EntryList {
         Ok(())
     }
 
-    /// The entries of this list and of another one, once each.
+    /// The entries of this list and of another one, each once. It fails only when out of memory.
     pub fn merged(&self, alloc: Global, other: &EntryList) -> Result<EntryList, AllocError>
         ensures { IfOk result (IsUnionOfEntries self.now other.now) }
     {

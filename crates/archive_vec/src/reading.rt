@@ -13,10 +13,10 @@ use thiserror::Error;
 /// Why no archive was read.
 #[derive(Clone, Copy, Debug, PartialEq, Eq, Error)]
 pub enum ReadFault {
-    /// The text is no archive.
+    /// The text is no archive, for this reason.
     #[error("{0}")]
     Bad(ArchiveFault),
-    /// A growth was refused.
+    /// An allocation failed.
     #[error("out of memory")]
     Memory,
 }
@@ -44,7 +44,7 @@ impl EntryList {
         }
     }
 
-    /// Reads the entries that a text is of.
+    /// Reads the entries of which this is the text. The refusals are those of [`ReadFault`].
     pub fn read(alloc: Global, text: &[u8]) -> Result<EntryList, ReadFault>
         ensures ok { IfOk result (λ list. text.now ≡ text_of list) }
         ensures err { IfErr result (IsReadFault text.now) }

@@ -1,4 +1,4 @@
-//! The archive as a store.
+//! The archive in memory as a store.
 
 use crate::vec_archive::VecArchive;
 use archive_text::{AddFault, Added, Store};

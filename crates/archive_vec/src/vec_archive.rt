@@ -31,7 +31,7 @@ pub struct VecArchive {
 }
 
 impl VecArchive {
-    /// No records.
+    /// An archive without records.
     pub fn new(alloc: Global) -> VecArchive
         ensures { result.list ≡ [] }
     {
@@ -43,7 +43,8 @@ impl VecArchive {
         }
     }
 
-    /// The canonical octets of the entry with so many below it.
+    /// The canonical octets of the entry at an index, which is how many entries are below it; None
+    /// behind the last.
     pub fn get(&self, index: usize) -> Option<&[u8]>
         ensures { option_map (λ s. s.now) result
             ≡ option_map (λ e. e.octets) (slice_get self.now.list index) }
@@ -55,7 +56,7 @@ impl VecArchive {
         }
     }
 
-    /// Adds a record. A refusal leaves the set as it was.
+    /// Adds a record. A refusal, as the variants of [`AddFault`] say, leaves the set as it was.
     pub fn add(&mut self, alloc: Global, record: &Record) -> Result<Added, AddFault>
         ensures ok { IfOk result (λ added. AddsRecord record.now self.old.list self.new.list added) }
         ensures err { OnErr result (self.new.list ≡ self.old.list) }
@@ -72,7 +73,8 @@ impl VecArchive {
         })
     }
 
-    /// Adds the record that a view shows, without a copy of its parts, as `add` does.
+    /// Adds the record that a view shows, without a copy of its parts, as `add` does. The refusals
+    /// are the same.
     pub fn add_view(&mut self, alloc: Global, view: &RecordView<'_>) -> Result<Added, AddFault>
         ensures ok { IfOk result (λ added. (b : List ℕ) → IsViewOf b (view_parts view.now) →
             (r : Parts ℤ) × WellFormed r b × AddsRecord r self.old.list self.new.list added) }
@@ -92,7 +94,7 @@ impl VecArchive {
         })
     }
 
-    /// Whether a record is held.
+    /// Whether a record is held. It fails only when out of memory.
     pub fn holds(&self, alloc: Global, record: &Record) -> Result<bool, AllocError>
         ensures { IfOk result (λ held. (e : Entry) → IsEntryOf record.now e →
             (IsTrue held ↔ Has self.now.list e)) }
@@ -114,8 +116,8 @@ impl VecArchive {
         self.list.len()
     }
 
-    /// Writes the text of the archive. Under a fault its first octets were written, so many as the
-    /// fault says.
+    /// Writes the text of the archive. If the writer fails, the first octets of the text were
+    /// written, as many as the fault says.
     pub fn write<W: Output>(&self, writer: &mut W) -> Result<(), WriteFault>
         ensures { WritesAll (W.state writer.old) (W.state writer.new) (text_of self.now.list)
             result }
@@ -123,7 +125,7 @@ impl VecArchive {
         self.list.write(writer)
     }
 
-    /// Reads an archive from its text, whose entries are then the archive's.
+    /// Reads an archive from its text. The refusals are those of [`ReadFault`].
     pub fn read(alloc: Global, text: &[u8]) -> Result<VecArchive, ReadFault>
         ensures ok { IfOk result (λ archive. text.now ≡ text_of archive.list) }
         ensures err { IfErr result (IsReadFault text.now) }
@@ -141,7 +143,7 @@ impl VecArchive {
     }
 }
 
-/// The archive of the records of two archives.
+/// The archive of the records of two archives. It fails only when out of memory.
 pub fn merge(alloc: Global, left: &VecArchive, right: &VecArchive) -> Result<VecArchive, AllocError>
     ensures members { IfOk result (λ merged.
         IsUnionOfEntries left.now.list right.now.list merged.list) }

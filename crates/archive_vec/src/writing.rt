@@ -8,8 +8,8 @@ use archive_text::put_entry;
 use octet_devices::{BufferedOutput, Output, WriteFault};
 
 impl EntryList {
-    /// Writes the text of the archive. Under a fault its first octets were written, so many as the
-    /// fault says.
+    /// Writes the text of the archive. If the writer fails, the first octets of the text were
+    /// written, as many as the fault says.
     pub fn write<W: Output>(&self, writer: &mut W) -> Result<(), WriteFault>
         ensures { WritesAll (W.state writer.old) (W.state writer.new) (text_of self.now) result }
     {

@@ -6,8 +6,8 @@ ghost use Rattle.c_library.specs.Answers.{HandsOver, Refused};
 use crate::fault::SyslogboxFault;
 use crate::numbers::NO_ROOM;
 
-/// Puts a text at the front of the room and answers its length; or, where the room is too small, -1 and how many
-/// octets it has to have.
+/// Puts a text at the front of the room and returns its length; or, if the room is too small, -1
+/// and how many octets it must have.
 fn hand_over(text: &[u8], out: &mut [u8], fault: &mut SyslogboxFault) -> i64
     ensures { HandsOver text.now (record { room = out.old; fault = fault.old })
         (record { room = out.new; fault = fault.new }) result }
@@ -20,7 +20,7 @@ fn hand_over(text: &[u8], out: &mut [u8], fault: &mut SyslogboxFault) -> i64
     text.len() as i64
 }
 
-/// Hands a text over; or answers -1 with why there is none.
+/// Hands a text over; or returns -1 and why there is none.
 pub fn answer(
     text: Result<Vec<u8>, SyslogboxFault>,
     out: &mut [u8],

@@ -49,8 +49,8 @@ fn union_text(alloc: Global, left: &[u8], right: &[u8]) -> Result<Vec<u8>, Syslo
     }
 }
 
-/// Writes the archive of the records of two archives, and answers how many octets it has; or -1 and why not. Where
-/// both texts are no archives, the fault is that of the left one.
+/// Writes the archive of the records of two archives, and returns how many octets it has; or -1 and
+/// why not. If neither text is an archive, the fault is that of the left one.
 #[unsafe(no_mangle)]
 pub extern "C" fn syslogbox_proved_union(
     alloc: Global,

@@ -10,10 +10,10 @@ use crate::numbers::NO_MEMORY;
 use std::alloc::Global;
 use syslog_grammar::write_canonical_octets;
 
-/// So many octets more a canonical record mostly has at most than the octets that were read.
+/// How many octets more than those that were read a canonical record mostly has at most.
 const TIMESTAMP_GROWTH: usize = 8;
 
-/// The canonical octets of the record that the octets are.
+/// The canonical octets of the record that the octets are. It fails with their fault, or out of memory.
 pub fn canonical_text(alloc: Global, octets: &[u8]) -> Result<Vec<u8>, SyslogboxFault>
     ensures { MatchResult result (λ v. CanonicalOf octets.now v.items) (IsNoRecord octets.now) }
 {
@@ -28,7 +28,8 @@ pub fn canonical_text(alloc: Global, octets: &[u8]) -> Result<Vec<u8>, Syslogbox
     }
 }
 
-/// Writes the canonical octets of the record that the octets are, and answers how many they are; or -1 and why not.
+/// Writes the canonical octets of the record that the octets are, and returns how many they are; or
+/// -1 and why not.
 #[unsafe(no_mangle)]
 pub extern "C" fn syslogbox_proved_canonical(
     alloc: Global,

@@ -15,10 +15,11 @@ use crate::walk::{count_params, elements_text, from_element};
 use syslog_grammar::view;
 use syslog_reading::first_element::first_element;
 
-/// An element, as it lies in a record.
+/// An element, as it lies in a record (RFC 5424, 6.3.1).
 #[repr(C)]
 #[derive(Clone, Copy)]
 pub struct SyslogboxElement {
+    /// Its id (SD-ID, 6.3.2).
     pub id: SyslogboxSpan,
     /// How many parameters it has.
     pub params: usize,
@@ -27,13 +28,17 @@ pub struct SyslogboxElement {
 /// An element of a record, and the offsets of its parts.
 #[derive(Clone, Copy)]
 pub struct FoundElement<'a> {
+    /// Its id.
     pub id: &'a [u8],
+    /// The offset of its id in the record.
     pub id_at: usize,
+    /// The octets of its parameters.
     pub params: &'a [u8],
+    /// The offset of these octets in the record.
     pub params_at: usize,
 }
 
-/// The id of the element that comes first, and the text of its parameters.
+/// The id of the element that comes first, and the octets of its parameters.
 fn split_element(text: &[u8]) -> (&[u8], &[u8])
     requires { (after : List ℕ) × Follows (AnyOf Element) text.now after }
     ensures { (e : ElementParts) (after : List ℕ) → Follows (Element e) text.now after
@@ -46,7 +51,8 @@ fn split_element(text: &[u8]) -> (&[u8], &[u8])
     (id, params)
 }
 
-/// Finds element number `n` of the record that the octets are, or tells why there is none.
+/// Finds element number `n`, from 0, of the record that the octets are. It fails with their fault,
+/// or if there are no more than `n` elements.
 pub fn find_element(octets: &[u8], n: usize) -> Result<FoundElement<'_>, SyslogboxFault>
     ensures { MatchResult result (IsFound octets.now n) (HasNoElement octets.now n) }
 {
@@ -69,8 +75,8 @@ pub fn find_element(octets: &[u8], n: usize) -> Result<FoundElement<'_>, Syslogb
     })
 }
 
-/// Shows element number `n`, from 0 on, in the order of the octets: 1; or 0 and why there is none, and the element is
-/// left as it was. It takes no memory.
+/// Shows element number `n`, from 0, in the order of the octets, and returns 1; or 0 and why there
+/// is none, with the element left as it was. It takes no memory.
 #[unsafe(no_mangle)]
 pub extern "C" fn syslogbox_proved_element(
     octets: &[u8],

@@ -17,9 +17,9 @@ use syslog_grammar::{Fault, Field};
 pub struct SyslogboxFault {
     /// What is wrong: a number of `enum syslogbox_kind`.
     pub kind: u32,
-    /// Where: a number of `enum syslogbox_field`, 0 where the kind names no field.
+    /// Where: a number of `enum syslogbox_field`, 0 if the kind names no field.
     pub field: u32,
-    /// The offset of an octet, or how many there are or have to be.
+    /// The offset of an octet, or how many there are or must be.
     pub offset: u64,
 }
 

@@ -18,13 +18,13 @@ pub enum NextFrame {
         end: usize,
         used: usize,
     },
-    /// The front of a frame. Where its count was read, the frame begins at `start` and will end at `end`; else both
+    /// The front of a frame. If its count was read, the frame begins at `start` and will end at `end`; otherwise both
     /// are 0.
     Waits {
         start: usize,
         end: usize,
     },
-    /// No frame goes on with the octet at this offset.
+    /// No frame can continue with the octet at this offset.
     Broken {
         at: usize,
     },
@@ -68,7 +68,7 @@ pub fn next_line(piece: &[u8]) -> NextFrame
     }
 }
 
-/// The framing of a number, where there is one.
+/// The framing with this number, if there is one.
 pub fn framing_of(number: i32) -> Option<Framing>
     ensures { MatchOption result ((kind : Framing) → ¬ (number ≡ framing_number kind))
         (λ kind. number ≡ framing_number kind) }
@@ -80,7 +80,7 @@ pub fn framing_of(number: i32) -> Option<Framing>
     }
 }
 
-/// Answers for what comes first.
+/// What is returned for what comes first.
 fn put_bounds(next: NextFrame, start: &mut usize, end: &mut usize) -> i64
     requires { IsAnswerable next }
     ensures { IsAnswered next (record { start = start.old; end = end.old })
@@ -114,9 +114,9 @@ fn put_bounds(next: NextFrame, start: &mut usize, end: &mut usize) -> i64
 
 /// The next frame of a stream, in a framing that is 1 for octet counting (RFC 6587, 3.4.1) and 2 for lines (3.4.2).
 ///
-/// The answer is how many octets of the piece the frame takes, and the frame is those from `start` to `end`. It is 0
-/// where no frame is whole yet; then `start` and `end` are those of the frame whose count was read, else 0. It is -1
-/// where no frame goes on with the octet at `start`, and -2 where there is no such framing.
+/// Returns how many octets of the piece the frame takes; the frame is those from `start` to `end`. Returns 0 if no
+/// frame is whole yet; then `start` and `end` are those of the frame whose count was read, else 0. Returns -1 if no
+/// frame can continue with the octet at `start`, and -2 if there is no such framing.
 #[unsafe(no_mangle)]
 pub extern "C" fn syslogbox_proved_frame(
     framing: i32,

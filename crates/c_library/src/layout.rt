@@ -7,13 +7,18 @@ ghost use Rattle.c_library.specs.Parts.{IsLayout};
 
 use syslog_grammar::RecordView;
 
-/// The offsets of the words and of the structured data.
+/// The offsets of the words and of the structured data in a record, in octets.
 #[derive(Clone, Copy)]
 pub struct Layout {
+    /// The offset of HOSTNAME.
     pub hostname: usize,
+    /// The offset of APP-NAME.
     pub app_name: usize,
+    /// The offset of PROCID.
     pub proc_id: usize,
+    /// The offset of MSGID.
     pub msg_id: usize,
+    /// The offset of STRUCTURED-DATA.
     pub structured_data: usize,
 }
 
@@ -28,7 +33,7 @@ fn behind_word(at: usize, word: Option<&[u8]>) -> usize
     }
 }
 
-/// Where the words and the structured data of the record lie that the octets are.
+/// Where the words and the structured data lie in the record that the octets are.
 pub fn layout_of(octets: &[u8], view: &RecordView<'_>) -> Layout
     requires { IsViewOf octets.now (view_parts view.now) }
     ensures { IsLayout octets.now (view_parts view.now) result }

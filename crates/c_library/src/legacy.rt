@@ -11,7 +11,7 @@ use crate::numbers::{BAD_CLOCK, NO_MEMORY, NOT_UTF8};
 use std::alloc::Global;
 use syslog_legacy::{LegacyClock, has_new_form, legacy_view, put_legacy_canonical};
 
-/// The clock of a year and an offset in minutes, where there is one.
+/// The clock of a year and an offset in minutes, if there is one.
 fn clock_of(year: i32, offset_minutes: i32) -> Option<LegacyClock>
     ensures { MatchOption result (¬ (IsClock year offset_minutes)) (IsClockOf year offset_minutes) }
 {
@@ -21,7 +21,7 @@ fn clock_of(year: i32, offset_minutes: i32) -> Option<LegacyClock>
     LegacyClock::new(year as u16, offset_minutes as i16)
 }
 
-/// The canonical octets of the record that a packet is read as.
+/// The canonical octets of the record as which a packet is read.
 fn legacy_text(
     alloc: Global,
     year: i32,
@@ -48,9 +48,9 @@ fn legacy_text(
     }
 }
 
-/// Writes the canonical octets of the record that a packet is read as under a clock, and answers how many they are;
-/// or -1 and why not. A packet with the front of RFC 5424 is read by that standard, any other by RFC 3164, section 4,
-/// in this year, from 1 to 9998, and so many minutes ahead of UTC, from -1439 to 1439.
+/// Writes the canonical octets of the record as which a packet is read under a clock, and returns how many they are; or
+/// -1 and why not. A packet with the front of RFC 5424 is read as that standard says; any other as RFC 3164, section 4,
+/// says, in this year, from 1 to 9998, and so many minutes ahead of UTC, from -1439 to 1439.
 #[unsafe(no_mangle)]
 pub extern "C" fn syslogbox_proved_legacy(
     alloc: Global,

@@ -1,8 +1,8 @@
 //! The library for C: records, frames and archives on octets and lengths, with results in the caller's room.
 //!
-//! The calls keep no state. Each says what the library's call says of the same octets, in both outcomes; and that
-//! of the caller's memory nothing else has changed. `include/syslogbox.h` declares them, each without `proved_`,
-//! behind a shim that takes a null pointer where the length is 0.
+//! The calls keep no state. Each says what the library's call says of the same octets, in both outcomes, and that
+//! nothing else in the caller's memory has changed. `include/syslogbox.h` declares them, each without `proved_`, behind
+//! a shim that takes a null pointer if the length is 0.
 #![tactic(auto)]
 
 mod answer;

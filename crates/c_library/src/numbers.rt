@@ -1,60 +1,89 @@
 //! The numbers of `include/syslogbox.h`.
 
 // enum syslogbox_kind
+/// The octets are outside the grammar (RFC 5424, section 6), from the offset on.
 pub const SYNTAX: u32 = 1;
 
+/// The timestamp at the offset names an instant before the year 0 or after the year 9999.
 pub const INSTANT_RANGE: u32 = 2;
 
+/// The element's id at the offset is that of an earlier one (RFC 5424, section 6.3.2).
 pub const REPEATED_ID: u32 = 3;
 
+/// The message of a legacy packet starts with the BOM and is not UTF-8 at the offset.
 pub const NOT_UTF8: u32 = 4;
 
+/// No count of an archive can continue with the octet at the offset, or the archive ends inside an
+/// entry.
 pub const BAD_FRAME: u32 = 5;
 
+/// The entry at the offset has more than `ENTRY_MAX` octets.
 pub const ENTRY_TOO_LONG: u32 = 6;
 
+/// The entry at the offset is no record.
 pub const BAD_ENTRY: u32 = 7;
 
+/// The entry at the offset is a record, but not in its canonical form.
 pub const NOT_CANONICAL: u32 = 8;
 
+/// The entry at the offset is not above the one before it.
 pub const NOT_ASCENDING: u32 = 9;
 
+/// The room is too small: the offset is how many octets are needed.
 pub const NO_ROOM: u32 = 10;
 
+/// An allocation failed.
 pub const NO_MEMORY: u32 = 11;
 
+/// The year or the offset from UTC is out of range.
 pub const BAD_CLOCK: u32 = 12;
 
+/// There is no such element: the offset is how many there are.
 pub const NO_ELEMENT: u32 = 13;
 
+/// There is no such parameter: the offset is how many there are.
 pub const NO_PARAM: u32 = 14;
 
 // enum syslogbox_field
+/// No field, as the kind of the fault names none.
 pub const NO_FIELD: u32 = 0;
 
+/// PRI (RFC 5424, section 6.2.1).
 pub const PRIORITY: u32 = 1;
 
+/// VERSION (6.2.2).
 pub const VERSION: u32 = 2;
 
+/// TIMESTAMP (6.2.3).
 pub const TIMESTAMP: u32 = 3;
 
+/// HOSTNAME (6.2.4).
 pub const HOSTNAME: u32 = 4;
 
+/// APP-NAME (6.2.5).
 pub const APP_NAME: u32 = 5;
 
+/// PROCID (6.2.6).
 pub const PROC_ID: u32 = 6;
 
+/// MSGID (6.2.7).
 pub const MSG_ID: u32 = 7;
 
+/// STRUCTURED-DATA (6.3).
 pub const STRUCTURED_DATA: u32 = 8;
 
+/// MSG (6.4).
 pub const MESSAGE: u32 = 9;
 
+/// The left one of two archives.
 pub const LEFT: u32 = 10;
 
+/// The right one of two archives.
 pub const RIGHT: u32 = 11;
 
 // enum syslogbox_framing
+/// Octet counting (RFC 6587, 3.4.1).
 pub const COUNTED: i32 = 1;
 
+/// A record and a line feed (RFC 6587, 3.4.2).
 pub const LF: i32 = 2;

@@ -14,12 +14,13 @@ use crate::span::SyslogboxSpan;
 use crate::walk::from_param;
 use syslog_reading::first_element::first_param;
 
-/// A parameter, as it lies in a record.
+/// A parameter, as it lies in a record (RFC 5424, 6.3.3).
 #[repr(C)]
 #[derive(Clone, Copy)]
 pub struct SyslogboxParam {
+    /// Its name.
     pub name: SyslogboxSpan,
-    /// The value as it is spelled between the quotation marks.
+    /// Its value as it is spelled between the quotation marks.
     pub value: SyslogboxSpan,
 }
 
@@ -58,8 +59,8 @@ fn find_param(octets: &[u8], n: usize, m: usize) -> Result<SyslogboxParam, Syslo
     })
 }
 
-/// Shows parameter number `m`, from 0 on, of element number `n`, in the order of the octets: 1; or 0 and why there is
-/// none, and the parameter is left as it was. It takes no memory.
+/// Shows parameter number `m`, from 0, of element number `n`, in the order of the octets, and returns 1; or 0 and why
+/// there is none, with the parameter left as it was. It takes no memory.
 #[unsafe(no_mangle)]
 pub extern "C" fn syslogbox_proved_param(
     octets: &[u8],

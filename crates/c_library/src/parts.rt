@@ -18,23 +18,29 @@ use syslog_value::Instant;
 #[repr(C)]
 #[derive(Clone, Copy)]
 pub struct SyslogboxParts {
-    /// Microseconds from 1970-01-01T00:00:00Z; 0 where the record has no time.
+    /// Microseconds from 1970-01-01T00:00:00Z; 0 if the record has no time.
     pub time: i64,
-    /// 1 where the record has a time.
+    /// 1 if the record has a time, else 0.
     pub has_time: u32,
-    /// 0 to 23.
+    /// The facility's code, 0 to 23.
     pub facility: u32,
-    /// 0 to 7.
+    /// The severity's code, 0 to 7.
     pub severity: u32,
-    /// 1 where the message starts with the BOM, which `message` is without.
+    /// 1 if the message starts with the BOM, else 0; `message` is without it.
     pub has_bom: u32,
+    /// HOSTNAME (RFC 5424, 6.2.4).
     pub hostname: SyslogboxSpan,
+    /// APP-NAME (6.2.5).
     pub app_name: SyslogboxSpan,
+    /// PROCID (6.2.6).
     pub proc_id: SyslogboxSpan,
+    /// MSGID (6.2.7).
     pub msg_id: SyslogboxSpan,
+    /// STRUCTURED-DATA as it is spelled (6.3): `-`, or the elements.
     pub structured_data: SyslogboxSpan,
     /// How many elements the structured data has.
     pub elements: usize,
+    /// MSG without the BOM (6.4).
     pub message: SyslogboxSpan,
 }
 
@@ -48,7 +54,7 @@ fn time_of(instant: Option<Instant>) -> (u32, i64)
     }
 }
 
-/// Where a word lies, which is or is not at this offset.
+/// Where a word lies that would begin at this offset.
 fn word_span(at: usize, word: Option<&[u8]>) -> SyslogboxSpan
     ensures { (b : List ℕ) → LiesAt b at (word_form (option_map (λ s. s.now) word.entry))
         → SpansWord b result (option_map (λ s. s.now) word.entry) }
@@ -62,7 +68,7 @@ fn word_span(at: usize, word: Option<&[u8]>) -> SyslogboxSpan
     }
 }
 
-/// Where the message of the record lies that the octets are.
+/// Where the message lies in the record that the octets are.
 fn message_span(octets: &[u8], view: &RecordView<'_>) -> SyslogboxSpan
     requires { IsViewOf octets.now (view_parts view.now) }
     ensures { Spans octets.now result (octets_of (view_parts view.now).message) }

@@ -19,7 +19,7 @@ fn next_frame(kind: Framing, piece: &[u8]) -> NextFrame
     }
 }
 
-/// What follows the frame that comes first, where that is a record.
+/// What follows the frame that comes first, if that is a record.
 #[inline(always)]
 fn behind_record(kind: Framing, piece: &[u8]) -> Option<&[u8]>
     ensures { MatchOption result (BeginsNoGood kind piece.now)
@@ -40,7 +40,7 @@ fn behind_record(kind: Framing, piece: &[u8]) -> Option<&[u8]>
     }
 }
 
-/// How many octets the frames at the front of a piece take that are records, and how many frames these are.
+/// How many octets the frames at the front of a piece take that are records, and how many these frames are.
 fn pass(kind: Framing, piece: &[u8]) -> (usize, usize)
     ensures { Passes kind piece.now result.0 result.1 }
 {
@@ -54,8 +54,8 @@ fn pass(kind: Framing, piece: &[u8]) -> (usize, usize)
 }
 
 /// Passes over the frames at the front of a piece of a stream that are records, in a framing that is 1 for octet
-/// counting and 2 for lines: how many octets they take, and `count` how many they are. What follows is a frame that is
-/// no record, or no whole frame. The answer is -2 where there is no such framing.
+/// counting and 2 for lines. Returns how many octets they take, and in `count` how many frames they are; what follows
+/// is a frame that is no record, or no whole frame. Returns -2 if there is no such framing.
 #[unsafe(no_mangle)]
 pub extern "C" fn syslogbox_proved_pass(framing: i32, piece: &[u8], count: &mut usize) -> i64
     ensures { PassesOver framing piece.now count.old count.new result }

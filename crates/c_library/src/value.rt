@@ -11,7 +11,7 @@ use crate::numbers::NO_MEMORY;
 use std::alloc::Global;
 use syslog_fields::unescape::unescape;
 
-/// The text that a value means.
+/// The text that a value means, from its spelling.
 fn value_text(alloc: Global, raw: &[u8]) -> Result<Vec<u8>, SyslogboxFault>
     ensures { MatchResult result (λ v. MeaningOf raw.now v.items) (λ told. told ≡ memory_fault) }
 {
@@ -21,8 +21,8 @@ fn value_text(alloc: Global, raw: &[u8]) -> Result<Vec<u8>, SyslogboxFault>
     }
 }
 
-/// Writes the text that a parameter's value means, as it is spelled between the quotation marks (RFC 5424, 6.3.3),
-/// and answers how many octets it has; or -1 and why not.
+/// Writes the text that a parameter's value means, from its spelling between the quotation marks
+/// (RFC 5424, 6.3.3), and returns how many octets it has; or -1 and why not.
 #[unsafe(no_mangle)]
 pub extern "C" fn syslogbox_proved_value(
     alloc: Global,

@@ -1,4 +1,4 @@
-//! The parts of a record, where the octets are one.
+//! The parts of a record, if the octets are one.
 
 ghost use Rattle.std.specs.Prelude.{◌≡◌, ◌⊎◌, pos};
 ghost use Rattle.octet_language.specs.Language.{AnyOf};
@@ -13,8 +13,8 @@ use crate::fault::SyslogboxFault;
 use crate::parts::{SyslogboxParts, parts_of};
 use syslog_grammar::view;
 
-/// The parts of the record that the octets are: 1; or 0 and why they are none, and the parts are left as they were.
-/// It takes no memory.
+/// Shows the parts of the record that the octets are, and returns 1; or 0 and why they are none,
+/// with the parts left as they were. It takes no memory.
 #[unsafe(no_mangle)]
 pub extern "C" fn syslogbox_proved_view(
     octets: &[u8],

@@ -9,7 +9,7 @@ ghost use Rattle.c_library.specs.Items.{IsFew, IsFrom};
 use syslog_fields::reading::next;
 use syslog_reading::first_element::{begins_with, first_element, first_param};
 
-/// The text of the elements of structured data: nothing where there are none.
+/// The octets of the elements of structured data: none if there are no elements.
 pub fn elements_text(structured_data: &[u8]) -> &[u8]
     ensures elements { (es : List ElementParts) → StructuredDataText es structured_data.now
         → Each Element es result.now }
@@ -22,7 +22,7 @@ pub fn elements_text(structured_data: &[u8]) -> &[u8]
     }
 }
 
-/// How many elements a text has.
+/// How many elements the octets spell.
 pub fn count_elements(text: &[u8]) -> usize
     ensures { (es : List ElementParts) → Each Element es text.now → result ≡ length es }
 {
@@ -35,7 +35,7 @@ pub fn count_elements(text: &[u8]) -> usize
     count
 }
 
-/// How many parameters a text has.
+/// How many parameters the octets spell.
 pub fn count_params(text: &[u8]) -> usize
     ensures { (ps : List ParamParts) → Each Param ps text.now → result ≡ length ps }
 {
@@ -48,7 +48,8 @@ pub fn count_params(text: &[u8]) -> usize
     count
 }
 
-/// The text from element number `n` on; or how many elements there are, where there are no more than `n`.
+/// The octets from element number `n` on; or how many elements there are, if they are not more than
+/// `n`.
 pub fn from_element(text: &[u8], n: usize) -> Result<&[u8], usize>
     ensures { MatchResult result (λ rest. IsFrom Element n text.now rest.now)
         (IsFew Element n text.now) }
@@ -65,7 +66,8 @@ pub fn from_element(text: &[u8], n: usize) -> Result<&[u8], usize>
     Err(passed)
 }
 
-/// The text from parameter number `n` on; or how many parameters there are, where there are no more than `n`.
+/// The octets from parameter number `n` on; or how many parameters there are, if they are not more
+/// than `n`.
 pub fn from_param(text: &[u8], n: usize) -> Result<&[u8], usize>
     ensures { MatchResult result (λ rest. IsFrom Param n text.now rest.now)
         (IsFew Param n text.now) }

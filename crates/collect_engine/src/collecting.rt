@@ -143,12 +143,12 @@ fn collect_into<S: Store + Drop, R: Source, W: Output, N: Output>(
 
 /// Collects what a source gives, and writes the records as an archive: each once, in its canonical
 /// form, in the one order of archives. Lines go to `notes`, as those of [`serve`](crate::serve) do;
-/// where serving stops, one on why is the last of them, but for one on a writer that fails. Where
-/// the notes fail nothing more goes to them.
+/// if serving stops, the last of them says why, except for one on a writer that fails. Once the
+/// notes have failed, nothing more goes to them.
 ///
-/// Returns the exit status: `DONE` where nothing was refused, else `REFUSED`; `FAULT` where the
-/// source or a device failed, or the source has no end, and then too the archive of what came is
-/// written; `NO_MEMORY` where memory ran out, and then no archive is written.
+/// Returns the exit status: `DONE` if nothing was refused, else `REFUSED`; `FAULT` if the source or
+/// a device failed, or the source has no end, and then too the archive of what came is written;
+/// `NO_MEMORY` if memory ran out, and then no archive is written.
 pub fn run_collect<R: Source, W: Output, N: Output>(
     alloc: Global,
     words: &CollectWords,

@@ -6,7 +6,7 @@ ghost use Rattle.collect_engine.specs.Steps.{FailuresAfter, FinishesAfter};
 use crate::step::Step;
 
 /// How many steps a source gave, how many of them said that it failed, and how many that nothing
-/// more comes. Each number stays at its last value.
+/// more comes. A count that reaches `u64::MAX` stays there.
 #[derive(Clone, Copy, Debug, PartialEq, Eq)]
 pub(crate) struct StepCounts {
     pub(crate) steps: u64,

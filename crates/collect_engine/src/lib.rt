@@ -1,8 +1,9 @@
-//! Records from a source, as sockets are one, into a collector.
+//! Records from a source, such as sockets, into a collector.
 //!
 //! A [`Source`] gives steps: a connection was opened, octets came on it, it has ended, a datagram
-//! came. [`ListSource`] is one in memory, [`UdpSource`] and [`TcpSource`] are sources over sockets.
-//! [`serve`] gives the steps to a collector, and [`run_collect`] writes what came as an archive.
+//! came. [`ListSource`] is one in memory, [`UdpSource`] and [`TcpSource`] have sockets. [`serve`]
+//! gives the steps to a collector, each as [`receive`] does, and [`run_collect`] writes what came
+//! as an archive.
 #![tactic(auto)]
 
 mod collect_words;
@@ -23,6 +24,7 @@ mod udp_source;
 pub use collect_words::{CollectWords, Transport};
 pub use collecting::run_collect;
 pub use list_source::ListSource;
+pub use receiving::{Received, receive};
 pub use serve_end::ServeEnd;
 pub use serving::{SERVE_TURNS, serve};
 pub use source::Source;

@@ -52,7 +52,7 @@ fn has_line(before: bool, lines: &Vec<u8>) -> bool
     before || !lines.is_empty()
 }
 
-/// The outcomes and the lines of one event after the other.
+/// The outcomes of one event after another, and the lines on them.
 #[derive(Drop)]
 pub(crate) struct EventLines {
     /// The outcomes of the last event.

@@ -9,7 +9,7 @@ use crate::source::Source;
 use crate::step::Step;
 use syslog_frame::FRAME_MAX;
 
-/// A source in memory: the steps of a list, and then the last one again and again.
+/// A source in memory: it gives the steps of a list, and then the last one again and again.
 #[derive(Debug, Drop)]
 pub struct ListSource {
     steps: Vec<(Step, Vec<u8>)>,
@@ -50,8 +50,8 @@ fn give(step: Step, octets: &[u8], buf: &mut [u8]) -> Step
 }
 
 impl ListSource {
-    /// A source that gives these steps. Of a piece and of a datagram the octets count, and not the
-    /// number in the step. Without any step the source fails.
+    /// A source that gives these steps. Of a piece or a datagram, the octets count, not the number
+    /// in the step. Without any step, the source fails.
     pub fn new(steps: Vec<(Step, Vec<u8>)>) -> ListSource
         ensures steps { (⟦<ListSource as Source>⟧.state result).steps ≡ 0 }
         ensures failures { (⟦<ListSource as Source>⟧.state result).failures ≡ 0 }

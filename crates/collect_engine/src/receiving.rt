@@ -1,7 +1,7 @@
 //! What a collector makes of an event.
 ghost use Rattle.std.specs.Prelude.{◌≡◌, ◌++◌, List};
 ghost use Rattle.archive_text.specs.Entries.{Entry};
-ghost use Rattle.syslog_collect.specs.Collectors.{NoneWaits, Stands, reading_of, waits_of};
+ghost use Rattle.syslog_collect.specs.Collectors.{NoneWaits, Stands, behind, reading_of, waits_of};
 ghost use Rattle.syslog_collect.specs.History.{AcceptedEvent, history_of};
 ghost use Rattle.syslog_collect.specs.Runs.{accepted_event};
 ghost use Rattle.collect_engine.specs.Receiving.{IfNotMemory, ReceivesAs, kept_outcomes, received_as};
@@ -12,14 +12,14 @@ use syslog_collect::{CollectFault, Collector, Event, Outcome, RunEnd};
 
 /// What became of an event.
 #[derive(Clone, Copy, Debug, PartialEq, Eq)]
-pub(crate) enum Received {
-    /// It was accepted; or it was a piece behind a bad count, and was passed over.
+pub enum Received {
+    /// It was accepted; or it was a piece behind a bad count, which is passed over.
     Accepted,
     /// The connection has ended, inside the frame that begins at this position.
     Unterminated { start: u64 },
     /// It was refused.
     Refused,
-    /// Out of memory.
+    /// An allocation failed.
     Memory,
 }
 
@@ -44,22 +44,22 @@ fn keep_outcomes(fault: CollectFault, outcomes: &mut Vec<Outcome>)
     }
 }
 
-/// Gives an event to the collector, and keeps its outcomes alone.
-pub(crate) fn receive<S: Store>(
+/// Gives an event to the collector, and keeps only its outcomes.
+pub fn receive<S: Store>(
     alloc: Global,
     collector: &mut Collector<S>,
     event: Event<'_>,
     outcomes: &mut Vec<Outcome>,
 ) -> Received
-    ensures received { (first : List Entry) (before : List AcceptedEvent)
-        → Stands S.entries collector.old first before
+    ensures received { (past first : List Entry) (before : List AcceptedEvent)
+        → Stands (behind past S.entries) collector.old first before
         → (accepted : List AcceptedEvent)
-        × Stands S.entries collector.new first (before ++ accepted)
+        × Stands (behind past S.entries) collector.new first (before ++ accepted)
         × ReceivesAs (reading_of collector.old) (history_of before) (waits_of collector.old)
         (waits_of collector.new) (accepted_event event.entry) result outcomes.new.items
         accepted }
-    ensures settled { (first : List Entry) (before : List AcceptedEvent)
-        → Stands S.entries collector.old first before
+    ensures settled { (past first : List Entry) (before : List AcceptedEvent)
+        → Stands (behind past S.entries) collector.old first before
         → NoneWaits collector.old
         → IfNotMemory result (NoneWaits collector.new) }
     ensures reading { reading_of collector.new ≡ reading_of collector.old }

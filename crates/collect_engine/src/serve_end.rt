@@ -3,13 +3,13 @@
 /// How serving ended.
 #[derive(Clone, Copy, Debug, PartialEq, Eq)]
 pub enum ServeEnd {
-    /// The source gave its end. Whether a line was noted.
+    /// The source gave its end. `refused` says whether a line was noted.
     Done { refused: bool },
     /// The source failed, the collector refused a step, or the notes could not be written.
     Failed,
     /// The source did not give its end in `SERVE_TURNS` steps.
     Endless,
-    /// Out of memory.
+    /// An allocation failed.
     Memory,
 }
 
@@ -22,8 +22,8 @@ pub(crate) enum Stopped {
     Notes,
     /// The source did not give its end in `SERVE_TURNS` steps.
     Endless,
-    /// Out of memory.
+    /// An allocation failed.
     Memory,
-    /// Out of memory, and the lines on what was met could not be written.
+    /// An allocation failed, and the lines on what was met could not be written.
     MemoryAndNotes,
 }

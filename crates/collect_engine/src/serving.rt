@@ -25,7 +25,7 @@ use std::alloc::{AllocError, Global};
 use syslog_collect::{Collector, Event};
 use syslog_frame::FRAME_MAX;
 
-/// The most steps that are asked of a source.
+/// How many steps are asked of a source at most.
 pub const SERVE_TURNS: u64 = 1_048_576;
 
 // the number of the one connection
@@ -179,7 +179,7 @@ fn serve_next<S: Store, R: Source, N: Output>(
     }
 }
 
-/// Serves the steps of a source, to its end. Whether a line was noted.
+/// Serves the steps of a source, to its end, and tells whether a line was noted.
 pub(crate) fn serve_steps<S: Store, R: Source, N: Output>(
     alloc: Global,
     collector: &mut Collector<S>,
@@ -226,7 +226,7 @@ pub(crate) fn serve_steps<S: Store, R: Source, N: Output>(
 ///
 /// A line on each frame and each count that is refused, and on an end inside a frame, goes to
 /// `notes` as soon as it is met. Frames and counts are numbered from 1 over all connections. After
-/// a bad count the rest of that connection is passed over.
+/// a bad count, the rest of that connection is passed over.
 pub fn serve<S: Store, R: Source, N: Output>(
     alloc: Global,
     collector: &mut Collector<S>,

@@ -7,11 +7,11 @@ use syslog_frame::Framing;
 pub enum Step {
     /// A connection was opened, whose stream has this framing.
     Opened(Framing),
-    /// So many octets came on the open connection.
+    /// This many octets came on the open connection.
     Piece(usize),
     /// The connection has ended.
     Ended,
-    /// A datagram of so many octets came.
+    /// A datagram of this many octets came.
     Datagram(usize),
     /// Nothing more comes.
     Finished,

@@ -10,8 +10,8 @@ use std::io::Read;
 use std::net::{TcpListener, TcpStream};
 use syslog_frame::Framing;
 
-/// The connections to a socket, one after the other in the order in which they are accepted, until
-/// there were as many as asked for. A connection that is reset is a failure.
+/// The connections to a socket, one after the other in the order in which they are accepted, as
+/// many as were asked for. A connection that is reset is a failure.
 #[derive(Drop)]
 pub struct TcpSource {
     listener: TcpListener,

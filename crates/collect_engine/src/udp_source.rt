@@ -8,7 +8,7 @@ use crate::source::Source;
 use crate::step::Step;
 use std::net::UdpSocket;
 
-/// The datagrams that come to a socket, each a step, until there were as many as asked for.
+/// The datagrams that come to a socket, each a step, as many as were asked for.
 #[derive(Drop)]
 pub struct UdpSource {
     socket: UdpSocket,

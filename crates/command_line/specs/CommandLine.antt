@@ -1,7 +1,7 @@
 -- The command line: the subcommands, their options and positionals.
 use Rattle.std.specs.Prelude.{[], ◌∷◌, Some, true, codes}
 use Rattle.clap.specs.Walk.{Rule, Text}
-use Rattle.clap.specs.declared.builder.action.ArgAction.TheVariants.{SetTrue}
+use Rattle.clap.specs.declared.builder.action.ArgAction.TheVariants.{Append, SetTrue}
 use Rattle.clap.specs.Simple.{App, new_app, new_rule, on_top, with_rule, with_subcommand}
 
 -- an option that takes a value
@@ -15,6 +15,10 @@ default_rule id value = record (option_rule id) { defaults = value ∷ [] }
 -- an option that takes no value
 abbrev pub flag_rule : Text → Rule
 flag_rule id = record (option_rule id) { action = Some SetTrue }
+
+-- an option that may be given any number of times
+abbrev pub list_rule : Text → Rule
+list_rule id = record (option_rule id) { action = Some Append }
 
 -- a value that has to be given, by its place
 abbrev pub required_rule : Text → Rule
@@ -52,6 +56,12 @@ check_app = with_rule (input_app (codes "check")) (flag_rule (codes "summary"))
 abbrev pub convert_app : App
 convert_app = with_rule (input_app (codes "convert")) (option_rule (codes "to"))
 
+-- the command that writes records as an archive
+abbrev pub archive_app : App
+archive_app =
+    with_rule (with_rule (input_app (codes "archive")) (option_rule (codes "spill")))
+    (default_rule (codes "memory") (codes "256"))
+
 -- a command that reads the archives of two files
 abbrev pub two_files_app : Text → App
 two_files_app name =
@@ -65,11 +75,14 @@ migrate_app = with_rule (new_app (codes "migrate")) (required_rule (codes "FILE"
 abbrev pub union_app : App
 union_app = with_rule (new_app (codes "union")) files_rule
 
+-- the options for a range of time
+abbrev pub with_range_rules : App → App
+with_range_rules a = with_rule (with_rule a (option_rule (codes "from"))) (option_rule (codes "to"))
+
 -- the options for the times of records
 abbrev pub with_time_rules : App → App
 with_time_rules a =
-    with_rule (with_rule (with_rule (with_rule a (option_rule (codes "from"))) (option_rule (codes "to")))
-    (flag_rule (codes "undated"))) (flag_rule (codes "only-undated"))
+    with_rule (with_rule (with_range_rules a) (flag_rule (codes "undated"))) (flag_rule (codes "only-undated"))
 
 -- the command that sums up an archive, period by period
 abbrev pub digest_app : App
@@ -105,11 +118,43 @@ select_app =
     with_rule (with_word_rules (with_priority_rules (with_time_rules (new_app (codes "select")))))
     (option_rule (codes "id"))
 
+-- a command on the store in a folder
+abbrev pub folder_app : Text → App
+folder_app name = with_rule (new_app name) (required_rule (codes "DIR"))
+
+-- the command that writes the archive of a store
+abbrev pub read_app : App
+read_app = with_rule (with_range_rules (folder_app (codes "read"))) (flag_rule (codes "undated"))
+
 -- the command that receives records from sockets
 abbrev pub collect_app : App
 collect_app =
     with_reading_rules (with_rule (with_rule (with_rule (new_app (codes "collect"))
     (required_rule (codes "TRANSPORT"))) (required_rule (codes "PORT"))) (required_rule (codes "COUNT")))
+
+-- the options that name addresses
+abbrev pub with_address_rules : App → App
+with_address_rules a =
+    with_rule (with_rule (with_rule a (list_rule (codes "udp"))) (list_rule (codes "counted")))
+    (list_rule (codes "lf"))
+
+-- the options that name sockets
+abbrev pub with_socket_rules : App → App
+with_socket_rules a =
+    with_rule (with_rule (with_address_rules a) (list_rule (codes "unix"))) (list_rule (codes "inherited"))
+
+-- the options of `serve` that are numbers
+abbrev pub with_limit_rules : App → App
+with_limit_rules a =
+    with_rule (with_rule (with_rule (with_rule a (default_rule (codes "connections") (codes "1024")))
+    (option_rule (codes "idle"))) (default_rule (codes "commit") (codes "1000")))
+    (default_rule (codes "checkpoint") (codes "64"))
+
+-- the command that collects into a store
+abbrev pub serve_app : App
+serve_app =
+    with_reading_rules (with_rule (with_limit_rules (with_socket_rules (folder_app (codes "serve"))))
+    (flag_rule (codes "until-eof")))
 
 -- the words do not begin with the program's name, a subcommand is required, and there is a version to tell
 abbrev pub empty_app : App
@@ -125,7 +170,7 @@ with_frame_commands a =
 -- the commands that write an archive
 abbrev pub with_archive_commands : App → App
 with_archive_commands a =
-    with_subcommand (with_subcommand (with_subcommand a (input_app (codes "archive")).top)
+    with_subcommand (with_subcommand (with_subcommand a archive_app.top)
     (two_files_app (codes "merge")).top) migrate_app.top
 
 -- the commands that write the archive of some records of two archives
@@ -146,7 +191,15 @@ with_stream_commands a = with_subcommand (with_subcommand a select_app.top) dige
 abbrev pub with_archives : App → App
 with_archives a = with_stream_commands (with_set_commands (with_archive_commands a))
 
+-- the commands on a store
+abbrev pub with_store_commands : App → App
+with_store_commands a = with_subcommand (with_subcommand a read_app.top) (folder_app (codes "verify")).top
+
+-- the commands that receive records from sockets
+abbrev pub with_receivers : App → App
+with_receivers a = with_subcommand (with_subcommand a collect_app.top) serve_app.top
+
 -- the whole command line
 abbrev pub line_app : App
 line_app =
-    with_subcommand (with_subcommand (with_archives (with_frame_commands empty_app)) send_app.top) collect_app.top
+    with_receivers (with_subcommand (with_store_commands (with_archives (with_frame_commands empty_app))) send_app.top)

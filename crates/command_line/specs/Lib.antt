@@ -1,9 +1,4 @@
-pub mod Clocks
 pub mod CommandLine
 pub mod Names
-pub mod Numbers
-pub mod Readings
 pub mod Requests
 pub mod Selects
-pub mod TimeDecision
-pub mod Times

@@ -1,5 +1,5 @@
 -- The severity, the facility and the period that a word names.
-use Rattle.std.specs.Prelude.{List, [], ◌∷◌, Option, Some, None, codes, find, if◌then◌else◌, option_map}
+use Rattle.std.specs.Prelude.{List, [], ◌∷◌, Option, Some, None, codes, find, if◌then◌else◌}
 use Rattle.std.specs.Str.{bytes_eq}
 use Rattle.clap.specs.Walk.{Text}
 use Rattle.archive_digest.specs.declared.period.Period.{Period}
@@ -10,11 +10,6 @@ use Rattle.syslog_value.specs.declared.facility.Facility.{Facility}
 use Rattle.syslog_value.specs.declared.facility.Facility.TheVariants as facility
 use Rattle.syslog_value.specs.declared.severity.Severity.{Severity}
 use Rattle.syslog_value.specs.declared.severity.Severity.TheVariants as severity
-
--- the value of an option that may be given: none is refused where it is not
-abbrev pub optional : {X : Type 0} → (Text → Option X) → Option Text → Option (Option X)
-optional value_of None = Some None
-optional value_of (Some text) = option_map (λ x. Some x) (value_of text)
 
 abbrev pub severities : List Severity
 severities =

@@ -14,13 +14,21 @@ use Rattle.collect_engine.specs.declared.collect_words.Transport.{Transport}
 use Rattle.collect_engine.specs.declared.collect_words.Transport.TheVariants as transport
 use Rattle.command_line.specs.CommandLine.{line_app}
 use Rattle.command_line.specs.Names.{period_of}
-use Rattle.command_line.specs.Numbers.{number_in}
-use Rattle.command_line.specs.Readings.{is_given_in, reading_in}
-use Rattle.command_line.specs.Selects.{ConditionsAsked, conditions_asked, conditions_in}
+use Rattle.command_line.specs.Selects.{ConditionsAsked, conditions_asked, conditions_in, range_in}
+use Rattle.option_values.specs.Numbers.{number_in}
+use Rattle.option_values.specs.Readings.{reading_in}
+use Rattle.option_values.specs.Values.{is_given_in}
+use Rattle.archive_sets.specs.declared.range.InRange.{InRange}
 use Rattle.archive_digest.specs.declared.period.Period.{Period}
+use Rattle.server_words.specs.Serves.{ServeAsked, serve_asked, serve_in}
 use Rattle.send_engine.specs.Options.{OptionTexts, texts_of}
 use Rattle.frame_engine.specs.declared.input_framing.InputFraming.{InputFraming}
 use Rattle.frame_engine.specs.declared.input_framing.InputFraming.TheVariants.{Datagram, Stream}
+use Rattle.command_line.specs.declared.request.FileRequest.{FileRequest}
+use Rattle.command_line.specs.declared.request.FileRequest.TheVariants as files
+use Rattle.command_line.specs.declared.request.FrameCommand.{FrameCommand}
+use Rattle.command_line.specs.declared.request.FrameCommand.TheVariants as frames
+use Rattle.command_line.specs.declared.request.FrameRequest.{FrameRequest}
 use Rattle.command_line.specs.declared.request.Request.{Request}
 use Rattle.command_line.specs.declared.request.Request.TheVariants as request
 use Rattle.command_line.specs.declared.words.WordsFault.{WordsFault}
@@ -34,6 +42,8 @@ pub data Asked : Type 0 where
   Show : FrameReading → InputFraming → Bool → Asked
   Convert : FrameReading → InputFraming → Option Framing → Asked
   Archive : FrameReading → InputFraming → Asked
+  -- with a folder, and MiB of memory
+  SpillArchive : FrameReading → InputFraming → Text → ℕ → Asked
   Merge : Text → Text → Asked
   Migrate : Text → Asked
   Union : List Text → Asked
@@ -44,23 +54,43 @@ pub data Asked : Type 0 where
   Digest : Period → Asked
   Send : OptionTexts → Asked
   Collect : CollectWords → Asked
+  -- folders
+  Read : Text → InRange → Asked
+  Verify : Text → Asked
+  Serve : ServeAsked → Asked
+
+-- a command on frames
+abbrev pub frames_by : FrameReading → InputFraming → FrameCommand → Asked
+frames_by way framing (frames.Check summary) = Check way framing summary
+frames_by way framing (frames.Show json) = Show way framing json
+frames_by way framing (frames.Convert to) = Convert way framing to
+frames_by way framing frames.Archive = Archive way framing
+
+-- the same, of a request
+abbrev pub frames_asked : FrameRequest → Asked
+frames_asked r = frames_by r.reading r.input_framing r.command
+
+-- a command on files
+abbrev pub files_asked : FileRequest → Asked
+files_asked (files.Merge left right) = Merge left.now right.now
+files_asked (files.Migrate file) = Migrate file.now
+files_asked (files.Union names) = Union (map (λ s. s.now) names.items)
+files_asked (files.Common left right) = Common left.now right.now
+files_asked (files.Minus left right) = Minus left.now right.now
+files_asked (files.Diff left right) = Diff left.now right.now
 
 -- the request, without where its names lie in memory
 abbrev pub asked_by : Request → Asked
-asked_by (request.Check input_framing way summary) = Check way input_framing summary
-asked_by (request.Show input_framing way json) = Show way input_framing json
-asked_by (request.Convert input_framing way to) = Convert way input_framing to
-asked_by (request.Archive input_framing way) = Archive way input_framing
-asked_by (request.Merge left right) = Merge left.now right.now
-asked_by (request.Migrate file) = Migrate file.now
-asked_by (request.Union files) = Union (map (λ s. s.now) files.items)
-asked_by (request.Common left right) = Common left.now right.now
-asked_by (request.Minus left right) = Minus left.now right.now
-asked_by (request.Diff left right) = Diff left.now right.now
+asked_by (request.Frames r) = frames_asked r
+asked_by (request.SpillArchive input_framing way dir memory) = SpillArchive way input_framing dir.now memory
+asked_by (request.Files r) = files_asked r
 asked_by (request.Select conditions) = Select (conditions_asked conditions)
 asked_by (request.Digest period) = Digest period
 asked_by (request.Send options) = Send (texts_of options)
 asked_by (request.Collect words) = Collect words
+asked_by (request.Read dir range) = Read dir.now range
+asked_by (request.Verify dir) = Verify dir.now
+asked_by (request.Serve words) = Serve (serve_asked words)
 
 -- the framing with this name
 abbrev pub framing_of : Text → Option Framing
@@ -105,10 +135,17 @@ read_convert rows =
     option_and_then (λ input_framing. option_and_then (λ way. option_map (λ to. Convert way input_framing to)
     (to_of input_framing (first_of (codes "to") rows))) (reading_in rows)) (input_framing_in rows)
 
+-- `archive`, by the value of `--spill`: without it the room has no effect
+abbrev pub archive_by : FrameReading → InputFraming → ℕ → Option Text → Asked
+archive_by way input_framing memory None = Archive way input_framing
+archive_by way input_framing memory (Some dir) = SpillArchive way input_framing dir memory
+
 -- `archive` with the values of its options
 abbrev pub read_archive : List Row → Option Asked
 read_archive rows =
-    option_and_then (λ input_framing. option_map (λ way. Archive way input_framing) (reading_in rows))
+    option_and_then (λ input_framing. option_and_then (λ way. option_map (λ memory.
+    archive_by way input_framing memory (first_of (codes "spill") rows))
+    (option_and_then (number_in 1 1_048_576) (first_of (codes "memory") rows))) (reading_in rows))
     (input_framing_in rows)
 
 -- `merge` with its files
@@ -195,6 +232,25 @@ read_collect rows =
     (option_and_then (number_in 1 65_535) (first_of (codes "PORT") rows)))
     (option_and_then transport_of (first_of (codes "TRANSPORT") rows))
 
+-- `read` with the values of its options
+abbrev pub read_read : List Row → Option Asked
+read_read rows =
+    option_and_then (λ dir. option_map (λ range. Read dir range) (range_in rows)) (first_of (codes "DIR") rows)
+
+-- `verify` with its folder
+abbrev pub read_verify : List Row → Option Asked
+read_verify rows = option_map (λ dir. Verify dir) (first_of (codes "DIR") rows)
+
+-- the request of a command on a store
+abbrev pub read_store : Text → List Row → Option Asked
+read_store name rows =
+    if bytes_eq name (codes "read") then read_read rows
+    else (if bytes_eq name (codes "verify") then read_verify rows else None)
+
+-- `serve` with its values
+abbrev pub read_serve : List Row → Option Asked
+read_serve rows = option_map (λ words. Serve words) (serve_in rows)
+
 -- the request of any other subcommand
 abbrev pub read_other : Text → List Row → Option Asked
 read_other name rows =
@@ -209,13 +265,14 @@ read_other name rows =
     else (if bytes_eq name (codes "diff") then read_diff rows
     else (if bytes_eq name (codes "select") then read_select rows
     else (if bytes_eq name (codes "digest") then read_digest rows
-    else (if bytes_eq name (codes "send") then read_send rows else None)))))))))))
+    else (if bytes_eq name (codes "send") then read_send rows else read_store name rows)))))))))))
 
 -- the request of a subcommand with the values of its options
 abbrev pub read_of : Text × List Row → Option Asked
 read_of (name, rows) =
     if bytes_eq name (codes "collect") then option_map (λ words. Collect words) (read_collect rows)
-    else (if bytes_eq name (codes "union") then read_union rows else read_other name rows)
+    else (if bytes_eq name (codes "union") then read_union rows
+    else (if bytes_eq name (codes "serve") then read_serve rows else read_other name rows))
 
 -- the subcommand with the values of its options, where the parse has no fault
 abbrev pub rows_where : Kinds → Option (Text × List Row) → Option (Text × List Row)

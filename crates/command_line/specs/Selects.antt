@@ -1,4 +1,4 @@
--- The conditions of `select`, by the values of its options.
+-- The conditions of `select` and the range of `read`, by the values of their options.
 use Rattle.std.specs.Prelude.{ℤ, List, Bool, true, false, Option, Some, None, codes, if◌then◌else◌, option_and_then}
 use Rattle.std.specs.Prelude.{option_map}
 use Rattle.std.specs.Str.{bytes_eq}
@@ -6,13 +6,14 @@ use Rattle.clap.specs.Walk.{Row, Text, first_of}
 use Rattle.archive_sets.specs.declared.conditions.AskedWord.{AskedWord}
 use Rattle.archive_sets.specs.declared.conditions.AskedWord.TheVariants as asked
 use Rattle.archive_sets.specs.declared.conditions.Conditions.{Conditions}
+use Rattle.archive_sets.specs.declared.range.InRange.{InRange}
 use Rattle.archive_sets.specs.declared.conditions.Times.{Times}
 use Rattle.archive_sets.specs.declared.conditions.Times.TheVariants.{Range, Undated}
 use Rattle.syslog_value.specs.declared.facility.Facility.{Facility}
 use Rattle.syslog_value.specs.declared.severity.Severity.{Severity}
-use Rattle.command_line.specs.Names.{facility_of, optional, severity_of}
-use Rattle.command_line.specs.Readings.{is_given_in}
-use Rattle.command_line.specs.Times.{time_in}
+use Rattle.command_line.specs.Names.{facility_of, severity_of}
+use Rattle.option_values.specs.Times.{time_in}
+use Rattle.option_values.specs.Values.{is_given_in, optional}
 
 -- what is asked of a word of the header: nothing, that there is none, or that it is this one
 pub data WordAsked : Type 0 where
@@ -67,6 +68,15 @@ times_in rows =
     option_and_then (λ from. option_and_then (λ to.
     times_by from to (is_given_in (codes "undated") rows) (is_given_in (codes "only-undated") rows))
     (optional time_in (first_of (codes "to") rows))) (optional time_in (first_of (codes "from") rows))
+
+-- the values of the options of a range of time
+abbrev pub range_in : List Row → Option InRange
+range_in rows =
+    option_and_then (λ from. option_map (λ to. record {
+      from = from;
+      to = to;
+      undated = is_given_in (codes "undated") rows;
+    }) (optional time_in (first_of (codes "to") rows))) (optional time_in (first_of (codes "from") rows))
 
 -- the values of the options of `select`
 abbrev pub conditions_in : List Row → Option ConditionsAsked

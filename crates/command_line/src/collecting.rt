@@ -7,17 +7,17 @@ ghost use Rattle.command_line.specs.CommandLine.{collect_app};
 ghost use Rattle.command_line.specs.Requests.{Collect, asked_by, collect_asked, collect_by, count_max, parsed};
 ghost use Rattle.command_line.specs.Requests.{read_collect, transport_of};
 
-use crate::numbers::number;
-use crate::reading_words::{reading_of_matches, with_reading};
-use crate::words::{command, positional, value, whole_line, with_arg};
+use crate::reading_words::with_reading;
+use crate::words::{command, positional, whole_line, with_arg};
 use clap::error::ErrorKind;
 use clap::{ArgMatches, Command};
 use collect_engine::{CollectWords, Transport};
 use driver::{FAULT, NO_MEMORY};
+use option_values::{number, reading_of_matches, value};
 use std::alloc::{AllocError, Global};
 use std::convert::AsStr;
 
-/// The command that receives records from sockets.
+/// The command that receives records from sockets. It fails only when out of memory.
 pub fn collect_command<'a>(alloc: Global) -> Result<Command<'a>, AllocError>
     ensures app { IfOk result (λ c. app_of c ≡ collect_app) }
     ensures local { IfOk result (λ c. (fields_of c).has_globals ≡ false) }
@@ -56,13 +56,13 @@ fn count_max(transport: Transport) -> u32
     }
 }
 
-/// The arguments of `collect`, where none is refused.
+/// The arguments of `collect`; None if a value is refused.
 pub fn read_collect_words(matches: &ArgMatches<'_>) -> Option<CollectWords>
     ensures { result ≡ read_collect (rows_of (found_of matches.now)) }
 {
     let transport = transport(value(matches, "TRANSPORT")?)?;
-    let port = number(value(matches, "PORT")?, 65_535)? as u16;
-    let count = number(value(matches, "COUNT")?, count_max(transport))?;
+    let port = number(value(matches, "PORT")?, 1, 65_535)? as u16;
+    let count = number(value(matches, "COUNT")?, 1, count_max(transport))?;
     let reading = reading_of_matches(matches)?;
     Some(CollectWords {
         transport,
@@ -90,8 +90,7 @@ fn collect_of_matches(matches: &ArgMatches<'_>) -> Result<Option<CollectWords>, 
 
 /// Reads the arguments of `collect` from the words of a command line, which do not begin with the
 /// program's name. Words of another command give None, whatever its values. The error is the exit
-/// status: 2 where the words do not parse or an argument of `collect` is refused, 3 where memory
-/// ran out.
+/// status: 2 if the words do not parse or an argument of `collect` is refused, 3 if memory ran out.
 pub fn collect_words<S: AsStr>(alloc: Global, words: &[S]) -> Result<Option<CollectWords>, u8>
     ensures ok { IfOk result (λ r. collect_asked (map S.text words.now) ≡ Ok r) }
     ensures err { IfErr result (λ status. (status ≡ 3)

@@ -8,12 +8,13 @@ ghost use Rattle.command_line.specs.Names.{period_of};
 ghost use Rattle.command_line.specs.Requests.{asked_by, read_digest};
 
 use crate::request::Request;
-use crate::words::{command, default_option, value, with_arg};
+use crate::words::{command, default_option, with_arg};
 use archive_digest::Period;
 use clap::{ArgMatches, Command};
+use option_values::value;
 use std::alloc::{AllocError, Global};
 
-/// The command that sums up an archive, period by period.
+/// The command that sums up an archive, period by period. It fails only when out of memory.
 pub fn digest_command<'a>(alloc: Global) -> Result<Command<'a>, AllocError>
     ensures app { IfOk result (λ c. app_of c ≡ digest_app) }
     ensures local { IfOk result (λ c. (fields_of c).has_globals ≡ false) }
@@ -37,7 +38,7 @@ fn period(name: &str) -> Option<Period>
     }
 }
 
-/// The request of `digest`.
+/// The request of `digest`; None if a value is refused.
 pub fn read_digest_words<'a>(matches: &ArgMatches<'a>) -> Option<Request<'a>>
     ensures { option_map asked_by result ≡ read_digest (rows_of (found_of matches.now)) }
 {

@@ -5,19 +5,19 @@ ghost use Rattle.clap.specs.Words.{app_of, found_of, rows_of, rule_of};
 ghost use Rattle.clap.specs.declared.builder.command.Command.TheViews.{out-Command as fields_of};
 ghost use Rattle.command_line.specs.CommandLine.{check_app, convert_app, default_rule, input_app, show_app};
 ghost use Rattle.command_line.specs.CommandLine.{with_frame_commands};
-ghost use Rattle.command_line.specs.Requests.{asked_by, framing_of, input_framing_in, input_framing_of};
-ghost use Rattle.command_line.specs.Requests.{own_framing, read_archive, read_check, read_convert, read_show};
-ghost use Rattle.command_line.specs.Requests.{to_of};
+ghost use Rattle.command_line.specs.Requests.{archive_by, asked_by, framing_of, input_framing_in};
+ghost use Rattle.command_line.specs.Requests.{input_framing_of, own_framing, read_archive, read_check};
+ghost use Rattle.command_line.specs.Requests.{read_convert, read_show, to_of};
 
-use crate::reading_words::{is_given, reading_of_matches, with_reading};
-use crate::request::Request;
-use crate::words::{
-    command, default_option, described, flag, option, value, with_arg, with_command,
-};
+use crate::reading_words::with_reading;
+use crate::request::{FrameCommand, FrameRequest, Request};
+use crate::words::{command, default_option, flag, told_option, with_arg, with_command};
 use clap::{Arg, ArgMatches, Command};
 use frame_engine::InputFraming;
+use option_values::{is_given, number, reading_of_matches, value};
 use std::alloc::{AllocError, Global};
 use syslog_frame::Framing;
+use syslog_legacy::FrameReading;
 
 // `--framing`, the framing of the input: a datagram by default.
 fn input_option<'a>(alloc: Global) -> Arg<'a>
@@ -28,7 +28,7 @@ fn input_option<'a>(alloc: Global) -> Arg<'a>
     default_option(alloc, "framing", "datagram", help)
 }
 
-/// A command that reads records.
+/// A command that reads records. It fails only when out of memory.
 pub fn input_command<'a>(
     alloc: Global,
     name: &'a str,
@@ -59,7 +59,8 @@ fn check_command<'a>(alloc: Global) -> Result<Command<'a>, AllocError>
     ensures local { IfOk result (λ c. (fields_of c).has_globals ≡ false) }
 {
     let about = "Say for each frame whether it is a record, and if not, where it stops being one";
-    let help = "Tell at the end how many packets were legacy, had no time and had no host";
+    let help =
+        "At the end, tell how many packets were legacy, and how many of them lacked a time or a host";
     with_arg(
         input_command(alloc, "check", about)?,
         flag(alloc, "summary", help),
@@ -75,11 +76,12 @@ fn convert_command<'a>(alloc: Global) -> Result<Command<'a>, AllocError>
     let help = "Framing of the output: counted or lf [default: that of the input]";
     with_arg(
         input_command(alloc, "convert", about)?,
-        described(option(alloc, "to"), help),
+        told_option(alloc, "to", help),
     )
 }
 
-/// The line with the commands that handle frames one by one.
+/// The command line with the commands that handle frames one by one. It fails only when out of
+/// memory.
 pub fn with_frame_commands<'a>(alloc: Global, line: Command<'a>) -> Result<Command<'a>, AllocError>
     ensures { IfOk result (λ c. app_of c ≡ with_frame_commands (app_of line.entry)) }
 {
@@ -114,17 +116,19 @@ fn input_framing_of_matches(matches: &ArgMatches<'_>) -> Option<InputFraming>
     input_framing(value(matches, "framing")?)
 }
 
-/// The request of `check`.
+/// The request of `check`; None if a value is refused.
 pub fn read_check_words<'a>(matches: &ArgMatches<'a>) -> Option<Request<'a>>
     ensures { option_map asked_by result ≡ read_check (rows_of (found_of matches.now)) }
 {
     let input_framing = input_framing_of_matches(matches)?;
     let reading = reading_of_matches(matches)?;
-    Some(Request::Check {
+    Some(Request::Frames(FrameRequest {
         input_framing,
         reading,
-        summary: is_given(matches, "summary"),
-    })
+        command: FrameCommand::Check {
+            summary: is_given(matches, "summary"),
+        },
+    }))
 }
 
 // The framing of an input, as one of frames; a datagram has none.
@@ -148,41 +152,67 @@ fn to(input_framing: InputFraming, name: Option<&str>) -> Option<Option<Framing>
     }
 }
 
-/// The request of `convert`.
+/// The request of `convert`; None if a value is refused.
 pub fn read_convert_words<'a>(matches: &ArgMatches<'a>) -> Option<Request<'a>>
     ensures { option_map asked_by result ≡ read_convert (rows_of (found_of matches.now)) }
 {
     let input_framing = input_framing_of_matches(matches)?;
     let reading = reading_of_matches(matches)?;
     let to = to(input_framing, value(matches, "to"))?;
-    Some(Request::Convert {
+    Some(Request::Frames(FrameRequest {
         input_framing,
         reading,
-        to,
-    })
+        command: FrameCommand::Convert { to },
+    }))
 }
 
-/// The request of `show`.
+/// The request of `show`; None if a value is refused.
 pub fn read_show_words<'a>(matches: &ArgMatches<'a>) -> Option<Request<'a>>
     ensures { option_map asked_by result ≡ read_show (rows_of (found_of matches.now)) }
 {
     let input_framing = input_framing_of_matches(matches)?;
     let reading = reading_of_matches(matches)?;
-    Some(Request::Show {
+    Some(Request::Frames(FrameRequest {
         input_framing,
         reading,
-        json: is_given(matches, "json"),
-    })
+        command: FrameCommand::Show {
+            json: is_given(matches, "json"),
+        },
+    }))
 }
 
-/// The request of `archive`.
+// The request of `archive`, by the folder that a set larger than memory spills into.
+fn archive_by<'a>(
+    input_framing: InputFraming,
+    reading: FrameReading,
+    memory_mib: u32,
+    spill: Option<&'a str>,
+) -> Request<'a>
+    ensures { asked_by result
+        ≡ archive_by reading input_framing memory_mib (option_map (λ s. s.now) spill.entry) }
+{
+    match spill {
+        None => Request::Frames(FrameRequest {
+            input_framing,
+            reading,
+            command: FrameCommand::Archive,
+        }),
+        Some(dir) => Request::SpillArchive {
+            input_framing,
+            reading,
+            dir,
+            memory_mib,
+        },
+    }
+}
+
+/// The request of `archive`; None if a value is refused.
 pub fn read_archive_words<'a>(matches: &ArgMatches<'a>) -> Option<Request<'a>>
     ensures { option_map asked_by result ≡ read_archive (rows_of (found_of matches.now)) }
 {
     let input_framing = input_framing_of_matches(matches)?;
     let reading = reading_of_matches(matches)?;
-    Some(Request::Archive {
-        input_framing,
-        reading,
-    })
+    let memory_mib = number(value(matches, "memory")?, 1, 1_048_576)?;
+    let spill = value(matches, "spill");
+    Some(archive_by(input_framing, reading, memory_mib, spill))
 }

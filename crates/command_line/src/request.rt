@@ -1,69 +1,72 @@
 //! The request that a command line makes.
 
 use archive_digest::Period;
-use archive_sets::Conditions;
+use archive_sets::{Conditions, InRange};
 use collect_engine::CollectWords;
 use frame_engine::InputFraming;
 use send_engine::SendOptions;
+use server_words::ServeWords;
 use syslog_frame::Framing;
 use syslog_legacy::FrameReading;
 
-/// What the words of a command line ask for. Names of files are lent by the words. A command that
-/// reads frames reads them as its words say.
+/// What is done with the frames of standard input.
+#[derive(Clone, Copy, Debug, PartialEq, Eq)]
+pub enum FrameCommand {
+    /// `check`: one line for each frame, and if `summary` says so, a last one with counts of the
+    /// legacy packets.
+    Check { summary: bool },
+    /// `show`: the fields of each record, one line each, or the record as one line of JSON.
+    Show { json: bool },
+    /// `convert`: the canonical octets of each record, in a framing, or bare if there is none.
+    Convert { to: Option<Framing> },
+    /// `archive`: the records of the input, as an archive.
+    Archive,
+}
+
+/// How the frames of standard input are read, and what is done with them.
+#[derive(Clone, Copy, Debug, PartialEq, Eq)]
+pub struct FrameRequest {
+    /// The framing of the input.
+    pub input_framing: InputFraming,
+    /// How each frame is read.
+    pub reading: FrameReading,
+    /// What is done with the frames.
+    pub command: FrameCommand,
+}
+
+/// What is done with the archives of files, by their names.
+#[derive(Debug, Drop)]
+pub enum FileRequest<'a> {
+    /// `merge`: the archive of the records of two archives.
+    Merge { left: &'a str, right: &'a str },
+    /// `migrate`: the archive into which one of the old form is brought.
+    Migrate { file: &'a str },
+    /// `union`: the archive of the records of 1 to 512 archives.
+    Union { files: Vec<&'a str> },
+    /// `common`: the archive of the records that both archives have.
+    Common { left: &'a str, right: &'a str },
+    /// `minus`: the archive of the records that the left archive has and the right one lacks.
+    Minus { left: &'a str, right: &'a str },
+    /// `diff`: one line for each record that only one of two archives has.
+    Diff { left: &'a str, right: &'a str },
+}
+
+/// What the words of a command line ask for. Names of files and folders are lent by the words.
 #[derive(Debug, Drop)]
 pub enum Request<'a> {
-    /// `check`: one line for each frame, and where `summary` says so a last one with counts of the
-    /// legacy packets.
-    Check {
+    /// `check`, `show`, `convert` and `archive`: commands on the frames of standard input.
+    Frames(FrameRequest),
+    /// `archive --spill`: the archive of records that may not all fit in memory.
+    SpillArchive {
         input_framing: InputFraming,
         reading: FrameReading,
-        summary: bool,
+        /// The folder for what does not fit.
+        dir: &'a str,
+        /// How many MiB the set may take in memory, 1 to 1,048,576.
+        memory_mib: u32,
     },
-    /// `show`: the fields of each record, one line each, or the record as one line of JSON.
-    Show {
-        input_framing: InputFraming,
-        reading: FrameReading,
-        json: bool,
-    },
-    /// `convert`: the canonical octets of each record, in a framing, or bare where there is none.
-    Convert {
-        input_framing: InputFraming,
-        reading: FrameReading,
-        to: Option<Framing>,
-    },
-    /// `archive`: the records of the input, as an archive.
-    Archive {
-        input_framing: InputFraming,
-        reading: FrameReading,
-    },
-    /// `merge`: the archive of the records of two archives.
-    Merge {
-        left: &'a str,
-        right: &'a str,
-    },
-    /// `migrate`: the archive that an old one is brought into.
-    Migrate {
-        file: &'a str,
-    },
-    /// `union`: the archive of the records of 1 to 512 archives.
-    Union {
-        files: Vec<&'a str>,
-    },
-    /// `common`: the archive of the records that both of two archives have.
-    Common {
-        left: &'a str,
-        right: &'a str,
-    },
-    /// `minus`: the archive of the records of the left archive that the right one has not.
-    Minus {
-        left: &'a str,
-        right: &'a str,
-    },
-    /// `diff`: one line for each record that only one of two archives has.
-    Diff {
-        left: &'a str,
-        right: &'a str,
-    },
+    /// `merge`, `migrate`, `union`, `common`, `minus` and `diff`: commands on the archives of files.
+    Files(FileRequest<'a>),
     /// `select`: the archive of the records of an archive that meet these conditions.
     Select {
         conditions: Conditions<'a>,
@@ -79,5 +82,18 @@ pub enum Request<'a> {
     /// `collect`: the records that come to a port, as an archive.
     Collect {
         words: CollectWords,
+    },
+    /// `read`: the archive of the records in a range of time that the store in a folder holds.
+    Read {
+        dir: &'a str,
+        range: InRange,
+    },
+    /// `verify`: what is damaged in a store, one line each.
+    Verify {
+        dir: &'a str,
+    },
+    /// `serve`: the records that come to sockets, into a store.
+    Serve {
+        words: ServeWords<'a>,
     },
 }

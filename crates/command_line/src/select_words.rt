@@ -1,37 +1,33 @@
 //! The words of `select`.
 
 ghost use Rattle.std.specs.Prelude.{◌≡◌, codes, false, option_map, IfOk};
-ghost use Rattle.clap.specs.Simple.{with_rule};
 ghost use Rattle.clap.specs.Walk.{first_of};
 ghost use Rattle.clap.specs.Words.{app_of, found_of, rows_of};
 ghost use Rattle.clap.specs.declared.builder.command.Command.TheViews.{out-Command as fields_of};
-ghost use Rattle.command_line.specs.CommandLine.{option_rule, select_app, with_priority_rules, with_time_rules};
-ghost use Rattle.command_line.specs.CommandLine.{with_word_rules};
-ghost use Rattle.command_line.specs.Names.{facility_of, optional, severity_of};
+ghost use Rattle.command_line.specs.CommandLine.{select_app, with_priority_rules, with_range_rules};
+ghost use Rattle.command_line.specs.CommandLine.{with_time_rules, with_word_rules};
+ghost use Rattle.command_line.specs.Names.{facility_of, severity_of};
 ghost use Rattle.command_line.specs.Requests.{asked_by, read_select};
+ghost use Rattle.option_values.specs.Values.{optional};
 ghost use Rattle.command_line.specs.Selects.{conditions_asked, conditions_in, times_by, times_in, word_asked, word_by};
-ghost use Rattle.command_line.specs.Times.{time_in};
 
-use crate::reading_words::is_given;
 use crate::request::Request;
-use crate::time_words::instant;
-use crate::words::{command, flag, told_option, value, with_arg};
+use crate::words::{command, flag, told_option, with_arg};
 use archive_sets::{AskedWord, Conditions, InRange, Times};
 use clap::{ArgMatches, Command};
+use option_values::{is_given, optional_instant, value};
 use std::alloc::{AllocError, Global};
 use syslog_value::{Facility, Instant, Severity};
 
-// The command with the options for a range of time.
-fn with_range<'a>(alloc: Global, select: Command<'a>) -> Result<Command<'a>, AllocError>
+/// The command with the options for a range of time.
+pub(crate) fn with_range<'a>(alloc: Global, select: Command<'a>) -> Result<Command<'a>, AllocError>
     requires { (fields_of select).has_globals ≡ false }
-    ensures app { IfOk result (λ c. app_of c
-        ≡ with_rule (with_rule (app_of select.entry) (option_rule (codes "from")))
-        (option_rule (codes "to"))) }
+    ensures app { IfOk result (λ c. app_of c ≡ with_range_rules (app_of select.entry)) }
     ensures local { IfOk result (λ c. (fields_of c).has_globals ≡ false) }
 {
-    let help = "At this time (RFC 5424, as 2026-11-25T10:00:00Z) or after it";
+    let help = "Records at or after this time (RFC 5424, as 2026-11-25T10:00:00Z)";
     let select = with_arg(select, told_option(alloc, "from", help))?;
-    with_arg(select, told_option(alloc, "to", "Before this time"))
+    with_arg(select, told_option(alloc, "to", "Records before this time"))
 }
 
 // The command with the options for the times of records.
@@ -41,9 +37,9 @@ fn with_times<'a>(alloc: Global, select: Command<'a>) -> Result<Command<'a>, All
     ensures local { IfOk result (λ c. (fields_of c).has_globals ≡ false) }
 {
     let select = with_range(alloc, select)?;
-    let help = "Records without a time too, beside those of --from and --to";
+    let help = "Also records without a time, beside those of --from and --to";
     let select = with_arg(select, flag(alloc, "undated", help))?;
-    let help = "Records without a time alone";
+    let help = "Only records without a time";
     with_arg(select, flag(alloc, "only-undated", help))
 }
 
@@ -53,13 +49,13 @@ fn with_words<'a>(alloc: Global, select: Command<'a>) -> Result<Command<'a>, All
     ensures app { IfOk result (λ c. app_of c ≡ with_word_rules (app_of select.entry)) }
     ensures local { IfOk result (λ c. (fields_of c).has_globals ≡ false) }
 {
-    let help = "This HOSTNAME; - for none";
+    let help = "Records with this HOSTNAME; - for none";
     let select = with_arg(select, told_option(alloc, "host", help))?;
-    let help = "This APP-NAME; - for none";
+    let help = "Records with this APP-NAME; - for none";
     let select = with_arg(select, told_option(alloc, "app", help))?;
-    let help = "This PROCID; - for none";
+    let help = "Records with this PROCID; - for none";
     let select = with_arg(select, told_option(alloc, "proc", help))?;
-    let help = "This MSGID; - for none";
+    let help = "Records with this MSGID; - for none";
     with_arg(select, told_option(alloc, "msgid", help))
 }
 
@@ -70,13 +66,13 @@ fn with_priority<'a>(alloc: Global, select: Command<'a>) -> Result<Command<'a>, 
     ensures local { IfOk result (λ c. (fields_of c).has_globals ≡ false) }
 {
     let help =
-        "This severity or a more severe one: emerg, alert, crit, err, warning, notice, info or debug";
+        "Records of this severity or a more severe one: emerg, alert, crit, err, warning, notice, info or debug";
     let select = with_arg(select, told_option(alloc, "severity", help))?;
-    let help = "This facility: kern, user, mail, daemon .. or local0 to local7";
+    let help = "Records of this facility: kern, user, mail, daemon, ... or local0 to local7";
     with_arg(select, told_option(alloc, "facility", help))
 }
 
-/// The command that chooses records of an archive.
+/// The command that chooses records of an archive. It fails only when out of memory.
 pub fn select_command<'a>(alloc: Global) -> Result<Command<'a>, AllocError>
     ensures app { IfOk result (λ c. app_of c ≡ select_app) }
     ensures local { IfOk result (λ c. (fields_of c).has_globals ≡ false) }
@@ -85,18 +81,8 @@ pub fn select_command<'a>(alloc: Global) -> Result<Command<'a>, AllocError>
     let select = with_times(alloc, command(alloc, "select", about))?;
     let select = with_priority(alloc, select)?;
     let select = with_words(alloc, select)?;
-    let help = "An element with this SD-ID";
+    let help = "Records that have an element with this SD-ID";
     with_arg(select, told_option(alloc, "id", help))
-}
-
-// The instant of the value of an option, where it is given; None where the value is refused.
-fn bound(matches: &ArgMatches<'_>, id: &str) -> Option<Option<Instant>>
-    ensures { result ≡ optional time_in (first_of id.now (rows_of (found_of matches.now))) }
-{
-    let Some(text) = value(matches, id) else {
-        return Some(None);
-    };
-    Some(Some(instant(text)?))
 }
 
 // The times by their bounds and the two flags.
@@ -120,8 +106,8 @@ fn times_by(
 fn times(matches: &ArgMatches<'_>) -> Option<Times>
     ensures { result ≡ times_in (rows_of (found_of matches.now)) }
 {
-    let from = bound(matches, "from")?;
-    let to = bound(matches, "to")?;
+    let from = optional_instant(matches, "from")?;
+    let to = optional_instant(matches, "to")?;
     let undated = is_given(matches, "undated");
     times_by(from, to, undated, is_given(matches, "only-undated"))
 }
@@ -199,7 +185,7 @@ fn conditions<'a>(matches: &ArgMatches<'a>) -> Option<Conditions<'a>>
     })
 }
 
-/// The request of `select`.
+/// The request of `select`; None if a value is refused.
 pub fn read_select_words<'a>(matches: &ArgMatches<'a>) -> Option<Request<'a>>
     ensures { option_map asked_by result ≡ read_select (rows_of (found_of matches.now)) }
 {

@@ -7,8 +7,9 @@ ghost use Rattle.command_line.specs.CommandLine.{send_app, with_send_defaults, w
 ghost use Rattle.command_line.specs.Requests.{asked_by, read_send};
 
 use crate::request::Request;
-use crate::words::{command, default_option, positional, told_option, value, with_arg};
+use crate::words::{command, default_option, positional, told_option, with_arg};
 use clap::{ArgMatches, Command};
+use option_values::value;
 use send_engine::SendOptions;
 use std::alloc::{AllocError, Global};
 
@@ -18,7 +19,7 @@ fn with_send_defaults<'a>(alloc: Global, send: Command<'a>) -> Result<Command<'a
     ensures app { IfOk result (λ c. app_of c ≡ with_send_defaults (app_of send.entry)) }
     ensures local { IfOk result (λ c. (fields_of c).has_globals ≡ false) }
 {
-    let help = "Facility: kern, user, mail, daemon .. or local0 to local7";
+    let help = "Facility: kern, user, mail, daemon, ... or local0 to local7";
     let send = with_arg(send, default_option(alloc, "facility", "user", help))?;
     let help = "Severity: emerg, alert, crit, err, warning, notice, info or debug";
     let send = with_arg(send, default_option(alloc, "severity", "notice", help))?;
@@ -40,7 +41,7 @@ fn with_words<'a>(alloc: Global, send: Command<'a>) -> Result<Command<'a>, Alloc
     with_arg(send, told_option(alloc, "msgid", "MSGID"))
 }
 
-/// The command that sends one record.
+/// The command that sends one record. It fails only when out of memory.
 pub fn send_command<'a>(alloc: Global) -> Result<Command<'a>, AllocError>
     ensures app { IfOk result (λ c. app_of c ≡ send_app) }
     ensures local { IfOk result (λ c. (fields_of c).has_globals ≡ false) }
@@ -53,7 +54,8 @@ pub fn send_command<'a>(alloc: Global) -> Result<Command<'a>, AllocError>
     with_arg(send, positional(alloc, "TEXT", "Message"))
 }
 
-/// The request of `send`, with the texts of its options.
+/// The request of `send`, with the texts of its options; None unless a message is given. The texts
+/// are not read yet.
 pub fn read_send_words<'a>(matches: &ArgMatches<'a>) -> Option<Request<'a>>
     ensures { option_map asked_by result ≡ read_send (rows_of (found_of matches.now)) }
 {

@@ -1,16 +1,16 @@
 //! The words of the commands of sets: `union`, `common`, `minus` and `diff`.
 
 ghost use Rattle.std.specs.Prelude.{◌≡◌, false, map, option_map, IfOk};
-ghost use Rattle.clap.specs.Walk.{all_of};
 ghost use Rattle.clap.specs.Words.{app_of, found_of, rows_of, rule_of};
 ghost use Rattle.clap.specs.declared.builder.command.Command.TheViews.{out-Command as fields_of};
 ghost use Rattle.command_line.specs.CommandLine.{files_rule, union_app, with_part_commands, with_set_commands};
 ghost use Rattle.command_line.specs.Requests.{asked_by, read_common, read_diff, read_minus, read_union};
 
 use crate::archive_words::two_files_command;
-use crate::request::Request;
-use crate::words::{command, positional, value, with_arg, with_command};
+use crate::request::{FileRequest, Request};
+use crate::words::{command, positional, with_arg, with_command};
 use clap::{Arg, ArgMatches, Command};
+use option_values::{value, values};
 use std::alloc::{AllocError, Global};
 
 // The files that are joined: one at least, and 512 at most.
@@ -37,12 +37,12 @@ fn with_part_commands<'a>(alloc: Global, line: Command<'a>) -> Result<Command<'a
     let about = "Write the archive of the records that both of two archives have";
     let common = two_files_command(alloc, "common", about)?;
     let line = with_command(line, common)?;
-    let about = "Write the archive of the records of one archive that another has not";
+    let about = "Write the archive of the records of one archive that another lacks";
     let minus = two_files_command(alloc, "minus", about)?;
     with_command(line, minus)
 }
 
-/// The line with the commands of sets.
+/// The command line with the commands of sets. It fails only when out of memory.
 pub fn with_set_commands<'a>(alloc: Global, line: Command<'a>) -> Result<Command<'a>, AllocError>
     ensures { IfOk result (λ c. app_of c ≡ with_set_commands (app_of line.entry)) }
 {
@@ -53,14 +53,6 @@ pub fn with_set_commands<'a>(alloc: Global, line: Command<'a>) -> Result<Command
     with_command(line, diff)
 }
 
-// The values of an argument that takes several.
-fn values<'a, 'm>(matches: &'m ArgMatches<'a>, id: &str) -> Option<&'m [&'a str]>
-    ensures { option_map (λ s. map (λ v. v.now) s.now) result
-        ≡ all_of id.now (rows_of (found_of matches.now)) }
-{
-    matches.get_strs(id)
-}
-
 // The same names, in a list of their own.
 fn copied<'a>(alloc: Global, names: &[&'a str]) -> Result<Vec<&'a str>, AllocError>
     ensures { IfOk result (λ r. map (λ v. v.now) r.items ≡ map (λ v. v.now) names.now) }
@@ -68,7 +60,7 @@ fn copied<'a>(alloc: Global, names: &[&'a str]) -> Result<Vec<&'a str>, AllocErr
     names.to_vec(alloc)
 }
 
-/// The request of `union`.
+/// The request of `union`; None unless a file is named. It fails only when out of memory.
 pub fn read_union_words<'a>(
     alloc: Global,
     matches: &ArgMatches<'a>,
@@ -80,32 +72,32 @@ pub fn read_union_words<'a>(
         return Ok(None);
     };
     let files = copied(alloc, names)?;
-    Ok(Some(Request::Union { files }))
+    Ok(Some(Request::Files(FileRequest::Union { files })))
 }
 
-/// The request of `common`.
+/// The request of `common`; None unless both files are named.
 pub fn read_common_words<'a>(matches: &ArgMatches<'a>) -> Option<Request<'a>>
     ensures { option_map asked_by result ≡ read_common (rows_of (found_of matches.now)) }
 {
     let left = value(matches, "LEFT")?;
     let right = value(matches, "RIGHT")?;
-    Some(Request::Common { left, right })
+    Some(Request::Files(FileRequest::Common { left, right }))
 }
 
-/// The request of `minus`.
+/// The request of `minus`; None unless both files are named.
 pub fn read_minus_words<'a>(matches: &ArgMatches<'a>) -> Option<Request<'a>>
     ensures { option_map asked_by result ≡ read_minus (rows_of (found_of matches.now)) }
 {
     let left = value(matches, "LEFT")?;
     let right = value(matches, "RIGHT")?;
-    Some(Request::Minus { left, right })
+    Some(Request::Files(FileRequest::Minus { left, right }))
 }
 
-/// The request of `diff`.
+/// The request of `diff`; None unless both files are named.
 pub fn read_diff_words<'a>(matches: &ArgMatches<'a>) -> Option<Request<'a>>
     ensures { option_map asked_by result ≡ read_diff (rows_of (found_of matches.now)) }
 {
     let left = value(matches, "LEFT")?;
     let right = value(matches, "RIGHT")?;
-    Some(Request::Diff { left, right })
+    Some(Request::Files(FileRequest::Diff { left, right }))
 }

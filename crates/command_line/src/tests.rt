@@ -1,9 +1,12 @@
 //! Rows of words: numbers and zones, and what `collect` takes.
 
-use crate::{Request, WordsFault, collect_words, read_words};
+use crate::{FileRequest, FrameCommand, Request, WordsFault, collect_words, read_words};
 use archive_digest::Period;
 use archive_sets::{AskedWord, Conditions, InRange, Times};
 use collect_engine::{CollectWords, Transport};
+use server_words::{InheritedKind, ListenerWords, ServeOptions};
+use std::net::SocketAddr;
+use std::str::FromStr;
 use std::test::Fail;
 use syslog_legacy::{Dialect, FrameReading, LegacyClock};
 use syslog_value::{Facility, Instant, Severity};
@@ -14,7 +17,7 @@ const PADDED: &str = "00000000000000000000000000000000000000002001";
 // whether `check` reads frames so
 fn checks_by(rt: &HostRuntime, words: &[&str], reading: FrameReading) -> bool {
     match read_words(rt.alloc(), words) {
-        Ok(Request::Check { reading: found, .. }) => found == reading,
+        Ok(Request::Frames(found)) => found.reading == reading,
         _ => false,
     }
 }
@@ -102,9 +105,12 @@ fn other_years_and_zones_are_refused(rt: HostRuntime) {
 
 // whether a flag of `check` and one of `show` are read so
 fn has_flags(rt: &HostRuntime, words: &[&str], flag: bool) -> bool {
-    match read_words(rt.alloc(), words) {
-        Ok(Request::Check { summary, .. }) => summary == flag,
-        Ok(Request::Show { json, .. }) => json == flag,
+    let Ok(Request::Frames(found)) = read_words(rt.alloc(), words) else {
+        return false;
+    };
+    match found.command {
+        FrameCommand::Check { summary } => summary == flag,
+        FrameCommand::Show { json } => json == flag,
         _ => false,
     }
 }
@@ -124,10 +130,13 @@ fn check_has_a_summary_and_show_writes_json(rt: HostRuntime) {
 // the command, the left file and the right one
 fn sides<'a>(rt: &HostRuntime, words: &'a [&'a str]) -> Option<(u8, &'a str, &'a str)> {
     match read_words(rt.alloc(), words) {
-        Ok(Request::Merge { left, right }) => Some((b'+', left, right)),
-        Ok(Request::Common { left, right }) => Some((b'&', left, right)),
-        Ok(Request::Minus { left, right }) => Some((b'-', left, right)),
-        Ok(Request::Diff { left, right }) => Some((b'/', left, right)),
+        Ok(Request::Files(files)) => match files {
+            FileRequest::Merge { left, right } => Some((b'+', left, right)),
+            FileRequest::Common { left, right } => Some((b'&', left, right)),
+            FileRequest::Minus { left, right } => Some((b'-', left, right)),
+            FileRequest::Diff { left, right } => Some((b'/', left, right)),
+            _ => None,
+        },
         _ => None,
     }
 }
@@ -151,7 +160,7 @@ fn two_files_have_their_sides(rt: HostRuntime) {
 // whether a union is made of these files
 fn unites(rt: &HostRuntime, words: &[&str], files: &[&str]) -> bool {
     match read_words(rt.alloc(), words) {
-        Ok(Request::Union { files: found }) => found.as_slice() == files,
+        Ok(Request::Files(FileRequest::Union { files: found })) => found.as_slice() == files,
         _ => false,
     }
 }
@@ -276,6 +285,225 @@ fn select_takes_fields(rt: HostRuntime) {
         ["select", "--id=a", "b"],
     ] {
         assert!(rt; refuses(&rt, &words));
+    }
+}
+
+// the folder and the range that `read` is given
+fn reads<'a>(rt: &HostRuntime, words: &'a [&'a str]) -> Option<(&'a str, InRange)> {
+    match &read_words(rt.alloc(), words) {
+        Ok(Request::Read { dir, range }) => Some((*dir, *range)),
+        _ => None,
+    }
+}
+
+#[test]
+fn read_takes_a_folder_and_a_range(rt: HostRuntime) {
+    let all = InRange {
+        from: None,
+        to: None,
+        undated: false,
+    };
+    assert!(rt; reads(&rt, &["read", "d"]) == Some(("d", all)));
+    let since = InRange {
+        from: Instant::from_micros(1_795_600_800_000_000),
+        to: None,
+        undated: true,
+    };
+    let words = ["read", "--undated", "--from", "2026-11-25T10:00:00Z", "d"];
+    assert!(rt; reads(&rt, &words) == Some(("d", since)));
+    let before = InRange {
+        from: None,
+        to: Instant::from_micros(1_795_600_800_000_000),
+        undated: false,
+    };
+    let words = ["read", "d", "--to=2026-11-25T10:00:00Z"];
+    assert!(rt; reads(&rt, &words) == Some(("d", before)));
+    assert!(rt; refuses(&rt, &["read"]));
+    assert!(rt; refuses(&rt, &["read", "d", "e"]));
+    assert!(rt; refuses(&rt, &["read", "d", "--to", "-"]));
+    assert!(rt; refuses(&rt, &["read", "d", "--only-undated"]));
+    assert!(rt; refuses(&rt, &["read", "d", "--host=a"]));
+}
+
+#[test]
+fn a_store_is_verified(rt: HostRuntime) {
+    assert!(rt;
+        matches!(
+            read_words(rt.alloc(), &["verify", "--", "-d"]),
+            Ok(Request::Verify { dir: "-d" })
+        )
+    );
+    assert!(rt; refuses(&rt, &["verify"]));
+    assert!(rt; refuses(&rt, &["verify", "d", "e"]));
+    assert!(rt; refuses(&rt, &["verify", "d", "--undated"]));
+}
+
+// the folder that `archive` spills into, and the MiB of memory
+fn spills<'a>(rt: &HostRuntime, words: &'a [&'a str]) -> Option<(&'a str, u32)> {
+    match &read_words(rt.alloc(), words) {
+        Ok(
+            Request::SpillArchive {
+                dir,
+                memory_mib,
+                ..
+            },
+        ) => Some((*dir, *memory_mib)),
+        _ => None,
+    }
+}
+
+// whether `archive` keeps all in memory
+fn archives(rt: &HostRuntime, words: &[&str]) -> bool {
+    match read_words(rt.alloc(), words) {
+        Ok(Request::Frames(found)) => found.command == FrameCommand::Archive,
+        _ => false,
+    }
+}
+
+#[test]
+fn an_archive_may_spill(rt: HostRuntime) {
+    assert!(rt; spills(&rt, &["archive", "--spill", "d"]) == Some(("d", 256)));
+    let words = ["archive", "--spill=d", "--memory=1", "--trim"];
+    assert!(rt; spills(&rt, &words) == Some(("d", 1)));
+    let words = ["archive", "--memory", "1048576", "--spill", ""];
+    assert!(rt; spills(&rt, &words) == Some(("", 1_048_576)));
+    assert!(rt; archives(&rt, &["archive"]));
+    assert!(rt; archives(&rt, &["archive", "--memory", "7"]));
+    for memory in ["0", "1048577", "", "+1", "-1", "1k"] {
+        assert!(rt; refuses(&rt, &["archive", "--spill", "d", "--memory", memory]));
+        assert!(rt; refuses(&rt, &["archive", "--memory", memory]));
+    }
+    assert!(rt; refuses(&rt, &["archive", "--spill", "d", "--spill", "d"]));
+    assert!(rt; refuses(&rt, &["check", "--memory", "7"]));
+    assert!(rt; refuses(&rt, &["collect", "udp", "514", "1", "--spill", "d"]));
+}
+
+// the listeners of `serve`
+fn listens(rt: &HostRuntime, words: &[&str], listeners: &[ListenerWords<'_>]) -> bool {
+    match &read_words(rt.alloc(), words) {
+        Ok(Request::Serve { words: found }) => {
+            found.dir == "d" && found.listeners.as_slice() == listeners
+        }
+        _ => false,
+    }
+}
+
+#[test]
+fn serve_listens_on_sockets_kind_by_kind(rt: HostRuntime) -> Result<(), Fail> {
+    let loopback = SocketAddr::from_str("127.0.0.1:514").or_else(|_| Err("no address"))?;
+    let six = SocketAddr::from_str("[::1]:0").or_else(|_| Err("no address"))?;
+    let words = ["serve", "d", "--udp", "127.0.0.1:514"];
+    assert!(rt; listens(&rt, &words, &[ListenerWords::Udp(loopback)]));
+    let words = [
+        "serve",
+        "--lf=[::1]:0",
+        "--inherited",
+        "lf",
+        "--unix",
+        "/dev/log",
+        "--counted",
+        "127.0.0.1:514",
+        "--udp=[::1]:0",
+        "d",
+        "--inherited=udp",
+        "--udp=127.0.0.1:514",
+        "--inherited=counted",
+    ];
+    let listeners = [
+        ListenerWords::Udp(six),
+        ListenerWords::Udp(loopback),
+        ListenerWords::Counted(loopback),
+        ListenerWords::Lf(six),
+        ListenerWords::Unix("/dev/log"),
+        ListenerWords::Inherited(InheritedKind::Lf),
+        ListenerWords::Inherited(InheritedKind::Udp),
+        ListenerWords::Inherited(InheritedKind::Counted),
+    ];
+    assert!(rt; listens(&rt, &words, &listeners));
+    Ok(())
+}
+
+#[test]
+fn what_is_no_address_is_refused(rt: HostRuntime) {
+    for address in [
+        "",
+        "514",
+        "localhost:514",
+        "127.0.0.1",
+        "127.0.0.1:",
+        "127.0.0.1:65536",
+        "127.0.0.01:514",
+        "127.0.0.1:514 ",
+        "::1:514",
+        "[::1]",
+        "[127.0.0.1]:514",
+    ] {
+        for option in ["--udp", "--counted", "--lf"] {
+            assert!(rt; refuses(&rt, &["serve", "d", option, address]));
+        }
+    }
+    for kind in ["", "unix", "UDP", "3"] {
+        assert!(rt; refuses(&rt, &["serve", "d", "--inherited", kind]));
+    }
+    assert!(rt; refuses(&rt, &["serve", "d"]));
+    assert!(rt; refuses(&rt, &["serve", "--unix", "p"]));
+    assert!(rt; refuses(&rt, &["serve", "d", "e", "--unix", "p"]));
+}
+
+// what the server is to do
+fn serves(rt: &HostRuntime, words: &[&str]) -> Option<ServeOptions> {
+    match &read_words(rt.alloc(), words) {
+        Ok(Request::Serve { words: found }) => Some(found.options),
+        _ => None,
+    }
+}
+
+#[test]
+fn serve_has_limits(rt: HostRuntime) {
+    let mut options = ServeOptions {
+        connections: 1024,
+        idle_seconds: None,
+        commit_millis: 1000,
+        checkpoint_mib: 64,
+        until_eof: false,
+        reading: FrameReading::from(None),
+    };
+    assert!(rt; serves(&rt, &["serve", "d", "--unix", "p"]) == Some(options));
+    options.connections = 16_384;
+    options.idle_seconds = Some(1);
+    options.commit_millis = 0;
+    options.checkpoint_mib = 1;
+    options.until_eof = true;
+    options.reading.trim = true;
+    options.reading.clock = LegacyClock::new(2001, 0);
+    let words = [
+        "serve",
+        "d",
+        "--unix=p",
+        "--connections=16384",
+        "--idle=1",
+        "--commit=0",
+        "--checkpoint=1",
+        "--until-eof",
+        "--trim",
+        "--legacy=2001",
+    ];
+    assert!(rt; serves(&rt, &words) == Some(options));
+    for word in [
+        "--connections=0",
+        "--connections=16385",
+        "--idle=0",
+        "--idle=31536001",
+        "--idle=",
+        "--commit=-1",
+        "--commit=3600001",
+        "--checkpoint=0",
+        "--checkpoint=1048577",
+        "--until-eof=true",
+        "--dialect=x",
+        "--summary",
+    ] {
+        assert!(rt; refuses(&rt, &["serve", "d", "--unix", "p", word]));
     }
 }
 

@@ -1,12 +1,12 @@
 //! The command line, parsed by `clap`. The request is a function of the words alone.
 
 ghost use Rattle.std.specs.Prelude.{◌≡◌, false, map, option_map, option_and_then, IfOk, IfErr, Some, None};
-ghost use Rattle.clap.specs.Walk.{first_of};
 ghost use Rattle.clap.specs.Words.{app_of, found_of, rows_of, rule_of, subcommand_rows_of};
 ghost use Rattle.clap.specs.Simple.{new_app, with_rule, with_subcommand};
 ghost use Rattle.clap.specs.declared.builder.command.Command.TheViews.{out-Command as fields_of};
 ghost use Rattle.command_line.specs.CommandLine.{default_rule, empty_app, flag_rule, line_app, option_rule};
-ghost use Rattle.command_line.specs.CommandLine.{required_rule, with_archives, with_stream_commands};
+ghost use Rattle.command_line.specs.CommandLine.{required_rule, with_archives, with_receivers};
+ghost use Rattle.command_line.specs.CommandLine.{with_stream_commands};
 ghost use Rattle.command_line.specs.Requests.{Collect, IsUsage, asked_by, parsed, read_collect, read_of, read_other};
 
 use crate::archive_words::{read_merge_words, read_migrate_words, with_archive_commands};
@@ -18,9 +18,12 @@ use crate::frame_words::{
 use crate::request::Request;
 use crate::select_words::{read_select_words, select_command};
 use crate::send_words::{read_send_words, send_command};
+use crate::serving::{read_serve_request, serve_command};
 use crate::set_words::{
     read_common_words, read_diff_words, read_minus_words, read_union_words, with_set_commands,
 };
+use crate::store_words::{read_store_words, with_store_commands};
+use crate::usage::takes;
 use clap::error::ErrorKind;
 use clap::{Arg, ArgAction, ArgMatches, Command};
 use std::alloc::{AllocError, Global};
@@ -34,7 +37,7 @@ const VERSION: &str = "0.1.0";
 pub enum WordsFault {
     /// The words do not parse, or they ask for help: the text to print.
     Usage(String),
-    /// Out of memory.
+    /// An allocation failed.
     Memory,
 }
 
@@ -160,20 +163,23 @@ fn with_archives<'a>(alloc: Global, line: Command<'a>) -> Result<Command<'a>, Al
     with_stream_commands(alloc, line)
 }
 
+// The line with the commands that receive records from sockets.
+fn with_receivers<'a>(alloc: Global, line: Command<'a>) -> Result<Command<'a>, AllocError>
+    ensures { IfOk result (λ c. app_of c ≡ with_receivers (app_of line.entry)) }
+{
+    let line = with_command(line, collect_command(alloc)?)?;
+    with_command(line, serve_command(alloc)?)
+}
+
 /// The whole command line.
 pub(crate) fn whole_line<'a>(alloc: Global) -> Result<Command<'a>, AllocError>
     ensures { IfOk result (λ c. app_of c ≡ line_app) }
 {
     let line = with_frame_commands(alloc, empty_line(alloc))?;
     let line = with_archives(alloc, line)?;
+    let line = with_store_commands(alloc, line)?;
     let line = with_command(line, send_command(alloc)?)?;
-    with_command(line, collect_command(alloc)?)
-}
-
-pub(crate) fn value<'a>(matches: &ArgMatches<'a>, id: &str) -> Option<&'a str>
-    ensures { option_map (λ s. s.now) result ≡ first_of id.now (rows_of (found_of matches.now)) }
-{
-    matches.get_str(id)
+    with_receivers(alloc, line)
 }
 
 // `collect`, with its arguments.
@@ -202,7 +208,7 @@ fn read_other_words<'a>(name: &str, matches: &ArgMatches<'a>) -> Option<Request<
         "select" => read_select_words(matches),
         "digest" => read_digest_words(matches),
         "send" => read_send_words(matches),
-        _ => None,
+        _ => read_store_words(name, matches),
     }
 }
 
@@ -216,6 +222,7 @@ fn asked_for<'a>(alloc: Global, matches: &ArgMatches<'a>) -> Result<Option<Reque
     match name {
         "collect" => Ok(read_collect_request(inner)),
         "union" => read_union_words(alloc, inner),
+        "serve" => read_serve_request(alloc, inner),
         _ => Ok(read_other_words(name, inner)),
     }
 }
@@ -228,35 +235,6 @@ fn refused(alloc: Global, error: &clap::Error) -> WordsFault {
     }
 }
 
-// Which values the options of a command take, for one that `clap` accepts and this program does not.
-fn takes(name: &str) -> &'static str {
-    match name {
-        "collect" => {
-            "error: TRANSPORT is udp, counted or lf; PORT is 1 to 65535; COUNT is 1 to 1000000 for \
-             udp and 1 to 100000 for others; --legacy is a year from 1 to 9998; --zone is E or W, \
-             then hours and minutes in two digits each, as E0130; --dialect is bsd or wide\n"
-        }
-        "convert" => {
-            "error: --framing is datagram, counted or lf; --to is counted or lf; --legacy is a year \
-             from 1 to 9998; --zone is E or W, then hours and minutes in two digits each, as E0130; \
-             --dialect is bsd or wide\n"
-        }
-        "select" => {
-            "error: --from and --to are times of RFC 5424 in the years 0 to 9999 of UTC, as \
-             2026-11-25T10:00:00Z; --only-undated stands without them; --severity is emerg, alert, \
-             crit, err, warning, notice, info or debug; --facility is kern, user, mail, daemon, auth, \
-             syslog, lpr, news, uucp, cron, authpriv, ftp, ntp, audit, alert, clock or local0 to \
-             local7\n"
-        }
-        "digest" => "error: --by is month, day or hour\n",
-        _ => {
-            "error: --framing is datagram, counted or lf; --legacy is a year from 1 to 9998; --zone \
-             is E or W, then hours and minutes in two digits each, as E0130; --dialect is bsd or \
-             wide\n"
-        }
-    }
-}
-
 // The text for a value that `clap` accepts and this program does not.
 fn unknown(alloc: Global, matches: &ArgMatches<'_>) -> WordsFault {
     let name = matches.subcommand_name().unwrap_or("");
@@ -266,7 +244,8 @@ fn unknown(alloc: Global, matches: &ArgMatches<'_>) -> WordsFault {
     }
 }
 
-/// Reads the words of a command line, which do not begin with the program's name.
+/// Reads the words of a command line, which do not begin with the program's name. It fails as the
+/// variants of [`WordsFault`] say.
 pub fn read_words<'a, S: AsStr>(alloc: Global, words: &'a [S]) -> Result<Request<'a>, WordsFault>
     ensures ok { IfOk result (λ r. parsed (map S.text words.entry.now) ≡ Some (asked_by r)) }
     ensures err { IfErr result (λ fault.

@@ -1,5 +1,5 @@
 -- Files are opened one after the other.
-use Rattle.std.proofs.Common.{◌≡◌, ℕ, ◌+◌, ◌<◌, List, [], ◌∷◌, ◌++◌, Option, None, Some, IfSome, ap, arith, codes, drop}
+use Rattle.std.proofs.Common.{◌≡◌, ℕ, ◌+◌, ◌<◌, List, [], ◌∷◌, ◌++◌, None, Some, IfSome, ap, arith, codes, drop}
 use Rattle.std.proofs.Common.{Result, Ok, Err, false, if◌then◌else◌}
 use Rattle.std.specs.Result.{is_err, is_ok}
 use Rattle.std.proofs.Common.{get_or, length, map, subst, sym, take, ◌∙◌}

@@ -1,16 +1,16 @@
 -- What a run of each command does.
 use Rattle.std.proofs.Common.{◌≡◌, ℕ, List, [], inl, inr, Bool, true, false, Option, None, Some, IfSome, ap, codes, refl, string_bytes}
-use Rattle.std.proofs.Common.{subst, sym, take, ◌∙◌}
+use Rattle.std.proofs.Common.{subst, sym, ◌∙◌}
 use Rattle.std.proofs.KnownBytes.{Appends-nil}
 use Rattle.std.specs.Prelude.{IsSome}
-use Rattle.octet_devices.specs.Device.{InputState, OutputState}
+use Rattle.octet_devices.specs.Device.{OutputState}
 use Rattle.syslog_legacy.specs.declared.frame_reading.FrameReading.{FrameReading}
 use Rattle.syslog_frame.specs.declared.framing.Framing.{Framing}
 use Rattle.driver.specs.Devices.{Devices, Reports, devices}
 use Rattle.driver.specs.Effects.{Done, nothing}
 use Rattle.driver.specs.Run.{Ran}
 use Rattle.driver.specs.Sessions.{HasOneOutput, Meaning}
-use Rattle.driver.specs.declared.status.TheConstants.{FAULT, NO_MEMORY}
+use Rattle.driver.specs.declared.status.TheConstants.{NO_MEMORY}
 use Rattle.driver.proofs.Ends.{unstarted}
 use Rattle.frame_engine.specs.Checked.{check_handling, refused_line}
 use Rattle.frame_engine.specs.Converted.{convert_handling, noted_line}
@@ -26,13 +26,16 @@ use Rattle.frame_engine.proofs.SessionLemmas.{handler_laws, nothing_goes_on, not
 use Rattle.archive_engine.specs.Archived.{archive_handling, archive_meaning}
 use Rattle.archive_engine.proofs.ArchiveLemmas.{archive_laws}
 use Rattle.archive_sets.specs.declared.fault.SelectFault.TheVariants.{Memory as select_Memory}
-use Rattle.command_line.specs.Requests.{Archive, Asked, Check, Collect, Common, Convert, Diff, Digest, Merge, Migrate}
-use Rattle.command_line.specs.Requests.{Minus, Select, Send, Show, Union}
-use Rattle.command_line.specs.Requests.{IsUsage}
+use Rattle.command_line.specs.Requests.{Archive, Asked, Check, Collect, Common, Convert, Diff, Digest, Merge}
+use Rattle.command_line.specs.Requests.{Migrate, Minus, Read, Select, Send, Serve, Show, SpillArchive, Union, Verify}
+use Rattle.command_line.specs.Requests.{IsUsage, frames_asked, frames_by}
+use Rattle.command_line.specs.declared.request.FrameCommand.{FrameCommand}
+use Rattle.command_line.specs.declared.request.FrameCommand.TheVariants as frames
+use Rattle.command_line.specs.declared.request.FrameRequest.{FrameRequest}
 use Rattle.command_line.specs.declared.words.WordsFault.{WordsFault}
 use Rattle.command_line.specs.declared.words.WordsFault.TheVariants.{Usage, Memory as words_Memory}
 use Rattle.send_engine.specs.Sending.{OutOfMemory}
-use Rattle.commands.specs.Runs.{RanAs, RanInput, TellsUsage, TellsWordsFault, show_by}
+use Rattle.commands.specs.Runs.{RanAs, RanInput, ReadsInput, TellsUsage, TellsWordsFault, show_by}
 use Rattle.commands.specs.Stored.{Stored}
 
 pub ran_input : (M : Meaning) (old new : Devices) (status : ℕ) → HasOneOutput M → Ran M old new status
@@ -75,6 +78,17 @@ pub ran_archive : (way : FrameReading) (framing : InputFraming) (stored : Stored
     → Ran (archive_meaning way framing) old new status → RanAs (Archive way framing) stored old new status
 ran_archive way framing stored old new status r =
     ran_input (archive_meaning way framing) old new status (archive_laws way framing) r
+
+-- all of these read the standard input
+pub frames_read : (r : FrameRequest) → ReadsInput (frames_asked r)
+frames_read r = by_command r.reading r.input_framing r.command
+  where
+    by_command : (way : FrameReading) (framing : InputFraming) (command : FrameCommand)
+        → ReadsInput (frames_by way framing command)
+    by_command way framing (frames.Check summary) = tt
+    by_command way framing (frames.Show json) = tt
+    by_command way framing (frames.Convert to) = tt
+    by_command way framing frames.Archive = tt
 
 -- ---- files
 
@@ -131,7 +145,11 @@ unstarted_as (Send texts) stored old d status t = record {
   outcome = (refl, t);
   begins = λ done is. (0, Appends-nil old.output.taken);
 }
+unstarted_as (SpillArchive way framing dir memory) stored old d status t = inl (refl, t)
+unstarted_as (Read dir range) stored old d status t = inl (refl, t)
+unstarted_as (Verify dir) stored old d status t = inl (refl, t)
 unstarted_as (Collect words) stored old d status t = inl (refl, t)
+unstarted_as (Serve words) stored old d status t = inl (refl, t)
 
 -- ---- arguments that are no request
 

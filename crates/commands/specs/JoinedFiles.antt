@@ -1,5 +1,5 @@
 -- Files whose archives are joined.
-use Rattle.std.specs.Prelude.{◌≡◌, ◌⊎◌, ℕ, List, [], ◌∷◌, ◌++◌, length, Option, None, IfSome, IsSome, codes}
+use Rattle.std.specs.Prelude.{◌≡◌, ◌⊎◌, ℕ, List, [], ◌∷◌, ◌++◌, length, None, IfSome, IsSome, codes}
 use Rattle.std.specs.List.{AllByRecursion}
 use Rattle.octet_devices.specs.Device.{InputState, OutputState}
 use Rattle.driver.specs.Devices.{Reports}

@@ -19,8 +19,8 @@ use Rattle.archive_engine.specs.Migrated.{RanMigrate}
 use Rattle.archive_sets.specs.Together.{MeetsAll}
 use Rattle.archive_sets.specs.declared.conditions.Conditions.{Conditions}
 use Rattle.command_line.specs.Selects.{ConditionsAsked, conditions_asked}
-use Rattle.command_line.specs.Requests.{Archive, Asked, Check, Collect, Common, Convert, Diff, Digest, Merge, Migrate}
-use Rattle.command_line.specs.Requests.{Minus, Select, Send, Show, Union}
+use Rattle.command_line.specs.Requests.{Archive, Asked, Check, Collect, Common, Convert, Diff, Digest, Merge}
+use Rattle.command_line.specs.Requests.{Migrate, Minus, Read, Select, Send, Serve, Show, SpillArchive, Union, Verify}
 use Rattle.command_line.specs.declared.words.WordsFault.{WordsFault}
 use Rattle.command_line.specs.declared.words.WordsFault.TheVariants.{Usage, Memory as OutOfMemory}
 use Rattle.send_engine.specs.Sending.{RanSend}
@@ -55,10 +55,11 @@ RanMigrateFile stored file w w_new n n_new status =
     ⊎ ((o : InputState) × (o_new : InputState) × Opens stored file o
     × RanMigrate (devices o w n) (devices o_new w_new n_new) status))
 
--- `collect` needs sockets, and is no command of a run: that is told, unless memory ran out
-abbrev pub RanCollect : OutputState → OutputState → OutputState → OutputState → ℕ → Type 0
-RanCollect w w_new n n_new status =
-    RanOut w w_new n n_new status ⊎ ((w_new ≡ w) × Reports (codes "socket fault\n") FAULT n n_new status)
+-- a command that needs what only a program has, as sockets, is no command of a run: this line tells that, unless
+-- memory ran out
+abbrev pub RanWithout : List ℕ → OutputState → OutputState → OutputState → OutputState → ℕ → Type 0
+RanWithout line w w_new n n_new status =
+    RanOut w w_new n n_new status ⊎ ((w_new ≡ w) × Reports line FAULT n n_new status)
 
 -- what `show` does with each frame: with `--json` it writes a line of JSON
 abbrev pub show_by : FrameReading → Bool → Handling
@@ -97,10 +98,18 @@ RanAs (Migrate file) stored old new status =
     RanMigrateFile stored file old.output new.output old.diagnostics new.diagnostics status
 RanAs (Send texts) stored old new status =
     RanSend texts old.output new.output old.diagnostics new.diagnostics status
+RanAs (SpillArchive way framing dir memory) stored old new status =
+    RanWithout (codes "spill fault\n") old.output new.output old.diagnostics new.diagnostics status
+RanAs (Read dir range) stored old new status =
+    RanWithout (codes "store fault\n") old.output new.output old.diagnostics new.diagnostics status
+RanAs (Verify dir) stored old new status =
+    RanWithout (codes "store fault\n") old.output new.output old.diagnostics new.diagnostics status
 RanAs (Collect words) stored old new status =
-    RanCollect old.output new.output old.diagnostics new.diagnostics status
+    RanWithout (codes "socket fault\n") old.output new.output old.diagnostics new.diagnostics status
+RanAs (Serve words) stored old new status =
+    RanWithout (codes "socket fault\n") old.output new.output old.diagnostics new.diagnostics status
 
--- the commands that read the standard input
+-- the commands of a run that read the standard input
 abbrev pub ReadsInput : Asked → Type 0
 ReadsInput (Check way framing summary) = Unit {0}
 ReadsInput (Show way framing json) = Unit {0}
@@ -115,7 +124,11 @@ ReadsInput (Select conditions) = Unit {0}
 ReadsInput (Digest period) = Unit {0}
 ReadsInput (Migrate file) = ⊥
 ReadsInput (Send texts) = ⊥
+ReadsInput (SpillArchive way framing dir memory) = ⊥
+ReadsInput (Read dir range) = ⊥
+ReadsInput (Verify dir) = ⊥
 ReadsInput (Collect words) = ⊥
+ReadsInput (Serve words) = ⊥
 
 -- arguments that are no request are told by a text, unless memory ran out
 abbrev pub TellsUsage : OutputState → OutputState → ℕ → Type 0

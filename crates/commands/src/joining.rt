@@ -39,7 +39,8 @@ fn open_files<N: Output, F: Files>(
     Ok(readers)
 }
 
-/// Joins the archives of files, by who has a record. All are opened before one is read.
+/// Joins the archives of files, depending on who has a record. All files are opened before one is
+/// read.
 pub fn join_files<W: Output, N: Output, F: Files>(
     alloc: Global,
     how: Combination,

@@ -3,14 +3,16 @@
 use crate::files::Files;
 use octet_devices::FromRead;
 
-/// A file by name, and what it holds.
+/// A file in memory.
 #[derive(Clone, Copy)]
 pub struct MemoryFile<'a> {
+    /// Its name.
     pub name: &'a str,
+    /// What it holds.
     pub octets: &'a [u8],
 }
 
-/// Files in memory. Of two with one name the first counts.
+/// Files in memory. Of two with the same name, the first counts.
 #[derive(Drop)]
 pub struct MemoryFiles<'a> {
     files: &'a [MemoryFile<'a>],
@@ -20,6 +22,7 @@ impl<'a> MemoryFiles<'a> {
     ghost use Rattle.std.specs.Prelude.{◌≡◌, Some};
     ghost use Rattle.commands.specs.Memory.{stored_in};
 
+    /// These files, found by their names.
     pub fn new(files: &'a [MemoryFile<'a>]) -> MemoryFiles<'a>
         ensures { ⟦<MemoryFiles<'a> as Files>⟧.stored result
             ≡ Some (λ name. stored_in name files.entry.now) }

@@ -8,14 +8,16 @@ ghost use Rattle.frame_engine.specs.Converted.{noted_line};
 ghost use Rattle.frame_engine.specs.Handling.{nothing_at_end};
 ghost use Rattle.frame_engine.specs.Sessions.{handler_meaning};
 ghost use Rattle.frame_engine.specs.Summaries.{check_end};
-ghost use Rattle.command_line.specs.Requests.{Asked, asked_by, parsed};
+ghost use Rattle.octet_devices.specs.Device.{InputState};
+ghost use Rattle.command_line.specs.Requests.{Asked, asked_by, files_asked, frames_asked, parsed};
 ghost use Rattle.commands.specs.Runs.{RanAs, RanMergeFiles, RanMigrateFile, ReadsInput, TellsUsage};
 ghost use Rattle.commands.specs.Runs.{TellsWordsFault, show_by};
+ghost use Rattle.commands.specs.Stored.{Stored};
 
 use crate::files::Files;
 use crate::joining::join_files;
 use archive_engine::{archive_input, merge_archives, migrate_archive};
-use command_line::{Request, WordsFault, read_words};
+use command_line::{FileRequest, FrameCommand, FrameRequest, Request, WordsFault, read_words};
 use driver::{FAULT, NO_MEMORY, report};
 use frame_engine::{Check, CheckSummary, Convert, InputFraming, Show, ShowJson, Tally, scan_input};
 use octet_devices::{Input, Output};
@@ -63,7 +65,7 @@ fn migrate_file<W: Output, N: Output, F: Files>(
 }
 
 /// Reports why the arguments are no request, and returns the exit status: `FAULT`, or `NO_MEMORY`
-/// where memory ran out.
+/// if memory ran out.
 pub fn report_words_fault<N: Output>(fault: &WordsFault, diagnostics: &mut N) -> u8
     ensures { TellsWordsFault fault.now (N.state diagnostics.old) (N.state diagnostics.new) result }
 {
@@ -122,9 +124,92 @@ fn show_input<R: Input, W: Output, N: Output>(
     scan_input(alloc, input_framing, show, input, output, diagnostics)
 }
 
+// Does what is asked for with the frames of the standard input.
+fn run_on_frames<R: Input, W: Output, N: Output>(
+    alloc: Global,
+    request: FrameRequest,
+    input: &mut R,
+    output: &mut W,
+    diagnostics: &mut N,
+) -> u8
+    ensures { (stored : Stored) → RanAs (frames_asked request) stored
+        (devices (R.state input.old) (W.state output.old) (N.state diagnostics.old))
+        (devices (R.state input.new) (W.state output.new) (N.state diagnostics.new)) result }
+{
+    let FrameRequest {
+        input_framing,
+        reading,
+        command,
+    } = request;
+    match command {
+        FrameCommand::Check { summary } => check_input(
+            alloc,
+            input_framing,
+            reading,
+            summary,
+            input,
+            output,
+            diagnostics,
+        ),
+        FrameCommand::Show { json } => show_input(
+            alloc,
+            input_framing,
+            reading,
+            json,
+            input,
+            output,
+            diagnostics,
+        ),
+        FrameCommand::Convert { to } => {
+            let convert = Convert { alloc, reading, to };
+            scan_input(alloc, input_framing, convert, input, output, diagnostics)
+        }
+        FrameCommand::Archive => {
+            archive_input(alloc, input_framing, reading, input, output, diagnostics)
+        }
+    }
+}
+
+// Does what is asked for with the archives of files. The standard input is left as it is.
+fn run_on_files<W: Output, N: Output, F: Files>(
+    alloc: Global,
+    request: FileRequest<'_>,
+    output: &mut W,
+    diagnostics: &mut N,
+    files: &mut F,
+) -> u8
+    ensures { (input : InputState) → RanAs (files_asked request.entry) (F.stored files.old)
+        (devices input (W.state output.old) (N.state diagnostics.old))
+        (devices input (W.state output.new) (N.state diagnostics.new)) result }
+{
+    match request {
+        FileRequest::Merge { left, right } => {
+            merge_files(alloc, left, right, output, diagnostics, files)
+        }
+        FileRequest::Migrate { file } => migrate_file(alloc, file, output, diagnostics, files),
+        FileRequest::Union { files: names } => {
+            let how = Combination::Union;
+            join_files(alloc, how, names.as_slice(), output, diagnostics, files)
+        }
+        FileRequest::Common { left, right } => {
+            let how = Combination::Common;
+            join_files(alloc, how, &[left, right], output, diagnostics, files)
+        }
+        FileRequest::Minus { left, right } => {
+            let how = Combination::Minus;
+            join_files(alloc, how, &[left, right], output, diagnostics, files)
+        }
+        FileRequest::Diff { left, right } => {
+            let how = Combination::Diff;
+            join_files(alloc, how, &[left, right], output, diagnostics, files)
+        }
+    }
+}
+
 /// Does what a request asks for and returns the exit status: 0 done, 1 something was refused, 2 a
 /// device failed, 3 out of memory. Records go to the output, reports of what went wrong to the
-/// diagnostics. `collect` needs sockets, which only a program has: here it is a fault.
+/// diagnostics. Commands that need sockets, a store or room on a disk, which only a program has,
+/// are a fault here.
 pub fn run_request<R: Input, W: Output, N: Output, F: Files>(
     alloc: Global,
     request: Request<'_>,
@@ -141,80 +226,28 @@ pub fn run_request<R: Input, W: Output, N: Output, F: Files>(
     ensures unread { ¬ (ReadsInput (asked_by request.entry)) → input.new ≡ input.old }
 {
     match request {
-        Request::Check {
-            input_framing,
-            reading,
-            summary,
-        } => check_input(
-            alloc,
-            input_framing,
-            reading,
-            summary,
-            input,
-            output,
-            diagnostics,
-        ),
-        Request::Show {
-            input_framing,
-            reading,
-            json,
-        } => show_input(
-            alloc,
-            input_framing,
-            reading,
-            json,
-            input,
-            output,
-            diagnostics,
-        ),
-        Request::Convert {
-            input_framing,
-            reading,
-            to,
-        } => {
-            let convert = Convert { alloc, reading, to };
-            scan_input(alloc, input_framing, convert, input, output, diagnostics)
-        }
-        Request::Archive {
-            input_framing,
-            reading,
-        } => archive_input(alloc, input_framing, reading, input, output, diagnostics),
-        Request::Merge { left, right } => {
-            merge_files(alloc, left, right, output, diagnostics, files)
-        }
-        Request::Union { files: names } => {
-            let how = Combination::Union;
-            join_files(alloc, how, names.as_slice(), output, diagnostics, files)
-        }
-        Request::Common { left, right } => {
-            let how = Combination::Common;
-            join_files(alloc, how, &[left, right], output, diagnostics, files)
-        }
-        Request::Minus { left, right } => {
-            let how = Combination::Minus;
-            join_files(alloc, how, &[left, right], output, diagnostics, files)
-        }
-        Request::Diff { left, right } => {
-            let how = Combination::Diff;
-            join_files(alloc, how, &[left, right], output, diagnostics, files)
-        }
+        Request::Frames(frames) => run_on_frames(alloc, frames, input, output, diagnostics),
+        Request::Files(names) => run_on_files(alloc, names, output, diagnostics, files),
         Request::Select { conditions } => {
             select_archive(alloc, &conditions, input, output, diagnostics)
         }
         Request::Digest { period } => digest_archive(alloc, period, input, output, diagnostics),
-        Request::Migrate { file } => migrate_file(alloc, file, output, diagnostics, files),
         Request::Send { options } => send_text(alloc, &options, output, diagnostics),
-        // only `main` has sockets
+        // only `main` has these
+        Request::SpillArchive { .. } => report(diagnostics, b"spill fault\n", FAULT),
+        Request::Read { .. } => report(diagnostics, b"store fault\n", FAULT),
+        Request::Verify { .. } => report(diagnostics, b"store fault\n", FAULT),
         Request::Collect { .. } => report(diagnostics, b"socket fault\n", FAULT),
+        Request::Serve { .. } => report(diagnostics, b"socket fault\n", FAULT),
     }
 }
 
-/// Does what the arguments ask for and returns the exit status: 0 done, 1 something was refused, 2 the
-/// arguments are wrong or a device failed, 3 out of memory. The arguments do not begin with the
+/// Does what the arguments ask for and returns the exit status: 0 done, 1 something was refused, 2
+/// the arguments are wrong or a device failed, 3 out of memory. The arguments do not begin with the
 /// program's name.
 ///
-/// Records go to the output, reports of what went wrong to the diagnostics. For arguments that are no
-/// request, and for a request for help, a text goes to the diagnostics and the status is 2.
+/// Records go to the output, reports of what went wrong to the diagnostics. If the arguments are no
+/// request, or ask for help, a text goes to the diagnostics and the status is 2.
 pub fn run<R: Input, W: Output, N: Output, F: Files>(
     alloc: Global,
     args: &[String],

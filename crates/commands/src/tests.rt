@@ -81,7 +81,7 @@ fn a_datagram_may_have_262_144_octets(rt: HostRuntime) -> Result<(), Fail> {
 
 #[test]
 fn other_words_are_a_usage_fault(rt: HostRuntime) -> Result<(), Fail> {
-    let rows: [&[&str]; 16] = [
+    let rows: [&[&str]; 20] = [
         &[],
         &["--help"],
         &["help"],
@@ -98,6 +98,10 @@ fn other_words_are_a_usage_fault(rt: HostRuntime) -> Result<(), Fail> {
         &["merge", "a"],
         &["merge", "a", "b", "c"],
         &["migrate"],
+        &["archive", "--memory", "0"],
+        &["read", "d", "--to", "-"],
+        &["verify"],
+        &["serve", "d"],
     ];
     for words in rows {
         let ran = run_over(&rt, words, HELLO)?;
@@ -105,6 +109,24 @@ fn other_words_are_a_usage_fault(rt: HostRuntime) -> Result<(), Fail> {
         assert!(rt; ran.output.is_empty());
         assert!(rt; !ran.notes.is_empty());
         assert!(rt; ran.status != NO_MEMORY);
+    }
+    Ok(())
+}
+
+#[test]
+fn what_only_a_program_has_is_a_fault(rt: HostRuntime) -> Result<(), Fail> {
+    let rows: [(&[&str], &[u8]); 5] = [
+        (&["archive", "--spill", "d"], b"spill fault\n"),
+        (&["read", "d"], b"store fault\n"),
+        (&["verify", "d"], b"store fault\n"),
+        (&["collect", "udp", "514", "1"], b"socket fault\n"),
+        (&["serve", "d", "--unix", "s"], b"socket fault\n"),
+    ];
+    for (words, notes) in rows {
+        let ran = run_over(&rt, words, HELLO)?;
+        assert_eq!(rt; ran.status, FAULT);
+        assert!(rt; ran.output.is_empty());
+        assert_eq!(rt; ran.notes.as_slice(), notes);
     }
     Ok(())
 }

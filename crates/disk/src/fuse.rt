@@ -4,8 +4,8 @@ ghost use Rattle.std.specs.Prelude.{◌≡◌, ◌⊎◌, ◌-◌, ◌↔◌, �
 use crate::{Disk, DiskFault, FileName};
 use std::alloc::Global;
 
-/// A disk over another. It passes so many calls on; from then on every call fails and changes
-/// nothing, as after a crash.
+/// A disk over another one. It passes on a given number of calls; from then on every call fails and
+/// changes nothing, as after a crash.
 #[derive(Drop)]
 pub struct Fuse<D: Disk> {
     disk: D,
@@ -15,6 +15,7 @@ pub struct Fuse<D: Disk> {
 impl<D: Disk> Fuse<D> {
     ghost use Rattle.disk.specs.Fuses.{calls_left, inner};
 
+    /// A disk that passes the first `calls` calls on to this one.
     pub fn new(disk: D, calls: u64) -> Fuse<D>
         ensures inner { inner result ≡ disk }
         ensures calls { calls_left result ≡ calls }
@@ -22,7 +23,7 @@ impl<D: Disk> Fuse<D> {
         Fuse { disk, calls }
     }
 
-    /// The disk below.
+    /// The disk underneath.
     pub fn into_inner(self) -> D
         ensures { result ≡ inner self }
     {

@@ -237,7 +237,7 @@ fn crash_all(
     Ok(())
 }
 
-/// A folder in memory. It keeps what a crash may leave, and fails only for memory.
+/// A folder in memory. It keeps what a crash may leave, and fails only when out of memory.
 #[derive(Drop)]
 pub struct MemoryDisk {
     alloc: Global,
@@ -255,10 +255,10 @@ impl MemoryDisk {
         }
     }
 
-    /// The folder after a crash, as it is then on the disk. Of each file are left of the octets that
-    /// were not on the disk as many as `kept`, and those that are unsure as they were shown or,
-    /// where one is given, all `octet`. Where it is `undone`, each name is as it first was since the
-    /// folder was synced.
+    /// The folder after a crash, all of it on the disk then. Of the octets of each file that were
+    /// not on the disk, as many as `kept` are left; those that are unsure are as they were shown
+    /// or, if one is given, all `octet`. If `undone`, each name is as it first was since the folder
+    /// was synced. It fails only when out of memory.
     pub fn crash(
         self,
         kept: usize,

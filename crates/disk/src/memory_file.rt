@@ -119,8 +119,8 @@ impl MemoryFile {
         self.rewritten.clear();
     }
 
-    /// What a crash leaves, all of it on the disk: of the octets that were not, as many as `kept`,
-    /// and those that are unsure as they are shown or, where one is given, all `octet`.
+    /// What a crash leaves, all of it on the disk: of the octets that were not there, as many as
+    /// `kept`; those that are unsure are as they are shown or, if one is given, all `octet`.
     pub(crate) fn crash(&mut self, kept: usize, octet: Option<u8>) -> Result<(), AllocError>
         ensures left { OnOk result (MayBecome (file_of self.old) (file_of self.new).shown) }
         ensures settled { OnOk result (file_of self.new ≡ settled (file_of self.new).shown) }

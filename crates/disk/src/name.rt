@@ -42,7 +42,7 @@ fn is_file_name(octets: &[u8]) -> bool
 }
 
 impl FileName {
-    /// A name with these octets, or `None` where they are no name.
+    /// The name with these octets, or `None` if they are no name. It fails only when out of memory.
     pub fn new(alloc: Global, octets: &[u8]) -> Result<Option<FileName>, AllocError>
         ensures value { IfOk result (λ found. IfSome found (λ name. name ≡ octets.now)) }
         ensures none { IfOk result (λ found. IsNone found ↔ ¬ IsFileName octets.now) }
@@ -55,6 +55,7 @@ impl FileName {
         }))
     }
 
+    /// The octets of the name.
     pub fn as_octets(&self) -> &[u8]
         ensures value { result.now ≡ self.now }
         ensures valid { IsFileName self.now }
@@ -62,7 +63,7 @@ impl FileName {
         &self.octets
     }
 
-    /// The same name, with memory of its own.
+    /// A copy in memory of its own. It fails only when out of memory.
     pub fn copy(&self, alloc: Global) -> Result<FileName, AllocError>
         ensures { IfOk result (λ name. name ≡ self.now) }
     {

@@ -7,7 +7,7 @@ ghost use Rattle.driver.specs.Devices.{Reports};
 use crate::status::FAULT;
 use octet_devices::{Output, write_all};
 
-/// Writes a line to the diagnostics and returns this status, or `FAULT` where the line cannot be
+/// Writes a line to the diagnostics and returns this status, or `FAULT` if the line cannot be
 /// written.
 pub fn report<N: Output>(diagnostics: &mut N, line: &[u8], status: u8) -> u8
     ensures reports { Reports line.now status (N.state diagnostics.old) (N.state diagnostics.new)

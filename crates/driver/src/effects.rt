@@ -1,10 +1,10 @@
-//! What comes of an input and is not yet written.
+//! What comes of an input and has not been written yet.
 
 ghost use Rattle.std.specs.Prelude.{◌≡◌};
 
 use std::alloc::Global;
 
-/// What comes of an input and is not yet written.
+/// What comes of an input and has not been written yet.
 #[derive(Debug, Drop)]
 pub struct Effects {
     /// Octets for the output.
@@ -13,14 +13,14 @@ pub struct Effects {
     pub diagnostics: Vec<u8>,
     /// Whether something was refused.
     pub refused: bool,
-    /// A buffer that sessions reuse, so that not every frame allocates.
+    /// A buffer that sessions reuse, so that they need not allocate for every frame.
     pub scratch: Vec<u8>,
 }
 
 impl Effects {
     ghost use Rattle.driver.specs.Effects.{done_of, nothing};
 
-    /// Nothing has come of the input so far.
+    /// The effects of an input of which nothing has come so far.
     pub fn new(alloc: Global) -> Effects
         ensures { done_of result ≡ nothing }
     {

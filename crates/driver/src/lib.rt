@@ -1,5 +1,5 @@
-//! One driver for every session: it reads an input, gives its octets to the session in whatever pieces
-//! they come, and writes what comes of them.
+//! One driver for every session: it reads an input, gives its octets to the session in whatever
+//! pieces they come, and writes what comes of them.
 //!
 //! [`drive`] owns the loop over the input, what is held back of the output and the diagnostics, and the
 //! bound on calls. A [`Session`] has no devices: it takes pieces and adds to [`Effects`].

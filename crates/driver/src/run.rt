@@ -158,9 +158,10 @@ fn close<N: Output>(stopped: Stopped, diagnostics: &mut N) -> u8
 }
 
 /// Runs a session over devices: reads the input to its end, or as far as the session needs it, and
-/// writes what comes of it. Returns the exit status: `DONE` where nothing was refused, else
-/// `REFUSED`; `FAULT` where a device failed or the input has no end; `NO_MEMORY` where memory ran
-/// out. Of the last two the last line of the diagnostics tells the cause, and before it stands what
+/// writes what comes of it. Returns the exit status: `DONE` if nothing was refused, else `REFUSED`;
+/// `FAULT` if a device failed or the input has no end; `NO_MEMORY` if memory ran out. After the
+/// last two, the last line of the diagnostics tells the cause, and before it stands what came of
+/// the octets that were read.
 /// came of the octets that were read.
 pub fn drive<S: Session, R: Input, W: Output, N: Output>(
     alloc: Global,

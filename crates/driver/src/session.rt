@@ -32,7 +32,8 @@ pub trait Session {
     /// Takes the next octets of the input, and adds what comes of them to the effects.
     ///
     /// # Errors
-    /// Out of memory: the effects hold what came of some of the octets, and the session is used no more.
+    /// Out of memory: the effects hold what came of some of the octets, and the session must not be
+    /// used any more.
     fn take(&mut self, piece: &[u8], effects: &mut Effects) -> Result<Flow, AllocError>
         ensures { (first : Self) → Takes (stands first self.old) (stands first self.new)
             (rest self.new) (means first) piece.now (done_of effects.old) (done_of effects.new)
@@ -46,7 +47,8 @@ pub trait Session {
         ensures { (first : Self) → Ends (stands first self.old) (rest self.new) (means first)
             (done_of effects.old) (done_of effects.new) result };
 
-    /// Writes the rest of the output, which follows what the effects held.
+    /// Writes the rest of the output, which comes behind what the effects held. It fails if the
+    /// output does.
     fn write_rest<W: Output>(&self, output: &mut W) -> Result<(), WriteFault>
         ensures { WritesAll (W.state output.old) (W.state output.new) (rest self.now) result };
 }

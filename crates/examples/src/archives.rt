@@ -6,7 +6,7 @@ use syslog::{FromRead, MergeFault, ToWrite, merge_streams};
 /// The text of the union of two archives.
 ///
 /// # Errors
-/// A text is no archive, for the fault that is told of its side; or out of memory.
+/// A text is no archive, for a reason that names its side; or out of memory.
 pub fn union_of(alloc: Global, left: &[u8], right: &[u8]) -> Result<Vec<u8>, MergeFault> {
     let mut union = ToWrite::new(Vec::new(alloc));
     let mut left = FromRead::new(left);

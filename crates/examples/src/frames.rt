@@ -3,7 +3,7 @@
 use std::alloc::{AllocError, Global};
 use syslog::{Framing, Ready, Scanner, Severity, view};
 
-/// The severest of the records of a stream (RFC 6587) that comes in these pieces; none where it has
+/// The most severe of the records in a stream (RFC 6587) that comes in these pieces; None if it has
 /// no record.
 ///
 /// # Errors

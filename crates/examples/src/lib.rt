@@ -1,4 +1,4 @@
-//! One example of each main call of [`syslog`], which is all that they stand on. Each is proved, and
+//! One example of each main call of [`syslog`], the only crate that they use. Each is proved, and
 //! run as a test.
 #![tactic(auto)]
 

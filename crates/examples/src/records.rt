@@ -2,8 +2,8 @@
 
 use syslog::{Fault, view};
 
-/// The application that sent a record (RFC 5424, section 6.2.5), without a copy; none where the
-/// record names none.
+/// The application that sent a record (RFC 5424, section 6.2.5), without a copy; None if the record
+/// names none.
 ///
 /// # Errors
 /// The octets are no record: the fault tells the field and the octet.

@@ -5,11 +5,11 @@ use syslog::{
     Facility, Framing, Message, Output, Priority, SendFault, Sender, Severity, StructuredData,
 };
 
-/// Sends a notice of the facility `user` as a line (RFC 6587, section 3.4.2). Whether it was sent,
-/// and not held back by the sender's mask.
+/// Sends a notice of the facility `user` as a line (RFC 6587, section 3.4.2), and tells whether it
+/// was sent, or held back by the sender's mask.
 ///
 /// # Errors
-/// The line is too long or holds a line feed, the output failed, or out of memory.
+/// The line is too long or holds a line feed, the output failed, or memory ran out.
 pub fn notice<W: Output>(
     alloc: Global,
     sender: &Sender,

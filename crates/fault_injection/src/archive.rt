@@ -1,6 +1,6 @@
-//! Each call of the archives that takes memory, with its outcome on a line. Where a growth is
-//! refused the line says so, and whether the set is as it was; the call is then made again. What
-//! the trial itself cannot have ends it.
+//! Each call of the archives that takes memory, with its outcome on a line. If an allocation fails,
+//! the line says so, and whether the set is as it was; the call is then made again. If the trial
+//! itself gets no memory, it ends.
 
 use crate::room::Room;
 use crate::rows::{A, AB, ABC, AC, B};
@@ -66,7 +66,7 @@ impl<'a, P: Print, S: Store> Trial<'a, P, S> {
 }
 
 impl<'a, P: Print, S: Store> Trial<'a, P, S> {
-    /// 600 records more, in an order that fills pages from their middles.
+    /// Adds 600 more records, in an order that fills pages from their middles.
     fn add_many(&mut self) -> io::Result<()> {
         let name = self.name;
         let mut octets = Vec::with_capacity(self.alloc, 64)?;
@@ -95,7 +95,7 @@ impl<'a, P: Print, S: Store> Trial<'a, P, S> {
         println!(self.rt; "{name} add_view of many: {note}{count} records")
     }
 
-    /// The text is written into memory that grows. A growth that is refused is the writer's fault,
+    /// The text is written into memory that grows. An allocation that fails is the writer's fault,
     /// and what was written is a prefix.
     fn write(&mut self) -> io::Result<()> {
         let name = self.name;
@@ -159,7 +159,7 @@ fn store<S: Store + Drop>(rt: &impl Print, alloc: Global, name: &str, store: S) 
     trial.all(&one, &other)
 }
 
-/// What a call gives that reads or makes an archive.
+/// What is given by a call that reads or makes an archive.
 fn tell(
     rt: &impl Print,
     room: &mut Room,
@@ -199,7 +199,7 @@ fn merge_both(rt: &impl Print, alloc: Global, room: &mut Room) -> io::Result<()>
     tell(rt, room, "merge", note, answer.ok(), ABC)
 }
 
-/// Every call of both archives.
+/// Every call of both archives. It fails if the trial itself gets no memory or cannot print.
 pub fn archive(rt: &impl Print, alloc: Global) -> io::Result<()> {
     store(rt, alloc, "sorted", VecArchive::new(alloc))?;
     store(rt, alloc, "paged", PagedArchive::new(alloc))?;

@@ -1,6 +1,6 @@
-//! Each call of a collector that takes memory, with its outcome on a line. Where a growth is
-//! refused the line says so, and whether the set is as it was; the call is then made again with the
-//! rest, and the archive has to be the same.
+//! Each call of a collector that takes memory, with its outcome on a line. If an allocation fails,
+//! the line says so, and whether the set is as it was; the call is then made again with the rest,
+//! and the archive has to be the same.
 
 use crate::collecting::collector;
 use crate::collector_calls::{Told, advance, datagram, open, run};
@@ -13,7 +13,7 @@ use std::io;
 use syslog_collect::{Collector, Event, RunEnd};
 use syslog_frame::Framing;
 
-/// A collector over a store, which comes back where its memory is refused.
+/// A collector over a store, which comes back if there is no memory for it.
 fn new<S: Store + Drop>(
     rt: &impl Print,
     alloc: Global,
@@ -29,7 +29,7 @@ fn new<S: Store + Drop>(
     Ok(made.ok())
 }
 
-/// The end of a trial: whether the archive is that of the three records.
+/// The end of a trial: tells whether the archive is that of the three records.
 fn tell_archive<S: Store>(
     rt: &impl Print,
     name: &str,
@@ -40,7 +40,7 @@ fn tell_archive<S: Store>(
     println!(rt; "{name}: the archive of the three is {is_right}")
 }
 
-/// Two counted streams in turns of five octets.
+/// Two counted streams, by turns of five octets.
 fn by_pieces<S: Store + Drop>(
     rt: &impl Print,
     alloc: Global,
@@ -74,7 +74,7 @@ fn by_pieces<S: Store + Drop>(
     tell_archive(rt, name, &mut told, &collector)
 }
 
-/// The three as datagrams, and one of them again.
+/// The three records as datagrams, and one of them again.
 fn by_datagrams<S: Store + Drop>(
     rt: &impl Print,
     alloc: Global,
@@ -131,7 +131,8 @@ fn by_run<S: Store + Drop>(rt: &impl Print, alloc: Global, name: &str, store: S)
     tell_archive(rt, name, &mut told, &collector)
 }
 
-/// Every call of collectors over both stores.
+/// Every call of collectors, over both stores. It fails if the trial itself gets no memory or
+/// cannot print.
 pub fn collect(rt: &impl Print, alloc: Global) -> io::Result<()> {
     by_pieces(rt, alloc, "sorted", VecArchive::new(alloc))?;
     by_pieces(rt, alloc, "paged", PagedArchive::new(alloc))?;

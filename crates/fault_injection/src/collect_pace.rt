@@ -1,4 +1,4 @@
-//! A collector over a counted stream in pieces, and what its parts take alone.
+//! A collector over a counted stream in pieces, and its parts alone.
 
 use crate::collecting::collector;
 use crate::pace::{PIECE, numbers, take};
@@ -105,7 +105,8 @@ fn add(alloc: Global, stream: &[u8]) -> io::Result<usize> {
     Ok(store.len())
 }
 
-/// Does a part, or all, a number of times, and prints what came of the last time.
+/// Does a part, or all, a number of times, and prints what came of it the last time. It fails if a
+/// word is refused, memory runs out or nothing can be printed.
 pub fn collect(
     rt: &impl Print,
     alloc: Global,

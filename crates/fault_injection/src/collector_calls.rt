@@ -1,4 +1,4 @@
-//! The calls of a collector that take memory. One that is refused is made again with the rest.
+//! The calls of a collector that take memory. One that fails is made again with the rest.
 
 use crate::room::Room;
 use archive_text::Store;
@@ -7,15 +7,17 @@ use std::io;
 use syslog_collect::{Advance, CollectFault, Collector, Event, Outcome, RunEnd};
 use syslog_frame::Framing;
 
-/// What is told of calls: a note where memory was refused, and the outcomes.
+/// What is told of calls: a note if memory was refused, and the outcomes.
 #[derive(Drop)]
 pub struct Told {
+    /// Room for the texts of the store before and after a call.
     pub room: Room,
     note: &'static str,
     outcomes: Vec<Outcome>,
 }
 
 impl Told {
+    /// Nothing to tell yet, and room for it. It fails only when out of memory.
     pub fn new(alloc: Global) -> Result<Told, AllocError> {
         Ok(Told {
             room: Room::new(alloc)?,
@@ -24,7 +26,7 @@ impl Told {
         })
     }
 
-    /// Prints what is told, and forgets it.
+    /// Prints what is told, and forgets it. It fails if it cannot print.
     pub fn tell(&mut self, rt: &impl Print, name: &str, call: &str) -> io::Result<()> {
         let (note, outcomes) = (self.note, &self.outcomes);
         println!(rt; "{name} {call}: {note}{outcomes:?}")?;
@@ -52,8 +54,8 @@ pub fn open<S: Store>(
     }
 }
 
-/// Advances a connection to the end of a piece. A frame whose memory was refused stays ready, and
-/// the next call deals with it.
+/// Advances a connection to the end of a piece. A frame for which memory was refused stays ready,
+/// and the next call handles it.
 pub fn advance<S: Store>(
     alloc: Global,
     collector: &mut Collector<S>,
@@ -107,7 +109,7 @@ pub fn datagram<S: Store>(
     }
 }
 
-/// Runs over events. Where memory is refused, it goes on with the rest of the event.
+/// Runs over events. If memory is refused, it goes on with the rest of the event.
 pub fn run<S: Store>(
     alloc: Global,
     collector: &mut Collector<S>,

@@ -8,7 +8,8 @@ use syslog_grammar::{
 };
 use syslog_value::Record;
 
-/// Two elements, the greater id first, values with escapes, and a message that is a text.
+/// Two elements, the one with the greater id first, values with escapes, and a message that is a
+/// text.
 const OCTETS: &[u8] =
     b"<34>1 2003-10-11T22:14:15.003+02:00 host su 77 ID47 [b k=\"x\\n\\\"\\]\" l=\"\"][a m=\"\xc3\xa9\"] \xef\xbb\xbfgr\xc3\xb6\xc3\x9fe";
 
@@ -16,7 +17,7 @@ const OCTETS: &[u8] =
 const CANONICAL: &[u8] =
     b"<34>1 2003-10-11T20:14:15.003000Z host su 77 ID47 [a m=\"\xc3\xa9\"][b k=\"x\\\\n\\\"\\]\" l=\"\"] \xef\xbb\xbfgr\xc3\xb6\xc3\x9fe";
 
-/// The octets that are in the vector before.
+/// The octets that are in the vector already.
 const BEFORE: &[u8] = b"before ";
 
 /// `canon` and `copy` of the record.
@@ -36,7 +37,7 @@ fn whole(rt: &impl Print, alloc: Global, record: &Record) -> io::Result<()> {
     }
 }
 
-/// `write_canonical_view` after octets that were there before.
+/// `write_canonical_view` behind octets that are there already.
 fn put(rt: &impl Print, alloc: Global, seen: &RecordView<'_>) -> io::Result<()> {
     let Ok(mut out) = BEFORE.to_vec(alloc) else {
         return println!(rt; "write_canonical_view: memory for the octets before");
@@ -52,7 +53,7 @@ fn put(rt: &impl Print, alloc: Global, seen: &RecordView<'_>) -> io::Result<()> 
     }
 }
 
-/// `write_canonical_octets` after octets that were there before.
+/// `write_canonical_octets` behind octets that are there already.
 fn put_of(rt: &impl Print, alloc: Global) -> io::Result<()> {
     let Ok(mut out) = BEFORE.to_vec(alloc) else {
         return println!(rt; "write_canonical_octets: memory for the octets before");

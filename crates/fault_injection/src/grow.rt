@@ -7,7 +7,7 @@ use syslog_frame::{
     Framing, PiecesFault, PutFault, Scanner, StartFault, frames_of_pieces, put_frame,
 };
 
-/// `put_frame` after two octets that were there before.
+/// `put_frame` behind two octets that are there already.
 fn put(rt: &impl Print, alloc: Global, name: &str, framing: Framing) -> io::Result<()> {
     let Ok(mut out) = b"ab".as_slice().to_vec(alloc) else {
         return println!(rt; "{name}: memory for the octets before");

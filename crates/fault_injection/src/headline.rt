@@ -1,4 +1,4 @@
-//! The headline, tried by chance: collectors that are given one set of records, each over another
+//! The headline, tried at random: collectors that are given one set of records, each by another
 //! route, have archives of equal octets.
 
 use crate::collecting::{collector, text_of};
@@ -20,12 +20,12 @@ struct Tally {
     events: usize,
 }
 
-/// That something is not as it should be.
+/// The error that something is not as it should be.
 fn wrong(what: &'static str) -> io::Error {
     io::Error::new(io::ErrorKind::InvalidData, what)
 }
 
-/// Hears all events. One that is refused by right is passed over: a piece of a stream that held a
+/// Hears all events. One that is rightly refused is passed over: a piece of a stream that held a
 /// bad count, and the end of an unfinished frame.
 fn hear<S: Store>(
     alloc: Global,
@@ -51,7 +51,7 @@ fn hear<S: Store>(
     Err(wrong("a run stops too often"))
 }
 
-/// Whether as many were new and as many were held as should be.
+/// Whether as many records were new, and as many held, as there should be.
 fn is_right_log(log: &[Outcome], new: usize, records: usize) -> bool {
     let found = log
         .iter()
@@ -64,8 +64,8 @@ fn is_right_log(log: &[Outcome], new: usize, records: usize) -> bool {
     found == new && held.saturating_add(new) == records
 }
 
-/// The text of the archive of a collector that is given a set, but for one record perhaps, over
-/// some route.
+/// The text of the archive of a collector that is given a set, possibly without one record, by some
+/// route.
 fn collected<S: Store + Drop>(
     alloc: Global,
     random: &mut Random,
@@ -92,7 +92,7 @@ fn collected<S: Store + Drop>(
     text_of(alloc, collector.store())
 }
 
-/// Two collectors over both stores, each given all of a set over a route of its own.
+/// Two collectors, over both stores, each given all of a set by a route of its own.
 fn two_collectors(
     alloc: Global,
     random: &mut Random,
@@ -111,8 +111,8 @@ fn two_collectors(
     Ok(())
 }
 
-/// A collector that is given all but one of the records: its archive is another, and becomes that
-/// of the set where it is merged with the archive of the one.
+/// A collector that is given all records but one: its archive is another one, and becomes that of
+/// the set when it is merged with the archive of that one.
 fn one_left_out(
     alloc: Global,
     random: &mut Random,
@@ -147,7 +147,8 @@ fn round(alloc: Global, random: &mut Random, tally: &mut Tally) -> io::Result<()
     one_left_out(alloc, random, tally, &set, &whole)
 }
 
-/// So many rounds.
+/// Runs so many rounds. It fails if a word is refused, something is wrong, memory runs out or
+/// nothing can be printed.
 pub fn headline(rt: &impl Print, alloc: Global, seed: &str, rounds: &str) -> io::Result<()> {
     let (Ok(seed), Ok(rounds)) = (seed.parse::<u64>(), rounds.parse::<u32>()) else {
         return println!(rt; "no such numbers");

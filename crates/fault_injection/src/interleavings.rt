@@ -6,8 +6,8 @@ use std::alloc::{AllocError, Global};
 use std::io;
 
 impl Play {
-    /// Each interleaving in which the turns change from one connection to the other at most three
-    /// times. Gives how many there are, or none where one is wrong.
+    /// Each interleaving in which the turn passes from one connection to the other at most three
+    /// times. Gives their number, or None if one goes wrong.
     fn few_changes(&mut self, alloc: Global) -> Result<Option<u64>, AllocError> {
         self.start()?;
         let (firsts, seconds) = (self.left(Side::First), self.left(Side::Second));
@@ -33,7 +33,8 @@ impl Play {
         Ok(Some(count))
     }
 
-    /// Turns of so many pieces of the first and so many of the second, from either on.
+    /// Turns of so many pieces of the first connection and so many of the second, beginning with
+    /// either.
     fn even_turns(&mut self, alloc: Global) -> Result<Option<u64>, AllocError> {
         let mut count: u64 = 0;
         for first in 1..9 {
@@ -57,7 +58,7 @@ impl Play {
         Ok(Some(count))
     }
 
-    /// As many interleavings by chance, each as likely as any other.
+    /// So many interleavings at random, each as likely as any other.
     fn random_turns(
         &mut self,
         alloc: Global,
@@ -81,8 +82,8 @@ impl Play {
         Ok(Some(count))
     }
 
-    /// Each interleaving whose turns the bits of a number say, from one number on and before
-    /// another: of its 31 lowest bits one that is set is a turn of the first.
+    /// Each interleaving whose turns are the bits of a number, from one number on and before
+    /// another: of its 31 lowest bits, one that is set is a turn of the first connection.
     fn every_turn(&mut self, alloc: Global, from: u32, to: u32) -> Result<Option<u64>, AllocError> {
         self.start()?;
         let wanted = self.left(Side::First);
@@ -115,7 +116,8 @@ fn tell(rt: &impl Print, name: &str, size: usize, count: Option<u64>) -> io::Res
     }
 }
 
-/// Families of interleavings, by pieces of each size from 1 to 5.
+/// Families of interleavings, by pieces of each size from 1 to 5. It fails if the seed is refused,
+/// memory runs out or nothing can be printed.
 pub fn turns(rt: &impl Print, alloc: Global, seed: &str) -> io::Result<()> {
     let Ok(seed) = seed.parse::<u64>() else {
         return println!(rt; "no such number");
@@ -135,7 +137,8 @@ pub fn turns(rt: &impl Print, alloc: Global, seed: &str) -> io::Result<()> {
     Ok(())
 }
 
-/// Every interleaving by pieces of 5 octets: one of so many parts of them.
+/// One of so many parts of all interleavings by pieces of 5 octets. It fails if a word is refused,
+/// memory runs out or nothing can be printed.
 pub fn every_turn(rt: &impl Print, alloc: Global, part: &str, parts: &str) -> io::Result<()> {
     let (Ok(part), Ok(parts)) = (part.parse::<u32>(), parts.parse::<u32>()) else {
         return println!(rt; "no such numbers");

@@ -1,5 +1,5 @@
-//! `merge_streams`, `migrate` and `migrate_into`, with their outcomes on lines. Where a growth is
-//! refused the line says so, and the call is then made again, on the same devices.
+//! `merge_streams`, `migrate` and `migrate_into`, with their outcomes on lines. If an allocation
+//! fails, the line says so, and the call is then made again, on the same devices.
 
 use crate::room::Room;
 use crate::rows::{AB, ABC, AC};
@@ -12,13 +12,14 @@ use octet_devices::{FromRead, ToWrite};
 use std::alloc::Global;
 use std::io;
 
-/// An archive of the time when elements stood in the order of the octets, and what it becomes.
+/// An archive of the old form, whose elements stand in the order of the octets, and what it
+/// becomes.
 const OLD: &[u8] = b"21 <0>1 - - - - - [b][c]21 <0>1 - - - - - [c][a]21 <0>1 - - - - - [c][b]";
 
 const MIGRATED: &[u8] = b"21 <0>1 - - - - - [a][c]21 <0>1 - - - - - [b][c]";
 
-/// Two archives joined into room that is there. After want of memory nothing is read and nothing
-/// written, so the same devices are used again.
+/// Two archives are joined into room that is there already. When memory is lacking, nothing is read
+/// and nothing written, so the same devices are used again.
 fn join(rt: &impl Print, alloc: Global) -> io::Result<()> {
     let mut left = FromRead::new(AC);
     let mut right = FromRead::new(AB);
@@ -34,7 +35,7 @@ fn join(rt: &impl Print, alloc: Global) -> io::Result<()> {
     println!(rt; "merge_streams: {note}{answer:?}, the union is {is_right}")
 }
 
-/// Two archives joined into memory that grows.
+/// Two archives are joined into memory that grows.
 fn join_growing(rt: &impl Print, alloc: Global) -> io::Result<()> {
     let mut note = "";
     for _ in 0..2 {
@@ -60,13 +61,14 @@ fn join_growing(rt: &impl Print, alloc: Global) -> io::Result<()> {
     println!(rt; "merge_streams into memory: {note}refused again")
 }
 
-/// Both calls that join streams.
+/// Both calls that join streams. It fails if the trial itself gets no memory or cannot print.
 pub fn streams(rt: &impl Print, alloc: Global) -> io::Result<()> {
     join(rt, alloc)?;
     join_growing(rt, alloc)
 }
 
-/// An old archive into a store. After want of memory the store may hold some of the records.
+/// An archive of the old form is read into a store. When memory is lacking, the store may hold some
+/// of the records.
 fn into_store<S: Store + Drop>(
     rt: &impl Print,
     alloc: Global,
@@ -82,7 +84,7 @@ fn into_store<S: Store + Drop>(
     println!(rt; "migrate_into {name}: {note}{answer:?}, the records are {is_right}")
 }
 
-/// Every call that migrates.
+/// Every call that migrates. It fails if the trial itself gets no memory or cannot print.
 pub fn migration(rt: &impl Print, alloc: Global) -> io::Result<()> {
     let (note, answer) = match migrate(alloc, OLD) {
         Err(ReadFault::Memory) => ("memory; ", migrate(alloc, OLD)),

@@ -1,4 +1,4 @@
-//! Trials of the libraries, for scripts: a call to be timed, and a run in which an allocation may
+//! Trials of the libraries, for scripts: a call to be timed, or a run in which an allocation may
 //! fail. No trial reports a time; the script that runs it measures the process.
 #![tactic(auto)]
 
@@ -35,7 +35,7 @@ const USAGE: &str = "usage: fault_injection time scan counted|lf SIZE ROUNDS
        fault_injection turns SEED
        fault_injection turns every PART PARTS";
 
-/// The word at an index, or an empty word where there is none.
+/// The word at an index, or an empty word if there is none.
 fn word(words: &[String], index: usize) -> &str {
     match words.get(index) {
         Some(word) => word.as_str(),

@@ -1,29 +1,29 @@
-//! Pieces of one stream, scanned or copied a number of times.
+//! Pieces of one stream are scanned or copied a number of times.
 
 use std::alloc::{AllocError, Global};
 use std::io;
 use syslog_frame::{Framing, Ready, Scanner, put_frame};
 
-/// The octets of a piece.
+/// How many octets a piece has.
 pub const PIECE: usize = 4_096;
 
 /// About how many octets the stream of one round has: too many for a processor's nearest caches.
 const ROUND: usize = 4_096 * PIECE;
 
-/// The greatest size of a frame.
+/// The most octets of a frame.
 const SIZE_MAX: usize = 262_144;
 
-/// The greatest number of rounds.
+/// The most rounds.
 const ROUNDS_MAX: u32 = 10_000_000;
 
-/// The size of a frame and the number of rounds, where the words are numbers in range.
+/// The size of a frame and the number of rounds, if the words are numbers in range.
 pub fn numbers(size: &str, rounds: &str) -> Option<(usize, u32)> {
     let size: usize = size.parse().ok()?;
     let rounds: u32 = rounds.parse().ok()?;
     (size <= SIZE_MAX && rounds <= ROUNDS_MAX).then_some((size, rounds))
 }
 
-/// Frames of this size, as many as a round has, at least one.
+/// Frames of this size, as many as a round has, but at least one.
 fn stream(alloc: Global, framing: Framing, size: usize) -> Result<Vec<u8>, AllocError> {
     let record = vec![in alloc; b'a'; size]?;
     let mut out = Vec::with_capacity(alloc, ROUND)?;
@@ -54,7 +54,8 @@ pub fn take(scanner: &mut Scanner, piece: &[u8]) -> u64 {
     octets
 }
 
-/// Scans the stream in pieces, and prints how many octets its frames had.
+/// Scans the stream in pieces, and prints how many octets its frames had. It fails if a word is
+/// refused, memory runs out or nothing can be printed.
 pub fn scan(
     rt: &impl Print,
     alloc: Global,
@@ -82,7 +83,8 @@ pub fn scan(
 }
 
 /// Copies the pieces of the counted stream, each to the start of the same buffer, and prints how
-/// many octets were copied.
+/// many octets were copied. It fails if a word is refused, memory runs out or nothing can be
+/// printed.
 pub fn copy(rt: &impl Print, alloc: Global, size: &str, rounds: &str) -> io::Result<()> {
     let Some((size, rounds)) = numbers(size, rounds) else {
         return println!(rt; "no such numbers");

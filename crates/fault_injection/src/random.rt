@@ -9,11 +9,12 @@ pub struct Random {
 }
 
 impl Random {
+    /// The generator that begins with this seed.
     pub fn new(seed: u64) -> Random {
         Random { state: seed }
     }
 
-    /// The next of 64 bits.
+    /// The next number, of 64 bits.
     pub fn bits(&mut self) -> u64 {
         self.state = self.state.wrapping_add(0x9e37_79b9_7f4a_7c15);
         let mut mixed = self.state;
@@ -22,7 +23,7 @@ impl Random {
         mixed ^ (mixed >> 31)
     }
 
-    /// A number below a bound; 0 where that is 0.
+    /// A number below a bound; 0 if that is 0.
     pub fn below(&mut self, bound: usize) -> usize
         ensures { 0 < bound → result < bound }
     {
@@ -32,12 +33,12 @@ impl Random {
         (self.bits() % bound as u64) as usize
     }
 
-    /// Whether something comes that comes once in so many times.
+    /// Whether something happens that happens once in so many times.
     pub fn once_in(&mut self, times: usize) -> bool {
         self.below(times) == 0
     }
 
-    /// One of some texts; none of none.
+    /// One of some texts; an empty one if there are none.
     pub fn one_of<'a>(&mut self, texts: &[&'a [u8]]) -> &'a [u8] {
         match texts.get(self.below(texts.len())) {
             Some(text) => text,
@@ -45,7 +46,7 @@ impl Random {
         }
     }
 
-    /// Brings items into another order.
+    /// Puts items into another order.
     pub fn shuffle<T>(&mut self, items: &mut [T]) {
         for last in (1..items.len()).rev() {
             let other = self.below(last + 1);

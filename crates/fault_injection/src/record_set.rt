@@ -1,4 +1,4 @@
-//! Sets of records by chance, their frames and their archives.
+//! Sets of records at random, their frames and their archives.
 
 use crate::random::Random;
 use crate::route::Frame;
@@ -36,7 +36,7 @@ pub struct RecordSet {
 }
 
 /// A frame that is no record: one of those that are known, one that is too long, or the octets of a
-/// record that were cut or changed.
+/// record, cut or changed.
 fn refused(alloc: Global, random: &mut Random, sample: &Sample) -> io::Result<Vec<u8>> {
     let chosen = random.below(40);
     if chosen == 0 {
@@ -68,7 +68,7 @@ fn last_instant(samples: &[Sample]) -> Option<Instant> {
 }
 
 impl RecordSet {
-    /// Some records, at least one.
+    /// Some records, at least one. It fails only when out of memory.
     pub fn new(alloc: Global, random: &mut Random) -> io::Result<RecordSet> {
         let count = if random.once_in(20) {
             300
@@ -94,7 +94,7 @@ impl RecordSet {
     }
 
     /// Whether the record at one index is below that at another in an archive: by their instants,
-    /// none first, and then by their canonical octets.
+    /// none coming first, and then by their canonical octets.
     fn is_below(&self, one: usize, other: usize) -> bool {
         let (Some(left), Some(right)) = (self.samples.get(one), self.samples.get(other)) else {
             return false;
@@ -105,7 +105,8 @@ impl RecordSet {
         self.canonical.get(one) < self.canonical.get(other)
     }
 
-    /// The text of the archive: the canonical forms in order, each behind its length.
+    /// The text of the archive: the canonical forms in order, each behind its length. It fails only
+    /// when out of memory.
     pub fn text(&self, alloc: Global) -> io::Result<Vec<u8>> {
         let mut order: Vec<usize> = Vec::new(alloc);
         for at in 0..self.samples.len() {
@@ -126,7 +127,8 @@ impl RecordSet {
         Ok(text)
     }
 
-    /// The archive of the records, or of one of them, added one by one.
+    /// The archive of the records, or of one of them, added one by one. It fails only when out of
+    /// memory.
     pub fn added(&self, alloc: Global, one: Option<usize>) -> io::Result<VecArchive> {
         let mut archive = VecArchive::new(alloc);
         for (at, octets) in self.canonical.iter().enumerate() {
@@ -142,8 +144,8 @@ impl RecordSet {
         Ok(archive)
     }
 
-    /// Frames that spell each record at least once, but for one perhaps, and others that are
-    /// refused, in any order.
+    /// Frames that spell each record at least once, except one if that is given, and others that
+    /// are refused, in any order.
     pub fn frames(
         &self,
         alloc: Global,

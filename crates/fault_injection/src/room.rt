@@ -1,4 +1,4 @@
-//! Room for the texts of stores, taken once, so that a look at a store takes no memory.
+//! Room for the texts of stores, allocated once, so that a look at a store takes no memory.
 
 use crate::collecting::put_text;
 use archive_text::Store;
@@ -16,6 +16,7 @@ pub struct Room {
 }
 
 impl Room {
+    /// Room for two texts. It fails only when out of memory.
     pub fn new(alloc: Global) -> Result<Room, AllocError> {
         Ok(Room {
             alloc,
@@ -29,12 +30,13 @@ impl Room {
         let _ = put_text(self.alloc, store, &mut self.before);
     }
 
-    /// Whether the store is as it was kept.
+    /// Whether the store is as it was when it was kept.
     pub fn is_kept<S: Store>(&mut self, store: &S) -> bool {
         put_text(self.alloc, store, &mut self.after) && self.after == self.before
     }
 
-    /// What is told of a call that answered want of memory: whether the store is as it was kept.
+    /// What is told of a call that answered out of memory: whether the store is as it was when it
+    /// was kept.
     pub fn left<S: Store>(&mut self, store: &S) -> &'static str {
         if self.is_kept(store) {
             "memory, unchanged; "
@@ -48,8 +50,8 @@ impl Room {
         put_text(self.alloc, store, &mut self.after) && self.after.as_slice() == text
     }
 
-    /// What is told of a write that failed: whether what was taken is as much as the answer says of
-    /// the text that was kept.
+    /// What is told of a write that failed: whether what was taken is a prefix of the text that was
+    /// kept, as long as the answer says.
     pub fn prefix(&self, taken: &[u8], sent: u64) -> &'static str {
         if self.before.starts_with(taken) && taken.len() as u64 == sent {
             "the writer failed after a prefix; "

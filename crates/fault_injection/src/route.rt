@@ -10,7 +10,9 @@ use syslog_frame::Framing;
 /// A frame, and whether it is a record.
 #[derive(Drop)]
 pub struct Frame {
+    /// Its octets.
     pub octets: Vec<u8>,
+    /// Whether they are a record.
     pub is_record: bool,
 }
 
@@ -26,10 +28,11 @@ pub struct Stream {
 pub struct Route {
     streams: Vec<Stream>,
     datagrams: Vec<Vec<u8>>,
+    /// How many outcomes a collector logs of the whole.
     pub outcomes: usize,
 }
 
-/// Counts that no stream goes on with.
+/// Counts with which no stream can continue.
 const BAD_COUNTS: [&[u8]; 6] = [b"x", b"0 ", b"016 ", b"16<", b" ", b"12345678901 "];
 
 impl Stream {
@@ -58,7 +61,7 @@ impl Stream {
     }
 
     /// Puts what follows the last frame: mostly nothing, else a bad count and what is lost behind
-    /// it, or a frame that stays unfinished. Gives how many outcomes that has.
+    /// it, or a frame that stays unfinished. Gives the number of outcomes that it has.
     fn put_end(&mut self, random: &mut Random) -> io::Result<usize> {
         match (random.below(8), self.framing) {
             (0, Framing::Counted) => {
@@ -80,7 +83,7 @@ impl Stream {
 }
 
 impl Route {
-    /// Up to so many connections without a frame.
+    /// At most so many connections, without a frame.
     fn new(alloc: Global, random: &mut Random, most: usize) -> io::Result<Route> {
         let mut streams = Vec::new(alloc);
         for _ in 0..random.below(most) {
@@ -113,7 +116,7 @@ impl Route {
         Ok(())
     }
 
-    /// A route of frames.
+    /// A route for these frames. It fails only when out of memory.
     pub fn of(alloc: Global, random: &mut Random, frames: &[Frame]) -> io::Result<Route> {
         let mut route = Route::new(alloc, random, 90)?;
         for frame in frames.iter() {
@@ -126,8 +129,8 @@ impl Route {
         Ok(route)
     }
 
-    /// The events of the route: pieces of any size, some of them empty, of connections in any
-    /// turns.
+    /// The events of the route: pieces of any size, some of them empty, of the connections in any
+    /// order. It fails only when out of memory.
     pub fn events<'a>(
         &'a self,
         alloc: Global,
@@ -176,7 +179,7 @@ impl<'a> Traffic<'a> {
         })
     }
 
-    /// The next datagram, where there is one.
+    /// The next datagram, if there is one.
     fn hear_datagram(&mut self) -> Result<(), AllocError> {
         if let Some((octets, others)) = self.datagrams.split_first() {
             self.datagrams = others;
@@ -185,8 +188,8 @@ impl<'a> Traffic<'a> {
         Ok(())
     }
 
-    /// The next connection, where there is one and a number for it. A number that was ended is used
-    /// again.
+    /// The next connection, if there is one and a number for it. The number of one that has ended
+    /// is used again.
     fn open_next(&mut self, random: &mut Random) -> Result<(), AllocError> {
         let Some((stream, others)) = self.streams.split_first() else {
             return Ok(());
@@ -228,7 +231,7 @@ impl<'a> Traffic<'a> {
         Ok(())
     }
 
-    /// One event more at most; false where nothing is left.
+    /// At most one more event; false if nothing is left.
     fn step(&mut self, random: &mut Random) -> Result<bool, AllocError> {
         if self.streams.is_empty() && self.datagrams.is_empty() && self.open.is_empty() {
             return Ok(false);

@@ -14,7 +14,7 @@ pub struct Style {
 }
 
 impl Style {
-    /// As the canonical form is.
+    /// Like the canonical form.
     pub fn canonical() -> Style {
         Style {
             random: Random::new(0),
@@ -22,7 +22,7 @@ impl Style {
         }
     }
 
-    /// In any way that has the same meaning.
+    /// In any way that means the same.
     pub fn free(seed: u64) -> Style {
         Style {
             random: Random::new(seed),
@@ -43,7 +43,7 @@ impl Style {
         6
     }
 
-    /// The minutes ahead of UTC.
+    /// How many minutes the clock is ahead of UTC.
     fn offset(&mut self) -> i64 {
         if !self.departs() {
             return 0;
@@ -57,31 +57,40 @@ impl Style {
     }
 }
 
-/// A parameter, its value as characters in UTF-8.
+/// A parameter.
 #[derive(Drop)]
 pub struct Parameter {
+    /// Its name.
     pub name: Vec<u8>,
+    /// Its value, as characters in UTF-8.
     pub value: Vec<&'static [u8]>,
 }
 
 /// An element.
 #[derive(Drop)]
 pub struct Element {
+    /// Its id.
     pub id: Vec<u8>,
+    /// Its parameters, in their order.
     pub parameters: Vec<Parameter>,
 }
 
-/// A record: its elements stand by id, a word that is nil is `-`.
+/// A record.
 #[derive(Drop)]
 pub struct Sample {
+    /// PRIVAL, 0 to 191.
     pub priority: usize,
+    /// Its instant, if it has one.
     pub instant: Option<Instant>,
+    /// The four words of its header; NILVALUE is `-`.
     pub words: Vec<Vec<u8>>,
+    /// Its elements, by id.
     pub elements: Vec<Element>,
+    /// The octets of its message, with the BOM if it has one.
     pub message: Vec<u8>,
 }
 
-/// Puts a fraction of a second: no digits where it needs none, or up to six.
+/// Puts a fraction of a second: none if it needs no digits, or up to six digits.
 fn put_fraction(micros: u32, style: &mut Style, out: &mut Vec<u8>) -> io::Result<()> {
     let mut digits = [b'0'; 6];
     let mut rest = micros;
@@ -105,7 +114,7 @@ fn put_fraction(micros: u32, style: &mut Style, out: &mut Vec<u8>) -> io::Result
     Ok(())
 }
 
-/// Puts an offset from UTC, which has three forms where it is zero.
+/// Puts an offset from UTC, which has three forms if it is zero.
 fn put_offset(minutes: i64, style: &mut Style, out: &mut Vec<u8>) -> io::Result<()> {
     if minutes == 0 && !style.departs() {
         out.extend_from_slice(b"Z")?;
@@ -118,7 +127,7 @@ fn put_offset(minutes: i64, style: &mut Style, out: &mut Vec<u8>) -> io::Result<
     write!(out, "{sign}{hours:02}:{minutes:02}")
 }
 
-/// Puts a timestamp in some zone; in UTC where the year would leave its range there.
+/// Puts a timestamp in some zone, but in UTC if the year would be out of range there.
 fn put_time(instant: Option<Instant>, style: &mut Style, out: &mut Vec<u8>) -> io::Result<()> {
     let Some(instant) = instant else {
         out.extend_from_slice(b"-")?;
@@ -149,7 +158,7 @@ fn put_time(instant: Option<Instant>, style: &mut Style, out: &mut Vec<u8>) -> i
     put_offset(ahead, style, out)
 }
 
-/// Puts a value. A backslash that no escaped character follows may stand alone.
+/// Puts a value. A backslash that no escaped character follows may be left single.
 fn put_value(value: &[&[u8]], style: &mut Style, out: &mut Vec<u8>) -> io::Result<()> {
     for (at, character) in value.iter().enumerate() {
         let may_stand_alone = match value.get(at + 1) {
@@ -187,7 +196,7 @@ impl Element {
 }
 
 impl Sample {
-    /// Puts the elements, in any order where the style is free.
+    /// Puts the elements, in any order if the style is free.
     fn put_elements(&self, alloc: Global, style: &mut Style, out: &mut Vec<u8>) -> io::Result<()> {
         if self.elements.is_empty() {
             out.extend_from_slice(b"-")?;
@@ -204,7 +213,7 @@ impl Sample {
         Ok(())
     }
 
-    /// Puts the record.
+    /// Puts the record. It fails only when out of memory.
     pub fn put(&self, alloc: Global, style: &mut Style, out: &mut Vec<u8>) -> io::Result<()> {
         let priority = self.priority;
         write!(out, "<{priority}>1 ")?;
@@ -223,7 +232,7 @@ impl Sample {
         Ok(())
     }
 
-    /// The record as it is spelled once.
+    /// The record, spelled in a style. It fails only when out of memory.
     pub fn spelled(&self, alloc: Global, mut style: Style) -> io::Result<Vec<u8>> {
         let mut out = Vec::new(alloc);
         self.put(alloc, &mut style, &mut out)?;

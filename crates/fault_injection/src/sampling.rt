@@ -1,4 +1,4 @@
-//! Records by chance.
+//! Records at random.
 
 use crate::random::Random;
 use crate::sample::{Element, Parameter, Sample};
@@ -6,7 +6,7 @@ use std::alloc::Global;
 use std::io;
 use syslog_value::Instant;
 
-/// Characters of values and texts: those that are escaped, the ends of their ranges in UTF-8, and
+/// Characters of values and texts: those that are escaped, the ends of the ranges in UTF-8, and
 /// usual ones.
 const CHARACTERS: [&[u8]; 24] = [
     b"\"",
@@ -58,7 +58,7 @@ const FIRST: i64 = -62_167_219_200_000_000;
 
 const INSTANTS: u64 = 315_569_520_000_000_000;
 
-/// An instant or none: now and then that of another record, so that octets decide their order.
+/// An instant or none: now and then that of another record, so that the octets decide their order.
 fn instant(random: &mut Random, other: Option<Instant>) -> Option<Instant> {
     match random.below(8) {
         0 => return None,
@@ -74,7 +74,7 @@ fn instant(random: &mut Random, other: Option<Instant>) -> Option<Instant> {
     Instant::from_micros(micros.wrapping_sub(micros.rem_euclid(unit)))
 }
 
-/// So many printable octets, without those that end a name where it is to be one.
+/// So many printable octets, without those that end a name if it is to be one.
 fn printable(
     alloc: Global,
     random: &mut Random,
@@ -93,7 +93,7 @@ fn printable(
     Ok(out)
 }
 
-/// How many octets a word or a name has of at most so many.
+/// How many octets a word or a name has that may have so many at most.
 fn size(random: &mut Random, most: usize) -> usize {
     match random.below(16) {
         0 => most,
@@ -176,7 +176,7 @@ fn message(alloc: Global, random: &mut Random) -> io::Result<Vec<u8>> {
     Ok(out)
 }
 
-/// A record, which may have the instant of another one.
+/// A record, which may have the instant of another one. It fails only when out of memory.
 pub fn sample(alloc: Global, random: &mut Random, other: Option<Instant>) -> io::Result<Sample> {
     Ok(Sample {
         priority: random.below(192),

@@ -1,4 +1,4 @@
-//! Two connections of a collector in turns, by pieces of one size: the log and the archive are to
+//! Two connections of a collector by turns, with pieces of one size: the log and the archive must
 //! be those of the frames.
 
 use crate::collecting::{collector, put_text};
@@ -11,7 +11,7 @@ use syslog_collect::{Event, Outcome, RunEnd};
 use syslog_frame::Framing;
 
 /// The counted stream of a connection, of two frames. The record of one of them is in the other
-/// connection's stream too. Each ends at an offset.
+/// connection's stream too. Each frame ends at an offset.
 #[derive(Clone, Copy, Debug)]
 struct Stream {
     conn: u32,
@@ -37,12 +37,14 @@ const SECOND: Stream = Stream {
 /// One of the two connections.
 #[derive(Clone, Copy, Debug)]
 pub enum Side {
+    /// The first one.
     First,
+    /// The second one.
     Second,
 }
 
-/// The two connections in turns: how much of each was given, whether the common record was, the
-/// events, and the outcomes that are to be logged.
+/// The two connections by turns: how much of each was given, whether the common record was, the
+/// events, and the outcomes that must be logged.
 #[derive(Drop)]
 pub struct Play {
     size: usize,
@@ -56,6 +58,7 @@ pub struct Play {
 }
 
 impl Play {
+    /// The two connections before the first turn, with pieces of so many octets.
     pub fn new(alloc: Global, size: usize) -> Play {
         Play {
             size,
@@ -78,7 +81,7 @@ impl Play {
         octets.div_ceil(self.size.max(1))
     }
 
-    /// Before the first turn.
+    /// Begins anew, before the first turn. It fails only when out of memory.
     pub fn start(&mut self) -> Result<(), AllocError> {
         self.first = 0;
         self.second = 0;
@@ -91,8 +94,8 @@ impl Play {
         Ok(())
     }
 
-    /// The next piece of a stream of which so many octets were given, and the outcome of the frame
-    /// that ends in it. Gives how many octets were given then.
+    /// Adds the next piece of a stream of which so many octets were given, and the outcome of the
+    /// frame that ends in it. Gives how many octets are given then.
     fn go_on(&mut self, stream: Stream, given: usize) -> Result<usize, AllocError> {
         let Some((_, rest)) = stream.octets.split_at_checked(given) else {
             return Ok(given);
@@ -119,7 +122,7 @@ impl Play {
         Ok(end)
     }
 
-    /// A turn of one connection. Nothing, where it is at its end.
+    /// A turn of one connection; nothing if it is at its end. It fails only when out of memory.
     pub fn turn(&mut self, side: Side) -> Result<(), AllocError> {
         match side {
             Side::First => self.first = self.go_on(FIRST, self.first)?,
@@ -128,7 +131,7 @@ impl Play {
         Ok(())
     }
 
-    /// So many turns of one connection.
+    /// So many turns of one connection. It fails only when out of memory.
     pub fn turns(&mut self, side: Side, count: usize) -> Result<(), AllocError> {
         for _ in 0..count {
             self.turn(side)?;
@@ -136,7 +139,7 @@ impl Play {
         Ok(())
     }
 
-    /// Whether a collector over a store logs what is to be logged, and has the archive then.
+    /// Whether a collector over a store logs what it must, and has the archive then.
     fn is_right_over<S: Store + Drop>(&mut self, alloc: Global, store: S) -> bool {
         let Ok(mut collector) = collector(alloc, store) else {
             return false;
@@ -149,7 +152,8 @@ impl Play {
             && self.text.as_slice() == ABC
     }
 
-    /// What is left of both streams, their ends, and whether all is right over both stores.
+    /// Adds what is left of both streams and their ends, and tells whether all is right over both
+    /// stores. It fails only when out of memory.
     pub fn is_right(&mut self, alloc: Global) -> Result<bool, AllocError> {
         self.turns(Side::First, self.left(Side::First))?;
         self.turns(Side::Second, self.left(Side::Second))?;

@@ -18,7 +18,7 @@ fn element(alloc: Global, id: &[u8]) -> Result<Element, AllocError> {
     Ok(Element::new(id, params))
 }
 
-/// Words, names and an input that is read whole.
+/// Words, names, and an input that is read whole.
 fn words(rt: &impl Print, alloc: Global) -> io::Result<()> {
     match Word::<48>::new(alloc, b"su") {
         Ok(word) => match word.copy(alloc) {
@@ -45,7 +45,7 @@ fn words(rt: &impl Print, alloc: Global) -> io::Result<()> {
     }
 }
 
-/// One element more, which is returned where memory runs out.
+/// Adds one more element, which comes back if memory runs out.
 fn push(rt: &impl Print, data: &mut StructuredData, element: Element) -> io::Result<()> {
     let before = data.elements().len();
     match data.push(element) {

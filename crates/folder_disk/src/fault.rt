@@ -4,20 +4,20 @@ ghost use Rattle.folder_disk.specs.Faults.{IsFault};
 use disk::{DiskFault, FileName};
 use std::io::{Error, ErrorKind};
 
-/// An error that the system told, and of which file.
+/// An error that the system reported, and for which file.
 #[derive(Debug, Drop)]
 pub struct FileError {
-    /// The file's name in the folder; none where the error is of the folder itself, or memory for
-    /// the name could not be read.
+    /// The file's name in the folder; None if the error is of the folder itself, or if there was no
+    /// memory for the name.
     pub name: Option<FileName>,
-    /// What the system told.
+    /// What the system reported.
     pub error: Error,
 }
 
-/// What a call of the system is made on.
+/// What a call of the system is about.
 #[derive(Clone, Copy, Debug, PartialEq, Eq)]
 pub(crate) enum Target {
-    /// A file that has to be there.
+    /// A file that has to exist.
     File,
     /// A name that no file may have.
     FreeName,

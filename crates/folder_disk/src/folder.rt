@@ -17,10 +17,11 @@ use std::{fs, io};
 
 /// A disk over a folder of the system's files.
 ///
-/// A file that was written stays open until it was synced, and mostly longer: a commit opens none.
-/// Nobody else may write, rename or remove the files that are written through it; others may come
-/// and go, and one that was open when it was removed can still be read. Folders and links in the
-/// folder have names too; a name that is not UTF-8 is passed over, and no call reaches its file.
+/// A file that was written stays open until it has been synced, and mostly longer: a commit opens
+/// none. Nobody else may write, rename or remove the files that are written through it; others may
+/// come and go, and one that was open when it was removed can still be read. Folders and links in
+/// the folder have names too; a name that is not UTF-8 is passed over, and no call reaches its
+/// file.
 #[derive(Drop)]
 pub struct FolderDisk<R: Files> {
     files: OpenFiles<R>,
@@ -40,7 +41,7 @@ fn sync_parent<R: Files>(rt: &R, path: &str) -> io::Result<()> {
 }
 
 impl<R: Files + AllocGlobal + Clone + Drop> FolderDisk<R> {
-    /// The disk of a folder that is there.
+    /// The disk of a folder that exists. It fails if the system does not open the folder.
     pub fn open(rt: &R, path: &str) -> io::Result<FolderDisk<R>>
         ensures { IfOk result (λ disk. IsNone (last_error_of disk)) }
     {
@@ -50,8 +51,9 @@ impl<R: Files + AllocGlobal + Clone + Drop> FolderDisk<R> {
         })
     }
 
-    /// The disk of a folder, which is made where it is missing, for its owner alone, but not its parent. The parent is
-    /// synced, so that the folder's name is on the disk.
+    /// The disk of a folder, which is made if it is missing, for its owner alone; its parent is not
+    /// made. The parent is synced, so that the folder's name is on the disk. It fails if the system
+    /// refuses one of these calls.
     pub fn create(rt: &R, path: &str) -> io::Result<FolderDisk<R>>
         ensures { IfOk result (λ disk. IsNone (last_error_of disk)) }
     {
@@ -64,8 +66,7 @@ impl<R: Files + AllocGlobal + Clone + Drop> FolderDisk<R> {
         FolderDisk::open(rt, path)
     }
 
-    /// Why the disk last failed (`Failed` or `Full`), as the system told it; none where it never
-    /// has.
+    /// Why the disk last failed (`Failed` or `Full`), as the system reported it; None if it never has.
     pub fn last_error(&self) -> Option<&FileError>
         ensures { option_copied result ≡ last_error_of self.now }
     {

@@ -1,5 +1,5 @@
 //! A disk over a folder of the system's files, by std's calls: each call of the disk is one or a
-//! few calls of the system, and what the system answers is told as the disk's faults.
+//! few calls of the system, and what the system answers is told as faults of the disk.
 //!
 //! No contract can say what a file gives, so this disk tells contracts nothing of what it holds.
 //! That the system keeps what it says is a matter of trust: that `sync_data` and `sync_all` return

@@ -9,12 +9,12 @@ use std::os::unix::fs::OpenOptionsExt;
 use std::rt::Files;
 use thiserror::Error;
 
-/// The files that are locked.
+/// Which file is locked.
 #[derive(Clone, Copy, Debug, PartialEq, Eq)]
 pub enum LockFile {
-    /// `lock`: for the one who writes.
+    /// `lock`: held by the process that writes.
     Writing,
-    /// `lock.compact`: for the one who compacts, beside a writer.
+    /// `lock.compact`: held by the process that compacts, beside a writer.
     Compaction,
 }
 
@@ -33,10 +33,10 @@ impl LockFile {
 /// Why a lock was not taken.
 #[derive(Debug, Drop, Error)]
 pub enum LockFault {
-    /// Another process, or another value of this one, holds it.
-    #[error("another holds the lock")]
+    /// Another process holds it, or another value in this one.
+    #[error("the lock is held by another process")]
     Held,
-    /// The file could not be opened or made, or not locked.
+    /// The file could not be opened, made or locked.
     #[error("{0}")]
     Failed(io::Error),
 }
@@ -62,7 +62,8 @@ fn open_lock<R: Files + AllocGlobal>(rt: &R, folder: &str, lock: LockFile) -> io
 }
 
 impl FolderLock {
-    /// Takes a lock on a folder that is there, if nobody holds it. It does not wait.
+    /// Takes a lock on a folder that exists, if nobody holds it. It does not wait. It fails as the
+    /// variants of [`LockFault`] say.
     pub fn take<R: Files<File = File> + AllocGlobal>(
         rt: &R,
         folder: &str,

@@ -10,11 +10,11 @@ use std::os::unix::fs::OpenOptionsExt;
 use std::rt::Files;
 use std::{fs, str};
 
-/// How many files are open at once, unless more have octets that were not synced.
+/// How many files are open at once, unless more have octets that have not been synced.
 const OPEN_MAX: usize = 512;
 
-/// A file that is open. One with octets that were not synced stays so, since a file that is closed
-/// before may lose the system's report that these octets could not be written.
+/// A file that is open. One with octets that have not been synced stays open: if it were closed
+/// before, the system's report that these could not be written might be lost.
 #[derive(Drop)]
 struct OpenedFile<F> {
     name: FileName,
@@ -31,7 +31,7 @@ pub(crate) struct OpenFiles<R: Files> {
     opened: Vec<OpenedFile<R::File>>,
 }
 
-/// A folder's path with the slash at its end, by which the system opens nothing but a folder.
+/// A folder's path with a slash at its end, by which the system opens nothing but a folder.
 pub(crate) fn with_slash(alloc: Global, path: &str) -> Result<String, AllocError> {
     let mut text = String::from_str(alloc, path)?;
     if !path.is_empty() && !path.ends_with('/') {
@@ -46,7 +46,7 @@ fn is_no_text(error: &io::Error) -> bool {
 }
 
 impl<R: Files + AllocGlobal + Clone + Drop> OpenFiles<R> {
-    /// The files of a folder that is there and may be read.
+    /// The files of a folder that exists and may be read.
     pub(crate) fn new(rt: &R, path: &str) -> io::Result<OpenFiles<R>> {
         let path = with_slash(rt.alloc(), path)?;
         drop(fs::open(rt, path.as_str())?);
@@ -140,7 +140,7 @@ impl<R: Files + AllocGlobal + Clone + Drop> OpenFiles<R> {
         self.keep(name, file, true)
     }
 
-    /// The names in the folder, but those that no `FileName` can hold or that are not UTF-8.
+    /// The names in the folder, except those that are not UTF-8 or that no `FileName` can hold.
     pub(crate) fn names(&self, alloc: Global) -> io::Result<Vec<FileName>> {
         let mut names = Vec::new(alloc);
         for entry in fs::read_dir(&self.rt, self.path.as_str())? {
@@ -197,7 +197,8 @@ impl<R: Files + AllocGlobal + Clone + Drop> OpenFiles<R> {
         cut_to(&mut opened.file, len)
     }
 
-    /// A file whose sync failed is closed, and opened anew by the next call on it.
+    /// Brings a file to the disk. A file whose sync failed is closed, and opened anew by the next
+    /// call on it.
     pub(crate) fn sync(&mut self, name: &FileName) -> io::Result<()> {
         let i = self.open_to_read(name)?;
         match self.opened[i].file.sync_data() {
@@ -212,7 +213,8 @@ impl<R: Files + AllocGlobal + Clone + Drop> OpenFiles<R> {
         }
     }
 
-    /// A file that is open stays so under its new name: one that was not synced may be synced yet.
+    /// Renames a file. One that is open stays so under its new name: if it has not been synced, it
+    /// may still be.
     pub(crate) fn rename(&mut self, from: &FileName, to: &FileName) -> io::Result<()> {
         let new_name = to.copy(self.alloc())?;
         let old_path = self.path_of(from)?;

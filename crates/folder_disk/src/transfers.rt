@@ -1,4 +1,4 @@
-//! What is done to one file that is open.
+//! What is done to a file that is open.
 ghost use Rattle.std.specs.Prelude.{◌≤◌, IfOk, length};
 
 use std::fs::OpenFile;
@@ -7,7 +7,7 @@ use std::io::{self, ErrorKind, Read, Seek, SeekFrom, Write};
 // no file of the system is longer
 const OFFSET_MAX: u64 = (1 << 63) - 1;
 
-/// Reads once from an offset on. None are read at the end of the file or behind it.
+/// Reads once from an offset on. Nothing is read at the end of the file or behind it.
 pub(crate) fn read_from<F: Read + Seek>(file: &mut F, at: u64, buf: &mut [u8]) -> io::Result<usize>
     ensures { IfOk result (λ n. n ≤ length buf.new) }
 {
@@ -30,7 +30,7 @@ pub(crate) fn write_at_end<F: Write + Seek>(file: &mut F, octets: &[u8]) -> io::
     file.write_all(octets)
 }
 
-/// Writes over one octet, if there is one at the offset.
+/// Overwrites the octet at an offset, if there is one.
 pub(crate) fn write_over<F: Write + Seek>(file: &mut F, at: u64, octet: u8) -> io::Result<()> {
     if at >= file.seek(SeekFrom::End(0))? {
         return Ok(());
@@ -39,7 +39,7 @@ pub(crate) fn write_over<F: Write + Seek>(file: &mut F, at: u64, octet: u8) -> i
     file.write_all(&[octet])
 }
 
-/// Cuts a file to a length, if it is longer.
+/// Cuts a file to a length in octets, if it is longer.
 pub(crate) fn cut_to<F: OpenFile + Seek>(file: &mut F, len: u64) -> io::Result<()> {
     if len < file.seek(SeekFrom::End(0))? {
         file.set_len(len)?;

@@ -15,7 +15,7 @@ use driver::Effects;
 use std::alloc::AllocError;
 use syslog_legacy::FrameReading;
 
-/// Writes for each frame whether it is a record, and if not, why not. No frame is copied.
+/// Writes for each frame whether it is a record, and if not, why. No frame is copied.
 #[derive(Clone, Copy, Debug)]
 pub struct Check {
     /// How frames are read.

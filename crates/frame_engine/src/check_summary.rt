@@ -11,8 +11,8 @@ use driver::Effects;
 use std::alloc::AllocError;
 use syslog_legacy::FrameReading;
 
-/// Writes what [`Check`](crate::Check) does, and notes at the end how many packets were read as legacy
-/// ones, and how many of these have no time or no host, so that a misreading is seen.
+/// Writes what [`Check`](crate::Check) does, and notes at the end how many packets were read as
+/// legacy ones, and how many of these have no time or no host, so that misreadings are seen.
 #[derive(Clone, Copy, Debug)]
 pub struct CheckSummary {
     /// How frames are read.

@@ -19,7 +19,7 @@ pub struct Mark {
 }
 
 impl Mark {
-    /// What is done so far.
+    /// What has been done so far.
     pub fn of(effects: &Effects) -> Mark
         ensures { IsMarkOf (done_of effects.now) result }
     {
@@ -30,7 +30,7 @@ impl Mark {
         }
     }
 
-    /// Takes back what was done since.
+    /// Takes back what has been done since.
     pub fn take_back(self, effects: &mut Effects)
         ensures { (done more : Done) → IsMarkOf done self
             → done_of effects.old ≡ then_done done more → done_of effects.new ≡ done }

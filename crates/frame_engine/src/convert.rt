@@ -15,7 +15,7 @@ use syslog_legacy::FrameReading;
 /// Writes the canonical octets of each record, and notes why a frame has none.
 #[derive(Clone, Copy, Debug)]
 pub struct Convert {
-    /// The allocator for a record whose element ids do not ascend.
+    /// The allocator for records whose element ids do not ascend.
     pub alloc: Global,
     /// How frames are read.
     pub reading: FrameReading,
@@ -23,7 +23,7 @@ pub struct Convert {
     pub to: Option<Framing>,
 }
 
-/// Notes a refusal.
+/// Notes a refusal. It fails only when out of memory, and then notes nothing.
 pub fn add_refusal(line: Line, effects: &mut Effects) -> Result<(), AllocError>
     ensures ok { OnOk result (done_of effects.new ≡ then_done (done_of effects.old) (noted_line line)) }
     ensures err { OnErr result (done_of effects.new ≡ done_of effects.old) }

@@ -15,8 +15,8 @@ use syslog_frame::FRAME_MAX;
 // one octet more than a frame has tells a datagram that is too long
 const KEPT_MAX: usize = FRAME_MAX + 1;
 
-/// A datagram, which a handler is given as the first frame. Of one that is too long no more than
-/// its first octets are kept.
+/// A datagram, which a handler is given as the first frame. Of one that is too long only the first
+/// octets are kept.
 #[derive(Drop)]
 pub struct DatagramSession<D> {
     handler: D,

@@ -11,8 +11,8 @@ use crate::line::Line;
 use driver::Effects;
 use std::alloc::AllocError;
 
-/// What a command does with each frame of its input, and at their end. Each call appends to what was
-/// done, or leaves it as it was where memory runs out.
+/// What a command does with each frame of its input, and at their end. Each call appends to what
+/// was done, or leaves it as it was if memory runs out.
 pub trait FrameHandler {
     // what is done with a frame, by its number and its octets
     ghost handles: { Self → Handling };
@@ -26,10 +26,11 @@ pub trait FrameHandler {
     // a handler that was like the first is like the second once it was given these frames
     ghost stands: { Self → Self → List (List ℕ) → Type 0 };
 
-    /// Handles a frame, which has this number. A frame above `FRAME_MAX` octets is reported as too
-    /// long.
+    /// Handles the frame with this number, from 1. A frame of more than `FRAME_MAX` octets is
+    /// reported as too long.
     ///
     /// # Errors
+    /// Out of memory: the handler must not be used any more.
     /// Out of memory: the handler is used no more.
     fn on_frame(
         &mut self,

@@ -7,24 +7,24 @@ use itoa::Buffer;
 use std::alloc::AllocError;
 use syslog_grammar::{Fault, Field};
 
-/// A line on a frame or on a stream. Frames are numbered from 1. Positions count the octets of the
-/// stream from 0.
+/// A line on a frame or on a stream. Frames are numbered from 1; positions and offsets count octets
+/// from 0.
 #[derive(Clone, Copy, Debug, PartialEq, Eq)]
 pub enum Line {
     /// The frame is a record.
     Accepted { number: u64 },
-    /// The frame is no record, because of this fault.
+    /// The frame is no record, for this reason.
     Refused { number: u64, fault: Fault },
     /// The frame is a legacy packet whose message begins with the byte order mark and is not UTF-8
     /// at this offset.
     LegacyNotUtf8 { number: u64, offset: usize },
-    /// The frame is longer than the limit.
+    /// The frame has more than `FRAME_MAX` octets.
     TooLong { number: u64 },
-    /// The octet at this position does not continue any MSG-LEN.
+    /// No MSG-LEN can continue with the octet at this position.
     BadCount { number: u64, at: u64 },
     /// The canonical record contains a line feed, which a line cannot carry.
     HasLf { number: u64 },
-    /// The canonical record is longer than the limit.
+    /// The canonical record has more than `FRAME_MAX` octets.
     CanonicalTooLong { number: u64 },
     /// The stream ends inside the frame that begins at this position.
     Unterminated { start: u64 },
@@ -140,7 +140,7 @@ fn append_line(out: &mut Vec<u8>, line: Line) -> Result<(), AllocError>
     }
 }
 
-/// Appends a line, whole or not at all. Fails where memory runs out.
+/// Appends a line, whole or not at all. It fails only when out of memory.
 pub fn put_line(out: &mut Vec<u8>, line: Line) -> Result<(), AllocError>
     ensures ok { OnOk result (out.new.items ≡ out.old.items ++ line_text line) }
     ensures err { OnErr result (out.new.items ≡ out.old.items) }

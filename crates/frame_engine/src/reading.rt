@@ -30,8 +30,8 @@ pub enum Reading<'a> {
     Legacy(LegacyView<'a>),
 }
 
-/// The clock by which octets are read as a legacy packet, if they are read as one: there is a clock, and
-/// the octets do not have the front of RFC 5424.
+/// The clock by which octets are read as a legacy packet, if they are: there is a clock, and the
+/// octets do not have the front of RFC 5424.
 #[inline(always)]
 fn legacy_clock(clock: Option<LegacyClock>, octets: &[u8]) -> Option<LegacyClock>
     ensures { MatchOption result (IsReadNew clock octets.now)
@@ -54,7 +54,7 @@ fn legacy_line(number: u64, fault: MessageNotUtf8) -> Line
     }
 }
 
-/// Reads the octets of a frame, which has this number, under a clock, if there is one.
+/// Reads the octets of the frame with this number, under a clock if there is one.
 #[inline(always)]
 fn read_octets<'a>(
     clock: Option<LegacyClock>,
@@ -77,7 +77,7 @@ fn read_octets<'a>(
     }
 }
 
-/// Reads a frame, which has this number. With a clock, a frame without the front of RFC 5424 is a
+/// Reads the frame with this number. With a clock, a frame without the front of RFC 5424 is a
 /// legacy packet. It takes no memory.
 ///
 /// # Errors
@@ -98,7 +98,7 @@ pub fn read_frame<'a>(
     read_octets(reading.clock, number, reading.octets(frame))
 }
 
-/// Why the octets of a frame, which has this number, are no record under a clock, where they are none.
+/// Why the octets of the frame with this number are no record under a clock; None if they are one.
 #[inline(always)]
 fn octets_refusal(clock: Option<LegacyClock>, number: u64, octets: &[u8]) -> Option<Line>
     ensures { MatchOption result ((r : Parts ℤ) × IsReadAs clock r octets.now)
@@ -114,8 +114,8 @@ fn octets_refusal(clock: Option<LegacyClock>, number: u64, octets: &[u8]) -> Opt
     Some(Line::Refused { number, fault })
 }
 
-/// Why a frame, which has this number, is no record, where it is none: the line that [`read_frame`]
-/// answers, without what is read.
+/// Why the frame with this number is no record; None if it is one. The line is the one that
+/// [`read_frame`] answers, without what is read.
 #[inline(always)]
 pub fn refusal(reading: FrameReading, number: u64, frame: &[u8]) -> Option<Line>
     ensures { MatchOption result ((r : Parts ℤ) × IsRecordOf reading r frame.now)
@@ -128,7 +128,7 @@ pub fn refusal(reading: FrameReading, number: u64, frame: &[u8]) -> Option<Line>
 }
 
 impl<'a> Reading<'a> {
-    /// The record, with memory of its own.
+    /// The record that was read, with memory of its own.
     ///
     /// # Errors
     /// Out of memory.
@@ -143,7 +143,7 @@ impl<'a> Reading<'a> {
     }
 }
 
-/// Appends the canonical octets of a legacy packet, or gives the line that says why it is none.
+/// Appends the canonical octets of a legacy packet, or gives the line that says why it is no record.
 #[inline(never)]
 fn put_legacy(
     clock: &LegacyClock,
@@ -165,8 +165,8 @@ fn put_legacy(
     }
 }
 
-/// Appends the canonical octets of the record that the octets of a frame are read as under a clock,
-/// if there is one; or gives the line that says why there is none.
+/// Appends the canonical octets of the record as which the octets of a frame are read, under a
+/// clock if there is one; or gives the line that says why there is none.
 fn put_octets(
     clock: Option<LegacyClock>,
     number: u64,
@@ -187,11 +187,11 @@ fn put_octets(
     }
 }
 
-/// Appends the canonical octets of the record that a frame is read as, as [`read_frame`] does: the
-/// frame as it lies, where it is canonical. Where the frame is no record, nothing is appended, and the
-/// answer is the line that says why.
+/// Appends the canonical octets of the record as which [`read_frame`] reads a frame: the frame as
+/// it lies, if it is canonical. If the frame is no record, nothing is appended, and the answer is
+/// the line that says why.
 ///
-/// The allocator is used where element ids do not ascend.
+/// The allocator is used only if element ids do not ascend.
 ///
 /// # Errors
 /// Out of memory: nothing is appended.

@@ -202,10 +202,10 @@ fn append_record_lines(number: u64, record: &Record, out: &mut Vec<u8>) -> Resul
     put_message(record.message().octets(), record.message().has_mark(), out)
 }
 
-/// Appends the fields of a record, which has this number, whole or not at all. Elements are in
-/// ascending order of id. In values and in the message, octets that are not printable ASCII,
-/// quotation marks and backslashes are shown as `\x` and two hexadecimal digits. Fails where memory
-/// runs out.
+/// Appends the fields of the record with this number, whole or not at all. Elements come in
+/// ascending order of their ids. In values and in the message, octets that are not printable ASCII,
+/// quotation marks and backslashes are shown as `\x` and two hexadecimal digits. It fails only when
+/// out of memory.
 pub fn put_record_lines(number: u64, record: &Record, out: &mut Vec<u8>) -> Result<(), AllocError>
     ensures ok { OnOk result (Adds (RecordLines number record.now) out.old.items out.new.items) }
     ensures err { OnErr result (out.new.items ≡ out.old.items) }

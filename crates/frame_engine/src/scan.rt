@@ -12,10 +12,10 @@ use driver::{NO_MEMORY, drive, report};
 use octet_devices::{Input, Output};
 use std::alloc::Global;
 
-/// Handles the rest of the input, frame by frame, and writes what comes of it: octets to the output,
-/// reports of what went wrong to the diagnostics. Returns the exit status: `DONE` where nothing was
-/// refused, else `REFUSED`; `FAULT` where a device failed or the input has no end; `NO_MEMORY` where
-/// memory ran out.
+/// Handles the rest of the input, frame by frame, and writes what comes of it: octets to the
+/// output, reports of what went wrong to the diagnostics. Returns the exit status: `DONE` if
+/// nothing was refused, else `REFUSED`; `FAULT` if a device failed or the input has no end;
+/// `NO_MEMORY` if memory ran out.
 pub fn scan_input<D: FrameHandler + Drop, R: Input, W: Output, N: Output>(
     alloc: Global,
     input_framing: InputFraming,

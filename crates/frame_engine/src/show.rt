@@ -15,7 +15,7 @@ use syslog_legacy::FrameReading;
 /// Writes the fields of each record, and notes why a frame is no record.
 #[derive(Clone, Copy, Debug)]
 pub struct Show {
-    /// The allocator for a record.
+    /// The allocator for records.
     pub alloc: Global,
     /// How frames are read.
     pub reading: FrameReading,

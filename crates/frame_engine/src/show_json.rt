@@ -22,7 +22,7 @@ use syslog_legacy::{FrameReading, LegacyView};
 /// Writes each record as one line of JSON, and notes why a frame is no record.
 #[derive(Clone, Copy, Debug)]
 pub struct ShowJson {
-    /// The allocator for a record whose element ids do not ascend.
+    /// The allocator for records whose element ids do not ascend.
     pub alloc: Global,
     /// How frames are read.
     pub reading: FrameReading,

@@ -57,8 +57,8 @@ fn handle_next<D: FrameHandler>(
 }
 
 /// Reads a piece, up to a bad MSG-LEN, and handles each frame that ends in it: as it lies in the
-/// piece where all of it does. `number` is that of
-/// the next frame. Returns the position of the bad MSG-LEN, if there is one.
+/// piece, if all of it does. `number` is that of the next frame. Returns the position of the bad
+/// MSG-LEN, if there is one. It fails only when out of memory.
 pub fn feed<D: FrameHandler>(
     handler: &mut D,
     scanner: &mut Scanner,

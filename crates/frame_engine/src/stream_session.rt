@@ -17,7 +17,7 @@ use syslog_frame::{Framing, POSITION_MAX, Scanner};
 const STREAM_MAX: u64 = READ_MAX as u64 * READER_CALLS;
 
 /// A stream whose frames a handler is given in order. It ends at a bad MSG-LEN, or where its input
-/// does.
+/// ends.
 #[derive(Drop)]
 pub struct StreamSession<D> {
     handler: D,

@@ -8,10 +8,10 @@ use crate::line::{put_number, put_text};
 use std::alloc::AllocError;
 use syslog_legacy::LegacyView;
 
-/// How many packets were read as legacy ones. A count stays at the greatest number of 64 bits.
+/// How many packets were read as legacy ones. A count that reaches `u64::MAX` stays there.
 #[derive(Clone, Copy, Debug, PartialEq, Eq)]
 pub struct Tally {
-    /// Packets that were read as legacy ones.
+    /// The packets that were read as legacy ones.
     pub packets: u64,
     /// Those without a time.
     pub no_time: u64,
@@ -20,7 +20,7 @@ pub struct Tally {
 }
 
 impl Tally {
-    /// No packet.
+    /// The tally of no packets.
     pub fn new() -> Tally
         ensures { result ≡ no_packets }
     {

@@ -7,8 +7,8 @@ use syslog_grammar::{
     write_canonical_octets, write_canonical_view,
 };
 
-/// The canonical octets by way of the record, which are those of the view, with what stood before;
-/// they alone are known as canonical.
+/// The canonical octets from the record. They are those from the view too, put behind other octets,
+/// and no other octets of the record are taken for canonical.
 fn canonical(alloc: Global, octets: &[u8]) -> Result<Vec<u8>, Fail> {
     let seen = view(octets).ok().ok_or("a fault")?;
     let record = seen.to_record(alloc)?;
@@ -35,8 +35,8 @@ fn canonical(alloc: Global, octets: &[u8]) -> Result<Vec<u8>, Fail> {
     Ok(by_record)
 }
 
-/// Octets and their canonical form: an instant is written in UTC with six digits, elements are sorted
-/// by id, three octets are escaped, the empty message is left out and the BOM is kept.
+/// Octets and their canonical form: an instant is written in UTC with six digits, elements are
+/// sorted by id, three octets are escaped, an empty message is left out and the BOM is kept.
 const FORMS: [(&[u8], &[u8]); 27] = [
     (
         b"<7>1 - - - - - [b-name-of-twenty-oct k-name-of-twenty-oct=\"twenty octets of text, \\n then \\\" and \xc3\xa9 \\] end\"][a]",
@@ -196,7 +196,7 @@ fn octets_that_are_no_record_are_refused_with_their_fault(rt: HostRuntime) -> Re
     Ok(())
 }
 
-/// Octets, whether they are canonical, and whether they are but for the order of the elements.
+/// Octets, whether they are canonical, and whether they are except for the order of the elements.
 const CANONICAL: [(&[u8], bool, bool); 16] = [
     (b"<0>1 - - - - - -", true, true),
     (b"<0>1 - - - - - [a][b]", true, true),
@@ -233,7 +233,7 @@ fn canonical_octets_are_known_as_such(rt: HostRuntime) -> Result<(), Fail> {
     Ok(())
 }
 
-/// Whether one reading gives the view, or the fault, and tells whether the octets are canonical.
+/// Whether a single reading gives the view, or the fault, and tells whether the octets are canonical.
 fn reads_both(octets: &[u8]) -> bool {
     match (view_and_form(octets), view(octets)) {
         (Ok((seen, is_canonical)), Ok(other)) => seen == other && is_canonical == is_canon(octets),

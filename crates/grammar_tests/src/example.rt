@@ -4,8 +4,8 @@ use std::alloc::{AllocError, Global};
 use std::test::Fail;
 use syslog_grammar::{Fault, view, write_canonical_view};
 
-/// Appends the canonical form of a record to `out`. The answer is the fault of octets that are no
-/// record; out of memory leaves `out` as it was.
+/// Appends the canonical form of a record to `out`. If the octets are no record, the answer is
+/// their fault; out of memory, `out` is as it was.
 fn normalize(alloc: Global, octets: &[u8], out: &mut Vec<u8>) -> Result<Option<Fault>, AllocError> {
     match view(octets) {
         Ok(record) => {

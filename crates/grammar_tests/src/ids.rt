@@ -4,12 +4,12 @@ use std::alloc::{AllocError, Global};
 use std::test::Fail;
 use syslog_grammar::{Fault, is_canon_unsorted, view};
 
-/// The letter of a number.
+/// The letter with this number.
 fn letter(n: u32) -> u8 {
     b'A' + (n % 24) as u8
 }
 
-/// A record with so many ids of four letters, in no order: IQMP is the first.
+/// A record with so many ids of four letters, in no particular order: IQMP is the first.
 fn scattered(alloc: Global, count: u32) -> Result<Vec<u8>, AllocError> {
     let mut out = b"<0>1 - - - - - ".to_vec(alloc)?;
     let mut n: u32 = 100;
@@ -50,7 +50,7 @@ fn scattered_ids_differ_until_one_comes_again(rt: HostRuntime) -> Result<(), Fai
     Ok(())
 }
 
-/// Both ids have one hash by the first multiplier.
+/// Both ids have the same hash under the first multiplier.
 const SAME_HASH: [(&[u8], Option<usize>); 4] = [
     (b"<0>1 - - - - - [Oqg0060][AAAXZaf]", None),
     (b"<0>1 - - - - - [Oqg0060][AAAXZaf][c][b]", None),

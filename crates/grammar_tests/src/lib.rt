@@ -1,4 +1,4 @@
-//! Tests of `syslog_grammar` by its public calls: tables of octets with what they mean.
+//! Tests of `syslog_grammar` by its public calls: tables of octets and what they mean.
 #![tactic(auto)]
 
 #[cfg(test)]

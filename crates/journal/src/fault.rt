@@ -5,9 +5,10 @@ use thiserror::Error;
 /// Why a journal was not opened.
 #[derive(Clone, Copy, Debug, PartialEq, Eq, Error)]
 pub enum JournalFault {
+    /// The disk's fault, or out of memory.
     #[error("{0}")]
     Disk(DiskFault),
-    /// The file is longer than any that is written.
+    /// The file is longer than any journal that is written.
     #[error("the journal is too long")]
     TooLong,
 }

@@ -7,10 +7,10 @@ ghost use Rattle.journal.specs.Batches.{closed_batch};
 use disk::{Disk, DiskFault, FileName};
 use std::alloc::{AllocError, Global};
 
-/// The most octets of a journal before a batch.
+/// How many octets a journal may have at most before a batch is added.
 pub const LENGTH_MAX: u64 = 1 << 62;
 
-/// The most octets of a batch.
+/// How many octets a batch has at most.
 pub const BODY_MAX: usize = u32::MAX as usize;
 
 // what opens a batch, and what stands in its place before
@@ -46,7 +46,7 @@ impl Journal {
     ghost use Rattle.journal.specs.Journals.{LeavesNoBatch, SettlesOthers, ShowsNoBatch, WithOrWithout};
 
     /// Makes an empty journal under a name that has no file. Once it has returned `Ok`, every crash
-    /// leaves it.
+    /// leaves it. It fails with the disk's fault, `Exists` if the name has a file.
     pub fn create<D: Disk>(disk: &mut D, name: FileName) -> Result<Journal, DiskFault>
         ensures created { IfOk result (λ journal. D.tells disk.new
             → IsSound (D.state disk.old) → Stands journal (D.state disk.new) []) }
@@ -77,12 +77,20 @@ impl Journal {
         Ok(Journal { name, end: 0 })
     }
 
+    /// How many octets its batches take in the file, with the five before each.
+    pub fn batches_len(&self) -> u64
+        ensures { result ≡ end_of self.now }
+    {
+        self.end
+    }
+
     /// Adds a batch. Once it has returned `Ok`, every crash leaves it; a crash at any moment leaves
-    /// the batches from before, with this one or without it. After an `Err` open the journal again.
+    /// the batches from before, with this one or without it. After an `Err`, open the journal
+    /// again.
     ///
     /// # Errors
-    /// The disk's fault, or out of memory. `Full`, with nothing changed, also for a batch of more than
-    /// `BODY_MAX` octets and for a journal of `LENGTH_MAX` octets.
+    /// The disk's fault, or out of memory. `Full`, with nothing changed, also for a batch of more
+    /// than `BODY_MAX` octets or if the journal has reached `LENGTH_MAX` octets.
     pub fn commit<D: Disk>(
         &mut self,
         alloc: Global,

@@ -1,14 +1,14 @@
-//! A journal: batches of octets in one file, each of them there after a crash or not at all.
+//! A journal: batches of octets in one file, each of which is there whole after a crash or not at all.
 //!
-//! The file is a row of batches. A batch begins with an octet that is 1 where it is open, and any
-//! other where it is closed; then come the number of its octets (4 octets, the low ones first) and
-//! its octets. The first batch that is closed or cut short, and all behind it, stand for nothing, so
-//! a reader may run beside the writer.
+//! The file is a row of batches. A batch begins with an octet that is 1 if it is open, and any
+//! other if it is closed; then come the number of its octets (4 octets, the low ones first) and its
+//! octets. The first batch that is closed or cut short, and all behind it, stand for nothing, so a
+//! reader may run beside the writer.
 //!
-//! A batch is written behind a closed octet that is on the disk, with the closed octet of the next
-//! batch behind it, and synced. Only then it is opened, by one octet, and the file synced again. So
-//! no checksum is leaned on: whatever a crash leaves of a batch that is not open stands for nothing,
-//! and one that is open is whole.
+//! A batch is written behind a closed octet that is on the disk, followed by the closed octet of
+//! the next batch, and synced. Only then is it opened, by one octet, and the file synced again. So
+//! nothing relies on a checksum: whatever a crash leaves of a batch that is not open stands for
+//! nothing, and one that is open is whole.
 #![tactic(auto)]
 
 mod fault;

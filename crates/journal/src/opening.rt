@@ -70,8 +70,9 @@ fn cut_behind<D: Disk>(disk: &mut D, name: &FileName, end: u64) -> Result<(), Di
     Ok(())
 }
 
-/// Brings to the disk what a read of a journal shows, so that it can be opened where the process
-/// alone has ended. A crash at any moment leaves what it might have left before, or what is shown.
+/// Brings to the disk what a read of a journal shows, so that it can be opened if only the process
+/// has ended. A crash at any moment leaves what it might have left before, or what is shown. It
+/// fails with the disk's fault.
 pub fn settle<D: Disk>(disk: &mut D, name: &FileName) -> Result<(), DiskFault>
     ensures on_disk { OnOk result (D.tells disk.new → (file : File)
         → Shows (D.state disk.old) name.now file
@@ -101,9 +102,10 @@ pub fn settle<D: Disk>(disk: &mut D, name: &FileName) -> Result<(), DiskFault>
 }
 
 /// Opens the journal under a name, and gives the text of its batches (`batch_len` finds them), all
-/// of which are on the disk then. What a crash left behind them is cut. A crash at any moment leaves
-/// the same batches. It says so of a file that is on the disk as a read shows it, as after a restart
-/// of the machine; where the process alone has ended, `settle` it before.
+/// of which are on the disk then. What a crash left behind them is cut off. A crash at any moment
+/// leaves the same batches. It says so of a file that is on the disk as a read shows it, as after a
+/// restart of the machine; if only the process has ended, call `settle` before. It fails as the
+/// variants of [`JournalFault`] say.
 pub fn open<D: Disk>(
     alloc: Global,
     disk: &mut D,

@@ -8,7 +8,7 @@ use crate::JournalFault;
 use disk::{Disk, DiskFault, FileName};
 use std::alloc::Global;
 
-/// The most octets of a journal that is opened.
+/// How many octets a journal may have at most to be opened.
 pub const OPENED_MAX: usize = 1 << 40;
 
 // the most octets that are asked for in a call
@@ -20,7 +20,8 @@ const HEAD: usize = 5;
 // what opens a batch
 const OPEN: u8 = 1;
 
-/// The number of octets of the batch that is open and whole at the beginning, if there is one.
+/// How many octets the batch at the beginning has, without the five before them, if one is there
+/// that is open and whole.
 pub fn batch_len(octets: &[u8]) -> Option<usize>
     ensures found { IfSome result (λ len. BeginsWithBatch octets.now len) }
     ensures none { IfNone result (IsClosed octets.now) }

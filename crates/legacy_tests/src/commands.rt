@@ -13,7 +13,7 @@ const LINES: InputFraming = InputFraming::Stream(Framing::Lf);
 
 const COUNTED: InputFraming = InputFraming::Stream(Framing::Counted);
 
-/// A legacy packet, a record of RFC 5424, one with its fault, a packet whose message is no UTF-8,
+/// A legacy packet, a record of RFC 5424, one with a fault, a packet whose message is not UTF-8,
 /// and a packet without a time.
 const STREAM: &[u8] = b"<34>Oct 11 22:14:15 mymachine su: 'su root' failed\n\
 <13>1 - - - - - -\n\
@@ -37,8 +37,8 @@ record 5\npriority 13 user notice\ntime -\nhost -\napp -\nproc -\nmsgid -\nmessa
 /// The status of a command, its output and its notes.
 type Ran = (u8, Vec<u8>, Vec<u8>);
 
-/// Runs a handler over octets. The reader fails at the call after the first `reads`, the writer
-/// after `writes` octets.
+/// Runs a handler over octets. The reader fails at the call after the first `reads` ones, the
+/// writer after `writes` octets.
 fn ran<D: FrameHandler + Drop>(
     alloc: Global,
     input_framing: InputFraming,
@@ -136,7 +136,7 @@ fn without_a_clock_no_packet_is_legacy(rt: HostRuntime) -> Result<(), Fail> {
     expect(checked, REFUSED, b"1 syntax version 5\n", b"")
 }
 
-/// Under a writer that fails after n octets exactly these were written, and the notes end with the
+/// Under a writer that fails after n octets, exactly these were written, and the notes end with the
 /// line on it.
 fn fails_everywhere<D: FrameHandler + Copy + Drop>(
     alloc: Global,
@@ -192,7 +192,7 @@ fn nothing_is_read_behind_a_bad_count(rt: HostRuntime) -> Result<(), Fail> {
     expect(failed, FAULT, b"1 syntax priority 0\n", b"read fault\n")
 }
 
-/// A reader that gives one octet a call.
+/// A reader that gives one octet per call.
 #[derive(Drop)]
 struct OneByOne<R> {
     inner: R,

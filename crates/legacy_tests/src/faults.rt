@@ -1,4 +1,4 @@
-//! Packets without a record, clocks that there are not, and the form of RFC 5424.
+//! Packets without a record, clocks that do not exist, and the form of RFC 5424.
 
 use std::test::Fail;
 use syslog_grammar::{Fault, Field, view};
@@ -6,7 +6,7 @@ use syslog_legacy::{
     LegacyClock, LegacyFault, MessageNotUtf8, has_new_form, legacy_view, read_legacy,
 };
 
-/// Packets whose message starts with the mark, and the offset where it stops to be UTF-8.
+/// Packets whose message starts with the mark, and the offset at which it ceases to be UTF-8.
 const FAULTS: [(&[u8], usize); 5] = [
     (b"\xef\xbb\xbfA\xff", 4),
     // The packet ends inside a character.

@@ -511,7 +511,8 @@ const DEVICES: [Form; 40] = [
     ),
 ];
 
-/// The canonical octets by way of the record, which are those of the view, with what stood before.
+/// The canonical octets from the record, which are those from the view too, put behind other
+/// octets.
 pub fn canonical(alloc: Global, clock: &LegacyClock, packet: &[u8]) -> Result<Vec<u8>, Fail> {
     let Ok(seen) = legacy_view(clock, packet) else {
         return Err(Fail::from("a fault"));
@@ -542,7 +543,8 @@ fn a_packet_has_its_canonical_form(rt: HostRuntime) -> Result<(), Fail> {
     Ok(())
 }
 
-/// The octets of a packet between `<13>Feb  5 17:32:18 ` and ` m`, of so many octets each.
+/// The octets of a packet between `<13>Feb  5 17:32:18 ` and ` m`, with parts of so many octets
+/// each.
 fn long_packet(alloc: Global, host: usize, name: usize, id: usize) -> Result<Vec<u8>, Fail> {
     let mut packet = b"<13>Feb  5 17:32:18 ".to_vec(alloc)?;
     for _ in 0..host {
@@ -560,7 +562,7 @@ fn long_packet(alloc: Global, host: usize, name: usize, id: usize) -> Result<Vec
     Ok(packet)
 }
 
-/// The lengths of the host, the name, the process id and the message that a packet is read with.
+/// The lengths of the host, the name, the process id and the message as a packet is read.
 fn lengths(packet: &[u8]) -> Result<(usize, usize, usize, usize), Fail> {
     let clock = LegacyClock::new(2001, 0).ok_or("no clock")?;
     let Ok(seen) = legacy_view(&clock, packet) else {

@@ -1,4 +1,4 @@
-//! Tests of `syslog_legacy` by its public calls: packets with what they mean.
+//! Tests of `syslog_legacy` by its public calls: packets and what they mean.
 #![tactic(auto)]
 
 #[cfg(test)]

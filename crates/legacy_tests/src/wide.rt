@@ -1,4 +1,4 @@
-//! Packets as devices and programs send them, and what comes of them in both dialects.
+//! Packets as devices and programs send them, and what becomes of them in both dialects.
 
 use crate::forms::canonical;
 use std::test::Fail;

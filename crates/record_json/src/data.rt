@@ -13,7 +13,7 @@ use syslog_fields::reading::{behind_first, next};
 use syslog_reading::ParamView;
 use syslog_reading::first_element::{begins_with, first_param, id_len};
 
-/// Appends a comma, where something stands before, and what opens a parameter.
+/// Appends a comma, if something stands before, and what opens a parameter.
 #[inline(always)]
 fn put_pair_opening(later: bool, out: &mut Vec<u8>) -> Result<(), AllocError>
     ensures { Puts (Only (comma_if later ++ 91 ∷ 34 ∷ [])) out.old.items out.new.items result }
@@ -24,7 +24,7 @@ fn put_pair_opening(later: bool, out: &mut Vec<u8>) -> Result<(), AllocError>
     put(b"[\"", out)
 }
 
-/// Appends a comma, where something stands before, and what opens an element.
+/// Appends a comma, if something stands before, and what opens an element.
 #[inline(always)]
 fn put_key_opening(later: bool, out: &mut Vec<u8>) -> Result<(), AllocError>
     ensures { Puts (Only (comma_if later ++ 34 ∷ [])) out.old.items out.new.items result }
@@ -93,7 +93,8 @@ fn put_elements(elements: &[u8], out: &mut Vec<u8>) -> Result<(), AllocError>
     put(b"}", out)
 }
 
-/// Appends the elements of structured data in their order, and the brace that ends them.
+/// Appends the elements of structured data in their order, and the brace that ends them. If memory
+/// is refused, a part may have been appended.
 pub fn put_data(structured_data: &[u8], out: &mut Vec<u8>) -> Result<(), AllocError>
     ensures { Puts (DataOf structured_data.now) out.old.items out.new.items result }
 {

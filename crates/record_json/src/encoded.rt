@@ -11,10 +11,10 @@ use crate::escapes::put_escaped;
 use base64::engine::general_purpose::STANDARD;
 use std::alloc::AllocError;
 
-/// So many octets are encoded at once: a multiple of three, so that the last alone are padded.
+/// How many octets are encoded at once: a multiple of three, so that only the last ones are padded.
 const CHUNK: usize = 768;
 
-/// Appends the Base64 of octets that are encoded at once.
+/// Appends the Base64 of octets, encoded at once.
 fn put_chunk(octets: &[u8], out: &mut Vec<u8>) -> Result<(), AllocError>
     requires { length octets.now ≤ CHUNK }
     ensures { Puts (Only (escape (encode_of standard octets.now))) out.old.items out.new.items result }
@@ -26,7 +26,7 @@ fn put_chunk(octets: &[u8], out: &mut Vec<u8>) -> Result<(), AllocError>
     put_escaped(&symbols[..count], out)
 }
 
-/// Appends the Base64 of octets, with padding.
+/// Appends the Base64 of octets, with padding. If memory is refused, a part may have been appended.
 pub fn put_encoded(octets: &[u8], out: &mut Vec<u8>) -> Result<(), AllocError>
     ensures { Puts (Only (escape (encode_of standard octets.now))) out.old.items out.new.items result }
 {

@@ -1,4 +1,4 @@
-//! Octets as JSON strings have them (RFC 8259, section 7).
+//! Octets as JSON strings spell them (RFC 8259, section 7).
 
 ghost use Rattle.std.specs.Prelude.{◌≡◌, ◌<◌, ◌∷◌, []};
 ghost use Rattle.std.specs.Char.{digit_char};
@@ -13,7 +13,7 @@ use syslog_fields::appending::put;
 use syslog_fields::near::near_octet;
 use syslog_fields::unescape::split_meaning;
 
-/// The letter of an octet's short escape, or 0 where it has none.
+/// The letter of an octet's short escape, or 0 if it has none.
 fn escape_letter(octet: u8) -> u8
     ensures { result ≡ escape_letter octet }
 {
@@ -40,7 +40,7 @@ fn hex_digit(digit: u8) -> u8
     }
 }
 
-/// Appends what a string has for an octet.
+/// Appends what a string has for one octet.
 fn put_octet(octet: u8, out: &mut Vec<u8>) -> Result<(), AllocError>
     ensures { Puts (Only (escape_byte octet)) out.old.items out.new.items result }
 {
@@ -66,7 +66,8 @@ fn put_octets(octets: &[u8], out: &mut Vec<u8>) -> Result<(), AllocError>
     Ok(())
 }
 
-/// Appends what a string has for octets: those between two escapes in one piece.
+/// Appends what a string has for octets; those between two escapes go in one piece. If memory is
+/// refused, a part may have been appended.
 pub fn put_escaped(octets: &[u8], out: &mut Vec<u8>) -> Result<(), AllocError>
     ensures { Puts (Only (escape octets.now)) out.old.items out.new.items result }
 {
@@ -81,7 +82,7 @@ pub fn put_escaped(octets: &[u8], out: &mut Vec<u8>) -> Result<(), AllocError>
     put(rest, out)
 }
 
-/// Appends a quotation mark.
+/// Appends a quotation mark. It fails only when out of memory.
 #[inline(always)]
 pub fn put_quote(out: &mut Vec<u8>) -> Result<(), AllocError>
     ensures { Puts (Only (34 ∷ [])) out.old.items out.new.items result }
@@ -90,7 +91,7 @@ pub fn put_quote(out: &mut Vec<u8>) -> Result<(), AllocError>
     Ok(())
 }
 
-/// Appends octets as a string.
+/// Appends octets as a string. If memory is refused, a part may have been appended.
 pub fn put_string(octets: &[u8], out: &mut Vec<u8>) -> Result<(), AllocError>
     ensures { Puts (Only (quoted octets.now)) out.old.items out.new.items result }
 {
@@ -99,7 +100,7 @@ pub fn put_string(octets: &[u8], out: &mut Vec<u8>) -> Result<(), AllocError>
     put_quote(out)
 }
 
-/// Appends octets that need no escape as a string.
+/// Appends octets that need no escape as a string. If memory is refused, a part may have been appended.
 #[inline(always)]
 pub fn put_kept(octets: &[u8], out: &mut Vec<u8>) -> Result<(), AllocError>
     requires { escape octets.now ≡ octets.now }
@@ -110,7 +111,7 @@ pub fn put_kept(octets: &[u8], out: &mut Vec<u8>) -> Result<(), AllocError>
     put_quote(out)
 }
 
-/// Appends what a string has for a value with escapes, which is spelled so.
+/// Appends what a string has for a value whose spelling has escapes.
 fn put_unescaped(raw: &[u8], out: &mut Vec<u8>) -> Result<(), AllocError>
     ensures { Puts (ValueOf raw.now) out.old.items out.new.items result }
 {
@@ -125,8 +126,8 @@ fn put_unescaped(raw: &[u8], out: &mut Vec<u8>) -> Result<(), AllocError>
     put_escaped(rest, out)
 }
 
-/// Appends what a string has for the value of a parameter, which is spelled so (RFC 5424, 6.3.3): as
-/// it lies, where nothing in it has an escape.
+/// Appends what a string has for the value of a parameter (RFC 5424, 6.3.3), from its spelling: as
+/// it lies, if nothing in it needs an escape. If memory is refused, a part may have been appended.
 pub fn put_value(raw: &[u8], out: &mut Vec<u8>) -> Result<(), AllocError>
     ensures { Puts (ValueOf raw.now) out.old.items out.new.items result }
 {

@@ -6,7 +6,7 @@ ghost use Rattle.json.specs.Json.{Json, document};
 ghost use Rattle.syslog_value.specs.Parts.{IsRecord, Parts};
 ghost use Rattle.record_json.specs.Objects.{IsJsonOf, JsonLine};
 
-/// Two records are equal exactly where their lines are.
+/// Two records are equal exactly if their lines are.
 pub fn lines_are_injective()
     ensures { (r q : Parts ℤ) (b c : List ℕ) → IsRecord r → IsRecord q
         → JsonLine r b → JsonLine q c → (r ≡ q) ↔ (b ≡ c) }
@@ -20,7 +20,7 @@ pub fn a_line_is_its_object()
         × (document text ≡ Some j) }
 {}
 
-/// A line has one line feed, which ends it.
+/// A line has one line feed, at its end.
 pub fn a_line_has_one_line_feed()
     ensures { (r : Parts ℤ) (b : List ℕ) → IsRecord r → JsonLine r b
         → (text : List ℕ) × (b ≡ text ++ 10 ∷ []) × AllByRecursion (λ x. x ≢ 10) text }

@@ -29,6 +29,7 @@ pub struct LentParts<'a> {
     pub header: HeaderValues<'a>,
     /// The octets of the structured data: `-`, or elements.
     pub structured_data: &'a [u8],
+    /// The message (RFC 5424, section 6.4).
     pub message: MessageView<'a>,
 }
 
@@ -119,8 +120,8 @@ fn put_data_member(structured_data: &[u8], out: &mut Vec<u8>) -> Result<(), Allo
     put_data(structured_data, out)
 }
 
-/// Appends a text as the message, that it had a BOM, the brace that ends the object, and a line
-/// feed.
+/// Appends a text as the message, the note that it had a BOM, the brace that ends the object, and a
+/// line feed.
 fn put_marked(text: &[u8], out: &mut Vec<u8>) -> Result<(), AllocError>
     ensures { Puts (Only (marked_text text.now)) out.old.items out.new.items result }
 {
@@ -148,7 +149,7 @@ fn put_base64(octets: &[u8], out: &mut Vec<u8>) -> Result<(), AllocError>
     put(b"\"}\n", out)
 }
 
-/// Appends octets as the message: as text where they are UTF-8.
+/// Appends octets as the message, as text if they are UTF-8.
 fn put_any(octets: &[u8], out: &mut Vec<u8>) -> Result<(), AllocError>
     ensures { Puts (MessageText (AnyOctets octets.now)) out.old.items out.new.items result }
 {
@@ -168,7 +169,7 @@ fn put_message(message: &MessageView<'_>, out: &mut Vec<u8>) -> Result<(), Alloc
     put_any(message.octets, out)
 }
 
-/// Appends the line of the record of these parts; where memory is refused, possibly a part of it.
+/// Appends the line of the record of these parts; if memory is refused, possibly a part of it.
 pub fn append_line(parts: &LentParts<'_>, out: &mut Vec<u8>) -> Result<(), AllocError>
     ensures { Puts (LentLine parts.now) out.old.items out.new.items result }
 {
@@ -179,10 +180,10 @@ pub fn append_line(parts: &LentParts<'_>, out: &mut Vec<u8>) -> Result<(), Alloc
     put_message(&parts.message, out)
 }
 
-/// Appends the record of these parts as one line of JSON, with its elements as they stand in the
-/// octets: they are to stand by id. A line feed ends it.
+/// Appends the record of these parts as one line of JSON, which a line feed ends. The elements come
+/// in the order of the octets, so they should stand by id there.
 ///
-/// No memory is taken but that of the vector. Where a growth is refused, the vector is unchanged.
+/// No memory is taken but that of the vector. If an allocation fails, the vector is unchanged.
 pub fn put_lent_line(parts: &LentParts<'_>, out: &mut Vec<u8>) -> Result<(), AllocError>
     ensures ok { (es : List ElementParts) → StructuredDataText es parts.now.structured_data.now
         → OnOk result (Adds (JsonLine (record_of parts.now es)) out.old.items out.new.items) }

@@ -1,4 +1,4 @@
-//! The first octet that a JSON string has by an escape.
+//! The first octet that a JSON string can only have as an escape.
 
 ghost use Rattle.std.specs.Prelude.{◌≡◌, ◌+◌, ◌≤◌, length};
 ghost use Rattle.memchr.specs.Find.{IsFirstByte, Nowhere, Passes};
@@ -7,10 +7,10 @@ ghost use Rattle.record_json.specs.Texts.{IsKept, is_escaped};
 
 use std::simd::prelude::*;
 
-/// Octets of one load.
+/// How many octets one load has.
 const LANES: usize = 16;
 
-/// How many lanes come before the first that is set in a mask.
+/// How many lanes come before the first one that is set in a mask.
 #[inline(always)]
 fn lanes_before(mask: u64) -> usize
     ensures { result ≡ first_set mask }
@@ -22,7 +22,8 @@ fn lanes_before(mask: u64) -> usize
     }
 }
 
-/// How many of the sixteen octets at an offset, from the first on, a string has as they are.
+/// How many of the sixteen octets at an offset come before the first that a string cannot have as
+/// it is.
 #[inline(always)]
 fn kept_run(octets: &[u8], at: usize) -> usize
     requires { at + LANES ≤ length octets.now }
@@ -41,7 +42,7 @@ fn is_escaped(octet: u8) -> bool
     octet < 32 || octet == b'"' || octet == b'\\'
 }
 
-/// The first offset of such an octet, from one on before which none stands.
+/// The first offset of such an octet; none stands before `from`.
 #[inline(always)]
 fn escaped_from(octets: &[u8], from: usize) -> Option<usize>
     requires within { from ≤ length octets.now }
@@ -56,7 +57,7 @@ fn escaped_from(octets: &[u8], from: usize) -> Option<usize>
     None
 }
 
-/// The first offset of an octet that a string has by an escape.
+/// The first offset of an octet that a string can only have as an escape.
 #[inline(always)]
 pub fn near_escaped(octets: &[u8]) -> Option<usize>
     ensures { IsFirstByte is_escaped octets.now result }

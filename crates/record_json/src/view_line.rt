@@ -52,8 +52,7 @@ fn put_sorted(
     }
 }
 
-/// Appends the line of the record that a view shows; where memory is refused, possibly a part of
-/// it.
+/// Appends the line of the record that a view shows; if memory is refused, possibly a part of it.
 fn append_view_line(
     alloc: Global,
     view: &RecordView<'_>,
@@ -71,11 +70,12 @@ fn append_view_line(
     put_sorted(alloc, view, scratch, out)
 }
 
-/// Appends the record that the octets of a view spell as one line of JSON. A line feed ends it.
+/// Appends the record that the octets of a view spell as one line of JSON, which a line feed ends.
 ///
-/// Where elements do not stand by id, the canonical octets are written to the scratch vector first,
-/// whose octets are lost, and the allocator is used as by [`write_canonical_view`]. Otherwise no
-/// memory is taken but that of the output. Where a growth is refused, the output is unchanged.
+/// If the elements do not stand by id, the canonical octets are first written to the scratch
+/// vector, whose contents are lost, and the allocator is used as by [`write_canonical_view`].
+/// Otherwise no memory is taken but that of the output. If an allocation fails, the output is
+/// unchanged.
 pub fn put_json_line(
     alloc: Global,
     view: &RecordView<'_>,

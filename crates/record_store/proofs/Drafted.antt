@@ -13,7 +13,7 @@ use Rattle.record_store.specs.Holdings.{HeldAt, IsBatch}
 use Rattle.record_store.specs.Names.{Counts, IsSegment, journal_name}
 use Rattle.record_store.specs.Shown.{journal_shown}
 use Rattle.record_store.specs.Puts.{KeepsOrSettlesApart, LeavesOldOr}
-use Rattle.record_store.specs.Segments.{HoldsNoMore, IsSegmentOf, JournalsSettle}
+use Rattle.record_store.specs.Segments.{HoldsNoMore, IsSegmentOf, JournalsSettle, ShowsNoMore}
 use Rattle.record_store.specs.Stores.{AreAmong, IsReady, Sets, Stands}
 use Rattle.record_store.specs.Turns.{HeldApart}
 use Rattle.record_store.specs.declared.store.RecordStore.{RecordStore}
@@ -54,9 +54,7 @@ shows_of state name text shown sound =
 
 -- ---- what it holds
 
-module _ (old new : State) (draft name day text : List ℕ) (es : List Entry) (segment : IsSegment day name)
-    (is : IsSegmentOf day text es) (no_more : HoldsNoMore old name es) (apart : ¬ (Counts draft))
-    (leaves : LeavesOldOr old new name text) (others : KeepsOrSettlesApart old new draft name) where
+module _ (name day text : List ℕ) (es : List Entry) (segment : IsSegment day name) (is : IsSegmentOf day text es) where
   pub segment_has : (e : Entry) → Has es e → HeldAt name (Some text) e
   segment_has e has = inr (
     day,
@@ -70,18 +68,38 @@ module _ (old new : State) (draft name day text : List ℕ) (es : List Entry) (s
     },
   )
 
-  pub others_less : OthersLeaveLess old new name
-  others_less other counts differs octets may =
-      settled_may (old.entries other) (new.entries other) octets
-      (others other (λ same. apart (subst Counts same counts)) differs) may
-
-  text_has : (e : Entry) → HeldAt name (Some text) e → Has es e
-  text_has e (inl journal) = absurd (not_both day name journal.0 segment)
-  text_has e (inr (other_day, other, has)) =
+  pub segment_no_more : (e : Entry) → HeldAt name (Some text) e → Has es e
+  segment_no_more e (inl journal) = absurd (not_both day name journal.0 segment)
+  segment_no_more e (inr (other_day, other, has)) =
       subst (λ (l : List Entry). Has l e)
       (one_batch has.entries es text
       (record { entries = has.archive.entries; fits = has.archive.fits; text = has.text_is })
       (record { entries = is.archive.entries; fits = is.archive.fits; text = is.text_is })) has.has
+
+  pub segment_held : (new : State) (number : ℕ) → number < 2 ^ 64 → IsOnDisk new name text
+      → HeldApart new (journal_name number) es
+  segment_held new number small on_disk files may e has = (
+    name,
+    λ same. not_both day name (record { number = number; small = small; name_is = same }) segment,
+    subst (λ (o : Option (List ℕ)). HeldAt name o e)
+        (sym (only_is text (files name) (subst (λ (x : DiskEntry). NameMayLeave x (files name)) on_disk.entry
+        (may name (inr (day, segment))))))
+        (segment_has e has),
+  )
+
+-- what is held whatever a crash leaves is so of what is shown
+pub shows_no_more : (state : State) (name : List ℕ) (es : List Entry) → HoldsNoMore state name es
+    → ShowsNoMore state name es
+shows_no_more state name es no_more e held =
+    no_more (shown_now (state.entries name)) (shown_left (state.entries name)) e held
+
+module _ (old new : State) (draft name day text : List ℕ) (es : List Entry) (segment : IsSegment day name)
+    (is : IsSegmentOf day text es) (no_more : ShowsNoMore old name es) (apart : ¬ (Counts draft))
+    (leaves : LeavesOldOr old new name text) (others : KeepsOrSettlesApart old new draft name) where
+  pub others_less : OthersLeaveLess old new name
+  others_less other counts differs octets may =
+      settled_may (old.entries other) (new.entries other) octets
+      (others other (λ same. apart (subst Counts same counts)) differs) may
 
   pub segment_at : (octets : Option (List ℕ)) → NameMayLeave (new.entries name) octets
       → CoveredAt old name octets (λ e. Has es e)
@@ -92,8 +110,9 @@ module _ (old new : State) (draft name day text : List ℕ) (es : List Entry) (s
         may = shown_left (old.entries name);
         holds = record {
           kept = λ e held. subst (λ (o : Option (List ℕ)). HeldAt name o e) (sym whole)
-              (segment_has e (no_more (shown_now (old.entries name)) (shown_left (old.entries name)) e held));
-          only = λ e held. inr (text_has e (subst (λ (o : Option (List ℕ)). HeldAt name o e) whole held));
+              (segment_has name day text es segment is e (no_more e held));
+          only = λ e held. inr (segment_no_more name day text es segment is e
+              (subst (λ (o : Option (List ℕ)). HeldAt name o e) whole held));
         };
       })
       (leaves octets may)
@@ -183,19 +202,8 @@ journals_settle old new draft name day segment apart others n small =
 
 -- a segment gets its name
 module _ (old new : State) (draft name day text : List ℕ) (es : List Entry) (segment : IsSegment day name)
-    (is : IsSegmentOf day text es) (no_more : HoldsNoMore old name es) (apart : ¬ (Counts draft))
+    (is : IsSegmentOf day text es) (no_more : ShowsNoMore old name es) (apart : ¬ (Counts draft))
     (leaves : LeavesOldOr old new name text) (others : KeepsOrSettlesApart old new draft name) where
-  pub segment_held : (number : ℕ) → number < 2 ^ 64 → IsOnDisk new name text
-      → HeldApart new (journal_name number) es
-  segment_held number small on_disk files may e has = (
-    name,
-    λ same. not_both day name (record { number = number; small = small; name_is = same }) segment,
-    subst (λ (o : Option (List ℕ)). HeldAt name o e)
-        (sym (only_is text (files name) (subst (λ (x : DiskEntry). NameMayLeave x (files name)) on_disk.entry
-        (may name (inr (day, segment))))))
-        (segment_has old new draft name day text es segment is no_more apart leaves others e has),
-  )
-
   pub segment_still : (journal : List ℕ) (held : List Entry) → HeldApart old journal held
       → HeldApart new journal held
   segment_still journal held holds =

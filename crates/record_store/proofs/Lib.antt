@@ -1,6 +1,7 @@
 pub mod Batches
 pub mod Causing
 pub mod Committing
+pub mod Compared
 pub mod Covering
 pub mod Creating
 pub mod Drafted

@@ -1,11 +1,11 @@
 -- A store from call to call.
-use Rattle.std.proofs.Common.{◌≡◌, ⊎_elim, ℕ, ◌<◌, ◌≤◌, ◌^◌, List, [], ◌∷◌, ◌++◌, length, sym, ap, subst, ◌∙◌}
+use Rattle.std.proofs.Common.{◌≡◌, ⊎_elim, ℕ, ◌<◌, ◌≤◌, ◌^◌, List, [], ◌∷◌, ◌++◌, length, refl, sym, ap, subst, ◌∙◌, arith}
 use Rattle.std.specs.Prelude.{None, true}
 use Rattle.disk.specs.Memory.{shown_now}
 use Rattle.disk.specs.States.{State}
 use Rattle.journal.specs.declared.journal.Journal.{Journal}
 use Rattle.journal.specs.Journals.{KeepsOthers, LeavesBatches, Stands as JournalStands, WithOrWithout}
-use Rattle.archive_text.specs.Entries.{Entry, IsEntry}
+use Rattle.archive_text.specs.Entries.{Entry, Has, IsEntry}
 use Rattle.archive_text.specs.Text.{entry_text}
 use Rattle.archive_text.specs.declared.limits.TheConstants.{ENTRY_MAX}
 use Rattle.archive_text.proofs.Members.{has_either, has_left, has_right}
@@ -15,7 +15,7 @@ use Rattle.record_store.specs.Names.{IsJournal, journal_name}
 use Rattle.record_store.specs.Shown.{NoneShownAbove}
 use Rattle.record_store.specs.Stores.{AreAmong, IsReady, Sets, Stands, all_committed, with_waiting}
 use Rattle.record_store.specs.declared.store.RecordStore.{RecordStore}
-use Rattle.record_store.proofs.Batches.{batch_has, batch_push, no_batch, pushed_either}
+use Rattle.record_store.proofs.Batches.{batch_has, batch_push, empty_batch, no_batch, pushed_either}
 use Rattle.record_store.proofs.Committing.{commit_keeps, commit_within, committed_keeps}
 use Rattle.record_store.proofs.Named.{numbers_apart}
 use Rattle.record_store.proofs.Showing.{ready_shows}
@@ -103,6 +103,29 @@ module _ (old new : State) (store after : RecordStore) (sets : Sets) (stands : S
           ready = λ not_broken. ready_then;
           shows = λ sound. ready_shows after new sets.since ready_then;
         }
+
+-- nothing waits
+pub no_octets : (octets : List ℕ) → length octets ≡ 0 → octets ≡ []
+no_octets [] none = refl
+no_octets (x ∷ octets) none = absurd (omega (arith, none))
+
+pub idle_stands : (store : RecordStore) (state : State) (sets : Sets) → Stands store state sets
+    → store.batch.items ≡ [] → Stands store state (all_committed sets)
+idle_stands store state sets stands empty =
+    let none : [] ≡ sets.waiting = empty_batch sets.waiting store.batch.items empty stands.batch in
+    record {
+      keeps = record {
+        nothing_lost = λ files may e has. stands.keeps.nothing_lost files may e
+            (⊎_elim (λ committed. committed) (λ last. absurd (subst (λ (l : List Entry). Has l e) (sym none) last))
+            (has_either sets.committed sets.waiting e has));
+        nothing_forged = stands.keeps.nothing_forged;
+      };
+      batch = subst (λ (l : List Entry). IsBatch l store.batch.items) (sym none) stands.batch;
+      waits = λ e has. absurd has;
+      within = stands.within;
+      ready = stands.ready;
+      shows = stands.shows;
+    }
 
 -- ---- an entry is appended
 

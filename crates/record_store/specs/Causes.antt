@@ -40,6 +40,13 @@ IsCause causes (Journal number fault) = IsJournalCause causes fault
 IsCause causes (Folder fault) = IsDiskCause causes fault
 IsCause causes No_memory = Unit {0}
 
+-- a full disk is told
+abbrev pub TellsFull : StoreFault → Type 0
+TellsFull Broken = ⊥
+TellsFull (Journal number fault) = fault ≡ Disk Full
+TellsFull (Folder fault) = fault ≡ Full
+TellsFull No_memory = ⊥
+
 -- the newest journal that is shown is too long to be opened
 pub record ShowsTooLong (state : State) : Type 0 where
   pub number : ℕ

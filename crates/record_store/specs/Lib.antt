@@ -1,6 +1,7 @@
 pub mod Causes
 pub mod Crashes
 pub mod Holdings
+pub mod Keeping
 pub mod Names
 pub mod Puts
 pub mod Segments

@@ -42,6 +42,10 @@ abbrev pub HoldsNoMore : State → List ℕ → List Entry → Type 0
 HoldsNoMore state name es = (octets : Option (List ℕ)) → NameMayLeave (state.entries name) octets → (e : Entry)
     → HeldAt name octets e → Has es e
 
+-- what a read shows under a name holds no other entries than these
+abbrev pub ShowsNoMore : State → List ℕ → List Entry → Type 0
+ShowsNoMore state name es = (e : Entry) → HeldAt name (shown_now (state.entries name)) e → Has es e
+
 -- what was drafted is the archive of these entries of a day, which were received, and the draft's name does not count
 pub record IsOfSegment (draft : SegmentDraft) (state : State) (day : List ℕ) (es received : List Entry) : Type 0 where
   pub text : List ℕ

@@ -40,6 +40,22 @@ number_of store = store.number
 abbrev pub journal_of : RecordStore → Journal
 journal_of store = store.journal
 
+-- the octets that wait for a commit
+abbrev pub batch_of : RecordStore → List ℕ
+batch_of store = store.batch.items
+
+-- two stores differ in what waits alone
+pub record IsSameButBatch (one other : RecordStore) : Type 0 where
+  pub journal : other.journal ≡ one.journal
+  pub number : other.number ≡ one.number
+  pub broken : other.broken ≡ one.broken
+
+-- they differ in whether a call has failed alone
+pub record IsSameButBroken (one other : RecordStore) : Type 0 where
+  pub journal : other.journal ≡ one.journal
+  pub number : other.number ≡ one.number
+  pub batch : other.batch ≡ one.batch
+
 -- What became of the entries that a store was given: committed for good; received at all; those that came since the last
 -- checkpoint; and those of them that wait for the next commit.
 pub record Sets : Type 0 where

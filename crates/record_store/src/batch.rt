@@ -17,7 +17,7 @@ fn put_parts(batch: &mut Vec<u8>, octets: &[u8]) -> Result<(), AllocError>
     Ok(())
 }
 
-/// Puts the text of the entry with these octets behind what is there, or nothing.
+/// Puts the text of the entry with these octets behind what is there; out of memory, nothing.
 pub(crate) fn put_entry(batch: &mut Vec<u8>, octets: &[u8]) -> Result<(), AllocError>
     ensures ok { OnOk result (batch.new.items ≡ batch.old.items ++ framed Counted octets.now) }
     ensures err { OnErr result (batch.new.items ≡ batch.old.items) }

@@ -4,16 +4,17 @@ use journal::JournalFault;
 use std::alloc::AllocError;
 use thiserror::Error;
 
-/// Why a store did not do what it was asked for, and at which file.
+/// Why a store did not do what was asked of it, and at which file.
 #[derive(Clone, Copy, Debug, PartialEq, Eq, Error)]
 pub enum StoreFault {
-    /// A call has failed before, so what is on the disk is not known. The store is opened anew.
-    #[error("the store has to be opened anew")]
+    /// A call has failed before, so what is on the disk is not known. The store has to be opened
+    /// again.
+    #[error("the store has to be opened again")]
     Broken,
-    /// The journal of this number.
+    /// The journal with this number.
     #[error("journal.{number}: {fault}")]
     Journal { number: u64, fault: JournalFault },
-    /// The names of the folder.
+    /// The names in the folder.
     #[error("the folder: {fault}")]
     Folder { fault: DiskFault },
     /// An allocation failed.
@@ -32,14 +33,31 @@ impl From<AllocError> for StoreFault {
     }
 }
 
-/// Why octets were not added to a batch.
+impl StoreFault {
+    ghost use Rattle.std.specs.Prelude.{◌↔◌, IsTrue};
+    ghost use Rattle.record_store.specs.Causes.{TellsFull};
+
+    /// Whether the disk is full, so that the store may be opened again once it has room.
+    pub fn is_full(&self) -> bool
+        ensures { IsTrue result ↔ TellsFull self.now }
+    {
+        match self {
+            StoreFault::Journal { number: _, fault } => *fault
+                == JournalFault::Disk(DiskFault::Full),
+            StoreFault::Folder { fault } => *fault == DiskFault::Full,
+            StoreFault::Broken | StoreFault::Memory => false,
+        }
+    }
+}
+
+/// Why octets were not added to a batch. `Broken` comes before `TooLong`, and that before `Entry`.
 #[derive(Clone, Copy, Debug, PartialEq, Eq)]
 pub enum AppendFault {
     /// They are not the canonical octets of a record.
     Entry(EntryFault),
-    /// They are more than an archive's entry may have (`ENTRY_MAX`).
+    /// They are more than an entry of an archive may have (`ENTRY_MAX`).
     TooLong,
-    /// A call has failed before: the store is opened anew.
+    /// A call has failed before: the store has to be opened again.
     Broken,
     /// An allocation failed.
     Memory,

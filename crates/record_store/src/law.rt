@@ -16,8 +16,8 @@ pub fn after_a_crash()
         → (e : Entry) → Held files e → Has received e }
 {}
 
-/// Once the machine has started anew, with what the crash left on the disk, the folder keeps what
-/// it kept, and no sync has failed. So `open` may follow, and any calls and crashes behind it.
+/// Once the machine has been restarted with what the crash left on the disk, the folder keeps what
+/// it kept, and no sync has failed. So `open` may follow, and any calls and crashes after it.
 pub fn after_a_restart()
     ensures keeps { (state anew : State) (files : Files) (committed received : List Entry)
         → Keeps state committed received → MayLeave state files → Rests anew files

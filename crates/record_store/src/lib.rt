@@ -1,17 +1,19 @@
 //! A durable store of syslog records: a folder that holds a set of records through crashes.
 //!
 //! A folder has journals (`journal.N`: batches of records in the order in which they came) and
-//! segments (`DAY.HEX.archive`: archives of the records of a day, complete from the moment they have their name).
-//! What it holds is what these have; files of other names count for nothing.
+//! segments (`DAY.HEX.archive`: archives of the records of a day, complete from the moment they
+//! have their name). It holds what these hold; files with other names count for nothing.
 //!
-//! Whatever moment a crash comes, what the folder holds afterwards is a set S with
-//! committed ⊆ S ⊆ received. Each call of [`RecordStore`] says so of every state that it may end
-//! with, so of every moment (see `disk`), as long as no sync has failed; `turn` where other files hold
-//! what the journal has.
+//! Whenever a crash comes, what the folder holds afterwards is a set S with committed ⊆ S ⊆
+//! received. Each call of [`RecordStore`] says so of every state that it may end with, so of every
+//! moment (see `disk`), as long as no sync has failed; `turn` says so if other files hold what the
+//! journal holds.
 #![tactic(auto)]
 
+mod appending;
 mod batch;
 mod fault;
+mod keeping;
 mod law;
 mod names;
 mod opening;
@@ -23,6 +25,7 @@ mod tests;
 mod turning;
 
 pub use fault::{AppendFault, StoreFault};
+pub use keeping::KeepFault;
 pub use law::{after_a_crash, after_a_restart};
 pub use opening::open;
 pub use putting::put;

@@ -6,7 +6,7 @@ use disk::FileName;
 use itoa::Buffer;
 use std::alloc::{AllocError, Global};
 
-/// The name of the journal of a number.
+/// The name of the journal with a number.
 pub(crate) fn name_of_journal(alloc: Global, number: u64) -> Result<FileName, AllocError>
     ensures { IfOk result (λ name. name ≡ journal_name number) }
 {
@@ -47,7 +47,7 @@ fn greater(a: Option<u64>, b: Option<u64>) -> Option<u64>
     }
 }
 
-/// The greatest number of a journal that has one of these names.
+/// The greatest number of a journal among these names.
 pub(crate) fn newest(names: &[FileName]) -> Option<u64>
     ensures { IsNewest names.now result }
 {

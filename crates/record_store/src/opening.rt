@@ -96,15 +96,15 @@ fn open_journal<D: Disk>(
     }
 }
 
-/// Opens the store of a folder, after a restart of the machine or where the process alone has ended.
-/// It gives the batches of the newest journal that a read shows, one behind the other as
-/// `journal::batch_len` finds them, whose entries came since the last checkpoint; they are on the
-/// disk then, and what was behind them is cut. A folder without a journal gets one. The store keeps
-/// what the folder keeps: whatever moment a crash comes, committed ⊆ S ⊆ received. It can say so
-/// only where no sync has failed since the machine was started.
+/// Opens the store of a folder, after a restart of the machine or of the process alone. It gives
+/// the batches of the newest journal that a read shows, one behind the other as
+/// `journal::batch_len` finds them; their entries came since the last checkpoint. They are on the
+/// disk then, and what was behind them is cut off. A folder without a journal gets one. The store
+/// keeps what the folder keeps: whenever a crash comes, committed ⊆ S ⊆ received. It can say so
+/// only if no sync has failed since the machine was started.
 ///
 /// # Errors
-/// The disk's fault, want of memory, or a journal that is too long to be opened.
+/// The disk's fault, lack of memory, or a journal that is too long to be opened.
 pub fn open<D: Disk>(alloc: Global, disk: &mut D) -> Result<(RecordStore, Vec<u8>), StoreFault>
     ensures opened { IfOk result (λ r. D.tells disk.new → IsSound (D.state disk.old)
         → (committed received since : List Entry) → Keeps (D.state disk.old) committed received
@@ -142,10 +142,10 @@ pub fn open<D: Disk>(alloc: Global, disk: &mut D) -> Result<(RecordStore, Vec<u8
 impl RecordStore {
     ghost use Rattle.record_store.specs.Stores.{Sets};
 
-    /// Opens the store again after a call has failed for a full disk or for want of memory: its newest
-    /// journal is brought to the disk and cut behind its batches. The batch that waits is still there, so
-    /// the next commit writes it; where the journal has it already, twice is the same set. Once a sync
-    /// has failed it can promise nothing until the machine is started anew.
+    /// Opens the store again after a call has failed for a full disk or for lack of memory: its
+    /// newest journal is brought to the disk and cut behind its batches. The batch that waits is
+    /// still there, so the next commit writes it; if the journal has it already, having it twice is
+    /// the same set. Once a sync has failed, it can promise nothing until the machine is restarted.
     ///
     /// # Errors
     /// Those of `open`. The store is broken then, and may be opened again as it is.

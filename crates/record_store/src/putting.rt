@@ -41,10 +41,10 @@ fn draft<D: Disk>(disk: &mut D, name: &FileName, text: &[u8]) -> Result<(), Disk
     disk.sync(name)
 }
 
-/// Puts a file with this text under a name, in place of what is there: written under the name of a
-/// draft, synced, renamed, and the folder synced. A crash at any moment leaves under the name what
-/// it might have left before, or the whole text; once the call has returned `Ok`, the text. What
-/// is under the draft's name is lost.
+/// Puts a file with this text under a name, in place of what is there: it is written under the name
+/// of a draft, synced, renamed, and the folder synced. A crash at any moment leaves under the name
+/// what it might have left before, or the whole text; once the call has returned `Ok`, the text.
+/// What is under the draft's name is lost. It fails with the disk's fault.
 pub fn put<D: Disk>(
     disk: &mut D,
     draft_name: &FileName,

@@ -19,20 +19,21 @@ use thiserror::Error;
 // the octets of a SHA-256 in hexadecimal
 const HEX_LEN: usize = 64;
 
-/// A segment that is written: a file under the name of a draft, until all of it is on the disk.
+/// A segment that is being written: a file under the name of a draft, until all of it is on the disk.
 #[derive(Drop)]
 pub struct SegmentDraft {
-    name: FileName,
-    hasher: Sha256,
+    pub(crate) name: FileName,
+    pub(crate) hasher: Sha256,
 }
 
 /// Why a segment was not finished.
 #[derive(Clone, Copy, Debug, PartialEq, Eq, Error)]
 pub enum SegmentFault {
+    /// The disk's fault, or out of memory.
     #[error("{0}")]
     Disk(DiskFault),
-    /// A file's name cannot begin with the day.
-    #[error("no name of a day")]
+    /// A file's name cannot begin with this day.
+    #[error("not the name of a day")]
     Day,
 }
 
@@ -68,7 +69,7 @@ fn are_hexadecimal(octets: &[u8]) -> bool
 }
 
 // The digest of what was hashed, in hexadecimal.
-fn hexadecimal(hasher: Sha256) -> [u8; HEX_LEN]
+pub(crate) fn hexadecimal(hasher: Sha256) -> [u8; HEX_LEN]
     ensures { (text : List ℕ) → Holds256 hasher text → result ≡ encode_lower (sha256 text) }
 {
     let mut hex = [0; HEX_LEN];
@@ -77,7 +78,7 @@ fn hexadecimal(hasher: Sha256) -> [u8; HEX_LEN]
 }
 
 // The name of the segment of a day, if it is one.
-fn name_of_segment(
+pub(crate) fn name_of_segment(
     alloc: Global,
     day: &[u8],
     hex: &[u8; HEX_LEN],
@@ -97,7 +98,11 @@ fn name_of_segment(
 }
 
 // Brings a draft to the disk and gives it its name, in place of what is there.
-fn place<D: Disk>(disk: &mut D, draft: &FileName, name: &FileName) -> Result<(), DiskFault>
+pub(crate) fn place<D: Disk>(
+    disk: &mut D,
+    draft: &FileName,
+    name: &FileName,
+) -> Result<(), DiskFault>
     ensures placed { OnOk result (D.tells disk.new → (file : File)
         → Shows (D.state disk.old) draft.now file → name.now ≢ draft.now
         → IsOnDisk (D.state disk.new) name.now file.shown) }
@@ -125,7 +130,8 @@ impl SegmentDraft {
     ghost use Rattle.record_store.specs.Stores.{Sets, Stands};
     ghost use Rattle.record_store.specs.Turns.{HeldApart};
 
-    /// Begins a segment under the name of a draft, in place of what is there.
+    /// Begins a segment under the name of a draft, in place of what is there. It fails with the
+    /// disk's fault.
     pub fn begin<D: Disk>(disk: &mut D, name: FileName) -> Result<SegmentDraft, DiskFault>
         ensures begun { IfOk result (λ draft. D.tells disk.new → IsSound (D.state disk.old)
             → Drafts draft (D.state disk.new) []) }
@@ -133,6 +139,7 @@ impl SegmentDraft {
         ensures others { D.tells disk.new → KeepsOthers (D.state disk.old) (D.state disk.new) name }
 
         // whatever the result is: so at every moment
+        ensures lost { D.tells disk.new → (D.state disk.new).lost ≡ (D.state disk.old).lost }
         ensures stands { D.tells disk.new → ¬ (Counts name) → (store : RecordStore) (sets : Sets)
             → Stands store (D.state disk.old) sets → Stands store (D.state disk.new) sets }
 
@@ -146,7 +153,7 @@ impl SegmentDraft {
         })
     }
 
-    /// Writes the next piece of the segment. After an `Err` begin it again.
+    /// Writes the next piece of the segment. After an `Err`, begin it again.
     pub fn push<D: Disk>(&mut self, disk: &mut D, piece: &[u8]) -> Result<(), DiskFault>
         ensures pushed { OnOk result (D.tells disk.new → (text : List ℕ)
             → Drafts self.old (D.state disk.old) text
@@ -156,6 +163,7 @@ impl SegmentDraft {
             → KeepsOthers (D.state disk.old) (D.state disk.new) (draft_of self.old) }
 
         // whatever the result is: so at every moment
+        ensures lost { D.tells disk.new → (D.state disk.new).lost ≡ (D.state disk.old).lost }
         ensures stands { D.tells disk.new → ¬ (Counts (draft_of self.old)) → (store : RecordStore)
             (sets : Sets) → Stands store (D.state disk.old) sets
             → Stands store (D.state disk.new) sets }
@@ -167,11 +175,12 @@ impl SegmentDraft {
         Ok(())
     }
 
-    /// Brings the segment to the disk and gives it its name, `DAY.HEX.archive` with the SHA-256 of its
-    /// octets. Once it has returned `Ok`, every crash leaves it, so each of its entries is held; a crash
-    /// at any moment loses nothing, and holds nothing else but its entries. The name of the draft is to
-    /// be none that counts. A file that has the segment's name already is replaced: by the same
-    /// octets, unless it is damaged or SHA-256 collides.
+    /// Brings the segment to the disk and gives it its name, `DAY.HEX.archive` with the SHA-256 of
+    /// its octets. Once it has returned `Ok`, every crash leaves it, so each of its entries is
+    /// held; a crash at any moment loses nothing, and adds nothing but its entries. The draft's
+    /// name must be one that does not count. A file that has the segment's name already is
+    /// replaced: by the same octets, unless it is damaged or SHA-256 collides. It fails as the
+    /// variants of [`SegmentFault`] say.
     pub fn finish<D: Disk>(
         self,
         alloc: Global,
@@ -224,12 +233,12 @@ impl RecordStore {
     ghost use Rattle.record_store.specs.Turns.{HeldApart};
 
     /// Finishes a segment of entries that the store has received. Once it has returned `Ok`, a file
-    /// that is not the journal holds each of them, whatever a crash leaves, so that `turn` may follow
-    /// where all that came since the last checkpoint is in segments. The sets stay as they are at every
-    /// moment.
+    /// other than the journal holds each of them, whatever a crash leaves; so `turn` may follow
+    /// once all that came since the last checkpoint is in segments. The sets stay as they are at
+    /// every moment.
     ///
     /// # Errors
-    /// The disk's fault, or want of memory. The store is broken then.
+    /// The disk's fault, or lack of memory. The store is broken then.
     pub fn add_segment<D: Disk>(
         &mut self,
         alloc: Global,

@@ -7,7 +7,7 @@ ghost use Rattle.record_store.specs.Causes.{IsCause, commit_causes, first_causes
 ghost use Rattle.record_store.specs.Crashes.{Keeps};
 ghost use Rattle.record_store.specs.Shown.{ShowsNoJournal, ShowsWithin};
 ghost use Rattle.record_store.specs.Stores.{AreAmong, IsAppendFault, IsBroken, Sets, Stands};
-ghost use Rattle.record_store.specs.Stores.{all_committed, begun, number_of, with_waiting};
+ghost use Rattle.record_store.specs.Stores.{all_committed, batch_of, begun, number_of, with_waiting};
 
 use crate::batch::put_entry;
 use crate::fault::{AppendFault, StoreFault};
@@ -65,7 +65,7 @@ impl RecordStore {
     }
 
     /// Adds the record with these canonical octets to the batch. It is not on the disk before the
-    /// next commit. What is refused changes nothing.
+    /// next commit. A refusal, as the variants of [`AppendFault`] say, changes nothing.
     pub fn append(&mut self, octets: &[u8]) -> Result<(), AppendFault>
         ensures ok { OnOk result ((state : State) (sets : Sets) → Stands self.old state sets
             → (e : Entry) × IsEntry e × (e.octets ≡ octets.now)
@@ -93,7 +93,9 @@ impl RecordStore {
     }
 
     /// Commits the batch. Once it has returned `Ok`, every crash leaves its records; a crash at any
-    /// moment leaves what is committed, and nothing that was not received.
+    /// moment leaves what is committed, and nothing that was not received. If nothing waits,
+    /// nothing is asked of the disk. It fails as the variants of [`StoreFault`] say, and the store
+    /// is broken then.
     pub fn commit<D: Disk>(&mut self, alloc: Global, disk: &mut D) -> Result<(), StoreFault>
         ensures committed { OnOk result (D.tells disk.new → (sets : Sets)
             → Stands self.old (D.state disk.old) sets
@@ -106,6 +108,7 @@ impl RecordStore {
             → Stands self.old (D.state disk.old) sets
             → Keeps (D.state disk.new) sets.committed sets.received }
 
+        ensures idle { batch_of self.old ≡ [] → disk.new ≡ disk.old }
         ensures broken { IsErrOf result StoreFault.Broken ↔ IsBroken self.old }
         ensures breaks { IsErr result ↔ IsBroken self.new }
         ensures told { D.tells disk.new → D.tells disk.old }
@@ -114,6 +117,9 @@ impl RecordStore {
     {
         if self.broken {
             return Err(StoreFault::Broken);
+        }
+        if self.batch.len() == 0 {
+            return Ok(());
         }
         match self.journal.commit(alloc, disk, &self.batch) {
             Ok(()) => {

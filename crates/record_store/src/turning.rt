@@ -113,13 +113,13 @@ fn succeed<D: Disk>(alloc: Global, disk: &mut D, number: u64) -> Result<Journal,
 }
 
 impl RecordStore {
-    /// Begins the journal of the next number, on the disk, and only then removes the one before. Where
-    /// other files hold each entry that came since the last checkpoint, whatever a crash leaves, no
-    /// entry has come since; those that waited are committed by these files, and wait no more. It
-    /// promises nothing where they are not held: segments are written before (`add_segment`).
+    /// Begins the journal with the next number, on the disk, and only then removes the one before.
+    /// If other files hold each entry that came since the last checkpoint, whatever a crash leaves,
+    /// then no entry has come since; those that waited are committed by these files, and wait no
+    /// more. If they are not held, it promises nothing: write segments first (`add_segment`).
     ///
     /// # Errors
-    /// The disk's fault, want of memory, or `Full` where there is no greater number. The folder keeps
+    /// The disk's fault, lack of memory, or `Full` if there is no greater number. The folder keeps
     /// what it kept, and the store is broken: `reopen` it.
     pub fn turn<D: Disk>(&mut self, alloc: Global, disk: &mut D) -> Result<(), StoreFault>
         ensures turned { OnOk result (D.tells disk.new → (sets : Sets)

@@ -1,4 +1,4 @@
-//! What the command `send` does: one record is made of the values of its options, and written as
+//! What the command `send` does: one record is made from the values of its options and written as
 //! one frame, unless the mask holds its severity back (setlogmask(3)).
 #![tactic(auto)]
 

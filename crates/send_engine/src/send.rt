@@ -72,10 +72,10 @@ fn conclude<N: Output>(sent: Result<bool, SendFault>, diagnostics: &mut N) -> u8
     }
 }
 
-/// Sends the record that the options ask for: one frame goes to the output, unless the severity is
+/// Sends the record that the options ask for: one frame goes to the output, unless its severity is
 /// held back. A text on a value that is refused, a refusal or a fault goes to the diagnostics.
-/// Returns the exit status: `DONE`; `REFUSED` where the framing does not carry the record; `FAULT`
-/// where a value is refused or a device failed; `NO_MEMORY` where memory ran out.
+/// Returns the exit status: `DONE`; `REFUSED` if the framing does not carry the record; `FAULT` if
+/// a value is refused or a device failed; `NO_MEMORY` if memory ran out.
 pub fn send_text<W: Output, N: Output>(
     alloc: Global,
     options: &SendOptions<'_>,

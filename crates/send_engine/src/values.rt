@@ -1,4 +1,4 @@
-//! The values that the texts of the options name.
+//! The values that the texts of options stand for.
 
 ghost use Rattle.std.specs.Prelude.{◌≡◌, ◌<◌, ℤ, length, IfErr, IfOk, MatchOption, OnErr, Option, option_map};
 ghost use Rattle.std.specs.Option.{ForSome};
@@ -18,16 +18,24 @@ use syslog_frame::Framing;
 use syslog_sender::Sender;
 use syslog_value::{Facility, Instant, Mask, Priority, Severity, Word, WordFault};
 
-/// An option that takes some texts only.
+/// An option that takes only some texts.
 #[derive(Clone, Copy, Debug, PartialEq, Eq)]
 pub enum Restricted {
+    /// `--facility`: the short name of a facility.
     Facility,
+    /// `--severity` or `--up-to`: the short name of a severity.
     Severity,
+    /// `--host`: a word of at most 255 octets.
     Hostname,
+    /// `--app`: a word of at most 48 octets.
     AppName,
+    /// `--proc`: a word of at most 128 octets.
     ProcId,
+    /// `--msgid`: a word of at most 32 octets.
     MsgId,
+    /// `--micros`: microseconds from 1970-01-01T00:00:00Z, up to the end of the year 9999.
     Micros,
+    /// `--framing`: `counted` or `lf`.
     Framing,
 }
 
@@ -86,13 +94,18 @@ impl From<AllocError> for ValuesFault {
     }
 }
 
-/// What is sent but for the message, and by whom.
+/// What is sent, apart from the message, and by whom.
 #[derive(Debug, Drop)]
 pub struct Values {
+    /// The sender, under its mask.
     pub sender: Sender,
+    /// The severity of the record.
     pub severity: Severity,
+    /// The instant of the record, if it has one.
     pub instant: Option<Instant>,
+    /// MSGID of the record; None for NILVALUE.
     pub msg_id: Option<Word<32>>,
+    /// How the record is framed.
     pub framing: Framing,
 }
 
@@ -194,7 +207,7 @@ fn sender(alloc: Global, options: &SendOptions<'_>) -> Result<Sender, ValuesFaul
     Ok(sender)
 }
 
-/// Reads the texts of the options. Each is a value of its option, or none is read.
+/// Reads the texts of the options. It fails if one is no value of its option, or out of memory.
 pub fn read_values(alloc: Global, options: &SendOptions<'_>) -> Result<Values, ValuesFault>
     ensures ok { IfOk result (λ values. (v : OptionValues)
         × Name (texts_of options.now) v × IsMade (texts_of options.now) v values) }

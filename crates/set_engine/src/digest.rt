@@ -9,10 +9,10 @@ use driver::DONE;
 use octet_devices::{Input, Output};
 use std::alloc::Global;
 
-/// Reads an archive and writes a line for each period that has records, and a last one for the whole.
-/// Returns the exit status: `DONE`; `REFUSED` where the input is no archive; `FAULT` where a device
-/// failed or the input has no end; `NO_MEMORY` where memory ran out. A line says what was refused or
-/// failed, behind the lines of the periods that ended before that of the last entry.
+/// Reads an archive and writes a line for each period that has records, and a last one for the
+/// whole. Returns the exit status: `DONE`; `REFUSED` if the input is no archive; `FAULT` if a
+/// device failed or the input has no end; `NO_MEMORY` if memory ran out. A line says what was
+/// refused or failed, behind the lines of the periods that ended before that of the last entry.
 pub fn digest_archive<R: Input, W: Output, N: Output>(
     alloc: Global,
     period: Period,

@@ -46,8 +46,8 @@ fn words_on(
     Ok(line)
 }
 
-/// Reports what is wrong with an input, by words behind those on the input, and returns `FAULT`, or
-/// `NO_MEMORY` where memory runs out for the line.
+/// Reports what is wrong with an input, by words behind those that name the input, and returns
+/// `FAULT`, or `NO_MEMORY` if memory runs out for the line.
 pub fn report_on_input<N: Output>(
     alloc: Global,
     how: Combination,
@@ -151,11 +151,11 @@ fn join_by<K: Kept, R: Input, W: Output, N: Output>(
     }
 }
 
-/// Joins archives, and writes what is kept of their records, by who has them. Returns the exit status:
-/// `DONE`, of `Diff` `REFUSED` where the archives differ; where an input is no archive `REFUSED`, of
-/// `Diff` `FAULT`; `FAULT` where a device failed or an input has no end; `NO_MEMORY` where memory ran
-/// out. A line says what was refused or failed, and of which input: `left` or `right`, of `Union`
-/// `file` and its number from 1.
+/// Joins archives, and writes what is kept of their records, depending on who has them. Returns the
+/// exit status: `DONE`, but for `Diff` `REFUSED` if the archives differ; if an input is no archive,
+/// `REFUSED`, but for `Diff` `FAULT`; `FAULT` if a device failed or an input has no end;
+/// `NO_MEMORY` if memory ran out. A line says what was refused or failed, and for which input:
+/// `left` or `right`, or for `Union` `file` and its number from 1.
 pub fn join_archives<R: Input, W: Output, N: Output>(
     alloc: Global,
     how: Combination,

@@ -1,6 +1,6 @@
-//! What the commands on archives as sets do, over any devices: [`join_archives`] joins archives by who
-//! has a record, [`select_archive`] writes the archive of the records of one that meet a condition,
-//! [`digest_archive`] the digests of its periods.
+//! What the commands on archives as sets do, over any devices: [`join_archives`] joins archives
+//! depending on who has a record, [`select_archive`] writes the archive of the records of one that
+//! meet a condition, and [`digest_archive`] the digests of its periods.
 #![tactic(auto)]
 
 mod combination;

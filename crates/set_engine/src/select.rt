@@ -30,8 +30,8 @@ pub fn report_select_fault<N: Output>(alloc: Global, fault: SelectFault, diagnos
 }
 
 /// Reads an archive and writes the archive of its records that meet the condition. Returns the exit
-/// status: `DONE`; `REFUSED` where the input is no archive; `FAULT` where a device failed or the input
-/// has no end; `NO_MEMORY` where memory ran out. A line says what was refused or failed, behind what
+/// status: `DONE`; `REFUSED` if the input is no archive; `FAULT` if a device failed or the input
+/// has no end; `NO_MEMORY` if memory ran out. A line says what was refused or failed, behind what
 /// is selected of the entries before it.
 pub fn select_archive<C: Condition, R: Input, W: Output, N: Output>(
     alloc: Global,

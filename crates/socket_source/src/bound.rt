@@ -22,7 +22,7 @@ pub(crate) enum Bound {
         socket: TcpListener,
         framing: Framing,
     },
-    /// Datagrams. Their peers have addresses, but not at a path.
+    /// Datagrams. Their peers have addresses, unless the socket is at a path.
     Datagrams {
         socket: UdpSocket,
         addressed: bool,
@@ -43,8 +43,8 @@ fn datagrams(socket: OwnedFd, addressed: bool) -> Bound {
     }
 }
 
-/// Finds a fault where a descriptor that was handed over is not what is asked for. Afterwards calls of
-/// it do not wait.
+/// Refuses a descriptor that was handed over if it is not what is asked for. Afterwards its calls
+/// do not wait.
 pub(crate) fn check_inherited(fd: RawFd, inherited: Inherited) -> io::Result<()> {
     let is_fit = match inherited {
         Inherited::Udp => !takes_connections(fd)?,
@@ -77,7 +77,7 @@ fn inherited_streams(owned: OwnedFd, framing: Framing) -> io::Result<Bound> {
     Ok(Bound::Streams { socket, framing })
 }
 
-/// Binds a listener's socket. An inherited one is this descriptor.
+/// Binds a listener's socket. An inherited one is the descriptor with this number.
 pub(crate) fn bind(rt: &impl Files, listener: Listener<'_>, inherited: u16) -> io::Result<Bound> {
     match listener {
         Listener::Udp(addr) => Ok(datagrams(bind_datagrams(addr)?, true)),
@@ -119,7 +119,7 @@ impl Bound {
         }
     }
 
-    /// Asks for so many octets of room for datagrams that have come.
+    /// Asks for `octets` octets of room for datagrams that have come and wait.
     pub(crate) fn set_receive_buffer(&self, octets: u32) -> io::Result<()> {
         match self {
             Bound::Streams { .. } => Ok(()),

@@ -14,8 +14,8 @@ use std::io::Read;
 use std::os::fd::{AsRawFd, RawFd};
 use std::time::{Duration, Instant};
 
-/// Connections under numbers below a limit. A number is found in constant time, and is given again
-/// only once its connection was closed. Room for all is taken at the beginning.
+/// Connections under numbers below a limit. A number is found in constant time, and given again
+/// only once its connection was closed. Room for all is allocated at the beginning.
 #[derive(Drop)]
 pub(crate) struct Connections {
     pub(crate) streams: Slab<TcpStream>,
@@ -38,7 +38,8 @@ fn read_stream(mut stream: &TcpStream, buf: &mut [u8]) -> Reading
 }
 
 impl Connections {
-    /// None is open.
+    /// No open connections, and room for as many as the limit says. It fails only when out of
+    /// memory.
     pub(crate) fn new(alloc: Global, limit: usize, now: Instant) -> Result<Connections, AllocError>
         ensures none { IfOk result (λ all. (n : ℕ) → open_in all.streams n ≡ false) }
         ensures limit { limit ≤ 16384 → IfOk result (λ all. all.limit ≡ limit) }
@@ -63,8 +64,8 @@ impl Connections {
         None
     }
 
-    /// Keeps a connection, and has the system report it under its number behind `first`. None where
-    /// there is no room for it: it is closed then.
+    /// Keeps a connection, and has the system report it under its number behind `first`. None if
+    /// there is no room for it: then it is closed.
     pub(crate) fn keep(
         &mut self,
         registry: &Registry,
@@ -119,7 +120,7 @@ impl Connections {
         let _closed = self.streams.try_remove(conn as usize);
     }
 
-    /// The first connection from a number on that has given nothing for so long.
+    /// The first connection, from a number on, that has given nothing for so long.
     pub(crate) fn find_idle(&self, from: usize, now: Instant, idle: Duration) -> Option<u32>
         ensures { IfSome result (λ conn. open_in self.now.streams conn ≡ true) }
     {

@@ -5,7 +5,7 @@ ghost use Rattle.socket_source.specs.Steps.{counted, counts_of, no_steps};
 use crate::step::ServerStep;
 
 /// How many steps a source gave, how many of them said that it failed, and how many that nothing
-/// more comes. Each number stays at its last value.
+/// more comes. A count that reaches `u64::MAX` stays there.
 #[derive(Clone, Copy)]
 pub(crate) struct StepCounts {
     pub(crate) steps: u64,

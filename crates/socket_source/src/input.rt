@@ -10,7 +10,7 @@ use std::io;
 /// What a look at standard input says.
 #[derive(Clone, Copy)]
 pub(crate) enum InputTurn {
-    /// Octets came, which are dropped.
+    /// Octets came, which are dropped, or a signal came first: there may be more.
     Some,
     /// Nothing is there until the system reports it.
     Dry,
@@ -18,7 +18,7 @@ pub(crate) enum InputTurn {
     Ended,
 }
 
-/// Has the system report standard input under a number. An error where it cannot be waited for, as a
+/// Has the system report standard input under a number. An error if it cannot be waited for, as a
 /// file or /dev/null.
 pub(crate) fn watch_input(registry: &Registry, number: usize) -> io::Result<()> {
     registry.register(
@@ -28,29 +28,35 @@ pub(crate) fn watch_input(registry: &Registry, number: usize) -> io::Result<()> 
     )
 }
 
-// Whether a read of standard input would not wait.
-fn is_readable() -> bool {
+// Whether a read of standard input would not wait; none where a signal came first.
+fn is_readable() -> Option<bool> {
     let mut asked = [pollfd {
         fd: STDIN_FILENO,
         events: POLLIN,
         revents: 0,
     }];
     let count = poll(&mut asked, 0);
-    count > 0
+    if count < 0 { None } else { Some(count > 0) }
 }
 
-/// Reads standard input once, if that does not wait. Other processes may have it too, so it stays a
-/// descriptor whose reads wait.
+/// Reads standard input once, if that does not wait. Other processes may have it open too, so it is
+/// not made non-blocking.
 pub(crate) fn read_input(buf: &mut [u8]) -> InputTurn {
-    if !is_readable() {
-        return InputTurn::Dry;
+    match is_readable() {
+        Some(true) => {}
+        Some(false) => return InputTurn::Dry,
+        None => return InputTurn::Some,
     }
     let count = read(STDIN_FILENO, buf);
     if count > 0 {
         return InputTurn::Some;
     }
-    if count < 0 && (os::errno() == EAGAIN || os::errno() == EINTR) {
-        return InputTurn::Dry;
+    if count == 0 {
+        return InputTurn::Ended;
     }
-    InputTurn::Ended
+    match os::errno() {
+        EAGAIN => InputTurn::Dry,
+        EINTR => InputTurn::Some,
+        _ => InputTurn::Ended,
+    }
 }

@@ -1,8 +1,9 @@
 //! Many sockets as one source of steps, for a server that runs for weeks.
 //!
 //! A [`ServerSource`] gives steps: a connection opens under a number, octets come on it, it ends; a
-//! datagram comes; a period of time is up. A number names one connection at a time. [`SocketSource`]
-//! is over the sockets of the system, in one loop without threads; [`MemorySource`] is over a list.
+//! datagram comes; a period of time is up. A number names one connection at a time.
+//! [`SocketSource`] has the sockets of the system, in one loop without threads; [`MemorySource`]
+//! has a list.
 #![tactic(auto)]
 
 mod bound;

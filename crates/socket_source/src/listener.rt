@@ -13,8 +13,8 @@ pub enum Inherited {
     Lf,
 }
 
-/// A socket that a server listens on. An IPv6 socket is for IPv6 alone; at port 0 the system chooses
-/// one ([`SocketSource::local_addr`](crate::SocketSource::local_addr) tells which).
+/// A socket that a server listens on. An IPv6 socket is for IPv6 alone. With port 0 the system
+/// chooses a port ([`SocketSource::local_addr`](crate::SocketSource::local_addr) tells which).
 #[derive(Clone, Copy, Debug, PartialEq, Eq)]
 pub enum Listener<'a> {
     /// Datagrams to an address.
@@ -23,9 +23,9 @@ pub enum Listener<'a> {
     Counted(SocketAddr),
     /// Connections to an address, whose streams are lines.
     Lf(SocketAddr),
-    /// Datagrams to a socket at a path. A socket there that nobody has open is removed first.
+    /// Datagrams to a socket at a path. If a socket is there that nobody has open, it is removed first.
     Unix(&'a str),
-    /// A descriptor that was handed over. The first of a list is descriptor 3, and the others follow
-    /// in the order of the list.
+    /// A descriptor that was handed over. The first one in a list is descriptor 3; the others
+    /// follow in the order of the list.
     Inherited(Inherited),
 }

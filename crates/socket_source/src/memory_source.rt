@@ -11,9 +11,9 @@ use crate::source::ServerSource;
 use crate::step::{ServerStep, SourceFault};
 use std::alloc::{AllocError, Global};
 
-/// A source in memory: the steps of a list, in order, and then the end again and again. A step that
-/// may not come, as a piece of a number that is not open, is passed over; so what is listed of a
-/// connection that was closed is.
+/// A source in memory: it gives the steps of a list, in order, and then the end again and again. A
+/// step that may not come, as a piece under a number that is not open, is passed over; so is what
+/// is listed of a connection that was closed.
 #[derive(Drop)]
 pub struct MemorySource {
     steps: Vec<(ServerStep, Vec<u8>)>,
@@ -132,9 +132,10 @@ fn apply(flags: &mut [bool], listeners: usize, step: ServerStep)
 }
 
 impl MemorySource {
-    /// A source that gives these steps, over so many listeners, with as many connections open as the
-    /// limit says: 1 to `CONNECTIONS_MAX`, a number outside is taken for the nearest. Of a piece and
-    /// of a datagram the octets count, and not the number in the step.
+    /// A source that gives these steps, over `listeners` listeners, with at most as many open
+    /// connections as the limit says: from 1 to `CONNECTIONS_MAX`; a number outside is taken for
+    /// the nearest of these. Of a piece or a datagram, the octets count, not the number in the
+    /// step. It fails only when out of memory.
     pub fn new(
         alloc: Global,
         limit: usize,

@@ -7,13 +7,13 @@ use thiserror::Error;
 /// Why a server's sockets were not opened.
 #[derive(Debug, Drop, Error)]
 pub enum OpenFault {
-    /// One of the listeners cannot be opened: that with this place in the list, from 0.
+    /// One of the listeners cannot be opened: the one at this place in the list, from 0.
     #[error("listener {listener}: {cause}")]
     Listener { listener: usize, cause: io::Error },
     /// Standard input cannot be waited for, as a file or /dev/null.
-    #[error("standard input cannot be waited for: {0}")]
+    #[error("cannot wait for standard input: {0}")]
     Input(io::Error),
-    /// The system gives no descriptor for waiting, or no time.
+    /// The system gives no descriptor to wait on, or no time.
     #[error("{0}")]
     System(io::Error),
     /// An allocation failed.

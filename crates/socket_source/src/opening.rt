@@ -14,8 +14,8 @@ use std::rt::Files;
 // the first descriptor that a service manager hands over
 const FIRST_INHERITED: u16 = 3;
 
-/// Finds a fault where a descriptor that was handed over is not what is asked for. It has to run
-/// before anything is opened, which could take its place.
+/// Refuses a descriptor that was handed over if it is not what is asked for. This comes before
+/// anything is opened, which could take its place.
 pub(crate) fn check_descriptors(listeners: &[Listener<'_>]) -> Result<(), OpenFault>
     ensures { (waits : Bool) → IfErr result (IsFaultOf (length listeners.now) waits) }
 {

@@ -10,13 +10,13 @@ use std::collections::VecDeque;
 /// The number of standard input.
 pub(crate) const INPUT_NUMBER: usize = 0;
 
-/// The number of a listener by its place. The connections' numbers follow those of the listeners.
+/// The number of a listener, by its place. The numbers of connections follow those of the listeners.
 pub(crate) fn listener_number(listener: usize) -> usize {
     listener.saturating_add(1)
 }
 
-/// Numbers of sockets, each at most once, in the order in which they were put. Room for all is taken
-/// at the beginning.
+/// Numbers of sockets, each at most once, in the order in which they were put. Room for all is
+/// allocated at the beginning.
 #[derive(Drop)]
 pub(crate) struct ReadyQueue {
     waiting: VecDeque<usize>,
@@ -25,7 +25,8 @@ pub(crate) struct ReadyQueue {
 }
 
 impl ReadyQueue {
-    /// No number waits. There is room for those below `count`.
+    /// A queue in which no number waits, with room for those below `count`. It fails only when out
+    /// of memory.
     pub(crate) fn new(alloc: Global, count: usize) -> Result<ReadyQueue, AllocError>
         ensures empty { IfOk result (λ ready. ready.waiting.items ≡ []) }
         ensures room { IfOk result (λ ready. vec_len ready.queued ≡ count) }

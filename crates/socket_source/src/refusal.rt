@@ -4,13 +4,31 @@ ghost use Rattle.std.specs.IoError.{raw_os_error};
 ghost use Rattle.socket_source.specs.Refusals.{reading_as, refusal_at, retry_after};
 
 use crate::step::ConnectionEnd;
-use libc::{EAGAIN, EINTR, EMFILE, ENOMEM};
+use libc::{EAGAIN, ECONNABORTED, ECONNREFUSED, EINTR, EMFILE, ENOMEM};
 use std::io;
 
 // errors of Linux for which libc has no name here
+const EPERM: i32 = 1;
+
 const ENFILE: i32 = 23;
 
+const ENONET: i32 = 64;
+
+const EPROTO: i32 = 71;
+
+const ENOPROTOOPT: i32 = 92;
+
+const EOPNOTSUPP: i32 = 95;
+
+const ENETDOWN: i32 = 100;
+
+const ENETUNREACH: i32 = 101;
+
 const ENOBUFS: i32 = 105;
+
+const EHOSTDOWN: i32 = 112;
+
+const EHOSTUNREACH: i32 = 113;
 
 /// Why the system refused a call of a socket.
 #[derive(Clone, Copy)]
@@ -19,8 +37,12 @@ pub(crate) enum Refusal {
     Dry,
     /// A signal came first (EINTR).
     Interrupted,
-    /// No descriptor or no memory is left (EMFILE, ENFILE, ENOBUFS, ENOMEM).
+    /// The system has no descriptor or no memory left (EMFILE, ENFILE, ENOBUFS, ENOMEM).
     Exhausted,
+    /// The one connection or datagram that was next has an error of its own, as ECONNABORTED, and is
+    /// gone: what the manual of Linux names for accept(2) (EPERM, ENONET, EPROTO, ENOPROTOOPT,
+    /// EOPNOTSUPP, ENETDOWN, ENETUNREACH, EHOSTDOWN, EHOSTUNREACH), and ECONNREFUSED.
+    Lost,
     /// Any other error.
     Broken,
 }
@@ -33,11 +55,13 @@ pub(crate) fn refusal_of(error: &io::Error) -> Refusal
         Some(EAGAIN) => Refusal::Dry,
         Some(EINTR) => Refusal::Interrupted,
         Some(EMFILE | ENFILE | ENOBUFS | ENOMEM) => Refusal::Exhausted,
+        Some(EPERM | ENONET | EPROTO | ENOPROTOOPT | EOPNOTSUPP | ENETDOWN) => Refusal::Lost,
+        Some(ENETUNREACH | ECONNABORTED | ECONNREFUSED | EHOSTDOWN | EHOSTUNREACH) => Refusal::Lost,
         _ => Refusal::Broken,
     }
 }
 
-/// What a read of a connection says.
+/// What a read of a connection tells.
 #[derive(Clone, Copy)]
 pub(crate) enum Reading {
     /// So many octets came.
@@ -46,12 +70,12 @@ pub(crate) enum Reading {
     Ended(ConnectionEnd),
     /// Nothing is there until the system reports the socket.
     Dry,
-    /// The read is to be made again.
+    /// The read has to be made again.
     Again,
 }
 
-/// What a read into a slice that is not empty says. Every error is the connection's own: a reset is
-/// one as any other, and none is the server's.
+/// What a read into a slice that is not empty tells. Every error is the connection's own, a reset
+/// like any other; none is the server's.
 pub(crate) fn reading_of(answer: Result<usize, Refusal>) -> Reading
     ensures { result ≡ reading_as answer }
 {
@@ -60,7 +84,9 @@ pub(crate) fn reading_of(answer: Result<usize, Refusal>) -> Reading
         Ok(len) => Reading::Piece(len),
         Err(Refusal::Dry) => Reading::Dry,
         Err(Refusal::Interrupted) => Reading::Again,
-        Err(Refusal::Exhausted | Refusal::Broken) => Reading::Ended(ConnectionEnd::Reset),
+        Err(Refusal::Exhausted | Refusal::Lost | Refusal::Broken) => {
+            Reading::Ended(ConnectionEnd::Reset)
+        }
     }
 }
 
@@ -81,7 +107,7 @@ pub(crate) fn retry_of(refusal: Refusal) -> Retry
 {
     match refusal {
         Refusal::Dry => Retry::Reported,
-        Refusal::Interrupted => Retry::Now,
+        Refusal::Interrupted | Refusal::Lost => Retry::Now,
         Refusal::Exhausted | Refusal::Broken => Retry::Later,
     }
 }

@@ -15,10 +15,10 @@ use std::alloc::Global;
 use std::net::{Net, SocketAddr};
 use std::rt::{Clock, Files};
 
-/// The sockets of the system as one source of steps, in one loop without threads: one read a ready
-/// socket a turn, so that none waits for another.
+/// The sockets of the system as one source of steps, in one loop without threads: in each turn one
+/// ready socket is read once, so that none waits for another.
 ///
-/// A connection's error ends that connection alone. A listener stays whatever its calls answer: where
+/// A connection's error ends that connection alone. A listener stays, whatever its calls answer: if
 /// the system has no descriptor left, it is tried again when a connection ends, and with each tick.
 /// While nothing comes, the process sleeps.
 #[derive(Drop)]
@@ -28,8 +28,9 @@ pub struct SocketSource<'a, R> {
 }
 
 impl<'a, R: Net + Files + Clock> SocketSource<'a, R> {
-    /// Opens the sockets of all listeners, in their order. Inherited descriptors are looked at before
-    /// anything is opened; so this is called before files are.
+    /// Opens the sockets of all listeners, in their order. Inherited descriptors are checked before
+    /// anything is opened; so call this before files are opened. It fails as the variants of
+    /// [`OpenFault`] say.
     pub fn open(
         rt: &'a R,
         alloc: Global,
@@ -50,7 +51,7 @@ impl<'a, R: Net + Files + Clock> SocketSource<'a, R> {
         }
     }
 
-    /// The address of a listener, by its place in the list. One at a path has none.
+    /// The address of a listener, by its place in the list. A listener at a path has none.
     pub fn local_addr(&self, listener: usize) -> Option<SocketAddr>
         ensures { (⟦<SocketSource<'a, R> as ServerSource>⟧.state self.now).standing.listeners ≤ listener
             → result ≡ None }

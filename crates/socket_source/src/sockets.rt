@@ -34,6 +34,9 @@ const PERIOD_MIN_MILLIS: u64 = 1;
 // for how long what waits in the sockets is read once standard input has ended, in seconds
 const DRAIN_SECONDS: u64 = 10;
 
+// how often silent connections are looked for, in seconds
+const SWEEP_SECONDS: u64 = 1;
+
 // What is known of standard input.
 #[derive(Clone, Copy)]
 enum InputState {
@@ -62,7 +65,8 @@ pub(crate) struct Sockets<'a, R> {
     period: Duration,
     ticked: Instant,
     idle: Option<Duration>,
-    // the first number that was not looked at since the last tick
+    // when silent connections were last looked for, and the first number that was not looked at since
+    sweeping_since: Instant,
     swept: usize,
     input: InputState,
 }
@@ -104,7 +108,6 @@ impl<'a, R: Clock> Sockets<'a, R> {
         ensures { IsLawful (standing self.old) (standing self.new) 0 result }
     {
         self.ticked = now;
-        self.swept = 0;
         self.retry_listeners();
         ServerStep::Tick
     }
@@ -128,11 +131,22 @@ impl<'a, R: Clock> Sockets<'a, R> {
         ServerStep::Ended { conn, end }
     }
 
-    // Ends a connection that has given nothing for too long, once for each tick.
+    // Begins to look for silent connections again, where it is time.
+    fn sweep(&mut self, now: Instant)
+        ensures { standing self.new ≡ standing self.old }
+    {
+        if now.duration_since(self.sweeping_since) >= Duration::from_secs(SWEEP_SECONDS) {
+            self.sweeping_since = now;
+            self.swept = 0;
+        }
+    }
+
+    // Ends a connection that has given nothing for too long.
     fn end_idle(&mut self, now: Instant) -> Option<ServerStep>
         ensures { IfLawful (standing self.old) (standing self.new) 0 result }
     {
         let idle = self.idle?;
+        self.sweep(now);
         match self.connections.find_idle(self.swept, now, idle) {
             Some(conn) => {
                 self.swept = conn as usize + 1;
@@ -145,12 +159,26 @@ impl<'a, R: Clock> Sockets<'a, R> {
         }
     }
 
+    // Ends a connection that is still open, or finishes where none is.
+    fn finish(&mut self, now: Instant) -> ServerStep
+        ensures { IsLawful (standing self.old) (standing self.new) 0 result }
+    {
+        match self.connections.find_idle(0, now, Duration::ZERO) {
+            Some(conn) => self.end(conn, ConnectionEnd::Closed),
+            None => ServerStep::Finished,
+        }
+    }
+
     // How long the system may be waited for.
     fn patience(&self, now: Instant) -> Duration {
         if self.ready.len() > 0 || !matches!(self.input, InputState::Open) {
             return Duration::ZERO;
         }
-        self.period.saturating_sub(now.duration_since(self.ticked))
+        let tick = self.period.saturating_sub(now.duration_since(self.ticked));
+        match self.idle {
+            Some(_) => tick.min(Duration::from_secs(SWEEP_SECONDS)),
+            None => tick,
+        }
     }
 
     // Asks the system which sockets are ready, and puts them behind those that were. It waits where
@@ -358,7 +386,7 @@ impl<'a, R: Clock> Sockets<'a, R> {
         };
         if self.is_drained(now) {
             self.input = InputState::Drained;
-            return Some(ServerStep::Finished);
+            return Some(self.finish(now));
         }
         if now.duration_since(self.ticked) >= self.period {
             return Some(self.tick(now));
@@ -440,6 +468,7 @@ impl<'a, R: Net + Files + Clock> Sockets<'a, R> {
             spare: spare_descriptor(),
             period: options.period.max(Duration::from_millis(PERIOD_MIN_MILLIS)),
             ticked: now,
+            sweeping_since: now,
             idle: options.idle,
             swept: limit,
             input: InputState::Open,

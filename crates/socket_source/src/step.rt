@@ -6,11 +6,11 @@ use syslog_frame::Framing;
 /// How a connection ended.
 #[derive(Clone, Copy, Debug, PartialEq, Eq)]
 pub enum ConnectionEnd {
-    /// The peer ended it: all that it sent has come.
+    /// The peer ended it, and all that it sent has come; or the source is about to finish.
     Closed,
     /// It was reset, or its socket failed.
     Reset,
-    /// Nothing came on it for as long as is waited for, and it was closed.
+    /// Nothing came on it for as long as it may be idle, so it was closed.
     Idle,
 }
 
@@ -30,15 +30,15 @@ pub enum SourceFault {
 /// What a server's source gives next.
 #[derive(Clone, Copy, Debug, PartialEq, Eq)]
 pub enum ServerStep {
-    /// A connection was opened, under a number that no open connection has. The listener is the
-    /// one with that place in the list, from 0.
+    /// A connection was opened, under a number that no open connection has. The listener is the one
+    /// at that place in the list, from 0.
     Opened {
         conn: u32,
         listener: usize,
         framing: Framing,
         peer: SocketAddr,
     },
-    /// So many octets came on an open connection.
+    /// `len` octets came on an open connection.
     Piece {
         conn: u32,
         len: usize,
@@ -48,13 +48,13 @@ pub enum ServerStep {
         conn: u32,
         end: ConnectionEnd,
     },
-    /// A datagram of so many octets came to a listener. A peer at a Unix socket has no address.
+    /// A datagram of `len` octets came to a listener. A peer at a Unix socket has no address.
     Datagram {
         listener: usize,
         peer: Option<SocketAddr>,
         len: usize,
     },
-    /// A connection came that there was no room for: it was closed at once.
+    /// A connection came for which there was no room: it was closed at once.
     TurnedAway {
         listener: usize,
         framing: Framing,
@@ -62,9 +62,9 @@ pub enum ServerStep {
     },
     /// The time of a period is up.
     Tick,
-    /// Standard input has ended. What waits in the sockets still comes.
+    /// Standard input has ended. What waits in the sockets may still come.
     InputEnded,
-    /// Standard input has ended, and nothing waits in the sockets.
+    /// Standard input has ended, each connection was ended, and nothing more is waited for.
     Finished,
     /// The source failed.
     Failed(SourceFault),

@@ -20,7 +20,7 @@ const V6_LEN: u32 = 28;
 /// The octets of an address as the system reads it.
 pub(crate) type RawAddress = [u8; c::_SS_SIZE];
 
-/// The error of the call that has just answered this, if it is negative.
+/// The error of the call that has just given this answer, if it is negative.
 pub(crate) fn check(status: i32) -> io::Result<()>
     ensures { IsOk result ↔ (pos 0 ≤ℤ status) }
 {
@@ -76,7 +76,7 @@ fn encode(addr: SocketAddr) -> (RawAddress, u32)
     }
 }
 
-/// Takes a descriptor that the system has just given, or its error.
+/// Takes a descriptor that the system has just given, or its error if it is negative.
 pub(crate) fn owned(fd: RawFd) -> io::Result<OwnedFd> {
     check(fd)?;
     Ok(unsafe { OwnedFd::from_raw_fd(fd) })
@@ -111,8 +111,8 @@ fn set_keep_alive(socket: &OwnedFd) -> io::Result<()> {
     check(unsafe { c::setsockopt(fd, c::SOL_SOCKET, c::SO_KEEPALIVE, &on, 4) })
 }
 
-/// Asks for so many octets of room for what has come to a socket. The system gives at most what
-/// net.core.rmem_max says.
+/// Asks for `octets` octets of room for what has come to a socket and waits. The system gives at
+/// most net.core.rmem_max.
 pub(crate) fn set_receive_buffer(fd: RawFd, octets: u32) -> io::Result<()> {
     let value = option_value(octets.min(i32::MAX as u32) as i32);
     check(unsafe { c::setsockopt(fd, c::SOL_SOCKET, c::SO_RCVBUF, &value, 4) })
@@ -169,8 +169,8 @@ pub(crate) fn listen_at(addr: SocketAddr) -> io::Result<OwnedFd> {
 // Linux's error for a call that this kind of socket does not have
 const EOPNOTSUPP: i32 = 95;
 
-/// Whether a descriptor is a socket that takes connections, which it then does; else it is one for
-/// datagrams. An error where it is no socket.
+/// Whether a descriptor is a socket that takes connections, which it then does; otherwise it is one
+/// for datagrams. An error if it is no socket.
 pub(crate) fn takes_connections(fd: RawFd) -> io::Result<bool> {
     match check(c::listen(fd, BACKLOG)) {
         Ok(()) => Ok(true),
@@ -182,8 +182,8 @@ pub(crate) fn takes_connections(fd: RawFd) -> io::Result<bool> {
 // how many descriptors stay for files that are opened later, at most
 const FILES_KEPT: u64 = 32;
 
-/// The first descriptor that no connection is to have: those from it on stay for files. The system
-/// gives the lowest one that is free.
+/// The first descriptor that no connection may have: those from it on stay free for files. The
+/// system gives the lowest one that is free.
 pub(crate) fn first_kept_descriptor() -> RawFd {
     let mut limit = rlimit {
         rlim_cur: 0,
@@ -196,7 +196,7 @@ pub(crate) fn first_kept_descriptor() -> RawFd {
     limit.rlim_cur.saturating_sub(kept).min(i32::MAX as u64) as i32
 }
 
-/// A descriptor that holds a place: where none is left, it can be closed to have one.
+/// A descriptor that holds a place: when none is left, it can be closed to have one.
 pub(crate) fn spare_descriptor() -> Option<OwnedFd> {
     owned(c::eventfd(0, c::EFD_CLOEXEC)).ok()
 }

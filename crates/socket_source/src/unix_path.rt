@@ -5,12 +5,15 @@ ghost use Rattle.mio.specs.SockAddr as raw;
 use crate::system::{RawAddress, check, owned, put};
 use libc::{ECONNREFUSED, ENOENT, net as c};
 use std::os::fd::{AsRawFd, OwnedFd};
-use std::os::unix::fs::FileTypeExt;
+use std::os::unix::fs::{FileTypeExt, PermissionsExt};
 use std::rt::Files;
 use std::{fs, io};
 
 // the most octets of a path; one that is 0 follows it
 const PATH_MAX: usize = 107;
+
+// the mode of a socket to which everybody may send
+const EVERYBODY_WRITES: u32 = 0o666;
 
 // Linux's error for a socket of another kind
 const EPROTOTYPE: i32 = 91;
@@ -76,12 +79,13 @@ pub(crate) fn send_to_path(path: &str, octets: &[u8]) -> io::Result<()> {
     Ok(())
 }
 
-/// A socket for datagrams to a path, whose calls do not wait. A socket there that nobody has open is
-/// removed first.
+/// A socket for datagrams to a path, whose calls do not wait. If a socket is there that nobody has
+/// open, it is removed first. Everybody on the machine may send to it, as to /dev/log.
 pub(crate) fn bind_path(rt: &impl Files, path: &str) -> io::Result<OwnedFd> {
     let (address, len) = encode(path)?;
     remove_stale(rt, path)?;
     let socket = datagram_socket()?;
     check(unsafe { c::bind(socket.as_raw_fd(), &address, len) })?;
+    fs::set_permissions(rt, path, fs::Permissions::from_mode(EVERYBODY_WRITES))?;
     Ok(socket)
 }

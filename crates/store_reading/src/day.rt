@@ -17,7 +17,8 @@ const UNDATED_LEN: usize = 7;
 
 const UNDATED: [u8; DATE_LEN] = *b"undated---";
 
-/// A day in UTC, as segments are named by it: a date, or `undated` for the records without a time.
+/// A day in UTC, after which segments are named: a date, or `undated` for the records without a
+/// time.
 #[derive(Debug, Drop)]
 pub struct Day {
     text: [u8; DATE_LEN],
@@ -36,7 +37,7 @@ impl Model for Day {
 }
 
 impl Day {
-    /// The day of no instant.
+    /// The day of records without a time, `undated`.
     pub fn undated() -> Day
         ensures { result ≡ codes "undated" }
     {
@@ -46,7 +47,7 @@ impl Day {
         }
     }
 
-    /// The day of this name, if it is one of a date.
+    /// The day with this name, if it is that of a date.
     pub(crate) fn dated(name: &[u8]) -> Option<Day>
         ensures some { IfSome result (λ day. day ≡ name.now) }
         ensures none { IfNone result (length name.now ≢ DATE_LEN) }
@@ -62,7 +63,7 @@ impl Day {
         })
     }
 
-    /// The day of an instant, or that of none.
+    /// The day of an instant, or `undated` for None.
     pub fn of(instant: Option<Instant>) -> Day
         ensures { IsPeriodOf day_Period instant result }
     {
@@ -88,7 +89,7 @@ impl Day {
         &self.text[..self.len]
     }
 
-    /// Whether it is another.
+    /// Whether the other day is the same.
     pub fn is(&self, other: &Day) -> bool
         ensures { IsTrue result ↔ (self.now ≡ other.now) }
     {

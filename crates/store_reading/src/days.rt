@@ -28,7 +28,7 @@ fn behind_of<'a>(text: &'a [u8], day: &Day) -> Option<&'a [u8]>
     }
 }
 
-/// How many octets the entries of a day have at the beginning of an archive's text.
+/// How many octets the entries of a day take at the beginning of an archive's text.
 pub(crate) fn day_len(text: &[u8], day: &Day) -> usize
     ensures within { result ≤ length text.now }
     ensures parts { PartsAt day.now text.now result }
@@ -88,8 +88,9 @@ fn with_name(name: &[u8], last: Option<&Day>, next: Option<Day>) -> Option<Day>
     }
 }
 
-// The next day of a segment behind the last one.
-fn next_segment_day(names: &[FileName], last: Option<&Day>) -> Option<Day>
+/// The next day behind the last one among the segments with these names, or the first if there is
+/// no last one.
+pub fn next_segment_day(names: &[FileName], last: Option<&Day>) -> Option<Day>
     ensures { IsNextSegment (option_map (λ d. d.now) last.entry) names.now result }
 {
     let mut next = None;
@@ -99,8 +100,8 @@ fn next_segment_day(names: &[FileName], last: Option<&Day>) -> Option<Day>
     next
 }
 
-/// The next day behind the last one, of those of segments and that of the first entry of an archive's
-/// text.
+/// The next day behind the last one, among those of segments and that of the first entry of an
+/// archive's text.
 pub(crate) fn next_day(names: &[FileName], text: &[u8], last: Option<&Day>) -> Option<Day>
     ensures { IsNextDay (option_map (λ d. d.now) last.entry) names.now text.now result }
 {

@@ -6,13 +6,13 @@ use disk::{DiskFault, FileName};
 use std::alloc::{AllocError, AllocFailed};
 use thiserror::Error;
 
-/// What is wrong with the octets of a file. Positions count from its first octet.
+/// What is wrong with the octets of a file. Positions count octets from its start.
 #[derive(Clone, Copy, Debug, PartialEq, Eq, Error)]
 pub enum FileFault {
-    /// A segment is no archive, or a batch of a journal no sequence of entries.
+    /// A segment is no archive, or a batch of a journal is no sequence of entries.
     #[error("{0}")]
     Archive(ArchiveFault),
-    /// An entry of a segment is of another day; `at` is its first digit.
+    /// An entry of a segment is of another day; `at` is the position of its first digit.
     #[error("another day at {at}")]
     OtherDay { at: u64 },
 }
@@ -29,11 +29,11 @@ pub enum ReadFault {
     /// A file is damaged.
     #[error("a file: {fault}")]
     Damaged { name: FileName, fault: FileFault },
-    /// A file failed as it was read.
+    /// Reading a file failed.
     #[error("a file: {fault}")]
     Read { name: FileName, fault: InputFault },
-    /// Files were gone each time that they were listed.
-    #[error("files are gone as soon as they are listed")]
+    /// Files came and went every time the names were listed.
+    #[error("files came and went while they were listed")]
     Gone,
     /// There are more days than `DAYS_MAX`.
     #[error("too many days")]
@@ -68,11 +68,14 @@ impl<T: Drop> From<AllocFailed<T>> for ReadFault {
     }
 }
 
-/// Why a file is not what it should be.
+/// Why a file is not what it should be, or could not be read.
 #[derive(Clone, Copy, Debug, PartialEq, Eq)]
-pub(crate) enum CheckFault {
+pub enum CheckFault {
+    /// It is damaged.
     Damaged(FileFault),
+    /// Reading it failed, or it gave no end.
     Input(InputFault),
+    /// An allocation failed.
     Memory,
 }
 
@@ -101,8 +104,8 @@ impl From<EntriesFault> for CheckFault {
 }
 
 impl CheckFault {
-    /// The fault of the file of a name.
-    pub(crate) fn of(self, name: FileName) -> ReadFault {
+    /// The fault for the file with this name.
+    pub fn of(self, name: FileName) -> ReadFault {
         match self {
             CheckFault::Damaged(fault) => ReadFault::Damaged { name, fault },
             CheckFault::Input(fault) => ReadFault::Read { name, fault },

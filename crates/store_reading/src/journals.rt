@@ -12,6 +12,7 @@ ghost use Rattle.store_reading.specs.Sources.{set_entries};
 
 use crate::fault::{CheckFault, FileFault, ReadFault};
 use crate::folder::Folder;
+use crate::listing::{LISTINGS, list};
 use crate::names::is_journal;
 use crate::segment::open_file;
 use archive_pages::PagedArchive;
@@ -28,9 +29,6 @@ const JOURNAL_MAX: usize = 1 << 40;
 
 // the octets before those of a batch
 const HEAD: usize = 5;
-
-// how often the names are listed
-pub(crate) const LISTINGS: usize = 64;
 
 // Adds an entry to a set.
 fn add_entry(alloc: Global, set: &mut PagedArchive, entry: &EntryView<'_>) -> Result<(), CheckFault>
@@ -86,8 +84,9 @@ fn add_batch(
     Ok(())
 }
 
-// The first batch, and what is behind it.
-fn first_batch(octets: &[u8]) -> Option<(&[u8], &[u8])>
+/// The first batch of a journal's octets, and what is behind it; None if no batch there is open and
+/// whole.
+pub fn first_batch(octets: &[u8]) -> Option<(&[u8], &[u8])>
     ensures some { IfSome result (λ r. IsBody r.0.now
         × (octets.now ≡ open_batch r.0.now ++ r.1.now)) }
     ensures none { IfNone result (IsClosed octets.now) }
@@ -110,8 +109,11 @@ fn add_batches(alloc: Global, set: &mut PagedArchive, file: &[u8]) -> Result<(),
     Ok(())
 }
 
-// Reads a journal.
-fn read_octets<R: Input>(alloc: Global, reader: &mut R) -> Result<Vec<u8>, CheckFault>
+/// Reads a journal.
+///
+/// # Errors
+/// The reader failed, gave no end, or gave more than 2^40 octets; or lack of memory.
+pub fn read_octets<R: Input>(alloc: Global, reader: &mut R) -> Result<Vec<u8>, CheckFault>
     ensures { IfOk result (λ v. GivesAll (R.state reader.old) (R.state reader.new) v.items) }
 {
     match read_all(alloc, reader, JOURNAL_MAX) {
@@ -180,18 +182,6 @@ fn add_journals<F: Folder>(
     Ok(())
 }
 
-/// The names of a folder's files.
-pub(crate) fn list<F: Folder>(alloc: Global, folder: &mut F) -> Result<Vec<FileName>, ReadFault>
-    ensures names { F.tells folder.new → IfOk result (λ v. AreNamesOf (F.files folder.old) v.items) }
-    ensures same { F.tells folder.new → F.files folder.new ≡ F.files folder.old }
-    ensures told { F.tells folder.new → F.tells folder.old }
-{
-    match folder.names(alloc) {
-        Ok(names) => Ok(names),
-        Err(fault) => Err(ReadFault::Folder { fault }),
-    }
-}
-
 // The text of a set.
 fn set_text(alloc: Global, set: &PagedArchive) -> Result<Vec<u8>, ReadFault>
     ensures text { IfOk result (λ v. v.items ≡ text_of (set_entries set.now)) }
@@ -204,8 +194,8 @@ fn set_text(alloc: Global, set: &PagedArchive) -> Result<Vec<u8>, ReadFault>
     }
 }
 
-/// The archive of the entries that a folder's journals have. Where one is gone that was listed, the
-/// names are listed again: a checkpoint has made segments of it.
+/// The archive of the entries in a folder's journals. If one is gone that was listed, the names are
+/// listed again: a checkpoint has made segments of it.
 pub(crate) fn read_journals<F: Folder>(alloc: Global, folder: &mut F) -> Result<Vec<u8>, ReadFault>
     ensures journals { F.tells folder.new → IfOk result (λ v. IsOfJournals (F.files folder.old) v.items) }
     ensures same { F.tells folder.new → F.files folder.new ≡ F.files folder.old }

@@ -7,8 +7,7 @@ ghost use Rattle.store_reading.specs.Sets.{IsSetOf, WritesSet};
 
 use archive_sets::InRange;
 
-/// Two folders that hold the same records give the same octets, whatever their journals and segments
-/// are.
+/// Two folders that hold the same records give the same octets, whatever their journals and segments.
 pub fn equal_sets_give_equal_octets(range: InRange)
     ensures set { (files other : Files) (es fs : List Entry)
         → ((e : Entry) → Held files e ↔ Held other e)

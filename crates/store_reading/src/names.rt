@@ -38,8 +38,8 @@ fn named_day(name: &[u8]) -> Option<Day>
     Day::dated(name)
 }
 
-/// The day of the segment that has this name.
-pub(crate) fn segment_day(name: &[u8]) -> Option<Day>
+/// The day of the segment with this name, if it is one of a segment.
+pub fn segment_day(name: &[u8]) -> Option<Day>
     ensures some { IfSome result (λ day. IsDayText day × IsSegment day name.now) }
     ensures only { (day : List ℕ) → IsDayText day → IsSegment day name.now → result ≡ Some day }
 {
@@ -72,8 +72,8 @@ fn journal_number(name: &[u8]) -> Option<u64>
     Some(number)
 }
 
-/// Whether a journal has this name.
-pub(crate) fn is_journal(name: &[u8]) -> bool
+/// Whether this is the name of a journal.
+pub fn is_journal(name: &[u8]) -> bool
     ensures { IsTrue result ↔ IsJournal name.now }
 {
     match journal_number(name) {

@@ -1,4 +1,4 @@
-//! The union of archives, of which a range of time is written.
+//! The union of archives, of which only a range of time is written.
 
 ghost use Rattle.store_reading.specs.Ranges.{text_in};
 
@@ -7,7 +7,7 @@ use archive_sets::{Condition, InRange};
 use archive_text::{EntryView, put_entry};
 use octet_devices::{BufferedOutput, Output, WriteFault};
 
-/// The records of a range of time that any of the archives has.
+/// The records in a range of time that any of the archives has.
 #[derive(Clone, Copy, Debug, PartialEq, Eq)]
 pub(crate) struct OfRange {
     pub(crate) range: InRange,

@@ -8,15 +8,15 @@ ghost use Rattle.store_reading.specs.Sources.{source_state};
 use crate::day::Day;
 use crate::fault::ReadFault;
 use crate::folder::Folder;
-use crate::journals::{LISTINGS, list};
+use crate::listing::{LISTINGS, list};
 use crate::names::segment_day;
 use crate::segment::open_segment;
 use crate::source::Source;
 use disk::FileName;
 use std::alloc::Global;
 
-/// Whether a name is that of a segment of a day.
-pub(crate) fn is_segment_of(name: &[u8], day: &Day) -> bool
+/// Whether a name is that of a segment of this day.
+pub fn is_segment_of(name: &[u8], day: &Day) -> bool
     ensures { IsTrue result ↔ IsSegment day.now name.now }
 {
     let text = day.as_octets();
@@ -48,8 +48,12 @@ fn open_named<F: Folder>(
     Ok(())
 }
 
-// The segments of a day that are among these names.
-fn open_all<'a, F: Folder>(
+/// Opens the segments of a day that are among these names, once each has been read to its end: it
+/// is an archive of entries of the day.
+///
+/// # Errors
+/// The first fault that is met, and for which file; `Gone` if one is gone that was listed.
+pub fn open_segments<'a, F: Folder>(
     alloc: Global,
     folder: &mut F,
     names: &[FileName],
@@ -67,8 +71,8 @@ fn open_all<'a, F: Folder>(
     Ok(inputs)
 }
 
-/// The segments of a day. Where one is gone that was listed, the names are listed again: a compaction
-/// has joined the day's segments.
+/// Opens the segments of a day. If one is gone that was listed, the names are listed again: a
+/// compaction has joined the day's segments.
 pub(crate) fn open_day<'a, F: Folder>(
     alloc: Global,
     folder: &mut F,
@@ -83,7 +87,7 @@ pub(crate) fn open_day<'a, F: Folder>(
     ensures told { F.tells folder.new → F.tells folder.old }
 {
     'listings: for _ in 0..LISTINGS {
-        match open_all(alloc, folder, names, day) {
+        match open_segments(alloc, folder, names, day) {
             Err(ReadFault::Gone) => *names = list(alloc, folder)?,
             opened => return opened,
         }

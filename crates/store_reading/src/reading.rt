@@ -9,7 +9,8 @@ use crate::day::Day;
 use crate::days::{day_len, is_outside, next_day};
 use crate::fault::{CheckFault, FileFault, ReadFault};
 use crate::folder::Folder;
-use crate::journals::{list, read_journals};
+use crate::journals::read_journals;
+use crate::listing::list;
 use crate::of_range::OfRange;
 use crate::opening::{is_segment_of, open_day};
 use crate::source::Source;
@@ -20,7 +21,7 @@ use disk::FileName;
 use octet_devices::{FromRead, Output};
 use std::alloc::Global;
 
-/// The most days of a folder that is read: those of the years 0 to 9999, and some.
+/// The most days of a folder that is read: more than those of the years 0 to 9999.
 pub const DAYS_MAX: usize = 4_000_000;
 
 // The fault of the input of this number, which is that of a segment of the day.
@@ -46,8 +47,8 @@ fn fault_at(
     ReadFault::Gone
 }
 
-// Why the segments of a day were not joined.
-fn join_fault(alloc: Global, names: &[FileName], day: &Day, fault: JoinFault) -> ReadFault {
+/// Why the segments of a day among these names were not joined, from the fault of joining them.
+pub fn join_fault(alloc: Global, names: &[FileName], day: &Day, fault: JoinFault) -> ReadFault {
     match fault {
         JoinFault::Archive { input, fault } => fault_at(
             alloc,
@@ -162,14 +163,15 @@ fn read_days<F: Folder, W: Output>(
     Err(ReadFault::TooManyDays)
 }
 
-/// Writes the archive of the records that a folder holds, of a range of time.
+/// Writes the archive of the records in a range of time that a folder holds.
 ///
-/// The journals are read first, into memory; then the segments, day by day, each of them once to see
-/// that it is an archive of entries of its day, and once as it is joined. Days that have no instant in
-/// the range are not opened. Where a file is gone that was listed, the names are listed again.
+/// The journals are read first, into memory; then the segments, day by day, each once to see that
+/// it is an archive of entries of its day, and once as it is joined. Days that have no instant in
+/// the range are not opened. If a file is gone that was listed, the names are listed again.
 ///
 /// # Errors
-/// The first fault that is met, and at which file. What was written then is a prefix of the archive.
+/// The first fault that is met, and for which file. What was written by then is a prefix of the
+/// archive.
 pub fn read<F: Folder, W: Output>(
     alloc: Global,
     folder: &mut F,

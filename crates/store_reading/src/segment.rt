@@ -18,7 +18,7 @@ fn text_len(octets: &[u8]) -> u64 {
     (octets.len() as u64).saturating_add(count.saturating_add(1))
 }
 
-/// Reads a segment to its end: it is an archive, and all of its entries are of the day.
+/// Reads a segment to its end: it must be an archive whose entries are all of this day.
 pub(crate) fn check_segment<R: Input>(
     alloc: Global,
     day: &Day,
@@ -39,7 +39,10 @@ pub(crate) fn check_segment<R: Input>(
 }
 
 /// Opens a file.
-pub(crate) fn open_file<F: Folder>(
+///
+/// # Errors
+/// `Gone` if there is none, lack of memory, or the folder's fault.
+pub fn open_file<F: Folder>(
     alloc: Global,
     folder: &mut F,
     name: &FileName,
@@ -60,7 +63,8 @@ pub(crate) fn open_file<F: Folder>(
     }
 }
 
-/// Opens a segment of a day, once it was read to its end: it is an archive of entries of the day.
+/// Opens a segment of a day, once it has been read to its end: it is an archive of entries of the
+/// day.
 pub(crate) fn open_segment<F: Folder>(
     alloc: Global,
     folder: &mut F,

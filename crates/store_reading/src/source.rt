@@ -6,8 +6,10 @@ use octet_devices::{DeviceFault, FromRead, Input};
 
 /// A file, or octets in memory.
 #[derive(Drop)]
-pub(crate) enum Source<'a, R> {
+pub enum Source<'a, R> {
+    /// A file.
     File(R),
+    /// Octets in memory.
     Octets(FromRead<&'a [u8]>),
 }
 

@@ -33,12 +33,13 @@ const ALL: InRange = InRange {
     undated: false,
 };
 
-// The files of a disk, opened whole. So many are gone at first; the one that is opened as that of a
-// number fails when so many octets of it were read.
+// The files of a disk, opened whole. So many are gone at first; so many listings miss a name each; the
+// file that is opened as that of a number fails when so many octets of it were read.
 #[derive(Drop)]
 struct View {
     disk: MemoryDisk,
     gone: u64,
+    missed: usize,
     opened: u64,
     failing: u64,
     octets: u64,
@@ -56,7 +57,12 @@ impl Folder for View {
     ghost has_failed = { λ _. Unit {0} };
 
     fn names(&mut self, alloc: Global) -> Result<Vec<FileName>, DiskFault> {
-        self.disk.names(alloc)
+        let mut names = self.disk.names(alloc)?;
+        if 0 < self.missed && self.missed <= names.len() {
+            drop(names.swap_remove(self.missed - 1));
+        }
+        self.missed = self.missed.saturating_sub(1);
+        Ok(names)
     }
 
     fn open(&mut self, alloc: Global, name: &FileName) -> Result<Self::File, DiskFault> {
@@ -90,6 +96,7 @@ fn make_view(disk: MemoryDisk) -> View {
     View {
         disk,
         gone: 0,
+        missed: 0,
         opened: 0,
         failing: u64::MAX,
         octets: 0,
@@ -200,6 +207,17 @@ fn files_that_are_gone_are_listed_again(rt: HostRuntime) -> Result<(), Fail> {
     let (answer, text) = written(alloc, &mut view, ALL)?;
     assert!(rt; matches!(&answer, Err(ReadFault::Gone)));
     assert!(rt; text.is_empty());
+    Ok(())
+}
+
+#[test]
+fn files_that_a_listing_misses_are_read(rt: HostRuntime) -> Result<(), Fail> {
+    let alloc = rt.alloc();
+    let mut view = make_view(stored(alloc)?);
+    view.missed = 5;
+    let (answer, text) = written(alloc, &mut view, ALL)?;
+    assert!(rt; answer.is_ok());
+    assert!(rt; text == joined(alloc, &[A, B, C, D])?);
     Ok(())
 }
 

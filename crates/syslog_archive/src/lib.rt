@@ -1,10 +1,10 @@
 //! Archives: finite sets of records, each as one text. Two archives of equal sets are equal octets,
 //! and merging is set union.
 //!
-//! A [`Store`] is a set of records: [`VecArchive`] keeps its entries as one vector,
+//! A [`Store`] is a set of records: [`VecArchive`] keeps its entries in one vector,
 //! [`PagedArchive`] in pages for millions of records. [`merge_streams`] joins two archives as they
-//! are read, with room for three entries; [`join_streams`] joins many, by what is [`Kept`] of a record
-//! that some have and others have not; [`select_stream`] selects from one, and [`digest_stream`]
+//! are read, with room for three entries; [`join_streams`] joins many, by what is [`Kept`] of a
+//! record that some have and others lack; [`select_stream`] selects from one, and [`digest_stream`]
 //! digests its periods. [`merging_is_union`] and its fellows are the laws.
 #![tactic(auto)]
 

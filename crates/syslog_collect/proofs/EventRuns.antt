@@ -74,49 +74,52 @@ with_empty_piece c (s ∷ ss) =
     ]
 
 pub logged_found : (way : FrameReading) (c n : ℕ) (x y : Connection) (ls : List Connection)
-    (kept now first : List Entry)
+    (past kept now first : List Entry)
     (es : List AcceptedEvent) (o : List ℕ) (l m : List Outcome)
     → place_from c 0 ls ≡ Some n → x ≡ get_or ls n x
     → ((s : Stream) (d : List (List ℕ)) → IsAt x s d → Logs way x y kept now o l m s d)
-    → Stands way ls kept first es → Stands way (set_at ls n y) now first (es ++ nonempty_piece c o)
-logged_found way c n x y ls kept now first es [] l m is item logs was =
+    → Stands way ls (past ++ kept) first es
+    → Stands way (set_at ls n y) (past ++ now) first (es ++ nonempty_piece c o)
+logged_found way c n x y ls past kept now first es [] l m is item logs was =
     let h = history_of es in
-    let next = moved way c n x y ls kept now first h [] (drop (length l) m) (found_here c n x ls is item)
+    let next = moved way c n x y ls past kept now first h [] (drop (length l) m) (found_here c n x ls is item)
     (λ s d at. on_of way x y kept now [] l m s d at (logs s d at)) was.stands_at in
     let same : accept h (Piece c []) ≡ h = ap (λ (ss : List Stream). let g : History =
     record { streams = ss; ended = h.ended; datagrams = h.datagrams } in g) (with_empty_piece c h.streams) in
     rw append-nil (record {
       acceptable = was.acceptable;
       stands_at =
-          subst (λ (g : History). StandsAt way (set_at ls n y) now first g) same next;
+          subst (λ (g : History). StandsAt way (set_at ls n y) (past ++ now) first g) same next;
     })
-logged_found way c n x y ls kept now first es (z ∷ zs) l m is item logs was =
+logged_found way c n x y ls past kept now first es (z ∷ zs) l m is item logs was =
     let h = history_of es in
     let at = found_here c n x ls is item in
     let there = opening_at c n x ls h.streams was.stands_at.handled was.stands_at.follow at in
-    step way ls (set_at ls n y) kept now first es (Piece c (z ∷ zs)) was
+    step way ls (set_at ls n y) (past ++ kept) (past ++ now) first es (Piece c (z ∷ zs)) was
     (rw there.is (may_of way x y kept now z zs l m there.opening there.handled
     (logs there.opening there.handled there.at)))
-    (moved way c n x y ls kept now first h (z ∷ zs) (drop (length l) m) at
+    (moved way c n x y ls past kept now first h (z ∷ zs) (drop (length l) m) at
     (λ s d a. on_of way x y kept now (z ∷ zs) l m s d a (logs s d a)) was.stands_at)
 
 -- a piece of the connection that was found, as far as it went
-pub piece_found : (way : FrameReading) (c n : ℕ) (x y : Connection) (ls : List Connection) (kept now first : List Entry)
+pub piece_found : (way : FrameReading) (c n : ℕ) (x y : Connection) (ls : List Connection)
+    (past kept now first : List Entry)
     (es : List AcceptedEvent) (o : List ℕ) (r : EventEnd) (l m : List Outcome)
     → place_from c 0 ls ≡ Some n → x ≡ get_or ls n x
     → ((s : Stream) (d : List (List ℕ)) → IsAt x s d → Logs way x y kept now (piece_octets o r) l m s d)
     → ((s : Stream) (d : List (List ℕ)) → IsAt x s d → IfDone r (LogsAdvance way x y kept now o l m s d))
-    → Stands way ls kept first es → Stands way (set_at ls n y) now first (es ++ accepted_piece_end c o r)
-piece_found way c n x y ls kept now first es o end_Done l m is item logs accepted was =
-    advance_step way c n x y ls kept now first es o (drop (length l) m) (found_here c n x ls is item)
+    → Stands way ls (past ++ kept) first es
+    → Stands way (set_at ls n y) (past ++ now) first (es ++ accepted_piece_end c o r)
+piece_found way c n x y ls past kept now first es o end_Done l m is item logs accepted was =
+    advance_step way c n x y ls past kept now first es o (drop (length l) m) (found_here c n x ls is item)
     (λ s d at. adv s d (accepted s d at)) was
   where
     adv : (s : Stream) (d : List (List ℕ)) → LogsAdvance way x y kept now o l m s d
         → Advances way x y kept now o (drop (length l) m) s d
     adv s d (os, log, moves) = subst (λ (u : List Outcome). Advances way x y kept now o u s d) (grown l m os log)
         moves
-piece_found way c n x y ls kept now first es o (end_Stopped k fault) l m is item logs accepted was =
-    logged_found way c n x y ls kept now first es (take k o) l m is item logs was
+piece_found way c n x y ls past kept now first es o (end_Stopped k fault) l m is item logs accepted was =
+    logged_found way c n x y ls past kept now first es (take k o) l m is item logs was
 
 -- ---- events
 

@@ -173,32 +173,32 @@ become_ordered c x y cs ds ls e b f all d =
     b.at d ∙ ap (λ (m : Option Connection). cond (eqb c d) (Some y) m) (all d)
     ∙ sym (connection_set c f.place x y ls e (found_here c f.place x ls f.is f.item) d)
 
-pub advanced : (way : FrameReading) (c : ℕ) (x y : Connection) (cs ds : Connections) (kept now first : List Entry)
-    (es : List AcceptedEvent) (accepted : Option (List ℕ)) (outcomes : List Outcome)
+pub advanced : (way : FrameReading) (c : ℕ) (x y : Connection) (cs ds : Connections)
+    (past kept now first : List Entry) (es : List AcceptedEvent) (accepted : Option (List ℕ)) (outcomes : List Outcome)
     → connection_in cs c ≡ Some x → y.number ≡ x.number → Becomes cs ds c y
     → ((s : Stream) (d : List (List ℕ)) → IsAt x s d → AdvancesBy way accepted x y kept now outcomes s d)
-    → Stands way cs kept first es → Stands way ds now first (es ++ accepted_piece c accepted)
-advanced way c x y cs ds kept now first es accepted outcomes is e b moves was =
+    → Stands way cs (past ++ kept) first es → Stands way ds (past ++ now) first (es ++ accepted_piece c accepted)
+advanced way c x y cs ds past kept now first es accepted outcomes is e b moves was =
     let o = was.stands_at in
-    let f = found_in way c x cs kept first es is was in
-    by_number way ds (set_at o.order f.place y) now first (es ++ accepted_piece c accepted)
+    let f = found_in way c x cs (past ++ kept) first es is was in
+    by_number way ds (set_at o.order f.place y) (past ++ now) first (es ++ accepted_piece c accepted)
     (become_ordered c x y cs ds o.order e b f o.all) (b.count ∙ o.count ∙ sym (length-set o.order f.place y))
-    (steps.advance_found way c f.place x y o.order kept now first es accepted outcomes f.is f.item moves
-    (in_order way cs kept first es was))
+    (steps.advance_found way c f.place x y o.order past kept now first es accepted outcomes f.is f.item moves
+    (in_order way cs (past ++ kept) first es was))
 
-pub piece_taken : (way : FrameReading) (c : ℕ) (x y : Connection) (cs ds : Connections) (kept now first : List Entry)
-    (es : List AcceptedEvent) (o : List ℕ) (r : EventEnd) (l m : List Outcome)
+pub piece_taken : (way : FrameReading) (c : ℕ) (x y : Connection) (cs ds : Connections)
+    (past kept now first : List Entry) (es : List AcceptedEvent) (o : List ℕ) (r : EventEnd) (l m : List Outcome)
     → connection_in cs c ≡ Some x → y.number ≡ x.number → Becomes cs ds c y
     → ((s : Stream) (d : List (List ℕ)) → IsAt x s d → Logs way x y kept now (piece_octets o r) l m s d)
     → ((s : Stream) (d : List (List ℕ)) → IsAt x s d → IfDone r (LogsAdvance way x y kept now o l m s d))
-    → Stands way cs kept first es → Stands way ds now first (es ++ accepted_piece_end c o r)
-piece_taken way c x y cs ds kept now first es o r l m is e b logs accepted was =
+    → Stands way cs (past ++ kept) first es → Stands way ds (past ++ now) first (es ++ accepted_piece_end c o r)
+piece_taken way c x y cs ds past kept now first es o r l m is e b logs accepted was =
     let at = was.stands_at in
-    let f = found_in way c x cs kept first es is was in
-    by_number way ds (set_at at.order f.place y) now first (es ++ accepted_piece_end c o r)
+    let f = found_in way c x cs (past ++ kept) first es is was in
+    by_number way ds (set_at at.order f.place y) (past ++ now) first (es ++ accepted_piece_end c o r)
     (become_ordered c x y cs ds at.order e b f at.all) (b.count ∙ at.count ∙ sym (length-set at.order f.place y))
-    (events.piece_found way c f.place x y at.order kept now first es o r l m f.is f.item logs accepted
-    (in_order way cs kept first es was))
+    (events.piece_found way c f.place x y at.order past kept now first es o r l m f.is f.item logs accepted
+    (in_order way cs (past ++ kept) first es was))
 
 -- where a connection is what it was, so are all
 pub keeps_all : (c : ℕ) (x y : Connection) (cs ds : Connections) → connection_in cs c ≡ Some x → Becomes cs ds c y
@@ -301,19 +301,19 @@ waits_at : (way : FrameReading) (c : ℕ) (cs : Connections) (kept first : List 
     → (was : Stands way cs kept first es) → waiting_in was.stands_at.order c ≡ waiting cs c
 waits_at way c cs kept first es was = sym (waits_in_order cs was.stands_at.order was.stands_at.all c)
 
-pub reports : (way : FrameReading) (c : ℕ) (x y : Connection) (cs : Connections) (kept now first : List Entry)
+pub reports : (way : FrameReading) (c : ℕ) (x y : Connection) (cs : Connections) (past kept now first : List Entry)
     (es : List AcceptedEvent) (piece : List ℕ) (r : Result Advance CollectFault) → connection_in cs c ≡ Some x
     → ((s : Stream) (d : List (List ℕ)) → IsAt x s d
     → AdvancesBy way (accepted_octets piece r) x y kept now (answered r) s d)
-    → OnOk r (¬ (HasReady y.scanner)) → Stands way cs kept first es
+    → OnOk r (¬ (HasReady y.scanner)) → Stands way cs (past ++ kept) first es
     → IfOk r (λ a. Reports way c (used_octets piece a) (history_of es) (waiting cs c) kept now
     (outcomes_of a.outcome))
-reports way c x y cs kept now first es piece r is moves quiet was =
-    let f = found_in way c x cs kept first es is was in
+reports way c x y cs past kept now first es piece r is moves quiet was =
+    let f = found_in way c x cs (past ++ kept) first es is was in
     subst (λ (w : ℕ). IfOk r (λ a. Reports way c (used_octets piece a) (history_of es) w kept now
-    (outcomes_of a.outcome))) (waits_at way c cs kept first es was)
-    (logging.reports_found way c f.place x y was.stands_at.order kept now first es piece r f.is f.item moves quiet
-    (in_order way cs kept first es was))
+    (outcomes_of a.outcome))) (waits_at way c cs (past ++ kept) first es was)
+    (logging.reports_found way c f.place x y was.stands_at.order past kept now first es piece r f.is f.item moves quiet
+    (in_order way cs (past ++ kept) first es was))
 
 pub taken_of : (way : FrameReading) (c : ℕ) (x : Connection) (cs : Connections) (kept first : List Entry)
     (es : List AcceptedEvent) (piece : List ℕ) (r : Result Advance CollectFault) → connection_in cs c ≡ Some x
@@ -327,16 +327,16 @@ taken_of way c x cs kept first es piece r is taken was =
     (taking.taken_found way c f.place x was.stands_at.order kept first es piece r f.is f.item taken
     (in_order way cs kept first es was))
 
-pub piece_logged : (way : FrameReading) (c : ℕ) (x y : Connection) (cs ds : Connections) (kept now first : List Entry)
+pub piece_logged : (way : FrameReading) (c : ℕ) (x y : Connection) (cs ds : Connections) (past kept now first : List Entry)
     (es : List AcceptedEvent) (o : List ℕ) (r : EventEnd) (l m : List Outcome)
     → connection_in cs c ≡ Some x → y.number ≡ x.number → Becomes cs ds c y
     → ((s : Stream) (d : List (List ℕ)) → IsAt x s d → Logs way x y kept now (piece_octets o r) l m s d)
     → ((s : Stream) (d : List (List ℕ)) → IsAt x s d → IfDone r (LogsAdvance way x y kept now o l m s d))
-    → IfDone r (¬ (HasReady y.scanner)) → Stands way cs kept first es
+    → IfDone r (¬ (HasReady y.scanner)) → Stands way cs (past ++ kept) first es
     → Grows (LogsPiece way (history_of es) (waiting cs) (waiting ds) c o r kept now) l m
-piece_logged way c x y cs ds kept now first es o r l m is e b logs accepted quiet was =
+piece_logged way c x y cs ds past kept now first es o r l m is e b logs accepted quiet was =
     let at = was.stands_at in
-    let f = found_in way c x cs kept first es is was in
+    let f = found_in way c x cs (past ++ kept) first es is was in
     let w : (d : ℕ) → waiting_in at.order d ≡ waiting cs d = λ d. sym (waits_in_order cs at.order at.all d) in
     let v : (d : ℕ) → waiting_in (set_at at.order f.place y) d ≡ waiting ds d = λ d.
     sym (waits_in_order ds (set_at at.order f.place y) (become_ordered c x y cs ds at.order e b f at.all) d) in
@@ -344,25 +344,25 @@ piece_logged way c x y cs ds kept now first es o r l m is e b logs accepted quie
     let vs : waiting_in (set_at at.order f.place y) ≡ waiting ds = λ i d. v d i in
     subst (λ (u : ℕ → ℕ). Grows (LogsPiece way (history_of es) u (waiting ds) c o r kept now) l m) ws
     (subst (λ (u : ℕ → ℕ). Grows (LogsPiece way (history_of es) (waiting_in at.order) u c o r kept now) l m) vs
-    (logging.piece_logged way c f.place x y at.order kept now first es o r l m f.is f.item logs accepted quiet
-    (in_order way cs kept first es was)))
+    (logging.piece_logged way c f.place x y at.order past kept now first es o r l m f.is f.item logs accepted quiet
+    (in_order way cs (past ++ kept) first es was)))
 
 pub piece_refused : (way : FrameReading) (c : ℕ) (x y : Connection) (cs ds : Connections)
-    (kept now first : List Entry) (es : List AcceptedEvent) (o : List ℕ) (r : EventEnd) (l m : List Outcome)
+    (past kept now first : List Entry) (es : List AcceptedEvent) (o : List ℕ) (r : EventEnd) (l m : List Outcome)
     → connection_in cs c ≡ Some x → y.number ≡ x.number → Becomes cs ds c y
     → ((s : Stream) (d : List (List ℕ)) → IsAt x s d → Logs way x y kept now (piece_octets o r) l m s d)
     → ((s : Stream) (d : List (List ℕ)) → IsAt x s d
     → IfStopped r (λ taken fault. StopsPiece way o taken (ready_count y.scanner.phase) fault s))
-    → Stands way cs kept first es
+    → Stands way cs (past ++ kept) first es
     → IfStopped r (λ taken fault. StopsPieceAt way c o taken (waiting ds c) fault (history_of es))
-piece_refused way c x y cs ds kept now first es o r l m is e b logs cause was =
+piece_refused way c x y cs ds past kept now first es o r l m is e b logs cause was =
     let at = was.stands_at in
-    let f = found_in way c x cs kept first es is was in
+    let f = found_in way c x cs (past ++ kept) first es is was in
     let v : waiting_in (set_at at.order f.place y) c ≡ waiting ds c =
     sym (waits_in_order ds (set_at at.order f.place y) (become_ordered c x y cs ds at.order e b f at.all) c) in
     subst (λ (k : ℕ). IfStopped r (λ taken fault. StopsPieceAt way c o taken k fault (history_of es))) v
-    (stopping.piece_refused way c f.place x y at.order kept now first es o r l m f.is f.item logs cause
-    (in_order way cs kept first es was))
+    (stopping.piece_refused way c f.place x y at.order past kept now first es o r l m f.is f.item logs cause
+    (in_order way cs (past ++ kept) first es was))
 
 -- ---- openings and ends
 
@@ -434,11 +434,12 @@ frame_waits way c x cs kept first es is ready was =
     ap ready_in is ∙ ready_some x.scanner.phase (steps.ready_frame way c f.place x was.stands_at.order kept first es
     f.is f.item ready (in_order way cs kept first es was))
 
-pub datagram_handled : {E : Type 0} (way : FrameReading) (cs : Connections) (kept now first : List Entry)
+pub datagram_handled : {E : Type 0} (way : FrameReading) (cs : Connections) (past kept now first : List Entry)
     (es : List AcceptedEvent) (octets : List ℕ) (r : Result Outcome E) → IfOk r (λ o. IsOutcome way kept now octets o)
-    → OnErr r (now ≡ kept) → Stands way cs kept first es
-    → Stands way cs now first (es ++ accepted_datagram octets r)
-datagram_handled way cs kept now first es octets r out same was =
+    → OnErr r (now ≡ kept) → Stands way cs (past ++ kept) first es
+    → Stands way cs (past ++ now) first (es ++ accepted_datagram octets r)
+datagram_handled way cs past kept now first es octets r out same was =
     let o = was.stands_at in
-    by_number way cs o.order now first (es ++ accepted_datagram octets r) o.all o.count
-    (steps.datagram_answer way o.order kept now first es octets r out same (in_order way cs kept first es was))
+    by_number way cs o.order (past ++ now) first (es ++ accepted_datagram octets r) o.all o.count
+    (steps.datagram_answer way o.order past kept now first es octets r out same
+    (in_order way cs (past ++ kept) first es was))

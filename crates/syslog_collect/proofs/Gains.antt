@@ -194,6 +194,27 @@ gains_reported way old new fs (o ∷ os) (here, later, mid, is, one, rest) =
     (gains_then way old mid new here later (gains_one way old mid here o one)
     (gains_reported way mid new later os rest))
 
+-- with entries that are kept elsewhere
+pub gains_behind : (way : FrameReading) (past kept now : List Entry) (fs : List (List ℕ)) → Gains way kept now fs
+    → Gains way (past ++ kept) (past ++ now) fs
+gains_behind way [] kept now fs g x = g x
+gains_behind way (z ∷ past) kept now fs g x =
+    let later = gains_behind way past kept now fs g x in (
+      λ h. elim h [
+        | inl here ↦ inl (inl here)
+        | inr there ↦ elim (later.0 there) [ inl a ↦ inl (inr a) | inr b ↦ inr b ]
+      ],
+      λ h. elim h [
+        | inl a ↦ elim a [ inl here ↦ inl here | inr there ↦ inr (later.1 (inl there)) ]
+        | inr b ↦ inr (later.1 (inr b))
+      ],
+    )
+
+-- in other lists with the same entries
+pub gains_members : (way : FrameReading) (first kept now : List Entry) (fs : List (List ℕ))
+    → ((x : Entry) → Has kept x ↔ Has now x) → Gains way first kept fs → Gains way first now fs
+gains_members way first kept now fs same g x = (λ h. (g x).0 ((same x).1 h), λ h. (same x).0 ((g x).1 h))
+
 -- lists of lists, one after the other
 pub all_of-append : (fs gs : List (List (List ℕ))) → all_of (fs ++ gs) ≡ all_of fs ++ all_of gs
 all_of-append [] gs = refl

@@ -67,22 +67,22 @@ logs_there way c n x y ls a b o os s d here at moves =
 
 -- after an advance that answers Ok, its outcome is that of the frame that waited, or of the next
 pub reports_found : (way : FrameReading) (c n : ℕ) (x y : Connection) (ls : List Connection)
-    (kept now first : List Entry)
+    (past kept now first : List Entry)
     (es : List AcceptedEvent) (piece : List ℕ) (r : Result Advance CollectFault)
     → place_from c 0 ls ≡ Some n → x ≡ get_or ls n x
     → ((s : Stream) (d : List (List ℕ)) → IsAt x s d
     → AdvancesBy way (accepted_octets piece r) x y kept now (answered r) s d)
-    → OnOk r (¬ (HasReady y.scanner)) → Stands way ls kept first es
+    → OnOk r (¬ (HasReady y.scanner)) → Stands way ls (past ++ kept) first es
     → IfOk r (λ a. Reports way c (used_octets piece a) (history_of es) (waiting ls c) kept now
     (outcomes_of a.outcome))
-reports_found way c n x y ls kept now first es piece (Ok a) is item moves quiet was =
+reports_found way c n x y ls past kept now first es piece (Ok a) is item moves quiet was =
     let here = found_here c n x ls is item in
     let there = opening_at c n x ls (history_of es).streams was.stands_at.handled was.stands_at.follow here in
     let logs = logs_there way c n x y ls kept now (used_octets piece a) (outcomes_of a.outcome) there.opening
     there.handled here there.at (moves there.opening there.handled there.at) in
     rw there.is (subst (λ (k : ℕ). LogsOctets way there.opening (used_octets piece a) (waiting ls c) k kept now
     (outcomes_of a.outcome)) (ready_none y.scanner.phase (λ f. quiet (inl f))) logs)
-reports_found way c n x y ls kept now first es piece (Err fault) is item moves quiet was = tt
+reports_found way c n x y ls past kept now first es piece (Err fault) is item moves quiet was = tt
 
 -- ---- a piece
 
@@ -91,15 +91,15 @@ same_number : (way : FrameReading) (x y : Connection) (a b : List Entry) (o : Li
 same_number way x y a b o os s d at moves = moves.now_at.number ∙ sym at.number
 
 pub piece_logged : (way : FrameReading) (c n : ℕ) (x y : Connection) (ls : List Connection)
-    (kept now first : List Entry)
+    (past kept now first : List Entry)
     (es : List AcceptedEvent) (o : List ℕ) (r : EventEnd) (l m : List Outcome)
     → place_from c 0 ls ≡ Some n → x ≡ get_or ls n x
     → ((s : Stream) (d : List (List ℕ)) → IsAt x s d → Logs way x y kept now (piece_octets o r) l m s d)
     → ((s : Stream) (d : List (List ℕ)) → IsAt x s d → IfDone r (LogsAdvance way x y kept now o l m s d))
     → IfDone r (¬ (HasReady y.scanner))
-    → Stands way ls kept first es → Grows (LogsPiece way (history_of es) (waiting ls) (waiting (set_at ls n y)) c o
+    → Stands way ls (past ++ kept) first es → Grows (LogsPiece way (history_of es) (waiting ls) (waiting (set_at ls n y)) c o
     r kept now) l m
-piece_logged way c n x y ls kept now first es o end_Done l m is item logs accepted quiet was =
+piece_logged way c n x y ls past kept now first es o end_Done l m is item logs accepted quiet was =
     let here = found_here c n x ls is item in
     let there = opening_at c n x ls (history_of es).streams was.stands_at.handled was.stands_at.follow here in
     let done = accepted there.opening there.handled there.at in
@@ -113,7 +113,7 @@ piece_logged way c n x y ls kept now first es o end_Done l m is item logs accept
             here none,
       ),
     )
-piece_logged way c n x y ls kept now first es o (end_Stopped k fault) l m is item logs accepted quiet was =
+piece_logged way c n x y ls past kept now first es o (end_Stopped k fault) l m is item logs accepted quiet was =
     let here = found_here c n x ls is item in
     let there = opening_at c n x ls (history_of es).streams was.stands_at.handled was.stands_at.follow here in
     let part = logs there.opening there.handled there.at in (

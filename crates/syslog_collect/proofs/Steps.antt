@@ -21,7 +21,7 @@ use Rattle.syslog_collect.specs.declared.fault.CollectFault.TheVariants.{StreamT
 use Rattle.syslog_collect.specs.declared.fault.CollectFault.TheVariants.{Memory}
 use Rattle.syslog_collect.specs.declared.limits.TheConstants.{CONNECTIONS_LIMIT}
 use Rattle.syslog_collect.specs.declared.outcome.Outcome.{Outcome}
-use Rattle.syslog_collect.specs.Answers.{EndsWhole, IfRefused, IsAnswerAt, IsCause, IsUnfinished, Advances, AdvancesBy}
+use Rattle.syslog_collect.specs.Answers.{EndsWhole, IsAnswerAt, IsCause, IsUnfinished, Advances, AdvancesBy}
 use Rattle.syslog_collect.specs.Answers.{accepted_datagram, accepted_piece}
 use Rattle.syslog_collect.specs.Frames.{AreFramesOf, Gains, all_of}
 use Rattle.syslog_collect.specs.History.{Datagram, HoldsBadCount, Ended, History, MayAccept, MayAcceptAll, Opened}
@@ -29,7 +29,7 @@ use Rattle.syslog_collect.specs.History.{Piece, Stream, AcceptedEvent, history_a
 use Rattle.syslog_collect.specs.History.{stream_of}
 use Rattle.syslog_collect.specs.Outcomes.{IsOutcome}
 use Rattle.syslog_collect.specs.Standing.{IsAt, StandsInOrder as StandsAt}
-use Rattle.syslog_collect.proofs.Gains.{Joins, SpellSame, all_of-append, gains_also, gains_frame, gains_more}
+use Rattle.syslog_collect.proofs.Gains.{Joins, SpellSame, all_of-append, gains_also, gains_behind, gains_frame, gains_more}
 use Rattle.syslog_collect.proofs.Gains.{gains_nothing, gains_reported, joins_append, joins_before, spelled_after}
 use Rattle.syslog_collect.proofs.Gains.{spelled_before, spelled_either}
 use Rattle.syslog_collect.proofs.Moving.{good_open, open_unless_failed}
@@ -69,21 +69,22 @@ stands_first way kept = record {
   stands_at = record { handled = []; ended_frames = []; follow = tt; ended_are = tt; gains = gains_nothing way kept };
 }
 
-pub datagram_step : (way : FrameReading) (ls : List Connection) (kept now first : List Entry) (es : List AcceptedEvent)
-    (octets : List ℕ) (o : Outcome) → IsOutcome way kept now octets o
-    → Stands way ls kept first es → Stands way ls now first (es ++ Datagram octets ∷ [])
-datagram_step way ls kept now first es octets o out was =
+pub datagram_step : (way : FrameReading) (ls : List Connection) (past kept now first : List Entry)
+    (es : List AcceptedEvent) (octets : List ℕ) (o : Outcome) → IsOutcome way kept now octets o
+    → Stands way ls (past ++ kept) first es → Stands way ls (past ++ now) first (es ++ Datagram octets ∷ [])
+datagram_step way ls past kept now first es octets o out was =
     let h = history_of es in
     let at = was.stands_at in
     let fs = all_of at.handled in
     let es' = all_of at.ended_frames in
-    step way ls ls kept now first es (Datagram octets) was tt (record {
+    step way ls ls (past ++ kept) (past ++ now) first es (Datagram octets) was tt (record {
       handled = at.handled;
       ended_frames = at.ended_frames;
       follow = at.follow;
       ended_are = at.ended_are;
-      gains = gains_more way first kept now (fs ++ (es' ++ h.datagrams)) (fs ++ (es' ++ (h.datagrams ++ octets ∷ [])))
-          (octets ∷ []) at.gains (gains_frame way kept now octets o out)
+      gains = gains_more way first (past ++ kept) (past ++ now) (fs ++ (es' ++ h.datagrams))
+          (fs ++ (es' ++ (h.datagrams ++ octets ∷ []))) (octets ∷ []) at.gains
+          (gains_behind way past kept now (octets ∷ []) (gains_frame way kept now octets o out))
           (subst (λ (z : List (List ℕ)). Joins way z (fs ++ (es' ++ h.datagrams)) (octets ∷ []))
           (append_assoc fs (es' ++ h.datagrams) (octets ∷ [])
           ∙ ap (λ (z : List (List ℕ)). fs ++ z) (append_assoc es' h.datagrams (octets ∷ [])))
@@ -91,52 +92,55 @@ datagram_step way ls kept now first es octets o out was =
     })
 
 -- one connection's octets
-pub moved : (way : FrameReading) (c i : ℕ) (x y : Connection) (ls : List Connection) (kept now first : List Entry)
-    (h : History) (o : List ℕ) (outcomes : List Outcome)
+pub moved : (way : FrameReading) (c i : ℕ) (x y : Connection) (ls : List Connection)
+    (past kept now first : List Entry) (h : History) (o : List ℕ) (outcomes : List Outcome)
     → AtPlace c ls i x → ((s : Stream) (d : List (List ℕ)) → IsAt x s d → AdvancesOn way x y kept now o outcomes s d)
-    → StandsAt way ls kept first h → StandsAt way (set_at ls i y) now first (accept h (Piece c o))
-moved way c i x y ls kept now first h o outcomes at moves sa =
+    → StandsAt way ls (past ++ kept) first h
+    → StandsAt way (set_at ls i y) (past ++ now) first (accept h (Piece c o))
+moved way c i x y ls past kept now first h o outcomes at moves sa =
     let a = advance_at way c i x y ls h.streams sa.handled kept now o outcomes sa.follow at moves in
-    let past = all_of sa.ended_frames ++ h.datagrams in
+    let others = all_of sa.ended_frames ++ h.datagrams in
     record {
       handled = a.now_handled;
       ended_frames = sa.ended_frames;
       follow = a.follow;
       ended_are = sa.ended_are;
-      gains = gains_more way first kept now (all_of sa.handled ++ past) (all_of a.now_handled ++ past) a.fresh
-          sa.gains (gains_reported way kept now a.fresh outcomes a.reported)
-          (joins_before way (all_of a.now_handled) (all_of sa.handled) a.fresh past a.joins);
+      gains = gains_more way first (past ++ kept) (past ++ now) (all_of sa.handled ++ others)
+          (all_of a.now_handled ++ others) a.fresh sa.gains
+          (gains_behind way past kept now a.fresh (gains_reported way kept now a.fresh outcomes a.reported))
+          (joins_before way (all_of a.now_handled) (all_of sa.handled) a.fresh others a.joins);
     }
 
 pub advance_step : (way : FrameReading) (c i : ℕ) (x y : Connection) (ls : List Connection)
-    (kept now first : List Entry)
+    (past kept now first : List Entry)
     (es : List AcceptedEvent) (o : List ℕ) (outcomes : List Outcome)
     → AtPlace c ls i x → ((s : Stream) (d : List (List ℕ)) → IsAt x s d → Advances way x y kept now o outcomes s d)
-    → Stands way ls kept first es → Stands way (set_at ls i y) now first (es ++ Piece c o ∷ [])
-advance_step way c i x y ls kept now first es o outcomes at moves was =
+    → Stands way ls (past ++ kept) first es → Stands way (set_at ls i y) (past ++ now) first (es ++ Piece c o ∷ [])
+advance_step way c i x y ls past kept now first es o outcomes at moves was =
     let h = history_of es in
     let there = opening_at c i x ls h.streams was.stands_at.handled was.stands_at.follow at in
-    step way ls (set_at ls i y) kept now first es (Piece c o) was
+    step way ls (set_at ls i y) (past ++ kept) (past ++ now) first es (Piece c o) was
     (rw there.is (moves there.opening there.handled there.at).may)
-    (moved way c i x y ls kept now first h o outcomes at
+    (moved way c i x y ls past kept now first h o outcomes at
     (λ s d a. let m = moves s d a in record { fresh = m.fresh; now_at = m.now_at; reported = m.reported })
     was.stands_at)
 
 -- the same, by the place that was found and by what was accepted
 pub advance_found : (way : FrameReading) (c n : ℕ) (x y : Connection) (ls : List Connection)
-    (kept now first : List Entry)
+    (past kept now first : List Entry)
     (es : List AcceptedEvent) (accepted : Option (List ℕ)) (outcomes : List Outcome)
     → place_from c 0 ls ≡ Some n → x ≡ get_or ls n x
     → ((s : Stream) (d : List (List ℕ)) → IsAt x s d → AdvancesBy way accepted x y kept now outcomes s d)
-    → Stands way ls kept first es → Stands way (set_at ls n y) now first (es ++ accepted_piece c accepted)
-advance_found way c n x y ls kept now first es None outcomes is item moves was =
+    → Stands way ls (past ++ kept) first es
+    → Stands way (set_at ls n y) (past ++ now) first (es ++ accepted_piece c accepted)
+advance_found way c n x y ls past kept now first es None outcomes is item moves was =
     let at = found_here c n x ls is item in
     let there = opening_at c n x ls (history_of es).streams was.stands_at.handled was.stands_at.follow at in
     let unchanged = moves there.opening there.handled there.at in
     let same : set_at ls n y ≡ ls = ap (λ (z : Connection). set_at ls n z) unchanged.0 ∙ set_same c n x ls at in
     rw (append-nil es, same, unchanged.1) was
-advance_found way c n x y ls kept now first es (Some o) outcomes is item moves was =
-    advance_step way c n x y ls kept now first es o outcomes (found_here c n x ls is item) moves was
+advance_found way c n x y ls past kept now first es (Some o) outcomes is item moves was =
+    advance_step way c n x y ls past kept now first es o outcomes (found_here c n x ls is item) moves was
 
 -- why an advance is refused
 answer_at : (way : FrameReading) (c : ℕ) (piece : List ℕ) (r : Result Advance CollectFault) (h : History) (s : Stream)
@@ -267,13 +271,14 @@ close_found way c n x ls kept first es is item none was =
 
 -- ---- the answers of the calls
 
-pub datagram_answer : {E : Type 0} (way : FrameReading) (ls : List Connection) (kept now first : List Entry)
+pub datagram_answer : {E : Type 0} (way : FrameReading) (ls : List Connection) (past kept now first : List Entry)
     (es : List AcceptedEvent) (octets : List ℕ) (r : Result Outcome E) → IfOk r (λ o. IsOutcome way kept now octets o)
     → OnErr r (now ≡ kept)
-    → Stands way ls kept first es → Stands way ls now first (es ++ accepted_datagram octets r)
-datagram_answer way ls kept now first es octets (Ok o) out same was =
-    datagram_step way ls kept now first es octets o out was
-datagram_answer way ls kept now first es octets (Err e) out same was = still way ls kept now first es same was
+    → Stands way ls (past ++ kept) first es → Stands way ls (past ++ now) first (es ++ accepted_datagram octets r)
+datagram_answer way ls past kept now first es octets (Ok o) out same was =
+    datagram_step way ls past kept now first es octets o out was
+datagram_answer way ls past kept now first es octets (Err e) out same was =
+    still way ls (past ++ kept) (past ++ now) first es (ap (λ (z : List Entry). past ++ z) same) was
 
 -- a number whose connection was found is open
 pub is_open : (way : FrameReading) (c n : ℕ) (ls : List Connection) (kept first : List Entry) (es : List AcceptedEvent)

@@ -230,16 +230,16 @@ refused_at way c piece taken waits (Unterminated start) h s is cause = absurd ca
 
 -- a piece of the connection that was found
 pub piece_refused : (way : FrameReading) (c n : ℕ) (x y : Connection) (ls : List Connection)
-    (kept now first : List Entry)
+    (past kept now first : List Entry)
     (es : List AcceptedEvent) (o : List ℕ) (r : EventEnd) (l m : List Outcome)
     → place_from c 0 ls ≡ Some n → x ≡ get_or ls n x
     → ((s : Stream) (d : List (List ℕ)) → IsAt x s d → Logs way x y kept now (piece_octets o r) l m s d)
     → ((s : Stream) (d : List (List ℕ)) → IsAt x s d
     → IfStopped r (λ taken fault. StopsPiece way o taken (ready_count y.scanner.phase) fault s))
-    → Stands way ls kept first es
+    → Stands way ls (past ++ kept) first es
     → IfStopped r (λ taken fault. StopsPieceAt way c o taken (waiting (set_at ls n y) c) fault (history_of es))
-piece_refused way c n x y ls kept now first es o end_Done l m is item logs cause was = tt
-piece_refused way c n x y ls kept now first es o (end_Stopped taken fault) l m is item logs cause was =
+piece_refused way c n x y ls past kept now first es o end_Done l m is item logs cause was = tt
+piece_refused way c n x y ls past kept now first es o (end_Stopped taken fault) l m is item logs cause was =
     let here = found_here c n x ls is item in
     let there = opening_at c n x ls (history_of es).streams was.stands_at.handled was.stands_at.follow here in
     let then = reached way x y kept now (take taken o) l m there.opening there.handled there.at

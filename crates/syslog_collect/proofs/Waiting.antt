@@ -1,12 +1,11 @@
 -- Frames that wait, of each number, and that numbers of open connections are distinct.
 use Rattle.std.proofs.Common.{◌≡◌, ◌≢◌, ℕ, ◌+◌, zero, suc, true, false, cond, List, [], ◌∷◌, ◌++◌, length, get_or}
 use Rattle.std.proofs.Common.{set as set_at, eqb, refl, sym, ◌∙◌, ap, subst, inl, inr}
-use Rattle.std.specs.Prelude.{Some, None, Result, Ok, Err, OnOk}
+use Rattle.std.specs.Prelude.{Some, None}
 use Rattle.std.specs.List.{remove}
 use Rattle.std.proofs.lemmas.Bool.{both_ways, eq-eqb, eqb-true}
 use Rattle.std.proofs.lemmas.Bool.Decides.{eqb_tells}
 use Rattle.std.proofs.lemmas.List.{append-nil}
-use Rattle.syslog_frame.specs.Scan.{HasFrame, HasReady}
 use Rattle.syslog_frame.specs.declared.limits.TheConstants.{FRAME_MAX}
 use Rattle.syslog_frame.specs.declared.phase.Phase.{Phase}
 use Rattle.syslog_frame.specs.declared.phase.Phase.TheVariants.{Counting, Inside, Ended as phase_Ended}
@@ -17,17 +16,11 @@ use Rattle.syslog_frame.proofs.Standing.{whole_ended}
 use Rattle.archive_text.specs.Entries.{Entry}
 use Rattle.syslog_legacy.specs.declared.frame_reading.FrameReading.{FrameReading}
 use Rattle.syslog_collect.specs.declared.connection.Connection.{Connection}
-use Rattle.syslog_collect.specs.declared.fault.Advance.{Advance}
-use Rattle.syslog_collect.specs.declared.fault.CollectFault.{CollectFault}
-use Rattle.syslog_collect.specs.declared.fault.CollectFault.TheVariants.{AlreadyOpen, TooManyOpen, NotOpen, ConnFailed}
-use Rattle.syslog_collect.specs.declared.fault.CollectFault.TheVariants.{StreamTooLong, Unreleased, Unterminated}
-use Rattle.syslog_collect.specs.declared.fault.CollectFault.TheVariants.{Memory}
-use Rattle.syslog_collect.specs.Answers.{IfMemory, IfRefused, IsUsedWithin}
 use Rattle.syslog_collect.specs.Frames.{IsFramesOf}
 use Rattle.syslog_collect.specs.History.{AcceptedEvent, Datagram, Ended, History, MayAcceptAll, Opened, Piece, Stream}
 use Rattle.syslog_collect.specs.History.{accept, history_after, history_of, initial, stream_of, with_octets, with_piece}
 use Rattle.syslog_collect.specs.History.{without}
-use Rattle.syslog_collect.specs.Logs.{ready_count, waiting_then}
+use Rattle.syslog_collect.specs.Logs.{ready_count}
 use Rattle.syslog_collect.specs.Standing.{AreAt, IsAt}
 use Rattle.syslog_collect.proofs.Moving.{ended_or_not}
 use Rattle.syslog_collect.proofs.Ordered.{StandsOrdered as Stands, waiting_in as waiting}

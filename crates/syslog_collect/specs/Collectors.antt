@@ -1,6 +1,6 @@
 -- What public calls say of a collector: where it stands, and which of its frames wait.
-use Rattle.std.specs.Prelude.{◌≡◌, ◌≤◌, ℕ, List, ◌++◌}
-use Rattle.archive_text.specs.Entries.{Entry}
+use Rattle.std.specs.Prelude.{◌≡◌, ◌≤◌, ◌↔◌, ℕ, List, ◌++◌}
+use Rattle.archive_text.specs.Entries.{Entry, Has}
 use Rattle.syslog_legacy.specs.declared.frame_reading.FrameReading.{FrameReading}
 use Rattle.syslog_collect.specs.declared.collector.Collector.{Collector}
 use Rattle.syslog_collect.specs.Headline.{IsSettled}
@@ -12,6 +12,10 @@ use Rattle.syslog_collect.specs.Standing.{Stands as StandsWith}
 -- its store
 abbrev pub store_of : {S : Type 0} → Collector S → S
 store_of c = c.store
+
+-- the same with another store
+abbrev pub with_store : {S : Type 0} → Collector S → S → Collector S
+with_store c store = record c { store = store }
 
 -- how it reads frames
 abbrev pub reading_of : {S : Type 0} → Collector S → FrameReading
@@ -45,11 +49,20 @@ HaveSameConnections old new = KeepsAll old.connections new.connections
 abbrev pub Stands : {S : Type 0} → (S → List Entry) → Collector S → List Entry → List AcceptedEvent → Type 0
 Stands entries c first events = StandsWith c.reading c.connections (entries c.store) first events
 
--- wherever it stood, it stands there with these events more; how it reads frames, its limit and its room are kept
+-- entries that are kept elsewhere, as what a store has put on a disk and holds no more, and then a store's
+abbrev pub behind : {S : Type 0} → List Entry → (S → List Entry) → S → List Entry
+behind past entries store = past ++ entries store
+
+-- the same entries are in both
+abbrev pub HaveSameEntries : List Entry → List Entry → Type 0
+HaveSameEntries one two = (x : Entry) → Has one x ↔ Has two x
+
+-- wherever it stood, whatever is kept elsewhere, it stands there with these events more; how it reads frames, its limit
+-- and its room are kept
 pub record GoesOn {S : Type 0} (entries : S → List Entry) (old new : Collector S) (accepted : List AcceptedEvent) : Type
     0 where
-  pub stands : (first : List Entry) (events : List AcceptedEvent) → Stands entries old first events →
-      Stands entries new first (events ++ accepted)
+  pub stands : (past first : List Entry) (events : List AcceptedEvent) → Stands (behind past entries) old first events →
+      Stands (behind past entries) new first (events ++ accepted)
   pub reading : reading_of new ≡ reading_of old
   pub limit : limit_of new ≡ limit_of old
   pub room : room_of old ≤ room_of new

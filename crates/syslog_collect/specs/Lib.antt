@@ -9,3 +9,4 @@ pub mod Headline
 pub mod Runs
 pub mod Logs
 pub mod Stops
+pub mod Lends

@@ -16,7 +16,8 @@ use std::alloc::Global;
 use syslog_frame::ScanFault;
 use syslog_legacy::FrameReading;
 
-/// Takes octets of a piece up to the end of a frame at most, and handles the frame that is ready.
+/// Takes octets of a piece, at most up to the end of a frame, and handles the frame that is ready.
+/// It is refused as [`Collector::advance`](crate::Collector::advance) says.
 pub fn advance_connection<S: Store>(
     alloc: Global,
     reading: FrameReading,

@@ -8,7 +8,7 @@ ghost use Rattle.syslog_legacy.specs.FrameReadings.{whole};
 ghost use Rattle.syslog_collect.specs.Answers.{IfRefused, IfUnreleased, IsAnswerAt, IsEnding, IsOpening, IsTaken};
 ghost use Rattle.syslog_collect.specs.Answers.{IsUsedWithin, accepted_octets, dropped_octets, used_octets};
 ghost use Rattle.syslog_collect.specs.Answers.{accepted_datagram, accepted_ending, accepted_opening, accepted_piece};
-ghost use Rattle.syslog_collect.specs.Collectors.{GoesOn, HaveSameConnections, NoneWaits, Stands, WaitAlike};
+ghost use Rattle.syslog_collect.specs.Collectors.{GoesOn, HaveSameConnections, NoneWaits, Stands, WaitAlike, behind};
 ghost use Rattle.syslog_collect.specs.Collectors.{limit_of, reading_of, room_of, store_of, waits_of};
 ghost use Rattle.syslog_collect.specs.Frames.{IsReceived};
 ghost use Rattle.syslog_collect.specs.Headline.{ReceivedBoth, ReceivedSame};
@@ -29,9 +29,10 @@ use syslog_legacy::{FrameReading, LegacyClock};
 
 /// A collector: open connections, and the store into which the records of their frames go.
 ///
-/// A store with the records of all frames that came is reached in any cut of the streams into
-/// pieces, any order of the connections' pieces and any repetition. A [`FrameReading`] says how frames
-/// are read: with a clock, those without the front of RFC 5424 are legacy packets (RFC 3164).
+/// The store comes to hold the records of all frames that came, however the streams are cut into
+/// pieces, in whatever order the pieces of the connections come, and however often. A
+/// [`FrameReading`] says how frames are read: with a clock, those without the front of RFC 5424 are
+/// legacy packets (RFC 3164).
 #[derive(Drop)]
 pub struct Collector<S> {
     pub(crate) store: S,
@@ -40,8 +41,8 @@ pub struct Collector<S> {
 }
 
 impl<S: Store> Collector<S> {
-    /// A collector over a store, with room for `CONNECTIONS_MAX` connections, that reads frames whole.
-    /// Where that room is refused, the store comes back.
+    /// A collector over a store, with room for `CONNECTIONS_MAX` connections, that reads frames
+    /// whole. If that room cannot be allocated, the store comes back.
     pub fn new(alloc: Global, store: S, clock: Option<LegacyClock>) -> Result<Collector<S>, S>
         ensures stands { IfOk result (λ c. Stands S.entries c (S.entries store) []) }
         ensures settled { IfOk result (λ c. NoneWaits c) }
@@ -53,7 +54,8 @@ impl<S: Store> Collector<S> {
         Collector::with_reading(alloc, store, FrameReading { trim: false, clock })
     }
 
-    /// A collector as by [`Collector::new`], that reads frames so.
+    /// A collector as by [`Collector::new`] that reads frames as this says. If its room cannot be
+    /// allocated, the store comes back.
     pub fn with_reading(alloc: Global, store: S, reading: FrameReading) -> Result<Collector<S>, S>
         ensures stands { IfOk result (λ c. Stands S.entries c (S.entries store) []) }
         ensures settled { IfOk result (λ c. NoneWaits c) }
@@ -65,8 +67,9 @@ impl<S: Store> Collector<S> {
         Collector::with_connections(alloc, store, reading, CONNECTIONS_MAX)
     }
 
-    /// A collector as by [`Collector::with_reading`], with room for so many connections:
-    /// `CONNECTIONS_MAX` to `CONNECTIONS_LIMIT`, a number outside is taken for the nearest.
+    /// A collector as by [`Collector::with_reading`], with room for this many connections, from
+    /// `CONNECTIONS_MAX` to `CONNECTIONS_LIMIT`; a number outside is taken for the nearest of
+    /// these. If that room cannot be allocated, the store comes back.
     pub fn with_connections(
         alloc: Global,
         store: S,
@@ -91,12 +94,12 @@ impl<S: Store> Collector<S> {
         }
     }
 
-    /// Opens a connection, by a number of the caller's. A number that was ended may be opened
-    /// again, as a new stream.
+    /// Opens a connection under a number that the caller chooses. A number whose connection was
+    /// ended may be opened again, as a new stream.
     ///
-    /// It is refused, in this order, with `AlreadyOpen` if the number is open, `TooManyOpen` if as many
-    /// connections are as the collector was made for, and `Memory { used: 0 }` if a growth is refused. A refusal
-    /// changes nothing.
+    /// It is refused, in this order, with `AlreadyOpen` if the number is open, `TooManyOpen` if as
+    /// many connections are open as the collector was made for, and `Memory { used: 0 }` if an
+    /// allocation fails. A refusal changes nothing.
     pub fn open_conn(
         &mut self,
         alloc: Global,
@@ -105,8 +108,8 @@ impl<S: Store> Collector<S> {
     ) -> Result<(), CollectFault>
         ensures goes_on { GoesOn S.entries self.old self.new
             (accepted_opening conn framing result) }
-        ensures cause { (first : List Entry) (events : List AcceptedEvent)
-            → Stands S.entries self.old first events
+        ensures cause { (past first : List Entry) (events : List AcceptedEvent)
+            → Stands (behind past S.entries) self.old first events
             → IsOpening (limit_of self.old) conn result (history_of events) }
         ensures waits { WaitAlike self.old self.new }
         ensures err { OnErr result (HaveSameConnections self.old self.new) }
@@ -131,14 +134,15 @@ impl<S: Store> Collector<S> {
         }
     }
 
-    /// Takes octets of a connection's piece, and handles one frame at most. A frame that is ready
-    /// already is handled first, and then no octet is taken. Else octets are taken up to the end of
-    /// a frame, or up to a bad octet of a count, or to the end of the piece.
+    /// Takes octets of a connection's piece, and handles at most one frame. If a frame is ready
+    /// already, it is handled first, and no octet is taken. Otherwise octets are taken up to the
+    /// end of a frame, a bad octet of a count, or the end of the piece.
     ///
     /// It is refused, in this order, with `NotOpen`, `ConnFailed` after a bad count, and
     /// `StreamTooLong` if the stream would have more than `POSITION_MAX` octets. These change
-    /// nothing. After `Memory { used }` those octets were taken and the frame stays ready: the next
-    /// call handles it. After `BadCount` the connection takes no more, and the others go on.
+    /// nothing. After `Memory { used }` so many octets were taken, and the frame stays ready: the
+    /// next call handles it. After `BadCount` the connection takes no more octets; the others go
+    /// on.
     pub fn advance(
         &mut self,
         alloc: Global,
@@ -149,8 +153,8 @@ impl<S: Store> Collector<S> {
         // How much is taken: nothing while a frame waits, which is handled first; else all up to the
         // end of a frame, or up to a bad octet, or the whole piece. Where memory was refused, all of
         // it is of the frame that waits.
-        ensures taken { (first : List Entry) (events : List AcceptedEvent)
-            → Stands S.entries self.old first events
+        ensures taken { (past first : List Entry) (events : List AcceptedEvent)
+            → Stands (behind past S.entries) self.old first events
             → IfSome (stream_of conn (history_of events).streams)
             (IsTaken piece.now (waits_of self.old conn) result) }
         // It stands at the events with what was accepted: the octets used, and a bad one.
@@ -161,16 +165,16 @@ impl<S: Store> Collector<S> {
             (accepted_piece conn (dropped_octets piece.now result)) }
         // The outcome is that of the frame that waited, or else that the octets complete; there is
         // none exactly where there is no such frame, and no bad count.
-        ensures outcome { (first : List Entry) (events : List AcceptedEvent)
-            → Stands S.entries self.old first events
+        ensures outcome { (past first : List Entry) (events : List AcceptedEvent)
+            → Stands (behind past S.entries) self.old first events
             → IfOk result (λ a. Reports (reading_of self.old) conn (used_octets piece.now a)
             (history_of events) (waits_of self.old conn) (S.entries (store_of self.old))
             (S.entries (store_of self.new)) (outcomes_of a.outcome)) }
         // After Ok no frame of the connection waits; where memory was refused, one does.
         ensures waits { (d : ℕ) → waits_of self.new d ≡ waiting_then result conn (waits_of self.old) d }
         // Why the piece is refused.
-        ensures cause { (first : List Entry) (events : List AcceptedEvent)
-            → Stands S.entries self.old first events
+        ensures cause { (past first : List Entry) (events : List AcceptedEvent)
+            → Stands (behind past S.entries) self.old first events
             → IsAnswerAt (reading_of self.old) conn piece.now result (history_of events) }
         // A refusal changes nothing, but where memory was refused.
         ensures unchanged { IfRefused result ((HaveSameConnections self.old self.new)
@@ -189,7 +193,7 @@ impl<S: Store> Collector<S> {
         }
     }
 
-    /// Handles a datagram: its octets are one frame. If a growth is refused, nothing has changed.
+    /// Handles a datagram, whose octets are one frame. If an allocation fails, nothing has changed.
     pub fn datagram(&mut self, alloc: Global, octets: &[u8]) -> Result<Outcome, AllocError>
         ensures goes_on { GoesOn S.entries self.old self.new (accepted_datagram octets.now result) }
         ensures outcome { IfOk result (λ o.
@@ -202,23 +206,23 @@ impl<S: Store> Collector<S> {
         handle(alloc, self.reading, &mut self.store, octets)
     }
 
-    /// Ends a connection. It is closed after Ok, and after `Unterminated { start }` too, where the
-    /// stream stops inside the frame that begins at that position; one whose stream held a bad count
-    /// is closed with Ok. `NotOpen`, and `Unreleased` while a frame waits whose memory was refused,
-    /// change nothing.
+    /// Ends a connection. After Ok it is closed, and also after `Unterminated { start }`, when the
+    /// stream stops inside the frame that begins at that position. One whose stream held a bad
+    /// count is closed with Ok. `NotOpen`, and `Unreleased` while a frame waits for which memory
+    /// was refused, change nothing.
     pub fn end_conn(&mut self, conn: u32) -> Result<(), CollectFault>
         ensures goes_on { GoesOn S.entries self.old self.new (accepted_ending conn result) }
-        ensures cause { (first : List Entry) (events : List AcceptedEvent)
-            → Stands S.entries self.old first events
+        ensures cause { (past first : List Entry) (events : List AcceptedEvent)
+            → Stands (behind past S.entries) self.old first events
             → IsEnding conn result (history_of events) }
         // The frame that is not handled is one of this connection.
-        ensures ready { (first : List Entry) (events : List AcceptedEvent)
-            → Stands S.entries self.old first events
+        ensures ready { (past first : List Entry) (events : List AcceptedEvent)
+            → Stands (behind past S.entries) self.old first events
             → IfUnreleased result (waits_of self.old conn ≡ 1) }
         ensures unchanged { IfRefused result (HaveSameConnections self.old self.new) }
         // No frame of another connection is lost.
-        ensures waits { (first : List Entry) (events : List AcceptedEvent)
-            → Stands S.entries self.old first events
+        ensures waits { (past first : List Entry) (events : List AcceptedEvent)
+            → Stands (behind past S.entries) self.old first events
             → WaitAlike self.old self.new }
         ensures store { store_of self.new ≡ store_of self.old }
     {
@@ -243,7 +247,7 @@ impl<S: Store> Collector<S> {
         }
     }
 
-    /// The store. Where no frame waits, it holds what was there first and the received set.
+    /// The store. If no frame waits, it holds what it held at first and the received set.
     pub fn store(&self) -> &S
         ensures same { result.now ≡ store_of self.now }
         ensures received { (first : List Entry) (events : List AcceptedEvent)
@@ -256,9 +260,9 @@ impl<S: Store> Collector<S> {
 }
 
 /// The headline: two collectors over stores that were empty, of any two kinds, whose received sets
-/// are equal, hold the same entries, in one order. So their archives, as `Store::write` writes them,
-/// are byte-equal, whatever the framings, cuts, orders, interleavings and repetitions were. Both
-/// read frames in the same way.
+/// are equal, hold the same entries in the same order. So their archives, as `Store::write` writes
+/// them, are byte-equal, whatever the framings, cuts, orders, interleavings and repetitions. Both
+/// must read frames in the same way.
 pub fn same_archives<S: Store, T: Store>(one: &Collector<S>, two: &Collector<T>)
     ensures entries { (events others : List AcceptedEvent) → reading_of one.now ≡ reading_of two.now
         → Stands S.entries one.now [] events → Stands T.entries two.now [] others
@@ -271,7 +275,7 @@ pub fn same_archives<S: Store, T: Store>(one: &Collector<S>, two: &Collector<T>)
 {}
 
 /// Merging: the union of the archives of two collectors is the archive of a collector that received
-/// what the two did. All read frames in the same way.
+/// what the two did. All must read frames in the same way.
 pub fn merged_archives<S: Store, T: Store, U: Store>(
     one: &Collector<S>,
     two: &Collector<T>,

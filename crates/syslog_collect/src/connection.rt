@@ -20,7 +20,9 @@ use syslog_legacy::{FrameReading, LegacyClock, LegacyView, has_new_form, legacy_
 /// An open connection.
 #[derive(Drop)]
 pub struct Connection {
+    /// Its number, which the caller chose.
     pub number: u32,
+    /// The scanner of its stream.
     pub scanner: Scanner,
 }
 
@@ -118,7 +120,7 @@ fn handle_new<S: Store>(alloc: Global, store: &mut S, octets: &[u8]) -> Result<O
 }
 
 /// Adds the record of octets that are read whole to a store, if they are one. With a clock, octets
-/// without the front of RFC 5424 are a legacy packet.
+/// without the front of RFC 5424 are read as a legacy packet.
 fn handle_octets<S: Store>(
     alloc: Global,
     clock: Option<LegacyClock>,
@@ -140,7 +142,8 @@ fn handle_octets<S: Store>(
     handle_legacy(alloc, &clock, store, octets)
 }
 
-/// Adds the record of a frame to a store, if it is read as one.
+/// Adds the record of a frame to a store, if the frame is read as one. If an allocation fails,
+/// nothing has changed.
 pub fn handle<S: Store>(
     alloc: Global,
     reading: FrameReading,
@@ -159,7 +162,8 @@ pub fn handle<S: Store>(
     handle_octets(alloc, reading.clock, store, reading.octets(frame))
 }
 
-/// Handles what a scanner has ready, and leaves it ready.
+/// Handles what a scanner has ready, and leaves it ready. If an allocation fails, nothing has
+/// changed.
 pub fn handle_ready<S: Store>(
     alloc: Global,
     reading: FrameReading,

@@ -7,8 +7,8 @@ use slab::Slab;
 use std::alloc::{AllocError, Global};
 use std::collections::HashMap;
 
-/// Open connections, each found by its number in constant time. One stays in its place until it is
-/// closed, and then another may have the place.
+/// Open connections, each found by its number in constant time. Each stays in its place until it is
+/// closed; then another may take that place.
 #[derive(Drop)]
 pub struct Connections {
     pub(crate) slots: Slab<Connection>,
@@ -22,8 +22,9 @@ pub struct Connections {
 impl Connections {
     ghost use Rattle.syslog_collect.specs.Numbers.{Closes, HoldsAt, KeepsAll, Opens, connection_in, count_in};
 
-    /// None is open, and there is room for so many: `CONNECTIONS_MAX` to `CONNECTIONS_LIMIT`, a number
-    /// outside is taken for the nearest.
+    /// No open connections, and room for `limit` of them, from `CONNECTIONS_MAX` to
+    /// `CONNECTIONS_LIMIT`; a number outside is taken for the nearest of these. It fails only when
+    /// out of memory.
     pub fn new(alloc: Global, limit: usize) -> Result<Connections, AllocError>
         ensures none { IfOk result (λ cs. (d : ℕ) → connection_in cs d ≡ None) }
         ensures count { IfOk result (λ cs. count_in cs ≡ 0) }
@@ -38,7 +39,7 @@ impl Connections {
         })
     }
 
-    /// The place of a number's connection, if it is open.
+    /// The place of the connection with a number, if it is open.
     pub fn find(&self, number: u32) -> Option<usize>
         ensures found { IfSome result (HoldsAt self.now number) }
         ensures none { IfNone result (connection_in self.now number ≡ None) }
@@ -50,7 +51,7 @@ impl Connections {
         None
     }
 
-    /// Whether as many are open as may be.
+    /// Whether as many connections are open as may be.
     pub fn is_full(&self) -> bool
         ensures full { result ≡ true → self.now.limit ≤ count_in self.now }
         ensures room { result ≡ false → count_in self.now < self.now.limit }
@@ -58,7 +59,7 @@ impl Connections {
         self.slots.len() >= self.limit
     }
 
-    /// Opens a connection under its number. Where memory is refused, nothing changes.
+    /// Opens a connection under its number. If an allocation fails, nothing changes.
     pub fn open(&mut self, connection: Connection) -> Result<(), AllocError>
         ensures ok { OnOk result (Opens self.old self.new connection) }
         ensures err { OnErr result (KeepsAll self.old self.new) }
@@ -74,7 +75,7 @@ impl Connections {
         Ok(())
     }
 
-    /// Closes the connection of a number, which is in this place.
+    /// Closes the connection with a number, which is in this place.
     pub fn close(&mut self, number: u32, place: usize)
         requires { HoldsAt self.old number place }
         ensures { Closes self.old self.new number }

@@ -3,7 +3,7 @@
 use crate::fault::CollectFault;
 use syslog_frame::Framing;
 
-/// One event.
+/// An event that a collector is given.
 #[derive(Clone, Copy, Debug)]
 pub enum Event<'a> {
     /// A connection was opened.
@@ -16,12 +16,12 @@ pub enum Event<'a> {
     Datagram { octets: &'a [u8] },
 }
 
-/// How a run ended.
+/// How a run over events ended.
 #[derive(Clone, Copy, Debug, PartialEq, Eq)]
 pub enum RunEnd {
     /// All events were accepted.
     Done,
-    /// The event with this index was refused. Of a piece there, so many octets were taken.
+    /// The event with index `at` was refused. If it is a piece, `taken` of its octets were taken.
     Stopped {
         at: usize,
         taken: usize,
@@ -34,6 +34,6 @@ pub enum RunEnd {
 pub enum EventEnd {
     /// It was accepted.
     Done,
-    /// It was refused. Of a piece, so many octets were taken.
+    /// It was refused. If it is a piece, `taken` of its octets were taken.
     Stopped { taken: usize, fault: CollectFault },
 }

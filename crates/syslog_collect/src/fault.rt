@@ -21,22 +21,22 @@ pub enum CollectFault {
     /// As many connections are open as may be.
     #[error("too many connections are open")]
     TooManyOpen,
-    /// No connection of the number is open.
+    /// No connection with this number is open.
     #[error("the connection is not open")]
     NotOpen,
-    /// The connection's stream held a bad count, so that nothing more can be read of it.
+    /// The connection's stream held a bad count: nothing more can be read of it.
     #[error("the stream held a bad count")]
     ConnFailed,
     /// The piece reaches past `POSITION_MAX`.
     #[error("the stream is too long")]
     StreamTooLong,
-    /// A frame is still ready, whose memory was refused.
+    /// A frame is still ready for which memory was refused.
     #[error("a frame was not handled")]
     Unreleased,
     /// The stream stops inside the frame whose first octet is at this position.
     #[error("the frame at {start} is unfinished")]
     Unterminated { start: u64 },
-    /// A growth was refused. So many octets of the piece were taken.
+    /// An allocation failed. `used` octets of the piece were taken.
     #[error("out of memory")]
     Memory { used: usize },
 }

@@ -1,7 +1,7 @@
 //! The limits of connections.
 
-/// The most connections that a collector has open at a time where nothing else is asked for.
+/// How many connections a collector can have open at a time if nothing else is asked for.
 pub const CONNECTIONS_MAX: usize = 64;
 
-/// The most connections that a collector can be made for.
+/// The most connections for which a collector can be made.
 pub const CONNECTIONS_LIMIT: usize = 16_384;

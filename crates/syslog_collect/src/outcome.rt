@@ -11,11 +11,11 @@ pub enum Outcome {
     Held,
     /// It is no record (RFC 5424, section 6).
     Refused(Fault),
-    /// It is a legacy packet (RFC 3164) whose message starts with the byte order mark and is no
-    /// UTF-8: no text goes on with the octet at this offset of the packet.
+    /// It is a legacy packet (RFC 3164) whose message starts with the byte order mark and is not
+    /// UTF-8: the octet at this offset of the packet cannot continue it.
     RefusedLegacy { offset: usize },
     /// It has more than `FRAME_MAX` octets.
     TooLong,
-    /// No MSG-LEN goes on with the octet at this position of the stream (RFC 6587, 3.4.1).
+    /// No MSG-LEN can continue with the octet at this position of the stream (RFC 6587, 3.4.1).
     BadCount { at: u64 },
 }

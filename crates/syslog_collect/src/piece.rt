@@ -24,11 +24,11 @@ use syslog_legacy::FrameReading;
 /// What one advance did with the rest of a piece.
 #[derive(Clone, Copy, Debug)]
 pub enum Step {
-    /// It was refused after so many octets.
+    /// It was refused after `used` octets.
     Stopped { used: usize, fault: CollectFault },
-    /// The rest is used up, or follows a bad count.
+    /// The rest is used up, or comes behind a bad count.
     Ended,
-    /// So many octets were used, and more are left.
+    /// `used` octets were used, and more are left.
     On { used: usize },
 }
 

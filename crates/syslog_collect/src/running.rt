@@ -2,7 +2,7 @@
 
 ghost use Rattle.std.specs.Prelude.{◌≡◌, ◌++◌, ◌<◌, ◌≤◌, ◌+◌, ℕ, List, length, vec_capacity, vec_len};
 ghost use Rattle.archive_text.specs.Entries.{Entry};
-ghost use Rattle.syslog_collect.specs.Collectors.{GoesOn, HaveSameConnections, Stands, limit_of, reading_of};
+ghost use Rattle.syslog_collect.specs.Collectors.{GoesOn, HaveSameConnections, Stands, behind, limit_of, reading_of};
 ghost use Rattle.syslog_collect.specs.Collectors.{store_of, waits_of};
 ghost use Rattle.syslog_collect.specs.History.{AcceptedEvent, history_of};
 ghost use Rattle.syslog_collect.specs.Logs.{Grows, LogsDatagram, LogsEventEnd, LogsPiece, LogsRun};
@@ -33,17 +33,17 @@ fn end_of(answer: Result<(), CollectFault>) -> EventEnd
 }
 
 impl<S: Store> Collector<S> {
-    /// A piece, advanced until its rest is empty, and at least once.
+    /// Handles a piece: advances until its rest is empty, at least once.
     fn piece(&mut self, alloc: Global, conn: u32, octets: &[u8], log: &mut Vec<Outcome>) -> EventEnd
         ensures goes_on { GoesOn S.entries self.old self.new (accepted_piece_end conn octets.now result) }
-        ensures logged { (first : List Entry) (events : List AcceptedEvent)
-            → Stands S.entries self.old first events
+        ensures logged { (past first : List Entry) (events : List AcceptedEvent)
+            → Stands (behind past S.entries) self.old first events
             → Grows (LogsPiece (reading_of self.old) (history_of events) (waits_of self.old)
             (waits_of self.new) conn octets.now result (S.entries (store_of self.old))
             (S.entries (store_of self.new))) log.old.items log.new.items }
         ensures within { IfStopped result (λ taken fault. taken ≤ length octets.now) }
-        ensures cause { (first : List Entry) (events : List AcceptedEvent)
-            → Stands S.entries self.old first events
+        ensures cause { (past first : List Entry) (events : List AcceptedEvent)
+            → Stands (behind past S.entries) self.old first events
             → IfStopped result (λ taken fault. StopsPieceAt (reading_of self.old) conn octets.now taken
             (waits_of self.new conn) fault (history_of events)) }
     {
@@ -63,7 +63,7 @@ impl<S: Store> Collector<S> {
         }
     }
 
-    /// A datagram, whose outcome the log has room for.
+    /// Handles a datagram, for whose outcome the log has room.
     fn logged_datagram(&mut self, alloc: Global, octets: &[u8], log: &mut Vec<Outcome>) -> EventEnd
         requires { vec_len log.old < vec_capacity log.old }
         ensures goes_on { GoesOn S.entries self.old self.new (accepted_datagram_end octets.now result) }
@@ -85,20 +85,20 @@ impl<S: Store> Collector<S> {
         }
     }
 
-    /// One event, as far as it goes. Room for an outcome is made in the log first.
+    /// Handles one event, as far as it goes. Room for an outcome is made in the log first.
     fn run_event(&mut self, alloc: Global, event: Event<'_>, log: &mut Vec<Outcome>) -> EventEnd
         ensures goes_on { GoesOn S.entries self.old self.new (accepted_by event.entry result) }
-        ensures logged { (first : List Entry) (events : List AcceptedEvent)
-            → Stands S.entries self.old first events
+        ensures logged { (past first : List Entry) (events : List AcceptedEvent)
+            → Stands (behind past S.entries) self.old first events
             → Grows (LogsEventEnd (reading_of self.old) (history_of events) (waits_of self.old)
             (waits_of self.new) event.entry result (S.entries (store_of self.old))
             (S.entries (store_of self.new))) log.old.items log.new.items }
-        ensures cause { (first : List Entry) (events : List AcceptedEvent)
-            → Stands S.entries self.old first events
+        ensures cause { (past first : List Entry) (events : List AcceptedEvent)
+            → Stands (behind past S.entries) self.old first events
             → IfStopped result (StopsAt (limit_of self.old) (reading_of self.old) (history_of events) (waits_of self.new)
             event.entry) }
-        ensures ends { (first : List Entry) (events : List AcceptedEvent)
-            → Stands S.entries self.old first events
+        ensures ends { (past first : List Entry) (events : List AcceptedEvent)
+            → Stands (behind past S.entries) self.old first events
             → IfDone result (EndsWell (history_of events) event.entry) }
     {
         if log.reserve(1).is_err() {
@@ -115,38 +115,38 @@ impl<S: Store> Collector<S> {
         }
     }
 
-    /// Handles events in order, up to the first that is refused, and appends each outcome to the
-    /// log. The octets of a piece that follow a bad count are dropped.
+    /// Handles events in order, up to the first one that is refused, and appends each outcome to
+    /// the log. The octets of a piece that follow a bad count are dropped.
     ///
-    /// After `Stopped { at, taken, fault }` the events before `at` were accepted, and `taken` octets
-    /// of a piece there, so that the caller may go on with the rest; an end there that is
-    /// `Unterminated` has closed its connection. Where memory was refused for a record,
-    /// `Memory { used }` tells how many of these octets are of its frame. Room for an outcome is made
-    /// in the log before each call: if that is refused, the fault is `Memory { used: 0 }`, and either
-    /// no octets were taken, or they end a frame and none waits.
+    /// After `Stopped { at, taken, fault }` the events before `at` were accepted, and if that one
+    /// is a piece, `taken` of its octets, so that the caller may go on with the rest; an end that
+    /// is refused with `Unterminated` has closed its connection. If memory was refused for a
+    /// record, `Memory { used }` tells how many of these octets are of its frame. Room for an
+    /// outcome is made in the log before each call: if that is refused, the fault is `Memory {
+    /// used: 0 }`, and either no octets were taken, or they end a frame and none waits.
     pub fn run(&mut self, alloc: Global, events: &[Event<'_>], log: &mut Vec<Outcome>) -> RunEnd
         // It stands at the events with those that were accepted, and with the part of the last.
         ensures goes_on { GoesOn S.entries self.old self.new (accepted_run events.now result) }
         // Why it stopped: the first event that is refused, its cause after the events before it, and
         // how much of a piece was taken there.
-        ensures cause { (first : List Entry) (before : List AcceptedEvent)
-            → Stands S.entries self.old first before
+        ensures cause { (past first : List Entry) (before : List AcceptedEvent)
+            → Stands (behind past S.entries) self.old first before
             → StopsAs (limit_of self.old) (reading_of self.old) (history_of before) (waits_of self.new) events.now result }
         // It may have so many connections open.
         ensures many { CONNECTIONS_MAX ≤ limit_of self.old }
         // It did not stop at an end: the connection's last frame is whole, or it held a bad count.
-        ensures ends { (first : List Entry) (before : List AcceptedEvent)
-            → Stands S.entries self.old first before
+        ensures ends { (past first : List Entry) (before : List AcceptedEvent)
+            → Stands (behind past S.entries) self.old first before
             → EndWell (history_of before) (done_events events.now result) }
         // After Done no frame waits of a number of which a piece came; of the others as many as
         // before.
-        ensures waits { (first : List Entry) (before : List AcceptedEvent)
-            → Stands S.entries self.old first before → IfAllDone result ((d : ℕ)
+        ensures waits { (past first : List Entry) (before : List AcceptedEvent)
+            → Stands (behind past S.entries) self.old first before → IfAllDone result ((d : ℕ)
             → waits_of self.new d ≡ waiting_after_all (waits_of self.old) (accepted_all events.now) d) }
         // The log has the outcomes in the order in which the frames' last octets came: of a run
         // that stops too, where a frame for which memory was refused waits for the next call.
-        ensures logged { (first : List Entry) (before : List AcceptedEvent)
-            → Stands S.entries self.old first before
+        ensures logged { (past first : List Entry) (before : List AcceptedEvent)
+            → Stands (behind past S.entries) self.old first before
             → Grows (LogsRun (reading_of self.old) (history_of before) (waits_of self.old)
             (waits_of self.new) events.now result (S.entries (store_of self.old))
             (S.entries (store_of self.new))) log.old.items log.new.items }

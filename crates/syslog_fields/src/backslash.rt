@@ -1,4 +1,4 @@
-//! What the backslashes in the spelling of a value take (RFC 5424, 6.3.3).
+//! Which octets the backslashes in the spelling of a value take (RFC 5424, 6.3.3).
 
 ghost use Rattle.std.specs.Prelude.{◌≡◌, ◌<◌, ◌∷◌, ℕ, IfSome, IsTrue, false, length};
 ghost use Rattle.syslog_fields.specs.FirstElements.{takes_next};
@@ -9,7 +9,7 @@ use crate::near::near_octet;
 use crate::reading::behind_first;
 use crate::unescape::begins_special;
 
-/// What follows an escape at the start.
+/// What follows the escape that comes first, if one does.
 #[inline(always)]
 fn behind_escape(octets: &[u8]) -> Option<&[u8]>
     ensures escape { IfSome result (λ rest. (x : ℕ) × IsSpecial x × (octets.now ≡ 92 ∷ x ∷ rest.now)) }
@@ -21,7 +21,7 @@ fn behind_escape(octets: &[u8]) -> Option<&[u8]>
     }
 }
 
-/// What follows the escapes at the start.
+/// What follows the escapes that come first.
 #[inline(always)]
 pub fn behind_escapes(octets: &[u8]) -> &[u8]
     ensures { PassesEscapes octets.now result.now }
@@ -33,8 +33,8 @@ pub fn behind_escapes(octets: &[u8]) -> &[u8]
     rest
 }
 
-/// Whether the octets end with a backslash that takes the octet after them: backslashes come last,
-/// and an odd number of them.
+/// Whether the octets end with a backslash that takes the octet after them: they end with an odd
+/// number of backslashes.
 #[inline(always)]
 pub fn ends_taking(octets: &[u8]) -> bool
     ensures { result ≡ takes_next false octets.now }
@@ -49,8 +49,8 @@ pub fn ends_taking(octets: &[u8]) -> bool
     takes
 }
 
-/// Whether the spelling of a value has a backslash that is no escape: a canonical record has it
-/// twice.
+/// Whether the spelling of a value has a backslash that is no escape; the canonical form doubles
+/// it.
 #[inline(always)]
 pub fn has_lone(raw: &[u8]) -> bool
     ensures lone { IsTrue result → HasLongerForm raw.now }

@@ -59,7 +59,8 @@ fn three_behind(low: u8, high: u8, octets: &[u8]) -> Result<&[u8], Stop>
     two_behind(0x80, 0xbf, rest)
 }
 
-/// Reads one character, and gives what follows it.
+/// Reads one character, and gives what follows it. The [`Stop`] is at the first octet that cannot
+/// go on with one.
 #[inline]
 pub fn behind_character(octets: &[u8]) -> Result<&[u8], Stop>
     ensures { Passes remaining_of IsCharacter (λ x. x.now) octets.now result }

@@ -7,10 +7,10 @@ ghost use Rattle.syslog_fields.specs.Values.{IsPlainOctet};
 
 use std::simd::prelude::*;
 
-/// Octets of one load.
+/// How many octets one load has.
 pub const LANES: usize = 16;
 
-/// How many lanes come before the first that is set in a mask.
+/// How many lanes come before the first one that is set in a mask.
 #[inline(always)]
 fn lanes_before(mask: u64) -> usize
     ensures { result ≡ first_set mask }
@@ -22,7 +22,7 @@ fn lanes_before(mask: u64) -> usize
     }
 }
 
-/// How many of the sixteen octets at an offset, from the first on, are printable.
+/// How many of the sixteen octets at an offset come before the first that is not printable.
 #[inline(always)]
 pub fn printable_run(octets: &[u8], at: usize) -> usize
     requires { at + LANES ≤ length octets.now }
@@ -32,7 +32,7 @@ pub fn printable_run(octets: &[u8], at: usize) -> usize
     lanes_before(above_space.simd_ge(u8x16::splat(94)).to_bitmask())
 }
 
-/// How many of the sixteen octets at an offset, from the first on, may be part of a name.
+/// How many of the sixteen octets at an offset come before the first that cannot be part of a name.
 #[inline(always)]
 pub fn name_run(octets: &[u8], at: usize) -> usize
     requires { at + LANES ≤ length octets.now }
@@ -45,8 +45,8 @@ pub fn name_run(octets: &[u8], at: usize) -> usize
     lanes_before((outside | marks).to_bitmask())
 }
 
-/// How many of the sixteen octets at an offset, from the first on, are pieces of a value that mean
-/// themselves.
+/// How many of the sixteen octets at an offset come before the first that is no piece of a value
+/// meaning itself.
 #[inline(always)]
 pub fn plain_run(octets: &[u8], at: usize) -> usize
     requires { at + LANES ≤ length octets.now }
@@ -59,7 +59,7 @@ pub fn plain_run(octets: &[u8], at: usize) -> usize
     lanes_before((high | special).to_bitmask())
 }
 
-/// How many of the sixteen octets at an offset come before the first that is one of two.
+/// How many of the sixteen octets at an offset come before the first that is either of two.
 #[inline(always)]
 pub fn run_before_either(first: u8, second: u8, octets: &[u8], at: usize) -> usize
     requires { at + LANES ≤ length octets.now }
@@ -73,7 +73,7 @@ pub fn run_before_either(first: u8, second: u8, octets: &[u8], at: usize) -> usi
 /// The least octet at each place of a date and a time of day up to the minutes.
 const LEAST: [u8; LANES] = *b"0000-00-00T00:00";
 
-/// The greatest octet at each place. That 19 is no month is left to the caller.
+/// The greatest octet at each place. It lets 19 pass as a month, which the caller refuses.
 const MOST: [u8; LANES] = *b"9999-19-39T29:59";
 
 /// Whether the first sixteen octets may be a date and a time of day up to the minutes.

@@ -21,7 +21,8 @@ fn is_name_octet(octet: u8) -> bool
     octet >= 33 && octet <= 126 && octet != b'=' && octet != b']' && octet != b'"'
 }
 
-/// How many octets at the start may be part of a name, up to a limit, where so many are known to be.
+/// How many octets at the start may be part of a name, up to a limit, if the first `from` are known
+/// to be.
 #[inline(always)]
 fn name_len_from(limit: usize, octets: &[u8], from: usize) -> usize
     requires limit { limit ≤ length octets.now }
@@ -39,7 +40,7 @@ fn name_len_from(limit: usize, octets: &[u8], from: usize) -> usize
     limit
 }
 
-/// How many octets at the start may be part of a name, up to the most that a name has.
+/// How many octets at the start may be part of a name, up to the most that a name may have.
 #[inline(always)]
 fn name_len(octets: &[u8]) -> usize
     ensures most { result ≤ 32 }
@@ -71,7 +72,8 @@ fn goes_on(octets: &[u8]) -> bool
     }
 }
 
-/// Reads a name, and leaves what ends it.
+/// Reads a name; what ends it is left. The [`Stop`] is where no name begins, or behind the first 32
+/// octets of a longer one.
 #[inline(always)]
 pub fn name(octets: &[u8]) -> Result<(&[u8], &[u8]), Stop>
     ensures { MatchResult result

@@ -1,4 +1,4 @@
-//! The first offset of an octet that is mostly near.
+//! The first offset of an octet that is mostly near the start.
 
 ghost use Rattle.std.specs.Prelude.{◌≡◌, ◌≤◌, length};
 ghost use Rattle.memchr.specs.Find.{IsFirstByte, Nowhere, Passes, is_byte, is_byte2};
@@ -12,7 +12,7 @@ fn is_either(first: u8, second: u8, octet: u8) -> bool
     octet == first || octet == second
 }
 
-/// The first offset of either octet, from one on before which neither stands.
+/// The first offset of either octet; neither stands before `from`.
 #[inline(always)]
 fn either_from(first: u8, second: u8, octets: &[u8], from: usize) -> Option<usize>
     requires within { from ≤ length octets.now }

@@ -14,7 +14,7 @@ fn is_digit(octet: u8) -> bool
     octet >= b'0' && octet <= b'9'
 }
 
-/// Whether the digits of a value up to 191 go on with this one.
+/// Whether a value up to 191 can continue with this digit.
 fn goes_on(value: u8, octet: u8) -> bool
     requires { value ≤ 191 }
     ensures { IsTrue result
@@ -23,7 +23,7 @@ fn goes_on(value: u8, octet: u8) -> bool
     value > 0 && value <= 19 && is_digit(octet) && 10 * value + (octet - b'0') <= 191
 }
 
-/// Reads a number and the bracket that follows it.
+/// Reads a number up to 191 and the bracket that follows it.
 fn number(octets: &[u8]) -> Result<(u8, &[u8]), Stop>
     ensures { Reads remaining_of (λ v. Number v ⋅ Only (62 ∷ [])) (λ x. (x.0, x.1.now))
         octets.now result }
@@ -57,7 +57,8 @@ fn number(octets: &[u8]) -> Result<(u8, &[u8]), Stop>
     })
 }
 
-/// Reads PRI.
+/// Reads PRI: `<`, PRIVAL from 0 to 191 without leading zeros, and `>`. The [`Stop`] is at the
+/// first octet with which it cannot go on.
 #[inline(always)]
 pub fn priority(octets: &[u8]) -> Result<(u8, &[u8]), Stop>
     ensures { Reads remaining_of Priority (λ x. (x.0, x.1.now)) octets.now result }
@@ -66,7 +67,8 @@ pub fn priority(octets: &[u8]) -> Result<(u8, &[u8]), Stop>
     number(behind)
 }
 
-/// Reads VERSION and the space that follows it.
+/// Reads the VERSION `1` and the space that follows it. The [`Stop`] is at the first octet that is
+/// another one.
 #[inline(always)]
 pub fn version(octets: &[u8]) -> Result<&[u8], Stop>
     ensures { Passes remaining_of (Spaced Version) (λ x. x.now) octets.now result }

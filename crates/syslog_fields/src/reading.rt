@@ -5,10 +5,11 @@ ghost use Rattle.octet_language.specs.Language.{Only};
 ghost use Rattle.octet_language.specs.Reading.{Passes};
 ghost use Rattle.syslog_fields.specs.Stops.{remaining_of};
 
-/// Where no text can go on: so many octets are left there, which is the same number however many
-/// octets come first.
+/// Where no text can go on. It is told by how many octets are left there, since that number does
+/// not depend on how many came before.
 #[derive(Clone, Copy, Debug, PartialEq, Eq)]
 pub struct Stop {
+    /// How many octets are left, from the one that cannot go on.
     pub remaining: usize,
 }
 
@@ -34,7 +35,7 @@ pub fn behind_first(octets: &[u8]) -> &[u8]
     }
 }
 
-/// Whether both hold.
+/// Whether both are true.
 #[inline(always)]
 pub fn both(left: bool, right: bool) -> bool
     ensures { result ≡ (left && right) }
@@ -42,7 +43,7 @@ pub fn both(left: bool, right: bool) -> bool
     left && right
 }
 
-/// Reads one octet, which has to be the expected one.
+/// Reads one octet, which must be the expected one. Another one, or none, is a [`Stop`].
 #[inline(always)]
 pub fn expect(expected: u8, octets: &[u8]) -> Result<&[u8], Stop>
     ensures { Passes remaining_of (Only (expected ∷ [])) (λ x. x.now) octets.now result }

@@ -1,4 +1,4 @@
-//! Texts in UTF-8, and the exact offset where octets are none.
+//! Texts in UTF-8, and the exact offset at which octets cease to be one.
 
 ghost use Rattle.std.specs.Prelude.{◌≡◌, ◌↔◌, IsTrue, MatchResult};
 ghost use Rattle.octet_language.specs.Language.{IsFaultOffset};
@@ -22,7 +22,7 @@ fn characters(octets: &[u8]) -> Result<(), Stop>
     Ok(())
 }
 
-/// Whether octets are a text.
+/// Whether the octets are a text in UTF-8.
 #[inline]
 pub fn is_text(octets: &[u8]) -> bool
     ensures { IsTrue result ↔ IsText octets.now }
@@ -33,7 +33,7 @@ pub fn is_text(octets: &[u8]) -> bool
     }
 }
 
-/// Reads a text up to the end.
+/// Reads a text up to the end. The [`Stop`] is at the first octet with which it cannot go on.
 #[inline]
 pub fn text(octets: &[u8]) -> Result<&str, Stop>
     ensures { MatchResult result (λ s. (s.now ≡ octets.now) × IsText octets.now)
@@ -50,9 +50,9 @@ pub fn text(octets: &[u8]) -> Result<&str, Stop>
 
 /// The octets as a text in UTF-8 (RFC 3629, section 4).
 ///
-/// Where they are none, the answer is the length of their longest prefix that some text begins
-/// with: inside a character that is the offset of the first octet that cannot go on with it, or the
-/// end of the octets. It takes no memory.
+/// If they are none, the answer is the length of their longest prefix that some text begins with:
+/// the offset of the first octet that cannot continue a character, or the number of octets where
+/// they end inside one. It takes no memory.
 pub fn utf8(octets: &[u8]) -> Result<&str, usize>
     ensures { MatchResult result (λ s. (s.now ≡ octets.now) × IsText octets.now)
         (λ at. ¬ (IsText octets.now) × IsFaultOffset IsText octets.now at) }

@@ -20,19 +20,22 @@ use crate::lanes::has_date_shape;
 use crate::reading::{Stop, expect, next};
 use syslog_value::Civil;
 
-/// The octets of a date and the time of a day, as `2003-10-11T22:14:15`.
+/// How many octets a date and a time of day have, such as `2003-10-11T22:14:15`.
 pub const STAMP_LEN: usize = 19;
 
-/// The octets of the time of a day, as `22:14:15`.
+/// How many octets a time of day has, such as `22:14:15`.
 const CLOCK_LEN: usize = 8;
 
-/// The most octets of a fraction and a zone, as `.003000-07:00`, and the octet after them.
+/// How many octets a fraction and a zone, such as `.003000-07:00`, and the octet after them have at
+/// most.
 const ZONE_LEN: usize = 14;
 
 /// A civil time as it is spelled, and how many minutes it is ahead of UTC.
 #[derive(Clone, Copy, Debug, PartialEq, Eq)]
 pub struct Timestamp {
+    /// The civil time, in the clock of its zone.
     pub civil: Civil,
+    /// How many minutes that clock is ahead of UTC, -1,439 to 1,439.
     pub offset_minutes: i16,
 }
 
@@ -43,7 +46,7 @@ fn is_digit(octet: u8) -> bool
     octet >= b'0' && octet <= b'9'
 }
 
-/// Reads a number from `low` to `high` in two digits.
+/// Reads a number of two digits from `low` to `high`.
 #[inline(always)]
 fn two(low: u8, high: u8, octets: &[u8]) -> Result<(u8, &[u8]), Stop>
     requires some { low ≤ high }
@@ -106,7 +109,7 @@ fn is_leap_year(year: u16) -> bool
     (year % 4 == 0 && !(year % 100 == 0)) || year % 400 == 0
 }
 
-/// How many days a month has.
+/// How many days a month of a year has.
 #[inline(always)]
 pub fn last_day(year: u16, month: u8) -> u8
     ensures value { result ≡ month_length year month }
@@ -164,7 +167,7 @@ fn read_clock(octets: &[u8]) -> Result<((u8, u8, u8), &[u8]), Stop>
     Ok(((hour, minute, second), rest))
 }
 
-/// The same where fewer octets are left.
+/// The same if fewer octets are left.
 #[cold]
 #[inline(never)]
 fn last_clock(octets: &[u8]) -> Result<((u8, u8, u8), &[u8]), Stop>
@@ -173,8 +176,8 @@ fn last_clock(octets: &[u8]) -> Result<((u8, u8, u8), &[u8]), Stop>
     read_clock(octets)
 }
 
-/// Reads the time of a day. Where there are octets enough, the compiler leaves out the tests for the
-/// end.
+/// Reads the time of a day. If there are enough octets, the compiler leaves out the tests for the
+/// end. The [`Stop`] is at the first octet with which it cannot go on.
 #[inline(always)]
 pub fn clock(octets: &[u8]) -> Result<((u8, u8, u8), &[u8]), Stop>
     ensures { Reads remaining_of Clock (λ x. (x.0, x.1.now)) octets.now result }
@@ -197,7 +200,7 @@ fn number(octets: &[u8], at: usize) -> u8
     10 * (octets[at] - b'0') + (octets[at + 1] - b'0')
 }
 
-/// Whether a colon and seconds, as `:15`, follow the minutes.
+/// Whether a colon and seconds, such as `:15`, follow the minutes.
 #[inline(always)]
 fn has_seconds(octets: &[u8]) -> bool
     requires { STAMP_LEN ≤ length octets.now }
@@ -207,8 +210,8 @@ fn has_seconds(octets: &[u8]) -> bool
     octets[16] == b':' && octets[17] >= b'0' && octets[17] <= b'5' && is_digit(octets[18])
 }
 
-/// Reads a date, `T` and the time of a day, the first sixteen octets by one comparison. None where an
-/// octet is missing or wrong: the readers of the parts find where.
+/// Reads a date, `T` and the time of a day, the first sixteen octets by one comparison. None if an
+/// octet is missing or wrong: the readers of the parts then find where.
 #[inline(always)]
 fn quick_date_and_clock(octets: &[u8]) -> Option<(((u16, u8, u8), (u8, u8, u8)), &[u8])>
     ensures { IfSome result (λ x. DateClock x.0 octets.now x.1.now) }
@@ -290,7 +293,7 @@ fn digit_at(digits: &[u8], offset: usize) -> u32
     }
 }
 
-/// The microseconds that the digits after the point mean.
+/// The microseconds that the digits after the point stand for.
 #[inline(always)]
 fn micros(digits: &[u8]) -> u32
     requires most { length digits.now ≤ 6 }
@@ -336,7 +339,7 @@ fn decimals(octets: &[u8]) -> Result<(u32, &[u8]), Stop>
     Ok((micros(digits), rest))
 }
 
-/// Reads the hours and minutes of an offset, in minutes.
+/// Reads the hours and minutes of an offset, and gives it in minutes.
 #[inline(always)]
 fn offset(octets: &[u8]) -> Result<(u16, &[u8]), Stop>
     ensures reads { Reads remaining_of OffsetText (λ x. (x.0, x.1.now)) octets.now result }
@@ -346,7 +349,7 @@ fn offset(octets: &[u8]) -> Result<(u16, &[u8]), Stop>
     Ok((60 * u16::from(hour) + u16::from(minute), rest))
 }
 
-/// Reads the zone.
+/// Reads the zone, and gives it in minutes ahead of UTC.
 #[inline(always)]
 fn zone(octets: &[u8]) -> Result<(i16, &[u8]), Stop>
     ensures { Reads remaining_of ZoneText (λ x. (x.0, x.1.now)) octets.now result }
@@ -391,7 +394,7 @@ fn read_fraction_and_zone(octets: &[u8]) -> Result<((u32, i16), &[u8]), Stop>
     Ok(((0, offset), rest))
 }
 
-/// The same where fewer octets are left.
+/// The same if fewer octets are left.
 #[cold]
 #[inline(never)]
 fn last_fraction_and_zone(octets: &[u8]) -> Result<((u32, i16), &[u8]), Stop>
@@ -437,7 +440,8 @@ fn time(octets: &[u8]) -> Result<(Timestamp, &[u8]), Stop>
     ))
 }
 
-/// Reads a time, or NILVALUE, and the space that follows it.
+/// Reads a time or NILVALUE, and the space that follows it. The [`Stop`] is at the first octet with
+/// which these cannot go on.
 #[inline(always)]
 pub fn nilable_time(octets: &[u8]) -> Result<(Option<Timestamp>, &[u8]), Stop>
     ensures { Reads remaining_of (λ t. Spaced (Nilable TimeText t))
@@ -457,8 +461,8 @@ pub fn nilable_time(octets: &[u8]) -> Result<(Option<Timestamp>, &[u8]), Stop>
     Ok((Some(time), rest))
 }
 
-/// Whether a time, if there is one, is of a year all of whose times name an instant in range, in any
-/// zone.
+/// Whether the year of a time, if there is one, is such that all its times name an instant in
+/// range, whatever the zone.
 #[inline(always)]
 pub fn has_inner_year(time: Option<Timestamp>) -> bool
     ensures { IsTrue result → IfSome time (λ t. (1 ≤ t.civil.year) × (t.civil.year ≤ 9998)) }

@@ -21,7 +21,7 @@ pub fn begins_special(octets: &[u8]) -> bool
     }
 }
 
-/// The octet that a backslash and what follows it mean, and what is left.
+/// What the piece that comes first means if a backslash begins it, and what follows the piece.
 pub fn split_meaning(octets: &[u8]) -> (&[u8], &[u8])
     requires { (behind : List ℕ) × (octets.now ≡ 92 ∷ behind) }
     ensures { MeansFirst octets.now result.0.now result.1.now }
@@ -33,7 +33,7 @@ pub fn split_meaning(octets: &[u8]) -> (&[u8], &[u8])
     (backslash, behind)
 }
 
-/// The text that a value means, as it is spelled.
+/// The text that a value means, from its spelling. It fails only when out of memory.
 pub fn unescape(alloc: Global, raw: &[u8]) -> Result<Vec<u8>, AllocError>
     ensures { IfOk result (λ octets. (text : List ℕ) → Spells text raw.now → octets.items ≡ text) }
 {

@@ -19,7 +19,7 @@ use crate::reading::{Stop, behind_first, both, expect, next};
 use crate::text::is_text;
 use crate::unescape::begins_special;
 
-/// Reads one character, which is mostly one octet.
+/// Reads one character, which is mostly a single octet.
 #[inline(always)]
 fn behind_escaped(octets: &[u8]) -> Result<&[u8], Stop>
     ensures { Passes remaining_of IsCharacter (λ x. x.now) octets.now result }
@@ -75,7 +75,7 @@ fn begins_plain(octets: &[u8]) -> bool {
     }
 }
 
-/// An offset up to which octets are pieces of a value that mean themselves, sixteen of them at a
+/// An offset up to which all octets are pieces of a value that mean themselves, found sixteen at a
 /// time.
 #[inline(always)]
 fn plain_blocks(octets: &[u8]) -> usize
@@ -111,7 +111,7 @@ fn plain_len(octets: &[u8]) -> usize
     octets.len()
 }
 
-/// What follows the octets at the start that mean themselves.
+/// What follows the octets at the start that are pieces meaning themselves.
 #[inline(always)]
 fn behind_plain(octets: &[u8]) -> &[u8]
     ensures { PassesPlain octets.now result.now }
@@ -120,8 +120,8 @@ fn behind_plain(octets: &[u8]) -> &[u8]
     rest
 }
 
-/// Whether the piece that comes first is spelled as in a canonical record: no other backslash than
-/// that of an escape comes first.
+/// Whether the piece that comes first is spelled as in a canonical record, where a backslash only
+/// begins an escape.
 #[inline(always)]
 fn begins_form(octets: &[u8]) -> bool
     ensures form { IsTrue result → ¬ (BeginsLone octets.now) }
@@ -159,7 +159,7 @@ fn behind_value(octets: &[u8]) -> Result<(&[u8], bool), Stop>
     })
 }
 
-/// Reads a value like `value`, from any octets.
+/// Reads a value as [`value`] does, from any octets.
 #[cold]
 fn value_of_pieces(octets: &[u8]) -> Result<(&[u8], &[u8], bool), Stop>
     ensures reads { Reads remaining_of (λ raw. Text (AnyOf (Each Piece)) raw ⋅ Only (34 ∷ []))
@@ -184,8 +184,8 @@ fn plain_value(octets: &[u8]) -> Option<(&[u8], &[u8])>
     }
 }
 
-/// Octets up to a quotation mark that no backslash takes, and what follows it, if no closing bracket
-/// that none takes comes before it.
+/// The octets up to a quotation mark that no backslash takes, and what follows it, unless a closing
+/// bracket that no backslash takes comes before it.
 #[inline(always)]
 fn marked_value(octets: &[u8]) -> Option<(&[u8], &[u8])>
     ensures { IfSome result (λ x. (octets.now ≡ x.0.now ++ 34 ∷ x.1.now) × HasNoMark x.0.now) }
@@ -205,8 +205,8 @@ fn marked_value(octets: &[u8]) -> Option<(&[u8], &[u8])>
     None
 }
 
-/// Reads a value by its marks, and its quotation mark: where all its octets are characters, each that
-/// is no mark is part of a piece.
+/// Reads a value by its marks, and its quotation mark: if all its octets are characters, each one
+/// that is no mark is part of a piece.
 #[inline(always)]
 fn text_value(octets: &[u8]) -> Option<(&[u8], &[u8], bool)>
     ensures reads { IfSome result (λ x.
@@ -220,8 +220,9 @@ fn text_value(octets: &[u8]) -> Option<(&[u8], &[u8], bool)>
     Some((raw, rest, !has_lone(raw)))
 }
 
-/// Reads a value, which is given as it is spelled, and the quotation mark that ends it, and tells
-/// whether it is spelled as in a canonical record.
+/// Reads a value and the quotation mark that ends it. It gives the value as it is spelled, what
+/// follows, and whether it is spelled as in a canonical record. The [`Stop`] is at the first octet
+/// with which these cannot go on.
 #[inline]
 pub fn value(octets: &[u8]) -> Result<(&[u8], &[u8], bool), Stop>
     ensures reads { Reads remaining_of (λ raw. Text (AnyOf (Each Piece)) raw ⋅ Only (34 ∷ []))
@@ -261,7 +262,8 @@ fn meaning(piece: &[u8]) -> &[u8]
     piece
 }
 
-/// Reads one piece of a value, and gives what it means.
+/// Reads one piece of a value, and gives what it means and what follows it. The [`Stop`] is at the
+/// first octet with which it cannot go on.
 #[inline(always)]
 pub fn piece(octets: &[u8]) -> Result<(&[u8], &[u8]), Stop>
     ensures { Reads remaining_of Piece (λ x. (x.0.now, x.1.now)) octets.now result }

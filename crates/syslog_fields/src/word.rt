@@ -12,7 +12,7 @@ ghost use Rattle.syslog_fields.specs.Stops.{remaining_of};
 use crate::lanes::{LANES, printable_run};
 use crate::reading::{Stop, both, next};
 
-/// A limit above this is that of host names.
+/// The limit above this one is that of host names.
 const HOSTNAME_FROM: usize = 128;
 
 #[inline(always)]
@@ -22,7 +22,7 @@ fn is_printable(octet: u8) -> bool
     octet >= 33 && octet <= 126
 }
 
-/// Whether a word is NILVALUE. No branch depends on the first octet alone.
+/// Whether a word is NILVALUE. No branch depends on its first octet alone.
 #[inline(always)]
 fn is_nil(word: &[u8]) -> bool
     ensures { IsTrue result ↔ (word.now ≡ 45 ∷ []) }
@@ -33,7 +33,7 @@ fn is_nil(word: &[u8]) -> bool
     }
 }
 
-/// A offset up to which octets are printable, sixteen of them at a time.
+/// An offset up to which all octets are printable, found sixteen at a time.
 #[inline(always)]
 fn printable_blocks(most: usize, octets: &[u8]) -> usize
     requires { most ≤ length octets.now }
@@ -82,8 +82,8 @@ fn two_printable_runs(octets: &[u8]) -> usize
     if first < LANES { first } else { LANES + second }
 }
 
-/// How many octets at the start are printable, up to a limit: of short words by one load, and of host
-/// names, which are often longer than sixteen octets, by two.
+/// How many octets at the start are printable, up to a limit: for short words by one load, and for
+/// host names, which are often longer than sixteen octets, by two.
 #[inline(always)]
 fn printable_len(limit: usize, octets: &[u8]) -> usize
     ensures most { result ≤ limit }
@@ -117,7 +117,8 @@ fn printable_prefix(limit: usize, octets: &[u8]) -> (&[u8], &[u8])
     octets.split_at(printable_len(limit, octets))
 }
 
-/// Reads a word of at most `N` octets, or NILVALUE, and the space that follows it.
+/// Reads a word of at most `N` octets, or NILVALUE as None, and the space that follows it. The
+/// [`Stop`] is at the first octet with which these cannot go on.
 #[inline(always)]
 pub fn word<const N: usize>(octets: &[u8]) -> Result<(Option<&[u8]>, &[u8]), Stop>
     requires { 0 < N }

@@ -7,29 +7,29 @@ ghost use Rattle.syslog_frame.specs.MsgLen.{IsMsgLen};
 
 use crate::limits::COUNT_MAX;
 
-/// What octets make of a count.
+/// What octets are as the digits of a count.
 #[derive(Clone, Copy, Debug, PartialEq, Eq)]
 pub enum CountStep {
-    /// The count and its space are the first octets.
+    /// The count, and the number of octets that its remaining digits and its space take.
     Read { count: u64, used: usize },
-    /// All octets are digits of the count.
+    /// All octets are digits of the count, which is not finished.
     Unfinished { count: u64 },
     /// The count cannot continue with the octet at this offset.
     Broken { count: u64, at: usize },
 }
 
-/// A length before octets.
+/// What octets begin with, as a length.
 #[derive(Clone, Copy, Debug, PartialEq, Eq)]
 pub enum MsgLen {
     /// The count, and the number of octets that its digits and the space take.
     Whole { count: u64, used: usize },
-    /// The octets are a proper prefix of a count and its space.
+    /// The octets are a proper prefix of a count and its space, or there are none.
     Part,
-    /// No count continues with the octet at this offset.
+    /// No count can continue with the octet at this offset.
     Bad { at: usize },
 }
 
-/// The count with one more digit, where MSG-LEN can continue so.
+/// The count with one more digit, if MSG-LEN can continue with it.
 fn with_digit(count: u64, octet: u8) -> Option<u64>
     requires { count ≤ COUNT_MAX }
     ensures { MatchOption result (¬ (IsNextDigit count octet))
@@ -62,7 +62,7 @@ pub fn count_on(start: u64, octets: &[u8]) -> CountStep
     CountStep::Unfinished { count }
 }
 
-/// The MSG-LEN and space before octets.
+/// The MSG-LEN and the space that the octets begin with.
 pub fn msg_len(octets: &[u8]) -> MsgLen
     ensures { IsMsgLen octets.now result }
 {

@@ -8,7 +8,7 @@ pub enum StartFault {
     /// The position is above `POSITION_MAX`.
     #[error("the position is too large")]
     PositionTooLarge,
-    /// The allocation of room for a record failed.
+    /// The room for a record could not be allocated.
     #[error("out of memory")]
     Memory,
 }
@@ -16,7 +16,7 @@ pub enum StartFault {
 /// Why a scanner took nothing of a piece.
 #[derive(Clone, Copy, Debug, PartialEq, Eq, Error)]
 pub enum ScanFault {
-    /// A bad count was released, so that nothing more can be read.
+    /// A bad count was released: nothing more can be read.
     #[error("the stream held a bad count")]
     Failed,
     /// The piece reaches past `POSITION_MAX`.
@@ -41,13 +41,13 @@ pub enum EndFault {
 /// Why octets are not written as a frame.
 #[derive(Clone, Copy, Debug, PartialEq, Eq, Error)]
 pub enum PutFault {
-    /// A counted frame of no octets.
+    /// A counted frame would have no octets.
     #[error("a counted frame has at least one octet")]
     Empty,
-    /// A line that holds a line feed.
-    #[error("a line holds no line feed")]
+    /// The octets have a line feed, which a line cannot carry.
+    #[error("a line cannot hold a line feed")]
     HasLf,
-    /// More than `FRAME_MAX` octets.
+    /// There are more than `FRAME_MAX` octets.
     #[error("the frame is too long")]
     TooLong,
     /// The allocation failed.

@@ -9,7 +9,7 @@ use crate::framing::Framing;
 use crate::limits::{COUNT_MAX, FRAME_MAX};
 use memchr::memchr;
 
-/// The octets of a count of three digits and its space.
+/// How many octets a count of three digits and its space have.
 const COUNT_LEN: usize = 4;
 
 /// A frame that lies whole in octets of a stream.
@@ -17,11 +17,11 @@ const COUNT_LEN: usize = 4;
 pub struct FrameRef<'a> {
     /// The frame.
     pub frame: &'a [u8],
-    /// So many octets it takes on the stream.
+    /// How many octets it takes on the stream, its count or its line feed included.
     pub used: usize,
 }
 
-/// The record of so many octets behind its count, which takes the first `used` octets.
+/// The record of so many octets behind its count, which has the first `used` octets.
 #[inline(always)]
 fn counted_record(count: u64, used: usize, octets: &[u8]) -> Option<FrameRef<'_>>
     requires some { 0 < count }
@@ -45,7 +45,8 @@ fn counted_record(count: u64, used: usize, octets: &[u8]) -> Option<FrameRef<'_>
     })
 }
 
-/// The count of three digits that comes first with its space: that of most records, by one look.
+/// The count that comes first with its space, if it has three digits, as for most records: found at
+/// one look.
 #[inline(always)]
 fn three_digits(octets: &[u8]) -> Option<u64>
     ensures count { IfSome result (λ count. (0 < count) × (count ≤ COUNT_MAX)) }
@@ -101,7 +102,7 @@ fn line(octets: &[u8]) -> Option<FrameRef<'_>>
     })
 }
 
-/// The frame that comes first, where all of it is there and it is no longer than a frame may be.
+/// The frame that comes first, if all of it is there and it has at most `FRAME_MAX` octets.
 #[inline(always)]
 pub fn borrowed_frame(framing: Framing, octets: &[u8]) -> Option<FrameRef<'_>>
     ensures { IsFrameRef FRAME_MAX framing octets.now result }

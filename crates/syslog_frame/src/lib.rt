@@ -1,9 +1,9 @@
 //! How syslog records are framed on a stream (RFC 6587): both framings, a scanner that takes a
-//! stream in pieces of any cut, and the laws of frames.
+//! stream in pieces, cut anywhere, and the laws of frames.
 //!
 //! A [`Scanner`] keeps one unfinished frame. Feed it by [`Scanner::push`] until the piece is empty,
-//! look at [`Scanner::ready`] after each call, and drop what was ready by [`Scanner::release`].
-//! [`Scanner::next_borrowed`] gives a frame that lies whole in the piece without a copy.
+//! look at [`Scanner::ready`] after each call, and drop what is ready by [`Scanner::release`].
+//! [`Scanner::next_borrowed`] lends a frame that lies whole in the piece, without a copy.
 #![tactic(auto)]
 
 mod count;

@@ -1,9 +1,9 @@
 //! The limits of frames and streams.
 
-/// The most octets of a record in every framing.
+/// The most octets of a frame's record, in either framing.
 pub const FRAME_MAX: usize = 262_144;
 
-/// The greatest count that MSG-LEN writes: one of ten digits.
+/// The greatest count that MSG-LEN can have: ten digits.
 pub const COUNT_MAX: u64 = 9_999_999_999;
 
 /// The last position in a stream, in octets: 2^62.

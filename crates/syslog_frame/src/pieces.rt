@@ -21,7 +21,7 @@ use std::alloc::{AllocError, Global};
 /// How a stream stops after its frames.
 #[derive(Clone, Copy, Debug, PartialEq, Eq)]
 pub enum StreamEnd {
-    /// With the last of them.
+    /// With the last of them, whole.
     Whole,
     /// Inside a frame whose first octet is at this position.
     Unterminated { start: u64 },
@@ -38,10 +38,10 @@ pub struct StreamFrames {
     pub stop: StreamEnd,
 }
 
-/// What became of what was ready.
+/// What was done with what the scanner had ready.
 #[derive(Clone, Copy, Debug)]
 pub enum Step {
-    /// Nothing was.
+    /// Nothing was ready.
     Nothing,
     /// It was a bad count.
     Bad { at: u64 },
@@ -130,8 +130,9 @@ fn stop_of(scanner: &Scanner) -> StreamEnd
     }
 }
 
-/// The frames of a stream that comes in these pieces, and how it stops after them, by a scanner.
-/// It does not matter how the stream is cut.
+/// The frames of a stream that comes in these pieces, and how it stops after them. It does not
+/// matter how the stream is cut. It fails if the stream is longer than `POSITION_MAX` octets or
+/// memory runs out.
 pub fn frames_of_pieces(
     alloc: Global,
     framing: Framing,

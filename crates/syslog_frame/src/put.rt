@@ -33,7 +33,7 @@ fn put_line(octets: &[u8], out: &mut Vec<u8>) -> Result<(), AllocError>
     Ok(())
 }
 
-/// Appends a counted frame, as `put_line`.
+/// Appends a counted frame, as [`put_line`] appends a line.
 fn put_counted(octets: &[u8], out: &mut Vec<u8>) -> Result<(), AllocError>
     requires { length octets.now ≤ FRAME_MAX }
     ensures ok { OnOk result (out.new.items ≡ out.old.items ++ framed Counted octets.now) }
@@ -48,8 +48,8 @@ fn put_counted(octets: &[u8], out: &mut Vec<u8>) -> Result<(), AllocError>
     Ok(())
 }
 
-/// Appends octets to `out` as one frame. What is refused, in the order of the variants of
-/// [`PutFault`], leaves `out` unchanged.
+/// Appends octets to `out` as one frame. The refusals come in the order of the variants of
+/// [`PutFault`], and leave `out` unchanged.
 pub fn put_frame(framing: Framing, octets: &[u8], out: &mut Vec<u8>) -> Result<(), PutFault>
     ensures ok { OnOk result (CanCarry framing octets.now × (length octets.now ≤ FRAME_MAX)
         × (out.new.items ≡ out.old.items ++ framed framing octets.now)) }

@@ -7,6 +7,7 @@ pub enum Ready<'a> {
     Frame(&'a [u8]),
     /// A frame longer than `FRAME_MAX` has ended.
     TooLong,
-    /// No MSG-LEN can continue with the octet at this position of the stream, which was not taken.
+    /// No MSG-LEN can continue with the octet at this position of the stream. That octet was not
+    /// taken.
     BadCount { at: u64 },
 }

@@ -16,17 +16,17 @@ use memchr::memchr;
 /// How far a piece advanced the frame.
 #[derive(Clone, Copy, Debug)]
 pub struct Progress {
-    /// So many octets of the piece were taken.
+    /// How many octets of the piece were taken.
     pub used: usize,
-    /// Where in the frame the scanner is then.
+    /// Where in the frame the scanner is after them.
     pub phase: Phase,
     /// The count before the record, as far as it was read.
     pub count: u64,
-    /// So many octets of the record came.
+    /// How many octets of the record have come.
     pub size: u64,
 }
 
-/// Appends octets of a record of which `size` came, unless it gets too long.
+/// Appends octets of a record of which `size` have come, unless it gets longer than `FRAME_MAX`.
 #[inline(always)]
 fn keep(kept: &mut Vec<u8>, size: u64, octets: &[u8])
     requires room { HasRoom size kept.old }
@@ -72,7 +72,7 @@ fn take_line(kept: &mut Vec<u8>, size: u64, piece: &[u8]) -> Progress
     }
 }
 
-/// Takes a piece of a record that was counted, up to its last octet.
+/// Takes a piece of a counted record, up to its last octet.
 #[inline(always)]
 fn take_record(kept: &mut Vec<u8>, count: u64, size: u64, piece: &[u8]) -> Progress
     requires room { HasRoom size kept.old }

@@ -22,9 +22,9 @@ use crate::record::take_piece;
 use std::alloc::{AllocError, Global};
 use std::marker::Model;
 
-/// A stream's frames, as its octets come in pieces of any cut.
+/// Finds the frames of a stream whose octets come in pieces, cut anywhere.
 ///
-/// Room for one record of `FRAME_MAX` octets is reserved as the scanner is made; no later call
+/// Room for one record of `FRAME_MAX` octets is reserved when the scanner is made; no later call
 /// takes memory.
 #[derive(Drop)]
 pub struct Scanner {
@@ -51,7 +51,8 @@ impl Model for Scanner {
 }
 
 impl Scanner {
-    /// A scanner before the first octet of a stream.
+    /// A scanner before the first octet of a stream. It fails if the room for a record cannot be
+    /// allocated.
     pub fn new(alloc: Global, framing: Framing) -> Result<Scanner, AllocError>
         ensures stands { IfOk result (λ s. Stands FRAME_MAX s framing 0 [] × IsReading s) }
         ensures reads { IfOk result (λ s. Reads FRAME_MAX s framing 0 [] [] []) }
@@ -59,7 +60,8 @@ impl Scanner {
         Scanner::starting(alloc, framing, 0)
     }
 
-    /// A scanner before the first octet of a stream that begins at a position, in octets.
+    /// A scanner before the first octet of a stream that begins at a position, in octets. The
+    /// refusals come in the order of the variants of [`StartFault`].
     pub fn new_at(alloc: Global, framing: Framing, position: u64) -> Result<Scanner, StartFault>
         ensures stands { IfOk result (λ s. Stands FRAME_MAX s framing position [] × IsReading s) }
         ensures reads { IfOk result (λ s. Reads FRAME_MAX s framing position [] [] []) }
@@ -88,7 +90,7 @@ impl Scanner {
         })
     }
 
-    /// The position of the next octet: that of the first, and the number of octets taken since.
+    /// The position of the next octet: that of the first plus the number of octets taken since.
     pub fn position(&self) -> u64
         ensures value { result ≡ self.now.position }
         ensures bound { result ≤ POSITION_MAX }
@@ -96,8 +98,9 @@ impl Scanner {
         self.position
     }
 
-    /// Takes octets up to the end of the current frame at most, and returns how many. While
-    /// something is ready it takes none.
+    /// Takes octets, at most up to the end of the current frame, and returns how many. While
+    /// something is ready it takes none. A refusal, as the variants of [`ScanFault`] say, leaves
+    /// the scanner as it was.
     pub fn push(&mut self, piece: &[u8]) -> Result<usize, ScanFault>
         // Each refusal, and what it leaves.
         ensures failed { (result ≡ Err ScanFault.Failed) ↔ IsFailed self.old }
@@ -150,7 +153,7 @@ impl Scanner {
         }
     }
 
-    /// Lends the frame that the piece begins with, where the scanner is between two frames and all of
+    /// Lends the frame that the piece begins with, if the scanner is between two frames and all of
     /// this one lies in the piece: what `push`, `ready` and `release` do together, without a copy.
     /// Otherwise nothing is taken, and the piece is for `push`.
     #[inline]
@@ -196,7 +199,7 @@ impl Scanner {
         }
     }
 
-    /// What is ready: a frame once its last octet was taken, or a bad count.
+    /// What is ready: a frame whose last octet was taken, or a bad count.
     pub fn ready(&self) -> Option<Ready<'_>>
         ensures reports { ImpliedOf self.now result }
         ensures stands { (kind : Framing) (position : ℕ) (p : List ℕ)

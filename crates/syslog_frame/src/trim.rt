@@ -1,10 +1,10 @@
-//! Frames without what senders put behind a record.
+//! Frames without what senders append to a record.
 
 ghost use Rattle.std.specs.Prelude.{◌≡◌, ◌≤◌, ◌++◌, ◌∷◌, List, ℕ, [], false, length};
 ghost use Rattle.syslog_frame.specs.Trimmed.{ends_in, trimmed};
 
-/// The octets of a frame without the line end or the NUL that a sender may have put behind the
-/// record: CR LF, else LF, else CR, else NUL is dropped from the end, once.
+/// The octets of a frame without the line end or the NUL that a sender may have appended to the
+/// record: one CR LF, else LF, else CR, else NUL is dropped from the end.
 pub fn trimmed(frame: &[u8]) -> &[u8]
     ensures value { result.now ≡ trimmed frame.now }
     ensures within { length result.now ≤ length frame.now }
@@ -15,7 +15,7 @@ pub fn trimmed(frame: &[u8]) -> &[u8]
     }
 }
 
-/// What is dropped of a frame: CR LF; LF behind any other octet; CR; NUL; and of any other frame
+/// What is dropped from a frame: CR LF; LF behind any other octet; CR; NUL; from any other frame
 /// nothing.
 pub fn one_end_is_trimmed()
     ensures cr_lf { (t : List ℕ) → trimmed (t ++ 13 ∷ 10 ∷ []) ≡ t }

@@ -17,18 +17,24 @@ use std::alloc::{AllocError, Global};
 use syslog_fields::appending::put;
 use syslog_value::{Instant, Priority, Record, Word};
 
-/// The fields before the structured data, as a record or its octets lend them.
+/// The fields before the structured data, as a record or its octets lend them; None for NILVALUE.
 #[derive(Clone, Copy)]
 pub struct HeaderValues<'a> {
+    /// PRI (RFC 5424, 6.2.1).
     pub priority: Priority,
+    /// TIMESTAMP (6.2.3).
     pub instant: Option<Instant>,
+    /// HOSTNAME (6.2.4).
     pub hostname: Option<&'a [u8]>,
+    /// APP-NAME (6.2.5).
     pub app_name: Option<&'a [u8]>,
+    /// PROCID (6.2.6).
     pub proc_id: Option<&'a [u8]>,
+    /// MSGID (6.2.7).
     pub msg_id: Option<&'a [u8]>,
 }
 
-/// Appends PRI, VERSION and a space.
+/// Appends PRI, VERSION and a space. If memory is refused, a part may have been appended.
 #[inline(always)]
 pub fn put_priority_version(priority: Priority, out: &mut Vec<u8>) -> Result<(), AllocError>
     ensures { Puts (Only (priority_version_form priority)) out.old.items out.new.items result }
@@ -39,7 +45,8 @@ pub fn put_priority_version(priority: Priority, out: &mut Vec<u8>) -> Result<(),
     put(b">1 ", out)
 }
 
-/// Appends the timestamp.
+/// Appends the canonical timestamp, or NILVALUE. If memory is refused, a part may have been
+/// appended.
 #[inline(always)]
 pub fn put_time(instant: Option<Instant>, out: &mut Vec<u8>) -> Result<(), AllocError>
     ensures { Puts (TimeForm instant) out.old.items out.new.items result }
@@ -50,7 +57,7 @@ pub fn put_time(instant: Option<Instant>, out: &mut Vec<u8>) -> Result<(), Alloc
     }
 }
 
-/// Appends a word and a space.
+/// Appends a word or NILVALUE, and a space.
 #[inline(always)]
 fn put_word(word: Option<&[u8]>, out: &mut Vec<u8>) -> Result<(), AllocError>
     ensures { Puts (SpacedWord (option_map (λ s. s.now) word.entry))
@@ -65,7 +72,8 @@ fn put_word(word: Option<&[u8]>, out: &mut Vec<u8>) -> Result<(), AllocError>
     }
 }
 
-/// Appends the header and the space that follows it.
+/// Appends the header and the space that follows it. If memory is refused, a part may have been
+/// appended.
 pub fn put_header(fields: &HeaderValues<'_>, out: &mut Vec<u8>) -> Result<(), AllocError>
     ensures { Puts (HeaderForm fields.now.priority fields.now.instant
         (option_map (λ s. s.now) fields.now.hostname) (option_map (λ s. s.now) fields.now.app_name)
@@ -81,7 +89,8 @@ pub fn put_header(fields: &HeaderValues<'_>, out: &mut Vec<u8>) -> Result<(), Al
     put_word(fields.msg_id, out)
 }
 
-/// Appends what follows the structured data.
+/// Appends what follows the structured data: nothing, or a space and the message. If memory is
+/// refused, a part may have been appended.
 pub fn put_message_part(octets: &[u8], has_mark: bool, out: &mut Vec<u8>) -> Result<(), AllocError>
     ensures { Puts (Only (message_form
         (if has_mark then Utf8Text octets.now else AnyOctets octets.now)))
@@ -98,7 +107,7 @@ pub fn put_message_part(octets: &[u8], has_mark: bool, out: &mut Vec<u8>) -> Res
     put(octets, out)
 }
 
-/// The octets of a word.
+/// The octets of a word, if there is one.
 pub fn octets_of<const N: usize>(word: Option<&Word<N>>) -> Option<&[u8]>
     ensures { option_map (λ s. s.now) result ≡ option_copied word.entry }
 {
@@ -108,7 +117,7 @@ pub fn octets_of<const N: usize>(word: Option<&Word<N>>) -> Option<&[u8]>
     }
 }
 
-/// Appends the canonical octets of a record.
+/// Appends the canonical octets of a record; if memory is refused, possibly a part of them.
 pub fn put_record(record: &Record, out: &mut Vec<u8>) -> Result<(), AllocError>
     ensures { Puts (Canonical record.now) out.old.items out.new.items result }
 {
@@ -125,7 +134,7 @@ pub fn put_record(record: &Record, out: &mut Vec<u8>) -> Result<(), AllocError>
     put_message_part(record.message().octets(), record.message().has_mark(), out)
 }
 
-/// The canonical octets of a record.
+/// The canonical octets of a record. It fails only when out of memory.
 pub fn canon(alloc: Global, record: &Record) -> Result<Vec<u8>, AllocError>
     ensures { IfOk result (λ octets. Canonical record.now octets.items) }
 {

@@ -49,7 +49,7 @@ fn put_element(element: &Element, out: &mut Vec<u8>) -> Result<(), AllocError>
     put(b"]", out)
 }
 
-/// Appends the elements, or NILVALUE.
+/// Appends the elements, or NILVALUE. If memory is refused, a part may have been appended.
 pub fn put_elements(elements: &[Element], out: &mut Vec<u8>) -> Result<(), AllocError>
     ensures { Puts (Only (structured_data_form elements.now)) out.old.items out.new.items result }
 {

@@ -29,16 +29,17 @@ use syslog_reading::syntax::{Parsed, parse};
 use syslog_reading::whole::{OutOfRange, micros_of, view_of};
 use syslog_reading::{Fault, MessageView, RecordView};
 
-/// The order that is asked of elements.
+/// Which order of elements is asked for.
 #[derive(Clone, Copy)]
 pub enum ElementOrder {
+    /// The ids of the elements ascend.
     ById,
     /// Any order.
     AsGiven,
 }
 
-/// Whether the timestamp that the octets begin with, before its space and what follows that, is in its
-/// canonical form: no other time of so many octets ends in `Z`.
+/// Whether the timestamp that the octets begin with, before its space and what follows that, is in
+/// its canonical form: no other time of so many octets ends in `Z`.
 #[inline(always)]
 pub fn has_time_form(time: Option<Timestamp>, octets: &[u8], behind: &[u8]) -> bool
     requires { Follows (Spaced (Nilable TimeText (option_map time_of time))) octets.now behind.now }
@@ -56,7 +57,7 @@ pub fn has_time_form(time: Option<Timestamp>, octets: &[u8], behind: &[u8]) -> b
 }
 
 /// Whether structured data is in its canonical form, with its elements in this order, by what its
-/// reading told of it.
+/// reading told.
 fn has_data_form(is_form: bool, ascends: bool, order: ElementOrder) -> bool
     ensures { (text : List ℕ) → HasDataForms is_form ascends text
         → (es : List ElementParts) → StructuredDataText es text
@@ -68,8 +69,7 @@ fn has_data_form(is_form: bool, ascends: bool, order: ElementOrder) -> bool
     }
 }
 
-/// Whether what follows the structured data, which is so many octets, is in its canonical
-/// form.
+/// Whether what follows the structured data, so many octets, is in its canonical form.
 fn has_message_form(message: &MessageView<'_>, count: usize) -> bool
     ensures { (message_part : List ℕ) → MessagePart (message_parts message.now) message_part
         → count ≡ length message_part
@@ -99,8 +99,8 @@ fn has_form(octets: &[u8], parsed: Parsed<'_>, order: ElementOrder) -> bool
     has_message_form(&parsed.message, count)
 }
 
-/// The structured data of octets that are a canonical form, with the elements in this order. Ids
-/// may repeat where the order is any.
+/// The structured data of octets that are a canonical form with the elements in this order. Where
+/// any order will do, ids may repeat.
 fn canonical_structured_data(octets: &[u8], order: ElementOrder) -> Option<&[u8]>
     ensures { MatchOption result (¬ (AnyOf (λ r b. IsFormOf order b r) octets.now))
         (λ text. HoldsForm order octets.now text.now) }
@@ -119,15 +119,15 @@ fn canonical_structured_data(octets: &[u8], order: ElementOrder) -> Option<&[u8]
 
 /// Whether the octets are the canonical form of some record.
 ///
-/// It takes no memory, and reads each octet a few times at most.
+/// It takes no memory, and reads each octet at most a few times.
 pub fn is_canon(octets: &[u8]) -> bool
     ensures { IsTrue result ↔ ((r : Parts ℤ) × IsRecord r × Canonical r octets.now) }
 {
     canonical_structured_data(octets, ElementOrder::ById).is_some()
 }
 
-/// Whether the octets are the canonical form of some record whose elements are kept in the order of
-/// the octets: their ids are distinct, and need not ascend.
+/// Whether the octets are the canonical form of some record, except that its elements stand in the
+/// order of the octets: their ids are distinct, and need not ascend.
 ///
 /// It takes no memory.
 pub fn is_canon_unsorted(octets: &[u8]) -> bool
@@ -139,7 +139,8 @@ pub fn is_canon_unsorted(octets: &[u8]) -> bool
     }
 }
 
-/// Reads a record as [`view`](crate::view) does, and tells whether the octets are its canonical form.
+/// Reads a record as [`view`](crate::view) does, and tells whether the octets are its canonical
+/// form. The faults are the same.
 ///
 /// It takes no memory, and reads the octets once for both.
 pub fn view_and_form(octets: &[u8]) -> Result<(RecordView<'_>, bool), Fault>

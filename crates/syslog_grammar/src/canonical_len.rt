@@ -1,10 +1,10 @@
-//! How many octets the canonical form of a record has, for one reservation of the right size. Each
-//! sum stays at the most that a usize holds.
+//! How many octets the canonical form of a record has, for a single reservation of the right size.
+//! A sum that reaches the greatest usize stays there.
 
 use syslog_value::{Element, Param, Record, Word};
 
-/// The octets but for words, structured data and message: `<`, three digits, `>1`, a timestamp of
-/// 27 octets and six spaces.
+/// How many octets there are besides words, structured data and message: `<`, three digits, `>1`, a
+/// timestamp of 27 octets and six spaces.
 const FIXED: usize = 39;
 
 fn value_len(text: &[u8]) -> usize {
@@ -48,7 +48,7 @@ fn word_len<const N: usize>(word: Option<&Word<N>>) -> usize {
     }
 }
 
-/// The octets of the canonical form, or up to 32 more where the timestamp is NILVALUE or PRI is
+/// How many octets the canonical form has, or up to 32 more if the timestamp is NILVALUE or PRI is
 /// short.
 pub fn canonical_len(record: &Record) -> usize {
     FIXED

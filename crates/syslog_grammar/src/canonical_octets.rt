@@ -28,8 +28,8 @@ use syslog_reading::syntax::{Parsed, parse};
 use syslog_reading::whole::view_of;
 use syslog_value::Instant;
 
-/// Whether all that follows the timestamp is canonical as it lies in the octets, and the timestamp
-/// names an instant in range by its year alone.
+/// Whether all that follows the timestamp is canonical as it lies in the octets, and the year of
+/// the timestamp alone shows that its instant is in range.
 #[inline(always)]
 fn lies_canonical(parsed: Parsed<'_>) -> bool
     ensures inner { IsTrue result → IfSome parsed.entry.fields.time
@@ -43,7 +43,7 @@ fn lies_canonical(parsed: Parsed<'_>) -> bool
         && has_one_message_form(&parsed.message)
 }
 
-/// The microseconds of a time in UTC. None: there is no time, or it is in another zone.
+/// The microseconds of a time in UTC. None if there is no time or it is in another zone.
 #[inline(always)]
 fn utc_micros(time: Option<Timestamp>) -> Option<u32>
     ensures { IfSome result (IsInUtc time) }
@@ -55,7 +55,7 @@ fn utc_micros(time: Option<Timestamp>) -> Option<u32>
     Some(time.civil.micros)
 }
 
-/// Appends what comes before a timestamp in UTC, and its canonical form by its own digits.
+/// Appends what comes before a timestamp in UTC, and its canonical form from its own digits.
 #[inline(always)]
 fn put_utc(octets: &[u8], at: usize, micros: u32, out: &mut Vec<u8>) -> Result<(), AllocError>
     requires within { at + STAMP_LEN ≤ length octets.now }
@@ -124,7 +124,7 @@ fn put_front(
     }
 }
 
-/// Appends the canonical octets of a record, where all that follows the timestamp is canonical as it
+/// Appends the canonical octets of a record, if all that follows the timestamp is canonical as it
 /// lies in the octets.
 #[inline(always)]
 fn put_verbatim(octets: &[u8], parsed: Parsed<'_>, out: &mut Vec<u8>) -> Result<(), AllocError>
@@ -167,10 +167,10 @@ fn put_by_view(
 }
 
 /// Appends the canonical octets of the record that the octets are: what [`view`](crate::view) and
-/// [`write_canonical_view`] do together, and faster. Where the octets are no record, nothing is appended, and
-/// the answer is their fault.
+/// [`write_canonical_view`] do together, and faster. If the octets are no record, nothing is
+/// appended, and the answer is their fault.
 ///
-/// Where a growth is refused, the vector is unchanged. The allocator is used where elements have to
+/// If an allocation fails, the vector is unchanged. The allocator is used only if elements have to
 /// be sorted and cannot be sorted on the stack.
 pub fn write_canonical_octets(
     alloc: Global,

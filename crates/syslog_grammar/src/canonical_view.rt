@@ -18,16 +18,16 @@ use std::alloc::{AllocError, Global};
 use syslog_fields::appending::put;
 use syslog_reading::{MessageView, RecordView};
 
-/// Whether a message, where there is one, has one tail alone: an empty one may have a space or
-/// none.
+/// Whether a message can follow the structured data in one way only: an empty one may have a space
+/// before it or not.
 pub fn has_one_message_form(message: &MessageView<'_>) -> bool
     ensures { IsTrue result → HasOneMessageForm (message_parts message.now) }
 {
     message.has_mark || !message.octets.is_empty()
 }
 
-/// Appends the canonical octets of the record that a view shows, where all that follows the
-/// timestamp is canonical as it lies in the octets.
+/// Appends the canonical octets of the record that a view shows, if all that follows the timestamp
+/// is canonical as it lies in the octets.
 fn copy_verbatim(view: &RecordView<'_>, out: &mut Vec<u8>) -> Result<(), AllocError>
     ensures { Puts (VerbatimForm (view_parts view.now)) out.old.items out.new.items result }
 {
@@ -79,8 +79,8 @@ fn put_parts(view: &RecordView<'_>, out: &mut Vec<u8>) -> Result<(), AllocError>
     Ok(())
 }
 
-/// Appends the canonical octets of the record that a view shows, whose ids ascend: as they lie
-/// where that can be, else part by part.
+/// Appends the canonical octets of the record that a view shows, whose ids ascend: as they lie if
+/// that is possible, else part by part.
 fn put_ascending(view: &RecordView<'_>, out: &mut Vec<u8>) -> Result<(), AllocError>
     requires { IsTrue view.now.ascends }
     ensures begun { Adds Anything out.old.items out.new.items }
@@ -98,8 +98,8 @@ fn put_ascending(view: &RecordView<'_>, out: &mut Vec<u8>) -> Result<(), AllocEr
     Ok(())
 }
 
-/// Appends the canonical octets of the record that a view shows, where its elements are sorted by
-/// id. It has no allocator, so where ids ascend no memory is taken but that of the vector.
+/// Appends the canonical octets of the record that a view shows, if its elements are sorted by id.
+/// It has no allocator: if the ids ascend, no memory is taken but that of the vector.
 fn put_ordered(view: &RecordView<'_>, out: &mut Vec<u8>) -> Result<bool, AllocError>
     ensures begun { Adds Anything out.old.items out.new.items }
     ensures ok { (b : List ℕ) → IsViewOf b (view_parts view.now)
@@ -116,7 +116,7 @@ fn put_ordered(view: &RecordView<'_>, out: &mut Vec<u8>) -> Result<bool, AllocEr
 }
 
 /// Appends the canonical octets of the record that a view shows, with its elements sorted on the
-/// stack. Where they cannot be, the answer is false, and a part may have been appended.
+/// stack. If they cannot be, the answer is false, and a part may have been appended.
 fn put_resorted(view: &RecordView<'_>, out: &mut Vec<u8>) -> Result<bool, AllocError>
     ensures begun { Adds Anything out.old.items out.new.items }
     ensures ok { (b : List ℕ) → IsViewOf b (view_parts view.now)
@@ -144,8 +144,8 @@ fn put_owned(alloc: Global, view: &RecordView<'_>, out: &mut Vec<u8>) -> Result<
     put_record(&record, out)
 }
 
-/// Appends the canonical octets of the record that a view shows, where its elements are not sorted
-/// by id.
+/// Appends the canonical octets of the record that a view shows, if its elements are not sorted by
+/// id.
 fn put_unordered(alloc: Global, view: &RecordView<'_>, out: &mut Vec<u8>) -> Result<(), AllocError>
     ensures begun { Adds Anything out.old.items out.new.items }
     ensures ok { (b : List ℕ) → IsViewOf b (view_parts view.now)
@@ -175,7 +175,7 @@ fn put_view(alloc: Global, view: &RecordView<'_>, out: &mut Vec<u8>) -> Result<(
 
 /// Appends the canonical octets of the record that the octets of a view spell.
 ///
-/// Where a growth is refused, the vector is unchanged. The allocator is used where elements have to
+/// If an allocation fails, the vector is unchanged. The allocator is used only if elements have to
 /// be sorted and cannot be sorted on the stack.
 pub fn write_canonical_view(
     alloc: Global,

@@ -8,7 +8,7 @@ ghost use Rattle.syslog_fields.specs.Time.{padded};
 
 use syslog_value::{Civil, Instant};
 
-/// The octets of a canonical timestamp, as `2003-10-11T22:14:15.003000Z`.
+/// How many octets a canonical timestamp has, such as `2003-10-11T22:14:15.003000Z`.
 pub const TIME_LEN: usize = 27;
 
 /// Two digits.
@@ -52,7 +52,7 @@ pub fn utc_fraction(micros: u32) -> [u8; 8]
     [b'.', u1, u2, u3, u4, u5, u6, b'Z']
 }
 
-/// The date and the time with microseconds, in UTC.
+/// A civil time in UTC as `2003-10-11T22:14:15.003000Z`.
 pub fn civil_text(civil: Civil) -> [u8; TIME_LEN]
     requires { IsCivil civil }
     ensures { result ≡ civil_text civil }

@@ -13,10 +13,10 @@ use syslog_fields::reading::next;
 use syslog_reading::first_element::{first_element, first_id};
 use syslog_reading::repeated::is_above;
 
-/// So many elements are few.
+/// How many elements are few.
 const FEW: usize = 8;
 
-/// Puts the text of each element into the slice, where it has room for them.
+/// Puts the text of each element into the slice, if it has room for them.
 #[inline(always)]
 fn fill_texts<'a>(elements: &'a [u8], texts: &mut [&'a [u8]]) -> Option<usize>
     ensures { IfSome result (λ n. (n ≤ length texts.new)
@@ -38,7 +38,7 @@ fn fill_texts<'a>(elements: &'a [u8], texts: &mut [&'a [u8]]) -> Option<usize>
     Some(count)
 }
 
-/// Appends the element of a text: as it lies where that is canonical.
+/// Appends the element of a text, as it lies if that is canonical.
 #[inline(always)]
 fn put_text(text: &[u8], is_form: bool, out: &mut Vec<u8>) -> Result<(), AllocError>
     ensures { Puts (TextForm is_form text.now) out.old.items out.new.items result }
@@ -68,10 +68,11 @@ fn put_texts<'a>(texts: &[&'a [u8]], is_form: bool, out: &mut Vec<u8>) -> Result
     Ok(true)
 }
 
-/// Appends elements in the order of their ids, where they are at most eight.
+/// Appends elements in the order of their ids, if there are at most eight.
 ///
-/// The answer is false, and a part may have been appended, where they are more. It can also be where
-/// one has no parameters: its text may sort otherwise than its id, which another begins with.
+/// If there are more, the answer is false, and a part may have been appended. The same may happen
+/// if an element has no parameters: its text may sort differently from its id, if another id begins
+/// with that. It fails only when out of memory.
 pub fn put_few(elements: &[u8], is_form: bool, out: &mut Vec<u8>) -> Result<bool, AllocError>
     ensures { PutsUnless (SortedElementsOf is_form elements.now) ⊤ out.old.items out.new.items result }
 {

@@ -1,4 +1,4 @@
-//! Readers and writers of single fields, on which other forms of a record rest too.
+//! Readers and writers of single fields, on which other forms of a record are built too.
 
 pub use crate::canonical::{HeaderValues, put_header, put_message_part};
 pub use syslog_fields::priority::{priority, version};

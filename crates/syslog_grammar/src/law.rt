@@ -9,7 +9,7 @@ ghost use Rattle.syslog_fields.specs.Utf8.{IsText};
 ghost use Rattle.syslog_reading.specs.WellFormed.{WellFormed};
 ghost use Rattle.syslog_reading.specs.declared.fault.Fault.{Fault};
 
-/// Octets are one record at most.
+/// Octets are at most one record.
 pub fn octets_are_one_record()
     ensures { (r : Parts ℤ) (q : Parts ℤ) (b : List ℕ) → WellFormed r b → WellFormed q b → r ≡ q }
 {}
@@ -24,14 +24,14 @@ pub fn canonical_is_well_formed()
     ensures { (r : Parts ℤ) (b : List ℕ) → IsRecord r → Canonical r b → WellFormed r b }
 {}
 
-/// Two records are equal exactly where their canonical octets are.
+/// Two records are equal exactly if their canonical octets are.
 pub fn canonical_is_injective()
     ensures { (r : Parts ℤ) (q : Parts ℤ) (b : List ℕ) (c : List ℕ) → IsRecord r → IsRecord q
         → Canonical r b → Canonical q c → (r ≡ q) ↔ (b ≡ c) }
 {}
 
-/// The canonical octets of a record are at most seven more than twice those of any octets that are
-/// the record: each backslash adds one octet at most, and a timestamp seven.
+/// The canonical octets of a record are at most seven more than twice as many as any octets that
+/// are the record: each backslash adds at most one octet, and a timestamp at most seven.
 pub fn canonical_is_bounded()
     ensures { (r : Parts ℤ) (b : List ℕ) (c : List ℕ) (n : ℕ) → WellFormed r b → Canonical r c
         → length b ≤ n → length c ≤ 2 * n + 7 }
@@ -47,7 +47,7 @@ pub fn faulty_octets_are_no_record()
     ensures { (b : List ℕ) (f : Fault) → FaultOf b f → ¬ (AnyOf WellFormed b) }
 {}
 
-/// The octets that std takes for UTF-8 are those of the table of RFC 3629, section 4.
+/// The octets that std takes for UTF-8 are those of the table in RFC 3629, section 4.
 pub fn std_utf8_is_that_of_the_table()
     ensures { (b : List ℕ) → IsUtf8 b ↔ IsText b }
 {}

@@ -1,5 +1,5 @@
-//! Syslog records as octets (RFC 5424, section 6): what `syslog_reading` reads, and the canonical form, which is written
-//! and recognized.
+//! Syslog records as octets (RFC 5424, section 6): what `syslog_reading` reads, and the canonical
+//! form, which is written and recognized.
 #![tactic(auto)]
 
 mod canonical;

@@ -9,16 +9,24 @@ use crate::canonical_data::put_elements;
 use std::alloc::AllocError;
 use syslog_value::{Instant, Message, Priority, StructuredData, Word};
 
-/// The parts of a record, each where its owner keeps it.
+/// The parts of a record, each where its owner keeps it; None for NILVALUE.
 #[derive(Clone, Copy, Debug)]
 pub struct RecordFields<'a> {
+    /// PRI (RFC 5424, 6.2.1).
     pub priority: Priority,
+    /// TIMESTAMP (6.2.3).
     pub instant: Option<Instant>,
+    /// HOSTNAME (6.2.4).
     pub hostname: Option<&'a Word<255>>,
+    /// APP-NAME (6.2.5).
     pub app_name: Option<&'a Word<48>>,
+    /// PROCID (6.2.6).
     pub proc_id: Option<&'a Word<128>>,
+    /// MSGID (6.2.7).
     pub msg_id: Option<&'a Word<32>>,
+    /// STRUCTURED-DATA (6.3).
     pub structured: &'a StructuredData,
+    /// MSG (6.4).
     pub message: &'a Message,
 }
 
@@ -38,9 +46,9 @@ fn put_parts(fields: &RecordFields<'_>, out: &mut Vec<u8>) -> Result<(), AllocEr
     put_message_part(fields.message.octets(), fields.message.has_mark(), out)
 }
 
-/// Appends the canonical octets of the record of these parts, of which none is copied first.
+/// Appends the canonical octets of the record of these parts, none of which is copied first.
 ///
-/// Where a growth is refused, the vector is unchanged.
+/// If an allocation fails, the vector is unchanged.
 pub fn write_canonical_fields(
     fields: &RecordFields<'_>,
     out: &mut Vec<u8>,

@@ -15,9 +15,9 @@ use syslog_fields::reading::{behind_first, next};
 use syslog_fields::unescape::begins_special;
 use syslog_reading::first_element::{begins_with, id_len, name_len};
 
-/// What follows the octets that a canonical record has as they are, where a value and its quotation
+/// What follows the octets that a canonical record has as they are, if a value and its quotation
 /// mark come first: up to the mark, which ends them, or up to a backslash that is no escape. It
-/// tells whether the mark does.
+/// tells whether the mark ended them.
 #[inline(always)]
 fn behind_kept(octets: &[u8]) -> (&[u8], bool)
     ensures kept { KeptTo octets.now result.0.now result.1 }
@@ -39,7 +39,7 @@ fn behind_kept(octets: &[u8]) -> (&[u8], bool)
     (octets, true)
 }
 
-/// Appends octets that are mostly one or two.
+/// Appends octets, mostly one or two.
 #[inline(always)]
 fn put_few(octets: &[u8], out: &mut Vec<u8>) -> Result<(), AllocError>
     ensures { Puts (Only octets.now) out.old.items out.new.items result }
@@ -55,8 +55,8 @@ fn put_few(octets: &[u8], out: &mut Vec<u8>) -> Result<(), AllocError>
     Ok(())
 }
 
-/// Appends the octets up to where they are no longer as in a canonical record, and a backslash if a
-/// second one is missing there.
+/// Appends the octets up to where they are no longer those of a canonical record, and a backslash
+/// if a second one is missing there.
 #[inline(always)]
 fn put_run(run: &[u8], is_last: bool, out: &mut Vec<u8>) -> Result<(), AllocError>
     ensures { Puts (RunForm is_last run.now) out.old.items out.new.items result }
@@ -118,7 +118,8 @@ fn put_params<'a>(octets: &'a [u8], out: &mut Vec<u8>) -> Result<&'a [u8], Alloc
     Ok(behind_first(rest))
 }
 
-/// Appends the element that comes first, and gives what follows it.
+/// Appends the element that comes first, and gives what follows it. If memory is refused, a part
+/// may have been appended.
 pub fn put_element<'a>(octets: &'a [u8], out: &mut Vec<u8>) -> Result<&'a [u8], AllocError>
     ensures form { MatchResult result
         (λ rest. Adds (FirstElement octets.now rest.now) out.old.items out.new.items)
@@ -132,7 +133,7 @@ pub fn put_element<'a>(octets: &'a [u8], out: &mut Vec<u8>) -> Result<&'a [u8], 
     put_params(params, out)
 }
 
-/// Appends elements.
+/// Appends elements. If memory is refused, a part may have been appended.
 pub fn put_elements(elements: &[u8], out: &mut Vec<u8>) -> Result<(), AllocError>
     ensures { Puts (ElementsOf elements.now) out.old.items out.new.items result }
 {

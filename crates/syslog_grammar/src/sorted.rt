@@ -17,7 +17,7 @@ use syslog_fields::reading::next;
 use syslog_reading::first_element::{first_element, first_id};
 use syslog_reading::repeated::is_above;
 
-/// The offset that a key has in its lower 24 bits.
+/// The offset in the lower 24 bits of a key.
 #[inline(always)]
 fn offset_of(key: u64) -> usize
     ensures { result ≡ offset_of key }
@@ -25,7 +25,7 @@ fn offset_of(key: u64) -> usize
     (key % 0x100_0000) as usize
 }
 
-/// The first five octets of an id, and zeros for those that it has not.
+/// The first five octets of an id, and zeros for those that it lacks.
 #[inline(always)]
 fn front_of(id: &[u8]) -> [u8; 8] {
     match id {
@@ -47,7 +47,7 @@ fn key_of(id: &[u8], offset: usize) -> u64
     u64::from_be_bytes(front_of(id)) / 0x100_0000 * 0x100_0000 + offset as u64
 }
 
-/// Puts a key for each element into the slice, where it has room for them.
+/// Puts a key for each element into the slice, if it has room for them.
 fn fill_keys(elements: &[u8], keys: &mut [u64]) -> Option<usize>
     requires { length elements.now < 16777216 }
     ensures { IfSome result (λ n. (n ≤ length keys.new)
@@ -68,7 +68,7 @@ fn fill_keys(elements: &[u8], keys: &mut [u64]) -> Option<usize>
     Some(count)
 }
 
-/// Whether two keys have the same front.
+/// Whether two neighbouring keys have the same front.
 fn have_ties(keys: &[u64]) -> bool {
     for i in 1..keys.len() {
         if keys[i - 1] / 0x100_0000 == keys[i] / 0x100_0000 {
@@ -97,7 +97,7 @@ fn sort_keys(elements: &[u8], keys: &mut [u64])
     }
 }
 
-/// Appends the element that comes first: as it lies where that is canonical.
+/// Appends the element that comes first, as it lies if that is canonical.
 fn put_first(octets: &[u8], is_form: bool, out: &mut Vec<u8>) -> Result<(), AllocError>
     ensures { Puts (FirstOf is_form octets.now) out.old.items out.new.items result }
 {
@@ -168,7 +168,7 @@ fn put_sorted_in_room<const N: usize>(
     put_sorted_in(elements, &mut keys, is_form, out)
 }
 
-/// Appends elements in the order of their ids, by keys. Each has three octets at least.
+/// Appends elements in the order of their ids, by keys. Each element has at least three octets.
 fn put_by_keys(elements: &[u8], is_form: bool, out: &mut Vec<u8>) -> Result<bool, AllocError>
     ensures { PutsUnless (SortedElementsOf is_form elements.now) ⊤ out.old.items out.new.items result }
 {
@@ -197,11 +197,12 @@ fn put_elements(elements: &[u8], is_form: bool, out: &mut Vec<u8>) -> Result<boo
 }
 
 /// Appends structured data with its elements in the order of their ids. Each is copied as it lies
-/// where the data is canonical but for their order.
+/// if the data is canonical except for their order.
 ///
-/// The answer is false, and a part may have been appended, where there are too many elements for
-/// the stack. It can also be where ids have the same first five octets: then texts are sorted, and
-/// that of an element without parameters may sort otherwise than its id, which another begins with.
+/// If there are too many elements for the stack, the answer is false, and a part may have been
+/// appended. The same may happen if ids have the same first five octets: then texts are sorted, and
+/// that of an element without parameters may sort differently from its id, if another id begins
+/// with that. It fails only when out of memory.
 pub fn put_sorted(
     structured_data: &[u8],
     is_form: bool,

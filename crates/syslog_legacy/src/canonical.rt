@@ -9,8 +9,8 @@ use crate::view::LegacyView;
 use std::alloc::AllocError;
 use syslog_grammar::fields::{HeaderValues, put_header, put_message_part};
 
-/// Appends the canonical octets of the record that a view shows; where memory is refused, a part
-/// of them may have been appended.
+/// Appends the canonical octets of the record that a view shows; if memory is refused, possibly a
+/// part of them.
 fn put_view(view: &LegacyView<'_>, out: &mut Vec<u8>) -> Result<(), AllocError>
     ensures { Puts (Canonical (legacy_view_parts view.now)) out.old.items out.new.items result }
 {
@@ -29,7 +29,7 @@ fn put_view(view: &LegacyView<'_>, out: &mut Vec<u8>) -> Result<(), AllocError>
 
 /// Appends the canonical octets of the record that a view shows.
 ///
-/// Where a growth is refused, the vector is unchanged. No memory is taken but that of the vector.
+/// If an allocation fails, the vector is unchanged. No memory is taken but that of the vector.
 pub fn put_legacy_canonical(view: &LegacyView<'_>, out: &mut Vec<u8>) -> Result<(), AllocError>
     ensures { Appends (Canonical (legacy_view_parts view.now))
         out.old.items out.new.items result }

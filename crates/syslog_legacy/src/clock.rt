@@ -5,13 +5,13 @@ ghost use Rattle.std.specs.Prelude.{◌≡◌, ◌↔◌, IsSome, IfSome};
 ghost use Rattle.syslog_value.specs.Instants.{IsOffset};
 ghost use Rattle.syslog_legacy.specs.Clocks.{IsYear};
 
-/// Which spellings of a legacy packet are read.
+/// Which spellings of a legacy packet are understood.
 #[derive(Clone, Copy, Debug, PartialEq, Eq)]
 pub enum Dialect {
     /// The packets of RFC 3164, section 4: `Mmm dd hh:mm:ss`, a host, and a tag that ends in a colon.
     Bsd,
-    /// Those, and what devices and programs send beside them: a space behind PRI; timestamps of
-    /// RFC 5424, timestamps with a year or a fraction, with a mark before or a colon behind them;
+    /// Those, and what devices and programs send besides: a space behind PRI; timestamps of RFC
+    /// 5424, timestamps with a year or a fraction, with a mark before them or a colon behind them;
     /// packets without a host; `NAME[PROCID]` without a colon.
     Wide,
 }
@@ -30,8 +30,8 @@ pub struct LegacyClock {
 impl LegacyClock {
     ghost use Rattle.syslog_legacy.specs.declared.clock.Dialect.TheVariants.{Bsd};
 
-    /// The clock of a year from 1 to 9998, and an offset of less than a day either way. Its dialect
-    /// is [Bsd](Dialect::Bsd).
+    /// The clock of a year from 1 to 9998 and an offset of -1,439 to 1,439 minutes, else None. Its
+    /// dialect is [Bsd](Dialect::Bsd).
     pub fn new(year: u16, offset_minutes: i16) -> Option<LegacyClock>
         ensures valid { IsSome result ↔ (IsYear year × IsOffset offset_minutes) }
         ensures year { IfSome result (λ clock. clock.year ≡ year) }
@@ -61,6 +61,7 @@ impl LegacyClock {
         }
     }
 
+    /// The year of timestamps that have none, 1 to 9998.
     pub fn year(&self) -> u16
         ensures value { result ≡ self.now.year }
         ensures range { IsYear result }
@@ -68,7 +69,7 @@ impl LegacyClock {
         self.year
     }
 
-    /// How many minutes the civil time is ahead of UTC.
+    /// How many minutes the civil time is ahead of UTC, -1,439 to 1,439.
     pub fn offset_minutes(&self) -> i16
         ensures value { result ≡ self.now.offset_minutes }
         ensures range { IsOffset result }
@@ -76,6 +77,7 @@ impl LegacyClock {
         self.offset_minutes
     }
 
+    /// Which spellings are understood.
     pub fn dialect(&self) -> Dialect
         ensures { result ≡ self.now.dialect }
     {

@@ -30,7 +30,7 @@ pub fn priority_part<'a>(clock: &LegacyClock, octets: &'a [u8]) -> Option<(Prior
     }
 }
 
-/// Reads a timestamp and the space that follows it.
+/// Reads a timestamp and the space behind it.
 pub fn time_part<'a>(clock: &LegacyClock, octets: &'a [u8]) -> Option<(Instant, &'a [u8])>
     ensures { MatchOption result (Lacks (TimePart clock.now.dialect clock.now) octets.now)
         (λ x. TimePart clock.now.dialect clock.now x.0 octets.now x.1.now) }
@@ -41,8 +41,7 @@ pub fn time_part<'a>(clock: &LegacyClock, octets: &'a [u8]) -> Option<(Instant, 
     }
 }
 
-/// Reads a host, which is None for NILVALUE and, in the wide dialect, where a tag stands in its
-/// place.
+/// Reads a host, which is None for NILVALUE and, in the wide dialect, if a tag stands in its place.
 pub fn host_part<'a>(clock: &LegacyClock, octets: &'a [u8]) -> Option<(Option<&'a [u8]>, &'a [u8])>
     ensures { MatchOption result (Lacks (HostPart clock.now.dialect) octets.now)
         (λ x. HostPart clock.now.dialect (option_map (λ s. s.now) x.0) octets.now x.1.now) }

@@ -6,18 +6,19 @@ ghost use Rattle.syslog_legacy.specs.FrameReadings.{octets_read};
 use crate::clock::LegacyClock;
 use syslog_frame::trimmed;
 
-/// How frames are read. A frame is too long by its octets before any are dropped.
+/// How frames are read. Whether a frame is too long is decided before any of its octets are
+/// dropped.
 #[derive(Clone, Copy, Debug, PartialEq, Eq)]
 pub struct FrameReading {
-    /// Whether a line end or a NUL at the end of a frame is dropped before it is read, as
-    /// [`trimmed`] does.
+    /// Whether a line end or a NUL at the end of a frame is dropped before it is read, as by
+    /// [`trimmed`].
     pub trim: bool,
-    /// The clock of legacy packets; None: every frame is read by RFC 5424.
+    /// The clock of legacy packets. None: every frame is read as RFC 5424 says.
     pub clock: Option<LegacyClock>,
 }
 
 impl FrameReading {
-    /// The octets of a frame that are read.
+    /// The octets of a frame that are to be read.
     pub fn octets<'a>(&self, frame: &'a [u8]) -> &'a [u8]
         ensures value { result.now ≡ octets_read self.now frame.now }
         ensures within { length result.now ≤ length frame.now }

@@ -10,17 +10,22 @@ use syslog_value::{Facility, Instant, Priority, Severity};
 /// The fields before the message, as they lie in the octets.
 #[derive(Clone, Copy, Debug, PartialEq, Eq)]
 pub struct Front<'a> {
+    /// The priority of PRI, or 13 without one (4.3.3).
     pub priority: Priority,
+    /// The instant of TIMESTAMP, if the packet has one.
     pub instant: Option<Instant>,
+    /// HOSTNAME, if the packet has one.
     pub hostname: Option<&'a [u8]>,
+    /// The name of the program in TAG, if the packet has one.
     pub app_name: Option<&'a [u8]>,
+    /// The process id in TAG, if the packet has one.
     pub proc_id: Option<&'a [u8]>,
 }
 
 /// Splits a packet into what precedes the message, and the message.
 ///
-/// Where a part does not come, all that is left is the message. Without PRI the priority is 13,
-/// user.notice (4.3.3).
+/// At the first part that is missing, all that is left is the message. Without PRI the priority is
+/// 13, user.notice (4.3.3).
 pub fn split<'a>(clock: &LegacyClock, octets: &'a [u8]) -> (Front<'a>, &'a [u8])
     ensures { Splits clock.now octets.now (front_parts result.0) result.1.now }
 {

@@ -8,8 +8,8 @@ ghost use Rattle.syslog_legacy.specs.Parts.{Lacks};
 use crate::octets::behind;
 use crate::runs::{host_run, nilable};
 
-/// The host that a run of printable octets is, None for NILVALUE, and what follows the space behind
-/// it.
+/// The host that a run of printable octets is, None for NILVALUE, and what follows it and its
+/// space, which may be missing only at the end.
 pub fn host_of<'a>(
     octets: &'a [u8],
     run: &'a [u8],

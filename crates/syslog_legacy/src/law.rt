@@ -12,7 +12,7 @@ ghost use Rattle.syslog_legacy.specs.declared.clock.LegacyClock.{LegacyClock};
 use crate::clock::LegacyClock;
 use crate::whole::legacy_view;
 
-/// Under a clock a packet has exactly one answer.
+/// Under one clock a packet has exactly one answer.
 pub fn packets_have_one_answer(clock: &LegacyClock, octets: &[u8])
     ensures some { AnyOf (Legacy clock.now) octets.now }
     ensures one { (k : LegacyClock) (x : Answer) (y : Answer) (b : List ℕ)
@@ -28,8 +28,8 @@ pub fn legacy_is_a_record()
         → IsRecord r }
 {}
 
-/// The canonical octets of a legacy packet's record are at most 64 more than the packet's. So they
-/// fit each limit that is 64 above one that the packet fits.
+/// The canonical octets of a legacy packet's record are at most 64 more than those of the packet.
+/// So they fit each limit that is 64 above one that the packet fits.
 pub fn legacy_canonical_is_bounded()
     ensures { (clock : LegacyClock) (r : Parts ℤ) (b : List ℕ) (c : List ℕ)
         (packet : ℕ) (entry : ℕ) → Legacy clock (ReadAs r) b → Canonical r c

@@ -1,8 +1,8 @@
 //! Legacy syslog records: packets of the form that RFC 3164, section 4, describes.
 //!
-//! With a clock that gives the year and the offset from UTC, any octets are a record of RFC 5424's
-//! parts, or a message that starts with the byte order mark and is no UTF-8. Nothing is inserted:
-//! no time, no host, and no year but that of the clock.
+//! With a clock that gives the year and the offset from UTC, any octets are a record with the parts
+//! of RFC 5424, or have a message that starts with the byte order mark and is not UTF-8. Nothing is
+//! invented: no time, no host, and no year but that of the clock.
 #![tactic(auto)]
 
 mod canonical;

@@ -7,7 +7,7 @@ use syslog_grammar::fields::{priority, version};
 
 /// Whether the octets begin with PRI, the VERSION `1` and a space (RFC 5424, section 6.2).
 ///
-/// Such a record is read by RFC 5424 alone, with its faults; every other one is legacy.
+/// Such octets are read as RFC 5424 alone says, with its faults; all others are a legacy packet.
 pub fn has_new_form(octets: &[u8]) -> bool
     ensures { IsTrue result ↔ HasNewForm octets.now }
 {

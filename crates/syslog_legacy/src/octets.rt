@@ -5,7 +5,7 @@ ghost use Rattle.octet_language.specs.Language.{IfFirst};
 ghost use Rattle.syslog_legacy.specs.Parts.{Without};
 ghost use Rattle.syslog_legacy.specs.Tags.{BehindSpace};
 
-/// What follows the expected octet, where that comes first.
+/// What follows the expected octet, if that comes first.
 #[inline(always)]
 pub fn behind(expected: u8, octets: &[u8]) -> Option<&[u8]>
     ensures { MatchOption result (IfFirst (λ x. x ≢ expected) octets.now)
@@ -17,7 +17,7 @@ pub fn behind(expected: u8, octets: &[u8]) -> Option<&[u8]>
     }
 }
 
-/// What follows the octet, if that comes first; else all.
+/// What follows the octet if it comes first; else all the octets.
 #[inline(always)]
 pub fn without(octet: u8, octets: &[u8]) -> &[u8]
     ensures { Without octet octets.now result.now }
@@ -28,7 +28,7 @@ pub fn without(octet: u8, octets: &[u8]) -> &[u8]
     }
 }
 
-/// What follows the space that comes first, if one does.
+/// What follows the space if one comes first; else all the octets.
 #[inline(always)]
 pub fn behind_space(octets: &[u8]) -> &[u8]
     ensures { BehindSpace octets.now result.now }

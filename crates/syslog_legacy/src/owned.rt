@@ -13,7 +13,7 @@ use std::alloc::{AllocError, Global};
 use syslog_grammar::fields::{to_message, to_word};
 use syslog_value::{Record, StructuredData, Word, WordFault};
 
-/// The word of octets that are one, where there are some.
+/// The word of octets that are known to be one, if there are any.
 fn known_word<const N: usize>(
     alloc: Global,
     octets: Option<&[u8]>,
@@ -56,7 +56,7 @@ impl<'a> LegacyView<'a> {
 
 /// The record of a legacy packet, with memory of its own (RFC 3164, section 4).
 ///
-/// A message that is no UTF-8 is reported before a lack of memory. As for
+/// A message that is not UTF-8 is reported before a lack of memory. As with
 /// [legacy_view](crate::legacy_view), ask [has_new_form](crate::has_new_form) first.
 pub fn read_legacy(alloc: Global, clock: &LegacyClock, octets: &[u8]) -> Result<Record, LegacyFault>
     ensures { MatchResult result (λ r. Legacy clock.now (ReadAs r) octets.now)

@@ -30,6 +30,7 @@ fn is_proc_octet(octet: u8) -> bool
     is_printable(octet) && octet != b']'
 }
 
+/// Whether an octet is a digit of ASCII.
 #[inline(always)]
 pub fn is_digit(octet: u8) -> bool
     ensures { IsTrue result ↔ IsDigit octet }
@@ -54,7 +55,7 @@ fn host_len(octets: &[u8]) -> usize
     most
 }
 
-/// How many octets at the start may stand in the name of a tag, up to 48.
+/// How many octets at the start may be part of the name in a tag, up to 48.
 #[inline]
 fn tag_len(octets: &[u8]) -> usize
     ensures most { result ≤ 48 }
@@ -71,7 +72,7 @@ fn tag_len(octets: &[u8]) -> usize
     most
 }
 
-/// How many octets at the start may stand in a process id, up to 128.
+/// How many octets at the start may be part of a process id, up to 128.
 #[inline]
 fn proc_len(octets: &[u8]) -> usize
     ensures most { result ≤ 128 }
@@ -112,14 +113,14 @@ pub fn host_run(octets: &[u8]) -> (&[u8], &[u8])
     octets.split_at(host_len(octets))
 }
 
-/// The octets of a tag's name at the start, up to 48, and what follows them.
+/// The octets at the start that may be part of the name in a tag, up to 48, and what follows them.
 pub fn tag_run(octets: &[u8]) -> (&[u8], &[u8])
     ensures { SplitsRun IsTagOctet 48 octets.now result.0.now result.1.now }
 {
     octets.split_at(tag_len(octets))
 }
 
-/// The octets of a process id at the start, up to 128, and what follows them.
+/// The octets at the start that may be part of a process id, up to 128, and what follows them.
 pub fn proc_run(octets: &[u8]) -> (&[u8], &[u8])
     ensures { SplitsRun IsProcOctet 128 octets.now result.0.now result.1.now }
 {
@@ -133,7 +134,7 @@ pub fn digit_run(octets: &[u8]) -> (&[u8], &[u8])
     octets.split_at(digit_len(octets))
 }
 
-/// The octets, or nothing for the one octet "-".
+/// The octets, or None for the one octet "-".
 #[inline]
 pub fn nilable(octets: &[u8]) -> Option<&[u8]>
     ensures { IsNilable (option_map (λ s. s.now) result) octets.now }

@@ -13,11 +13,13 @@ use crate::runs::{nilable, proc_run, tag_run};
 /// The program and its process id, as they lie in the octets; None for NILVALUE.
 #[derive(Clone, Copy, Debug, PartialEq, Eq)]
 pub struct Tag<'a> {
+    /// The name of the program.
     pub app_name: Option<&'a [u8]>,
+    /// The process id, if the tag has one.
     pub proc_id: Option<&'a [u8]>,
 }
 
-/// Reads a process id and the bracket that follows it.
+/// Reads a process id and the bracket behind it.
 pub fn bracketed(octets: &[u8]) -> Option<(Option<&[u8]>, &[u8])>
     ensures { MatchOption result (NoPrefix (AnyOf Bracketed) octets.now)
         (λ x. Follows (Bracketed (option_map (λ s. s.now) x.0)) octets.now x.1.now) }
@@ -44,7 +46,7 @@ fn proc_id(octets: &[u8]) -> Option<(Option<&[u8]>, &[u8])>
     Some((proc_id, rest))
 }
 
-/// Reads a tag, its colon and one space behind that.
+/// Reads a tag, its colon, and one space behind it if there is one.
 pub fn read_tag(octets: &[u8]) -> Option<(Tag<'_>, &[u8])>
     ensures { MatchOption result (Lacks TagPart octets.now)
         (λ x. TagPart (tag_parts x.0) octets.now x.1.now) }

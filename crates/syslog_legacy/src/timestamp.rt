@@ -10,7 +10,7 @@ use crate::octets::behind;
 use syslog_grammar::fields::{clock, last_day};
 use syslog_value::{Civil, Instant};
 
-/// The month of a name.
+/// The month with this name of three letters.
 fn month_of(name: &[u8]) -> Option<u8>
     ensures { MatchOption result ((m : ℕ) → MonthText m name.now → ⊥) (λ m. MonthText m name.now) }
 {
@@ -31,7 +31,7 @@ fn month_of(name: &[u8]) -> Option<u8>
     }
 }
 
-/// The day that two octets name, if it is one up to the last.
+/// The day that two octets name, if it is not above the last.
 fn day_of(last: u8, tens: u8, units: u8) -> Option<u8>
     requires { last ≤ 31 }
     ensures { MatchOption result ((d : ℕ) → DayText last d (tens ∷ units ∷ []) → ⊥)
@@ -51,7 +51,7 @@ fn day_of(last: u8, tens: u8, units: u8) -> Option<u8>
     Some(day)
 }
 
-/// Reads a month and a day that the year has, and the spaces that follow them.
+/// Reads a month and a day that the year has, and the space behind the day.
 pub fn date(year: u16, octets: &[u8]) -> Option<((u8, u8), &[u8])>
     ensures { MatchOption result (NoPrefix (AnyOf (DateText year)) octets.now)
         (λ x. Follows (DateText year x.0) octets.now x.1.now) }

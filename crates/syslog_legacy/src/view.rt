@@ -22,7 +22,7 @@ impl<'a> LegacyView<'a> {
     ghost use Rattle.syslog_reading.specs.ViewParts.{HasBom, octets_of};
     ghost use Rattle.syslog_legacy.specs.Views.{legacy_view_parts};
 
-    /// Facility and severity.
+    /// Facility and severity: those of PRI, or user.notice without one (RFC 3164, section 4.3.3).
     pub fn priority(&self) -> Priority
         ensures { result ≡ (legacy_view_parts self.now).priority }
     {
@@ -36,18 +36,21 @@ impl<'a> LegacyView<'a> {
         self.front.instant
     }
 
+    /// The host, if the packet has one.
     pub fn hostname(&self) -> Option<&'a [u8]>
         ensures { option_map (λ s. s.now) result ≡ (legacy_view_parts self.now).hostname }
     {
         self.front.hostname
     }
 
+    /// The name of the program in the tag, if the packet has one.
     pub fn app_name(&self) -> Option<&'a [u8]>
         ensures { option_map (λ s. s.now) result ≡ (legacy_view_parts self.now).app_name }
     {
         self.front.app_name
     }
 
+    /// The process id in the tag, if the packet has one.
     pub fn proc_id(&self) -> Option<&'a [u8]>
         ensures { option_map (λ s. s.now) result ≡ (legacy_view_parts self.now).proc_id }
     {

@@ -14,8 +14,9 @@ use crate::view::LegacyView;
 use syslog_grammar::fields::MessageView;
 use syslog_grammar::utf8;
 
-/// Reads a message up to the end: a text where it starts with the BOM, else any octets. Where it
-/// is neither, the answer is how many octets come before the first that cannot go on with it.
+/// Reads a message up to the end: a text if it starts with the BOM, else any octets. If it starts
+/// with the BOM and is no text, the answer is how many octets come before the first that cannot
+/// continue it.
 fn message(octets: &[u8]) -> Result<MessageView<'_>, usize>
     ensures { MatchResult result (λ m. Message (message_parts m) octets.now)
         (MessageStops octets.now) }
@@ -37,9 +38,9 @@ fn message(octets: &[u8]) -> Result<MessageView<'_>, usize>
 
 /// Reads a legacy packet from all of its octets (RFC 3164, section 4).
 ///
-/// Ask [has_new_form](crate::has_new_form) first: what has the form of RFC 5424 is read by that
-/// standard alone. Every other packet is a record, but for a message that starts with the byte
-/// order mark and is no UTF-8. It takes no memory.
+/// Ask [has_new_form](crate::has_new_form) first: what has the form of RFC 5424 is read as that
+/// standard alone says. Every other packet is a record, unless its message starts with the byte
+/// order mark and is not UTF-8. It takes no memory.
 pub fn legacy_view<'a>(
     clock: &LegacyClock,
     octets: &'a [u8],

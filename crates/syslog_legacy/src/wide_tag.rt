@@ -69,7 +69,7 @@ fn is_tag(word: &[u8]) -> bool
     }
 }
 
-/// Whether a word is a tag, with its colon, or without it behind a process id.
+/// Whether a word is a tag, with its colon, or without one behind a process id.
 #[inline(always)]
 fn is_tag_word(word: &[u8]) -> bool
     ensures { IsTrue result ↔ IsTagWord word.now }
@@ -77,8 +77,8 @@ fn is_tag_word(word: &[u8]) -> bool
     is_tag(word) || is_bracketed(word)
 }
 
-/// Reads a host, which does not end in a colon, and the space that follows it; or no host, and
-/// nothing, where the word of a tag stands in its place.
+/// Reads a host that does not end in a colon, and the space behind it; if the word of a tag stands
+/// there instead, there is no host, and nothing is read.
 pub fn wide_host(octets: &[u8]) -> Option<(Option<&[u8]>, &[u8])>
     ensures { MatchOption result (Lacks WideHost octets.now)
         (λ x. WideHost (option_map (λ s. s.now) x.0) octets.now x.1.now) }
@@ -93,7 +93,8 @@ pub fn wide_host(octets: &[u8]) -> Option<(Option<&[u8]>, &[u8])>
     host_of(octets, word, rest)
 }
 
-/// Reads a tag, its colon and one space behind that; or a name, a process id in brackets and a space.
+/// Reads a tag, its colon, and one space behind it if there is one; or a name, a process id in
+/// brackets and a space.
 pub fn wide_tag(octets: &[u8]) -> Option<(Tag<'_>, &[u8])>
     ensures { MatchOption result (Lacks WideTag octets.now)
         (λ x. WideTag (tag_parts x.0) octets.now x.1.now) }

@@ -20,7 +20,7 @@ use crate::timestamp::date;
 use syslog_grammar::fields::{clock, last_day};
 use syslog_value::{Civil, Instant};
 
-/// A leap year, which has each day that some year has.
+/// A leap year, which has every day that some year has.
 const LEAP_YEAR: u16 = 2000;
 
 /// Reads a number from `low` to `high` in two digits.
@@ -65,8 +65,8 @@ fn spaced_year(octets: &[u8]) -> Option<(u16, &[u8])>
     Some((year, rest))
 }
 
-/// Reads a date with the name of its month and the space behind it; the year is one that is
-/// given, where none comes before the month or behind the day.
+/// Reads a date with the name of its month, and the space behind it. The year is that of the clock,
+/// unless one comes before the month or behind the day.
 fn named_date(clock_year: u16, octets: &[u8]) -> Option<((u16, u8, u8), &[u8])>
     ensures { MatchOption result (Lacks (NamedDate clock_year) octets.now)
         (λ x. NamedDate clock_year x.0 octets.now x.1.now) }
@@ -96,7 +96,7 @@ fn digit_at(digits: &[u8], offset: usize) -> u32
     }
 }
 
-/// The microseconds that the digits behind the point mean.
+/// The microseconds that the digits behind the point stand for.
 #[inline(always)]
 fn micros(digits: &[u8]) -> u32
     requires most { length digits.now ≤ 6 }
@@ -109,7 +109,7 @@ fn micros(digits: &[u8]) -> u32
     1000 * thousands + ones
 }
 
-/// Reads a point and one to six digits, in microseconds.
+/// Reads a point and one to six digits, and gives the microseconds.
 fn point(octets: &[u8]) -> Option<(u32, &[u8])>
     ensures { MatchOption result (Lacks Point octets.now)
         (λ x. Point x.0 octets.now x.1.now) }
@@ -125,7 +125,7 @@ fn point(octets: &[u8]) -> Option<(u32, &[u8])>
     Some((micros(digits), rest))
 }
 
-/// Reads the fraction of a second, if there is one, in microseconds.
+/// Reads the fraction of a second, if there is one, and gives the microseconds.
 #[inline(always)]
 fn fraction(octets: &[u8]) -> (u32, &[u8])
     ensures { Optional Point 0 result.0 octets.now result.1.now }
@@ -172,7 +172,7 @@ fn own_date(octets: &[u8]) -> Option<((u16, u8, u8), &[u8])>
     Some(((year, month, day), rest))
 }
 
-/// Reads the hours and minutes of an offset, in minutes.
+/// Reads the hours and minutes of an offset, and gives it in minutes.
 fn offset(octets: &[u8]) -> Option<(u16, &[u8])>
     ensures reads { MatchOption result (NoPrefix (AnyOf OffsetText) octets.now)
         (λ x. Follows (OffsetText x.0) octets.now x.1.now) }
@@ -184,7 +184,7 @@ fn offset(octets: &[u8]) -> Option<(u16, &[u8])>
     Some((60 * u16::from(hour) + u16::from(minute), rest))
 }
 
-/// Reads the zone of a timestamp of RFC 5424: how many minutes it is ahead of UTC.
+/// Reads the zone of a timestamp of RFC 5424: how many minutes its clock is ahead of UTC.
 fn zone(octets: &[u8]) -> Option<(i16, &[u8])>
     ensures { MatchOption result (NoPrefix (AnyOf ZoneText) octets.now)
         (λ x. Follows (ZoneText x.0) octets.now x.1.now) }
@@ -201,7 +201,7 @@ fn zone(octets: &[u8]) -> Option<(i16, &[u8])>
     Some((-(minutes as i16), rest))
 }
 
-/// Reads a timestamp of RFC 5424, but for NILVALUE: the civil time and its offset.
+/// Reads a timestamp of RFC 5424 other than NILVALUE: the civil time and its offset.
 fn own_time(octets: &[u8]) -> Option<((Civil, i16), &[u8])>
     ensures { MatchOption result (NoPrefix (AnyOf TimeText) octets.now)
         (λ x. Follows (TimeText record { civil = x.0.0; offset = x.0.1 }) octets.now x.1.now) }
@@ -252,7 +252,7 @@ fn stamp<'a>(legacy_clock: &LegacyClock, octets: &'a [u8]) -> Option<(Instant, &
     Some((instant, rest))
 }
 
-/// What follows the star or the point that comes first, if one does.
+/// What follows the star or the point, if one comes first; else all the octets.
 #[inline(always)]
 fn behind_mark(octets: &[u8]) -> &[u8]
     ensures { BehindMark octets.now result.now }
@@ -264,7 +264,7 @@ fn behind_mark(octets: &[u8]) -> &[u8]
     }
 }
 
-/// Reads a time with a mark before it and a colon behind it, if they come, and a space.
+/// Reads a time, with a mark before it and a colon behind it if they are there, and a space.
 pub fn wide_timestamp<'a>(
     legacy_clock: &LegacyClock,
     octets: &'a [u8],

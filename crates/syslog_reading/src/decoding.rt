@@ -10,13 +10,13 @@ use std::alloc::Global;
 use syslog_value::Record;
 use thiserror::Error;
 
-/// Why octets give no record.
+/// Why no record was made from octets.
 #[derive(Clone, Copy, Debug, PartialEq, Eq, Error)]
 pub enum DecodeFault {
     /// The octets are no well-formed record.
     #[error("{0}")]
     Bad(Fault),
-    /// A growth was refused. The octets are a well-formed record.
+    /// An allocation failed. The octets are a well-formed record.
     #[error("out of memory")]
     Memory,
 }

@@ -12,7 +12,7 @@ use crate::first_element::first_element;
 use crate::repeated::is_above;
 use syslog_fields::reading::next;
 
-/// Puts the ids of elements before the offsets, where there are enough.
+/// Puts the ids of elements into the slice, if it has room for them, and gives their number.
 fn fill<'a>(elements: &'a [u8], offsets: &mut [&'a [u8]]) -> Option<usize>
     ensures { IfSome result (λ n. (n ≤ length offsets.new)
         × ((es : List ElementParts) → Each Element es elements.now
@@ -64,8 +64,7 @@ fn are_rising(ids: &[&[u8]]) -> bool
     true
 }
 
-/// Whether elements have distinct ids. Where they have more than there are offsets for, the answer
-/// is false.
+/// Whether elements have distinct ids. If the slice has no room for these, the answer is false.
 fn differ_in<'a>(elements: &'a [u8], offsets: &mut [&'a [u8]]) -> bool
     ensures { IsTrue result → (es : List ElementParts) → Each Element es elements.now
         → AreDistinct es }
@@ -122,8 +121,9 @@ fn all_differ(elements: &[u8]) -> bool
     differ_in(elements, &mut offsets)
 }
 
-/// Whether elements have distinct ids. Where there are more than 131,072 it is not reported: no entry
-/// of an archive has room for so many ids that differ. Each element has three octets at least.
+/// Whether elements have distinct ids. With more than 131,072 elements the answer is false: no
+/// entry of an archive has room for so many ids that differ, as each element has at least three
+/// octets.
 pub fn differ(elements: &[u8]) -> bool
     ensures { IsTrue result → (es : List ElementParts) → Each Element es elements.now
         → AreDistinct es }

@@ -15,14 +15,14 @@ use syslog_fields::name::name;
 use syslog_fields::reading::{Stop, both, expect, next};
 use syslog_fields::value::value;
 
-/// A parameter of an element, as it lies in the octets.
+/// SD-PARAM: a parameter of an element, as it lies in the octets.
 #[derive(Clone, Copy, Debug, PartialEq, Eq)]
 pub struct ParamView<'a> {
     pub(crate) name: &'a [u8],
     pub(crate) raw: &'a [u8],
 }
 
-/// An element of the structured data, as it lies in the octets.
+/// SD-ELEMENT: an element of the structured data, as it lies in the octets.
 #[derive(Clone, Copy, Debug, PartialEq, Eq)]
 pub struct ElementView<'a> {
     pub(crate) id: &'a [u8],
@@ -30,14 +30,14 @@ pub struct ElementView<'a> {
 }
 
 impl<'a> ParamView<'a> {
-    /// The name.
+    /// PARAM-NAME.
     pub fn name(&self) -> &'a [u8]
         ensures { result.now ≡ (param_span self.now).name }
     {
         self.name
     }
 
-    /// The value as it is spelled between the quotation marks.
+    /// PARAM-VALUE as it is spelled between the quotation marks, escapes included.
     pub fn raw(&self) -> &'a [u8]
         ensures { result.now ≡ (param_span self.now).raw }
     {
@@ -46,14 +46,14 @@ impl<'a> ParamView<'a> {
 }
 
 impl<'a> ElementView<'a> {
-    /// The text of the parameters.
+    /// The octets of the parameters.
     pub(crate) fn params_text(&self) -> &'a [u8]
         ensures { result.now ≡ (element_span self.now).params }
     {
         self.params
     }
 
-    /// The id.
+    /// SD-ID.
     pub fn id(&self) -> &'a [u8]
         ensures { result.now ≡ (element_span self.now).id }
     {
@@ -61,7 +61,7 @@ impl<'a> ElementView<'a> {
     }
 }
 
-/// Reads `="`, a value and the quotation mark that follows it.
+/// Reads `="`, a value and the quotation mark that ends it.
 #[inline(always)]
 fn assigned(octets: &[u8]) -> Result<(&[u8], &[u8], bool), Stop>
     ensures reads { Reads remaining_of SpannedValue (λ x. (x.0.now, x.1.now)) octets.now result }
@@ -73,6 +73,7 @@ fn assigned(octets: &[u8]) -> Result<(&[u8], &[u8], bool), Stop>
 }
 
 /// Reads a space and a parameter, and tells whether its value is spelled as in a canonical record.
+/// The [`Stop`] is at the first octet with which these cannot go on.
 #[inline]
 pub fn param(octets: &[u8]) -> Result<(ParamView<'_>, &[u8], bool), Stop>
     ensures reads { Reads remaining_of SpannedParam (λ x. (param_span x.0, x.1.now))
@@ -108,8 +109,8 @@ fn behind_params(octets: &[u8]) -> Result<(&[u8], bool), Stop>
     })
 }
 
-/// Reads the parameters of an element, whose text is given, and the bracket that ends it, and tells
-/// whether the parameters are canonical.
+/// Reads the parameters of an element and the bracket that ends it. It gives their octets, and
+/// tells whether they are canonical.
 #[inline]
 fn params(octets: &[u8]) -> Result<(&[u8], &[u8], bool), Stop>
     ensures reads { Reads remaining_of (λ text. Text (AnyOf (Each Param)) text ⋅ Only (93 ∷ []))
@@ -121,7 +122,8 @@ fn params(octets: &[u8]) -> Result<(&[u8], &[u8], bool), Stop>
     Ok((text, rest, is_form))
 }
 
-/// Reads an element, and tells whether it is canonical.
+/// Reads an element, and tells whether it is canonical. The [`Stop`] is at the first octet with
+/// which it cannot go on.
 pub fn element(octets: &[u8]) -> Result<(ElementView<'_>, &[u8], bool), Stop>
     ensures reads { Reads remaining_of SpannedElement (λ x. (element_span x.0, x.1.now))
         octets.now result }

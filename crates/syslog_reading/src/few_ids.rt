@@ -1,21 +1,21 @@
-//! The ids of the first elements, as long as they are few.
+//! The ids of the first elements, while they are few.
 
 ghost use Rattle.std.specs.Prelude.{◌∷◌, ◌++◌, [], ℕ, List, IsTrue};
 ghost use Rattle.syslog_reading.specs.FewIds.{IsNew, Keeps};
 
-/// So many ids are kept.
+/// How many ids are kept.
 const FEW: usize = 8;
 
-/// The ids that were read, where there are at most eight of them.
+/// The ids that were read, if there are at most eight of them.
 #[derive(Clone, Copy)]
 pub struct FewIds<'a> {
     ids: [&'a [u8]; FEW],
-    /// How many ids were read; nine stands for more.
+    /// How many ids were read; nine stands for more than eight.
     count: usize,
 }
 
 impl<'a> FewIds<'a> {
-    /// With one id.
+    /// The ids of a single element.
     #[inline(always)]
     pub fn of_one(id: &'a [u8]) -> FewIds<'a>
         ensures { Keeps result (id.now ∷ []) }
@@ -26,7 +26,7 @@ impl<'a> FewIds<'a> {
         }
     }
 
-    /// Keeps the id that was read next, if there is room.
+    /// Notes the id that was read next, and keeps it if there is room.
     #[inline(always)]
     pub fn push(&mut self, id: &'a [u8])
         ensures { (ids : List (List ℕ)) → Keeps self.old ids → Keeps self.new (ids ++ id.now ∷ []) }
@@ -39,8 +39,8 @@ impl<'a> FewIds<'a> {
         }
     }
 
-    /// Whether an id is none of those that were read. Where they are more than are kept, the answer is
-    /// false.
+    /// Whether an id is none of those that were read. If more were read than are kept, the answer
+    /// is false.
     #[inline(always)]
     pub fn lacks(&self, id: &[u8]) -> bool
         ensures { IsTrue result → (ids : List (List ℕ)) → Keeps self.now ids → IsNew id.now ids }

@@ -1,5 +1,5 @@
 //! The first of elements, and of parameters, that are known to be well-formed: where its parts end,
-//! and no test.
+//! without a test.
 
 ghost use Rattle.std.specs.Prelude.{◌≡◌, ◌≢◌, ◌≤◌, ◌<◌, ◌++◌, ◌∷◌, ℕ, List, IsTrue, length};
 ghost use Rattle.octet_language.specs.Language.{IfFirst};
@@ -12,7 +12,7 @@ use syslog_fields::backslash::ends_taking;
 use syslog_fields::near::{near_either, near_octet};
 use syslog_fields::reading::behind_first;
 
-/// How many octets an id has, which a space or a bracket follows.
+/// How many octets come before the space or the bracket that ends an id.
 #[inline(always)]
 pub fn id_len(octets: &[u8]) -> usize
     ensures within { result ≤ length octets.now }
@@ -24,7 +24,7 @@ pub fn id_len(octets: &[u8]) -> usize
     }
 }
 
-/// How many octets a name has, which `=` follows.
+/// How many octets come before the `=` that ends a name.
 #[inline(always)]
 pub fn name_len(octets: &[u8]) -> usize
     ensures within { result ≤ length octets.now }
@@ -48,7 +48,7 @@ pub fn begins_with(mark: u8, octets: &[u8]) -> bool
     }
 }
 
-/// How many octets come before a mark: one that no backslash takes with it.
+/// How many octets come before a mark that no backslash takes.
 #[inline(always)]
 fn marked_len(mark: u8, octets: &[u8]) -> usize
     requires { mark ≢ 92 }

@@ -14,11 +14,17 @@ use syslog_fields::word::word;
 /// The fields up to the structured data, as they lie in the octets.
 #[derive(Clone, Copy, Debug, PartialEq, Eq)]
 pub struct HeaderFields<'a> {
+    /// PRIVAL, 0 to 191 (RFC 5424, 6.2.1).
     pub priority: u8,
+    /// TIMESTAMP (6.2.3); None for NILVALUE, as in all these fields.
     pub time: Option<Timestamp>,
+    /// HOSTNAME (6.2.4).
     pub hostname: Option<&'a [u8]>,
+    /// APP-NAME (6.2.5).
     pub app_name: Option<&'a [u8]>,
+    /// PROCID (6.2.6).
     pub proc_id: Option<&'a [u8]>,
+    /// MSGID (6.2.7).
     pub msg_id: Option<&'a [u8]>,
     /// How many octets are left where the timestamp begins.
     pub time_remaining: usize,
@@ -26,7 +32,8 @@ pub struct HeaderFields<'a> {
     pub behind_time: &'a [u8],
 }
 
-/// Reads the header and the space that follows it.
+/// Reads the header and the space that follows it. The [`Stop`] is at the first octet with which
+/// these cannot go on.
 #[inline(always)]
 pub fn fields(octets: &[u8]) -> Result<(HeaderFields<'_>, &[u8]), Stop>
     ensures reads { Reads remaining_of HeaderText (λ x. (header_parts x.0, x.1.now))

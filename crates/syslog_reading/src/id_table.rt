@@ -1,4 +1,4 @@
-//! A table of hashes, by which ids are known to differ.
+//! A table of hashes, by which ids are known to differ from each other.
 
 ghost use Rattle.std.specs.Prelude.{◌≡◌, ◌<◌, ◌≤◌, IsTrue};
 ghost use Rattle.octet_language.specs.Language.{AnyOf};
@@ -10,10 +10,10 @@ use crate::first_element::first_element;
 use crate::id_hash::id_hash;
 use syslog_fields::reading::next;
 
-/// So many slots are searched for a hash.
+/// How many slots are searched for a hash.
 const WINDOW: usize = 128;
 
-/// Where the search for a hash begins in a table with so much room.
+/// Where the search for a hash begins in a table of so many slots.
 #[inline(always)]
 fn place(hash: u64, room: usize) -> usize
     requires { 0 < room }
@@ -31,7 +31,7 @@ fn tag(hash: u64) -> u32
     (hash / 0x1_0000 % 0x8000_0000) as u32 + 1
 }
 
-/// Puts a hash into a table. The answer is false where the table seems to have it, and where there
+/// Puts a hash into a table. The answer is false if the table seems to hold it already, or if there
 /// is no free slot near its place.
 #[inline(always)]
 fn put(slots: &mut [u32], room: usize, hash: u64) -> bool
@@ -52,8 +52,8 @@ fn put(slots: &mut [u32], room: usize, hash: u64) -> bool
     false
 }
 
-/// What follows elements at the start whose ids differ: all up to one whose hash was met, or has no
-/// free slot near its place.
+/// What follows elements at the start whose ids differ: all up to one whose hash was met before, or
+/// finds no free slot near its place.
 #[inline(always)]
 fn behind_new<'a>(
     structured_data: &'a [u8],
@@ -91,9 +91,10 @@ fn behind_new_in<const SLOTS: usize>(structured_data: &[u8], multiplier: u64) ->
     behind_new(structured_data, &mut slots, SLOTS - WINDOW, multiplier)
 }
 
-/// What follows elements at the start whose ids differ: all up to one whose hash by an odd multiplier
-/// was met, or has no free slot near its place. The table has a slot for two octets, up to 262,144 of
-/// them, and an element has three at least; more octets have 131,200 slots.
+/// What follows elements at the start whose ids differ: all up to one whose hash, by an odd
+/// multiplier, was met before or finds no free slot near its place. The table has a slot for every
+/// two octets, up to 262,144 of them; beyond that it has 131,200 slots. An element has at least
+/// three octets.
 pub fn behind_hashed(structured_data: &[u8], multiplier: u64) -> &[u8]
     requires { AnyOf StructuredDataText structured_data.now }
     ensures { Known structured_data.now result.now }

@@ -1,5 +1,5 @@
-//! What octets are as a syslog record (RFC 5424, section 6): a view that lends its parts, a record with memory of its
-//! own, or the field and the octet of a fault.
+//! What octets are as a syslog record (RFC 5424, section 6): a view that lends its parts, a record
+//! with memory of its own, or the fault with its field and octet.
 #![tactic(auto)]
 
 mod decoding;

@@ -13,11 +13,13 @@ use syslog_fields::text::text;
 /// A message as it lies in the octets, without the BOM.
 #[derive(Clone, Copy, Debug, PartialEq, Eq)]
 pub struct MessageView<'a> {
+    /// The octets of MSG, without the BOM.
     pub octets: &'a [u8],
+    /// Whether the BOM comes before them (MSG-UTF8); they are UTF-8 then.
     pub has_mark: bool,
 }
 
-/// What follows the BOM, where the octets start with it.
+/// What follows the BOM, if the octets start with it.
 #[inline(always)]
 fn after_bom(octets: &[u8]) -> Option<&[u8]>
     ensures { MatchOption result (take 3 octets.now ≢ bom)
@@ -50,7 +52,8 @@ fn message(octets: &[u8]) -> Result<MessageView<'_>, Stop>
     }
 }
 
-/// Reads nothing, or a space and a message, up to the end.
+/// Reads nothing, or a space and a message, up to the end. The [`Stop`] is at the first octet with
+/// which these cannot go on.
 #[inline(always)]
 pub fn message_part(octets: &[u8]) -> Result<MessageView<'_>, Stop>
     ensures { MatchResult result (λ m. MessagePart (message_parts m) octets.now)

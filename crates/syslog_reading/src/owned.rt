@@ -20,7 +20,7 @@ use syslog_fields::reading::next;
 use syslog_fields::unescape::unescape;
 use syslog_value::{Element, Message, Param, Record, SdName, StructuredData, Word, WordFault};
 
-/// The word of these octets, where there are some.
+/// The word of these octets, if there are any. The refusals are those of [`Word::new`].
 pub fn to_word<const N: usize>(
     alloc: Global,
     octets: Option<&[u8]>,
@@ -38,7 +38,7 @@ pub fn to_word<const N: usize>(
     }
 }
 
-/// The word of octets that are one, where there are some.
+/// The word of octets that are known to be one, if there are any.
 fn known_word<const N: usize>(
     alloc: Global,
     octets: Option<&[u8]>,
@@ -53,7 +53,7 @@ fn known_word<const N: usize>(
     }
 }
 
-/// The name of octets that are one.
+/// The name of octets that are known to be one.
 fn to_name(alloc: Global, octets: &[u8]) -> Result<SdName, AllocError>
     requires { IsName octets.now }
     ensures { IfOk result (λ name. name ≡ octets.now) }
@@ -65,7 +65,7 @@ fn to_name(alloc: Global, octets: &[u8]) -> Result<SdName, AllocError>
     }
 }
 
-/// The text that a value means, as it is spelled.
+/// The text that a value means, from its spelling.
 fn to_text(alloc: Global, raw: &[u8]) -> Result<String, AllocError>
     requires { ∥ AnyOf Spells raw.now ∥₁ }
     ensures { IfOk result (λ value. (text : List ℕ) → Spells text raw.now
@@ -89,7 +89,7 @@ fn to_param(alloc: Global, view: &ParamView<'_>) -> Result<Param, AllocError>
     Ok(Param::new(name, value))
 }
 
-/// The parameters of a text of parameters.
+/// The parameters that octets spell.
 fn to_params(alloc: Global, octets: &[u8]) -> Result<Vec<Param>, AllocError>
     requires { ∥ AnyOf (Each ParamText) octets.now ∥₁ }
     ensures { IfOk result (λ params. (ps : List ParamParts) → Each ParamText ps octets.now
@@ -105,7 +105,7 @@ fn to_params(alloc: Global, octets: &[u8]) -> Result<Vec<Param>, AllocError>
     Ok(params)
 }
 
-/// The element of an id and a text of parameters.
+/// The element of an id and the octets of its parameters.
 fn to_element(alloc: Global, view: &ElementView<'_>) -> Result<Element, AllocError>
     requires id { IsName (element_span view.now).id }
     requires params { ∥ AnyOf (Each ParamText) (element_span view.now).params ∥₁ }
@@ -118,7 +118,7 @@ fn to_element(alloc: Global, view: &ElementView<'_>) -> Result<Element, AllocErr
     Ok(Element::new(id, params))
 }
 
-/// The elements of a text of structured data, in their order.
+/// The elements that octets of structured data spell, in their order.
 fn to_elements(alloc: Global, octets: &[u8]) -> Result<Vec<Element>, AllocError>
     requires { ∥ AnyOf StructuredDataText octets.now ∥₁ }
     ensures { IfOk result (λ elements. (es : List ElementParts) → StructuredDataText es octets.now
@@ -137,8 +137,8 @@ fn to_elements(alloc: Global, octets: &[u8]) -> Result<Vec<Element>, AllocError>
     Ok(elements)
 }
 
-/// The message of a text after the BOM, or of any octets. None where the text is no UTF-8, or the
-/// octets start with the BOM.
+/// The message of a text after the BOM, or of any octets. None if the text is not UTF-8, or the
+/// octets start with the BOM. It fails only when out of memory.
 pub fn to_message(alloc: Global, view: &MessageView<'_>) -> Result<Option<Message>, AllocError>
     ensures { IfOk result (λ found. MatchOption found (¬ IsMessage (message_parts view.now))
         (λ message. message ≡ message_parts view.now)) }

@@ -21,7 +21,7 @@ impl<'a> Elements<'a> {
     ghost use Rattle.syslog_fields.specs.Grammar.{StructuredDataText, Element};
     ghost use Rattle.syslog_reading.specs.PartsLeft.{elements_left};
 
-    /// The elements of a text of structured data.
+    /// The elements that octets of structured data spell.
     pub(crate) fn of_data(structured_data: &'a [u8]) -> Elements<'a>
         ensures elements { (es : List ElementParts) → StructuredDataText es structured_data.now
             → Each Element es (elements_left result) }

@@ -20,14 +20,14 @@ pub struct RecordView<'a> {
     pub(crate) app_name: Option<&'a [u8]>,
     pub(crate) proc_id: Option<&'a [u8]>,
     pub(crate) msg_id: Option<&'a [u8]>,
-    /// The octets of the structured data.
+    /// The octets of STRUCTURED-DATA (RFC 5424, section 6.3): `-`, or the elements.
     pub structured_data: &'a [u8],
     pub(crate) message: &'a [u8],
     /// What follows the timestamp and its space.
     pub behind_time: &'a [u8],
     /// Whether the message starts with the BOM, which `message` is without.
     pub(crate) has_mark: bool,
-    /// Whether the structured data is canonical but for the order of its elements.
+    /// Whether the structured data is canonical except for the order of its elements.
     pub is_form: bool,
     /// Whether the ids of the elements ascend.
     pub ascends: bool,
@@ -55,14 +55,14 @@ impl<'a> RecordView<'a> {
     ghost use Rattle.syslog_reading.specs.PartsLeft.{elements_left};
     ghost use Rattle.syslog_reading.specs.ViewParts.{HasBom, octets_of, view_parts};
 
-    /// Facility and severity.
+    /// Facility and severity (PRI, RFC 5424, section 6.2.1).
     pub fn priority(&self) -> Priority
         ensures { result ≡ (view_parts self.now).priority }
     {
         Priority::from_value(self.priority).unwrap()
     }
 
-    /// The instant of the timestamp, if it has one.
+    /// The instant that TIMESTAMP names (6.2.3); None for NILVALUE.
     pub fn instant(&self) -> Option<Instant>
         ensures { result ≡ (view_parts self.now).instant }
     {
@@ -72,31 +72,35 @@ impl<'a> RecordView<'a> {
         }
     }
 
+    /// HOSTNAME (6.2.4); None for NILVALUE.
     pub fn hostname(&self) -> Option<&'a [u8]>
         ensures { option_map (λ s. s.now) result ≡ (view_parts self.now).hostname }
     {
         self.hostname
     }
 
+    /// APP-NAME (6.2.5); None for NILVALUE.
     pub fn app_name(&self) -> Option<&'a [u8]>
         ensures { option_map (λ s. s.now) result ≡ (view_parts self.now).app_name }
     {
         self.app_name
     }
 
+    /// PROCID (6.2.6); None for NILVALUE.
     pub fn proc_id(&self) -> Option<&'a [u8]>
         ensures { option_map (λ s. s.now) result ≡ (view_parts self.now).proc_id }
     {
         self.proc_id
     }
 
+    /// MSGID (6.2.7); None for NILVALUE.
     pub fn msg_id(&self) -> Option<&'a [u8]>
         ensures { option_map (λ s. s.now) result ≡ (view_parts self.now).msg_id }
     {
         self.msg_id
     }
 
-    /// The elements of the structured data, in the order of the octets.
+    /// The elements of the structured data (6.3), in the order of the octets.
     pub fn elements(&self) -> Elements<'a>
         ensures elements { (es : List ElementParts) → StructuredDataText es (view_parts self.now).elements
             → Each Element es (elements_left result) }
@@ -106,7 +110,7 @@ impl<'a> RecordView<'a> {
         Elements::of_data(self.structured_data)
     }
 
-    /// The octets of the message, without the BOM.
+    /// The octets of the message (6.4), without the BOM.
     pub fn message(&self) -> &'a [u8]
         ensures { result.now ≡ octets_of (view_parts self.now).message }
     {
@@ -120,7 +124,7 @@ impl<'a> RecordView<'a> {
         self.has_mark
     }
 
-    /// The message with whether it starts with the BOM.
+    /// The message, and whether it starts with the BOM.
     pub fn message_view(&self) -> MessageView<'a>
         ensures { message_parts result ≡ (view_parts self.now).message }
     {

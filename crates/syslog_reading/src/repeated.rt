@@ -30,7 +30,7 @@ fn holds_id(elements: &[u8], id: &[u8]) -> bool
     false
 }
 
-/// Whether the id is above the greatest that was met.
+/// Whether an id is above the greatest one before it.
 pub fn is_above(id: &[u8], greatest: Option<&[u8]>) -> bool
     ensures above { IsTrue result → IsAbove id.now (option_map (λ s. s.now) greatest.entry) }
     ensures most { (IsTrue result → ⊥)
@@ -46,7 +46,7 @@ pub fn is_above(id: &[u8], greatest: Option<&[u8]>) -> bool
     }
 }
 
-/// What follows so many elements.
+/// What follows the first elements, so many of them.
 fn behind_count(elements: &[u8], count: usize) -> &[u8]
     ensures { Skips elements.now result.now }
 {
@@ -74,8 +74,8 @@ fn count(elements: &[u8]) -> usize {
     elements.len()
 }
 
-/// What follows elements at the start whose ids differ, by sorting: all of the longest such prefix,
-/// where it has at most 131,072 elements.
+/// What follows elements at the start whose ids differ, found by sorting: all of the longest such
+/// prefix, if it has at most 131,072 elements.
 fn behind_sorted<'a>(structured_data: &'a [u8], known: &'a [u8]) -> &'a [u8]
     requires { Known structured_data.now known.now }
     ensures known { Known structured_data.now result.now }
@@ -100,7 +100,7 @@ fn behind_sorted<'a>(structured_data: &'a [u8], known: &'a [u8]) -> &'a [u8]
     known
 }
 
-/// What is left behind elements whose ids differ, by their hashes with another multiplier.
+/// What follows elements at the start whose ids differ, by their hashes under another multiplier.
 fn behind_rehashed<'a>(structured_data: &'a [u8], known: &'a [u8], multiplier: u64) -> &'a [u8]
     requires data { AnyOf StructuredDataText structured_data.now }
     requires known { Known structured_data.now known.now }
@@ -114,8 +114,8 @@ fn behind_rehashed<'a>(structured_data: &'a [u8], known: &'a [u8], multiplier: u
     known
 }
 
-/// What is left behind elements whose ids differ, where so many tables were of no more use: hashes
-/// by another multiplier are in each other's way elsewhere. At last the ids are sorted, once.
+/// What follows elements at the start whose ids differ, after so many tables have told no more:
+/// under another multiplier other hashes collide. In the end the ids are sorted, once.
 fn left_behind<'a>(structured_data: &'a [u8], known: &'a [u8], tables: u32) -> &'a [u8]
     requires data { AnyOf StructuredDataText structured_data.now }
     requires known { Known structured_data.now known.now }
@@ -132,9 +132,9 @@ fn left_behind<'a>(structured_data: &'a [u8], known: &'a [u8], tables: u32) -> &
 
 /// The offset of the first id that repeats an earlier one.
 ///
-/// It takes one pass with a table of hashes on the stack. The table only tells that ids differ: one
-/// that it seems to have is sought among all before it. Where that is in vain, other hashes are
-/// taken, and at last the ids are sorted.
+/// It takes one pass with a table of hashes on the stack. The table only tells that ids differ: an
+/// id that it seems to hold is compared with all those before it. If none of them is equal, other
+/// hashes are tried, and in the end the ids are sorted.
 pub fn first_repeated(structured_data: &[u8]) -> Option<usize>
     requires { AnyOf StructuredDataText structured_data.now }
     ensures { MatchOption result (HoldsDistinct structured_data.now)

@@ -6,7 +6,7 @@ ghost use Rattle.syslog_fields.specs.Values.{Spells};
 use syslog_fields::reading::next;
 use syslog_fields::value::piece;
 
-/// What follows a prefix, where the octets start with it.
+/// What follows a prefix, if the octets start with it.
 fn behind_prefix<'a>(prefix: &[u8], octets: &'a [u8]) -> Option<&'a [u8]>
     ensures { MatchOption result ((t : List ℕ) → octets.now ≢ prefix.now ++ t)
         (λ x. octets.now ≡ prefix.now ++ x.now) }
@@ -18,10 +18,10 @@ fn behind_prefix<'a>(prefix: &[u8], octets: &'a [u8]) -> Option<&'a [u8]>
     if start == prefix { Some(rest) } else { None }
 }
 
-/// Whether a parameter's value, as it is spelled, means the text.
+/// Whether the value of a parameter, as it is spelled, means the text.
 ///
-/// A backslash before a quotation mark, a backslash or a closing bracket is left out, and any other
-/// backslash counts. Octets that spell no value mean no text. It takes no memory.
+/// A backslash before a quotation mark, a backslash or a closing bracket is left out; any other
+/// backslash counts. Octets that are no spelling of a value mean no text. It takes no memory.
 pub fn same_value(raw: &[u8], text: &str) -> bool
     ensures { IsTrue result ↔ Spells text.now raw.now }
 {

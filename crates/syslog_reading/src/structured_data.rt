@@ -12,7 +12,8 @@ use crate::few_ids::FewIds;
 use crate::repeated::is_above;
 use syslog_fields::reading::{Stop, both, next};
 
-/// Whether an id is none of those before it: since all ascend, or by the few that were kept.
+/// Whether an id is none of those before it: known because all of them ascend, or from the few that
+/// were kept.
 #[inline(always)]
 fn is_new(id: &[u8], ascends: bool, ids: &FewIds<'_>) -> bool
     ensures { IsTrue result → IsTrue ascends
@@ -24,8 +25,8 @@ fn is_new(id: &[u8], ascends: bool, ids: &FewIds<'_>) -> bool
     ids.lacks(id)
 }
 
-/// Reads elements, one at least, and leaves what ends them. It tells whether they are canonical,
-/// whether their ids ascend, and whether they are known to differ.
+/// Reads elements, at least one; what ends them is left. It tells whether they are canonical,
+/// whether their ids ascend, and whether these are known to differ.
 fn behind_elements(octets: &[u8]) -> Result<(&[u8], bool, bool, bool), Stop>
     ensures reads { MatchResult result (λ x. EndsElements octets.now x.0.now)
         (λ e. StopsInElements octets.now e.remaining) }
@@ -53,9 +54,10 @@ fn behind_elements(octets: &[u8]) -> Result<(&[u8], bool, bool, bool), Stop>
     Ok((rest, is_form, ascends, differ))
 }
 
-/// Reads the structured data, whose text is given, and leaves what ends it. It tells whether it is
-/// canonical but for the order of its elements, whether their ids ascend, and whether they are known
-/// to differ.
+/// Reads the structured data; what ends it is left. It gives the octets of the data, and tells
+/// whether they are canonical except for the order of the elements, whether the ids ascend, and
+/// whether these are known to differ. The [`Stop`] is at the first octet with which it cannot go
+/// on.
 pub fn structured_data(octets: &[u8]) -> Result<(&[u8], &[u8], bool, bool, bool), Stop>
     ensures reads { MatchResult result (λ x. EndsStructuredData octets.now x.0.now x.1.now)
         (λ e. StopsInStructuredData octets.now e.remaining) }

@@ -1,4 +1,4 @@
-//! The whole of a record's octets (RFC 5424, section 6), and the offset where they are outside the
+//! The whole of a record's octets (RFC 5424, section 6), and the offset at which they leave the
 //! grammar.
 
 ghost use Rattle.std.specs.Prelude.{◌≡◌, ◌-◌, ◌==◌, MatchResult, count_by, length};
@@ -13,12 +13,15 @@ use crate::structured_data::structured_data;
 /// The parts of a record, as they lie in the octets.
 #[derive(Clone, Copy, Debug, PartialEq, Eq)]
 pub struct Parsed<'a> {
+    /// The header (6.2).
     pub fields: HeaderFields<'a>,
+    /// The octets of STRUCTURED-DATA (6.3).
     pub structured_data: &'a [u8],
+    /// MSG (6.4).
     pub message: MessageView<'a>,
     /// How many octets are left where the structured data begins.
     pub structured_data_remaining: usize,
-    /// Whether the structured data is canonical but for the order of its elements.
+    /// Whether the structured data is canonical except for the order of its elements.
     pub is_form: bool,
     /// Whether the ids of the elements ascend.
     pub ascends: bool,
@@ -32,7 +35,7 @@ fn count(octet: u8, octets: &[u8]) -> usize
     octets.iter().filter(|other| **other == octet).count()
 }
 
-/// The field before the message in which a prefix of a record ends.
+/// The field that comes where a prefix of a record ends, before the message.
 fn field_before(prefix: &[u8]) -> Field
     ensures { IsCounted prefix.now result }
 {
@@ -50,7 +53,7 @@ fn field_before(prefix: &[u8]) -> Field
     }
 }
 
-/// The fault before the message, where so many octets are left.
+/// The fault before the message, if so many octets are left at it.
 #[cold]
 fn fault_before(octets: &[u8], remaining: usize) -> Fault
     ensures { IsSyntaxAt octets.now remaining result }
@@ -62,7 +65,7 @@ fn fault_before(octets: &[u8], remaining: usize) -> Fault
     }
 }
 
-/// The fault after the structured data: a space is missing there, or the message is faulty.
+/// The fault behind the structured data: a space is missing, or the message is faulty.
 #[cold]
 fn fault_behind(octets: &[u8], rest: &[u8], remaining: usize) -> Fault
     ensures { IsFaultBehind octets.now rest.now remaining result }
@@ -78,7 +81,7 @@ fn fault_behind(octets: &[u8], rest: &[u8], remaining: usize) -> Fault
     }
 }
 
-/// Reads a whole record.
+/// Reads a whole record. A fault is always one of the syntax.
 #[inline(always)]
 pub fn parse(octets: &[u8]) -> Result<Parsed<'_>, Fault>
     ensures { MatchResult result (IsParsed octets.now) (IsSyntaxFault octets.now) }

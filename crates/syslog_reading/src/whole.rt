@@ -20,7 +20,8 @@ use syslog_value::Instant;
 /// The instant lies outside the years from 0 to 9999.
 pub struct OutOfRange;
 
-/// The instant that a time names, if there is one.
+/// The microseconds since 1970-01-01T00:00:00Z of a time, if there is one. It fails if the time is
+/// out of range.
 #[inline(always)]
 pub fn micros_of(time: Option<Timestamp>) -> Result<Option<i64>, OutOfRange>
     ensures { IsTimeOf time result }
@@ -34,7 +35,7 @@ pub fn micros_of(time: Option<Timestamp>) -> Result<Option<i64>, OutOfRange>
     }
 }
 
-/// The offset of the first id that repeats an earlier one, if they are not known to differ.
+/// The offset of the first id that repeats an earlier one, unless the ids are known to differ.
 fn repeated_id(structured_data: &[u8], differ: bool) -> Option<usize>
     requires some { AnyOf StructuredDataText structured_data.now }
     requires differ { IsTrue differ → IdsDiffer structured_data.now }
@@ -47,7 +48,8 @@ fn repeated_id(structured_data: &[u8], differ: bool) -> Option<usize>
     first_repeated(structured_data)
 }
 
-/// The view of a record whose parts the octets spell.
+/// The view of a record whose parts the octets spell. It is refused if the instant is out of range,
+/// or else if an id is repeated.
 #[inline(always)]
 pub fn view_of<'a>(octets: &'a [u8], spelling: Parsed<'a>) -> Result<RecordView<'a>, Fault>
     requires { IsParsed octets.now spelling }
@@ -87,10 +89,10 @@ pub fn view_of<'a>(octets: &'a [u8], spelling: Parsed<'a>) -> Result<RecordView<
     })
 }
 
-/// Reads a record from all of the octets: a view exactly where they are a well-formed record.
+/// Reads a record from all of the octets: there is a view exactly if they are a well-formed record.
 ///
-/// A fault of the syntax is reported before an instant that is out of range, and that before an id
-/// that is repeated. It takes no memory.
+/// A fault of the syntax is reported before an instant out of range, and that before a repeated id.
+/// It takes no memory.
 pub fn view(octets: &[u8]) -> Result<RecordView<'_>, Fault>
     ensures some { OnOk result (AnyOf WellFormed octets.now) }
     ensures whole { MatchResult result (λ v. IsViewOf octets.now (view_parts v))
@@ -101,7 +103,8 @@ pub fn view(octets: &[u8]) -> Result<RecordView<'_>, Fault>
     view_of(octets, spelling)
 }
 
-/// Why the octets are no record, where they are none: the fault that [`view`] answers, and faster.
+/// Why the octets are no record; None if they are one. The fault is that of [`view`], and comes
+/// faster.
 pub fn fault_of(octets: &[u8]) -> Option<Fault>
     ensures { MatchOption result (AnyOf WellFormed octets.now) (FaultOf octets.now) }
 {

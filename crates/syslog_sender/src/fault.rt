@@ -3,13 +3,13 @@
 use std::alloc::AllocError;
 use thiserror::Error;
 
-/// Why a record was not sent. Nothing was written, but under `Write`.
+/// Why a record was not sent. Nothing was written, except as `Write` says.
 #[derive(Clone, Copy, Debug, PartialEq, Eq, Error)]
 pub enum SendFault {
-    /// The canonical record contains a line feed, which a line cannot carry.
-    #[error("a line holds no line feed")]
+    /// The framing is lines, and the canonical record contains a line feed.
+    #[error("a line cannot hold a line feed")]
     HasLf,
-    /// The canonical record is longer than a frame may be.
+    /// The canonical record is longer than a frame may be (`FRAME_MAX`).
     #[error("the record is too long for a frame")]
     TooLong,
     /// An allocation failed.

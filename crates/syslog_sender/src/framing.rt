@@ -1,4 +1,4 @@
-//! Octets to a writer as one frame.
+//! Octets are written as one frame.
 
 ghost use Rattle.std.specs.Prelude.{◌≡◌, ◌<◌, IfErr, IfOk, MatchResult, length};
 ghost use Rattle.octet_devices.specs.Device.{OutputState};
@@ -30,7 +30,7 @@ fn frame_of(alloc: Global, framing: Framing, octets: &[u8]) -> Result<Vec<u8>, S
     }
 }
 
-/// Writes octets, of which there is one at least, as one frame.
+/// Writes octets, at least one, as one frame. It fails as the variants of [`SendFault`] say.
 pub fn write_frame<W: Output>(
     alloc: Global,
     framing: Framing,

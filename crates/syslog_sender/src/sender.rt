@@ -23,7 +23,7 @@ use syslog_value::{Facility, Instant, Mask, Message, Priority, StructuredData, W
 // octets of a record beside its message that have room from the start
 const ROOM: usize = 256;
 
-/// What the records of one origin have in common, and which severities are let through.
+/// What the records of one origin have in common, and which severities it lets through.
 #[derive(Debug, Drop)]
 pub struct Sender {
     hostname: Option<Word<255>>,
@@ -86,9 +86,9 @@ fn look_at_record(fields: &RecordFields<'_>)
 }
 
 impl Sender {
-    /// A sender whose records have these words, None for NILVALUE, and this facility where a call
-    /// gives that of the kernel; for a sender of the kernel's facility it is that of user-level
-    /// messages. All severities are let through.
+    /// A sender whose records have these words, None for NILVALUE. Its facility replaces that of
+    /// the kernel where a call gives that; if it is that of the kernel itself, user-level messages
+    /// do. All severities are let through.
     pub fn new(
         hostname: Option<Word<255>>,
         app_name: Option<Word<48>>,
@@ -110,7 +110,7 @@ impl Sender {
         }
     }
 
-    /// Puts a mask in force, unless it is empty. The answer is the mask that was in force.
+    /// Puts a mask in force, unless it is empty. The answer is the mask that was in force before.
     pub fn set_mask(&mut self, mask: Mask) -> Mask
         ensures answer { result ≡ self.old.mask }
         ensures set { SetsMask self.old.mask mask self.new.mask }
@@ -167,8 +167,9 @@ impl Sender {
         write_canonical_fields(&fields, out)
     }
 
-    /// Appends the canonical octets of the record of an event to `out`, of any length. The answer
-    /// is false, and nothing is appended, where the mask holds the severity back.
+    /// Appends the canonical octets of the record of an event to `out`, however many. The answer is
+    /// false, and nothing is appended, if the mask holds the severity back. It fails only when out
+    /// of memory, and then `out` is unchanged.
     pub fn prepare_into(
         &self,
         priority: Priority,
@@ -197,8 +198,8 @@ impl Sender {
         Ok(true)
     }
 
-    /// The canonical octets of the record of an event, of any length; None where the mask holds
-    /// the severity back.
+    /// The canonical octets of the record of an event, however many; None if the mask holds the
+    /// severity back. It fails only when out of memory.
     pub fn prepare(
         &self,
         alloc: Global,
@@ -226,8 +227,8 @@ impl Sender {
         Ok(Some(octets))
     }
 
-    /// Writes the record of an event as one frame. The answer is false, and nothing is written,
-    /// where the mask holds the severity back.
+    /// Writes the record of an event as one frame. The answer is false, and nothing is written, if
+    /// the mask holds the severity back. It fails as the variants of [`SendFault`] say.
     pub fn send<W: Output>(
         &self,
         alloc: Global,

@@ -13,7 +13,7 @@ fn nameless(facility: Facility) -> Sender {
     Sender::new(None, None, None, facility)
 }
 
-/// ASCII is a message of any octets, other text has the BOM.
+/// The message of a text: as any octets if it is ASCII, else with the BOM.
 fn message(alloc: Global, text: &str) -> Result<Message, Fail> {
     if !text.is_ascii() {
         return Ok(Message::utf8(String::from_str(alloc, text)?));
@@ -24,7 +24,7 @@ fn message(alloc: Global, text: &str) -> Result<Message, Fail> {
     }
 }
 
-/// What a sender writes for a text; empty where it writes nothing.
+/// What a sender writes for a text; nothing if its mask holds the text back.
 fn written(
     alloc: Global,
     sender: &Sender,

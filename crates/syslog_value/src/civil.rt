@@ -12,8 +12,11 @@ pub struct Civil {
     pub year: u16,
     /// 1 to 12.
     pub month: u8,
+    /// 1 to 31, and no more than the month has.
     pub day: u8,
+    /// 0 to 23.
     pub hour: u8,
+    /// 0 to 59.
     pub minute: u8,
     /// 0 to 59: there are no leap seconds.
     pub second: u8,
@@ -24,7 +27,7 @@ pub struct Civil {
 impl Civil {
     ghost use Rattle.syslog_value.specs.Instants.{HasDate, HasTime, second_of_day};
 
-    /// The days from 1970-01-01 to the date, where the calendar has it.
+    /// The days from 1970-01-01 to the date, if the calendar has it.
     #[inline(always)]
     pub(crate) fn day_number(&self) -> Option<i64>
         ensures exists { IsSome result ↔ HasDate self.now }
@@ -41,7 +44,7 @@ impl Civil {
         }
     }
 
-    /// The second of the day, where the day has that time.
+    /// The second of the day, if the day has that time.
     #[inline(always)]
     pub(crate) fn second_of_day(&self) -> Option<u32>
         ensures exists { IsSome result ↔ HasTime self.now }
@@ -55,7 +58,7 @@ impl Civil {
     }
 }
 
-/// The year, the month and the day that lie so many days after 1970-01-01.
+/// The year, month and day that lie so many days after 1970-01-01.
 pub(crate) fn date_at(day: i64) -> (u16, u8, u8)
     requires { IsBetween (neg_ℤ (pos 719_528)) (pos 2_932_896) day }
     ensures exists { IsDay result.0 result.1 result.2 }

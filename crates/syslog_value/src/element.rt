@@ -7,7 +7,7 @@ use crate::SdName;
 use std::alloc::{AllocError, Global};
 use std::marker::Model;
 
-/// A parameter: a name, and a text.
+/// SD-PARAM: a name, and a value that is a text (RFC 5424, section 6.3.3).
 #[derive(Debug, Drop)]
 pub struct Param {
     name: SdName,
@@ -23,6 +23,7 @@ impl Model for Param {
 }
 
 impl Param {
+    /// The parameter with this name and value.
     pub fn new(name: SdName, value: String) -> Param
         ensures name { result.name ≡ name }
         ensures value { result.value ≡ string_bytes value }
@@ -31,6 +32,7 @@ impl Param {
         Param { name, value }
     }
 
+    /// PARAM-NAME.
     pub fn name(&self) -> &SdName
         ensures value { result.now ≡ self.now.name }
         ensures valid { IsParam self.now }
@@ -38,6 +40,7 @@ impl Param {
         &self.name
     }
 
+    /// PARAM-VALUE as it is meant, without escapes.
     pub fn value(&self) -> &str
         ensures { result.now ≡ self.now.value }
     {
@@ -81,7 +84,8 @@ impl Eq for Param {
     ghost laws = { decided param_eq param_decides };
 }
 
-/// SD-ELEMENT: an id, and parameters in their order. A name may occur more than once among them.
+/// SD-ELEMENT (RFC 5424, section 6.3.1): an id, and parameters in their order, whose names may
+/// repeat.
 #[derive(Debug, Drop)]
 pub struct Element {
     id: SdName,
@@ -97,6 +101,7 @@ impl Model for Element {
 }
 
 impl Element {
+    /// The element with this id and these parameters.
     pub fn new(id: SdName, params: Vec<Param>) -> Element
         ensures id { result.id ≡ id }
         ensures params { result.params ≡ params.items }
@@ -106,6 +111,7 @@ impl Element {
         Element { id, params }
     }
 
+    /// SD-ID (RFC 5424, section 6.3.2).
     pub fn id(&self) -> &SdName
         ensures value { result.now ≡ self.now.id }
         ensures valid { IsElement self.now }
@@ -113,6 +119,7 @@ impl Element {
         &self.id
     }
 
+    /// The parameters, in their order.
     pub fn params(&self) -> &[Param]
         ensures { result.now ≡ self.now.params }
     {

@@ -11,7 +11,7 @@ use crate::civil::date_at;
 use std::marker::Model;
 use thiserror::Error;
 
-/// Why a civil time with an offset names no instant.
+/// Why a civil time with an offset names no instant: the first of these that holds.
 #[derive(Clone, Copy, Debug, PartialEq, Eq, Error)]
 pub enum TimeFault {
     /// The calendar has no such date, or the year is above 9999.
@@ -80,7 +80,8 @@ fn civil_at(micros: i64) -> Civil
 }
 
 impl Instant {
-    /// The instant so many microseconds from 1970-01-01T00:00:00Z, where it is in range.
+    /// The instant `micros` microseconds after 1970-01-01T00:00:00Z, or before it if negative; None
+    /// if it is out of range.
     pub fn from_micros(micros: i64) -> Option<Instant>
         ensures valid { IsSome result ↔ IsInstant micros }
         ensures value { IfSome result (λ i. i ≡ micros) }
@@ -91,7 +92,7 @@ impl Instant {
         Some(Instant { micros })
     }
 
-    /// The microseconds from 1970-01-01T00:00:00Z.
+    /// The microseconds since 1970-01-01T00:00:00Z, negative before that.
     pub fn micros(self) -> i64
         ensures value { result ≡ self }
         ensures range { IsInstant result }
@@ -99,7 +100,8 @@ impl Instant {
         self.micros
     }
 
-    /// The instant that a civil time names, so many minutes ahead of UTC.
+    /// The instant that a civil time names on a clock `offset_minutes` minutes ahead of UTC. The
+    /// refusals come in the order of the variants of [`TimeFault`].
     #[inline(always)]
     pub fn from_civil(civil: Civil, offset_minutes: i16) -> Result<Instant, TimeFault>
         ensures ok { IfOk result (λ i. IsCivil civil × IsOffset offset_minutes

@@ -34,7 +34,7 @@ impl Model for Message {
 }
 
 impl Message {
-    /// The message of no octets, which is that of a record without one.
+    /// The message of no octets, as in a record without MSG.
     pub fn empty(alloc: Global) -> Message
         ensures { result ≡ AnyOctets [] }
     {
@@ -43,7 +43,7 @@ impl Message {
         }
     }
 
-    /// The message of these octets. Octets that start with the BOM come back.
+    /// The message of these octets. Octets that start with the BOM are refused and come back.
     pub fn any(octets: Vec<u8>) -> Result<Message, Vec<u8>>
         ensures ok { IfOk result (λ message.
             (take 3 octets.items ≢ bom) × (message ≡ AnyOctets octets.items)) }
@@ -66,7 +66,7 @@ impl Message {
         }
     }
 
-    /// The octets, without the BOM where there is one.
+    /// The octets, without the BOM if there is one.
     pub fn octets(&self) -> &[u8]
         ensures value { result.now ≡ message_octets self.now }
         ensures valid { IsMessage self.now }
@@ -87,6 +87,7 @@ impl Message {
         }
     }
 
+    /// A copy in memory of its own. It fails only when out of memory.
     pub fn copy(&self, alloc: Global) -> Result<Message, AllocError>
         ensures { IfOk result (λ message. message ≡ self.now) }
     {

@@ -8,7 +8,8 @@ use crate::WordFault;
 use std::alloc::{AllocError, Global};
 use std::marker::Model;
 
-/// SD-NAME: one to 32 printable octets but "=", "]" and the quotation mark.
+/// SD-NAME (RFC 5424, section 6): one to 32 printable octets of ASCII other than the space, "=",
+/// "]" and the quotation mark.
 #[derive(Debug, Drop)]
 pub struct SdName {
     octets: Vec<u8>,
@@ -26,7 +27,8 @@ impl SdName {
     /// The most octets of a name.
     pub const MOST: usize = 32;
 
-    /// The name of these octets. It is never refused as `Nil`.
+    /// The name of these octets. The refusals come in the order of the variants of [`WordFault`],
+    /// of which `Nil` never comes.
     pub fn new(alloc: Global, octets: &[u8]) -> Result<SdName, WordFault>
         ensures ok { IfOk result (λ name. IsName octets.now × (name ≡ octets.now)) }
         ensures err { IfErr result (IsNameFault octets.now) }
@@ -45,6 +47,7 @@ impl SdName {
         })
     }
 
+    /// The octets of the name.
     pub fn bytes(&self) -> &[u8]
         ensures value { result.now ≡ self.now }
         ensures valid { IsName self.now }
@@ -52,6 +55,7 @@ impl SdName {
         self.octets.as_slice()
     }
 
+    /// A copy in memory of its own. It fails only when out of memory.
     pub fn copy(&self, alloc: Global) -> Result<SdName, AllocError>
         ensures { IfOk result (λ name. name ≡ self.now) }
     {

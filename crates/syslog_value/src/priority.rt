@@ -6,7 +6,7 @@ ghost use Rattle.syslog_value.specs.Facilities.{facility_code};
 use crate::{Facility, Severity};
 use std::marker::Model;
 
-/// PRIVAL: eight times the facility's code, and the severity's code. It is 0 to 191.
+/// PRIVAL: eight times the facility's code plus the severity's code, 0 to 191.
 #[derive(Clone, Copy, Debug, PartialEq, Eq)]
 pub struct Priority {
     value: u8,
@@ -23,7 +23,7 @@ impl Model for Priority {
 }
 
 impl Priority {
-    /// The priority with this number, where it is one.
+    /// The priority with this number; None above 191.
     pub fn from_value(value: u8) -> Option<Priority>
         ensures valid { IsSome result ↔ (value ≤ 191) }
         ensures value { IfSome result (λ priority. priority ≡ value) }
@@ -34,6 +34,7 @@ impl Priority {
         Some(Priority { value })
     }
 
+    /// The priority of a facility and a severity.
     pub fn new(facility: Facility, severity: Severity) -> Priority
         ensures { result ≡ facility_code facility * 8 + severity_code severity }
     {
@@ -50,12 +51,14 @@ impl Priority {
         self.value
     }
 
+    /// The facility, which is the number divided by eight.
     pub fn facility(self) -> Facility
         ensures { facility_code result ≡ self / 8 }
     {
         Facility::from_code(self.value / 8).unwrap()
     }
 
+    /// The severity, which is the rest of that division.
     pub fn severity(self) -> Severity
         ensures { severity_code result ≡ self % 8 }
     {

@@ -7,7 +7,7 @@ use crate::{Instant, Message, Priority, StructuredData, Word};
 use std::alloc::{AllocError, Global};
 use std::marker::Model;
 
-/// A syslog record. The NILVALUE of a text is None.
+/// A syslog record. None stands for the NILVALUE of a field.
 #[derive(Debug, Drop)]
 pub struct Record {
     priority: Priority,
@@ -77,6 +77,7 @@ impl Record {
         }
     }
 
+    /// Facility and severity (PRI, RFC 5424, section 6.2.1).
     pub fn priority(&self) -> Priority
         ensures value { result ≡ self.now.priority }
         ensures valid { IsRecord self.now }
@@ -84,48 +85,56 @@ impl Record {
         self.priority
     }
 
+    /// The instant that TIMESTAMP names (RFC 5424, section 6.2.3).
     pub fn instant(&self) -> Option<Instant>
         ensures { result ≡ self.now.time }
     {
         self.instant
     }
 
+    /// HOSTNAME (RFC 5424, section 6.2.4).
     pub fn hostname(&self) -> Option<&Word<255>>
         ensures { option_copied result ≡ self.now.hostname }
     {
         self.hostname.as_ref()
     }
 
+    /// APP-NAME (RFC 5424, section 6.2.5).
     pub fn app_name(&self) -> Option<&Word<48>>
         ensures { option_copied result ≡ self.now.app_name }
     {
         self.app_name.as_ref()
     }
 
+    /// PROCID (RFC 5424, section 6.2.6).
     pub fn proc_id(&self) -> Option<&Word<128>>
         ensures { option_copied result ≡ self.now.proc_id }
     {
         self.proc_id.as_ref()
     }
 
+    /// MSGID (RFC 5424, section 6.2.7).
     pub fn msg_id(&self) -> Option<&Word<32>>
         ensures { option_copied result ≡ self.now.msg_id }
     {
         self.msg_id.as_ref()
     }
 
+    /// STRUCTURED-DATA (RFC 5424, section 6.3); no elements stand for its NILVALUE.
     pub fn structured(&self) -> &StructuredData
         ensures { result.now ≡ self.now.elements }
     {
         &self.structured
     }
 
+    /// MSG (RFC 5424, section 6.4); a message of no octets stands for a record without one.
     pub fn message(&self) -> &Message
         ensures { result.now ≡ self.now.message }
     {
         &self.message
     }
 
+    /// A copy in memory of its own. It fails only when out of memory.
     pub fn copy(&self, alloc: Global) -> Result<Record, AllocError>
         ensures { IfOk result (λ r. r ≡ self.now) }
     {

@@ -2,19 +2,24 @@
 ghost use Rattle.std.specs.Prelude.{◌≡◌, ◌≢◌, ◌≤◌, ◌↔◌, IsSome, IfSome, IfNone};
 ghost use Rattle.syslog_value.specs.Severities.{severity_code, severity_name, IsNoSeverityName};
 
-/// A severity of RFC 5424, the most severe first.
+/// A severity of RFC 5424, from the most severe to the least.
 #[derive(Clone, Copy, Debug, PartialEq, Eq, PartialOrd, Ord)]
 pub enum Severity {
     /// The system is unusable.
     Emergency,
-    /// Action must be taken at once.
+    /// Action must be taken immediately.
     Alert,
+    /// Critical conditions.
     Critical,
+    /// Error conditions.
     Error,
+    /// Warning conditions.
     Warning,
-    /// Normal but significant.
+    /// Normal but significant conditions.
     Notice,
+    /// Informational messages.
     Informational,
+    /// Debug-level messages.
     Debug,
 }
 
@@ -31,7 +36,7 @@ impl Severity {
         Severity::Debug,
     ];
 
-    /// The severity with this code, 0 to 7.
+    /// The severity with this code; None above 7.
     pub fn from_code(code: u8) -> Option<Severity>
         ensures valid { IsSome result ↔ (code ≤ 7) }
         ensures value { IfSome result (λ severity. severity_code severity ≡ code) }
@@ -52,7 +57,7 @@ impl Severity {
         self as u8
     }
 
-    /// The short name, in lower case.
+    /// The short name, in lower case, such as `err`.
     pub fn name(self) -> &'static str
         ensures { result.now ≡ severity_name self }
     {
@@ -68,7 +73,7 @@ impl Severity {
         }
     }
 
-    /// The severity with this short name.
+    /// The severity with this short name, in lower case; None if there is none.
     pub fn from_name(name: &str) -> Option<Severity>
         ensures found { IfSome result (λ severity. severity_name severity ≡ name.now) }
         ensures none { IfNone result (IsNoSeverityName name.now) }

@@ -15,7 +15,7 @@ use std::alloc::{AllocError, Global};
 use std::marker::Model;
 use thiserror::Error;
 
-/// Why an element was not added.
+/// Why an element was not added: the first of these that holds.
 #[derive(Clone, Copy, Debug, PartialEq, Eq, Error)]
 pub enum PushFault {
     /// There is an element with this id.
@@ -26,7 +26,8 @@ pub enum PushFault {
     Memory,
 }
 
-/// Elements in the order of their ids as octets, so that their order in a text carries no meaning.
+/// STRUCTURED-DATA: elements in the order of their ids as octets, since their order in a text
+/// carries no meaning.
 #[derive(Debug, Drop)]
 pub struct StructuredData {
     elements: Vec<Element>,
@@ -50,7 +51,7 @@ impl StructuredData {
         }
     }
 
-    /// Structured data of elements in any order. None where an id occurs twice.
+    /// Structured data of elements in any order. None if an id occurs twice.
     pub fn from_elements(elements: Vec<Element>) -> Option<StructuredData>
         ensures distinct { IsSome result ↔ HaveDistinctIds elements.items }
         ensures value { IfSome result (IsPermutation elements.items) }
@@ -65,7 +66,7 @@ impl StructuredData {
         Some(StructuredData { elements })
     }
 
-    /// The elements, ascending by their ids.
+    /// The elements, in ascending order of their ids.
     pub fn elements(&self) -> &[Element]
         ensures value { result.now ≡ self.now }
         ensures valid { AllByRecursion IsElement self.now }
@@ -74,7 +75,7 @@ impl StructuredData {
         self.elements.as_slice()
     }
 
-    /// Adds an element in the order of the ids. It comes back where its id is already there, or an
+    /// Adds an element in the order of the ids. It comes back if its id is there already, or if an
     /// allocation failed.
     pub fn push(&mut self, element: Element) -> Result<(), (Element, PushFault)>
         ensures ok { OnOk result (AddsElement element self.old self.new) }
@@ -92,6 +93,7 @@ impl StructuredData {
         Ok(())
     }
 
+    /// A copy in memory of its own. It fails only when out of memory.
     pub fn copy(&self, alloc: Global) -> Result<StructuredData, AllocError>
         ensures { IfOk result (λ copied. copied ≡ self.now) }
     {

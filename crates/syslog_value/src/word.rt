@@ -8,18 +8,19 @@ use std::alloc::{AllocError, Global};
 use std::marker::Model;
 use thiserror::Error;
 
-/// Why octets are no word, or no name.
+/// Why octets are no word, or no name: the first of these that holds.
 #[derive(Clone, Copy, Debug, PartialEq, Eq, Error)]
 pub enum WordFault {
     /// There are no octets.
     #[error("there are no octets")]
     Empty,
-    /// The one octet "-", the NILVALUE, which a missing word is written as.
-    #[error("the one octet - is no word")]
+    /// The one octet "-", the NILVALUE, which stands for a missing word.
+    #[error("the single octet - is not a word")]
     Nil,
+    /// There are more octets than the word or the name may have.
     #[error("there are too many octets")]
     TooLong,
-    /// The first octet that is not allowed, counted from 0.
+    /// The octet at this offset, counted from 0, is the first that is not allowed.
     #[error("the octet at {offset} is not allowed")]
     BadOctet { offset: usize },
     /// An allocation failed.
@@ -38,7 +39,7 @@ impl From<AllocError> for WordFault {
     }
 }
 
-/// One to N printable octets of ASCII that are no space, and not the one octet "-".
+/// One to N printable octets of ASCII other than the space, and not the one octet "-".
 #[derive(Debug, Drop)]
 pub struct Word<const N: usize> {
     octets: Vec<u8>,
@@ -53,7 +54,7 @@ impl<const N: usize> Model for Word<N> {
 }
 
 impl<const N: usize> Word<N> {
-    /// The word of these octets.
+    /// The word of these octets. The refusals come in the order of the variants of [`WordFault`].
     pub fn new(alloc: Global, octets: &[u8]) -> Result<Word<N>, WordFault>
         ensures ok { IfOk result (λ word. IsWord N octets.now × (word ≡ octets.now)) }
         ensures err { IfErr result (IsWordFault N octets.now) }
@@ -72,6 +73,7 @@ impl<const N: usize> Word<N> {
         })
     }
 
+    /// The octets of the word.
     pub fn bytes(&self) -> &[u8]
         ensures value { result.now ≡ self.now }
         ensures valid { IsWord N self.now }
@@ -79,6 +81,7 @@ impl<const N: usize> Word<N> {
         self.octets.as_slice()
     }
 
+    /// A copy in memory of its own. It fails only when out of memory.
     pub fn copy(&self, alloc: Global) -> Result<Word<N>, AllocError>
         ensures { IfOk result (λ word. word ≡ self.now) }
     {

@@ -47,8 +47,8 @@ fn collect_datagrams<W: Output, N: Output>(
     run_collect(alloc, words, &mut source, output, diagnostics)
 }
 
-/// Binds a socket and writes what comes to it as an archive. Returns the exit status; where the
-/// socket cannot be bound, that of a fault.
+/// Binds a socket and writes what comes to it as an archive. Returns the exit status; if the socket
+/// cannot be bound, that of a fault.
 pub fn collect<W: Output, N: Output>(
     rt: &HostRuntime,
     alloc: Global,

@@ -14,9 +14,9 @@ const NULL_DEVICE: &str = "/dev/null";
 const STDOUT_INFO: &str = "/proc/self/fdinfo/1";
 
 /// Opens /dev/null on each of the descriptors 0 to 2 that is closed, so that no socket and no file
-/// ever takes its place: on 0 for writing alone, on 1 and 2 for reading alone. Each read of the
-/// standard input, and each write of the output or the diagnostics, then fails as it did before.
-/// It has to run before anything else is opened.
+/// ever takes its place: on 0 for writing only, on 1 and 2 for reading only. Each read of standard
+/// input, and each write of the output or the diagnostics, then fails as on a closed descriptor.
+/// Call it before anything else is opened.
 pub fn occupy_closed_descriptors(rt: &HostRuntime) -> io::Result<()> {
     for _descriptor in 0..3 {
         // the lowest descriptor that is closed
@@ -53,8 +53,8 @@ fn is_for_reading_alone(rt: &HostRuntime) -> bool {
         .any(says_reading_alone)
 }
 
-/// Whether the standard output can be written at all: its descriptor is open for writing, and
-/// somebody is left to read what is written to it. Nothing is written.
+/// Whether standard output can be written at all: its descriptor is open for writing, and somebody
+/// is left to read what is written to it. Nothing is written.
 pub fn can_be_written(rt: &HostRuntime) -> bool {
     let mut asked = [pollfd {
         fd: STDOUT_FILENO,

@@ -3,12 +3,16 @@
 
 mod collect;
 mod descriptors;
-mod disk;
+mod disk_files;
+mod refused;
+mod serve;
+mod spill;
+mod stores;
 
 use command_line::{Request, read_words};
 use commands::{report_words_fault, run_request};
 use descriptors::{can_be_written, occupy_closed_descriptors};
-use disk::DiskFiles;
+use disk_files::DiskFiles;
 use driver::{FAULT, NO_MEMORY, report};
 use octet_devices::{FromRead, ToWrite};
 use std::process::ExitCode;
@@ -50,6 +54,24 @@ fn main(rt: HostRuntime) -> ExitCode {
                 return ExitCode::from(report(&mut diagnostics, b"write fault\n", FAULT));
             }
             collect::collect(&rt, rt.alloc(), &words, &mut output, &mut diagnostics)
+        }
+        Ok(Request::Serve { words }) => serve::serve(&rt, &words),
+        Ok(Request::Read { dir, range }) => {
+            stores::read(&rt, rt.alloc(), dir, range, &mut output, &mut diagnostics)
+        }
+        Ok(Request::Verify { dir }) => {
+            stores::verify(&rt, rt.alloc(), dir, &mut output, &mut diagnostics)
+        }
+        Ok(
+            Request::SpillArchive {
+                input_framing,
+                reading,
+                dir,
+                memory_mib,
+            },
+        ) => {
+            let room = spill::Room { dir, memory_mib };
+            spill::archive(&rt, rt.alloc(), input_framing, reading, &room)
         }
         Ok(request) => {
             let mut input = FromRead::new(rt.stdin());

@@ -12,33 +12,33 @@ use Rattle.collect_engine.proofs.Receives.{done_as, refused_settled, stopped_as}
 use Rattle.collect_engine.proofs.receiving.receive.Goals as goal
 
 pub returns-in-Done-clause-received : goal.returns-in-Done-clause-received
-returns-in-Done-clause-received g c first before was = (
+returns-in-Done-clause-received g c past first before was = (
   accepted_event c.args.event ∷ [],
-  c.in-Done.ensures.goes_on.stands first before was,
+  c.in-Done.ensures.goes_on.stands past first before was,
   done_as c.args.collector.now.reading (history_of before) (waiting c.args.collector.now.connections)
       (waiting c.run.new.self.connections) c.args.event _ _ c.run.new.log.items c.clear.new.self.items
-      (c.in-Done.ensures.logged first before was) c.clear.ensures.items (c.in-Done.ensures.ends first before was).0,
+      (c.in-Done.ensures.logged past first before was) c.clear.ensures.items (c.in-Done.ensures.ends past first before was).0,
 )
 
 pub returns-in-Done-clause-settled : goal.returns-in-Done-clause-settled
-returns-in-Done-clause-settled g c first before was settled d =
-    c.in-Done.ensures.waits first before was d
+returns-in-Done-clause-settled g c past first before was settled d =
+    c.in-Done.ensures.waits past first before was d
     ∙ none_after_all (waiting c.args.collector.now.connections) (accepted_event c.args.event ∷ []) settled d
 
 pub returns-in-Stopped-clause-received : goal.returns-in-Stopped-clause-received
-returns-in-Stopped-clause-received g c first before was =
+returns-in-Stopped-clause-received g c past first before was =
     let here = c.in-Stopped in
     let made = stopped_as c.args.collector.now.connections.limit c.args.collector.now.reading c.args.collector.now.connections
     (waiting c.run.new.self.connections) _ first before c.args.event here.at here.taken here.fault _ _
-    c.clear.new.self.items c.run.new.log.items here.ensures.many was (here.ensures.cause first before was)
-    (here.ensures.logged first before was) c.clear.ensures.items in
+    c.clear.new.self.items c.run.new.log.items here.ensures.many was (here.ensures.cause past first before was)
+    (here.ensures.logged past first before was) c.clear.ensures.items in
     let as_made = subst (λ (r : Received). ReceivesAs c.args.collector.now.reading (history_of before)
     (waiting c.args.collector.now.connections) (waiting c.run.new.self.connections)
     (accepted_event c.args.event) r (kept_outcomes here.fault c.run.new.log.items)
     (accepted_run (c.args.event ∷ []) (Stopped here.at here.taken here.fault)))
     (sym c.received_of.ensures) made in (
       accepted_run (c.args.event ∷ []) (Stopped here.at here.taken here.fault),
-      here.ensures.goes_on.stands first before was,
+      here.ensures.goes_on.stands past first before was,
       subst (λ (os : List Outcome). ReceivesAs c.args.collector.now.reading (history_of before)
           (waiting c.args.collector.now.connections) (waiting c.run.new.self.connections)
           (accepted_event c.args.event) c.received_of.result os
@@ -47,10 +47,10 @@ returns-in-Stopped-clause-received g c first before was =
     )
 
 pub returns-in-Stopped-clause-settled : goal.returns-in-Stopped-clause-settled
-returns-in-Stopped-clause-settled g c first before was settled =
+returns-in-Stopped-clause-settled g c past first before was settled =
     let here = c.in-Stopped in
     subst (λ (r : Received). IfNotMemory r (IsSettled c.run.new.self.connections)) (sym c.received_of.ensures)
     (refused_settled c.args.collector.now.connections.limit c.args.collector.now.reading c.args.collector.now.connections
     c.run.new.self.connections (history_of before) c.args.event here.at here.taken here.fault _ _
-    c.clear.new.self.items c.run.new.log.items settled (here.ensures.cause first before was)
-    (here.ensures.logged first before was))
+    c.clear.new.self.items c.run.new.log.items settled (here.ensures.cause past first before was)
+    (here.ensures.logged past first before was))

@@ -11,12 +11,12 @@ use Rattle.collect_engine.proofs.serving.serve_event.Goals as goal
 
 pub returns-in-Refused-clause-served : goal.returns-in-Refused-clause-served
 returns-in-Refused-clause-served g c first before was =
-    let made = c.in-Refused.ensures.received first before was in
+    let made = c.in-Refused.ensures.received [] first before was in
     (made.0, [], made.1, appends_none (g.N.Output.state c.args.notes.now).taken, (made.2.0, refl, made.2.2), tt)
 
 pub returns-in-Memory-clause-served : goal.returns-in-Memory-clause-served
 returns-in-Memory-clause-served g c first before was =
-    let made = c.in-Memory.ensures.received first before was in
+    let made = c.in-Memory.ensures.received [] first before was in
     let noted = c.write-noted.ensures.noted in
     let r = c.receive-received.result in
     let n = c.args.lines.now.number in
@@ -46,7 +46,7 @@ returns-in-Memory-clause-failures g c =
 
 pub returns-in-Accepted-clause-served : goal.returns-in-Accepted-clause-served
 returns-in-Accepted-clause-served g c first before was =
-    let made = c.receive-received.ensures.received first before was in
+    let made = c.receive-received.ensures.received [] first before was in
     let noted = c.write.ensures.noted in
     let n = c.args.lines.now.number in
     let r = c.receive-received.result in
@@ -68,4 +68,7 @@ returns-in-Accepted-clause-settled g c first before was settled =
     let r = c.receive-received.result in
     let now = IsSettled c.receive-received.new.collector.connections in
     unless_memory c.write.result now
-    (still_settled r now (going r c.in-Accepted.is) (c.receive-received.ensures.settled first before was settled))
+    (still_settled r now (going r c.in-Accepted.is) (c.receive-received.ensures.settled [] first before was settled))
+
+pub returns-in-Refused-clause-settled : goal.returns-in-Refused-clause-settled
+returns-in-Refused-clause-settled g c first before was settled = c.in-Refused.ensures.settled [] first before was settled

@@ -1,16 +1,7 @@
-use Rattle.std.proofs.Common.{◌≡◌, ◌∙◌, ap₂}
 use Rattle.std.proofs.lemmas.Result.{IfOk-weaker}
-use Rattle.clap.specs.Simple.{App, with_rule}
-use Rattle.clap.specs.Walk.{Rule}
 use Rattle.clap.specs.Words.{app_of, rule_of}
+use Rattle.command_line.proofs.RuleLemmas.{two_rules}
 use Rattle.command_line.proofs.select_words.with_times.Goals as goal
-
--- two more rules, by their equals
-two_rules : (line one two three : App) (a b x y : Rule) → one ≡ line → two ≡ with_rule one a → three ≡ with_rule two b
-    → a ≡ x → b ≡ y → three ≡ with_rule (with_rule line x) y
-two_rules line one two three a b x y e f g h k =
-    let add : App → Rule → App = λ p r. with_rule p r in
-    g ∙ ap₂ add (f ∙ ap₂ add e h) k
 
 pub returns-clause-app : goal.returns-clause-app
 returns-clause-app c =

@@ -1,4 +1,4 @@
-use Rattle.std.proofs.Common.{inr, map, subst, sym, ap, ◌∙◌}
+use Rattle.std.proofs.Common.{inr, sym, ◌∙◌}
 use Rattle.commands.proofs.JoinLemmas.{lacks_at, opened_next}
 use Rattle.commands.proofs.joining.open_files.Goals as goal
 

@@ -1,4 +1,4 @@
-use Rattle.std.proofs.Common.{inl, inr, refl, sym}
+use Rattle.std.proofs.Common.{inl, inr, refl}
 use Rattle.commands.proofs.RunLemmas.{has_file}
 use Rattle.commands.proofs.running.merge_files.Goals as goal
 

@@ -1,4 +1,4 @@
-use Rattle.std.proofs.Common.{◌∙◌, ◌<◌, ◌+◌, ◌^◌, ap, arith, length, subst, sym}
+use Rattle.std.proofs.Common.{◌∙◌, ◌<◌, ◌+◌, ◌^◌, ap, arith, length, subst}
 use Rattle.archive_text.specs.Text.{text_of}
 use Rattle.driver.specs.Effects.{done_of, then_done}
 use Rattle.driver.specs.Sessions.{with_rest}

@@ -1,4 +1,4 @@
-use Rattle.std.proofs.Common.{◌∙◌, refl, sym}
+use Rattle.std.proofs.Common.{◌∙◌}
 use Rattle.std.proofs.lemmas.Result.{err_from_is_err_and}
 use Rattle.driver.specs.Effects.{done_of, then_done}
 use Rattle.archive_engine.proofs.StreamLemmas.{TakesPiece, part_before, stream_continues, stream_finishes, stream_part}

@@ -3,7 +3,8 @@ use Rattle.std.specs.Prelude.{codes}
 use Rattle.journal.specs.Journals.{IsOnDisk}
 use Rattle.record_store.specs.Puts.{LeavesOldOr}
 use Rattle.record_store.specs.Segments.{HoldsNoMore, segment_name}
-use Rattle.record_store.proofs.Drafted.{journals_settle, name_apart, segment_held, segment_keeps, segment_still, shows_of}
+use Rattle.record_store.proofs.Drafted.{journals_settle, name_apart, segment_held, segment_keeps, segment_still}
+use Rattle.record_store.proofs.Drafted.{shows_no_more, shows_of}
 use Rattle.record_store.proofs.segment.SegmentDraft.finish.Goals as goal
 
 pub returns-clause-finished : goal.returns-clause-finished
@@ -25,10 +26,7 @@ returns-clause-held g c tells es received of number small =
     let file = shows_of zero c.args.self.name of.text of.drafts.shown of.drafts.sound in
     let segment = rw c.in-Some.is at c.in_ok-name.ensures.segment in
     let differs = name_apart c.args.self.name c.args.day.now c.in-Some.name segment of.apart in
-    segment_held zero new c.args.self.name c.in-Some.name c.args.day.now of.text es segment of.is
-    (subst (λ (n : List ℕ). HoldsNoMore zero n es) (sym named) of.no_more) of.apart
-    (subst (λ (t : List ℕ). LeavesOldOr zero new c.in-Some.name t) file.2
-    (c.place.ensures.any_moment tells file.0 file.1 differs)) (c.place.ensures.others tells) number small
+    segment_held c.in-Some.name c.args.day.now of.text es segment of.is new number small
     (subst (λ (t : List ℕ). IsOnDisk new c.in-Some.name t) file.2
     (c.in_ok-place.ensures.placed tells file.0 file.1 differs))
 
@@ -43,7 +41,8 @@ returns-in_err-place-clause-any_moment g c tells es committed received of keeps 
     let segment = rw c.in-Some.is at c.in_ok-name.ensures.segment in
     let differs = name_apart c.args.self.name c.args.day.now c.in-Some.name segment of.apart in
     segment_keeps zero new c.args.self.name c.in-Some.name c.args.day.now of.text es segment of.is
-    (subst (λ (n : List ℕ). HoldsNoMore zero n es) (sym named) of.no_more) of.apart
+    (shows_no_more zero c.in-Some.name es
+    (subst (λ (n : List ℕ). HoldsNoMore zero n es) (sym named) of.no_more)) of.apart
     (subst (λ (t : List ℕ). LeavesOldOr zero new c.in-Some.name t) file.2
     (c.place.ensures.any_moment tells file.0 file.1 differs)) (c.place.ensures.others tells) committed received of.among
     keeps
@@ -65,7 +64,8 @@ returns-in_err-place-clause-still_held g c tells es received of name others hold
     let segment = rw c.in-Some.is at c.in_ok-name.ensures.segment in
     let differs = name_apart c.args.self.name c.args.day.now c.in-Some.name segment of.apart in
     segment_still zero new c.args.self.name c.in-Some.name c.args.day.now of.text es segment of.is
-    (subst (λ (n : List ℕ). HoldsNoMore zero n es) (sym named) of.no_more) of.apart
+    (shows_no_more zero c.in-Some.name es
+    (subst (λ (n : List ℕ). HoldsNoMore zero n es) (sym named) of.no_more)) of.apart
     (subst (λ (t : List ℕ). LeavesOldOr zero new c.in-Some.name t) file.2
     (c.place.ensures.any_moment tells file.0 file.1 differs)) (c.place.ensures.others tells) name others
     holds
@@ -81,7 +81,8 @@ returns-clause-any_moment g c tells es committed received of keeps =
     let segment = rw c.in-Some.is at c.in_ok-name.ensures.segment in
     let differs = name_apart c.args.self.name c.args.day.now c.in-Some.name segment of.apart in
     segment_keeps zero new c.args.self.name c.in-Some.name c.args.day.now of.text es segment of.is
-    (subst (λ (n : List ℕ). HoldsNoMore zero n es) (sym named) of.no_more) of.apart
+    (shows_no_more zero c.in-Some.name es
+    (subst (λ (n : List ℕ). HoldsNoMore zero n es) (sym named) of.no_more)) of.apart
     (subst (λ (t : List ℕ). LeavesOldOr zero new c.in-Some.name t) file.2
     (c.place.ensures.any_moment tells file.0 file.1 differs)) (c.place.ensures.others tells) committed received of.among
     keeps
@@ -103,7 +104,8 @@ returns-clause-still_held g c tells es received of name others holds =
     let segment = rw c.in-Some.is at c.in_ok-name.ensures.segment in
     let differs = name_apart c.args.self.name c.args.day.now c.in-Some.name segment of.apart in
     segment_still zero new c.args.self.name c.in-Some.name c.args.day.now of.text es segment of.is
-    (subst (λ (n : List ℕ). HoldsNoMore zero n es) (sym named) of.no_more) of.apart
+    (shows_no_more zero c.in-Some.name es
+    (subst (λ (n : List ℕ). HoldsNoMore zero n es) (sym named) of.no_more)) of.apart
     (subst (λ (t : List ℕ). LeavesOldOr zero new c.in-Some.name t) file.2
     (c.place.ensures.any_moment tells file.0 file.1 differs)) (c.place.ensures.others tells) name others
     holds

@@ -1,6 +1,6 @@
-use Rattle.std.proofs.Common.{◌≡◌, List, ℕ, [], ◌∷◌, ◌++◌, false, rules, refl, subst}
+use Rattle.std.proofs.Common.{arith, ◌≡◌, List, ℕ, [], ◌∷◌, ◌++◌, false, rules, refl, subst}
 use Rattle.journal.specs.Journals.{LeavesBatches, Stands as JournalStands, WithOrWithout}
-use Rattle.record_store.proofs.Standing.{commit_any, commit_err, commit_ok}
+use Rattle.record_store.proofs.Standing.{commit_any, commit_err, commit_ok, idle_stands, no_octets}
 use Rattle.record_store.proofs.store.RecordStore.commit.Goals as goal
 
 pub returns-in-Err-clause-any_moment : goal.returns-in-Err-clause-any_moment
@@ -50,3 +50,8 @@ returns-in-Ok-clause-committed g c tells sets stands =
     (c.commit.ensures.any_moment tells bodies ready.stands)) none refl c.commit.ensures.name
     (subst (λ (b : List ℕ). JournalStands c.commit.new.self new (bodies ++ b ∷ [])) c.deref.ensures.value
     (c.in-Ok.ensures.committed tells bodies ready.stands))
+
+pub returns-then-len-eq0-clause-committed : goal.returns-then-len-eq0-clause-committed
+returns-then-len-eq0-clause-committed g c tells sets stands =
+    idle_stands c.args.self.now (g.D.Disk.state c.args.disk.now) sets stands
+    (no_octets c.args.self.now.batch.items (omega (arith, c.len.ensures)))

@@ -17,11 +17,11 @@ pub returns-in-None-clause-drops : goal.returns-in-None-clause-drops
 returns-in-None-clause-drops g c = stays (g.S.Store.entries) c.args.self.now
 
 pub returns-in-None-clause-cause : goal.returns-in-None-clause-cause
-returns-in-None-clause-cause g c first events was =
+returns-in-None-clause-cause g c past first events was =
     not_open c.args.self.now.reading c.args.conn c.args.self.now.connections _ first events c.in-None.ensures.none was
 
 pub returns-in-None-clause-taken : goal.returns-in-None-clause-taken
-returns-in-None-clause-taken g c first events was =
+returns-in-None-clause-taken g c past first events was =
     taken_none _ _ (not_open c.args.self.now.reading c.args.conn c.args.self.now.connections _ first events
     c.in-None.ensures.none was)
 
@@ -33,8 +33,8 @@ returns-in-Some-clause-goes_on g c =
     let holds = c.in-Some.ensures.found in
     let is = (held_at cs c.args.conn c.in-Some.place x holds c.index_mut.ensures.value).0 in
     record {
-      stands = λ first events was.
-          advanced c.args.self.now.reading c.args.conn x y cs _ _ _ first events
+      stands = λ past first events was.
+          advanced c.args.self.now.reading c.args.conn x y cs _ past _ _ first events
           (accepted_octets c.args.piece.now c.advance_connection.result) (answered c.advance_connection.result) is
           c.advance_connection.ensures.number (become_of cs _ c.args.conn c.in-Some.place x y holds c.index_mut.ensures.value
           c.advance_connection.ensures.number refl refl refl)
@@ -52,8 +52,8 @@ returns-in-Some-clause-drops g c =
     let holds = c.in-Some.ensures.found in
     let is = (held_at cs c.args.conn c.in-Some.place x holds c.index_mut.ensures.value).0 in
     record {
-      stands = λ first events was.
-          advanced c.args.self.now.reading c.args.conn x y cs _ _ _ first events
+      stands = λ past first events was.
+          advanced c.args.self.now.reading c.args.conn x y cs _ past _ _ first events
           (dropped_octets c.args.piece.now c.advance_connection.result) (answered c.advance_connection.result) is
           c.advance_connection.ensures.number (become_of cs _ c.args.conn c.in-Some.place x y holds c.index_mut.ensures.value
           c.advance_connection.ensures.number refl refl refl)
@@ -64,18 +64,18 @@ returns-in-Some-clause-drops g c =
     }
 
 pub returns-in-Some-clause-outcome : goal.returns-in-Some-clause-outcome
-returns-in-Some-clause-outcome g c first events was =
+returns-in-Some-clause-outcome g c past first events was =
     let cs = c.args.self.now.connections in
     let x = c.index_mut.result.now in
     let y = c.advance_connection.new.connection in
     let holds = c.in-Some.ensures.found in
     let is = (held_at cs c.args.conn c.in-Some.place x holds c.index_mut.ensures.value).0 in
-    reports c.args.self.now.reading c.args.conn x y cs (g.S.Store.entries c.args.self.now.store)
+    reports c.args.self.now.reading c.args.conn x y cs past (g.S.Store.entries c.args.self.now.store)
     (g.S.Store.entries c.advance_connection.new.store) first events c.args.piece.now c.advance_connection.result is
     c.advance_connection.ensures.moves c.advance_connection.ensures.settled was
 
 pub returns-in-Some-clause-cause : goal.returns-in-Some-clause-cause
-returns-in-Some-clause-cause g c first events was =
+returns-in-Some-clause-cause g c past first events was =
     let cs = c.args.self.now.connections in
     let x = c.index_mut.result.now in
     let y = c.advance_connection.new.connection in
@@ -85,7 +85,7 @@ returns-in-Some-clause-cause g c first events was =
     c.advance_connection.ensures.cause was
 
 pub returns-in-Some-clause-taken : goal.returns-in-Some-clause-taken
-returns-in-Some-clause-taken g c first events was =
+returns-in-Some-clause-taken g c past first events was =
     let cs = c.args.self.now.connections in
     let x = c.index_mut.result.now in
     let y = c.advance_connection.new.connection in

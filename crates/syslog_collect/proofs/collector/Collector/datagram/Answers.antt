@@ -4,8 +4,8 @@ use Rattle.syslog_collect.proofs.collector.Collector.datagram.Goals as goal
 
 pub returns-clause-goes_on : goal.returns-clause-goes_on
 returns-clause-goes_on g c = record {
-  stands = λ first events was.
-      datagram_handled c.args.self.now.reading _ _ _ first events c.args.octets.now c.handle.result
+  stands = λ past first events was.
+      datagram_handled c.args.self.now.reading _ past _ _ first events c.args.octets.now c.handle.result
       c.handle.ensures.outcome c.handle.ensures.err was;
   reading = refl;
   limit = refl;

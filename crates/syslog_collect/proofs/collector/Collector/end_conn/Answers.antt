@@ -14,7 +14,7 @@ pub returns-in-None-clause-goes_on : goal.returns-in-None-clause-goes_on
 returns-in-None-clause-goes_on g c = stays (g.S.Store.entries) c.args.self.now
 
 pub returns-in-None-clause-cause : goal.returns-in-None-clause-cause
-returns-in-None-clause-cause g c first events was =
+returns-in-None-clause-cause g c past first events was =
     not_open c.args.self.now.reading c.args.conn c.args.self.now.connections _ first events c.in-None.ensures.none was
 
 pub returns-in-None-clause-unchanged : goal.returns-in-None-clause-unchanged
@@ -27,14 +27,14 @@ pub returns-in-Err-Unreleased-clause-unchanged : goal.returns-in-Err-Unreleased-
 returns-in-Err-Unreleased-clause-unchanged g c = keeps_same c.args.self.now.connections
 
 pub returns-in-Err-Unreleased-clause-cause : goal.returns-in-Err-Unreleased-clause-cause
-returns-in-Err-Unreleased-clause-cause g c first events was =
+returns-in-Err-Unreleased-clause-cause g c past first events was =
     let cs = c.args.self.now.connections in
     let x = c.index.result.now in
     let is = (held_at cs c.args.conn c.in-Some.place x c.in-Some.ensures.found c.index.ensures).0 in
     is_open c.args.self.now.reading c.args.conn x cs _ first events is was
 
 pub returns-in-Err-Unreleased-clause-ready : goal.returns-in-Err-Unreleased-clause-ready
-returns-in-Err-Unreleased-clause-ready g c first events was =
+returns-in-Err-Unreleased-clause-ready g c past first events was =
     let cs = c.args.self.now.connections in
     let x = c.index.result.now in
     let is = (held_at cs c.args.conn c.in-Some.place x c.in-Some.ensures.found c.index.ensures).0 in
@@ -50,7 +50,7 @@ returns-in-Err-Unterminated-clause-goes_on g c =
     let x = c.index.result.now in
     let is = (held_at cs c.args.conn c.in-Some.place x c.in-Some.ensures.found c.index.ensures).0 in
     record {
-      stands = λ first events was.
+      stands = λ past first events was.
           closed c.args.self.now.reading c.args.conn x cs _ _ first events is c.close.ensures
           (handled_by x (λ kind start octets frames rest r. (
             rest,
@@ -63,7 +63,7 @@ returns-in-Err-Unterminated-clause-goes_on g c =
     }
 
 pub returns-in-Err-Unterminated-clause-cause : goal.returns-in-Err-Unterminated-clause-cause
-returns-in-Err-Unterminated-clause-cause g c first events was =
+returns-in-Err-Unterminated-clause-cause g c past first events was =
     let cs = c.args.self.now.connections in
     let x = c.index.result.now in
     let is = (held_at cs c.args.conn c.in-Some.place x c.in-Some.ensures.found c.index.ensures).0 in
@@ -74,7 +74,7 @@ returns-in-Err-Unterminated-clause-cause g c first events was =
     (e.0, e.2, e.3)) was
 
 pub returns-in-Err-Unterminated-clause-waits : goal.returns-in-Err-Unterminated-clause-waits
-returns-in-Err-Unterminated-clause-waits g c first events was d =
+returns-in-Err-Unterminated-clause-waits g c past first events was d =
     let cs = c.args.self.now.connections in
     let x = c.index.result.now in
     let is = (held_at cs c.args.conn c.in-Some.place x c.in-Some.ensures.found c.index.ensures).0 in
@@ -91,7 +91,7 @@ returns-in-Err-Failed-clause-goes_on g c =
     let x = c.index.result.now in
     let is = (held_at cs c.args.conn c.in-Some.place x c.in-Some.ensures.found c.index.ensures).0 in
     record {
-      stands = λ first events was.
+      stands = λ past first events was.
           closed c.args.self.now.reading c.args.conn x cs _ _ first events is c.close-in-Err-Failed.ensures
           (handled_by x (λ kind start octets frames rest r.
           absurd (rw c.in-Err-Failed.field-0-is at (c.in-Err-Failed.ensures.reads kind start octets frames rest r)))) was;
@@ -101,7 +101,7 @@ returns-in-Err-Failed-clause-goes_on g c =
     }
 
 pub returns-in-Err-Failed-clause-cause : goal.returns-in-Err-Failed-clause-cause
-returns-in-Err-Failed-clause-cause g c first events was =
+returns-in-Err-Failed-clause-cause g c past first events was =
     let cs = c.args.self.now.connections in
     let x = c.index.result.now in
     let is = (held_at cs c.args.conn c.in-Some.place x c.in-Some.ensures.found c.index.ensures).0 in
@@ -110,7 +110,7 @@ returns-in-Err-Failed-clause-cause g c first events was =
     (rw c.in-Err-Failed.field-0-is at (c.in-Err-Failed.ensures.reads kind start octets frames rest r))) was
 
 pub returns-in-Err-Failed-clause-waits : goal.returns-in-Err-Failed-clause-waits
-returns-in-Err-Failed-clause-waits g c first events was d =
+returns-in-Err-Failed-clause-waits g c past first events was d =
     let cs = c.args.self.now.connections in
     let x = c.index.result.now in
     let is = (held_at cs c.args.conn c.in-Some.place x c.in-Some.ensures.found c.index.ensures).0 in
@@ -127,7 +127,7 @@ returns-in-Ok-clause-goes_on g c =
     let x = c.index.result.now in
     let is = (held_at cs c.args.conn c.in-Some.place x c.in-Some.ensures.found c.index.ensures).0 in
     record {
-      stands = λ first events was.
+      stands = λ past first events was.
           closed c.args.self.now.reading c.args.conn x cs _ _ first events is c.close-in-Ok.ensures
           (handled_by x (λ kind start octets frames rest r. ([], (c.in-Ok.ensures.reads kind start octets frames rest r).1))) was;
       reading = refl;
@@ -136,7 +136,7 @@ returns-in-Ok-clause-goes_on g c =
     }
 
 pub returns-in-Ok-clause-cause : goal.returns-in-Ok-clause-cause
-returns-in-Ok-clause-cause g c first events was =
+returns-in-Ok-clause-cause g c past first events was =
     let cs = c.args.self.now.connections in
     let x = c.index.result.now in
     let is = (held_at cs c.args.conn c.in-Some.place x c.in-Some.ensures.found c.index.ensures).0 in
@@ -144,7 +144,7 @@ returns-in-Ok-clause-cause g c first events was =
     (λ kind start octets frames rest r. (c.in-Ok.ensures.reads kind start octets frames rest r).1) was
 
 pub returns-in-Ok-clause-waits : goal.returns-in-Ok-clause-waits
-returns-in-Ok-clause-waits g c first events was d =
+returns-in-Ok-clause-waits g c past first events was d =
     let cs = c.args.self.now.connections in
     let x = c.index.result.now in
     let is = (held_at cs c.args.conn c.in-Some.place x c.in-Some.ensures.found c.index.ensures).0 in

@@ -16,7 +16,7 @@ none_held None P e h = h
 none_held (Some n) P e h = absurd (cc)
 
 pub returns-then-is_some-clause-cause : goal.returns-then-is_some-clause-cause
-returns-then-is_some-clause-cause g c first events was =
+returns-then-is_some-clause-cause g c past first events was =
     let cs = c.args.self.now.connections in
     let h = is_held c.find.result (HoldsAt cs c.args.conn) (sym c.is_some.ensures ∙ c.if-is_some.true)
     c.find.ensures.found in
@@ -24,7 +24,7 @@ returns-then-is_some-clause-cause g c first events was =
     (held_at cs c.args.conn h.0 h.1.connection h.1 h.1.is).0 was
 
 pub returns-then-is_full-clause-cause : goal.returns-then-is_full-clause-cause
-returns-then-is_full-clause-cause g c first events was =
+returns-then-is_full-clause-cause g c past first events was =
     let cs = c.args.self.now.connections in
     let none = none_held c.find.result (connection_in cs c.args.conn ≡ None) (sym c.is_some.ensures
     ∙ c.if-is_some.false) c.find.ensures.none in
@@ -34,7 +34,7 @@ returns-then-is_full-clause-cause g c first events was =
     )
 
 pub returns-in_default-clause-cause : goal.returns-in_default-clause-cause
-returns-in_default-clause-cause g c first events was =
+returns-in_default-clause-cause g c past first events was =
     let cs = c.args.self.now.connections in
     let none = none_held c.find.result (connection_in cs c.args.conn ≡ None) (sym c.is_some.ensures
     ∙ c.if-is_some.false) c.find.ensures.none in
@@ -45,7 +45,7 @@ returns-in_default-clause-cause g c first events was =
     )
 
 pub returns-in-Err-clause-cause : goal.returns-in-Err-clause-cause
-returns-in-Err-clause-cause g c first events was =
+returns-in-Err-clause-cause g c past first events was =
     let cs = c.args.self.now.connections in
     let none = none_held c.find.result (connection_in cs c.args.conn ≡ None) (sym c.is_some.ensures
     ∙ c.if-is_some.false) c.find.ensures.none in
@@ -56,7 +56,7 @@ returns-in-Err-clause-cause g c first events was =
     )
 
 pub returns-in-Ok-open-clause-cause : goal.returns-in-Ok-open-clause-cause
-returns-in-Ok-open-clause-cause g c first events was =
+returns-in-Ok-open-clause-cause g c past first events was =
     let cs = c.args.self.now.connections in
     let none = none_held c.find.result (connection_in cs c.args.conn ≡ None) (sym c.is_some.ensures
     ∙ c.if-is_some.false) c.find.ensures.none in
@@ -76,7 +76,7 @@ returns-in_default-clause-goes_on g c = stays (g.S.Store.entries) c.args.self.no
 
 pub returns-in-Ok-open-clause-goes_on : goal.returns-in-Ok-open-clause-goes_on
 returns-in-Ok-open-clause-goes_on g c = record {
-  stands = λ first events was.
+  stands = λ past first events was.
       let cs = c.args.self.now.connections in
       let none = none_held c.find.result (connection_in cs c.args.conn ≡ None) (sym c.is_some.ensures
       ∙ c.if-is_some.false) c.find.ensures.none in

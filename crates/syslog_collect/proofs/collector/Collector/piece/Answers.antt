@@ -16,12 +16,12 @@ pub returns-in-None-clause-goes_on : goal.returns-in-None-clause-goes_on
 returns-in-None-clause-goes_on g c = stays (g.S.Store.entries) c.args.self.now
 
 pub returns-in-None-clause-logged : goal.returns-in-None-clause-logged
-returns-in-None-clause-logged g c first events was =
+returns-in-None-clause-logged g c past first events was =
     nothing_of_piece c.args.self.now.reading (history_of events) (waiting c.args.self.now.connections) c.args.conn
     c.args.octets.now NotOpen _ _
 
 pub returns-in-None-clause-cause : goal.returns-in-None-clause-cause
-returns-in-None-clause-cause g c first events was =
+returns-in-None-clause-cause g c past first events was =
     inr (
       not_open c.args.self.now.reading c.args.conn c.args.self.now.connections _ first events c.in-None.ensures.none
           was,
@@ -36,8 +36,8 @@ returns-in-Some-clause-goes_on g c =
     let holds = c.in-Some.ensures.found in
     let is = (held_at cs c.args.conn c.in-Some.place x holds c.index_mut.ensures.value).0 in
     record {
-      stands = λ first events was.
-          piece_taken c.args.self.now.reading c.args.conn x y cs _ _ _ first events c.args.octets.now c.take_piece.result
+      stands = λ past first events was.
+          piece_taken c.args.self.now.reading c.args.conn x y cs _ past _ _ first events c.args.octets.now c.take_piece.result
           _ _ is c.take_piece.ensures.number (become_of cs _ c.args.conn c.in-Some.place x y holds c.index_mut.ensures.value
           c.take_piece.ensures.number refl refl refl)
           c.take_piece.ensures.moves c.take_piece.ensures.accepted was;
@@ -47,7 +47,7 @@ returns-in-Some-clause-goes_on g c =
     }
 
 pub returns-in-Some-clause-logged : goal.returns-in-Some-clause-logged
-returns-in-Some-clause-logged g c first events was =
+returns-in-Some-clause-logged g c past first events was =
     let cs = c.args.self.now.connections in
     let x = c.index_mut.result.now in
     let y = c.take_piece.new.connection in
@@ -55,13 +55,13 @@ returns-in-Some-clause-logged g c first events was =
     let is = (held_at cs c.args.conn c.in-Some.place x holds c.index_mut.ensures.value).0 in
     let b = become_of cs (record cs { slots = with_value cs.slots c.in-Some.place y }) c.args.conn c.in-Some.place x y
     holds c.index_mut.ensures.value c.take_piece.ensures.number refl refl refl in
-    piece_logged c.args.self.now.reading c.args.conn x y cs _ (g.S.Store.entries c.args.self.now.store)
+    piece_logged c.args.self.now.reading c.args.conn x y cs _ past (g.S.Store.entries c.args.self.now.store)
     (g.S.Store.entries c.take_piece.new.store) first events c.args.octets.now c.take_piece.result c.args.log.now.items
     c.take_piece.new.log.items is c.take_piece.ensures.number b c.take_piece.ensures.moves
     c.take_piece.ensures.accepted c.take_piece.ensures.settled was
 
 pub returns-in-Some-clause-cause : goal.returns-in-Some-clause-cause
-returns-in-Some-clause-cause g c first events was =
+returns-in-Some-clause-cause g c past first events was =
     let cs = c.args.self.now.connections in
     let x = c.index_mut.result.now in
     let y = c.take_piece.new.connection in
@@ -69,6 +69,6 @@ returns-in-Some-clause-cause g c first events was =
     let is = (held_at cs c.args.conn c.in-Some.place x holds c.index_mut.ensures.value).0 in
     let b = become_of cs (record cs { slots = with_value cs.slots c.in-Some.place y }) c.args.conn c.in-Some.place x y
     holds c.index_mut.ensures.value c.take_piece.ensures.number refl refl refl in
-    piece_refused c.args.self.now.reading c.args.conn x y cs _ (g.S.Store.entries c.args.self.now.store)
+    piece_refused c.args.self.now.reading c.args.conn x y cs _ past (g.S.Store.entries c.args.self.now.store)
     (g.S.Store.entries c.take_piece.new.store) first events c.args.octets.now c.take_piece.result c.args.log.now.items
     c.take_piece.new.log.items is c.take_piece.ensures.number b c.take_piece.ensures.moves c.take_piece.ensures.cause was

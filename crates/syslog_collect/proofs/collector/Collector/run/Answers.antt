@@ -27,7 +27,7 @@ returns-in-Stopped-clause-goes_on g c =
     c.loop-at.invariant.goes_on c.in-Stopped.ensures.goes_on)
 
 pub returns-in-Stopped-clause-logged : goal.returns-in-Stopped-clause-logged
-returns-in-Stopped-clause-logged g c first before was =
+returns-in-Stopped-clause-logged g c past first before was =
     let es = c.args.events.now in
     let n = c.loop-at.at in
     let here : n < length es = omega arith in
@@ -40,21 +40,21 @@ returns-in-Stopped-clause-logged g c first before was =
     run_stopped c.args.self.now.reading (history_of before) (waiting c.args.self.now.connections) u v es n
     c.in-Stopped.taken c.in-Stopped.fault (Opened 0 Counted) a b d c.args.log.now.items c.loop-at.log.items
     c.run_event.new.log.items
-    here (c.loop-at.invariant.log first before was)
+    here (c.loop-at.invariant.log past first before was)
     (subst (λ (h : History). Grows (LogsEventEnd c.args.self.now.reading h u v (get_or es n (Opened 0 Counted))
     (end_Stopped c.in-Stopped.taken c.in-Stopped.fault) b d) c.loop-at.log.items c.run_event.new.log.items)
     (history_after-append initial before so_far)
     (subst (λ (k : FrameReading). Grows (LogsEventEnd k (history_of (before ++ so_far)) u v (get_or es n
     (Opened 0 Counted))
     (end_Stopped c.in-Stopped.taken c.in-Stopped.fault) b d) c.loop-at.log.items c.run_event.new.log.items)
-    c.loop-at.invariant.goes_on.reading (c.in-Stopped.ensures.logged first (before ++ so_far)
-    (c.loop-at.invariant.goes_on.stands first before was))))
+    c.loop-at.invariant.goes_on.reading (c.in-Stopped.ensures.logged past first (before ++ so_far)
+    (c.loop-at.invariant.goes_on.stands past first before was))))
 
 pub loop-at-init : goal.loop-at-init
 loop-at-init g c = record {
   goes_on = stays (g.S.Store.entries) c.args.self.now;
-  log = λ first before was. grows_none c.args.self.now.reading (history_of before) _ _ _;
-  ends = λ first before was. tt;
+  log = λ past first before was. grows_none c.args.self.now.reading (history_of before) _ _ _;
+  ends = λ past first before was. tt;
 }
 
 pub loop-at-preserved : goal.loop-at-preserved
@@ -67,7 +67,7 @@ loop-at-preserved g c = record {
       (sym (accepted_all-next es n (Opened 0 Counted) here))
       (goes_on_then (g.S.Store.entries) c.args.self.now c.loop-at.self c.run_event.new.self (accepted_all (take n es))
       (accepted_event (get_or es n (Opened 0 Counted)) ∷ []) c.loop-at.invariant.goes_on c.in_default.ensures.goes_on);
-  log = λ first before was.
+  log = λ past first before was.
       let es = c.args.events.now in
       let n = c.loop-at.at in
       let here : n < length es = omega arith in
@@ -82,21 +82,21 @@ loop-at-preserved g c = record {
       subst (λ (ts : List AcceptedEvent). Grows (IsLogOf c.args.self.now.reading (history_of before) w ts v a d)
       c.args.log.now.items c.run_event.new.log.items) (sym (accepted_all-next es n (Opened 0 Counted) here))
       (grows_push c.args.self.now.reading (history_of before) w so_far e u v a b d c.args.log.now.items
-      c.loop-at.log.items c.run_event.new.log.items (c.loop-at.invariant.log first before was)
+      c.loop-at.log.items c.run_event.new.log.items (c.loop-at.invariant.log past first before was)
       (subst (λ (h : History). Grows (LogsEventEnd c.args.self.now.reading h u v e end_Done b d) c.loop-at.log.items
       c.run_event.new.log.items) (history_after-append initial before so_far)
       (subst (λ (k : FrameReading). Grows (LogsEventEnd k (history_of (before ++ so_far)) u v e end_Done b d)
       c.loop-at.log.items c.run_event.new.log.items) c.loop-at.invariant.goes_on.reading
-      (c.in_default.ensures.logged first (before ++ so_far) (c.loop-at.invariant.goes_on.stands first before was)))));
-  ends = λ first before was.
+      (c.in_default.ensures.logged past first (before ++ so_far) (c.loop-at.invariant.goes_on.stands past first before was)))));
+  ends = λ past first before was.
       let es = c.args.events.now in
       let n = c.loop-at.at in
       let here : n < length es = omega arith in
       let so_far = accepted_all (take n es) in
       let e = get_or es n (Opened 0 Counted) in
-      end_well-next (history_of before) es n (Opened 0 Counted) here (c.loop-at.invariant.ends first before was)
+      end_well-next (history_of before) es n (Opened 0 Counted) here (c.loop-at.invariant.ends past first before was)
       (subst (λ (h : History). EndsWell h e) (history_after-append initial before so_far)
-      (c.in_default.ensures.ends first (before ++ so_far) (c.loop-at.invariant.goes_on.stands first before was)));
+      (c.in_default.ensures.ends past first (before ++ so_far) (c.loop-at.invariant.goes_on.stands past first before was)));
 }
 
 pub returns-clause-goes_on : goal.returns-clause-goes_on
@@ -105,32 +105,32 @@ returns-clause-goes_on g c =
     (accepted_all-whole c.args.events.now c.loop-at.at (omega arith)) c.loop-at.invariant.goes_on
 
 pub returns-clause-waits : goal.returns-clause-waits
-returns-clause-waits g c first before was d =
+returns-clause-waits g c past first before was d =
     let w = waiting c.args.self.now.connections in
     let v = waiting c.loop-at.self.connections in
     let so_far = accepted_all (take c.loop-at.at c.args.events.now) in
-    let (os, grown, logs) = c.loop-at.invariant.log first before was in
+    let (os, grown, logs) = c.loop-at.invariant.log past first before was in
     subst (λ (ts : List AcceptedEvent). v d ≡ waiting_after_all w ts d)
     (accepted_all-whole c.args.events.now c.loop-at.at (omega arith))
     (log_waits c.args.self.now.reading (history_of before) w v so_far _ _ os logs d)
 
 pub returns-clause-logged : goal.returns-clause-logged
-returns-clause-logged g c first before was =
+returns-clause-logged g c past first before was =
     subst (λ (ts : List AcceptedEvent). Grows
     (IsLogOf c.args.self.now.reading (history_of before) (waiting c.args.self.now.connections) ts
     (waiting c.loop-at.self.connections)
     (g.S.Store.entries c.args.self.now.store) (g.S.Store.entries c.loop-at.self.store)) c.args.log.now.items
     c.loop-at.log.items)
-    (accepted_all-whole c.args.events.now c.loop-at.at (omega arith)) (c.loop-at.invariant.log first before was)
+    (accepted_all-whole c.args.events.now c.loop-at.at (omega arith)) (c.loop-at.invariant.log past first before was)
 
 pub returns-in-Stopped-clause-cause : goal.returns-in-Stopped-clause-cause
-returns-in-Stopped-clause-cause g c first before was =
+returns-in-Stopped-clause-cause g c past first before was =
     let es = c.args.events.now in
     let n = c.loop-at.at in
     let here : n < length es = omega arith in
     let so_far = accepted_all (take n es) in
     let w = waiting c.run_event.new.self.connections in
-    let stops = c.in-Stopped.ensures.cause first (before ++ so_far) (c.loop-at.invariant.goes_on.stands first before was) in (
+    let stops = c.in-Stopped.ensures.cause past first (before ++ so_far) (c.loop-at.invariant.goes_on.stands past first before was) in (
       here,
       first_stops c.args.self.now.connections.limit c.args.self.now.reading _ w es n c.in-Stopped.taken c.in-Stopped.fault (Opened 0 Counted) here
           (subst (λ (h : History). StopsAt c.args.self.now.connections.limit c.args.self.now.reading h w (get_or es n
@@ -144,9 +144,9 @@ returns-in-Stopped-clause-cause g c first before was =
     )
 
 pub returns-clause-ends : goal.returns-clause-ends
-returns-clause-ends g c first before was =
+returns-clause-ends g c past first before was =
     end_well-whole (history_of before) c.args.events.now c.loop-at.at (omega arith)
-    (c.loop-at.invariant.ends first before was)
+    (c.loop-at.invariant.ends past first before was)
 
 pub returns-in-Stopped-clause-ends : goal.returns-in-Stopped-clause-ends
-returns-in-Stopped-clause-ends g c first before was = c.loop-at.invariant.ends first before was
+returns-in-Stopped-clause-ends g c past first before was = c.loop-at.invariant.ends past first before was

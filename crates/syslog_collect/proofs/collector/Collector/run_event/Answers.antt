@@ -26,7 +26,7 @@ returns-then-is_err-clause-goes_on g c =
     (sym (accepted_nothing c.args.event)) (stays (g.S.Store.entries) c.args.self.now)
 
 pub returns-then-is_err-clause-logged : goal.returns-then-is_err-clause-logged
-returns-then-is_err-clause-logged g c first events was =
+returns-then-is_err-clause-logged g c past first events was =
     nothing_logged c.args.self.now.reading (history_of events) (waiting c.args.self.now.connections) c.args.event
     (Memory 0) (g.S.Store.entries c.args.self.now.store) c.args.log.now.items c.reserve.new.self.items
     c.reserve.ensures.items
@@ -66,7 +66,7 @@ returns-in-Datagram-clause-goes_on g c =
     c.logged_datagram.ensures.goes_on)
 
 pub returns-in-Opened-clause-logged : goal.returns-in-Opened-clause-logged
-returns-in-Opened-clause-logged g c first events was =
+returns-in-Opened-clause-logged g c past first events was =
     let h = history_of events in
     let w = waiting c.args.self.now.connections in
     let v = waiting c.open_conn.new.self.connections in
@@ -79,7 +79,7 @@ returns-in-Opened-clause-logged g c first events was =
     (ap (g.S.Store.entries) c.open_conn.ensures.store) c.open_conn.ensures.waits)
 
 pub returns-in-Piece-clause-logged : goal.returns-in-Piece-clause-logged
-returns-in-Piece-clause-logged g c first events was =
+returns-in-Piece-clause-logged g c past first events was =
     let h = history_of events in
     let w = waiting c.args.self.now.connections in
     let v = waiting c.piece.new.self.connections in
@@ -90,10 +90,10 @@ returns-in-Piece-clause-logged g c first events was =
     (piece_event_logged c.args.self.now.reading h w v c.in-Piece.conn c.in-Piece.octets c.piece.result a b
     c.args.log.now.items c.piece.new.log.items
     (subst (λ (l : List Outcome). Grows (LogsPiece c.args.self.now.reading h w v c.in-Piece.conn c.in-Piece.octets.now
-    c.piece.result a b) l c.piece.new.log.items) c.reserve.ensures.items (c.piece.ensures.logged first events was)))
+    c.piece.result a b) l c.piece.new.log.items) c.reserve.ensures.items (c.piece.ensures.logged past first events was)))
 
 pub returns-in-Ended-clause-logged : goal.returns-in-Ended-clause-logged
-returns-in-Ended-clause-logged g c first events was =
+returns-in-Ended-clause-logged g c past first events was =
     let h = history_of events in
     let w = waiting c.args.self.now.connections in
     let v = waiting c.end_conn.new.self.connections in
@@ -103,10 +103,10 @@ returns-in-Ended-clause-logged g c first events was =
     c.args.log.now.items c.reserve.new.self.items) (sym c.in-Ended.is)
     (ended_logged c.args.self.now.reading h w v c.in-Ended.conn c.end_of-in-Ended.result a b c.args.log.now.items
     c.reserve.new.self.items c.reserve.ensures.items (ap (g.S.Store.entries) c.end_conn.ensures.store)
-    (c.end_conn.ensures.waits first events was))
+    (c.end_conn.ensures.waits past first events was))
 
 pub returns-in-Datagram-clause-logged : goal.returns-in-Datagram-clause-logged
-returns-in-Datagram-clause-logged g c first events was =
+returns-in-Datagram-clause-logged g c past first events was =
     let h = history_of events in
     let w = waiting c.args.self.now.connections in
     let v = waiting c.logged_datagram.new.self.connections in
@@ -123,29 +123,29 @@ returns-in-Datagram-clause-logged g c first events was =
     c.logged_datagram.ensures.logged))
 
 pub returns-then-is_err-clause-cause : goal.returns-then-is_err-clause-cause
-returns-then-is_err-clause-cause g c first events was =
+returns-then-is_err-clause-cause g c past first events was =
     (omega arith, inl (refl, nothing_between (history_of events) _ c.args.event))
 
 pub returns-in-Opened-clause-cause : goal.returns-in-Opened-clause-cause
-returns-in-Opened-clause-cause g c first events was =
+returns-in-Opened-clause-cause g c past first events was =
     let h = history_of events in
     let w = waiting c.open_conn.new.self.connections in
     subst (λ (e : Event). IfStopped c.end_of.result (StopsAt c.args.self.now.connections.limit c.args.self.now.reading h w e)) (sym c.in-Opened.is)
     (subst (λ (r : EventEnd). IfStopped r (StopsAt c.args.self.now.connections.limit c.args.self.now.reading h w
     (Opened c.in-Opened.conn c.in-Opened.framing))) (sym c.end_of.ensures)
     (opening_refused c.args.self.now.connections.limit c.args.self.now.reading h w c.in-Opened.conn c.in-Opened.framing c.open_conn.result
-    (c.open_conn.ensures.cause first events was)))
+    (c.open_conn.ensures.cause past first events was)))
 
 pub returns-in-Piece-clause-cause : goal.returns-in-Piece-clause-cause
-returns-in-Piece-clause-cause g c first events was =
+returns-in-Piece-clause-cause g c past first events was =
     let h = history_of events in
     let w = waiting c.piece.new.self.connections in
     subst (λ (e : Event). IfStopped c.piece.result (StopsAt c.args.self.now.connections.limit c.args.self.now.reading h w e)) (sym c.in-Piece.is)
     (piece_event_refused c.args.self.now.connections.limit c.args.self.now.reading h w c.in-Piece.conn c.in-Piece.octets c.piece.result
-    c.piece.ensures.within (c.piece.ensures.cause first events was))
+    c.piece.ensures.within (c.piece.ensures.cause past first events was))
 
 pub returns-in-Ended-clause-cause : goal.returns-in-Ended-clause-cause
-returns-in-Ended-clause-cause g c first events was =
+returns-in-Ended-clause-cause g c past first events was =
     let h = history_of events in
     let w = waiting c.args.self.now.connections in
     let v = waiting c.end_conn.new.self.connections in
@@ -154,11 +154,11 @@ returns-in-Ended-clause-cause g c first events was =
     (subst (λ (r : EventEnd). IfStopped r (StopsAt c.args.self.now.connections.limit c.args.self.now.reading h v (Ended c.in-Ended.conn)))
     (sym c.end_of-in-Ended.ensures)
     (ending_refused c.args.self.now.connections.limit c.args.self.now.reading h w v c.in-Ended.conn c.end_conn.result
-    (c.end_conn.ensures.cause first events was) (c.end_conn.ensures.ready first events was)
-    (c.end_conn.ensures.waits first events was c.in-Ended.conn)))
+    (c.end_conn.ensures.cause past first events was) (c.end_conn.ensures.ready past first events was)
+    (c.end_conn.ensures.waits past first events was c.in-Ended.conn)))
 
 pub returns-in-Datagram-clause-cause : goal.returns-in-Datagram-clause-cause
-returns-in-Datagram-clause-cause g c first events was =
+returns-in-Datagram-clause-cause g c past first events was =
     let h = history_of events in
     let w = waiting c.logged_datagram.new.self.connections in
     subst (λ (e : Event). IfStopped c.logged_datagram.result (StopsAt c.args.self.now.connections.limit c.args.self.now.reading h w e))
@@ -167,23 +167,23 @@ returns-in-Datagram-clause-cause g c first events was =
     c.logged_datagram.ensures.cause)
 
 pub returns-in-Opened-clause-ends : goal.returns-in-Opened-clause-ends
-returns-in-Opened-clause-ends g c first events was =
+returns-in-Opened-clause-ends g c past first events was =
     subst (λ (e : Event). IfDone c.end_of.result (EndsWell (history_of events) e)) (sym c.in-Opened.is)
     (done_any c.end_of.result)
 
 pub returns-in-Piece-clause-ends : goal.returns-in-Piece-clause-ends
-returns-in-Piece-clause-ends g c first events was =
+returns-in-Piece-clause-ends g c past first events was =
     subst (λ (e : Event). IfDone c.piece.result (EndsWell (history_of events) e)) (sym c.in-Piece.is)
     (done_any c.piece.result)
 
 pub returns-in-Ended-clause-ends : goal.returns-in-Ended-clause-ends
-returns-in-Ended-clause-ends g c first events was =
+returns-in-Ended-clause-ends g c past first events was =
     let h = history_of events in
     subst (λ (e : Event). IfDone c.end_of-in-Ended.result (EndsWell h e)) (sym c.in-Ended.is)
     (subst (λ (r : EventEnd). IfDone r (EndsWell h (Ended c.in-Ended.conn))) (sym c.end_of-in-Ended.ensures)
-    (ending_done h c.in-Ended.conn c.end_conn.result (c.end_conn.ensures.cause first events was)))
+    (ending_done h c.in-Ended.conn c.end_conn.result (c.end_conn.ensures.cause past first events was)))
 
 pub returns-in-Datagram-clause-ends : goal.returns-in-Datagram-clause-ends
-returns-in-Datagram-clause-ends g c first events was =
+returns-in-Datagram-clause-ends g c past first events was =
     subst (λ (e : Event). IfDone c.logged_datagram.result (EndsWell (history_of events) e)) (sym c.in-Datagram.is)
     (done_any c.logged_datagram.result)

@@ -1,0 +1,196 @@
+-- The entries of batches are added to a set.
+use Rattle.std.proofs.Common.{◌≡◌, ◌⊎◌, ℕ, ◌<◌, ◌≤◌, List, [], ◌∷◌, ◌++◌, length, take, drop, inl, inr}
+use Rattle.std.proofs.Common.{refl, sym, ap, subst, ◌∙◌, append_assoc, arith, length-append}
+use Rattle.std.specs.Prelude.{◌↔◌, ℤ}
+use Rattle.std.specs.Int.{to_le_bytes, w32}
+use Rattle.std.specs.List.{AllByRecursion}
+use Rattle.std.proofs.lemmas.List.{append-nil, take_at, drop_at}
+use Rattle.journal.specs.Batches.{batches_text, BeginsWithBatch, HasBatches, IsBody, IsClosed, open_batch}
+use Rattle.journal.proofs.Batches.{sized_push, text-push}
+use Rattle.journal.proofs.Readings.{body_is}
+use Rattle.syslog_value.specs.Parts.{Parts}
+use Rattle.syslog_reading.specs.WellFormed.{WellFormed}
+use Rattle.syslog_reading.proofs.Laws.{one_meaning}
+use Rattle.syslog_grammar.proofs.CanonicalParses.{canonical_well_formed}
+use Rattle.archive_text.specs.Entries.{Entry, Has, IsEntry, IsEntryOf}
+use Rattle.archive_text.specs.Stores.{AddsRecord}
+use Rattle.archive_text.specs.Text.{BeginsWithEntry, entry_text, text_of}
+use Rattle.archive_text.specs.declared.limits.TheConstants.{ENTRY_MAX}
+use Rattle.archive_text.specs.declared.store.Added.{Added}
+use Rattle.archive_text.proofs.Members.{all_append, has_either, has_left, has_right}
+use Rattle.archive_text.proofs.Places.{adds_has}
+use Rattle.archive_text.proofs.Texts.{one_entry_of, text_goes_on, text_some}
+use Rattle.record_store.specs.Holdings.{BatchHas, BatchesHave, IsBatch, JournalHas}
+use Rattle.record_store.proofs.Batches.{batch_has, journal_has, push_has, pushed_either, pushed_has}
+use Rattle.durable_store.specs.Recovery.{Adds}
+
+-- ---- an entry
+
+-- of the record that its octets are
+pub entry_added : (e : Entry) (r : Parts ℤ) (old new : List Entry) (added : Added) → IsEntry e → WellFormed r e.octets
+    → AddsRecord r old new added → Adds old new (λ x. e ≡ x)
+entry_added e r old new added (q, is) formed (f, also, adds) x =
+    let same : r ≡ q = one_meaning r q e.octets formed (canonical_well_formed q e.octets is.valid is.canonical) in
+    let one : f ≡ e = one_entry_of q f e (subst (λ (p : Parts ℤ). IsEntryOf p f) same also) is in
+    let h = adds_has f old new added adds x in (
+      λ k. elim (h.0 k) [ inl first ↦ inr (sym one ∙ first) | inr before ↦ inl before ],
+      λ k. h.1 (elim k [ inl before ↦ inr before | inr first ↦ inl (one ∙ first) ]),
+    )
+
+-- ---- sets that grow
+
+pub adds_none : (old : List Entry) (P : Entry → Type 0) → ((e : Entry) → P e → ⊥) → Adds old old P
+adds_none old P none e = (λ h. inl h, λ h. elim h [ inl k ↦ k | inr k ↦ absurd (none e k) ])
+
+pub adds_then : (a b c : List Entry) (P Q R : Entry → Type 0) → Adds a b P → Adds b c Q
+    → ((e : Entry) → R e ↔ (P e ⊎ Q e)) → Adds a c R
+adds_then a b c P Q R p q r e = (
+  λ h. there ((q e).0 h),
+  λ h. (q e).1 (back h),
+)
+  where
+    there : Has b e ⊎ Q e → Has a e ⊎ R e
+    there (inl h) = elim ((p e).0 h) [ inl k ↦ inl k | inr k ↦ inr ((r e).1 (inl k)) ]
+    there (inr h) = inr ((r e).1 (inr h))
+
+    back : Has a e ⊎ R e → Has b e ⊎ Q e
+    back (inl h) = inl ((p e).1 (inl h))
+    back (inr h) = elim ((r e).0 h) [ inl k ↦ inl ((p e).1 (inr k)) | inr k ↦ inr k ]
+
+pub adds_same : (a b : List Entry) (P Q : Entry → Type 0) → ((e : Entry) → P e ↔ Q e) → Adds a b P → Adds a b Q
+adds_same a b P Q same p e = (
+  λ h. elim ((p e).0 h) [ inl k ↦ inl k | inr k ↦ inr ((same e).0 k) ],
+  λ h. (p e).1 (elim h [ inl k ↦ inl k | inr k ↦ inr ((same e).1 k) ]),
+)
+
+-- ---- a batch
+
+-- the entries before the rest of a batch were added
+pub record BatchAdded (old new : List Entry) (body rest : List ℕ) : Type 0 where
+  pub entries : List Entry
+  pub are : AllByRecursion IsEntry entries
+  pub fit : AllByRecursion (λ e. length e.octets ≤ ENTRY_MAX) entries
+  pub parts : body ≡ text_of entries ++ rest
+  pub adds : Adds old new (Has entries)
+
+pub batch_begun : (old : List Entry) (body : List ℕ) → BatchAdded old old body body
+batch_begun old body = record {
+  entries = [];
+  are = tt;
+  fit = tt;
+  parts = refl;
+  adds = adds_none old (Has []) (λ e h. h);
+}
+
+has_push : (es : List Entry) (e x : Entry) → Has (es ++ e ∷ []) x ↔ (Has es x ⊎ (e ≡ x))
+has_push es e x = (there, back)
+  where
+    there : Has (es ++ e ∷ []) x → Has es x ⊎ (e ≡ x)
+    there h =
+        elim (has_either es (e ∷ []) x h) [ inl k ↦ inl k | inr (inl same) ↦ inr same | inr (inr none) ↦ absurd none ]
+
+    back : Has es x ⊎ (e ≡ x) → Has (es ++ e ∷ []) x
+    back (inl k) = has_left es (e ∷ []) x k
+    back (inr same) = has_right es (e ∷ []) x (inl same)
+
+pub batch_more : (old mid new : List Entry) (body rest behind : List ℕ) (e : Entry) → BatchAdded old mid body rest
+    → BeginsWithEntry ENTRY_MAX rest e behind → Adds mid new (λ x. e ≡ x) → BatchAdded old new body behind
+batch_more old mid new body rest behind e b begins adds = record {
+  entries = b.entries ++ e ∷ [];
+  are = all_append IsEntry b.entries (e ∷ []) b.are (begins.entry, tt);
+  fit = all_append (λ x. length x.octets ≤ ENTRY_MAX) b.entries (e ∷ []) b.fit (begins.fits, tt);
+  parts = text_goes_on b.entries e body rest behind b.parts begins.parts;
+  adds = adds_then old mid new (Has b.entries) (λ x. e ≡ x) (Has (b.entries ++ e ∷ [])) b.adds adds
+      (has_push b.entries e);
+}
+
+pub batch_whole : (old new : List Entry) (body rest : List ℕ) → BatchAdded old new body rest → rest ≡ []
+    → Adds old new (BatchHas body)
+batch_whole old new body rest b none =
+    let batch : IsBatch b.entries body = record {
+      entries = b.are;
+      fits = b.fit;
+      text = b.parts ∙ ap (λ (t : List ℕ). text_of b.entries ++ t) none ∙ append-nil (text_of b.entries);
+    } in
+    adds_same old new (Has b.entries) (BatchHas body)
+    (λ e. (λ h. record { entries = b.entries; batch = batch; has = h }, λ h. batch_has b.entries body e batch h)) b.adds
+
+pub no_octets : (octets : List ℕ) → length octets ≡ 0 → octets ≡ []
+no_octets [] none = refl
+no_octets (x ∷ octets) none = absurd (omega (arith, none))
+
+-- ---- a journal
+
+-- the batches before the rest of a journal were added
+pub record JournalAdded (old new : List Entry) (file rest : List ℕ) : Type 0 where
+  pub bodies : List (List ℕ)
+  pub sized : AllByRecursion IsBody bodies
+  pub parts : file ≡ batches_text bodies ++ rest
+  pub adds : Adds old new (BatchesHave bodies)
+
+pub journal_begun : (old : List Entry) (file : List ℕ) → JournalAdded old old file file
+journal_begun old file = record {
+  bodies = [];
+  sized = tt;
+  parts = refl;
+  adds = adds_none old (BatchesHave []) (λ e h. h);
+}
+
+-- the octets of a batch behind its head
+behind_head : (rest behind : List ℕ) (len : ℕ) (b : BeginsWithBatch rest len) → behind ≡ drop 5 rest
+    → behind ≡ b.body ++ b.rest
+behind_head rest behind len b is = is ∙ ap (drop 5) b.text ∙ body_is b.body b.rest
+
+pub head_fits : (rest : List ℕ) (len : ℕ) → BeginsWithBatch rest len → 5 ≤ length rest
+head_fits rest len b = omega (
+  arith,
+  ap length b.text,
+  length-append (open_batch b.body) b.rest,
+  length-append (to_le_bytes w32 (length b.body)) b.body,
+)
+
+pub body_fits : (rest behind : List ℕ) (len : ℕ) → BeginsWithBatch rest len → behind ≡ drop 5 rest → len ≤ length behind
+body_fits rest behind len b is =
+    omega (arith, ap length (behind_head rest behind len b is), length-append b.body b.rest, b.len_is)
+
+pub batch_parts : (rest behind body after : List ℕ) (len : ℕ) → BeginsWithBatch rest len → behind ≡ drop 5 rest
+    → body ≡ take len behind → after ≡ drop len behind → IsBody body × (rest ≡ open_batch body ++ after)
+batch_parts rest behind body after len b behind_is body_is after_is =
+    let is = behind_head rest behind len b behind_is in
+    let first : body ≡ b.body = body_is ∙ ap (take len) is ∙ take_at b.body b.rest len (sym b.len_is) in
+    let last : after ≡ b.rest = after_is ∙ ap (drop len) is ∙ drop_at b.body b.rest len (sym b.len_is) in (
+      subst IsBody (sym first) b.sized,
+      b.text ∙ ap (λ (t : List ℕ). open_batch t ++ b.rest) (sym first) ∙ ap (λ (t : List ℕ). open_batch body ++ t)
+          (sym last),
+    )
+
+pub journal_more : (old mid new : List Entry) (file rest body after : List ℕ) → JournalAdded old mid file rest
+    → IsBody body × (rest ≡ open_batch body ++ after) → Adds mid new (BatchHas body) → JournalAdded old new file after
+journal_more old mid new file rest body after j (sized, is) adds = record {
+  bodies = j.bodies ++ body ∷ [];
+  sized = sized_push j.bodies body j.sized sized;
+  parts = j.parts ∙ ap (λ (t : List ℕ). batches_text j.bodies ++ t) is
+      ∙ sym (append_assoc (batches_text j.bodies) (open_batch body) after) ∙ sym (text-push j.bodies body after);
+  adds = adds_then old mid new (BatchesHave j.bodies) (BatchHas body) (BatchesHave (j.bodies ++ body ∷ [])) j.adds adds
+      (λ e. (
+        λ h. pushed_either j.bodies body e h,
+        λ h. elim h [ inl k ↦ pushed_has j.bodies body e k | inr k ↦ push_has j.bodies body e k ],
+      ));
+}
+
+-- it is shorter then
+pub shorter_rest : (rest body after : List ℕ) → IsBody body × (rest ≡ open_batch body ++ after)
+    → length after < length rest
+shorter_rest rest body after (sized, is) = omega (arith, ap length is, length-append (open_batch body) after)
+
+pub journal_whole : (old new : List Entry) (file rest : List ℕ) → JournalAdded old new file rest → IsClosed rest
+    → Adds old new (JournalHas file)
+journal_whole old new file rest j closed =
+    let batches : HasBatches file j.bodies = record { tail = rest; text = j.parts; closed = closed; sized = j.sized } in
+    adds_same old new (BatchesHave j.bodies) (JournalHas file)
+    (λ e. (λ h. record { bodies = j.bodies; batches = batches; has = h }, λ h. journal_has file j.bodies e batches h))
+    j.adds
+
+pub shorter : (text : List ℕ) (e : Entry) (behind : List ℕ) → BeginsWithEntry ENTRY_MAX text e behind
+    → length behind < length text
+shorter text e behind begins = omega (arith, ap length begins.parts, length-append (entry_text e) behind, text_some e)

@@ -1,0 +1,34 @@
+use Rattle.std.proofs.Common.{[], ◌∙◌}
+use Rattle.archive_text.specs.EntryViews.{entry_of}
+use Rattle.archive_pages.specs.Paged.{entries_from, entries_in}
+use Rattle.durable_store.proofs.Daily.{all_held, days_more, days_stand, still_whole}
+use Rattle.durable_store.proofs.segments.write_days.Goals as goal
+
+pub returns-in_err-place-clause-stands : goal.returns-in_err-place-clause-stands
+returns-in_err-place-clause-stands g c =
+    days_stand (g.D.Disk.tells c.write_day.new.disk) (g.D.Disk.tells c.days.disk) c.args.store.now
+    (g.D.Disk.state c.args.disk.now) c.days.store (g.D.Disk.state c.days.disk) c.write_day.new.store
+    (g.D.Disk.state c.write_day.new.disk) (entries_in c.args.set.now) (entries_from c.args.set.now c.days.place)
+    (entries_from c.args.set.now c.in-Some.behind) [] (entry_of c.in-Some.entry) c.write_day.ensures.told
+    c.days.invariant.written c.in-Some.ensures.some c.args.set.now.paged.archive
+    (λ whole. still_whole c.args.store.now c.days.store c.days.invariant.goes_on whole) c.write_day.ensures.stands
+
+pub days-preserved : goal.days-preserved
+days-preserved g c = record {
+  told = λ tells. c.days.invariant.told (c.write_day.ensures.told tells);
+  number = c.write_day.ensures.number ∙ c.days.invariant.number;
+  goes_on = λ broken. c.days.invariant.goes_on (c.in_ok-place.ensures.goes_on broken);
+  written = days_more (g.D.Disk.tells c.write_day.new.disk) (g.D.Disk.tells c.days.disk) c.args.store.now
+      (g.D.Disk.state c.args.disk.now) c.days.store (g.D.Disk.state c.days.disk) c.write_day.new.store
+      (g.D.Disk.state c.write_day.new.disk) (entries_in c.args.set.now) (entries_from c.args.set.now c.days.place)
+      (entries_from c.args.set.now c.in-Some.behind) (entries_from c.args.set.now c.in_ok-place.place) (entry_of c.in-Some.entry) c.write_day.ensures.told
+      c.days.invariant.written c.in-Some.ensures.some c.args.set.now.paged.archive
+      (λ whole. still_whole c.args.store.now c.days.store c.days.invariant.goes_on whole) c.write_day.ensures.stands
+      c.in_ok-place.ensures.wrote;
+}
+
+pub returns-clause-held : goal.returns-clause-held
+returns-clause-held g c =
+    all_held (g.D.Disk.tells c.days.disk) c.args.store.now (g.D.Disk.state c.args.disk.now) c.days.store
+    (g.D.Disk.state c.days.disk) (entries_in c.args.set.now) (entries_from c.args.set.now c.days.place)
+    c.days.invariant.written c.in_default.ensures.none

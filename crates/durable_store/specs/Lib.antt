@@ -1,0 +1,3 @@
+pub mod Durables
+pub mod Recovery
+pub mod Segments

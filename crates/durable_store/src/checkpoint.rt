@@ -1,0 +1,81 @@
+//! A checkpoint.
+ghost use Rattle.std.specs.Prelude.{◌≡◌, ◌↔◌, [], IsErr, OnErr, OnOk};
+ghost use Rattle.archive_pages.specs.Paged.{entries_in};
+ghost use Rattle.record_store.specs.Stores.{AreAmong, IsBroken as IsStoreBroken, Sets};
+ghost use Rattle.record_store.specs.Stores.{Stands as JournalStands};
+ghost use Rattle.record_store.specs.Turns.{turned};
+ghost use Rattle.durable_store.specs.Durables.{IsBroken, Stands, entries_of};
+
+use crate::DurableStore;
+use crate::fault::CheckpointFault;
+use crate::segments::write_days;
+use archive_pages::PagedArchive;
+use disk::Disk;
+use record_store::{RecordStore, StoreFault};
+use std::alloc::Global;
+
+// Writes the segments, and then begins a new journal.
+fn write_out<D: Disk>(
+    alloc: Global,
+    disk: &mut D,
+    store: &mut RecordStore,
+    set: &PagedArchive,
+) -> Result<(), CheckpointFault>
+    ensures done { OnOk result (D.tells disk.new → (sets : Sets)
+        → JournalStands store.old (D.state disk.old) sets → AreAmong (entries_in set.now) sets.received
+        → AreAmong sets.since (entries_in set.now)
+        → JournalStands store.new (D.state disk.new) (turned sets)) }
+    ensures err { OnErr result (D.tells disk.new → (sets : Sets)
+        → JournalStands store.old (D.state disk.old) sets → AreAmong (entries_in set.now) sets.received
+        → AreAmong sets.since (entries_in set.now)
+        → JournalStands store.new (D.state disk.new) sets) }
+    ensures whole { OnOk result (¬ (IsStoreBroken store.new)) }
+    ensures told { D.tells disk.new → D.tells disk.old }
+{
+    if store.is_broken() {
+        return Err(CheckpointFault::Store(StoreFault::Broken));
+    }
+    write_days(alloc, disk, store, set)?;
+    store.turn(alloc, disk)?;
+    Ok(())
+}
+
+impl DurableStore {
+    /// Writes what came since the last checkpoint as segments, one per day, and begins a new
+    /// journal; the old one is removed only once these are on the disk. The set in memory is empty
+    /// then, and all that was received is committed. A crash at any moment leaves what is
+    /// committed, and nothing that was not received; if one comes in between, records are there
+    /// twice, which is the same set.
+    ///
+    /// # Errors
+    /// The disk's fault, lack of memory, or a damaged file under the name of a segment, which
+    /// stays. The set in memory is as it was, some segments may be there, and the store is broken:
+    /// `reopen` it.
+    pub fn checkpoint<D: Disk>(
+        &mut self,
+        alloc: Global,
+        disk: &mut D,
+    ) -> Result<(), CheckpointFault>
+        ensures done { OnOk result (D.tells disk.new → (sets : Sets)
+            → Stands self.old (D.state disk.old) sets
+            → Stands self.new (D.state disk.new) (turned sets)) }
+        ensures err { OnErr result (D.tells disk.new → (sets : Sets)
+            → Stands self.old (D.state disk.old) sets → Stands self.new (D.state disk.new) sets) }
+
+        ensures empty { OnOk result (entries_of self.new ≡ []) }
+        ensures same { OnErr result (entries_of self.new ≡ entries_of self.old) }
+        ensures breaks { IsErr result ↔ IsBroken self.new }
+        ensures told { D.tells disk.new → D.tells disk.old }
+    {
+        match write_out(alloc, disk, &mut self.store, &self.set) {
+            Ok(()) => {
+                self.set = PagedArchive::new(alloc);
+                Ok(())
+            }
+            Err(fault) => {
+                self.store.break_off();
+                Err(fault)
+            }
+        }
+    }
+}

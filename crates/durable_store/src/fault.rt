@@ -1,0 +1,100 @@
+use archive_text::ArchiveFault;
+use disk::DiskFault;
+use record_store::{KeepFault, StoreFault};
+use std::alloc::AllocError;
+use thiserror::Error;
+
+/// Why a store was not opened.
+#[derive(Clone, Copy, Debug, PartialEq, Eq, Error)]
+pub enum OpenFault {
+    /// The journal of the store, or its folder, failed.
+    #[error("{0}")]
+    Store(StoreFault),
+    /// A batch of the journal with this number is no sequence of entries. Positions count octets
+    /// from the start of the journal.
+    #[error("journal.{number}: {fault}")]
+    Damaged { number: u64, fault: ArchiveFault },
+    /// An allocation failed.
+    #[error("out of memory")]
+    Memory,
+}
+
+impl From<StoreFault> for OpenFault {
+    ghost use Rattle.std.specs.Prelude.{◌≡◌};
+    ghost use Rattle.durable_store.specs.declared.fault.OpenFault.TheVariants.{Store};
+
+    ghost from_gives = { λ fault wrapped. wrapped ≡ Store fault };
+
+    fn from(fault: StoreFault) -> OpenFault {
+        OpenFault::Store(fault)
+    }
+}
+
+/// Why a checkpoint was not made.
+#[derive(Debug, Drop, Error)]
+pub enum CheckpointFault {
+    /// The store has to be opened again, or its journal or its folder failed.
+    #[error("{0}")]
+    Store(StoreFault),
+    /// A segment was not kept.
+    #[error("a segment: {0}")]
+    Segment(KeepFault),
+}
+
+impl From<StoreFault> for CheckpointFault {
+    ghost use Rattle.std.specs.Prelude.{◌≡◌};
+    ghost use Rattle.durable_store.specs.declared.fault.CheckpointFault.TheVariants.{Store};
+
+    ghost from_gives = { λ fault wrapped. wrapped ≡ Store fault };
+
+    fn from(fault: StoreFault) -> CheckpointFault {
+        CheckpointFault::Store(fault)
+    }
+}
+
+impl From<KeepFault> for CheckpointFault {
+    ghost use Rattle.std.specs.Prelude.{◌≡◌};
+    ghost use Rattle.durable_store.specs.declared.fault.CheckpointFault.TheVariants.{Segment};
+
+    ghost from_gives = { λ fault wrapped. wrapped ≡ Segment fault };
+
+    fn from(fault: KeepFault) -> CheckpointFault {
+        CheckpointFault::Segment(fault)
+    }
+}
+
+impl From<DiskFault> for CheckpointFault {
+    ghost use Rattle.std.specs.Prelude.{◌≡◌};
+    ghost use Rattle.record_store.specs.declared.keeping.KeepFault.TheVariants.{Disk};
+    ghost use Rattle.durable_store.specs.declared.fault.CheckpointFault.TheVariants.{Segment};
+
+    ghost from_gives = { λ fault wrapped. wrapped ≡ Segment (Disk fault) };
+
+    fn from(fault: DiskFault) -> CheckpointFault {
+        CheckpointFault::Segment(KeepFault::Disk(fault))
+    }
+}
+
+impl From<AllocError> for CheckpointFault {
+    ghost use Rattle.std.specs.Prelude.{◌≡◌};
+    ghost use Rattle.disk.specs.declared.fault.DiskFault.TheVariants.{Memory};
+    ghost use Rattle.record_store.specs.declared.keeping.KeepFault.TheVariants.{Disk};
+    ghost use Rattle.durable_store.specs.declared.fault.CheckpointFault.TheVariants.{Segment};
+
+    ghost from_gives = { λ _ wrapped. wrapped ≡ Segment (Disk Memory) };
+
+    fn from(_: AllocError) -> CheckpointFault {
+        CheckpointFault::Segment(KeepFault::Disk(DiskFault::Memory))
+    }
+}
+
+impl CheckpointFault {
+    /// Whether the disk is full, so that the store may be opened again once it has room.
+    pub fn is_full(&self) -> bool {
+        match self {
+            CheckpointFault::Store(fault) => fault.is_full(),
+            CheckpointFault::Segment(KeepFault::Disk(fault)) => *fault == DiskFault::Full,
+            CheckpointFault::Segment(_) => false,
+        }
+    }
+}

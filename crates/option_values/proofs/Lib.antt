@@ -1,0 +1,3 @@
+pub mod ClockLemmas
+pub mod NumberLemmas
+pub mod TimeLemmas

@@ -1,0 +1,75 @@
+//! Values that are timestamps.
+
+ghost use Rattle.std.specs.Prelude.{◌≡◌, ◌+◌, ◌<◌, ◌++◌, ◌∷◌, [], List, ℕ, length, take};
+ghost use Rattle.syslog_value.specs.Instants.{IsCivil, IsOffset};
+ghost use Rattle.syslog_fields.specs.Dates.{time_of};
+ghost use Rattle.syslog_fields.specs.Time.{instant};
+ghost use Rattle.clap.specs.Walk.{first_of};
+ghost use Rattle.clap.specs.Words.{found_of, rows_of};
+ghost use Rattle.option_values.specs.Times.{in_range, time_in};
+ghost use Rattle.option_values.specs.Values.{optional};
+
+use crate::given::value;
+use clap::ArgMatches;
+use syslog_fields::timestamp::{Timestamp, nilable_time};
+use syslog_value::Instant;
+
+/// How many octets a timestamp, such as `2003-10-11T22:14:15.003000-07:00`, and a space have at most.
+const SPACED_MAX: usize = 33;
+
+// The instant that a time names, where it is in range.
+fn instant_at(time: Timestamp) -> Option<Instant>
+    requires { IsCivil time.civil × IsOffset time.offset_minutes }
+    ensures { result ≡ in_range (instant (time_of time)) }
+{
+    match Instant::from_civil(time.civil, time.offset_minutes) {
+        Ok(instant) => Some(instant),
+        Err(_) => None,
+    }
+}
+
+// The instant of a timestamp that a space follows, and nothing more.
+fn spaced_instant(octets: &[u8]) -> Option<Instant>
+    ensures { (text : List ℕ) → octets.now ≡ text ++ 32 ∷ [] → result ≡ time_in text }
+{
+    match nilable_time(octets) {
+        Ok((Some(time), [])) => instant_at(time),
+        Ok((Some(_), _)) => None,
+        Ok((None, _)) => None,
+        Err(_) => None,
+    }
+}
+
+// Puts a text and a space into the front of a slice.
+fn put_spaced(text: &[u8], buf: &mut [u8])
+    requires { length text.now < length buf.old }
+    ensures { take (length text.now + 1) buf.new ≡ text.now ++ 32 ∷ [] }
+{
+    let len = text.len();
+    buf[..len].copy_from_slice(text);
+    buf[len] = b' ';
+}
+
+/// The instant of a timestamp (RFC 5424, section 6.2.3), if it lies in the years from 0 to 9999;
+/// None for any other text, also for `-`.
+pub fn instant(text: &str) -> Option<Instant>
+    ensures { result ≡ time_in text.now }
+{
+    let mut buf = [0; SPACED_MAX];
+    let len = text.len();
+    if len >= SPACED_MAX {
+        return None;
+    }
+    put_spaced(text.as_bytes(), &mut buf);
+    spaced_instant(&buf[..len + 1])
+}
+
+/// The instant that the value of an option names, if it is given; None if the value is refused.
+pub fn optional_instant(matches: &ArgMatches<'_>, id: &str) -> Option<Option<Instant>>
+    ensures { result ≡ optional time_in (first_of id.now (rows_of (found_of matches.now))) }
+{
+    let Some(text) = value(matches, id) else {
+        return Some(None);
+    };
+    Some(Some(instant(text)?))
+}

@@ -1,0 +1,138 @@
+use Rattle.std.proofs.Common.{◌≡◌, ◌∷◌, ◌++◌, List, ℕ, ap, subst, sym, ◌∙◌}
+use Rattle.std.specs.Prelude.{codes}
+use Rattle.journal.specs.Journals.{IsOnDisk}
+use Rattle.record_store.specs.Keeping.{Brings}
+use Rattle.record_store.specs.Segments.{segment_name}
+use Rattle.record_store.proofs.Compared.{brought_journals, brought_keeps, brought_still}
+use Rattle.record_store.proofs.Drafted.{name_apart, segment_held, shows_of}
+use Rattle.record_store.proofs.segment.SegmentDraft.keep.Goals as goal
+
+pub returns-in_err-bring-clause-any_moment : goal.returns-in_err-bring-clause-any_moment
+returns-in_err-bring-clause-any_moment g c tells es committed received of keeps =
+    let zero = g.D.Disk.state c.args.disk.now in
+    let new = g.D.Disk.state c.bring.new.disk in
+    let file = shows_of zero c.args.self.name of.text of.drafts.shown of.drafts.sound in
+    let segment = rw c.in-Some.is at c.in_ok-name.ensures.segment in
+    let differs = name_apart c.args.self.name c.args.day.now c.in-Some.name segment of.apart in
+    let brings = subst (λ (t : List ℕ). Brings zero new c.args.self.name c.in-Some.name t) file.2
+    (c.bring.ensures.any_moment tells file.0 file.1 differs) in
+    brought_keeps zero new c.args.self.name c.in-Some.name c.args.day.now of.text es segment of.is of.apart brings
+    committed received of.among keeps
+
+pub returns-in_err-bring-clause-journals : goal.returns-in_err-bring-clause-journals
+returns-in_err-bring-clause-journals g c tells es received of =
+    let zero = g.D.Disk.state c.args.disk.now in
+    let new = g.D.Disk.state c.bring.new.disk in
+    let file = shows_of zero c.args.self.name of.text of.drafts.shown of.drafts.sound in
+    let segment = rw c.in-Some.is at c.in_ok-name.ensures.segment in
+    let differs = name_apart c.args.self.name c.args.day.now c.in-Some.name segment of.apart in
+    let brings = subst (λ (t : List ℕ). Brings zero new c.args.self.name c.in-Some.name t) file.2
+    (c.bring.ensures.any_moment tells file.0 file.1 differs) in
+    brought_journals zero new c.args.self.name c.in-Some.name c.args.day.now of.text es segment of.is of.apart brings
+
+pub returns-in_err-bring-clause-still_held : goal.returns-in_err-bring-clause-still_held
+returns-in_err-bring-clause-still_held g c tells es received of name others holds =
+    let zero = g.D.Disk.state c.args.disk.now in
+    let new = g.D.Disk.state c.bring.new.disk in
+    let file = shows_of zero c.args.self.name of.text of.drafts.shown of.drafts.sound in
+    let segment = rw c.in-Some.is at c.in_ok-name.ensures.segment in
+    let differs = name_apart c.args.self.name c.args.day.now c.in-Some.name segment of.apart in
+    let brings = subst (λ (t : List ℕ). Brings zero new c.args.self.name c.in-Some.name t) file.2
+    (c.bring.ensures.any_moment tells file.0 file.1 differs) in
+    brought_still zero new c.args.self.name c.in-Some.name c.args.day.now of.text es segment of.is of.apart brings
+    name others holds
+
+pub returns-then-branch-clause-any_moment : goal.returns-then-branch-clause-any_moment
+returns-then-branch-clause-any_moment g c tells es committed received of keeps =
+    let zero = g.D.Disk.state c.args.disk.now in
+    let new = g.D.Disk.state c.bring.new.disk in
+    let file = shows_of zero c.args.self.name of.text of.drafts.shown of.drafts.sound in
+    let segment = rw c.in-Some.is at c.in_ok-name.ensures.segment in
+    let differs = name_apart c.args.self.name c.args.day.now c.in-Some.name segment of.apart in
+    let brings = subst (λ (t : List ℕ). Brings zero new c.args.self.name c.in-Some.name t) file.2
+    (c.bring.ensures.any_moment tells file.0 file.1 differs) in
+    brought_keeps zero new c.args.self.name c.in-Some.name c.args.day.now of.text es segment of.is of.apart brings
+    committed received of.among keeps
+
+pub returns-then-branch-clause-journals : goal.returns-then-branch-clause-journals
+returns-then-branch-clause-journals g c tells es received of =
+    let zero = g.D.Disk.state c.args.disk.now in
+    let new = g.D.Disk.state c.bring.new.disk in
+    let file = shows_of zero c.args.self.name of.text of.drafts.shown of.drafts.sound in
+    let segment = rw c.in-Some.is at c.in_ok-name.ensures.segment in
+    let differs = name_apart c.args.self.name c.args.day.now c.in-Some.name segment of.apart in
+    let brings = subst (λ (t : List ℕ). Brings zero new c.args.self.name c.in-Some.name t) file.2
+    (c.bring.ensures.any_moment tells file.0 file.1 differs) in
+    brought_journals zero new c.args.self.name c.in-Some.name c.args.day.now of.text es segment of.is of.apart brings
+
+pub returns-then-branch-clause-still_held : goal.returns-then-branch-clause-still_held
+returns-then-branch-clause-still_held g c tells es received of name others holds =
+    let zero = g.D.Disk.state c.args.disk.now in
+    let new = g.D.Disk.state c.bring.new.disk in
+    let file = shows_of zero c.args.self.name of.text of.drafts.shown of.drafts.sound in
+    let segment = rw c.in-Some.is at c.in_ok-name.ensures.segment in
+    let differs = name_apart c.args.self.name c.args.day.now c.in-Some.name segment of.apart in
+    let brings = subst (λ (t : List ℕ). Brings zero new c.args.self.name c.in-Some.name t) file.2
+    (c.bring.ensures.any_moment tells file.0 file.1 differs) in
+    brought_still zero new c.args.self.name c.in-Some.name c.args.day.now of.text es segment of.is of.apart brings
+    name others holds
+
+pub returns-clause-any_moment : goal.returns-clause-any_moment
+returns-clause-any_moment g c tells es committed received of keeps =
+    let zero = g.D.Disk.state c.args.disk.now in
+    let new = g.D.Disk.state c.bring.new.disk in
+    let file = shows_of zero c.args.self.name of.text of.drafts.shown of.drafts.sound in
+    let segment = rw c.in-Some.is at c.in_ok-name.ensures.segment in
+    let differs = name_apart c.args.self.name c.args.day.now c.in-Some.name segment of.apart in
+    let brings = subst (λ (t : List ℕ). Brings zero new c.args.self.name c.in-Some.name t) file.2
+    (c.bring.ensures.any_moment tells file.0 file.1 differs) in
+    brought_keeps zero new c.args.self.name c.in-Some.name c.args.day.now of.text es segment of.is of.apart brings
+    committed received of.among keeps
+
+pub returns-clause-journals : goal.returns-clause-journals
+returns-clause-journals g c tells es received of =
+    let zero = g.D.Disk.state c.args.disk.now in
+    let new = g.D.Disk.state c.bring.new.disk in
+    let file = shows_of zero c.args.self.name of.text of.drafts.shown of.drafts.sound in
+    let segment = rw c.in-Some.is at c.in_ok-name.ensures.segment in
+    let differs = name_apart c.args.self.name c.args.day.now c.in-Some.name segment of.apart in
+    let brings = subst (λ (t : List ℕ). Brings zero new c.args.self.name c.in-Some.name t) file.2
+    (c.bring.ensures.any_moment tells file.0 file.1 differs) in
+    brought_journals zero new c.args.self.name c.in-Some.name c.args.day.now of.text es segment of.is of.apart brings
+
+pub returns-clause-still_held : goal.returns-clause-still_held
+returns-clause-still_held g c tells es received of name others holds =
+    let zero = g.D.Disk.state c.args.disk.now in
+    let new = g.D.Disk.state c.bring.new.disk in
+    let file = shows_of zero c.args.self.name of.text of.drafts.shown of.drafts.sound in
+    let segment = rw c.in-Some.is at c.in_ok-name.ensures.segment in
+    let differs = name_apart c.args.self.name c.args.day.now c.in-Some.name segment of.apart in
+    let brings = subst (λ (t : List ℕ). Brings zero new c.args.self.name c.in-Some.name t) file.2
+    (c.bring.ensures.any_moment tells file.0 file.1 differs) in
+    brought_still zero new c.args.self.name c.in-Some.name c.args.day.now of.text es segment of.is of.apart brings
+    name others holds
+
+pub returns-then-branch-clause-held : goal.returns-then-branch-clause-held
+returns-then-branch-clause-held g c tells es received of number small =
+    let zero = g.D.Disk.state c.args.disk.now in
+    let new = g.D.Disk.state c.bring.new.disk in
+    let file = shows_of zero c.args.self.name of.text of.drafts.shown of.drafts.sound in
+    let segment = rw c.in-Some.is at c.in_ok-name.ensures.segment in
+    let differs = name_apart c.args.self.name c.args.day.now c.in-Some.name segment of.apart in
+    segment_held c.in-Some.name c.args.day.now of.text es segment of.is new number small
+    (subst (λ (t : List ℕ). IsOnDisk new c.in-Some.name t) file.2
+    (c.in_ok-bring.ensures.brought c.if-branch.true tells file.0 file.1 differs))
+
+pub returns-then-branch-clause-sound : goal.returns-then-branch-clause-sound
+returns-then-branch-clause-sound g c tells text drafts apart =
+    let zero = g.D.Disk.state c.args.disk.now in
+    let new = g.D.Disk.state c.bring.new.disk in
+    let file = shows_of zero c.args.self.name text drafts.shown drafts.sound in
+    let segment = rw c.in-Some.is at c.in_ok-name.ensures.segment in
+    let differs = name_apart c.args.self.name c.args.day.now c.in-Some.name segment apart in
+    let named : c.in-Some.name ≡ segment_name c.args.day.now text =
+    (rw c.in-Some.is at c.in_ok-name.ensures.name)
+    ∙ ap (λ (h : List ℕ). c.args.day.now ++ 46 ∷ h ++ codes ".archive") (c.hexadecimal.ensures text drafts.hashed) in
+    subst (λ (n : List ℕ). IsOnDisk new n text) named
+    (subst (λ (t : List ℕ). IsOnDisk new c.in-Some.name t) file.2
+    (c.in_ok-bring.ensures.brought c.if-branch.true tells file.0 file.1 differs))

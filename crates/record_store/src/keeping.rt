@@ -1,0 +1,249 @@
+//! A segment is kept under its name, whatever is there already.
+ghost use Rattle.std.specs.Prelude.{◌≡◌, ◌≢◌, ◌^◌, ◌<◌, ◌≤◌, ◌⊎◌, IfOk, IfSome, IsTrue, List, ℕ, None, OnOk};
+ghost use Rattle.disk.specs.Calls.{IsUnchanged};
+ghost use Rattle.disk.specs.Files.{File};
+ghost use Rattle.disk.specs.Memory.{shown_now};
+ghost use Rattle.journal.specs.Journals.{IsOnDisk, Shows};
+ghost use Rattle.record_store.specs.Keeping.{AgreeAt, AreSame, Brings};
+ghost use Rattle.record_store.specs.Names.{IsSegment};
+
+use crate::RecordStore;
+use crate::segment::{SegmentDraft, hexadecimal, name_of_segment, place};
+use disk::{Disk, DiskFault, FileName};
+use journal::settle;
+use std::alloc::{AllocError, Global};
+use thiserror::Error;
+
+// the most octets that are asked for in a call
+const PIECE: usize = 16_384;
+
+// the most octets that are compared
+const COMPARED_MAX: u64 = 1 << 62;
+
+/// Why a segment was not kept.
+#[derive(Debug, Drop, Error)]
+pub enum KeepFault {
+    /// The disk's fault, or out of memory.
+    #[error("{0}")]
+    Disk(DiskFault),
+    /// A file's name cannot begin with this day.
+    #[error("not the name of a day")]
+    Day,
+    /// The file with the segment's name has other octets: it is damaged, unless SHA-256 collides.
+    /// It stays.
+    #[error("a file with its name has other octets")]
+    Differs { name: FileName },
+}
+
+impl From<DiskFault> for KeepFault {
+    ghost use Rattle.std.specs.Prelude.{◌≡◌};
+    ghost use Rattle.record_store.specs.declared.keeping.KeepFault.TheVariants.{Disk};
+
+    ghost from_gives = { λ fault wrapped. wrapped ≡ Disk fault };
+
+    fn from(fault: DiskFault) -> KeepFault {
+        KeepFault::Disk(fault)
+    }
+}
+
+impl From<AllocError> for KeepFault {
+    ghost use Rattle.std.specs.Prelude.{◌≡◌};
+    ghost use Rattle.disk.specs.declared.fault.DiskFault.TheVariants.{Memory};
+    ghost use Rattle.record_store.specs.declared.keeping.KeepFault.TheVariants.{Disk};
+
+    ghost from_gives = { λ _ wrapped. wrapped ≡ Disk Memory };
+
+    fn from(_: AllocError) -> KeepFault {
+        KeepFault::Disk(DiskFault::Memory)
+    }
+}
+
+// The octets that two files have in common from an offset on, as far as a read gives them: how many,
+// or `None` where some differ or one file ends before the other. There are none where both end.
+fn compare_at<D: Disk>(
+    disk: &mut D,
+    one: &FileName,
+    other: &FileName,
+    at: u64,
+) -> Result<Option<usize>, DiskFault>
+    ensures agree { IfOk result (λ found. D.tells disk.new → IfSome found
+        (AgreeAt (D.state disk.old) one.now other.now at)) }
+    ensures within { IfOk result (λ found. IfSome found (λ n. n ≤ PIECE)) }
+    ensures same { D.tells disk.new → IsUnchanged (D.state disk.old) (D.state disk.new) }
+    ensures told { D.tells disk.new → D.tells disk.old }
+{
+    let mut left = [0u8; PIECE];
+    let mut right = [0u8; PIECE];
+    let n = disk.read(one, at, &mut left)?;
+    let m = disk.read(other, at, &mut right)?;
+    let both = n.min(m);
+    if both == 0 {
+        if n == m {
+            return Ok(Some(0));
+        }
+        return Ok(None);
+    }
+    if left[..both] == right[..both] {
+        return Ok(Some(both));
+    }
+    Ok(None)
+}
+
+// Whether a read shows the same octets of two files.
+fn are_same<D: Disk>(disk: &mut D, one: &FileName, other: &FileName) -> Result<bool, DiskFault>
+    ensures same_octets { IfOk result (λ same. IsTrue same → D.tells disk.new
+        → AreSame (D.state disk.old) one.now other.now) }
+    ensures same { D.tells disk.new → IsUnchanged (D.state disk.old) (D.state disk.new) }
+    ensures told { D.tells disk.new → D.tells disk.old }
+{
+    let mut at = 0;
+    'pieces: while at < COMPARED_MAX {
+        let Some(n) = compare_at(disk, one, other, at)? else {
+            return Ok(false);
+        };
+        if n == 0 {
+            return Ok(true);
+        }
+        at += n as u64;
+    }
+    Ok(false)
+}
+
+// Whether a read shows a file of this name.
+fn is_there<D: Disk>(disk: &mut D, name: &FileName) -> Result<bool, DiskFault>
+    ensures there { IfOk result (λ there. IsTrue there ⊎ (D.tells disk.new
+        → shown_now ((D.state disk.old).entries name.now) ≡ None)) }
+    ensures same { D.tells disk.new → IsUnchanged (D.state disk.old) (D.state disk.new) }
+    ensures told { D.tells disk.new → D.tells disk.old }
+{
+    match disk.read(name, 0, &mut [0u8; 1]) {
+        Ok(_) => Ok(true),
+        Err(DiskFault::Missing) => Ok(false),
+        Err(fault) => Err(fault),
+    }
+}
+
+// Brings a draft to the disk under a name, where no file is there or one of the same octets; `false`
+// where one of other octets is.
+fn bring<D: Disk>(disk: &mut D, draft: &FileName, name: &FileName) -> Result<bool, DiskFault>
+    ensures brought { IfOk result (λ done. IsTrue done → D.tells disk.new → (file : File)
+        → Shows (D.state disk.old) draft.now file → name.now ≢ draft.now
+        → IsOnDisk (D.state disk.new) name.now file.shown) }
+
+    // whatever the result is: so at every moment
+    ensures any_moment { D.tells disk.new → (file : File) → Shows (D.state disk.old) draft.now file
+        → name.now ≢ draft.now
+        → Brings (D.state disk.old) (D.state disk.new) draft.now name.now file.shown }
+
+    ensures told { D.tells disk.new → D.tells disk.old }
+{
+    if is_there(disk, name)? {
+        if are_same(disk, draft, name)? {
+            settle(disk, name)?;
+            return Ok(true);
+        }
+        return Ok(false);
+    }
+    place(disk, draft, name)?;
+    Ok(true)
+}
+
+impl SegmentDraft {
+    ghost use Rattle.archive_text.specs.Entries.{Entry};
+    ghost use Rattle.record_store.specs.Crashes.{Keeps};
+    ghost use Rattle.record_store.specs.Keeping.{IsDraftOf};
+    ghost use Rattle.record_store.specs.Names.{Counts, journal_name};
+    ghost use Rattle.record_store.specs.Segments.{Drafts, JournalsSettle, draft_of, segment_name};
+    ghost use Rattle.record_store.specs.Turns.{HeldApart};
+
+    /// Brings the segment to the disk under its name, `DAY.HEX.archive` with the SHA-256 of its
+    /// octets, as `finish` does, but looks first at what is there: a file of these octets is
+    /// brought to the disk, and the draft is left; one of other octets stays, and is reported. So
+    /// nothing is presumed of the folder. It fails as the variants of [`KeepFault`] say.
+    pub fn keep<D: Disk>(self, alloc: Global, disk: &mut D, day: &[u8]) -> Result<(), KeepFault>
+        ensures held { OnOk result (D.tells disk.new → (es received : List Entry)
+            → IsDraftOf self (D.state disk.old) day.now es received → (number : ℕ) → number < 2 ^ 64
+            → HeldApart (D.state disk.new) (journal_name number) es) }
+        ensures sound { OnOk result (D.tells disk.new → (text : List ℕ)
+            → Drafts self (D.state disk.old) text → ¬ (Counts (draft_of self))
+            → IsOnDisk (D.state disk.new) (segment_name day.now text) text) }
+
+        // whatever the result is: so at every moment
+        ensures any_moment { D.tells disk.new → (es committed received : List Entry)
+            → IsDraftOf self (D.state disk.old) day.now es received
+            → Keeps (D.state disk.old) committed received
+            → Keeps (D.state disk.new) committed received }
+        ensures journals { D.tells disk.new → (es received : List Entry)
+            → IsDraftOf self (D.state disk.old) day.now es received
+            → JournalsSettle (D.state disk.old) (D.state disk.new) }
+        ensures still_held { D.tells disk.new → (es received : List Entry)
+            → IsDraftOf self (D.state disk.old) day.now es received
+            → (name : List ℕ) (others : List Entry) → HeldApart (D.state disk.old) name others
+            → HeldApart (D.state disk.new) name others }
+
+        ensures told { D.tells disk.new → D.tells disk.old }
+    {
+        let SegmentDraft {
+            name: draft,
+            hasher,
+        } = self;
+        let Some(name) = name_of_segment(alloc, day, &hexadecimal(hasher))? else {
+            return Err(KeepFault::Day);
+        };
+        if bring(disk, &draft, &name)? {
+            return Ok(());
+        }
+        Err(KeepFault::Differs { name })
+    }
+}
+
+impl RecordStore {
+    ghost use Rattle.std.specs.Prelude.{IsErr};
+    ghost use Rattle.archive_text.specs.Entries.{Entry};
+    ghost use Rattle.record_store.specs.Keeping.{IsDraftOf};
+    ghost use Rattle.record_store.specs.Names.{journal_name};
+    ghost use Rattle.record_store.specs.Stores.{IsBroken, IsSameButBroken, Sets, Stands};
+    ghost use Rattle.record_store.specs.Turns.{HeldApart};
+
+    /// Keeps a segment of entries that the store has received, as `add_segment` does, whatever is
+    /// under its name. Once it has returned `Ok`, a file other than the journal holds each of them,
+    /// whatever a crash leaves. The sets stay as they are at every moment.
+    ///
+    /// # Errors
+    /// The disk's fault, lack of memory, or a damaged file under the segment's name, which stays.
+    /// The store is broken then.
+    pub fn keep_segment<D: Disk>(
+        &mut self,
+        alloc: Global,
+        disk: &mut D,
+        draft: SegmentDraft,
+        day: &[u8],
+    ) -> Result<(), KeepFault>
+        ensures held { OnOk result (D.tells disk.new → (es received : List Entry)
+            → IsDraftOf draft (D.state disk.old) day.now es received
+            → (number : ℕ) → number < 2 ^ 64
+            → HeldApart (D.state disk.new) (journal_name number) es) }
+
+        // whatever the result is: so at every moment
+        ensures stands { D.tells disk.new → (es : List Entry) (sets : Sets)
+            → IsDraftOf draft (D.state disk.old) day.now es sets.received
+            → Stands self.old (D.state disk.old) sets → Stands self.new (D.state disk.new) sets }
+        ensures still_held { D.tells disk.new → (es received : List Entry)
+            → IsDraftOf draft (D.state disk.old) day.now es received
+            → (name : List ℕ) (others : List Entry) → HeldApart (D.state disk.old) name others
+            → HeldApart (D.state disk.new) name others }
+
+        ensures same { IsSameButBroken self.old self.new }
+        ensures breaks { IsErr result → IsBroken self.new }
+        ensures goes_on { OnOk result (IsBroken self.new → IsBroken self.old) }
+        ensures told { D.tells disk.new → D.tells disk.old }
+    {
+        match draft.keep(alloc, disk, day) {
+            Ok(()) => Ok(()),
+            Err(fault) => {
+                self.broken = true;
+                Err(fault)
+            }
+        }
+    }
+}

@@ -1,0 +1,214 @@
+-- What is accepted of steps, one after the other.
+use Rattle.std.proofs.Common.{◌≡◌, ℕ, true, false, List, [], ◌∷◌, ◌++◌, inl, inr, refl, sym, ◌∙◌, ap, subst}
+use Rattle.std.proofs.Common.{append_assoc}
+use Rattle.std.specs.Prelude.{◌⊎◌, ◌↔◌, Bool, Option, Some, None}
+use Rattle.std.proofs.lemmas.List.{append-nil}
+use Rattle.archive_text.specs.Entries.{Entry, Has}
+use Rattle.collect_engine.specs.Receiving.{IfNotMemory}
+use Rattle.collect_engine.specs.declared.receiving.Received.{Received}
+use Rattle.collect_engine.specs.declared.receiving.Received.TheVariants as received
+use Rattle.syslog_legacy.specs.declared.frame_reading.FrameReading.{FrameReading}
+use Rattle.syslog_collect.specs.Collectors.{NoneWaits, reading_of, store_of}
+use Rattle.syslog_collect.specs.Frames.{IsReceived}
+use Rattle.syslog_collect.specs.History.{AcceptedEvent, Ended, Piece}
+use Rattle.syslog_collect.specs.declared.outcome.Outcome.{Outcome}
+use Rattle.syslog_collect.proofs.Headline.{holds_received}
+use Rattle.socket_source.specs.Steps.{Given, SourceState}
+use Rattle.socket_source.specs.declared.step.ServerStep.{ServerStep}
+use Rattle.serve_engine.specs.Intakes.{IsCommitted, StandsBy}
+use Rattle.serve_engine.specs.Keepings.{Kept}
+use Rattle.serve_engine.specs.Serving.{Accepts, CommitsAll, EndsUnlessFull, FaultsAs, GivesStep, HoldsReceived, IfSettled}
+use Rattle.serve_engine.specs.Serving.{IsAccepted, IsCommitTurn, IsEventTurn, IsReceivedAs, IsStepTurn, IsTryTurn, Served}
+use Rattle.serve_engine.specs.Serving.{ServesEvent, ServesStep, UnlessMemory, UnlessStopped, asks_commit, ends_in_bad_count}
+use Rattle.serve_engine.specs.Serving.{event_of, turn_of}
+use Rattle.serve_engine.specs.declared.intake.Intake.{Intake}
+use Rattle.serve_engine.specs.declared.serve_end.ServeEnd.{ServeEnd}
+use Rattle.serve_engine.specs.declared.serve_end.ServeEnd.TheVariants.{Finished, Source, Disk, Memory, Endless}
+use Rattle.serve_engine.specs.declared.turn.Turn.{Turn}
+use Rattle.serve_engine.specs.declared.turn.Turn.TheVariants.{On, End}
+
+-- ---- one event
+
+-- what a collector makes of an event is accepted
+pub accepted_own : (way : FrameReading) (before : List AcceptedEvent) (e : AcceptedEvent) (r : Received)
+    (os : List Outcome) (own : List AcceptedEvent) → IsReceivedAs way before e r os own → IsAccepted way before e own
+accepted_own way before e r os own is = (r, os, own, [], is, sym (append-nil own), inl refl)
+
+-- with the end of its connection, where the piece ends in a bad count, or was refused
+pub accepted_closing : (way : FrameReading) (before : List AcceptedEvent) (c : ℕ) (o : List ℕ) (r : Received)
+    (os : List Outcome) (own closing : List AcceptedEvent) → IsReceivedAs way before (Piece c o) r os own
+    → (closing ≡ []) ⊎ (closing ≡ Ended c ∷ []) → (ends_in_bad_count os ≡ true) ⊎ (r ≡ received.Refused)
+    → IsAccepted way before (Piece c o) (own ++ closing)
+accepted_closing way before c o r os own closing is (inl none) cause =
+    (r, os, own, closing, is, refl, inl none)
+accepted_closing way before c o r os own closing is (inr ends) cause =
+    (r, os, own, closing, is, refl, inr (c, o, refl, ends, cause))
+
+-- of an end of a number it is the end, or nothing
+pub ending_only : (way : FrameReading) (before : List AcceptedEvent) (c : ℕ) (r : Received) (os : List Outcome)
+    (own : List AcceptedEvent) → IsReceivedAs way before (Ended c) r os own → (own ≡ []) ⊎ (own ≡ Ended c ∷ [])
+ending_only way before c received.Accepted os own (w, v, inl h) = inr h.0
+ending_only way before c received.Accepted os own (w, v, inr h) = inl h.0
+ending_only way before c (received.Unterminated start) os own (w, v, h) = inr h.0
+ending_only way before c received.Refused os own (w, v, h) = inl h.0
+ending_only way before c received.Memory os own (w, v, h) = inl h.0
+
+-- where memory did not run out, it goes on
+settled_turn : (r : Received) (P : Type 0) → IfNotMemory r P → IfSettled (turn_of r) P
+settled_turn received.Accepted P h = h
+settled_turn (received.Unterminated start) P h = h
+settled_turn received.Refused P h = h
+settled_turn received.Memory P h = tt
+
+pub after_event : (t : Turn) (r : Received) (P : Type 0) → t ≡ turn_of r → IfNotMemory r P → IfSettled t P
+after_event t r P is h = subst (λ (u : Turn). IfSettled u P) (sym is) (settled_turn r P h)
+
+event_turn : (r : Received) → IsEventTurn (turn_of r)
+event_turn received.Accepted = inl refl
+event_turn (received.Unterminated start) = inl refl
+event_turn received.Refused = inl refl
+event_turn received.Memory = inr refl
+
+pub turn_event : (t : Turn) (r : Received) → t ≡ turn_of r → IsEventTurn t
+turn_event t r is = subst IsEventTurn (sym is) (event_turn r)
+
+pub still_settled : (r : Received) (P : Type 0)
+    → (r ≡ received.Accepted) ⊎ ((start : ℕ) × (r ≡ received.Unterminated start)) → IfNotMemory r P → P
+still_settled r P (inl is) h = subst (λ (q : Received). IfNotMemory q P) is h
+still_settled r P (inr (start, is)) h = subst (λ (q : Received). IfNotMemory q P) is h
+
+-- ---- commits
+
+pub stopped_fault : (full : Bool) (t : Turn) (P : Type 0) → FaultsAs full t → UnlessStopped t full P
+stopped_fault full t P (inl (is, was_full)) =
+    subst (λ (u : Turn). UnlessStopped u full P) (sym is) (λ room. absurd (cc))
+stopped_fault full t P (inr (inl is)) = subst (λ (u : Turn). UnlessStopped u full P) (sym is) tt
+stopped_fault full t P (inr (inr is)) = subst (λ (u : Turn). UnlessStopped u full P) (sym is) tt
+
+pub unless_map : (t : Turn) (full : Bool) (P Q : Type 0) → UnlessStopped t full P → (P → Q) → UnlessStopped t full Q
+unless_map On full P Q h f = λ room. f (h room)
+unless_map (End Finished) full P Q h f = f h
+unless_map (End (Source fault)) full P Q h f = f h
+unless_map (End Disk) full P Q h f = tt
+unless_map (End Memory) full P Q h f = tt
+unless_map (End Endless) full P Q h f = tt
+
+committed_end : (end : ServeEnd) (full : Bool) (P : Type 0) → P → UnlessStopped (End end) full P
+committed_end Finished full P h = h
+committed_end (Source fault) full P h = h
+committed_end Disk full P h = tt
+committed_end Memory full P h = tt
+committed_end Endless full P h = tt
+
+pub ended_committed : (full : Bool) (end : ServeEnd) (t : Turn) (P : Type 0) → EndsUnlessFull full end t
+    → (full ≡ false → P) → UnlessStopped t full P
+ended_committed full end t P (inl (is, was_full)) h = subst (λ (u : Turn). UnlessStopped u full P) (sym is) h
+ended_committed full end t P (inr (is, room)) h =
+    subst (λ (u : Turn). UnlessStopped u full P) (sym is) (committed_end end full P (h room))
+
+settled_end : (end : ServeEnd) (P : Type 0) → P → UnlessMemory end P
+settled_end Finished P h = h
+settled_end (Source fault) P h = h
+settled_end Disk P h = h
+settled_end Memory P h = tt
+settled_end Endless P h = h
+
+pub any_settled : (t : Turn) (P : Type 0) → P → IfSettled t P
+any_settled On P h = h
+any_settled (End end) P h = settled_end end P h
+
+-- ---- a step
+
+pub serves_event : {S K : Type 0} (entries : S → List Entry) (stands : K → Kept → Type 0) (old new : Intake S K)
+    (s : ServerStep) (octets : List ℕ) (full : Bool) (t : Turn) (e : AcceptedEvent) → event_of s octets ≡ Some e
+    → asks_commit s ≡ false → Accepts entries stands old new e t → ServesStep entries stands old new s octets full t
+serves_event entries stands old new s octets full t e is none_asked accepts k first before at none =
+    let d = accepts k first before at none in (
+      k,
+      d.0,
+      d.1,
+      subst (λ (o : Option AcceptedEvent). ServesEvent (reading_of old.collector) before o d.0) (sym is) d.2,
+      d.3,
+      λ asks. absurd (cc),
+    )
+
+pub serves_commit : {S K : Type 0} (entries : S → List Entry) (stands : K → Kept → Type 0) (old new : Intake S K)
+    (s : ServerStep) (octets : List ℕ) (full : Bool) (t : Turn) → event_of s octets ≡ None
+    → CommitsAll entries stands old new full t → (NoneWaits old.collector → NoneWaits new.collector)
+    → ServesStep entries stands old new s octets full t
+serves_commit entries stands old new s octets full t is commits settled k first before at none =
+    let d = commits k first before at in (
+      d.0,
+      [],
+      subst (λ (es : List AcceptedEvent). StandsBy entries stands new d.0 first es) (sym (append-nil before)) d.1,
+      subst (λ (o : Option AcceptedEvent). ServesEvent (reading_of old.collector) before o []) (sym is) refl,
+      any_settled t (NoneWaits new.collector) (settled none),
+      λ asks. d.2,
+    )
+
+pub serves_nothing : {S K : Type 0} (entries : S → List Entry) (stands : K → Kept → Type 0) (old new : Intake S K)
+    (s : ServerStep) (octets : List ℕ) (full : Bool) (t : Turn) → event_of s octets ≡ None → asks_commit s ≡ false
+    → new ≡ old → t ≡ On → ServesStep entries stands old new s octets full t
+serves_nothing {S = S} {K = K} entries stands old new s octets full t is none_asked same on k first before at none = (
+  k,
+  [],
+  subst (λ (i : Intake S K). StandsBy entries stands i k first (before ++ [])) (sym same)
+      (subst (λ (es : List AcceptedEvent). StandsBy entries stands old k first es) (sym (append-nil before)) at),
+  subst (λ (o : Option AcceptedEvent). ServesEvent (reading_of old.collector) before o []) (sym is) refl,
+  any_settled t (NoneWaits new.collector) (subst (λ (i : Intake S K). NoneWaits i.collector) (sym same) none),
+  λ asks. absurd (cc),
+)
+
+pub event_step : (s : ServerStep) (t : Turn) → IsEventTurn t → IsStepTurn s t
+event_step s t (inl is) = subst (IsStepTurn s) (sym is) tt
+event_step s t (inr is) = subst (IsStepTurn s) (sym is) tt
+
+pub commit_step : (s : ServerStep) (t : Turn) → asks_commit s ≡ true → IsCommitTurn t → IsStepTurn s t
+commit_step s t asks (inl is) = subst (IsStepTurn s) (sym is) tt
+commit_step s t asks (inr (inl is)) = subst (IsStepTurn s) (sym is) asks
+commit_step s t asks (inr (inr is)) = subst (IsStepTurn s) (sym is) tt
+
+pub commit_try : (t : Turn) → IsCommitTurn t → IsTryTurn t
+commit_try t (inl is) = subst IsTryTurn (sym is) tt
+commit_try t (inr (inl is)) = subst IsTryTurn (sym is) tt
+commit_try t (inr (inr is)) = subst IsTryTurn (sym is) tt
+
+pub finish_step : (s : ServerStep) (end : ServeEnd) (t : Turn) → asks_commit s ≡ true → IsStepTurn s (End end)
+    → IsCommitTurn t ⊎ (t ≡ End end) → IsStepTurn s t
+finish_step s end t asks cause (inl commit) = commit_step s t asks commit
+finish_step s end t asks cause (inr is) = subst (IsStepTurn s) (sym is) cause
+
+-- what is committed is all that was received
+pub committed_all : {S K : Type 0} (entries : S → List Entry) (stands : K → Kept → Type 0) (i : Intake S K) (k : Kept)
+    (first : List Entry) (es : List AcceptedEvent) → StandsBy entries stands i k first es → NoneWaits i.collector
+    → IsCommitted entries i k → HoldsReceived (reading_of i.collector) k.committed first es
+committed_all entries stands i k first es at none c =
+    let all : k.held ++ entries (store_of i.collector) ≡ k.committed =
+    ap (λ (xs : List Entry). k.held ++ xs) c.fresh ∙ append-nil k.held ∙ sym c.committed in
+    λ x. subst (λ (xs : List Entry). Has xs x ↔ (Has first x ⊎ IsReceived (reading_of i.collector) es x)) all
+    (holds_received i.collector.reading i.collector.connections (k.held ++ entries (store_of i.collector)) first es
+    at.collector none x)
+
+-- ---- steps
+
+pub served_one : (way : FrameReading) (a b : SourceState) (before : List AcceptedEvent) (g : Given)
+    (here : List AcceptedEvent) → GivesStep a b g → ServesEvent way before (event_of g.step g.octets) here
+    → Served way a before (g ∷ []) here b
+served_one way a b before g here gives serves = (here, [], b, sym (append-nil here), gives, serves, (refl, refl))
+
+pub served_then : (way : FrameReading) (a b c : SourceState) (before es fs : List AcceptedEvent) (gs hs : List Given)
+    → Served way a before gs es b → Served way b (before ++ es) hs fs c → Served way a before (gs ++ hs) (es ++ fs) c
+served_then way a b c before es fs [] hs (none, same) next =
+    rw (none, sym same) (subst (λ (x : List AcceptedEvent). Served way b x hs fs c)
+    (ap (λ (x : List AcceptedEvent). before ++ x) none ∙ append-nil before) next)
+served_then way a b c before es fs (g ∷ gs) hs (here, later, between, is, gives, serves, rest) next = (
+  here,
+  later ++ fs,
+  between,
+  ap (λ (x : List AcceptedEvent). x ++ fs) is ∙ append_assoc here later fs,
+  gives,
+  serves,
+  served_then way between b c (before ++ here) later fs gs hs rest
+      (subst (λ (x : List AcceptedEvent). Served way b x hs fs c)
+      (ap (λ (x : List AcceptedEvent). before ++ x) is ∙ sym (append_assoc before here later)) next),
+)

@@ -1,0 +1,17 @@
+use Rattle.std.proofs.Common.{subst, sym}
+use Rattle.serve_engine.specs.Intakes.{IsCommitted, StandsBy}
+use Rattle.serve_engine.proofs.Turns.{ended_committed}
+use Rattle.serve_engine.proofs.server.Server.finish.Goals as goal
+
+pub returns-in-On-clause-served : goal.returns-in-On-clause-served
+returns-in-On-clause-served g c k first before at =
+    let d = rw c.in-On.is at (c.commit.ensures.served k first before at) in
+    let same = c.end_with.ensures.same in (
+      d.0,
+      subst (λ i. StandsBy (g.S.Store.entries) (g.K.Keeping.stands) i d.0 first before) (sym same) d.1,
+      rw c.end_with.ensures.full (ended_committed _ _ _ _ c.end_with.ensures.turn (λ room.
+          subst (λ i. IsCommitted (g.S.Store.entries) i d.0) (sym same) (d.2 room))),
+    )
+
+pub returns-in_default-clause-served : goal.returns-in_default-clause-served
+returns-in_default-clause-served g c = c.commit.ensures.served

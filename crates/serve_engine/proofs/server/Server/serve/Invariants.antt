@@ -1,0 +1,19 @@
+use Rattle.std.proofs.Common.{◌≡◌, List}
+use Rattle.archive_text.specs.Entries.{Entry}
+use Rattle.syslog_collect.specs.Collectors.{NoneWaits, reading_of}
+use Rattle.syslog_collect.specs.History.{AcceptedEvent}
+use Rattle.serve_engine.specs.Intakes.{StandsBy}
+use Rattle.serve_engine.specs.Keepings.{Kept}
+use Rattle.serve_engine.proofs.Rounds.{SoFar}
+use Rattle.serve_engine.proofs.server.Server.serve.Given as goal
+
+-- so far the steps that came were served, and the run has not ended
+abbrev pub invariant-loop-turn : goal.invariant-loop-turn
+invariant-loop-turn g l = record {
+  served : (k : Kept) (first : List Entry) (before : List AcceptedEvent) →
+      StandsBy (g.S.Store.entries) (g.K.Keeping.stands) l.fn.self.intake k first before →
+      NoneWaits l.fn.self.intake.collector →
+      SoFar (g.S.Store.entries) (g.K.Keeping.stands) l.fn.self.intake l.self.intake
+      (g.Q.ServerSource.state l.fn.source) (g.Q.ServerSource.state l.source) l._turn first before;
+  reading : reading_of l.self.intake.collector ≡ reading_of l.fn.self.intake.collector;
+}

@@ -1,0 +1,25 @@
+use Rattle.std.proofs.Common.{◌≡◌, false, ap, subst, sym, ◌∙◌}
+use Rattle.syslog_collect.specs.Collectors.{store_of}
+use Rattle.serve_engine.specs.Intakes.{IsCommitted, StandsBy}
+use Rattle.serve_engine.proofs.Turns.{unless_map}
+use Rattle.serve_engine.proofs.server.Server.tick.Goals as goal
+
+pub returns-in-On-clause-served : goal.returns-in-On-clause-served
+returns-in-On-clause-served g c k first before at =
+    let d = rw c.in-On.is at (c.commit.ensures.served k first before at) in
+    let same = c.count_tick.ensures.same in (
+      d.0,
+      c.checkpoint.ensures.stands d.0 first before
+          (subst (λ i. StandsBy (g.S.Store.entries) (g.K.Keeping.stands) i d.0 first before) (sym same) d.1),
+      unless_map c.checkpoint.result c.checkpoint.new.self.full (c.count_tick.new.self.full ≡ false)
+          (IsCommitted (g.S.Store.entries) c.checkpoint.new.self.intake d.0) c.checkpoint.ensures.full (λ room.
+          let was = d.2 (sym c.count_tick.ensures.full ∙ room) in
+          record {
+            fresh = ap (λ x. g.S.Store.entries (store_of x))
+                (c.checkpoint.ensures.collector ∙ ap (λ i. i.collector) same) ∙ was.fresh;
+            committed = was.committed;
+          }),
+    )
+
+pub returns-in_default-clause-served : goal.returns-in_default-clause-served
+returns-in_default-clause-served g c = c.commit.ensures.served

@@ -1,0 +1,16 @@
+use Rattle.std.proofs.Common.{subst, sym}
+use Rattle.serve_engine.specs.Intakes.{StandsBy}
+use Rattle.serve_engine.proofs.Turns.{stopped_fault}
+use Rattle.serve_engine.proofs.server.Server.try_again.Goals as goal
+
+pub returns-in-Ok-clause-served : goal.returns-in-Ok-clause-served
+returns-in-Ok-clause-served g c k first before at =
+    c.commit.ensures.served k first before (c.in-Ok.ensures.stands k first before at)
+
+pub returns-in-Err-clause-served : goal.returns-in-Err-clause-served
+returns-in-Err-clause-served g c k first before at = (
+  k,
+  subst (λ i. StandsBy (g.S.Store.entries) (g.K.Keeping.stands) i k first before) (sym c.fault.ensures.same)
+      (c.in-Err.ensures.stands k first before at),
+  stopped_fault _ _ _ c.fault.ensures.turn,
+)

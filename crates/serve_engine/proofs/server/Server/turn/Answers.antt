@@ -1,0 +1,18 @@
+use Rattle.std.proofs.Common.{refl}
+use Rattle.serve_engine.proofs.Rounds.{stepped, tried}
+use Rattle.serve_engine.proofs.server.Server.turn.Goals as goal
+
+pub returns-then-self-clause-served : goal.returns-then-self-clause-served
+returns-then-self-clause-served g c =
+    tried _ _ _ _ _ _ _ c.try_again.ensures.served c.try_again.ensures.settled c.try_again.ensures.reading
+    c.try_again.ensures.turn
+
+pub returns-clause-served : goal.returns-clause-served
+returns-clause-served g c =
+    stepped _ _ _ _ _ _ c.next-step.result c.next-step.new.buf _ _ c.step.ensures.served (record {
+      between = _;
+      buf = c.next-step.new.buf;
+      gave = c.next-step.ensures;
+      given = refl;
+      closes = c.step.ensures.closes;
+    }) c.step.ensures.reading c.step.ensures.turn

@@ -1,0 +1,6 @@
+pub mod Keepings
+pub mod Lines
+pub mod Refusals
+pub mod Intakes
+pub mod Serving
+pub mod Servers

@@ -1,0 +1,36 @@
+//! What a server counts.
+
+use collect_engine::Received;
+use syslog_collect::Outcome;
+
+/// What a server counts over a whole run. A count that reaches `u64::MAX` stays there.
+#[derive(Clone, Copy, Debug, PartialEq, Eq)]
+pub struct ServeCounts {
+    /// Frames that are records.
+    pub received: u64,
+    /// Records that had not been held since the last checkpoint.
+    pub new: u64,
+    /// Records that had.
+    pub held: u64,
+    /// Frames that are no records.
+    pub refused: u64,
+    /// Frames of more than `FRAME_MAX` octets.
+    pub too_long: u64,
+    /// Connections that were opened.
+    pub connections: u64,
+    /// Commits.
+    pub batches: u64,
+    /// Octets of pieces and datagrams.
+    pub octets: u64,
+    /// Connections that went on with no count, or ended inside a frame.
+    pub broken: u64,
+    /// Lines that could not be written.
+    pub dropped: u64,
+}
+
+impl ServeCounts {
+    /// Whether a frame, a count or the end of a connection was refused.
+    pub fn has_refused(&self) -> bool {
+        self.refused > 0 || self.too_long > 0 || self.broken > 0
+    }
+}

@@ -1,0 +1,109 @@
+//! Where events go: a collector, and what keeps its records.
+ghost use Rattle.std.specs.Prelude.{◌≡◌, ◌++◌, ⊤, [], List, OnOk};
+ghost use Rattle.archive_text.specs.Entries.{Entry};
+ghost use Rattle.collect_engine.specs.Receiving.{IfNotMemory};
+ghost use Rattle.syslog_collect.specs.Collectors.{NoneWaits, reading_of, store_of};
+ghost use Rattle.syslog_collect.specs.History.{AcceptedEvent};
+ghost use Rattle.syslog_collect.specs.Runs.{accepted_event};
+ghost use Rattle.serve_engine.specs.Intakes.{IsCommitted, StandsBy};
+ghost use Rattle.serve_engine.specs.Keepings.{Kept};
+ghost use Rattle.serve_engine.specs.Serving.{IsReceivedAs, StandsOn};
+
+use crate::keeping::{KeepFault, Keeping, Taken};
+use archive_text::Store;
+use collect_engine::{Received, receive};
+use std::alloc::Global;
+use syslog_collect::{Collector, Event, Outcome};
+
+/// A collector over a set of what came since the last hand-over, and what keeps the rest.
+#[derive(Drop)]
+pub(crate) struct Intake<S, K> {
+    pub(crate) collector: Collector<S>,
+    pub(crate) keeper: K,
+    /// The outcomes of the last event.
+    pub(crate) outcomes: Vec<Outcome>,
+}
+
+impl<S: Store + Drop, K: Keeping<S> + Drop> Intake<S, K> {
+    /// What keeps the records.
+    pub(crate) fn into_keeper(self) -> K
+        ensures { result ≡ self.keeper }
+    {
+        let Intake {
+            collector: _,
+            keeper,
+            outcomes: _,
+        } = self;
+        keeper
+    }
+
+    /// Gives an event to the collector.
+    pub(crate) fn receive(&mut self, alloc: Global, event: Event<'_>) -> Received
+        ensures received { (k : Kept) (first : List Entry) (before : List AcceptedEvent)
+            → StandsBy S.entries K.stands self.old k first before
+            → (accepted : List AcceptedEvent)
+            × StandsBy S.entries K.stands self.new k first (before ++ accepted)
+            × IsReceivedAs (reading_of self.old.collector) before (accepted_event event.entry) result
+            self.new.outcomes.items accepted }
+        ensures settled { (k : Kept) (first : List Entry) (before : List AcceptedEvent)
+            → StandsBy S.entries K.stands self.old k first before
+            → NoneWaits self.old.collector → IfNotMemory result (NoneWaits self.new.collector) }
+        ensures reading { reading_of self.new.collector ≡ reading_of self.old.collector }
+    {
+        receive(alloc, &mut self.collector, event, &mut self.outcomes)
+    }
+
+    /// Hands over what came since the last call.
+    fn hand_over(&mut self, alloc: Global) -> Result<Taken, KeepFault>
+        ensures stands { StandsOn S.entries K.stands self.old self.new (λ _. ⊤) }
+        ensures empty { OnOk result (S.entries (store_of self.new.collector) ≡ []) }
+        ensures settled { NoneWaits self.old.collector → NoneWaits self.new.collector }
+        ensures reading { reading_of self.new.collector ≡ reading_of self.old.collector }
+    {
+        let fresh = self.collector.store_mut();
+        self.keeper.take(alloc, fresh)
+    }
+
+    // Commits what was handed over.
+    fn commit_held(&mut self, alloc: Global) -> Result<(), KeepFault>
+        ensures ok { OnOk result (StandsOn S.entries K.stands self.old self.new
+            (λ j. j.committed ≡ j.held)) }
+        ensures stands { StandsOn S.entries K.stands self.old self.new (λ _. ⊤) }
+        ensures collector { self.new.collector ≡ self.old.collector }
+    {
+        self.keeper.commit(alloc)
+    }
+
+    /// Commits all that came.
+    pub(crate) fn commit(&mut self, alloc: Global) -> Result<Taken, KeepFault>
+        ensures ok { OnOk result (StandsOn S.entries K.stands self.old self.new
+            (IsCommitted S.entries self.new)) }
+        ensures stands { StandsOn S.entries K.stands self.old self.new (λ _. ⊤) }
+        ensures settled { NoneWaits self.old.collector → NoneWaits self.new.collector }
+        ensures reading { reading_of self.new.collector ≡ reading_of self.old.collector }
+    {
+        let taken = self.hand_over(alloc)?;
+        self.commit_held(alloc)?;
+        Ok(taken)
+    }
+
+    /// Opens the store again.
+    pub(crate) fn reopen(&mut self, alloc: Global) -> Result<(), KeepFault>
+        ensures stands { (k : Kept) (first : List Entry) (before : List AcceptedEvent)
+            → StandsBy S.entries K.stands self.old k first before
+            → StandsBy S.entries K.stands self.new k first before }
+        ensures collector { self.new.collector ≡ self.old.collector }
+    {
+        self.keeper.reopen(alloc)
+    }
+
+    /// Makes a checkpoint.
+    pub(crate) fn checkpoint(&mut self, alloc: Global) -> Result<(), KeepFault>
+        ensures stands { (k : Kept) (first : List Entry) (before : List AcceptedEvent)
+            → StandsBy S.entries K.stands self.old k first before
+            → StandsBy S.entries K.stands self.new k first before }
+        ensures collector { self.new.collector ≡ self.old.collector }
+    {
+        self.keeper.checkpoint(alloc)
+    }
+}

@@ -1,0 +1,67 @@
+//! What keeps records through crashes, as a server sees it.
+ghost use Rattle.std.specs.Prelude.{◌≡◌, [], OnErr, OnOk};
+ghost use Rattle.serve_engine.specs.Keepings.{HandsOver, Kept, all_committed};
+
+use archive_text::Store;
+use std::alloc::Global;
+use thiserror::Error;
+
+/// Why records were not kept.
+#[derive(Clone, Copy, Debug, PartialEq, Eq, Error)]
+pub enum KeepFault {
+    /// The disk has no room left. What was not kept waits, and can be tried again.
+    #[error("the disk is full")]
+    Full,
+    /// The disk failed.
+    #[error("the disk failed")]
+    Failed,
+    /// An allocation failed.
+    #[error("out of memory")]
+    Memory,
+}
+
+/// What became of the records of a set that was handed over.
+#[derive(Clone, Copy, Debug, PartialEq, Eq)]
+pub struct Taken {
+    /// How many had not been held since the last checkpoint.
+    pub new: u64,
+    /// How many had.
+    pub held: u64,
+}
+
+/// What keeps records through crashes: a store on a disk. It is handed sets of records, and commits
+/// what it was handed.
+pub trait Keeping<S: Store> {
+    // it stands with what it holds, and with what of that every crash leaves
+    ghost stands: { Self → Kept → Type 0 };
+
+    /// Takes what a set holds, and leaves it empty. After an error, what was not taken is still in
+    /// the set, so that the next call goes on.
+    fn take(&mut self, alloc: Global, fresh: &mut S) -> Result<Taken, KeepFault>
+        ensures hands { (k : Kept) → stands self.old k → (j : Kept) × stands self.new j
+            × HandsOver k j (S.entries fresh.old) (S.entries fresh.new) }
+        ensures empty { OnOk result (S.entries fresh.new ≡ []) };
+
+    /// Commits what it holds: once this has returned `Ok`, every crash leaves it. It fails as the
+    /// variants of [`KeepFault`] say.
+    fn commit(&mut self, alloc: Global) -> Result<(), KeepFault>
+        ensures ok { OnOk result ((k : Kept) → stands self.old k → stands self.new (all_committed k)) }
+        ensures err { OnErr result ((k : Kept) → stands self.old k → stands self.new k) };
+
+    /// Opens the store again after a call on the disk has failed. What waits still waits.
+    fn reopen(&mut self, alloc: Global) -> Result<(), KeepFault>
+        ensures { (k : Kept) → stands self.old k → stands self.new k };
+
+    /// Moves what it holds to other files, so that the journal is short again. It holds the same.
+    fn checkpoint(&mut self, alloc: Global) -> Result<(), KeepFault>
+        ensures { (k : Kept) → stands self.old k → stands self.new k };
+
+    /// How many octets the batches of the journal take in its file.
+    fn journal_len(&self) -> u64;
+}
+
+/// What waits for a while, in which nothing is read.
+pub trait Pause {
+    /// Waits for one period.
+    fn pause(&mut self);
+}

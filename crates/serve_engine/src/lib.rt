@@ -1,0 +1,28 @@
+//! A server's engine: the steps of a source go into a collector, and what it has goes to what keeps
+//! it through crashes.
+//!
+//! A [`Server`] has a collector over a set of what came since the last commit, and a [`Keeping`],
+//! which is handed that set at each tick and commits it. [`Server::serve`] is the loop; it uses
+//! traits alone, so it is proved over any sockets, any disk and any diagnostics.
+#![tactic(auto)]
+
+mod counts;
+mod intake;
+mod keeping;
+mod lines;
+mod peers;
+mod refusals;
+mod report;
+mod serve_end;
+mod server;
+mod serving;
+mod stepping;
+#[cfg(test)]
+mod tests;
+mod turn;
+
+pub use counts::ServeCounts;
+pub use keeping::{KeepFault, Keeping, Pause, Taken};
+pub use serve_end::ServeEnd;
+pub use server::Server;
+pub use serving::ServeOptions;

@@ -1,0 +1,138 @@
+//! The lines of a server.
+ghost use Rattle.std.specs.Prelude.{◌≡◌};
+ghost use Rattle.serve_engine.specs.Lines.{is_bad_count};
+
+use crate::counts::ServeCounts;
+use crate::peers::Way;
+use frame_engine::{Line, put_line};
+use itoa::Buffer;
+use std::alloc::{AllocError, Global};
+use std::net::SocketAddr;
+use syslog_collect::Outcome;
+use syslog_frame::Framing;
+
+/// What happened to a connection, other than to one of its frames.
+#[derive(Clone, Copy, Debug, PartialEq, Eq)]
+pub(crate) enum Happening {
+    /// It ended inside the frame that begins at this position.
+    Unterminated(u64),
+    /// No MSG-LEN can continue with the octet at this position.
+    BadCount(u64),
+    /// It was reset.
+    Reset,
+    /// Nothing came on it for too long.
+    Idle,
+    /// There was no room for it.
+    TurnedAway,
+}
+
+fn put(out: &mut Vec<u8>, text: &[u8]) -> Result<(), AllocError> {
+    out.extend_from_slice(text)
+}
+
+fn put_number(out: &mut Vec<u8>, number: u64) -> Result<(), AllocError> {
+    put(out, Buffer::new().format(number).as_bytes())
+}
+
+fn put_address(alloc: Global, out: &mut Vec<u8>, peer: SocketAddr) -> Result<(), AllocError> {
+    let text = format!(in alloc; "{peer}")?;
+    put(out, text.as_bytes())
+}
+
+/// Appends the way by which octets came, and a space.
+pub(crate) fn put_way(alloc: Global, out: &mut Vec<u8>, way: Way) -> Result<(), AllocError> {
+    match way {
+        Way::Udp(peer) => {
+            put(out, b"udp ")?;
+            put_address(alloc, out, peer)?;
+        }
+        Way::Unix => put(out, b"unix -")?,
+        Way::Stream(framing, peer) => {
+            match framing {
+                Framing::Counted => put(out, b"counted ")?,
+                Framing::Lf => put(out, b"lf ")?,
+            }
+            put_address(alloc, out, peer)?;
+        }
+    }
+    put(out, b" ")
+}
+
+/// Whether an outcome is a bad count.
+pub(crate) fn is_bad_count(outcome: Outcome) -> bool
+    ensures { result ≡ is_bad_count outcome }
+{
+    matches!(outcome, Outcome::BadCount { .. })
+}
+
+/// Appends the line on the refused frame with this number.
+pub(crate) fn put_refused(
+    alloc: Global,
+    out: &mut Vec<u8>,
+    way: Way,
+    number: u64,
+    outcome: Outcome,
+) -> Result<(), AllocError> {
+    put_way(alloc, out, way)?;
+    match outcome {
+        Outcome::Refused(fault) => put_line(out, Line::Refused { number, fault }),
+        Outcome::RefusedLegacy { offset } => put_line(out, Line::LegacyNotUtf8 { number, offset }),
+        Outcome::TooLong => put_line(out, Line::TooLong { number }),
+        Outcome::New | Outcome::Held | Outcome::BadCount { .. } => Ok(()),
+    }
+}
+
+fn put_at(
+    alloc: Global,
+    out: &mut Vec<u8>,
+    way: Way,
+    words: &[u8],
+    at: u64,
+) -> Result<(), AllocError> {
+    put_way(alloc, out, way)?;
+    put(out, words)?;
+    put_number(out, at)?;
+    put(out, b"\n")
+}
+
+fn put_peer(alloc: Global, out: &mut Vec<u8>, way: Way, words: &[u8]) -> Result<(), AllocError> {
+    match way {
+        Way::Udp(peer) | Way::Stream(_, peer) => put_address(alloc, out, peer)?,
+        Way::Unix => put(out, b"-")?,
+    }
+    put(out, words)
+}
+
+/// Appends the line on what happened to a connection.
+pub(crate) fn put_happening(
+    alloc: Global,
+    out: &mut Vec<u8>,
+    way: Way,
+    happening: Happening,
+) -> Result<(), AllocError> {
+    match happening {
+        Happening::Unterminated(start) => put_at(alloc, out, way, b"unterminated ", start),
+        Happening::BadCount(at) => put_at(alloc, out, way, b"bad-count ", at),
+        Happening::Reset => put_peer(alloc, out, way, b" reset\n"),
+        Happening::Idle => put_peer(alloc, out, way, b" idle\n"),
+        Happening::TurnedAway => put_peer(alloc, out, way, b" closed: too many connections\n"),
+    }
+}
+
+fn put_count(out: &mut Vec<u8>, words: &[u8], count: u64) -> Result<(), AllocError> {
+    put(out, words)?;
+    put_number(out, count)
+}
+
+/// Appends the line of counts.
+pub(crate) fn put_counts(out: &mut Vec<u8>, counts: &ServeCounts) -> Result<(), AllocError> {
+    put_count(out, b"received ", counts.received)?;
+    put_count(out, b" new ", counts.new)?;
+    put_count(out, b" held ", counts.held)?;
+    put_count(out, b" refused ", counts.refused)?;
+    put_count(out, b" too-long ", counts.too_long)?;
+    put_count(out, b" connections ", counts.connections)?;
+    put_count(out, b" batches ", counts.batches)?;
+    put_count(out, b" octets ", counts.octets)?;
+    put(out, b"\n")
+}

@@ -1,0 +1,260 @@
+//! What a server tells: lines, counts, and the frames that it refuses.
+ghost use Rattle.std.specs.Prelude.{◌≡◌, ◌≤◌, ◌+◌, ◌-◌, ◌^◌, min, true};
+ghost use Rattle.serve_engine.specs.Refusals.{KeepsFrame, is_kept};
+
+use crate::counts::ServeCounts;
+use crate::keeping::Taken;
+use crate::lines::{Happening, put_counts, put_happening, put_refused};
+use crate::peers::Way;
+use crate::refusals::put_refusal;
+use crate::serve_end::ServeEnd;
+use collect_engine::Received;
+use octet_devices::{Output, write_all};
+use socket_source::ConnectionEnd;
+use std::alloc::{AllocError, Global};
+use syslog_collect::Outcome;
+
+/// The lines, the counts, and the frames that are refused.
+#[derive(Drop)]
+pub(crate) struct Report<N, R> {
+    notes: N,
+    refused: R,
+    pub(crate) counts: ServeCounts,
+    // the number of the next frame
+    number: u64,
+    line: Vec<u8>,
+    // the last frame that was kept, behind its line
+    kept: Vec<u8>,
+}
+
+impl<N: Output + Drop, R: Output + Drop> Report<N, R> {
+    pub(crate) fn new(alloc: Global, notes: N, refused: R) -> Report<N, R> {
+        Report {
+            notes,
+            refused,
+            counts: ServeCounts {
+                received: 0,
+                new: 0,
+                held: 0,
+                refused: 0,
+                too_long: 0,
+                connections: 0,
+                batches: 0,
+                octets: 0,
+                broken: 0,
+                dropped: 0,
+            },
+            number: 1,
+            line: Vec::new(alloc),
+            kept: Vec::new(alloc),
+        }
+    }
+
+    /// The outputs, with all that they took.
+    pub(crate) fn into_outputs(self) -> (N, R) {
+        let Report {
+            notes,
+            refused,
+            counts: _,
+            number: _,
+            line: _,
+            kept: _,
+        } = self;
+        (notes, refused)
+    }
+
+    // Writes the line that was made, or counts that it was dropped.
+    fn write_line(&mut self, made: Result<(), AllocError>)
+        ensures refused { self.new.refused ≡ self.old.refused }
+        ensures dropped { self.old.counts.dropped ≤ self.new.counts.dropped }
+    {
+        if made.is_err() || write_all(&mut self.notes, self.line.as_slice()).is_err() {
+            self.counts.dropped = self.counts.dropped.saturating_add(1);
+        }
+    }
+
+    /// Tells what happened to a connection.
+    pub(crate) fn tell(&mut self, alloc: Global, way: Way, happening: Happening) {
+        self.line.clear();
+        let made = put_happening(alloc, &mut self.line, way, happening);
+        self.write_line(made);
+    }
+
+    /// Tells a line whose text is known.
+    pub(crate) fn tell_text(&mut self, text: &[u8]) {
+        self.line.clear();
+        let made = self.line.extend_from_slice(text);
+        self.write_line(made);
+    }
+
+    /// Tells the counts.
+    pub(crate) fn tell_counts(&mut self) {
+        self.line.clear();
+        let made = put_counts(&mut self.line, &self.counts);
+        self.write_line(made);
+    }
+
+    // Counts an outcome.
+    fn count(&mut self, outcome: Outcome)
+        ensures refused { self.new.refused ≡ self.old.refused }
+        ensures dropped { self.new.counts.dropped ≡ self.old.counts.dropped }
+    {
+        match outcome {
+            Outcome::New => count_up(&mut self.counts.received, 1),
+            Outcome::Held => {
+                count_up(&mut self.counts.received, 1);
+                count_up(&mut self.counts.held, 1);
+            }
+            Outcome::Refused(_) | Outcome::RefusedLegacy { .. } => {
+                count_up(&mut self.counts.refused, 1);
+            }
+            Outcome::TooLong => count_up(&mut self.counts.too_long, 1),
+            Outcome::BadCount { .. } => count_up(&mut self.counts.broken, 1),
+        }
+    }
+
+    // Counts a line or a frame that was dropped.
+    fn drop_one(&mut self)
+        ensures dropped { self.new.counts.dropped ≡ min (self.old.counts.dropped + 1) (2 ^ 64 - 1) }
+    {
+        count_up(&mut self.counts.dropped, 1);
+    }
+
+    // Keeps a frame that was refused, behind the line on it.
+    fn keep_refused(&mut self, alloc: Global, frame: Option<&[u8]>)
+        ensures { KeepsFrame (R.state self.old.refused) (R.state self.new.refused) frame.entry
+            self.old.counts.dropped self.new.counts.dropped }
+    {
+        self.kept.clear();
+        let line = without_lf(self.line.as_slice());
+        match put_refusal(alloc, &mut self.kept, line, frame) {
+            Err(_) => self.drop_one(),
+            Ok(()) => match write_all(&mut self.refused, self.kept.as_slice()) {
+                Err(_) => self.drop_one(),
+                Ok(()) => {}
+            },
+        }
+    }
+
+    // Tells a frame of this number that is refused, and keeps it.
+    fn refuse(
+        &mut self,
+        alloc: Global,
+        way: Way,
+        number: u64,
+        outcome: Outcome,
+        frame: Option<&[u8]>,
+    )
+        ensures { KeepsFrame (R.state self.old.refused) (R.state self.new.refused) frame.entry
+            self.old.counts.dropped self.new.counts.dropped }
+    {
+        self.line.clear();
+        let made = put_refused(alloc, &mut self.line, way, number, outcome);
+        self.write_line(made);
+        self.keep_refused(alloc, frame);
+    }
+
+    /// Tells what became of a frame: if it is refused, a line, and the frame itself.
+    pub(crate) fn outcome(
+        &mut self,
+        alloc: Global,
+        way: Way,
+        outcome: Outcome,
+        frame: Option<&[u8]>,
+    )
+        ensures kept { is_kept outcome ≡ true → KeepsFrame (R.state self.old.refused)
+            (R.state self.new.refused) frame.entry self.old.counts.dropped self.new.counts.dropped }
+    {
+        self.count(outcome);
+        let number = self.number;
+        self.number = number.saturating_add(1);
+        match outcome {
+            Outcome::New | Outcome::Held | Outcome::BadCount { .. } => {}
+            Outcome::Refused(_) | Outcome::RefusedLegacy { .. } => {
+                self.refuse(alloc, way, number, outcome, frame);
+            }
+            Outcome::TooLong => self.refuse(alloc, way, number, outcome, None),
+        }
+    }
+
+    /// Tells what became of the frames of a piece or a datagram.
+    pub(crate) fn outcomes(
+        &mut self,
+        alloc: Global,
+        way: Way,
+        outcomes: &[Outcome],
+        frame: Option<&[u8]>,
+    ) {
+        for outcome in outcomes {
+            match *outcome {
+                Outcome::BadCount { at } => {
+                    self.count(*outcome);
+                    self.tell(alloc, way, Happening::BadCount(at));
+                }
+                outcome => self.outcome(alloc, way, outcome, frame),
+            }
+        }
+    }
+
+    /// Tells how a connection ended.
+    pub(crate) fn ended(
+        &mut self,
+        alloc: Global,
+        way: Way,
+        received: Received,
+        end: ConnectionEnd,
+    ) {
+        if let Received::Unterminated { start } = received {
+            count_up(&mut self.counts.broken, 1);
+            self.tell(alloc, way, Happening::Unterminated(start));
+        }
+        match end {
+            ConnectionEnd::Closed => {}
+            ConnectionEnd::Reset => self.tell(alloc, way, Happening::Reset),
+            ConnectionEnd::Idle => self.tell(alloc, way, Happening::Idle),
+        }
+    }
+
+    /// Tells that the disk is full, unless it was full before.
+    pub(crate) fn tell_full(&mut self, before: bool) {
+        if !before {
+            self.tell_text(b"store full\n");
+        }
+    }
+
+    /// Tells how serving ends.
+    pub(crate) fn tell_end(&mut self, end: ServeEnd) {
+        if let ServeEnd::Source(_) = end {
+            self.tell_text(b"source fault\n");
+        }
+    }
+
+    /// Counts a connection.
+    pub(crate) fn count_connection(&mut self) {
+        count_up(&mut self.counts.connections, 1);
+    }
+
+    /// Counts octets of a piece or a datagram.
+    pub(crate) fn count_octets(&mut self, octets: usize) {
+        count_up(&mut self.counts.octets, octets as u64);
+    }
+
+    /// Counts what was handed over and committed.
+    pub(crate) fn committed(&mut self, taken: Taken) {
+        count_up(&mut self.counts.new, taken.new);
+        count_up(&mut self.counts.held, taken.held);
+        count_up(&mut self.counts.batches, 1);
+    }
+}
+
+// Counts more, and stays at the largest value.
+fn count_up(count: &mut u64, more: u64)
+    ensures { count.new ≡ min (count.old + more) (2 ^ 64 - 1) }
+{
+    *count = count.saturating_add(more);
+}
+
+// A line without its line feed.
+fn without_lf(line: &[u8]) -> &[u8] {
+    line.strip_suffix(b"\n").unwrap_or(line)
+}

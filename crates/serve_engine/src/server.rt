@@ -1,0 +1,74 @@
+//! A server: where events go, what it tells, and who is connected.
+ghost use Rattle.std.specs.Prelude.{◌≡◌, false, IfOk};
+ghost use Rattle.serve_engine.specs.Servers.{intake_of, is_full};
+
+use crate::counts::ServeCounts;
+use crate::intake::Intake;
+use crate::keeping::Keeping;
+use crate::peers::Peers;
+use crate::report::Report;
+use archive_text::Store;
+use octet_devices::Output;
+use socket_source::CONNECTIONS_MAX;
+use std::alloc::{AllocError, Global};
+use syslog_collect::Collector;
+
+/// A server: a collector, what keeps its records, and what it tells.
+#[derive(Drop)]
+pub struct Server<S, K, N, R> {
+    pub(crate) intake: Intake<S, K>,
+    pub(crate) report: Report<N, R>,
+    pub(crate) peers: Peers,
+    /// Whether the disk is full, so that nothing is read.
+    pub(crate) full: bool,
+    /// How many ticks have come since the counts were told.
+    pub(crate) ticks: u64,
+}
+
+impl<S: Store + Drop, K: Keeping<S> + Drop, N: Output + Drop, R: Output + Drop> Server<S, K, N, R> {
+    /// A server over a collector and what keeps its records. Lines go to the notes, refused frames
+    /// to an output of their own.
+    pub fn new(
+        alloc: Global,
+        collector: Collector<S>,
+        keeper: K,
+        notes: N,
+        refused: R,
+    ) -> Result<Server<S, K, N, R>, AllocError>
+        ensures collector { IfOk result (λ server. (intake_of server).collector ≡ collector) }
+        ensures keeper { IfOk result (λ server. (intake_of server).keeper ≡ keeper) }
+        ensures room { IfOk result (λ server. is_full server ≡ false) }
+    {
+        Ok(Server {
+            intake: Intake {
+                collector,
+                keeper,
+                outcomes: Vec::new(alloc),
+            },
+            report: Report::new(alloc, notes, refused),
+            peers: Peers::new(alloc, CONNECTIONS_MAX)?,
+            full: false,
+            ticks: 0,
+        })
+    }
+
+    /// What keeps its records, and where it told.
+    pub fn into_parts(self) -> (K, N, R)
+        ensures { result.0 ≡ (intake_of self).keeper }
+    {
+        let Server {
+            intake,
+            report,
+            peers: _,
+            full: _,
+            ticks: _,
+        } = self;
+        let (notes, refused) = report.into_outputs();
+        (intake.into_keeper(), notes, refused)
+    }
+
+    /// What has been counted so far.
+    pub fn counts(&self) -> ServeCounts {
+        self.report.counts
+    }
+}

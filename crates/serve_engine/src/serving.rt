@@ -1,0 +1,118 @@
+//! The loop of a server.
+ghost use Rattle.std.specs.Prelude.{◌≡◌, length};
+ghost use Rattle.socket_source.specs.Steps.{IsWithin, octets_of};
+ghost use Rattle.syslog_collect.specs.Collectors.{reading_of};
+ghost use Rattle.serve_engine.specs.Servers.{ServesRun, ServesTurn, intake_of, is_full};
+ghost use Rattle.serve_engine.specs.Serving.{ClosesOwn, IsStepTurn, ServesStep};
+
+use crate::keeping::{Keeping, Pause};
+use crate::serve_end::ServeEnd;
+use crate::server::Server;
+use crate::turn::Turn;
+use archive_text::Store;
+use octet_devices::Output;
+use socket_source::{PIECE_MAX, ServerSource, ServerStep};
+use std::alloc::Global;
+
+/// What a server is to do.
+#[derive(Clone, Copy, Debug, PartialEq, Eq)]
+pub struct ServeOptions {
+    /// From how many octets on a journal makes a checkpoint due.
+    pub checkpoint_len: u64,
+    /// After how many ticks the counts are told; 0 means never.
+    pub count_ticks: u64,
+}
+
+impl<S: Store + Drop, K: Keeping<S> + Drop, N: Output + Drop, R: Output + Drop> Server<S, K, N, R> {
+    // A step of the source.
+    fn step<Q: ServerSource>(
+        &mut self,
+        alloc: Global,
+        source: &mut Q,
+        step: ServerStep,
+        buf: &[u8],
+        options: &ServeOptions,
+    ) -> Turn
+        requires within { IsWithin (length buf.now) step }
+        ensures served { ServesStep S.entries K.stands self.old.intake self.new.intake
+            step (octets_of step buf.now) self.new.full result }
+        ensures reading { reading_of self.new.intake.collector ≡ reading_of self.old.intake.collector }
+        ensures closes { ClosesOwn (Q.state source.old) (Q.state source.new) step }
+        ensures turn { IsStepTurn step result }
+    {
+        match step {
+            ServerStep::Opened {
+                conn,
+                listener: _,
+                framing,
+                peer,
+            } => self.opened(alloc, source, conn, framing, peer),
+            ServerStep::Piece { conn, len } => self.piece(alloc, source, conn, &buf[..len]),
+            ServerStep::Ended { conn, end } => self.ended(alloc, conn, end),
+            ServerStep::Datagram {
+                listener: _,
+                peer,
+                len,
+            } => self.datagram(alloc, peer, &buf[..len]),
+            ServerStep::TurnedAway {
+                listener: _,
+                framing,
+                peer,
+            } => self.turned_away(alloc, framing, peer),
+            ServerStep::Tick => self.tick(alloc, options),
+            ServerStep::InputEnded => Turn::On,
+            ServerStep::Finished => self.finish(alloc, ServeEnd::Finished),
+            ServerStep::Failed(fault) => self.finish(alloc, ServeEnd::Source(fault)),
+        }
+    }
+
+    /// A turn: a step of the source; or if the disk is full, another try after a while in which
+    /// nothing is read. The slice should have room for `PIECE_MAX` octets.
+    ///
+    /// What came is committed at each tick, unless the disk is full, and when the run ends.
+    pub fn turn<Q: ServerSource, P: Pause>(
+        &mut self,
+        alloc: Global,
+        source: &mut Q,
+        pause: &mut P,
+        buf: &mut [u8],
+        options: &ServeOptions,
+    ) -> Turn
+        ensures served { ServesTurn S.entries K.stands (intake_of self.old) (intake_of self.new)
+            (Q.state source.old) (Q.state source.new) (is_full self.new) result }
+        ensures reading { reading_of (intake_of self.new).collector
+            ≡ reading_of (intake_of self.old).collector }
+    {
+        if self.full {
+            pause.pause();
+            return self.try_again(alloc);
+        }
+        let step = source.next(buf);
+        self.step(alloc, source, step, buf, options)
+    }
+
+    /// Serves a source until it has finished or failed, the disk has failed, or memory has run out.
+    pub fn serve<Q: ServerSource, P: Pause>(
+        &mut self,
+        alloc: Global,
+        source: &mut Q,
+        pause: &mut P,
+        options: &ServeOptions,
+    ) -> ServeEnd
+        ensures served { ServesRun S.entries K.stands (intake_of self.old) (intake_of self.new)
+            (Q.state source.old) (Q.state source.new) result }
+        ensures reading { reading_of (intake_of self.new).collector
+            ≡ reading_of (intake_of self.old).collector }
+    {
+        let Ok(mut buf) = vec![in alloc; 0u8; PIECE_MAX] else {
+            return ServeEnd::Memory;
+        };
+        for _turn in 0..u64::MAX {
+            match self.turn(alloc, source, pause, &mut buf, options) {
+                Turn::On => {}
+                Turn::End(end) => return end,
+            }
+        }
+        ServeEnd::Endless
+    }
+}

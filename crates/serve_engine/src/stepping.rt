@@ -1,0 +1,317 @@
+//! What a server does with a step.
+ghost use Rattle.std.specs.Prelude.{◌≡◌, ◌⊎◌, ◌++◌, ⊤, [], ◌∷◌, true, false, List};
+ghost use Rattle.archive_text.specs.Entries.{Entry};
+ghost use Rattle.socket_source.specs.Steps.{Closes};
+ghost use Rattle.syslog_collect.specs.Collectors.{NoneWaits, reading_of};
+ghost use Rattle.syslog_collect.specs.History.{AcceptedEvent, Datagram, Ended, Opened, Piece};
+ghost use Rattle.serve_engine.specs.Intakes.{IsCommitted, StandsBy};
+ghost use Rattle.serve_engine.specs.Keepings.{Kept};
+ghost use Rattle.serve_engine.specs.Serving.{Accepts, CommitsAll, EndsUnlessFull, FaultsAs, IfSettled, IsCommitTurn};
+ghost use Rattle.serve_engine.specs.Serving.{IsEventTurn, UnlessStopped, bad_last, ends_in_bad_count, turn_of};
+ghost use Rattle.serve_engine.specs.declared.serve_end.ServeEnd.TheVariants.{Disk, Memory};
+ghost use Rattle.serve_engine.specs.declared.turn.Turn.TheVariants.{End, On};
+
+use crate::keeping::{KeepFault, Keeping};
+use crate::lines::{Happening, is_bad_count};
+use crate::peers::Way;
+use crate::serve_end::ServeEnd;
+use crate::server::Server;
+use crate::serving::ServeOptions;
+use crate::turn::Turn;
+use archive_text::Store;
+use collect_engine::Received;
+use octet_devices::Output;
+use socket_source::{ConnectionEnd, ServerSource};
+use std::alloc::Global;
+use std::net::SocketAddr;
+use syslog_collect::{Event, Outcome};
+use syslog_frame::Framing;
+
+// Whether the last of the outcomes is a bad count.
+fn is_bad_last(last: Option<Outcome>) -> bool
+    ensures { result ≡ bad_last last }
+{
+    match last {
+        Some(outcome) => is_bad_count(outcome),
+        None => false,
+    }
+}
+
+// Whether outcomes end in a bad count.
+fn ends_in_bad_count(outcomes: &[Outcome]) -> bool
+    ensures { result ≡ ends_in_bad_count outcomes.now }
+{
+    is_bad_last(outcomes.last().copied())
+}
+
+// How a datagram came.
+fn way_of(peer: Option<SocketAddr>) -> Way {
+    match peer {
+        Some(peer) => Way::Udp(peer),
+        None => Way::Unix,
+    }
+}
+
+// How it goes on after an event.
+fn turn_after(received: Received) -> Turn
+    ensures { result ≡ turn_of received }
+{
+    match received {
+        Received::Memory => Turn::End(ServeEnd::Memory),
+        Received::Accepted | Received::Refused | Received::Unterminated { .. } => Turn::On,
+    }
+}
+
+impl<S: Store + Drop, K: Keeping<S> + Drop, N: Output + Drop, R: Output + Drop> Server<S, K, N, R> {
+    // A connection was opened.
+    pub(crate) fn opened<Q: ServerSource>(
+        &mut self,
+        alloc: Global,
+        source: &mut Q,
+        conn: u32,
+        framing: Framing,
+        peer: SocketAddr,
+    ) -> Turn
+        ensures served { Accepts S.entries K.stands self.old.intake self.new.intake
+            (Opened conn framing) result }
+        ensures reading { reading_of self.new.intake.collector ≡ reading_of self.old.intake.collector }
+        ensures full { self.new.full ≡ self.old.full }
+        ensures turn { IsEventTurn result }
+        ensures closes { (Q.state source.new ≡ Q.state source.old)
+            ⊎ Closes (Q.state source.old) (Q.state source.new) conn }
+    {
+        let way = Way::Stream(framing, peer);
+        match self.intake.receive(alloc, Event::Opened { conn, framing }) {
+            Received::Accepted => {
+                self.peers.set(conn, Some(way));
+                self.report.count_connection();
+                Turn::On
+            }
+            received => {
+                source.close(conn);
+                self.report.tell(alloc, way, Happening::TurnedAway);
+                turn_after(received)
+            }
+        }
+    }
+
+    // Ends a connection that can go on no more.
+    fn lose<Q: ServerSource>(&mut self, alloc: Global, source: &mut Q, lost: u32) -> Turn
+        ensures served { (k : Kept) (first : List Entry) (before : List AcceptedEvent)
+            → StandsBy S.entries K.stands self.old.intake k first before
+            → NoneWaits self.old.intake.collector → (here : List AcceptedEvent)
+            × StandsBy S.entries K.stands self.new.intake k first (before ++ here)
+            × ((here ≡ []) ⊎ (here ≡ Ended lost ∷ []))
+            × IfSettled result (NoneWaits self.new.intake.collector) }
+        ensures reading { reading_of self.new.intake.collector ≡ reading_of self.old.intake.collector }
+        ensures full { self.new.full ≡ self.old.full }
+        ensures turn { IsEventTurn result }
+        ensures closes { (Q.state source.new ≡ Q.state source.old)
+            ⊎ Closes (Q.state source.old) (Q.state source.new) lost }
+    {
+        source.close(lost);
+        self.peers.set(lost, None);
+        let received = self.intake.receive(alloc, Event::Ended { conn: lost });
+        turn_after(received)
+    }
+
+    // Octets came on a connection.
+    pub(crate) fn piece<Q: ServerSource>(
+        &mut self,
+        alloc: Global,
+        source: &mut Q,
+        conn: u32,
+        octets: &[u8],
+    ) -> Turn
+        ensures served { Accepts S.entries K.stands self.old.intake self.new.intake
+            (Piece conn octets.now) result }
+        ensures reading { reading_of self.new.intake.collector ≡ reading_of self.old.intake.collector }
+        ensures full { self.new.full ≡ self.old.full }
+        ensures turn { IsEventTurn result }
+        ensures closes { (Q.state source.new ≡ Q.state source.old)
+            ⊎ Closes (Q.state source.old) (Q.state source.new) conn }
+    {
+        let way = self.peers.get(conn);
+        let received = self.intake.receive(alloc, Event::Piece { conn, octets });
+        self.report.count_octets(octets.len());
+        self.report
+            .outcomes(alloc, way, self.intake.outcomes.as_slice(), None);
+        match received {
+            Received::Memory => Turn::End(ServeEnd::Memory),
+            Received::Refused => self.lose(alloc, source, conn),
+            Received::Accepted | Received::Unterminated { .. } => {
+                if ends_in_bad_count(self.intake.outcomes.as_slice()) {
+                    return self.lose(alloc, source, conn);
+                }
+                Turn::On
+            }
+        }
+    }
+
+    // A connection has ended.
+    pub(crate) fn ended(&mut self, alloc: Global, conn: u32, end: ConnectionEnd) -> Turn
+        ensures served { Accepts S.entries K.stands self.old.intake self.new.intake
+            (Ended conn) result }
+        ensures reading { reading_of self.new.intake.collector ≡ reading_of self.old.intake.collector }
+        ensures full { self.new.full ≡ self.old.full }
+        ensures turn { IsEventTurn result }
+    {
+        let way = self.peers.get(conn);
+        self.peers.set(conn, None);
+        let received = self.intake.receive(alloc, Event::Ended { conn });
+        self.report.ended(alloc, way, received, end);
+        turn_after(received)
+    }
+
+    // A datagram came.
+    pub(crate) fn datagram(
+        &mut self,
+        alloc: Global,
+        peer: Option<SocketAddr>,
+        octets: &[u8],
+    ) -> Turn
+        ensures served { Accepts S.entries K.stands self.old.intake self.new.intake
+            (Datagram octets.now) result }
+        ensures reading { reading_of self.new.intake.collector ≡ reading_of self.old.intake.collector }
+        ensures full { self.new.full ≡ self.old.full }
+        ensures turn { IsEventTurn result }
+    {
+        let way = way_of(peer);
+        let received = self.intake.receive(alloc, Event::Datagram { octets });
+        self.report.count_octets(octets.len());
+        self.report
+            .outcomes(alloc, way, self.intake.outcomes.as_slice(), Some(octets));
+        turn_after(received)
+    }
+
+    // A connection came that there was no room for.
+    pub(crate) fn turned_away(&mut self, alloc: Global, framing: Framing, peer: SocketAddr) -> Turn
+        ensures same { self.new.intake ≡ self.old.intake }
+        ensures turn { result ≡ On }
+    {
+        let way = Way::Stream(framing, peer);
+        self.report.tell(alloc, way, Happening::TurnedAway);
+        Turn::On
+    }
+
+    // What a fault of the disk comes to. That it is full is told once.
+    fn fault(&mut self, fault: KeepFault) -> Turn
+        ensures same { self.new.intake ≡ self.old.intake }
+        ensures turn { FaultsAs self.new.full result }
+    {
+        match fault {
+            KeepFault::Full => {
+                self.report.tell_full(self.full);
+                self.full = true;
+                Turn::On
+            }
+            KeepFault::Failed => {
+                self.report.tell_text(b"store fault\n");
+                Turn::End(ServeEnd::Disk)
+            }
+            KeepFault::Memory => Turn::End(ServeEnd::Memory),
+        }
+    }
+
+    // Commits all that came.
+    fn commit(&mut self, alloc: Global) -> Turn
+        ensures served { CommitsAll S.entries K.stands self.old.intake self.new.intake self.new.full result }
+        ensures settled { NoneWaits self.old.intake.collector → NoneWaits self.new.intake.collector }
+        ensures reading { reading_of self.new.intake.collector ≡ reading_of self.old.intake.collector }
+        ensures turn { IsCommitTurn result }
+    {
+        match self.intake.commit(alloc) {
+            Ok(taken) => {
+                self.report.committed(taken);
+                self.full = false;
+                Turn::On
+            }
+            Err(fault) => self.fault(fault),
+        }
+    }
+
+    // A checkpoint, where the journal is long.
+    fn checkpoint(&mut self, alloc: Global, checkpoint_len: u64) -> Turn
+        ensures stands { (k : Kept) (first : List Entry) (before : List AcceptedEvent)
+            → StandsBy S.entries K.stands self.old.intake k first before
+            → StandsBy S.entries K.stands self.new.intake k first before }
+        ensures collector { self.new.intake.collector ≡ self.old.intake.collector }
+        ensures full { UnlessStopped result self.new.full (self.old.full ≡ false) }
+        ensures turn { IsCommitTurn result }
+    {
+        if self.full || self.intake.keeper.journal_len() <= checkpoint_len {
+            return Turn::On;
+        }
+        match self.intake.checkpoint(alloc) {
+            Ok(()) => Turn::On,
+            Err(fault) => self.fault(fault),
+        }
+    }
+
+    // Counts a tick, and tells the counts each so often.
+    fn count_tick(&mut self, count_ticks: u64)
+        ensures same { self.new.intake ≡ self.old.intake }
+        ensures full { self.new.full ≡ self.old.full }
+    {
+        self.ticks = self.ticks.saturating_add(1);
+        if count_ticks != 0 && self.ticks >= count_ticks {
+            self.ticks = 0;
+            self.report.tell_counts();
+        }
+    }
+
+    // The time of a period is up.
+    pub(crate) fn tick(&mut self, alloc: Global, options: &ServeOptions) -> Turn
+        ensures served { CommitsAll S.entries K.stands self.old.intake self.new.intake self.new.full result }
+        ensures settled { NoneWaits self.old.intake.collector → NoneWaits self.new.intake.collector }
+        ensures reading { reading_of self.new.intake.collector ≡ reading_of self.old.intake.collector }
+        ensures turn { IsCommitTurn result }
+    {
+        match self.commit(alloc) {
+            Turn::On => {
+                self.count_tick(options.count_ticks);
+                self.checkpoint(alloc, options.checkpoint_len)
+            }
+            end => end,
+        }
+    }
+
+    // Ends so, unless the disk is full: then the source is asked again.
+    fn end_with(&mut self, end: ServeEnd) -> Turn
+        ensures same { self.new.intake ≡ self.old.intake }
+        ensures full { self.new.full ≡ self.old.full }
+        ensures turn { EndsUnlessFull self.old.full end result }
+    {
+        if self.full {
+            return Turn::On;
+        }
+        self.report.tell_end(end);
+        Turn::End(end)
+    }
+
+    // The source gives nothing more: all that came is committed, and then it ends so.
+    pub(crate) fn finish(&mut self, alloc: Global, end: ServeEnd) -> Turn
+        ensures served { CommitsAll S.entries K.stands self.old.intake self.new.intake self.new.full result }
+        ensures settled { NoneWaits self.old.intake.collector → NoneWaits self.new.intake.collector }
+        ensures reading { reading_of self.new.intake.collector ≡ reading_of self.old.intake.collector }
+        ensures turn { IsCommitTurn result ⊎ (result ≡ End end) }
+    {
+        match self.commit(alloc) {
+            Turn::On => self.end_with(end),
+            turn => turn,
+        }
+    }
+
+    // The disk was full: it is opened again, and what waits is committed.
+    pub(crate) fn try_again(&mut self, alloc: Global) -> Turn
+        ensures served { CommitsAll S.entries K.stands self.old.intake self.new.intake self.new.full result }
+        ensures settled { NoneWaits self.old.intake.collector → NoneWaits self.new.intake.collector }
+        ensures reading { reading_of self.new.intake.collector ≡ reading_of self.old.intake.collector }
+        ensures turn { IsCommitTurn result }
+    {
+        match self.intake.reopen(alloc) {
+            Ok(()) => self.commit(alloc),
+            Err(fault) => self.fault(fault),
+        }
+    }
+}

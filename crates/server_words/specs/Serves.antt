@@ -1,0 +1,47 @@
+-- What the words of `serve` ask for.
+use Rattle.std.specs.Prelude.{List, Option, codes, map, option_and_then, option_map}
+use Rattle.clap.specs.Walk.{Row, Text, first_of}
+use Rattle.option_values.specs.Numbers.{number_in}
+use Rattle.option_values.specs.Readings.{reading_in}
+use Rattle.option_values.specs.Values.{is_given_in, optional}
+use Rattle.server_words.specs.Listeners.{ListenerAsked, listener_asked, listeners_in}
+use Rattle.server_words.specs.declared.serve_words.ServeOptions.{ServeOptions}
+use Rattle.server_words.specs.declared.serve_words.ServeWords.{ServeWords}
+
+-- a folder, what is listened on, and what the server is to do; texts without where they lie in memory
+pub record ServeAsked : Type 0 where
+  pub dir : Text
+  pub listeners : List ListenerAsked
+  pub options : ServeOptions
+
+abbrev pub serve_asked : ServeWords → ServeAsked
+serve_asked words = record {
+  dir = words.dir.now;
+  listeners = map listener_asked words.listeners.items;
+  options = words.options;
+}
+
+-- the values of the options of the server
+abbrev pub options_in : List Row → Option ServeOptions
+options_in rows =
+    option_and_then (λ connections. option_and_then (λ idle. option_and_then (λ commit. option_and_then (λ checkpoint.
+    option_map (λ way. record {
+      connections = connections;
+      idle_seconds = idle;
+      commit_millis = commit;
+      checkpoint_mib = checkpoint;
+      until_eof = is_given_in (codes "until-eof") rows;
+      reading = way;
+    }) (reading_in rows)) (option_and_then (number_in 1 1_048_576) (first_of (codes "checkpoint") rows)))
+    (option_and_then (number_in 0 3_600_000) (first_of (codes "commit") rows)))
+    (optional (number_in 1 31_536_000) (first_of (codes "idle") rows)))
+    (option_and_then (number_in 1 16_384) (first_of (codes "connections") rows))
+
+-- the values of the words of `serve`
+abbrev pub serve_in : List Row → Option ServeAsked
+serve_in rows =
+    option_and_then (λ dir. option_and_then (λ options. option_map (λ listeners. record {
+      dir = dir;
+      listeners = listeners;
+      options = options;
+    }) (listeners_in rows)) (options_in rows)) (first_of (codes "DIR") rows)

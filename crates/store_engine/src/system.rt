@@ -1,0 +1,189 @@
+//! A folder of the system's files.
+ghost use Rattle.std.specs.Prelude.{◌≡◌, ◌≢◌, IfOk, IsNone, IsSome, option_copied};
+ghost use Rattle.store_engine.specs.Systems.{last_error_of};
+
+use crate::lines::NoStore;
+use disk::{DiskFault, FileName};
+use folder_disk::FileError;
+use octet_devices::FromRead;
+use std::alloc::{AllocError, Global};
+use std::io::{self, ErrorKind, Read};
+use std::rt::Files;
+use std::{fs, str};
+use store_reading::{Folder, is_journal, segment_day};
+
+/// A folder of the system's files, which are only opened for reading. No contract knows what they
+/// have.
+#[derive(Drop)]
+pub struct SystemFolder<R> {
+    rt: R,
+    // the folder's path with a slash at its end, by which the system opens nothing but a folder
+    path: String,
+    last_error: Option<FileError>,
+}
+
+/// A file whose reads are made again if a signal interrupted them.
+#[derive(Drop)]
+pub struct Uninterrupted<F> {
+    file: F,
+}
+
+impl<F: Read> Read for Uninterrupted<F> {
+    fn read(&mut self, buf: &mut [u8]) -> io::Result<usize> {
+        for _ in 0..u64::MAX {
+            match self.file.read(buf) {
+                Err(error) if error.kind() == ErrorKind::Interrupted => {}
+                answer => return answer,
+            }
+        }
+        Err(ErrorKind::Interrupted.into())
+    }
+}
+
+fn with_slash(alloc: Global, path: &str) -> Result<String, AllocError> {
+    let mut text = String::from_str(alloc, path)?;
+    if !path.is_empty() && !path.ends_with('/') {
+        text.push('/')?;
+    }
+    Ok(text)
+}
+
+// a name that the folder's listing has and no path can
+fn is_no_text(error: &io::Error) -> bool {
+    error.kind() == ErrorKind::InvalidFilename && error.raw_os_error().is_none()
+}
+
+// What an error of this kind means, where a file was to be opened.
+fn opening_fault(kind: ErrorKind) -> DiskFault
+    ensures { result ≢ DiskFault.Full }
+{
+    match kind {
+        ErrorKind::NotFound => DiskFault::Missing,
+        ErrorKind::OutOfMemory => DiskFault::Memory,
+        _ => DiskFault::Failed,
+    }
+}
+
+// Whether a file has the name of a journal or of a segment.
+fn is_of_store(name: &FileName) -> bool {
+    is_journal(name.as_octets()) || segment_day(name.as_octets()).is_some()
+}
+
+// What it means where the names were to be read.
+fn listing_fault(kind: ErrorKind) -> DiskFault
+    ensures { result ≢ DiskFault.Full }
+{
+    match kind {
+        ErrorKind::OutOfMemory => DiskFault::Memory,
+        _ => DiskFault::Failed,
+    }
+}
+
+impl<R: Files + AllocGlobal + Clone + Drop> SystemFolder<R> {
+    // A folder that exists and may be read.
+    fn open_folder(rt: &R, path: &str) -> io::Result<SystemFolder<R>>
+        ensures { IfOk result (λ folder. IsNone (last_error_of folder)) }
+    {
+        let path = with_slash(rt.alloc(), path)?;
+        drop(fs::open(rt, path.as_str())?);
+        Ok(SystemFolder {
+            rt: rt.clone()?,
+            path,
+            last_error: None,
+        })
+    }
+
+    /// A store: a folder that exists and may be read, in which there is a journal or a segment.
+    ///
+    /// # Errors
+    /// That of the system if it cannot be opened so, or lack of memory; or that it is no store.
+    pub fn open(rt: &R, path: &str) -> Result<SystemFolder<R>, NoStore>
+        ensures { IfOk result (λ folder. IsNone (last_error_of folder)) }
+    {
+        let folder = SystemFolder::open_folder(rt, path).map_err(NoStore::System)?;
+        let names = folder.names_of(rt.alloc()).map_err(NoStore::System)?;
+        if names.iter().any(is_of_store) {
+            return Ok(folder);
+        }
+        Err(NoStore::NoFiles)
+    }
+
+    /// Why a call last failed (`Failed`), as the system reported it; None if none has.
+    pub fn last_error(&self) -> Option<&FileError>
+        ensures { option_copied result ≡ last_error_of self.now }
+    {
+        self.last_error.as_ref()
+    }
+
+    // The fault, where the system told this error of a file, or of the folder. It is kept where the folder
+    // failed.
+    fn failed(&mut self, fault: DiskFault, name: Option<FileName>, error: io::Error) -> DiskFault
+        ensures fault { result ≡ fault }
+        ensures kept { fault ≡ DiskFault.Failed → IsSome (last_error_of self.new) }
+        ensures stays { IsSome (last_error_of self.old) → IsSome (last_error_of self.new) }
+    {
+        if matches!(fault, DiskFault::Failed) {
+            self.last_error = Some(FileError { name, error });
+        }
+        fault
+    }
+
+    fn names_of(&self, alloc: Global) -> io::Result<Vec<FileName>> {
+        let mut names = Vec::new(alloc);
+        for entry in fs::read_dir(&self.rt, self.path.as_str())? {
+            let entry = match entry {
+                Ok(entry) => entry,
+                Err(error) if is_no_text(&error) => continue,
+                Err(error) => return Err(error),
+            };
+            if let Some(name) = FileName::new(alloc, entry.file_name().as_bytes())? {
+                names.push(name)?;
+            }
+        }
+        Ok(names)
+    }
+
+    fn open_file(&self, name: &FileName) -> io::Result<R::File> {
+        let Ok(name) = str::from_utf8(name.as_octets()) else {
+            return Err(ErrorKind::InvalidFilename.into());
+        };
+        let mut path = self.path.clone()?;
+        path.push_str(name)?;
+        fs::open(&self.rt, path.as_str())
+    }
+}
+
+impl<R: Files + AllocGlobal + Clone + Drop> Folder for SystemFolder<R>
+where
+    R::File: Read + Drop,
+{
+    ghost use Rattle.std.specs.Prelude.{None};
+
+    type File = FromRead<Uninterrupted<R::File>>;
+
+    ghost files = { λ _ _. None };
+
+    ghost tells = { λ _. ⊥ };
+
+    ghost has_failed = { λ folder. IsSome folder.last_error };
+
+    fn names(&mut self, alloc: Global) -> Result<Vec<FileName>, DiskFault> {
+        match self.names_of(alloc) {
+            Ok(names) => Ok(names),
+            Err(error) => Err(self.failed(listing_fault(error.kind()), None, error)),
+        }
+    }
+
+    fn open(
+        &mut self,
+        alloc: Global,
+        name: &FileName,
+    ) -> Result<FromRead<Uninterrupted<R::File>>, DiskFault> {
+        match self.open_file(name) {
+            Ok(file) => Ok(FromRead::new(Uninterrupted { file })),
+            Err(error) => {
+                Err(self.failed(opening_fault(error.kind()), name.copy(alloc).ok(), error))
+            }
+        }
+    }
+}

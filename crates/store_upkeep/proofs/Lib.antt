@@ -1,0 +1,3 @@
+pub mod Hashed
+pub mod Readable
+pub mod Verdicts

@@ -1,0 +1,156 @@
+-- What is said of files.
+use Rattle.std.proofs.Common.{◌≡◌, ◌⊎◌, ℕ, ◌+◌, ◌-◌, List, [], ◌∷◌, ◌++◌, length, take, Option, None, Some, inl, inr}
+use Rattle.std.proofs.Common.{refl, sym, ap, subst, ◌∙◌, append_assoc, length-append, map, arith}
+use Rattle.std.specs.Prelude.{◌↔◌, Contains, Err, IfOk, IfSome, IsNone, IsSome, IsSomeAnd, Ok, Result, codes}
+use Rattle.std.specs.List.{AllByRecursion}
+use Rattle.std.proofs.lemmas.List.{map-append, take_at}
+use Rattle.std.proofs.lemmas.List.Elements.{Contains-append_left, Contains-push, Contains-push_cases}
+use Rattle.disk.specs.States.{Files}
+use Rattle.octet_devices.specs.Device.{InputState}
+use Rattle.archive_text.proofs.Members.{all_append}
+use Rattle.record_store.specs.Names.{IsJournal, IsSegment}
+use Rattle.record_store.proofs.Named.{not_both}
+use Rattle.store_reading.specs.Days.{IsDayText}
+use Rattle.store_reading.specs.Folders.{AreNamesOf, Opens}
+use Rattle.store_upkeep.specs.Damages.{AreDamaged, IsFoundBy, IsVerdict, IsWholeOrListed, OfLeft, Refutes, names_of}
+use Rattle.store_upkeep.specs.Whole.{IsDamagedAt, IsWholeAt, IsWholeFile, IsWholeJournal, IsWholeSegment}
+use Rattle.store_upkeep.specs.declared.damage.CheckFault.{CheckFault}
+use Rattle.store_upkeep.specs.declared.damage.CheckFault.TheVariants.{Damaged, Input, Memory}
+use Rattle.store_upkeep.specs.declared.damage.Damage.{Damage}
+use Rattle.store_upkeep.specs.declared.damage.DamagedFile.{DamagedFile}
+
+-- ---- a file that is not there
+
+none_where : (o : Option (List ℕ)) → (IsSome o → ⊥) → IsNone o
+none_where None h = refl
+none_where (Some x) h = absurd (h refl)
+
+pub not_listed : (files : Files) (names : List (List ℕ)) (name : List ℕ) → AreNamesOf files names
+    → (Contains names name → ⊥) → IsNone (files name)
+not_listed files names name listed not = none_where (files name) (λ some. not ((listed name).1 some))
+
+none_some : (o : Option (List ℕ)) (file : List ℕ) → IsNone o → o ≡ Some file → ⊥
+none_some None file none is = absurd (cc is)
+none_some (Some x) file none is = absurd (cc none)
+
+pub whole_none : (files : Files) (name : List ℕ) → IsNone (files name) → IsWholeAt files name
+whole_none files name none file is = absurd (none_some (files name) file none is)
+
+-- ---- a file that is opened
+
+left_of : (o left : Option (List ℕ)) (file : List ℕ) → IsSomeAnd o (λ octets. left ≡ Some octets) → o ≡ Some file
+    → left ≡ Some file
+left_of None left file opened is = absurd opened
+left_of (Some x) left file opened is = opened ∙ is
+
+damaged_where : (o left : Option (List ℕ)) (P : List ℕ → Type 0) → IsSomeAnd o (λ octets. left ≡ Some octets)
+    → ((file : List ℕ) → left ≡ Some file → ¬ (P file)) → IsSomeAnd o (λ file. ¬ (P file))
+damaged_where None left P opened not = absurd opened
+damaged_where (Some file) left P opened not = not file opened
+
+-- the day in a segment's name
+day_at : (day name : List ℕ) (s : IsSegment day name) → take (length name - 73) name ≡ day
+day_at day name s =
+    let whole : name ≡ day ++ ((46 ∷ s.digest) ++ codes ".archive") =
+    s.name_is ∙ append_assoc day (46 ∷ s.digest) (codes ".archive") in
+    let size : length day ≡ length name - 73 =
+    omega (
+      arith,
+      ap length whole,
+      length-append day ((46 ∷ s.digest) ++ codes ".archive"),
+      length-append (46 ∷ s.digest) (codes ".archive"),
+      s.long,
+    ) in
+    ap (take (length name - 73)) whole ∙ take_at day ((46 ∷ s.digest) ++ codes ".archive") (length name - 73) size
+
+pub day_named : (a b name : List ℕ) → IsSegment a name → IsSegment b name → a ≡ b
+day_named a b name s t = sym (day_at a name s) ∙ day_at b name t
+
+pub segment_whole_at : (files : Files) (name day : List ℕ) (d : InputState) → IsSegment day name → Opens files name d
+    → OfLeft d (IsWholeSegment day name) → IsWholeAt files name
+segment_whole_at files name day d segment opened whole file is = record {
+  journal = λ journal. absurd (not_both day name journal segment);
+  segment = λ other text named. subst (λ (x : List ℕ). IsWholeSegment x name file)
+      (day_named day other name segment named) (whole file (left_of (files name) d.left file opened is));
+}
+
+pub journal_whole_at : (files : Files) (name : List ℕ) (d : InputState) → IsJournal name → Opens files name d
+    → OfLeft d IsWholeJournal → IsWholeAt files name
+journal_whole_at files name d journal opened whole file is = record {
+  journal = λ named. whole file (left_of (files name) d.left file opened is);
+  segment = λ day text named. absurd (not_both day name journal named);
+}
+
+pub other_whole_at : (files : Files) (name : List ℕ) → (IsJournal name → ⊥)
+    → ((day : List ℕ) → IsDayText day → IsSegment day name → ⊥) → IsWholeAt files name
+other_whole_at files name no_journal no_segment file is = record {
+  journal = λ journal. absurd (no_journal journal);
+  segment = λ day text named. absurd (no_segment day text named);
+}
+
+-- what a check found of a file that was opened
+found_verdict : (files : Files) (name : List ℕ) (d : InputState) (P : List ℕ → Type 0) (fault : CheckFault)
+    (found : Option Damage) → Opens files name d → ((file : List ℕ) → IsWholeFile name file → P file)
+    → OfLeft d (λ file. Refutes fault (P file)) → IsFoundBy fault found → IsVerdict found files name
+found_verdict files name d P (Damaged damage) found opened of refuted is =
+    subst (λ (o : Option Damage). IsVerdict o files name) (sym is)
+    (damaged_where (files name) d.left (IsWholeFile name) opened (λ file left w. refuted file left (of file w)))
+found_verdict files name d P (Input fault) found opened of refuted is = absurd is
+found_verdict files name d P Memory found opened of refuted is = absurd is
+
+pub result_verdict : {E : Type 0} (files : Files) (name : List ℕ) (d : InputState) (P : List ℕ → Type 0)
+    (fault : CheckFault) (r : Result (Option Damage) E) → Opens files name d
+    → ((file : List ℕ) → IsWholeFile name file → P file) → OfLeft d (λ file. Refutes fault (P file))
+    → IfOk r (IsFoundBy fault) → IfOk r (λ found. IsVerdict found files name)
+result_verdict files name d P fault (Ok found) opened of refuted is =
+    found_verdict files name d P fault found opened of refuted is
+result_verdict files name d P fault (Err e) opened of refuted is = tt
+
+-- ---- those that are damaged
+
+pub damaged_push : (files : Files) (ds : List DamagedFile) (d : DamagedFile) → AreDamaged files ds
+    → IsDamagedAt files d.name → AreDamaged files (ds ++ d ∷ [])
+damaged_push files ds d all one =
+    all_append (λ (x : DamagedFile). IsDamagedAt files x.name) ds (d ∷ []) all (one, tt)
+
+names_push : (ds : List DamagedFile) (d : DamagedFile) → names_of (ds ++ d ∷ []) ≡ names_of ds ++ d.name ∷ []
+names_push ds d = map-append (λ (x : DamagedFile). x.name) ds (d ∷ [])
+
+pub stays_push : (ds : List DamagedFile) (d : DamagedFile) (name : List ℕ) → Contains (names_of ds) name
+    → Contains (names_of (ds ++ d ∷ [])) name
+stays_push ds d name has =
+    subst (λ (l : List (List ℕ)). Contains l name) (sym (names_push ds d))
+    (Contains-append_left (names_of ds) (d.name ∷ []) name has)
+
+pub listed_push : (ds : List DamagedFile) (d : DamagedFile) → Contains (names_of (ds ++ d ∷ [])) d.name
+listed_push ds d =
+    subst (λ (l : List (List ℕ)). Contains l d.name) (sym (names_push ds d)) (Contains-push (names_of ds) d.name)
+
+pub listed_on : (files : Files) (old new : List DamagedFile) (name : List ℕ)
+    → ((other : List ℕ) → Contains (names_of old) other → Contains (names_of new) other)
+    → IsWholeOrListed files old name → IsWholeOrListed files new name
+listed_on files old new name stays (inl whole) = inl whole
+listed_on files old new name stays (inr listed) = inr (stays name listed)
+
+-- each name that is listed, and each that is not
+pub all_names : (files : Files) (names : List (List ℕ)) (ds : List DamagedFile) → AreNamesOf files names
+    → ((name : List ℕ) → Contains names name → IsWholeOrListed files ds name) → (name : List ℕ)
+    → IsWholeOrListed files ds name
+all_names files names ds listed of name = at (files name) refl
+  where
+    at : (o : Option (List ℕ)) → files name ≡ o → IsWholeOrListed files ds name
+    at None is = inl (λ file found. absurd (cc (sym is ∙ found)))
+    at (Some file) is = of name ((listed name).1 (subst IsSome (sym is) refl))
+
+pub names_more : (P : List ℕ → Type 0) (names : List (List ℕ)) (last : List ℕ)
+    → ((name : List ℕ) → Contains names name → P name) → P last → (name : List ℕ)
+    → Contains (names ++ last ∷ []) name → P name
+names_more P names last before here name has =
+    elim (Contains-push_cases names last name has) [ inl there ↦ before name there | inr is ↦ subst P is here ]
+
+-- ---- what an input gave
+
+pub of_given : (left : Option (List ℕ)) (octets : List ℕ) (P : List ℕ → Type 0)
+    → IfSome left (λ (input : List ℕ). octets ≡ input) → P octets → (file : List ℕ) → left ≡ Some file → P file
+of_given None octets P given p file is = absurd (cc is)
+of_given (Some input) octets P given p file is = let same : input ≡ file = cc is in subst P (given ∙ same) p

@@ -1,0 +1,12 @@
+use Rattle.archive_streams.specs.Entries.{IsOpen, still_to_come}
+use Rattle.store_upkeep.specs.Damages.{HashesOf}
+use Rattle.store_upkeep.proofs.segment_check.hash_segment.Given as goal
+
+abbrev pub invariant-entries : goal.invariant-entries
+invariant-entries g l = record {
+  unclosed : IsOpen l.entries;
+  hashes : HashesOf l.day l.entries l.hasher (g.R.Input.state l.fn.reader) (g.R.Input.state l.reader);
+}
+
+abbrev pub decreases-entries : goal.decreases-entries
+decreases-entries g l = still_to_come l.entries

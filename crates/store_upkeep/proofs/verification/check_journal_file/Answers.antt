@@ -1,0 +1,7 @@
+use Rattle.store_upkeep.proofs.Verdicts.{journal_whole_at}
+use Rattle.store_upkeep.proofs.verification.check_journal_file.Goals as goal
+
+pub returns-in-Ok-clause-verdict : goal.returns-in-Ok-clause-verdict
+returns-in-Ok-clause-verdict g c tells journal =
+    journal_whole_at (g.F.Folder.files c.args.folder.now) c.args.name.now (g.F.File.Input.state c.in-Some.file) journal
+    (rw c.in-Some.is at (c.in_ok-file.ensures.opened tells)) c.in-Ok.ensures.whole

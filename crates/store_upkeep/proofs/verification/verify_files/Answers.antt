@@ -1,0 +1,53 @@
+use Rattle.std.proofs.Common.{◌∷◌, ◌++◌, [], List, ℕ, ap, refl, subst, sym, take, ◌∙◌}
+use Rattle.std.specs.Prelude.{Contains}
+use Rattle.std.proofs.lemmas.List.{take_all, take_more}
+use Rattle.disk.specs.States.{Files}
+use Rattle.store_reading.proofs.Held.{no_name}
+use Rattle.store_upkeep.specs.Damages.{AreDamaged, IsWholeOrListed}
+use Rattle.store_upkeep.proofs.Verdicts.{listed_on, names_more}
+use Rattle.store_upkeep.proofs.verification.verify_files.Goals as goal
+
+pub names-init : goal.names-init
+names-init g c = record {
+  told = λ t. t;
+  same = λ t. refl;
+  damaged = λ t h. h;
+  listed = λ t name has. absurd (no_name (λ (n : List ℕ). Unit {0}) (name, has, tt));
+}
+
+pub returns-in_err-verify_file-clause-damaged : goal.returns-in_err-verify_file-clause-damaged
+returns-in_err-verify_file-clause-damaged g c t h =
+    let before = c.verify_file.ensures.told t in
+    let same = c.names.invariant.same before in
+    subst (λ (f : Files). AreDamaged f c.verify_file.new.damaged.items) same
+    (c.verify_file.ensures.damaged t
+    (subst (λ (f : Files). AreDamaged f c.names.damaged.items) (sym same) (c.names.invariant.damaged before h)))
+
+pub names-preserved : goal.names-preserved
+names-preserved g c =
+    let first = take c.names.name-index c.args.names.now in
+    let files = g.F.Folder.files c.args.folder.now in
+    let mid = c.names.damaged.items in
+    let new = c.verify_file.new.damaged.items in
+    let more = take_more c.args.names.now c.names.name-index c.name-item.result c.names-test.true
+    ∙ ap (λ (n : List ℕ). first ++ n ∷ []) (sym c.name-item.is) in
+    record {
+      told = λ t. c.names.invariant.told (c.verify_file.ensures.told t);
+      same = λ t. c.verify_file.ensures.same t ∙ c.names.invariant.same (c.verify_file.ensures.told t);
+      damaged = λ t h. let before = c.verify_file.ensures.told t in
+          let same = c.names.invariant.same before in
+          subst (λ (f : Files). AreDamaged f new) same
+          (c.verify_file.ensures.damaged t
+          (subst (λ (f : Files). AreDamaged f mid) (sym same) (c.names.invariant.damaged before h)));
+      listed = λ t name has. let before = c.verify_file.ensures.told t in
+          names_more (λ (n : List ℕ). IsWholeOrListed files new n) first c.name-item.result
+          (λ n there. listed_on files mid new n c.verify_file.ensures.stays (c.names.invariant.listed before n there))
+          (subst (λ (f : Files). IsWholeOrListed f new c.name-item.result) (c.names.invariant.same before)
+          (c.in_ok-verify_file.ensures.listed t)) name (subst (λ (l : List (List ℕ)). Contains l name) more has);
+    }
+
+pub returns-clause-listed : goal.returns-clause-listed
+returns-clause-listed g c t name has =
+    c.names.invariant.listed t name
+    (subst (λ (l : List (List ℕ)). Contains l name) (sym (take_all c.names.name-index c.args.names.now c.names-test.false))
+    has)

@@ -1,0 +1,48 @@
+-- Files of a store that are whole.
+use Rattle.std.specs.Prelude.{◌≡◌, ℕ, List, Option, Some, IsSomeAnd}
+use Rattle.std.specs.List.{AllByRecursion}
+use Rattle.disk.specs.States.{Files}
+use Rattle.journal.specs.Batches.{HasBatches}
+use Rattle.archive_text.specs.Entries.{Entry}
+use Rattle.record_store.specs.Holdings.{IsBatch}
+use Rattle.record_store.specs.Names.{IsJournal, IsSegment}
+use Rattle.record_store.specs.Segments.{IsSegmentOf, segment_name}
+use Rattle.store_reading.specs.Days.{IsDayText}
+
+-- octets are a sequence of entries
+abbrev pub IsReadable : List ℕ → Type 0
+IsReadable body = (es : List Entry) × IsBatch es body
+
+-- each batch of a journal is a sequence of entries
+pub record IsWholeJournal (file : List ℕ) : Type 0 where
+  pub bodies : List (List ℕ)
+  pub batches : HasBatches file bodies
+  pub readable : AllByRecursion IsReadable bodies
+
+-- octets are the archive of entries of a day
+abbrev pub IsArchiveOfDay : List ℕ → List ℕ → Type 0
+IsArchiveOfDay day file = (es : List Entry) × IsSegmentOf day file es
+
+-- a segment is the archive of entries of its day, and its name has the SHA-256 of its octets
+pub record IsWholeSegment (day name file : List ℕ) : Type 0 where
+  pub entries : List Entry
+  pub archive : IsSegmentOf day file entries
+  pub named : name ≡ segment_name day file
+
+-- a file is whole, as a journal or as a segment where its name is that of one
+pub record IsWholeFile (name file : List ℕ) : Type 0 where
+  pub journal : IsJournal name → IsWholeJournal file
+  pub segment : (day : List ℕ) → IsDayText day → IsSegment day name → IsWholeSegment day name file
+
+-- the file under a name, if there is one, is whole
+abbrev pub IsWholeAt : Files → List ℕ → Type 0
+IsWholeAt files name = (file : List ℕ) → files name ≡ Some file → IsWholeFile name file
+
+-- there is one, and it is not whole
+abbrev pub IsDamagedAt : Files → List ℕ → Type 0
+IsDamagedAt files name = IsSomeAnd (files name) (λ file. ¬ (IsWholeFile name file))
+
+-- the one is so exactly where the other is
+pub record IsAsGood (one other : Type 0) : Type 0 where
+  pub there : one → other
+  pub back : other → one

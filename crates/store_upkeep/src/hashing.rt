@@ -1,0 +1,51 @@
+//! Digests of segments, and their names.
+ghost use Rattle.std.specs.Prelude.{◌≡◌, ◌++◌, ◌∷◌, ◌<◌, ◌^◌, IfOk, List, ℕ, codes, length};
+ghost use Rattle.hex.specs.Hex.{encode_lower};
+ghost use Rattle.sha2.specs.Hashers.{Holds256};
+ghost use Rattle.sha2.specs.Sha256.{sha256};
+ghost use Rattle.syslog_frame.specs.Frames.{framed};
+ghost use Rattle.syslog_frame.specs.declared.framing.Framing.TheVariants.{Counted};
+
+use itoa::Buffer;
+use sha2::{Digest, Sha256};
+use std::alloc::{AllocError, Global};
+
+/// How many octets a SHA-256 has in hexadecimal.
+pub(crate) const HEX_LEN: usize = 64;
+
+/// Hashes the text of an entry, and gives the number of its octets.
+pub(crate) fn hash_entry(hasher: &mut Sha256, octets: &[u8]) -> u64
+    ensures { (m : List ℕ) → Holds256 hasher.old m
+        → Holds256 hasher.new (m ++ framed Counted octets.now) }
+{
+    let mut buffer = Buffer::new();
+    let count = buffer.format(octets.len()).as_bytes();
+    hasher.update(count);
+    hasher.update(b" ");
+    hasher.update(octets);
+    (octets.len() as u64).saturating_add(count.len() as u64 + 1)
+}
+
+/// The digest of what was hashed, in lower-case hexadecimal.
+pub(crate) fn hexadecimal(hasher: Sha256) -> [u8; HEX_LEN]
+    ensures { (text : List ℕ) → Holds256 hasher text → result ≡ encode_lower (sha256 text) }
+{
+    let mut hex = [0; HEX_LEN];
+    let _ = hex::encode_to_slice(hasher.finalize(), &mut hex);
+    hex
+}
+
+/// The name of a segment, `DAY.HEX.archive`.
+pub(crate) fn segment_octets(
+    alloc: Global,
+    day: &[u8],
+    hex: &[u8; HEX_LEN],
+) -> Result<Vec<u8>, AllocError>
+    ensures { IfOk result (λ v. v.items ≡ day.now ++ 46 ∷ hex.now ++ codes ".archive") }
+{
+    let mut octets = day.to_vec(alloc)?;
+    octets.push(b'.')?;
+    octets.extend_from_slice(hex)?;
+    octets.extend_from_slice(b".archive")?;
+    Ok(octets)
+}

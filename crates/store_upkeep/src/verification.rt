@@ -1,0 +1,199 @@
+//! All files of a store's folder are read.
+ghost use Rattle.std.specs.Prelude.{◌≡◌, Contains, IfOk, IsTrue, List, ℕ, OnOk};
+ghost use Rattle.record_store.specs.Names.{IsJournal, IsSegment};
+ghost use Rattle.store_reading.specs.Days.{IsDayText};
+ghost use Rattle.store_upkeep.specs.Damages.{AreDamaged, IsVerdict, IsWholeOrListed, OpensOrNone, names_of};
+ghost use Rattle.store_upkeep.specs.Damages.{IsFoundBy};
+
+use crate::damage::{CheckFault, Damage, DamagedFile};
+use crate::journal_check::check_journal;
+use crate::segment_check::check_segment;
+use disk::FileName;
+use std::alloc::Global;
+use store_reading::{Day, Folder, ReadFault, is_journal, list, open_file, segment_day};
+
+// how often a file is opened that is there and gone
+const OPENINGS: usize = 64;
+
+// Whether a name is among others.
+fn is_among(names: &[FileName], name: &FileName) -> bool
+    ensures { Contains names.now name.now → IsTrue result }
+{
+    names
+        .iter()
+        .any(|other| other.as_octets() == name.as_octets())
+}
+
+// Opens a file; none where it is gone: a checkpoint or a compaction has put its records elsewhere.
+fn open_listed<F: Folder>(
+    alloc: Global,
+    folder: &mut F,
+    name: &FileName,
+) -> Result<Option<F::File>, ReadFault>
+    ensures opened { F.tells folder.new → IfOk result (λ found.
+        OpensOrNone F.File.state found (F.files folder.old) name.now) }
+    ensures same { F.tells folder.new → F.files folder.new ≡ F.files folder.old }
+    ensures told { F.tells folder.new → F.tells folder.old }
+{
+    'openings: for _ in 0..OPENINGS {
+        match open_file(alloc, folder, name) {
+            Ok(file) => return Ok(Some(file)),
+            Err(ReadFault::Gone) => {}
+            Err(fault) => return Err(fault),
+        }
+        let names = list(alloc, folder)?;
+        if !is_among(&names, name) {
+            return Ok(None);
+        }
+    }
+    Err(ReadFault::Gone)
+}
+
+// What the check of a file found, or why the file was not read.
+fn found_by(alloc: Global, name: &FileName, fault: CheckFault) -> Result<Option<Damage>, ReadFault>
+    ensures { IfOk result (IsFoundBy fault) }
+{
+    match fault {
+        CheckFault::Damaged(damage) => Ok(Some(damage)),
+        CheckFault::Input(fault) => Err(ReadFault::Read {
+            name: name.copy(alloc)?,
+            fault,
+        }),
+        CheckFault::Memory => Err(ReadFault::Memory),
+    }
+}
+
+// What is wrong with a segment.
+fn check_segment_file<F: Folder>(
+    alloc: Global,
+    folder: &mut F,
+    name: &FileName,
+    day: &Day,
+) -> Result<Option<Damage>, ReadFault>
+    ensures verdict { F.tells folder.new → IsDayText day.now → IsSegment day.now name.now →
+        IfOk result (λ found. IsVerdict found (F.files folder.old) name.now) }
+    ensures same { F.tells folder.new → F.files folder.new ≡ F.files folder.old }
+    ensures told { F.tells folder.new → F.tells folder.old }
+{
+    let Some(mut file) = open_listed(alloc, folder, name)? else {
+        return Ok(None);
+    };
+    match check_segment(alloc, name.as_octets(), day, &mut file) {
+        Ok(()) => Ok(None),
+        Err(fault) => found_by(alloc, name, fault),
+    }
+}
+
+// What is wrong with a journal.
+fn check_journal_file<F: Folder>(
+    alloc: Global,
+    folder: &mut F,
+    name: &FileName,
+) -> Result<Option<Damage>, ReadFault>
+    ensures verdict { F.tells folder.new → IsJournal name.now →
+        IfOk result (λ found. IsVerdict found (F.files folder.old) name.now) }
+    ensures same { F.tells folder.new → F.files folder.new ≡ F.files folder.old }
+    ensures told { F.tells folder.new → F.tells folder.old }
+{
+    let Some(mut file) = open_listed(alloc, folder, name)? else {
+        return Ok(None);
+    };
+    match check_journal(alloc, &mut file) {
+        Ok(()) => Ok(None),
+        Err(fault) => found_by(alloc, name, fault),
+    }
+}
+
+// What is wrong with the file of a name, where that counts.
+fn check_file<F: Folder>(
+    alloc: Global,
+    folder: &mut F,
+    name: &FileName,
+) -> Result<Option<Damage>, ReadFault>
+    ensures verdict { F.tells folder.new →
+        IfOk result (λ found. IsVerdict found (F.files folder.old) name.now) }
+    ensures same { F.tells folder.new → F.files folder.new ≡ F.files folder.old }
+    ensures told { F.tells folder.new → F.tells folder.old }
+{
+    if let Some(day) = segment_day(name.as_octets()) {
+        return check_segment_file(alloc, folder, name, &day);
+    }
+    if is_journal(name.as_octets()) {
+        return check_journal_file(alloc, folder, name);
+    }
+    Ok(None)
+}
+
+// Adds the file of a name to those that are damaged, where it is.
+fn verify_file<F: Folder>(
+    alloc: Global,
+    folder: &mut F,
+    name: &FileName,
+    damaged: &mut Vec<DamagedFile>,
+) -> Result<(), ReadFault>
+    ensures damaged { F.tells folder.new → AreDamaged (F.files folder.old) damaged.old.items
+        → AreDamaged (F.files folder.old) damaged.new.items }
+    ensures listed { OnOk result (F.tells folder.new
+        → IsWholeOrListed (F.files folder.old) damaged.new.items name.now) }
+    ensures stays { (other : List ℕ) → Contains (names_of damaged.old.items) other
+        → Contains (names_of damaged.new.items) other }
+    ensures same { F.tells folder.new → F.files folder.new ≡ F.files folder.old }
+    ensures told { F.tells folder.new → F.tells folder.old }
+{
+    let Some(damage) = check_file(alloc, folder, name)? else {
+        return Ok(());
+    };
+    let name = name.copy(alloc)?;
+    damaged.push(DamagedFile { name, damage })?;
+    Ok(())
+}
+
+// Adds the files of these names to those that are damaged, where they are.
+fn verify_files<F: Folder>(
+    alloc: Global,
+    folder: &mut F,
+    names: &[FileName],
+    damaged: &mut Vec<DamagedFile>,
+) -> Result<(), ReadFault>
+    ensures damaged { F.tells folder.new → AreDamaged (F.files folder.old) damaged.old.items
+        → AreDamaged (F.files folder.old) damaged.new.items }
+    ensures listed { OnOk result (F.tells folder.new → (name : List ℕ) → Contains names.now name
+        → IsWholeOrListed (F.files folder.old) damaged.new.items name) }
+    ensures same { F.tells folder.new → F.files folder.new ≡ F.files folder.old }
+    ensures told { F.tells folder.new → F.tells folder.old }
+{
+    'names: for name in names {
+        verify_file(alloc, folder, name, damaged)?;
+    }
+    Ok(())
+}
+
+/// Reads the journals and the segments of a folder, in the order of their names, and adds those
+/// that are damaged to a list: a segment that is no archive of entries of its day, or whose SHA-256
+/// is not the one in its name; a journal with a batch that is no sequence of entries. What follows
+/// the last batch of a journal that is open and whole is no damage, nor is a file that is gone when
+/// it is to be opened.
+///
+/// # Errors
+/// The first fault for which a file or the names could not be read, or lack of memory. The files
+/// before it were read, and those of them that are damaged were added.
+pub fn verify<F: Folder>(
+    alloc: Global,
+    folder: &mut F,
+    damaged: &mut Vec<DamagedFile>,
+) -> Result<(), ReadFault>
+    // each that is added is damaged
+    ensures damaged { F.tells folder.new → AreDamaged (F.files folder.old) damaged.old.items
+        → AreDamaged (F.files folder.old) damaged.new.items }
+
+    // each that is damaged is there
+    ensures listed { OnOk result (F.tells folder.new → (name : List ℕ)
+        → IsWholeOrListed (F.files folder.old) damaged.new.items name) }
+
+    ensures same { F.tells folder.new → F.files folder.new ≡ F.files folder.old }
+    ensures told { F.tells folder.new → F.tells folder.old }
+{
+    let names = list(alloc, folder)?;
+    verify_files(alloc, folder, &names, damaged)?;
+    Ok(())
+}

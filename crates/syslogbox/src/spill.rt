@@ -1,0 +1,42 @@
+//! `archive --spill`, over a folder of the system.
+
+use archive_engine::archive_spilled_input;
+use archive_spill::{FolderSpill, SpilledArchive};
+use driver::{FAULT, report};
+use frame_engine::InputFraming;
+use octet_devices::{FromRead, ToWrite};
+use std::alloc::Global;
+use syslog_legacy::FrameReading;
+
+/// Where records go that do not fit in memory.
+#[derive(Drop)]
+pub struct Room<'a> {
+    /// The folder of files without names.
+    pub dir: &'a str,
+    /// The room of the set in memory, in MiB.
+    pub memory_mib: u32,
+}
+
+/// Writes the records of standard input as an archive to standard output. Returns the exit status.
+pub fn archive(
+    rt: &HostRuntime,
+    alloc: Global,
+    input_framing: InputFraming,
+    reading: FrameReading,
+    room: &Room<'_>,
+) -> u8 {
+    let mut diagnostics = ToWrite::new(rt.stderr());
+    let Ok(spill) = FolderSpill::new(rt, room.dir) else {
+        return report(&mut diagnostics, b"spill fault\n", FAULT);
+    };
+    let octets = (room.memory_mib as usize).saturating_mul(1 << 20);
+    archive_spilled_input(
+        alloc,
+        input_framing,
+        reading,
+        SpilledArchive::new(alloc, spill, octets),
+        &mut FromRead::new(rt.stdin()),
+        &mut ToWrite::new(rt.stdout()),
+        &mut diagnostics,
+    )
+}

@@ -1,0 +1,87 @@
+//! `read` and `verify`, over a folder of the system.
+
+use archive_engine::report_archive_fault;
+use archive_sets::InRange;
+use archive_text::ArchiveFault;
+use driver::{DONE, FAULT, NO_MEMORY, REFUSED, report};
+use octet_devices::{Output, ToWrite, write_all};
+use std::alloc::{AllocError, Global};
+use store_engine::{SystemFolder, read_store, report_no_store, report_read_fault};
+use store_upkeep::{Damage, DamagedFile};
+
+/// Writes the archive of the records in a range of time that a store holds. Returns the exit status.
+pub fn read<W: Output, N: Output>(
+    rt: &HostRuntime,
+    alloc: Global,
+    dir: &str,
+    range: InRange,
+    output: &mut W,
+    diagnostics: &mut N,
+) -> u8 {
+    match SystemFolder::open(rt, dir) {
+        Ok(mut folder) => read_store(alloc, &mut folder, range, output, diagnostics),
+        Err(error) => report_no_store(alloc, &error, diagnostics),
+    }
+}
+
+// The line on a file that is no archive, as `merge` tells it.
+fn archive_line(alloc: Global, name: &str, fault: ArchiveFault) -> Result<Vec<u8>, AllocError> {
+    let words = format!(in alloc; "{name} ")?;
+    let mut line = ToWrite::new(Vec::new(alloc));
+    let _status = report_archive_fault(alloc, words.as_bytes(), fault, REFUSED, &mut line);
+    Ok(line.into_inner())
+}
+
+// The line on a file that is damaged.
+fn damage_line(alloc: Global, file: &DamagedFile) -> Result<Vec<u8>, AllocError> {
+    let name = str::from_utf8(file.name.as_octets()).unwrap_or("?");
+    let text = match file.damage {
+        Damage::Archive(fault) => return archive_line(alloc, name, fault),
+        Damage::OtherDay { at } => format!(in alloc; "{name} day {at}\n")?,
+        Damage::Digest => format!(in alloc; "{name} digest\n")?,
+    };
+    text.as_bytes().to_vec(alloc)
+}
+
+// Writes the lines on all files that are damaged.
+fn tell_damage<W: Output, N: Output>(
+    alloc: Global,
+    damaged: &[DamagedFile],
+    output: &mut W,
+    diagnostics: &mut N,
+) -> Result<(), u8> {
+    for file in damaged {
+        let Ok(line) = damage_line(alloc, file) else {
+            return Err(report(diagnostics, b"want of memory\n", NO_MEMORY));
+        };
+        if write_all(output, &line).is_err() {
+            return Err(report(diagnostics, b"write fault\n", FAULT));
+        }
+    }
+    Ok(())
+}
+
+/// Writes a line for each file of a store that is damaged. Returns the exit status: 0 if none is, 1
+/// if one is, else that of a fault.
+pub fn verify<W: Output, N: Output>(
+    rt: &HostRuntime,
+    alloc: Global,
+    dir: &str,
+    output: &mut W,
+    diagnostics: &mut N,
+) -> u8 {
+    let mut folder = match SystemFolder::open(rt, dir) {
+        Ok(folder) => folder,
+        Err(error) => return report_no_store(alloc, &error, diagnostics),
+    };
+    let mut damaged = Vec::new(alloc);
+    let verified = store_upkeep::verify(alloc, &mut folder, &mut damaged);
+    if let Err(status) = tell_damage(alloc, &damaged, output, diagnostics) {
+        return status;
+    }
+    match verified {
+        Ok(()) if damaged.is_empty() => DONE,
+        Ok(()) => REFUSED,
+        Err(fault) => report_read_fault(alloc, &fault, diagnostics),
+    }
+}

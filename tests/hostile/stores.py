@@ -1,0 +1,450 @@
+"""Ends a program that keeps a store at moments by chance, and cuts the power of its disk.
+
+Kills: the program is given records as fast as it takes them, and is killed at some moment; the same folder is opened
+again by the next round. After each, the folder holds all that was told as committed and nothing that was not sent, `read`
+gives it, and its octets are those that `archive` makes of the same records.
+
+Power cuts: the calls of real runs on the disk are written down (tests/lib/trace.c), of runs that are killed and opened again
+too. From the log disks are built that a cut at any of these calls may leave (tests/lib/power_cut.py), and each is read,
+opened, given one record more, and read again after a checkpoint. From some of them the power is cut a second time, while
+they are opened.
+"""
+import argparse
+import bisect
+import os
+import select
+import shutil
+import sys
+import tempfile
+import threading
+import time
+from itertools import accumulate
+from pathlib import Path
+from random import Random
+
+from lib.power_cut import BEGIN, Cut, Disk, calls_of
+from lib.program import Folder, Program
+from lib.reference import archive_read, archive_text, counted, framed
+from lib.results import Results
+from lib.store_format import files_of, held
+from lib.stores import AFTER, FORGED, Keeper, put_folder, records, told_committed
+
+MEMORY = "/dev/shm"  # where disks are built, if it is there
+TOGETHER = 200  # disks that one process opens
+
+
+def room():
+    return MEMORY if os.access(MEMORY, os.W_OK) else None
+
+
+# ---------------------------------------------------------------- kills
+
+SENT = 600  # records of a round at most
+ROUNDS = 40  # of one folder
+
+
+def feed(process, octets, seconds):
+    """Gives a process octets for so long, and kills it then; gives what it has written."""
+    end = time.monotonic() + seconds
+    stdin, stdout = process.stdin.fileno(), process.stdout.fileno()
+    os.set_blocking(stdin, False)
+    os.set_blocking(stdout, False)
+    output, at = b"", 0
+    while (left := end - time.monotonic()) > 0 and process.poll() is None:
+        readable, writable, _ = select.select([stdout], [stdin] if at < len(octets) else [], [], left)
+        if readable:
+            piece = os.read(stdout, 65_536)
+            if not piece:
+                break
+            output += piece
+        if writable:
+            try:
+                at += os.write(stdin, octets[at:at + 4_096])
+            except BrokenPipeError:
+                break
+    process.kill()
+    os.set_blocking(stdout, True)
+    rest, notes = process.stdout.read(), process.stderr.read()
+    for stream in process.stdin, process.stdout, process.stderr:
+        try:
+            stream.close()
+        except BrokenPipeError:
+            pass
+    process.wait()
+    return output + rest, notes
+
+
+def kills(keeper, program, results, seed, rounds):
+    """Kills the program so many times."""
+    random = Random(repr(("kills", seed)))
+    committed_in_all = 0
+    with tempfile.TemporaryDirectory(dir=room()) as path:
+        for n in range(rounds):
+            folder = Path(path) / str(n // ROUNDS)
+            if n % ROUNDS == 0:
+                sent, committed = set(), set()
+            batch = records((seed, n), n * SENT, 1 + random.randrange(SENT))
+            batch += random.sample(sorted(sent), min(len(sent), random.randrange(40)))
+            process = keeper.start(folder, random.choice([1, 3, 20, 100]), random.choice([0, 2_000, 20_000, 10 ** 9]))
+            output, notes = feed(process, counted(batch), random.choice([0.004, 0.02, 0.1]) * random.random())
+            told = told_committed(output)
+            sent |= set(batch)
+            committed |= set(batch[:told])
+            committed_in_all += told
+            name = f"kill {n} of seed {seed}"
+            if not folder.exists():
+                results.check(name, not committed, "no folder")
+                continue
+            found = held(files_of(folder))
+            results.check(f"{name}: what is held", found is not None and committed <= found <= sent and not notes, str(notes))
+            if found is None:
+                return
+            text = archive_text(found)
+            answer = program.run(["archive", "--framing", "counted"], counted(sorted(found)))
+            results.same(f"{name}: read", keeper.read(folder), (0, text, b""))
+            results.same(f"{name}: archive", answer, (0, text, b""))
+    results.check("some records were committed", committed_in_all > rounds, str(committed_in_all))
+
+
+# ---------------------------------------------------------------- reading beside a store that is kept
+
+def readings(keeper, results, seed, count):
+    """A store is read while it is kept, with a checkpoint after almost each batch: what was committed before is there."""
+    sent = records(("readings", seed), 0, 4_000)
+    with tempfile.TemporaryDirectory(dir=room()) as path:
+        folder = Path(path) / "store"
+        process = keeper.start(folder, 20, 1_000)
+        told, all_sent = [process.stdout.readline()], set(sent)
+
+        def feeding():
+            with process.stdin:
+                for n in range(0, len(sent), 20):
+                    process.stdin.write(counted(sent[n:n + 20]))
+                    process.stdin.flush()
+
+        threads = [threading.Thread(target=feeding), threading.Thread(target=lambda: told.extend(process.stdout))]
+        for thread in threads:
+            thread.start()
+        for n in range(count):
+            committed = set(sent[:told_committed(b"".join(told))])
+            status, text, notes = keeper.read(folder)
+            found, fault = archive_read(text)
+            right = status == 0 and not notes and fault is None and committed <= set(found) <= all_sent
+            results.check(f"reading {n} beside a store", right,
+                          f"status {status}, {notes}, {fault}, {len(committed - set(found))} missing")
+            if process.poll() is not None:
+                break
+        for thread in threads:
+            thread.join()
+        results.check("the store that was read is kept", process.wait() == 0 and not process.stderr.read())
+        process.stdout.close()
+        process.stderr.close()
+        results.same("and holds all", keeper.read(folder), (0, archive_text(sent), b""))
+
+
+# ---------------------------------------------------------------- power cuts
+
+class Told:
+    """What was received and what was told as committed, as the calls of a log come."""
+
+    def __init__(self, sessions):
+        self.sessions = iter(sessions)
+        self.committed, self.received = set(), set()
+        self.session, self.ends, self.given = [], [], 0
+
+    def do(self, call):
+        if call.kind == "begin":
+            self.session, self.given = next(self.sessions), 0
+            self.ends = list(accumulate(len(framed("counted", one)) for one in self.session))
+        elif call.kind == "given":
+            self.given += call.at
+            self.received.update(self.session[:bisect.bisect_right(self.ends, self.given)])
+        elif call.kind == "told" and call.octets.startswith(b"committed "):
+            self.committed.update(self.session[:int(call.octets.split()[1])])
+
+
+class Traced:
+    """Runs on one folder, whose calls are written down, and what each was given."""
+
+    def __init__(self, keeper, folder):
+        self.keeper, self.path, self.log, self.sessions = keeper, folder / "store", folder / "log", []
+
+    def run(self, sent, batch, checkpoint, **chosen):
+        self.sessions.append(sent)
+        with open(self.log, "ab") as log:
+            log.write(BEGIN)
+        environment = self.keeper.tracing(self.path, self.log, **chosen)
+        status, _, notes = self.keeper.keep(self.path, sent, batch, checkpoint, environment)
+        if notes or status not in ([0, -9] if "kill" in chosen else [0]):
+            raise RuntimeError(f"status {status}, {notes}")
+
+    def calls(self):
+        return calls_of(self.log.read_bytes())
+
+
+def traced(keeper, folder, seed):
+    """Some runs on one folder, most of which are killed at a call."""
+    random = Random(repr(("traced", seed)))
+    made = Traced(keeper, folder)
+    for n in range(random.randint(1, 3)):
+        sent = records(("cut", seed), n * 100, random.randint(2, 30), random.choice([10, 60, 600]))
+        chosen = {"kill": random.randint(1, 60)} if random.random() < 0.6 else {}
+        batch, checkpoint = random.choice([1, 2, 5, 50]), random.choice([0, 200, 800, 10 ** 9])
+        made.run(sent, batch, checkpoint, read=random.choice([50, 300, 4_096]), **chosen)
+    return made
+
+
+def disks_of(calls, sessions, cut, each):
+    """Disks that cuts at each call may leave, so many of each, with what was committed and what was received."""
+    disk, told = Disk(), Told(sessions)
+    for n, call in enumerate(calls):
+        disk.do(call)
+        told.do(call)
+        committed, received = frozenset(told.committed), frozenset(told.received)
+        for _ in range(1 if disk.is_sure() else each):
+            yield n, cut.left(disk), committed, received
+
+
+def wrong(files, block, least, most):
+    """How what the program says of a disk is wrong, or None: it holds at least and at most these records."""
+    found = held(files)
+    if found is None:
+        return "a file is damaged"
+    if not least <= found:
+        return f"{len(least - found)} records are lost, as {sorted(least - found)[0]}"
+    if not found <= most:
+        return f"{len(found - most)} records are forged, as {sorted(found - most)[0]}"
+    text, after = archive_text(found), archive_text(found | {AFTER})
+    for what, right in {"crashed": text, "opened": text, "committed": after, "checkpoint": after}.items():
+        if block.get(what) != right:
+            return f"{what}: another archive; {block.get('fault')}"
+    return None
+
+
+class Cuts:
+    """Disks after power cuts are opened, many by one process."""
+
+    def __init__(self, keeper, results, path, seed, second=0.0):
+        self.keeper, self.results, self.path, self.seed, self.second = keeper, results, Path(path), seed, second
+        self.random = Random(repr(("second", seed)))
+        self.cut = Cut(seed, FORGED)
+        self.waiting, self.opened, self.seen, self.faults = [], 0, set(), []
+
+    def add(self, name, files, least, most):
+        key = hash((frozenset(files.items()), len(least), len(most)))
+        if key in self.seen:
+            return
+        self.seen.add(key)
+        self.waiting.append((name, files, least, most))
+        if len(self.waiting) >= TOGETHER:
+            self.open()
+
+    def open(self):
+        """Opens the disks that wait."""
+        if not self.waiting:
+            return
+        waiting, self.waiting = self.waiting, []
+        log = self.path / "opened.log"
+        paths = [put_folder(self.path / f"d{n}", files) for n, (_, files, _, _) in enumerate(waiting)]
+        environment = self.keeper.tracing(self.path, log) if self.second else None
+        status, notes, blocks = self.keeper.crashed(paths, environment)
+        if status != 0 or len(blocks) != len(waiting):
+            self.faults.append(f"status {status}, {notes}")
+            blocks += [{}] * (len(waiting) - len(blocks))
+        for (name, files, least, most), block in zip(waiting, blocks):
+            fault = wrong(files, block, least, most)
+            self.opened += 1
+            if fault:
+                self.faults.append(f"{name}: {fault}")
+        for path in paths:
+            shutil.rmtree(path)
+        if self.second and status == 0:
+            second, self.second = self.second, 0.0
+            self.cut_again(waiting, calls_of(log.read_bytes()), second)
+            self.open()
+            self.second = second
+            log.unlink()
+
+    def cut_again(self, waiting, calls, second):
+        """Cuts the power of some of the disks while they are opened."""
+        at = 0
+        for n, (name, files, _, _) in enumerate(waiting):
+            end = next(i for i in range(at, len(calls)) if calls[i].octets == b"done\n") + 1
+            mine, at = calls[at:end], end
+            found = held(files)
+            if found is None or self.random.random() >= second:
+                continue
+            disk, front = Disk(files), f"d{n}/".encode()
+            after = frozenset()
+            where = set(self.random.sample(range(len(mine)), min(3, len(mine))))
+            for i, call in enumerate(mine):
+                if call.kind == "told" and call.octets.startswith(b"committed"):
+                    after = {AFTER}
+                if call.name.startswith(front):
+                    disk.do(call._replace(name=call.name[len(front):], octets=call.octets.removeprefix(front)))
+                if i in where:
+                    self.add(f"{name}, and again at call {i}", self.cut.left(disk), found | after, found | {AFTER})
+
+
+def cuts(keeper, results, seed, disks, each=12):
+    """Cuts the power until so many disks were opened; gives how many were."""
+    opened = number = 0
+    while opened < disks:
+        with tempfile.TemporaryDirectory(dir=room()) as path:
+            try:
+                made = traced(keeper, Path(path), (seed, number))
+            except RuntimeError as error:
+                results.check("a traced run", False, error)
+                return opened
+            tried = Cuts(keeper, results, path, (seed, number), 0.25)
+            for n, files, committed, received in disks_of(made.calls(), made.sessions, tried.cut, each):
+                tried.add(f"power cut of seed {seed}, run {number}, call {n}", files, committed, received)
+                if opened + tried.opened >= disks:
+                    break
+            tried.open()
+            opened += tried.opened
+            results.passed += tried.opened - len(tried.faults)
+            for fault in tried.faults:
+                results.check("a disk after a power cut", False, fault)
+            number += 1
+    return opened
+
+
+# ---------------------------------------------------------------- wrong stores
+
+def without(calls, leave):
+    """The log without some of its calls."""
+    return [call for n, call in enumerate(calls) if not leave(n, call)]
+
+
+def is_journal_sync(call):
+    return call.kind == "sync" and call.name.startswith(b"journal.")
+
+
+def of_commits(calls, which):
+    """The numbers of the first or second sync of each commit."""
+    found = [n for n, call in enumerate(calls) if is_journal_sync(call)]
+    opening = {n for n in found if calls[n - 1].kind == "write" and calls[n - 1].octets == b"\x01"}
+    return opening if which else {before for before, n in zip(found, found[1:]) if n in opening}
+
+
+def opening_last(calls):
+    """The opening octet is written with the batch, before its sync."""
+    found = list(calls)
+    for n in of_commits(calls, 1):
+        first = max(m for m in of_commits(calls, 0) if m < n)
+        found[first], found[n - 1] = found[n - 1], found[first]
+    return found
+
+
+def removed_early(calls):
+    """The journal before is removed before the folder was synced behind the last segment's name."""
+    found = list(calls)
+    for n, call in enumerate(calls):
+        if call.kind == "remove" and call.name.startswith(b"journal."):
+            renamed = max(m for m in range(n) if calls[m].kind == "rename")
+            found.insert(renamed + 1, found.pop(n))
+    return found
+
+
+def named_late(calls):
+    """The folder is not synced once a journal was made."""
+    return without(calls, lambda n, call: call.kind == "names" and calls[n - 1].kind == "sync" and is_journal_sync(calls[n - 1]))
+
+
+def unsettled(calls):
+    """A journal is not synced when it is opened."""
+    found, opens, runs = [], False, 0
+    for call in calls:
+        runs += call.kind == "begin"
+        opens = runs > 1 if call.kind == "begin" else opens and call.kind != "told"
+        if not (opens and is_journal_sync(call)):
+            found.append(call)
+    return found
+
+
+# logs of stores that are wrong, as changes of the log of the right one
+WRONG = {
+    "a batch is not synced before it is opened": lambda calls: without(calls, lambda n, _: n in of_commits(calls, 0)),
+    "a commit is told before its opening octet is synced": lambda calls: without(calls, lambda n, _: n in of_commits(calls, 1)),
+    "the opening octet is synced with the batch": opening_last,
+    "a commit syncs nothing": lambda calls: without(calls, lambda _, call: is_journal_sync(call)),
+    "the folder is never synced": lambda calls: without(calls, lambda _, call: call.kind == "names"),
+    "the folder is not synced once a journal was made": named_late,
+    "a segment is not synced before it has its name": lambda calls: without(
+        calls, lambda _, call: call.kind == "sync" and call.name == b"new.archive"),
+    "the journal before is removed before a segment's name is on the disk": removed_early,
+}
+# the same by the shim, which leaves out calls of the real run
+DROPPED = {"every second fdatasync, from the second on": "sync 1 2", "every second fdatasync": "sync 0 2",
+           "each fsync of the folder": "names 0 1"}
+
+
+def is_found(keeper, results, calls, sessions, seed, most):
+    """Whether disks of this log show that the store is wrong; how many it took, or None."""
+    with tempfile.TemporaryDirectory(dir=room()) as path:
+        tried = Cuts(keeper, results, path, seed)
+        for n, files, committed, received in disks_of(calls, sessions, tried.cut, 12):
+            tried.add(f"call {n}", files, committed, received)
+            if tried.faults or tried.opened > most:
+                break
+        tried.open()
+        return (tried.opened, tried.faults[0]) if tried.faults else None
+
+
+def wrong_stores(keeper, results, seed, most=4_000):
+    """Stores that are wrong are found by power cuts, and the right one is not. Gives how each was found."""
+    random = Random(repr(("wrong", seed)))
+
+    def found(name, changes, count=1, **chosen):
+        """Whether one of so many runs, or of pairs of them, shows it."""
+        for n in range(count):
+            with tempfile.TemporaryDirectory(dir=room()) as path:
+                made = Traced(keeper, Path(path))
+                checkpoint = 10 ** 9 if chosen else 300
+                if count > 1:
+                    made.run(records((name, seed, n), 0, 24), 2, checkpoint, kill=random.randint(4, 40), read=100)
+                made.run(records((name, seed, n), 100, 24), 2, checkpoint, read=100, **chosen)
+                seen = is_found(keeper, results, changes(made.calls()), made.sessions, (name, seed), most)
+            if seen:
+                return seen
+        return None
+
+    seen = found("right", list)
+    results.check("the right store is not found wrong", seen is None, str(seen))
+    tries = [(name, change, 1, {}) for name, change in WRONG.items()]
+    tries.append(("a journal is not synced when it is opened", unsettled, 40, {}))
+    tries += [(f"{name} is left out", list, 1, {"drop": drop}) for name, drop in DROPPED.items()]
+    for name, change, count, chosen in tries:
+        seen = found(name, change, count, **chosen)
+        results.check(f"{name}: found", seen, str(seen))
+        yield name, seen
+
+
+def main(words):
+    parser = argparse.ArgumentParser(prog="tests/run.py stores", description=__doc__,
+                                     formatter_class=argparse.RawDescriptionHelpFormatter)
+    parser.add_argument("program", help="syslogbox")
+    parser.add_argument("trial", help="store_trial")
+    parser.add_argument("--rounds", type=int, default=1_000, help="kills")
+    parser.add_argument("--disks", type=int, default=20_000, help="disks after power cuts")
+    parser.add_argument("--seed", type=int, default=int(time.time()))
+    chosen = parser.parse_args(words)
+    results = Results()
+    print(f"seed {chosen.seed}", flush=True)
+    with tempfile.TemporaryDirectory() as path:
+        program, keeper = Program(chosen.program, Folder(path)), Keeper(Program(chosen.trial, Folder(path)))
+        for name, seen in wrong_stores(keeper, results, chosen.seed):
+            print(f"wrong store: {name}: {seen}", flush=True)
+        start = time.monotonic()
+        opened = cuts(keeper, results, chosen.seed, chosen.disks)
+        print(f"{opened} disks after power cuts in {time.monotonic() - start:.0f} s", flush=True)
+        readings(keeper, results, chosen.seed, chosen.rounds)
+        start = time.monotonic()
+        kills(keeper, program, results, chosen.seed, chosen.rounds)
+        print(f"{chosen.rounds} kills in {time.monotonic() - start:.0f} s", flush=True)
+    return results.end()
+
+
+if __name__ == "__main__":
+    sys.exit(main(sys.argv[1:]))

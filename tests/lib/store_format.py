@@ -1,0 +1,81 @@
+"""A second reader of a store's files, for tests only and independent of the program: the batches of a journal, the segments
+of days, and the set of records that a folder holds."""
+import hashlib
+import re
+from functools import lru_cache
+from pathlib import Path
+
+from lib.reference import archive_read, canonical, counted_frames, entry_fault
+
+JOURNAL = re.compile(rb"journal\.(0|[1-9]\d*)")
+SEGMENT = re.compile(rb"(undated|\d{4}-\d\d-\d\d)\.([0-9a-f]{64})\.archive")
+OPEN, CLOSED, HEAD = 1, 0, 5
+
+
+def open_batch(body):
+    return bytes([OPEN]) + len(body).to_bytes(4, "little") + body
+
+
+def bodies_of(journal):
+    """The bodies of the batches that are open and whole at the beginning of a journal, and where they end."""
+    bodies, at = [], 0
+    while len(journal) - at >= HEAD and journal[at] == OPEN:
+        end = at + HEAD + int.from_bytes(journal[at + 1:at + HEAD], "little")
+        if end > len(journal):
+            break
+        bodies.append(journal[at + HEAD:end])
+        at = end
+    return bodies, at
+
+
+@lru_cache(maxsize=65_536)
+def of_batch(body):
+    """The records of a batch, None where it is no sequence of entries."""
+    frames, fault = counted_frames(body)
+    return None if fault or any(entry_fault(frame, canonical) for frame in frames) else frozenset(frames)
+
+
+def day_of(record):
+    time = record.split(b" ", 2)[1]
+    return b"undated" if time == b"-" else time[:10]
+
+
+@lru_cache(maxsize=65_536)
+def of_segment(day, octets):
+    """The records of a segment, None where it is no archive of records of its day."""
+    records, fault = archive_read(octets)
+    return None if fault or any(day_of(one) != day for one in records) else frozenset(records)
+
+
+def is_number(digits):
+    return int(digits) < 2 ** 64
+
+
+def held(files):
+    """What a folder of files (octets by names) holds; None where a file is damaged."""
+    found = set()
+    for name, octets in files.items():
+        journal, segment = JOURNAL.fullmatch(name), SEGMENT.fullmatch(name)
+        parts = []
+        if journal and is_number(journal.group(1)):
+            parts = [of_batch(body) for body in bodies_of(octets)[0]]
+        elif segment:
+            parts = [of_segment(segment.group(1), octets)]
+        if None in parts:
+            return None
+        found.update(*parts)
+    return found
+
+
+def segment_name(day, octets):
+    return b"%b.%b.archive" % (day, hashlib.sha256(octets).hexdigest().encode())
+
+
+def is_named_right(name, octets):
+    """Whether a segment is the archive that its name says."""
+    return SEGMENT.fullmatch(name).group(2) == hashlib.sha256(octets).hexdigest().encode()
+
+
+def files_of(path):
+    """The files of a folder, octets by names."""
+    return {one.name.encode(): one.read_bytes() for one in Path(path).iterdir() if one.is_file()}
