@@ -8,7 +8,7 @@ use disk::FileName;
 use std::alloc::Global;
 
 /// How often names are listed again at most, until two listings agree.
-pub(crate) const LISTINGS: usize = 64;
+pub(crate) const LISTINGS: usize = 10_000;
 
 // The names of a folder's files, in the order of their octets, as one listing gives them.
 fn list_once<F: Folder>(alloc: Global, folder: &mut F) -> Result<Vec<FileName>, ReadFault>
