@@ -10,13 +10,14 @@ import shutil
 import subprocess
 import tempfile
 from collections import Counter
+from datetime import date, timedelta
 from pathlib import Path
 
 from hostile.stores import cuts, kills, readings, room, wrong_stores
 from lib.power_cut import calls_of
 from lib.program import Program
 from lib.reference import archive_text
-from lib.store_format import SEGMENT, files_of, held, of_segment
+from lib.store_format import SEGMENT, damage, files_of, held
 from lib.stores import Keeper, records, told_committed
 
 SEED = 40
@@ -183,8 +184,9 @@ def not_writable(keeper, results, path, store):
 
 # ---------------------------------------------------------------- octets that are changed
 
-def changed(keeper, results, path):
-    """Each octet of each segment is another one: `read` refuses what is no archive, and has written what stands before."""
+def changed(keeper, results, path, program):
+    """Each octet of each segment is another one: `verify` tells what is wrong with it, and where; `read` refuses what is no
+    archive, has written what stands before, and still reads the other days."""
     store = Path(path) / "store"
     results.check("a store of segments", keeper.keep(store, SENT, 20, 10)[0] == 0)
     files = files_of(store)
@@ -196,20 +198,44 @@ def changed(keeper, results, path):
             other = bytearray(files[name])
             other[at] = octet ^ 1 << at % 8
             (store / name.decode()).write_bytes(other)
-            answer, place = keeper.read(store), f"octet {at} of {name.decode()}"
-            if of_segment(SEGMENT.fullmatch(name).group(1), bytes(other)) is None:
-                right = answer[0] == 2 and answer[1] == before and answer[2].startswith(name)
-                results.check(place, right, str(answer))
-            else:
-                results.same(place, answer, (0, archive_text(held({**files, name: bytes(other)})), b""))
+            place, words = f"octet {at} of {name.decode()}", damage(name, bytes(other))
+            line = f"{name.decode()} {words}\n".encode()
+            results.same(f"{place}: verify", program.run(["verify", str(store)]), (1, line, b""))
+            right = (1, before, line)
+            if words == "digest":
+                right = 0, archive_text(held({**files, name: bytes(other)})), b""
+            results.same(f"{place}: read", program.run(["read", str(store)]), right)
+        (store / name.decode()).write_bytes(b"no archive")
+        other_days(results, store, name, program)
         (store / name.decode()).write_bytes(files[name])
+
+
+def other_days(results, store, name, program):
+    """Ranges of time without the day of a segment are read, whatever that holds."""
+    for words, low, high in ranges_without(name[:10].decode()):
+        right = [one for one in SENT if low <= one.split(b" ")[1].decode() < high]
+        answer = program.run(["read", str(store), *words])
+        results.same(f"{words} beside {name.decode()}", answer, (0, archive_text(right), b""))
+
+
+def ranges_without(day):
+    """Ranges of time that do not reach into a day: their words, and between which times they are."""
+    if day.startswith("u"):
+        yield ["--from", "1960-01-01T00:00:00Z"], "1960", "~"
+        return
+    one = date.fromisoformat(day)
+    low, high = f"{one + timedelta(1)}T00:00:00.000000Z", f"{one - timedelta(1)}T23:59:59.999999Z"
+    yield ["--from", low], low, "~"
+    yield ["--to", high, "--undated"], "", high  # `-` stands below all digits
 
 
 def stores(program, trial, results):
     keeper = Keeper(trial)
-    for part in faults, full_disk, folders, changed:
+    for part in faults, full_disk, folders:
         with tempfile.TemporaryDirectory(dir=room()) as path:
             part(keeper, results, path)
+    with tempfile.TemporaryDirectory(dir=room()) as path:
+        changed(keeper, results, path, program)
     for _ in wrong_stores(keeper, results, SEED):
         pass
     cuts(keeper, results, SEED, 1_500)

@@ -16,7 +16,6 @@ import select
 import shutil
 import sys
 import tempfile
-import threading
 import time
 from itertools import accumulate
 from pathlib import Path
@@ -43,13 +42,14 @@ SENT = 600  # records of a round at most
 ROUNDS = 40  # of one folder
 
 
-def feed(process, octets, seconds):
-    """Gives a process octets for so long, and kills it then; gives what it has written."""
-    end = time.monotonic() + seconds
+def feed(process, octets, seconds, once_open=False):
+    """Gives a process octets for so long, from its start or from when it has opened its store, and kills it then; gives what
+    it has written."""
     stdin, stdout = process.stdin.fileno(), process.stdout.fileno()
+    output, at = process.stdout.readline() if once_open else b"", 0
+    end = time.monotonic() + seconds
     os.set_blocking(stdin, False)
     os.set_blocking(stdout, False)
-    output, at = b"", 0
     while (left := end - time.monotonic()) > 0 and process.poll() is None:
         readable, writable, _ = select.select([stdout], [stdin] if at < len(octets) else [], [], left)
         if readable:
@@ -86,7 +86,8 @@ def kills(keeper, program, results, seed, rounds):
             batch = records((seed, n), n * SENT, 1 + random.randrange(SENT))
             batch += random.sample(sorted(sent), min(len(sent), random.randrange(40)))
             process = keeper.start(folder, random.choice([1, 3, 20, 100]), random.choice([0, 2_000, 20_000, 10 ** 9]))
-            output, notes = feed(process, counted(batch), random.choice([0.004, 0.02, 0.1]) * random.random())
+            seconds = random.choice([0.004, 0.02, 0.1]) * random.random()
+            output, notes = feed(process, counted(batch), seconds, n % 2 == 1)
             told = told_committed(output)
             sent |= set(batch)
             committed |= set(batch[:told])
@@ -108,37 +109,57 @@ def kills(keeper, program, results, seed, rounds):
 
 # ---------------------------------------------------------------- reading beside a store that is kept
 
+CHANGES = b"files came and went while they were listed\n"  # what `read` tells of a folder that changes too fast
+READINGS = 10  # of one folder
+EACH = 200  # records that are given before each of them
+
+
+def given(process, octets):
+    """Whether a process still takes octets."""
+    try:
+        process.stdin.write(octets)
+        process.stdin.flush()
+    except BrokenPipeError:
+        return False
+    return True
+
+
+def read_beside(keeper, folder):
+    """The answer of `read`, which is asked again as long as the folder changes too fast for it, a hundred times at most."""
+    for _ in range(100):
+        answer = keeper.read(folder)
+        if (answer[0], answer[2]) != (2, CHANGES):
+            break
+    return answer
+
+
 def readings(keeper, results, seed, count):
-    """A store is read while it is kept, with a checkpoint after almost each batch: what was committed before is there."""
-    sent = records(("readings", seed), 0, 4_000)
+    """Stores are read so many times while they are kept."""
+    for n in range(0, count, READINGS):
+        readings_of_one(keeper, results, (seed, n), min(READINGS, count - n))
+
+
+def readings_of_one(keeper, results, seed, count):
+    """A store is read while it is kept, with a checkpoint after almost each batch: what was committed before is there.
+    Before each reading it is given records, so that it may be at work then; it comes to rest after them."""
+    sent = records(("readings", seed), 0, count * EACH)
     with tempfile.TemporaryDirectory(dir=room()) as path:
         folder = Path(path) / "store"
         process = keeper.start(folder, 20, 1_000)
-        told, all_sent = [process.stdout.readline()], set(sent)
-
-        def feeding():
-            with process.stdin:
-                for n in range(0, len(sent), 20):
-                    process.stdin.write(counted(sent[n:n + 20]))
-                    process.stdin.flush()
-
-        threads = [threading.Thread(target=feeding), threading.Thread(target=lambda: told.extend(process.stdout))]
-        for thread in threads:
-            thread.start()
-        for n in range(count):
-            committed = set(sent[:told_committed(b"".join(told))])
-            status, text, notes = keeper.read(folder)
-            found, fault = archive_read(text)
-            right = status == 0 and not notes and fault is None and committed <= set(found) <= all_sent
-            results.check(f"reading {n} beside a store", right,
-                          f"status {status}, {notes}, {fault}, {len(committed - set(found))} missing")
-            if process.poll() is not None:
+        told = process.stdout.readline()
+        for end in range(EACH, len(sent) + 1, EACH):
+            if not given(process, counted(sent[end - EACH:end])):
                 break
-        for thread in threads:
-            thread.join()
-        results.check("the store that was read is kept", process.wait() == 0 and not process.stderr.read())
-        process.stdout.close()
-        process.stderr.close()
+            if select.select([process.stdout], [], [], 0)[0]:
+                told += os.read(process.stdout.fileno(), 65_536)
+            committed = set(sent[:told_committed(told)])
+            status, text, notes = read_beside(keeper, folder)
+            found, fault = archive_read(text)
+            right = status == 0 and not notes and fault is None and committed <= set(found) <= set(sent[:end])
+            results.check(f"reading {end // EACH} beside a store of seed {seed}", right,
+                          f"status {status}, {notes}, {fault}, {len(committed - set(found))} missing")
+        _, notes = process.communicate()
+        results.check("the store that was read is kept", process.returncode == 0 and not notes, f"{process.returncode} {notes}")
         results.same("and holds all", keeper.read(folder), (0, archive_text(sent), b""))
 
 

@@ -5,7 +5,7 @@ import re
 from functools import lru_cache
 from pathlib import Path
 
-from lib.reference import archive_read, canonical, counted_frames, entry_fault
+from lib.reference import archive_read, canonical, counted_frames, entry_fault, framed
 
 JOURNAL = re.compile(rb"journal\.(0|[1-9]\d*)")
 SEGMENT = re.compile(rb"(undated|\d{4}-\d\d-\d\d)\.([0-9a-f]{64})\.archive")
@@ -74,6 +74,17 @@ def segment_name(day, octets):
 def is_named_right(name, octets):
     """Whether a segment is the archive that its name says."""
     return SEGMENT.fullmatch(name).group(2) == hashlib.sha256(octets).hexdigest().encode()
+
+
+def damage(name, octets):
+    """What is wrong with a segment of this name first, in the words of `verify`; None of one that is whole."""
+    day, at = SEGMENT.fullmatch(name).group(1), 0
+    records, fault = archive_read(octets)
+    for one in records:
+        if day_of(one) != day:
+            return f"day {at}"
+        at += len(framed("counted", one))
+    return fault or (None if is_named_right(name, octets) else "digest")
 
 
 def files_of(path):

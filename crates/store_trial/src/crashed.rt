@@ -22,7 +22,7 @@ fn open_one(rt: &HostRuntime, dir: &str) -> Result<()> {
     print_text(rt, "crashed", &archive_of(rt, dir)?)?;
     let mut keeper = Keeper::open(rt, dir)?;
     print_text(rt, "opened", &archive_of(rt, dir)?)?;
-    keeper.append(AFTER)?;
+    keeper.add(AFTER)?;
     keeper.commit()?;
     print_text(rt, "committed", &archive_of(rt, dir)?)?;
     keeper.checkpoint()?;

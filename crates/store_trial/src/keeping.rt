@@ -41,7 +41,7 @@ impl<'a> Keeping<'a> {
     }
 
     fn record(&mut self, octets: &[u8]) -> Result<()> {
-        self.keeper.append(octets)?;
+        self.keeper.add(octets)?;
         self.received = self.received.saturating_add(1);
         self.waiting = self.waiting.saturating_add(1);
         if self.waiting >= self.limits.batch {

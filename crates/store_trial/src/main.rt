@@ -5,7 +5,6 @@
 //! process knows what was reported as committed.
 #![tactic(auto)]
 
-mod checkpoint;
 mod crashed;
 mod folder;
 mod keeper;
