@@ -328,8 +328,7 @@ def in_go(results, folder, frames, answers):
         print("SKIPPED the package in Go: there is no go")
         return
     to = folder.path / "prefix"
-    subprocess.run(["sh", "scripts/library.sh", to], cwd=ROOT, check=True, stdout=subprocess.DEVNULL)
-    subprocess.run(["sh", "scripts/install-library.sh", to], cwd=ROOT, check=True)
+    subprocess.run(["sh", "scripts/install-library.sh", to, to], cwd=ROOT, check=True)
     # go keeps what pkg-config told for another folder, but for other flags of its own
     environment = {"PKG_CONFIG_PATH": str(to / "lib/pkgconfig"), "LD_LIBRARY_PATH": str(to / "lib"), "CGO_LDFLAGS": f"-L{to}/lib",
                    "GOFLAGS": "-mod=mod", "SYSLOGBOX_ANSWERS": written(folder, "records", frames, answers)}
