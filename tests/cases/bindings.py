@@ -319,6 +319,8 @@ def installed(results, folder):
     program = "import syslogbox; print(syslogbox.is_record(b'<0>1 - - - - - -'))"
     seen = run(sys.executable, ["-c", program], environment={"PYTHONPATH": str(to), "SYSLOGBOX_LIBRARY": ""})
     results.same("Python: what was installed runs", seen, (0, b"True\n", b""))
+    status, _, notes = run(sys.executable, ["-c", program], environment={"PYTHONPATH": str(to), "SYSLOGBOX_LIBRARY": "/dev/null"})
+    results.check("Python: without a library, it says how to name one", status == 1 and b"\nImportError: /dev/null" in notes, notes)
 
 
 # ---- Go, and the examples

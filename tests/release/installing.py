@@ -1,9 +1,14 @@
 """`make install`: what is installed says where it is, and the library is found; and the library where `make lib` leaves it."""
 import os
+import re
 import subprocess
+import sys
 
 from first import RECORD, converts
-from results import clone, lacking, name_sources, run
+from results import ROOT, clone, lacking, name_sources, run
+
+sys.path.append(str(ROOT / "tests"))
+from lib import tours
 
 PROGRAM = """#include <syslogbox.h>
 int main(void) { return !syslogbox_check((const uint8_t *)"%s", %d, 0); }
@@ -44,6 +49,25 @@ def in_c(name, room, results, told, environment=None):
     results.check(f"{name}: a program in C is compiled", (status, compiled[0]) == (0, 0), f"{flags} {compiled[1]}")
     seen = run([made], env={**os.environ, **(environment or {})}) if made.exists() else None
     results.check(f"{name}: it checks the first record", seen == (0, ""), str(seen))
+
+
+def library_tour(room, results):
+    """The program of docs/LIBRARY.md, by the commands that stand there."""
+    if lacking("pkg-config"):
+        results.skip("the tour of docs/LIBRARY.md", "there is no pkg-config")
+        return
+    folder = clone(room / "tour")
+    status, said = run(["make", "-s", "lib"], cwd=folder)
+    text = (folder / "docs/LIBRARY.md").read_text()
+    (program,) = re.findall(r"^```c\n(.*?)^```$", text, re.MULTILINE | re.DOTALL)
+    (folder / "program.c").write_text(program)
+    steps = tours.steps(text)
+    results.check("docs/LIBRARY.md has a tour", len(steps) > 1 and status == 0, said)
+    for command, shown in steps:
+        status, seen = tours.take(command, folder, os.environ["PATH"])
+        results.check(f"docs/LIBRARY.md shows what is printed: {command}", seen == shown and (shown or status == 0), f"{status} {seen}")
+    status, said = run(["gcc", "program.c", "-Iinclude", "build/libsyslogbox.a"], cwd=folder)
+    results.check("the program of docs/LIBRARY.md is linked by the files' names", status == 0, said)
 
 
 def loader(room, listed):
@@ -99,6 +123,7 @@ def installing(room, results):
     status, said = run(["make", "-s", "lib"], cwd=folder)
     results.check("make lib", status == 0, said)
     in_c("in build/", room, results, {"PKG_CONFIG_PATH": str(folder / "build")})
+    library_tour(room, results)
     subprocess.run(["chmod", "-R", "go=", str(folder)], check=True)
     staged(folder, room, results)
     in_place(folder, room, results)
