@@ -3,13 +3,14 @@
 set -eu
 PATH=$PATH:/usr/sbin:/sbin
 library=$1/libsyslogbox.so.0
-if [ "$(id -u)" -eq 0 ]; then
-    ldconfig || true
+todo="Run 'ldconfig' as root"
+if [ "$(id -u)" -eq 0 ] && ldconfig; then
+    todo="Name the folder in a file in /etc/ld.so.conf.d and run 'ldconfig'"
 fi
 ldconfig -p | sed -n 's/.*libsyslogbox\.so\.0 .*=> //p' | {
     while IFS= read -r found; do
         [ ! "$found" -ef "$library" ] || exit 0
     done
-    echo "Programs find $library once root has run 'ldconfig', if /etc/ld.so.conf has its folder."
-    echo "Otherwise call them with LD_LIBRARY_PATH=$1."
+    echo "The system does not find $library yet."
+    echo "$todo, or call programs with LD_LIBRARY_PATH=$1."
 }

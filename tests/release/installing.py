@@ -94,13 +94,13 @@ def staged(folder, room, results):
 
 def in_place(folder, room, results):
     """Below a PREFIX, with a loader that finds the library there, and with one that does not."""
-    prefix, once = room / "prefix", "has run 'ldconfig'"
+    prefix, untold = room / "prefix", "does not find"
     words, library = ["make", "install", f"PREFIX={prefix}"], prefix / "lib/libsyslogbox.so.0"
     for listed in [library, None]:
         environment, log = loader(room, listed)
         status, said = run(words, cwd=folder, env=environment)
         calls = ["ldconfig "] * (os.geteuid() == 0) + ["ldconfig -p"]
-        results.check("make install", status == 0 and (once in said) == (listed is None), said)
+        results.check("make install", status == 0 and (untold in said) == (listed is None), said)
         results.check("make install calls ldconfig as root", log.exists() and log.read_text().splitlines() == calls, said)
     units("below PREFIX", prefix, f"{prefix}/bin/syslogbox", results)
     results.check("below PREFIX: the program converts the first record", converts(prefix / "bin/syslogbox"))
