@@ -9,9 +9,9 @@ DESTDIR =
 all:
 	@sh scripts/link.sh
 
-# Links the libraries for C in build/, and their pkg-config file, from the object in release/.
+# Links the libraries for C in build/ from the object in release/, with a file by which pkg-config finds them there.
 lib:
-	@sh scripts/library.sh $(PREFIX)
+	@sh scripts/library.sh
 
 # Proves the program and the library for C, and the crates below them side by side, builds them, and compares their
 # objects with a release of their sources.
@@ -53,10 +53,13 @@ bench: all
 soak: all
 	python3 tests/run.py soak build/syslogbox $(SOAK)
 
-# Puts the program, its manual pages and its completions below DESTDIR and PREFIX, and the library for C.
+# Puts the program, its manual pages, completions and units below PREFIX, and the library for C; with DESTDIR below that, as
+# packages are made. Without it, the system's loader is told of the library.
 install: all lib
-	sh scripts/install.sh build/syslogbox $(DESTDIR)$(PREFIX)
-	sh scripts/install-library.sh $(DESTDIR)$(PREFIX)
+	@case "$(PREFIX)" in /*) ;; *) echo "PREFIX has to begin with a slash." >&2; exit 1 ;; esac
+	sh scripts/install.sh build/syslogbox "$(DESTDIR)$(PREFIX)" "$(PREFIX)"
+	sh scripts/install-library.sh "$(DESTDIR)$(PREFIX)" "$(PREFIX)"
+	@[ -n "$(DESTDIR)" ] || sh scripts/ldconfig.sh "$(PREFIX)/lib"
 
 # Removes what was built and what checks kept.
 clean:

@@ -10,7 +10,10 @@ import subprocess
 import sys
 from pathlib import Path
 
-from dask.distributed import Client, as_completed
+try:
+    from dask.distributed import Client, as_completed
+except ImportError:
+    sys.exit(f"dask_union.py: {sys.executable} has no Dask; Debian's packages are python3-distributed and python3-dask")
 
 HERE = Path(__file__).resolve().parent
 

@@ -10,6 +10,15 @@ if (($# < 2 || $# > 4)); then
     echo "usage: parallel.sh LIST OUT [RANGES [JOBS]]" >&2
     exit 2
 fi
+# moreutils has another program of this name
+if [[ $(parallel --version 2> /dev/null) != "GNU parallel"* ]]; then
+    echo "parallel.sh: GNU parallel is not here; Debian's package is parallel" >&2
+    exit 2
+fi
+if ! command -v "${SYSLOGBOX:-syslogbox}" > /dev/null; then
+    echo "parallel.sh: ${SYSLOGBOX:-syslogbox} is not here; put it on the path, or name it by SYSLOGBOX" >&2
+    exit 2
+fi
 here=$(dirname "$(realpath "$0")")
 list=$1
 out=$2

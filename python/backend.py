@@ -1,6 +1,6 @@
 """Builds the wheel of syslogbox.py (PEP 517) by Python alone, so that `pip install ./python` needs no network.
 
-The library that `make lib` has built goes into it; without one the system's is used.
+The library that `make lib` has built, or that is beside it in the tarball, goes into it; without one the system's is used.
 """
 import base64
 import hashlib
@@ -9,9 +9,10 @@ import zipfile
 from pathlib import Path
 
 HERE = Path(__file__).resolve().parent
-LIBRARY = HERE.parent / "build" / "libsyslogbox.so.0"
+NAME = "libsyslogbox.so.0"
+LIBRARY = next((path for path in (HERE.parent / "build" / NAME, HERE.parent / "lib" / NAME) if path.exists()), None)
 VERSION = re.search(r'^__version__ = "(.*)"$', (HERE / "syslogbox.py").read_text(encoding="utf-8"), re.M)[1]
-TAG = "py3-none-linux_x86_64" if LIBRARY.exists() else "py3-none-any"
+TAG = "py3-none-linux_x86_64" if LIBRARY else "py3-none-any"
 INFO = f"syslogbox-{VERSION}.dist-info"
 METADATA = f"""Metadata-Version: 2.1
 Name: syslogbox
@@ -28,10 +29,10 @@ def _line(name, octets):
 
 def _files():
     yield "syslogbox.py", (HERE / "syslogbox.py").read_bytes()
-    if LIBRARY.exists():
-        yield LIBRARY.name, LIBRARY.read_bytes()
+    if LIBRARY:
+        yield NAME, LIBRARY.read_bytes()
     yield f"{INFO}/METADATA", METADATA.encode()
-    pure = "false" if LIBRARY.exists() else "true"
+    pure = "false" if LIBRARY else "true"
     yield f"{INFO}/WHEEL", f"Wheel-Version: 1.0\nGenerator: backend\nRoot-Is-Purelib: {pure}\nTag: {TAG}\n".encode()
 
 

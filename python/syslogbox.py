@@ -173,8 +173,11 @@ def _call(name: str, result: Any, *arguments: Any, library: Optional[ctypes.CDLL
     return function
 
 
-# most calls are short, and keep the interpreter's lock, which costs less; those of many records give it back
-_library, _releasing = ctypes.PyDLL(_path()), ctypes.CDLL(_path())
+try:
+    # most calls are short, and keep the interpreter's lock, which costs less; those of many records give it back
+    _library, _releasing = ctypes.PyDLL(_path()), ctypes.CDLL(_path())
+except OSError as _missing:
+    raise ImportError(f"{_missing}; the variable SYSLOGBOX_LIBRARY names the library that `make lib` builds") from None
 _check = _call("check", ctypes.c_int, _OCTETS, _SIZE, _POINTER)
 # the same for a length that is an int of C, of which ctypes makes no object: it takes a third less
 _check_short = _call("check", ctypes.c_int, _OCTETS)

@@ -1,6 +1,6 @@
 #!/bin/sh
-# Makes the packages in build/dist: a tarball with a static program, and where dpkg-deb is there Debian packages of the
-# program and of the library for C.
+# Makes the packages in build/dist: a tarball with a static program and the library for C, and where dpkg-deb is there Debian
+# packages of both.
 # Of one release they are the same octets wherever they are made: their time is that of the version in CHANGELOG.md.
 set -eu
 umask 022
@@ -41,28 +41,46 @@ settle() {
     find "$1" -exec touch -h -d "@$SOURCE_DATE_EPOCH" {} +
 }
 
-# The recipes for several machines, into a folder.
-recipes() {
-    for file in cluster/README.md cluster/*.sh cluster/*.py cluster/slurm/*.sh; do
+# Files of the repository below a folder, under the names that they have here: files FOLDER FILE..
+files() {
+    to=$1
+    shift
+    for file in "$@"; do
         if [ -x "$file" ]; then mode=755; else mode=644; fi
-        install -D -m $mode "$file" "$1/${file#cluster/}"
+        install -D -m $mode "$file" "$to/$file"
     done
 }
 
+# The recipes for several machines, and the library for Python and Go, below a folder.
+recipes() {
+    files "$1" cluster/README.md cluster/*.sh cluster/*.py cluster/slurm/*.sh
+}
+bindings() {
+    files "$1" python/*.py python/pyproject.toml go/*.go go/go.mod
+}
+
+# The library for C below a folder, as install-library.sh puts it there, without symbols for a debugger.
+library() {
+    sh scripts/install-library.sh "$@"
+    strip -D --strip-debug "$1/$3/libsyslogbox.a"
+    strip --strip-unneeded "$1/$3/libsyslogbox.so.0"
+}
+
+# A tree that can be used where it is, and copied to /usr/local.
 tarball() {
-    name=syslogbox-$version
+    name=syslogbox-$version tree=$dist/syslogbox-$version
     link "$dist/static" -static
-    sh scripts/install.sh "$dist/static" "$dist/$name"
-    for page in README.md CHANGELOG.md docs/*.md docs/pictures/*.svg; do
-        install -D -m 644 "$page" "$dist/$name/$page"
-    done
-    recipes "$dist/$name/cluster"
-    (cd "$dist/$name" && find . -type f | sort | xargs sha256sum) > "$dist/sums"
-    mv "$dist/sums" "$dist/$name/SHA256SUMS"
-    settle "$dist/$name"
+    sh scripts/install.sh "$dist/static" "$tree" /usr/local
+    library "$tree" '${pcfiledir}/../..' lib
+    files "$tree" README.md CHANGELOG.md docs/*.md docs/pictures/*.svg contrib/*.conf examples/*
+    recipes "$tree"
+    bindings "$tree"
+    (cd "$tree" && find . -type f | sort | xargs sha256sum) > "$dist/sums"
+    mv "$dist/sums" "$tree/SHA256SUMS"
+    settle "$tree"
     (cd "$dist" && tar --format=ustar --sort=name --owner=0 --group=0 --numeric-owner -cf - "$name") |
         gzip -9n > "$dist/$name-linux-x86_64.tar.gz"
-    rm -r "$dist/static" "${dist:?}/$name"
+    rm -r "$dist/static" "$tree"
 }
 
 maintainer="Cupolachive maintainers <maintainers@users.noreply.cupolachive.example>"
@@ -120,12 +138,25 @@ pack() {
     rm -r "$root"
 }
 
+# The documents beside each other in the folder of a package, the recipes among its examples: documents FOLDER. Their links
+# are made those to where the others are then.
+documents() {
+    mkdir -p "$1/pictures" "$1/examples"
+    for page in README.md docs/*.md; do
+        sed 's#](docs/#](#g; s#](\(\.\./\)*cluster/#](examples/cluster/#g; s#](CHANGELOG\.md)#](changelog.gz)#' "$page" > "$1/${page##*/}"
+    done
+    install -m 644 docs/pictures/*.svg "$1/pictures"
+    recipes "$1/examples"
+    sed -i 's#](\.\./docs/#](../../#g' "$1/examples/cluster/README.md"
+}
+
 debian() {
     package=syslogbox root=$dist/debian
     link "$dist/dynamic" -pie -Wl,-z,relro,-z,now
-    sh scripts/install.sh "$dist/dynamic" "$root/usr" vendor-completions
+    sh scripts/install.sh "$dist/dynamic" "$root/usr" /usr vendor-completions
     gzip -9n "$root"/usr/share/man/man[1-8]/*
-    recipes "$root/usr/share/doc/$package/examples/cluster"
+    documents "$root/usr/share/doc/$package"
+    install -m 644 contrib/*.conf "$root/usr/share/doc/$package/examples"
     rm "$dist/dynamic"
     pack "$(libc_of "$root/usr/bin/syslogbox")" admin << END
 Description: proved reader and writer of syslog records
@@ -138,15 +169,12 @@ END
 
 # The library for C: the shared library in a package of its own, named for its version of the calls.
 debian_library() {
-    lib=lib/x86_64-linux-gnu library=$dist/library
-    sh scripts/library.sh /usr $lib > /dev/null
-    sh scripts/install-library.sh "$library/usr" $lib
-    strip --strip-debug "$library/usr/$lib/libsyslogbox.a"
-    strip --strip-unneeded "$library/usr/$lib/libsyslogbox.so.0"
+    lib=lib/x86_64-linux-gnu development=$dist/development
+    library "$development/usr" /usr $lib
 
     package=libsyslogbox0 root=$dist/shared
     mkdir -p "$root/usr/$lib" "$root/DEBIAN"
-    mv "$library/usr/$lib/libsyslogbox.so.0" "$root/usr/$lib/"
+    mv "$development/usr/$lib/libsyslogbox.so.0" "$root/usr/$lib/"
     echo "libsyslogbox 0 libsyslogbox0 (>= $version)" > "$root/DEBIAN/shlibs"
     echo "activate-noawait ldconfig" > "$root/DEBIAN/triggers"
     pack "$(libc_of "$root/usr/$lib/libsyslogbox.so.0")" libs << END
@@ -157,8 +185,11 @@ Description: proved reader and writer of syslog records, as a shared library
  packets, and the union of archives. Each call is proved to meet its contract.
 END
 
-    package=libsyslogbox-dev root=$library
-    install -D -m 644 docs/LIBRARY.md "$root/usr/share/doc/$package/LIBRARY.md"
+    package=libsyslogbox-dev root=$development doc=$development/usr/share/doc/libsyslogbox-dev
+    mkdir -p "$doc/examples"
+    sed 's#](\([A-Z]*\.md\)#](../syslogbox/\1#g' docs/LIBRARY.md > "$doc/LIBRARY.md"
+    install -m 644 examples/* "$doc/examples"
+    bindings "$doc/examples"
     pack "libsyslogbox0 (= $version)" libdevel << END
 Description: proved reader and writer of syslog records, for programs in C
  libsyslogbox has the calls of syslogbox for programs in C and in languages
@@ -167,6 +198,7 @@ Description: proved reader and writer of syslog records, for programs in C
 END
 }
 
+sh scripts/library.sh > /dev/null
 tarball
 if command -v dpkg-deb > /dev/null; then
     debian

@@ -1,8 +1,10 @@
 #!/bin/sh
-# Puts a program, its manual pages, completions and units below a folder: install.sh PROGRAM FOLDER [ZSH_FOLDER]
+# Puts a program, its manual pages, completions and units below a folder: install.sh PROGRAM FOLDER PREFIX [ZSH_FOLDER].
+# PREFIX is where the folder will be when it is used; the units call the program there.
 set -eu
+umask 022
 cd "$(dirname "$0")/.."
-program=$1 to=$2 zsh=${3:-site-functions}
+program=$1 to=$2 prefix=$3 zsh=${4:-site-functions}
 install -D -m 755 "$program" "$to/bin/syslogbox"
 for page in man/*.[1-8]; do
     install -D -m 644 "$page" "$to/share/man/man${page##*.}/${page##*/}"
@@ -10,6 +12,8 @@ done
 install -D -m 644 completions/syslogbox.bash "$to/share/bash-completion/completions/syslogbox"
 install -D -m 644 completions/_syslogbox "$to/share/zsh/$zsh/_syslogbox"
 install -D -m 644 completions/syslogbox.fish "$to/share/fish/vendor_completions.d/syslogbox.fish"
-for unit in contrib/*.service contrib/*.socket; do
-    [ ! -f "$unit" ] || install -D -m 644 "$unit" "$to/lib/systemd/system/${unit##*/}"
+called=$(printf '%s\n' "$prefix/bin/syslogbox" | sed 's/[\\&|]/\\&/g')
+for unit in contrib/*.service contrib/*.socket contrib/*.timer; do
+    [ -f "$unit" ] || continue
+    sed "s|/usr/bin/syslogbox|$called|" "$unit" | install -D -m 644 /dev/stdin "$to/lib/systemd/system/${unit##*/}"
 done

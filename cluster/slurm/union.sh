@@ -7,8 +7,13 @@
 # slurm.conf. What is done is in OUT.work, with the logs of the jobs; a run that failed goes on from there when it is
 # run again; remove the folder when OUT is there. Options for sbatch, as a partition, come by its variables (SBATCH_..).
 set -euo pipefail
+shopt -s inherit_errexit
 if (($# < 3 || $# > 4)); then
     echo "usage: slurm/union.sh LIST OUT RANGES [JOBS]" >&2
+    exit 2
+fi
+if ! command -v sbatch > /dev/null; then
+    echo "union.sh: Slurm's sbatch is not here; Debian's package is slurm-client" >&2
     exit 2
 fi
 here=$(dirname "$(realpath "$0")")

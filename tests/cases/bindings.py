@@ -319,6 +319,8 @@ def installed(results, folder):
     program = "import syslogbox; print(syslogbox.is_record(b'<0>1 - - - - - -'))"
     seen = run(sys.executable, ["-c", program], environment={"PYTHONPATH": str(to), "SYSLOGBOX_LIBRARY": ""})
     results.same("Python: what was installed runs", seen, (0, b"True\n", b""))
+    status, _, notes = run(sys.executable, ["-c", program], environment={"PYTHONPATH": str(to), "SYSLOGBOX_LIBRARY": "/dev/null"})
+    results.check("Python: without a library, it says how to name one", status == 1 and b"\nImportError: /dev/null" in notes, notes)
 
 
 # ---- Go, and the examples
@@ -328,8 +330,7 @@ def in_go(results, folder, frames, answers):
         print("SKIPPED the package in Go: there is no go")
         return
     to = folder.path / "prefix"
-    subprocess.run(["sh", "scripts/library.sh", to], cwd=ROOT, check=True, stdout=subprocess.DEVNULL)
-    subprocess.run(["sh", "scripts/install-library.sh", to], cwd=ROOT, check=True)
+    subprocess.run(["sh", "scripts/install-library.sh", to, to], cwd=ROOT, check=True)
     # go keeps what pkg-config told for another folder, but for other flags of its own
     environment = {"PKG_CONFIG_PATH": str(to / "lib/pkgconfig"), "LD_LIBRARY_PATH": str(to / "lib"), "CGO_LDFLAGS": f"-L{to}/lib",
                    "GOFLAGS": "-mod=mod", "SYSLOGBOX_ANSWERS": written(folder, "records", frames, answers)}

@@ -20,6 +20,12 @@ def path_of_tools(folder):
     return str(folder)
 
 
+def converts(program):
+    """Whether a program converts the first record."""
+    done = subprocess.run([program, "convert"], input=RECORD, capture_output=True)
+    return (done.returncode, done.stdout) == (0, RECORD)
+
+
 def first(room, results):
     missing = lacking(*TOOLS)
     if missing:

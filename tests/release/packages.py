@@ -1,11 +1,22 @@
 """The packages: the same octets wherever they are made, and installed, run and removed in a clean root."""
 import gzip
 import os
+import re
 import subprocess
+import sys
 import tarfile
+import zipfile
 
-from first import RECORD
+from first import converts
+from installing import in_c, units, with_units
 from results import ROOT, clone, lacking, name_sources, run
+
+LINK = re.compile(r"\]\(([^)#:\s]+)(?:#[^)\s]*)?\)")
+OF_THE_TARBALL = ["README.md", "CHANGELOG.md", "docs/*.md", "docs/pictures/*", "contrib/*.conf", "examples/*", "include/*.h", "python/*.py",
+                  "python/*.toml", "go/*", "cluster/*.*", "cluster/slurm/*"]
+OF_THE_PACKAGE = {"README.md": "", "docs/*.md": "", "docs/pictures/*": "pictures", "contrib/*.conf": "examples",
+                  "cluster/*.*": "examples/cluster", "cluster/slurm/*": "examples/cluster/slurm"}
+OF_THE_LIBRARY = {"docs/LIBRARY.md": "", "examples/*": "examples", "python/*.*": "examples/python", "go/*": "examples/go"}
 
 
 def made(folder, **environment):
@@ -13,11 +24,6 @@ def made(folder, **environment):
     status, said = run(["make", "-s", "dist"], cwd=folder, env={**os.environ, **environment})
     files = sorted((folder / "build/dist").iterdir()) if status == 0 else []
     return {file.name: file for file in files}, said
-
-
-def converts(program):
-    done = subprocess.run([program, "convert"], input=RECORD, capture_output=True)
-    return (done.returncode, done.stdout) == (0, RECORD)
 
 
 def version_of(program):
@@ -36,7 +42,7 @@ def packages(room, results):
     if missing:
         results.skip("the packages", f"there is no {missing}")
         return
-    folder, another = clone(room / "one"), clone(room / "another, in a longer path")
+    folder, another = with_units(clone(room / "one")), with_units(clone(room / "another, in a longer path"))
     for it in [folder, another]:
         name_sources(it)
     subprocess.run(["chmod", "-R", "go=", str(another)], check=True)
@@ -54,9 +60,7 @@ def packages(room, results):
             tarball(file, version, room, results)
     packed = {name.split("_")[0]: file for name, file in files.items() if name.endswith(".deb")}
     if packed:
-        debian(["syslogbox"], packed, room / "root", results, lambda root: installed(root, version, results))
-        both = ["libsyslogbox0", "libsyslogbox-dev"]
-        debian(both, packed, room / "library", results, lambda root: library(root, version, room, results))
+        debian(packed, room / "root", results, lambda root: installed(root, version, room, results))
     with open(folder / "crates.txt", "a", encoding="utf-8") as crates:
         crates.write("# changed\n")
     results.check("make dist refuses a release of other sources", "built from other sources" in made(folder)[1])
@@ -71,13 +75,50 @@ def tarball(file, version, room, results):
     program = folder / "bin/syslogbox"
     results.check("its program converts the first record", converts(program))
     results.check("its program tells its version", version_of(program) == f"syslogbox {version}", version_of(program))
-    results.check("it has the recipes for several machines", os.access(folder / "cluster/parallel.sh", os.X_OK))
     results.check("its program is static", b"/lib64/ld-linux" not in program.read_bytes())
     manual(folder / "share", "", bytes, results)
+    there("the tarball", folder, {pattern: os.path.dirname(pattern) for pattern in OF_THE_TARBALL}, results)
+    linked("the tarball", folder, results)
+    units("the tarball", folder, "/usr/local/bin/syslogbox", results)
+    libraries = {"LD_LIBRARY_PATH": str(folder / "lib")}
+    in_c("the tarball", room, results, {"PKG_CONFIG_PATH": str(folder / "lib/pkgconfig")}, libraries)
+    wheel(folder, results)
 
 
-def debian(packages, packed, root, results, look):
+def wheel(folder, results):
+    """pip finds the library in the tarball: what it calls puts it into the wheel."""
+    script = "import backend; print(backend.build_wheel('..'))"
+    status, said = run([sys.executable, "-B", "-c", script], cwd=folder / "python")
+    if status:
+        results.check("the wheel is built in the tarball", False, said)
+        return
+    with zipfile.ZipFile(folder / said.strip()) as made:
+        same = made.read("libsyslogbox.so.0") == (folder / "lib/libsyslogbox.so.0").read_bytes()
+    results.check("the wheel that is built in the tarball has the library", same)
+
+
+def there(name, folder, wanted, results):
+    """Below a folder are the files of the repository of these patterns, each in the folder below it that is named."""
+    for pattern, to in wanted.items():
+        files = [file for file in ROOT.glob(pattern) if file.is_file()]
+        results.check(f"{name}: {pattern} names files", files)
+        for file in files:
+            copy = folder / to / file.name
+            same = copy.is_file() and os.access(copy, os.X_OK) == os.access(file, os.X_OK)
+            results.check(f"{name}: {to}/{file.name} is there", same, str(copy))
+
+
+def linked(name, folder, results):
+    """What the documents below a folder link to is there."""
+    links = [(page, link) for page in sorted(folder.rglob("*.md")) for link in LINK.findall(page.read_text())]
+    results.check(f"{name}: its documents have links", len(links) > 30, str(len(links)))
+    for page, link in links:
+        results.check(f"{name}: {page.relative_to(folder)}: {link} is there", (page.parent / link).exists(), link)
+
+
+def debian(packed, root, results, look):
     """Packages have no error, are installed in a clean root and looked at there, and leave nothing."""
+    packages = sorted(packed)
     if lacking("lintian"):
         results.skip("lintian has no error", "there is no lintian")
     else:
@@ -103,31 +144,21 @@ def debian(packages, packed, root, results, look):
     results.check(f"nothing of {named} is left behind", files_of(root) == before, str(files_of(root) ^ before))
 
 
-def installed(root, version, results):
-    program = root / "usr/bin/syslogbox"
+def installed(root, version, room, results):
+    program, documents = root / "usr/bin/syslogbox", root / "usr/share/doc"
     results.check("the installed program converts the first record", converts(program))
-    recipe = root / "usr/share/doc/syslogbox/examples/cluster/parallel.sh"
-    results.check("the recipes for several machines are installed", os.access(recipe, os.X_OK))
     results.check("the installed program tells its version", version_of(program) == f"syslogbox {version}")
     manual(root / "usr/share", ".gz", gzip.decompress, results)
-
-
-def library(root, version, room, results):
-    """A program in C is compiled by what pkg-config tells of the installed library, and runs with it."""
-    if lacking("pkg-config"):
-        results.skip("the installed library", "there is no pkg-config")
-        return
-    folder, source = root / "usr/lib/x86_64-linux-gnu", room / "first.c"
-    source.write_text('#include <syslogbox.h>\nint main(void) { return !syslogbox_check((const uint8_t *)"%s", %d, 0); }\n'
-                      % (RECORD.decode(), len(RECORD)))
-    told = {"env": {**os.environ, "PKG_CONFIG_PATH": str(folder / "pkgconfig"), "PKG_CONFIG_SYSROOT_DIR": str(root)}}
-    flags = run(["pkg-config", "--cflags", "--libs", "syslogbox"], **told)[1].split("\n")[0]
-    status, said = run(["sh", "-c", f'exec gcc -o "$1/first" "$1/first.c" {flags}', "sh", room])
-    results.check("a program is compiled with the installed library", status == 0, said)
-    seen = run([str(room / "first")], env={**os.environ, "LD_LIBRARY_PATH": str(folder)}) if status == 0 else None
-    results.check("it checks the first record with the shared library", seen == (0, ""), str(seen))
-    of_version = run(["pkg-config", "--modversion", "syslogbox"], **told)[1].strip()
-    results.check("pkg-config tells the version", of_version == version, of_version)
+    units("the package", root / "usr", "/usr/bin/syslogbox", results)
+    there("the package", documents / "syslogbox", OF_THE_PACKAGE, results)
+    there("the package of the library", documents / "libsyslogbox-dev", OF_THE_LIBRARY, results)
+    linked("the packages", documents, results)
+    folder = root / "usr/lib/x86_64-linux-gnu"
+    told = {"PKG_CONFIG_PATH": str(folder / "pkgconfig"), "PKG_CONFIG_SYSROOT_DIR": str(root)}
+    in_c("the packages", room, results, told, {"LD_LIBRARY_PATH": str(folder)})
+    if not lacking("pkg-config"):
+        of_version = run(["pkg-config", "--modversion", "syslogbox"], env={**os.environ, **told})[1].strip()
+        results.check("pkg-config tells the version", of_version == version, of_version)
 
 
 def files_of(root):

@@ -1,5 +1,6 @@
 #!/usr/bin/env python3
-"""Tests of what is handed out: the first command, the comparing of release/, the packages, the completions.
+"""Tests of what is handed out: the first command, the comparing of release/, `make install`, the packages, the completions,
+and what the recipes of cluster/ say of what is not here.
 
 usage: tests/release/run.py PROGRAM
 
@@ -14,7 +15,9 @@ sys.dont_write_bytecode = True
 from comparing import comparing
 from completions import completions
 from first import first
+from installing import installing
 from packages import packages
+from recipes import recipes
 from results import Results
 
 
@@ -23,7 +26,7 @@ def main():
     results = Results()
     completions(program, results)
     with tempfile.TemporaryDirectory(prefix="release-") as room:
-        for part in [first, comparing, packages]:
+        for part in [first, comparing, installing, packages, recipes]:
             folder = Path(room) / part.__name__
             folder.mkdir()
             part(folder, results)
