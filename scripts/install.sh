@@ -10,6 +10,6 @@ done
 install -D -m 644 completions/syslogbox.bash "$to/share/bash-completion/completions/syslogbox"
 install -D -m 644 completions/_syslogbox "$to/share/zsh/$zsh/_syslogbox"
 install -D -m 644 completions/syslogbox.fish "$to/share/fish/vendor_completions.d/syslogbox.fish"
-for unit in contrib/*.service contrib/*.socket; do
+for unit in contrib/*.service contrib/*.socket contrib/*.timer; do
     [ ! -f "$unit" ] || install -D -m 644 "$unit" "$to/lib/systemd/system/${unit##*/}"
 done
