@@ -1,4 +1,5 @@
-"""Compacts stores: each call on the disk fails or is the last of the process, and the power is cut at any call.
+"""Compacts stores: each call on the disk fails or is the last of the process, and the power is cut at any call; beside
+a server, too.
 
 Whatever happens, the folder holds the same set as before, and the next compaction leaves at most eight segments a day.
 The power is cut on disks that are built from the calls of real runs (tests/lib/power_cut.py); logs from which a sync is
@@ -6,7 +7,10 @@ missing have to be found wrong.
 """
 import errno
 import fcntl
+import os
+import resource
 import shutil
+import subprocess
 import tempfile
 from collections import Counter
 from pathlib import Path
@@ -14,7 +18,8 @@ from random import Random
 
 from hostile.stores import room, without
 from lib.power_cut import Cut, Disk, calls_of
-from lib.reference import archive_text
+from lib.reference import archive_text, framed
+from lib.server import SOON, Server, any_port, until
 from lib.store_format import SEGMENT, day_of, files_of, held, is_named_right, segment_name
 from lib.stores import FORGED, Keeper, put_folder, records
 
@@ -95,6 +100,7 @@ class Compactions:
         answer = self.run(full="100 1000000")
         right = answer[0] == 2 and answer[2].startswith(b"compact.archive: ") and b"No space left" in answer[2]
         self.results.check("compaction on a full disk", right, str(answer))
+        self.results.check("no draft is left on a full disk", not (self.store / "compact.archive").exists())
         self.goes_on("compaction on a full disk")
 
     def losses(self, calls, seed, each):
@@ -128,15 +134,62 @@ def is_damaged(program, results, path, files):
 
 
 def is_locked(program, results, path, files):
-    """One compaction at a time."""
+    """One compaction at a time, and none where its lock cannot be made."""
     store = put_folder(Path(path) / "locked", files)
     with open(store / "lock.compact", "wb") as lock:
         fcntl.flock(lock, fcntl.LOCK_EX)
         answer = program.run(["compact", str(store)])
-        results.same("a second compaction", answer, (2, b"", b"store is being compacted\n"))
+        results.same("a second compaction", answer, (2, b"", b"lock.compact: the store is being compacted\n"))
         results.check("it changes nothing", {**files, b"lock.compact": b""} == files_of(store))
+    (store / "lock.compact").unlink()
+    (store / "lock.compact").mkdir()
+    answer = program.run(["compact", str(store)])
+    results.check("a lock that cannot be made", answer[0] == 2 and answer[2].startswith(b"lock.compact: Is a dir"), str(answer))
     answer = program.run(["compact", str(Path(path) / "none")])
     results.check("no store", answer[0] == 2 and answer[2].startswith(b"no store: "), str(answer))
+
+
+def has_few_descriptors(program, results, path, files):
+    """Too few descriptors for the segments of a day: which file, and why."""
+    store = put_folder(Path(path) / "descriptors", files)
+    answer = subprocess.run([program.path, "compact", str(store)], capture_output=True, check=False,
+                            preexec_fn=lambda: resource.setrlimit(resource.RLIMIT_NOFILE, (12, 12)))
+    name, _, why = answer.stderr.partition(b": ")
+    right = answer.returncode == 2 and name in files and why.startswith(b"Too many open files")
+    results.check("too few descriptors", right, str(answer))
+    results.check("too few descriptors: nothing changes", {**files, b"lock.compact": b""} == files_of(store))
+
+
+def named(store):
+    """The names of the segments in a folder."""
+    return {name for name in os.listdir(os.fsencode(store)) if SEGMENT.fullmatch(name)}
+
+
+def removed_but_open(server):
+    """The files that a server has open and that have no name any more."""
+    folder, found = Path(f"/proc/{server.process.pid}/fd"), []
+    for one in os.listdir(folder):
+        try:
+            found.append(os.readlink(folder / one))
+        except FileNotFoundError:
+            pass
+    return [one for one in found if one.startswith(str(server.store)) and one.endswith(" (deleted)")]
+
+
+def is_beside(program, results, path, files, seed):
+    """A server goes on beside compactions: all is there, and what was removed takes no room."""
+    store, sent = put_folder(Path(path) / "beside", files), records(("beside", seed), 0, 3_000, 8_000)
+    text = archive_text(held(files) | set(sent))
+    with Server(program, store, *any_port("counted"), *SOON, "--checkpoint", 1) as server:
+        for part in range(3):
+            begun = named(store)
+            server.send("counted", *(framed("counted", one) for one in sent[1_000 * part:1_000 * part + 1_000]))
+            until(lambda before=begun: named(store) - before)
+            answer = program.run(["compact", str(store)])
+            results.same(f"compaction {part} beside a server", answer, (0, b"", b""))
+        results.same("beside a server: what is read", server.until_held(text), (0, text, b""))
+        results.same("beside a server: files that were removed", removed_but_open(server), [])
+        results.check("the server goes on", server.process.poll() is None, str(server.told()))
 
 
 def compactions(program, results, seed, each=20):
@@ -149,6 +202,8 @@ def compactions(program, results, seed, each=20):
         tried.is_cut(seed, each)
         is_damaged(program, results, path, tried.files)
         is_locked(program, results, path, tried.files)
+        has_few_descriptors(program, results, path, tried.files)
+        is_beside(program, results, path, tried.files, seed)
         few = Compactions(program, results, path, many_segments(("few", seed), MOST))
         few.is_done("a compaction of few", few.run())
         left = {name: octets for name, octets in files_of(few.store).items() if name != b"lock.compact"}

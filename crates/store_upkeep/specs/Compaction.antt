@@ -13,6 +13,7 @@ use Rattle.record_store.specs.Segments.{IsSegmentOf, ShowsNoMore, segment_name}
 use Rattle.store_reading.specs.Days.{IsDayText}
 use Rattle.store_reading.specs.Segments.{NamesHave}
 use Rattle.store_upkeep.specs.Whole.{IsWholeAt}
+use Rattle.store_upkeep.specs.declared.whole_files.WholeFiles.{WholeFiles}
 
 -- the octets that a read shows under each name
 abbrev pub shown : State → Files
@@ -94,3 +95,7 @@ pub record GoesOn (most : ℕ) (state : State) (names : List (List ℕ)) (last :
   pub sound : IsSound state
   pub days : (day : List ℕ) → DayIsListed state names day ⊎ HasAtMost most state day
   pub last_few : IfSome last (HasAtMost most state)
+
+-- the disk underneath
+abbrev pub disk_of : {D : Type 0} → WholeFiles D → D
+disk_of whole = whole.disk

@@ -13,9 +13,11 @@ mod stream_disk;
 #[cfg(test)]
 mod tests;
 mod verification;
+mod whole_files;
 
 pub use compact_fault::CompactFault;
 pub use compaction::{SEGMENTS_MAX, compact};
 pub use damage::{Damage, DamagedFile, damage_of};
 pub use stream_disk::StreamDisk;
 pub use verification::verify;
+pub use whole_files::WholeFiles;

@@ -146,7 +146,16 @@ fn begin<D: StreamDisk>(
     }
 }
 
-// Brings a draft to the disk.
+// Removes a draft that is not to be kept, as far as the disk lets it.
+fn discard<D: Disk>(disk: &mut D, draft: &FileName)
+    ensures others { D.tells disk.new
+        → KeepsOthers (D.state disk.old) (D.state disk.new) draft.now }
+    ensures told { D.tells disk.new → D.tells disk.old }
+{
+    let _ = disk.remove(draft);
+}
+
+// Brings a draft to the disk. One that is not brought there is removed.
 fn settle<D: StreamDisk>(
     alloc: Global,
     disk: &mut D,
@@ -162,11 +171,15 @@ fn settle<D: StreamDisk>(
 {
     match disk.settle(draft, writer) {
         Ok(()) => Ok(()),
-        Err(fault) => Err(write_fault(alloc, draft, fault)),
+        Err(fault) => {
+            discard(disk, draft);
+            Err(write_fault(alloc, draft, fault))
+        }
     }
 }
 
-// Why segments were not joined. Where the draft was not written, the disk says why as it is settled.
+// Why segments were not joined. Where the draft was not written, the disk says why as it is settled. The
+// draft is removed.
 fn fault_of<D: StreamDisk>(
     alloc: Global,
     disk: &mut D,
@@ -181,15 +194,20 @@ fn fault_of<D: StreamDisk>(
     ensures told { D.tells disk.new → D.tells disk.old }
 {
     if !matches!(fault, JoinFault::Write { .. }) {
+        discard(disk, draft);
         return CompactFault::from(join_fault(alloc, segments, day, fault));
     }
     match settle(alloc, disk, draft, writer) {
-        Ok(()) => write_fault(alloc, draft, DiskFault::Failed),
+        Ok(()) => {
+            discard(disk, draft);
+            write_fault(alloc, draft, DiskFault::Failed)
+        }
         Err(fault) => fault,
     }
 }
 
-/// Writes the union of the segments of a day as a draft, and brings it to the disk.
+/// Writes the union of the segments of a day as a draft, and brings it to the disk. Where that fails,
+/// the draft is removed.
 pub(crate) fn join_segments<D: StreamDisk>(
     alloc: Global,
     disk: &mut D,

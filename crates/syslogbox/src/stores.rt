@@ -3,13 +3,14 @@
 use archive_engine::report_archive_fault;
 use archive_sets::InRange;
 use archive_text::ArchiveFault;
-use disk::{DiskFault, FileName};
+use disk::DiskFault;
 use driver::{DONE, FAULT, NO_MEMORY, REFUSED, report};
 use folder_disk::{FileError, FolderLock, LockFault, LockFile};
 use octet_devices::{Output, ToWrite, write_all};
 use std::alloc::{AllocError, Global};
 use std::fmt::Display;
 use store_engine::{SystemDisk, SystemFolder, read_store, report_no_store, report_read_fault};
+use store_reading::ReadFault;
 use store_upkeep::{CompactFault, Damage, DamagedFile};
 
 /// Writes the archive of the records in a range of time that a store holds. Returns the exit status.
@@ -102,18 +103,18 @@ fn report_why<N: Output>(
     }
 }
 
-// Reports that a file could not be written, removed or given its name.
-fn report_write_fault<N: Output>(
+// Reports that a call on a file or on the folder failed, by the error that the system last told.
+fn report_disk_fault<N: Output>(
     alloc: Global,
     disk: &SystemDisk<HostRuntime>,
-    name: &FileName,
+    what: &[u8],
     fault: DiskFault,
     diagnostics: &mut N,
 ) -> u8 {
     if matches!(fault, DiskFault::Memory) {
         return report(diagnostics, b"want of memory\n", NO_MEMORY);
     }
-    let what = str::from_utf8(name.as_octets()).unwrap_or("?");
+    let what = str::from_utf8(what).unwrap_or("?");
     match disk.last_error() {
         Some(FileError { name: _, error }) => report_why(alloc, what, error, diagnostics),
         None => report_why(alloc, what, fault, diagnostics),
@@ -132,18 +133,34 @@ fn report_damage<N: Output>(alloc: Global, file: &DamagedFile, diagnostics: &mut
 fn report_compact_fault<N: Output>(
     alloc: Global,
     disk: &SystemDisk<HostRuntime>,
+    dir: &str,
     fault: CompactFault,
     diagnostics: &mut N,
 ) -> u8 {
     match fault {
+        CompactFault::Read(ReadFault::Folder { fault }) => {
+            report_disk_fault(alloc, disk, dir.as_bytes(), fault, diagnostics)
+        }
+        CompactFault::Read(ReadFault::Open { name, fault }) => {
+            report_disk_fault(alloc, disk, name.as_octets(), fault, diagnostics)
+        }
         CompactFault::Read(fault) => report_read_fault(alloc, &fault, diagnostics),
         CompactFault::Damaged { name, damage } => {
             report_damage(alloc, &DamagedFile { name, damage }, diagnostics)
         }
         CompactFault::Write { name, fault } => {
-            report_write_fault(alloc, disk, &name, fault, diagnostics)
+            report_disk_fault(alloc, disk, name.as_octets(), fault, diagnostics)
         }
         CompactFault::Day => report(diagnostics, b"no name of a day\n", FAULT),
+    }
+}
+
+// Reports why a store may not be compacted now, and returns the exit status.
+fn report_lock_fault<N: Output>(alloc: Global, fault: LockFault, diagnostics: &mut N) -> u8 {
+    let what = LockFile::Compaction.name();
+    match fault {
+        LockFault::Held => report_why(alloc, what, "the store is being compacted", diagnostics),
+        LockFault::Failed(error) => report_why(alloc, what, error, diagnostics),
     }
 }
 
@@ -156,11 +173,10 @@ pub fn compact<N: Output>(rt: &HostRuntime, alloc: Global, dir: &str, diagnostic
     };
     let _lock = match FolderLock::take(rt, dir, LockFile::Compaction) {
         Ok(lock) => lock,
-        Err(LockFault::Held) => return report(diagnostics, b"store is being compacted\n", FAULT),
-        Err(LockFault::Failed(error)) => return report_why(alloc, dir, error, diagnostics),
+        Err(fault) => return report_lock_fault(alloc, fault, diagnostics),
     };
     match store_upkeep::compact(alloc, &mut disk) {
         Ok(()) => DONE,
-        Err(fault) => report_compact_fault(alloc, &disk, fault, diagnostics),
+        Err(fault) => report_compact_fault(alloc, &disk, dir, fault, diagnostics),
     }
 }
