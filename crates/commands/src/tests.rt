@@ -81,7 +81,7 @@ fn a_datagram_may_have_262_144_octets(rt: HostRuntime) -> Result<(), Fail> {
 
 #[test]
 fn other_words_are_a_usage_fault(rt: HostRuntime) -> Result<(), Fail> {
-    let rows: [&[&str]; 20] = [
+    let rows: [&[&str]; 21] = [
         &[],
         &["--help"],
         &["help"],
