@@ -7,7 +7,7 @@ _syslogbox_options() {
         check) echo "--framing --summary --trim --legacy --zone --dialect --help" ;;
         show) echo "--framing --json --trim --legacy --zone --dialect --help" ;;
         convert) echo "--framing --to --trim --legacy --zone --dialect --help" ;;
-        merge | migrate | union | common | minus | diff | verify) echo "--help" ;;
+        merge | migrate | union | common | minus | diff | verify | compact) echo "--help" ;;
         select)
             echo "--from --to --undated --only-undated --severity --facility --host --app --proc --msgid --id --help"
             ;;
@@ -45,7 +45,7 @@ _syslogbox_values() {
 _syslogbox() {
     local command=${COMP_WORDS[1]} word=$2 previous=$3 files="" words
     local commands="check convert show archive merge union common minus diff select digest migrate send collect"
-    commands="$commands serve read verify help"
+    commands="$commands serve read verify compact help"
     if [ "$COMP_CWORD" -eq 1 ]; then
         words="$commands --help --version"
     elif [ "$command" = help ]; then
@@ -57,7 +57,7 @@ _syslogbox() {
         words=$(_syslogbox_options "$command")
         case "$command $COMP_CWORD" in
             "collect 2") words="$words udp counted lf" ;;
-            merge* | migrate* | union* | common* | minus* | diff* | serve* | read* | verify*)
+            merge* | migrate* | union* | common* | minus* | diff* | serve* | read* | verify* | compact*)
                 files=-f
                 compopt -o filenames 2> /dev/null
                 ;;

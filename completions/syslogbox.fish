@@ -21,12 +21,13 @@ complete -c syslogbox -n __fish_use_subcommand -a collect -d 'Receive records an
 complete -c syslogbox -n __fish_use_subcommand -a serve -d 'Receive records into a store, until it is stopped'
 complete -c syslogbox -n __fish_use_subcommand -a read -d 'Write the archive of the records that a store holds'
 complete -c syslogbox -n __fish_use_subcommand -a verify -d 'Write a line for each file of a store that is damaged'
+complete -c syslogbox -n __fish_use_subcommand -a compact -d 'Join the segments of each day of a store that has more than eight'
 complete -c syslogbox -n __fish_use_subcommand -a help -d 'Print the help of a command'
 
 set -l reading check convert show archive
 set -l dated $reading collect serve
 set -l joining merge union common minus diff
-set -l stores serve read verify
+set -l stores serve read verify compact
 set -l facilities kern user mail daemon auth syslog lpr news uucp cron authpriv ftp ntp audit alert clock \
     local0 local1 local2 local3 local4 local5 local6 local7
 set -l severities emerg alert crit err warning notice info debug

@@ -146,6 +146,8 @@ WORDS = [
     ("a store from no time", ["read", ".", "--from", "-"], HELLO, 2, b"", None),
     ("undated records of a store alone", ["read", ".", "--only-undated"], HELLO, 2, b"", None),
     ("two stores", ["verify", ".", "."], HELLO, 2, b"", None),
+    ("no store that is compacted", ["compact"], HELLO, 2, b"", None),
+    ("a range of a store that is compacted", ["compact", ".", "--undated"], HELLO, 2, b"", None),
     ("a range of a store that is verified", ["verify", ".", "--undated"], HELLO, 2, b"", None),
     ("a server without a listener", ["serve", "."], HELLO, 2, b"", None),
     ("a server without a store", ["serve", "--udp", "127.0.0.1:0"], HELLO, 2, b"", None),

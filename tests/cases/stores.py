@@ -1,7 +1,8 @@
 """A store on the system's files: each call on its disk fails, is short or is the last of the process; power cuts and kills by
-chance; folders that cannot be used; octets of segments that are changed.
+chance; folders that cannot be used; octets of segments that are changed; the same of compactions.
 
-No clause says what a file of the system gives. `hostile/stores.py` has the power cuts and the kills, and longer runs of them.
+No clause says what a file of the system gives. `hostile/stores.py` has the power cuts and the kills, and longer runs of them,
+`hostile/compaction.py` the compactions.
 """
 import errno
 import os
@@ -13,6 +14,7 @@ from collections import Counter
 from datetime import date, timedelta
 from pathlib import Path
 
+from hostile.compaction import compactions
 from hostile.stores import cuts, kills, readings, room, wrong_stores
 from lib.power_cut import calls_of
 from lib.program import Program
@@ -241,3 +243,4 @@ def stores(program, trial, results):
     cuts(keeper, results, SEED, 1_500)
     readings(keeper, results, SEED, 20)
     kills(keeper, program, results, SEED, 40)
+    compactions(program, results, SEED)

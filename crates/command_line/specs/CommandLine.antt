@@ -193,7 +193,9 @@ with_archives a = with_stream_commands (with_set_commands (with_archive_commands
 
 -- the commands on a store
 abbrev pub with_store_commands : App → App
-with_store_commands a = with_subcommand (with_subcommand a read_app.top) (folder_app (codes "verify")).top
+with_store_commands a =
+    with_subcommand (with_subcommand (with_subcommand a read_app.top) (folder_app (codes "verify")).top)
+    (folder_app (codes "compact")).top
 
 -- the commands that receive records from sockets
 abbrev pub with_receivers : App → App

@@ -57,6 +57,7 @@ pub data Asked : Type 0 where
   -- folders
   Read : Text → InRange → Asked
   Verify : Text → Asked
+  Compact : Text → Asked
   Serve : ServeAsked → Asked
 
 -- a command on frames
@@ -90,6 +91,7 @@ asked_by (request.Send options) = Send (texts_of options)
 asked_by (request.Collect words) = Collect words
 asked_by (request.Read dir range) = Read dir.now range
 asked_by (request.Verify dir) = Verify dir.now
+asked_by (request.Compact dir) = Compact dir.now
 asked_by (request.Serve words) = Serve (serve_asked words)
 
 -- the framing with this name
@@ -241,11 +243,16 @@ read_read rows =
 abbrev pub read_verify : List Row → Option Asked
 read_verify rows = option_map (λ dir. Verify dir) (first_of (codes "DIR") rows)
 
+-- `compact` with its folder
+abbrev pub read_compact : List Row → Option Asked
+read_compact rows = option_map (λ dir. Compact dir) (first_of (codes "DIR") rows)
+
 -- the request of a command on a store
 abbrev pub read_store : Text → List Row → Option Asked
 read_store name rows =
     if bytes_eq name (codes "read") then read_read rows
-    else (if bytes_eq name (codes "verify") then read_verify rows else None)
+    else (if bytes_eq name (codes "verify") then read_verify rows
+    else (if bytes_eq name (codes "compact") then read_compact rows else None))
 
 -- `serve` with its values
 abbrev pub read_serve : List Row → Option Asked

@@ -92,6 +92,10 @@ pub enum Request<'a> {
     Verify {
         dir: &'a str,
     },
+    /// `compact`: the segments of each day of a store that has many are joined.
+    Compact {
+        dir: &'a str,
+    },
     /// `serve`: the records that come to sockets, into a store.
     Serve {
         words: ServeWords<'a>,

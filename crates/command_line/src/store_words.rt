@@ -1,10 +1,10 @@
-//! The words of the commands on a store: `read` and `verify`.
+//! The words of the commands on a store: `read`, `verify` and `compact`.
 
 ghost use Rattle.std.specs.Prelude.{◌≡◌, false, option_map, IfOk};
 ghost use Rattle.clap.specs.Words.{app_of, found_of, rows_of};
 ghost use Rattle.clap.specs.declared.builder.command.Command.TheViews.{out-Command as fields_of};
 ghost use Rattle.command_line.specs.CommandLine.{folder_app, read_app, with_store_commands};
-ghost use Rattle.command_line.specs.Requests.{asked_by, read_read, read_store, read_verify};
+ghost use Rattle.command_line.specs.Requests.{asked_by, read_compact, read_read, read_store, read_verify};
 ghost use Rattle.command_line.specs.Selects.{range_in};
 
 use crate::request::Request;
@@ -48,7 +48,9 @@ pub fn with_store_commands<'a>(alloc: Global, line: Command<'a>) -> Result<Comma
     let line = with_command(line, read_command(alloc)?)?;
     let about = "Read all of a store and write a line for each of its files that is damaged";
     let verify = folder_command(alloc, "verify", about)?;
-    with_command(line, verify)
+    let about = "Join the segments of each day of a store that has more than eight";
+    let compact = folder_command(alloc, "compact", about)?;
+    with_command(with_command(line, verify)?, compact)
 }
 
 // The range of time by the options.
@@ -78,6 +80,14 @@ fn read_verify_words<'a>(matches: &ArgMatches<'a>) -> Option<Request<'a>>
     Some(Request::Verify { dir })
 }
 
+// The request of `compact`.
+fn read_compact_words<'a>(matches: &ArgMatches<'a>) -> Option<Request<'a>>
+    ensures { option_map asked_by result ≡ read_compact (rows_of (found_of matches.now)) }
+{
+    let dir = value(matches, "DIR")?;
+    Some(Request::Compact { dir })
+}
+
 /// The request of the command on a store with this name; None if a value is refused or there is no
 /// such command.
 pub fn read_store_words<'a>(name: &str, matches: &ArgMatches<'a>) -> Option<Request<'a>>
@@ -86,6 +96,7 @@ pub fn read_store_words<'a>(name: &str, matches: &ArgMatches<'a>) -> Option<Requ
     match name {
         "read" => read_read_words(matches),
         "verify" => read_verify_words(matches),
+        "compact" => read_compact_words(matches),
         _ => None,
     }
 }

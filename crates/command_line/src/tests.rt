@@ -326,6 +326,18 @@ fn read_takes_a_folder_and_a_range(rt: HostRuntime) {
 }
 
 #[test]
+fn a_store_is_compacted(rt: HostRuntime) {
+    assert!(rt;
+        matches!(
+            read_words(rt.alloc(), &["compact", "d"]),
+            Ok(Request::Compact { dir: "d" })
+        )
+    );
+    assert!(rt; refuses(&rt, &["compact"]));
+    assert!(rt; refuses(&rt, &["compact", "d", "e"]));
+}
+
+#[test]
 fn a_store_is_verified(rt: HostRuntime) {
     assert!(rt;
         matches!(

@@ -26,7 +26,7 @@ use Rattle.frame_engine.proofs.SessionLemmas.{handler_laws, nothing_goes_on, not
 use Rattle.archive_engine.specs.Archived.{archive_handling, archive_meaning}
 use Rattle.archive_engine.proofs.ArchiveLemmas.{archive_laws}
 use Rattle.archive_sets.specs.declared.fault.SelectFault.TheVariants.{Memory as select_Memory}
-use Rattle.command_line.specs.Requests.{Archive, Asked, Check, Collect, Common, Convert, Diff, Digest, Merge}
+use Rattle.command_line.specs.Requests.{Archive, Asked, Check, Collect, Common, Compact, Convert, Diff, Digest, Merge}
 use Rattle.command_line.specs.Requests.{Migrate, Minus, Read, Select, Send, Serve, Show, SpillArchive, Union, Verify}
 use Rattle.command_line.specs.Requests.{IsUsage, frames_asked, frames_by}
 use Rattle.command_line.specs.declared.request.FrameCommand.{FrameCommand}
@@ -148,6 +148,7 @@ unstarted_as (Send texts) stored old d status t = record {
 unstarted_as (SpillArchive way framing dir memory) stored old d status t = inl (refl, t)
 unstarted_as (Read dir range) stored old d status t = inl (refl, t)
 unstarted_as (Verify dir) stored old d status t = inl (refl, t)
+unstarted_as (Compact dir) stored old d status t = inl (refl, t)
 unstarted_as (Collect words) stored old d status t = inl (refl, t)
 unstarted_as (Serve words) stored old d status t = inl (refl, t)
 

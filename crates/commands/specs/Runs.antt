@@ -19,7 +19,7 @@ use Rattle.archive_engine.specs.Migrated.{RanMigrate}
 use Rattle.archive_sets.specs.Together.{MeetsAll}
 use Rattle.archive_sets.specs.declared.conditions.Conditions.{Conditions}
 use Rattle.command_line.specs.Selects.{ConditionsAsked, conditions_asked}
-use Rattle.command_line.specs.Requests.{Archive, Asked, Check, Collect, Common, Convert, Diff, Digest, Merge}
+use Rattle.command_line.specs.Requests.{Archive, Asked, Check, Collect, Common, Compact, Convert, Diff, Digest, Merge}
 use Rattle.command_line.specs.Requests.{Migrate, Minus, Read, Select, Send, Serve, Show, SpillArchive, Union, Verify}
 use Rattle.command_line.specs.declared.words.WordsFault.{WordsFault}
 use Rattle.command_line.specs.declared.words.WordsFault.TheVariants.{Usage, Memory as OutOfMemory}
@@ -104,6 +104,8 @@ RanAs (Read dir range) stored old new status =
     RanWithout (codes "store fault\n") old.output new.output old.diagnostics new.diagnostics status
 RanAs (Verify dir) stored old new status =
     RanWithout (codes "store fault\n") old.output new.output old.diagnostics new.diagnostics status
+RanAs (Compact dir) stored old new status =
+    RanWithout (codes "store fault\n") old.output new.output old.diagnostics new.diagnostics status
 RanAs (Collect words) stored old new status =
     RanWithout (codes "socket fault\n") old.output new.output old.diagnostics new.diagnostics status
 RanAs (Serve words) stored old new status =
@@ -127,6 +129,7 @@ ReadsInput (Send texts) = ⊥
 ReadsInput (SpillArchive way framing dir memory) = ⊥
 ReadsInput (Read dir range) = ⊥
 ReadsInput (Verify dir) = ⊥
+ReadsInput (Compact dir) = ⊥
 ReadsInput (Collect words) = ⊥
 ReadsInput (Serve words) = ⊥
 

@@ -81,7 +81,7 @@ fn a_datagram_may_have_262_144_octets(rt: HostRuntime) -> Result<(), Fail> {
 
 #[test]
 fn other_words_are_a_usage_fault(rt: HostRuntime) -> Result<(), Fail> {
-    let rows: [&[&str]; 20] = [
+    let rows: [&[&str]; 21] = [
         &[],
         &["--help"],
         &["help"],
@@ -101,6 +101,7 @@ fn other_words_are_a_usage_fault(rt: HostRuntime) -> Result<(), Fail> {
         &["archive", "--memory", "0"],
         &["read", "d", "--to", "-"],
         &["verify"],
+        &["compact"],
         &["serve", "d"],
     ];
     for words in rows {
@@ -115,10 +116,11 @@ fn other_words_are_a_usage_fault(rt: HostRuntime) -> Result<(), Fail> {
 
 #[test]
 fn what_only_a_program_has_is_a_fault(rt: HostRuntime) -> Result<(), Fail> {
-    let rows: [(&[&str], &[u8]); 5] = [
+    let rows: [(&[&str], &[u8]); 6] = [
         (&["archive", "--spill", "d"], b"spill fault\n"),
         (&["read", "d"], b"store fault\n"),
         (&["verify", "d"], b"store fault\n"),
+        (&["compact", "d"], b"store fault\n"),
         (&["collect", "udp", "514", "1"], b"socket fault\n"),
         (&["serve", "d", "--unix", "s"], b"socket fault\n"),
     ];

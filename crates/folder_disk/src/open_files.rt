@@ -213,8 +213,8 @@ impl<R: Files + AllocGlobal + Clone + Drop> OpenFiles<R> {
         }
     }
 
-    /// Renames a file. One that is open stays so under its new name: if it has not been synced, it
-    /// may still be.
+    /// Renames a file. One that is open and has been synced is closed: where another process removes
+    /// it later, its room is free then. If it has not been synced, it stays open under its new name.
     pub(crate) fn rename(&mut self, from: &FileName, to: &FileName) -> io::Result<()> {
         let new_name = to.copy(self.alloc())?;
         let old_path = self.path_of(from)?;
@@ -225,7 +225,11 @@ impl<R: Files + AllocGlobal + Clone + Drop> OpenFiles<R> {
         }
         self.close(to);
         if let Some(i) = self.position(from) {
-            self.opened[i].name = new_name;
+            if self.opened[i].is_synced {
+                drop(self.opened.swap_remove(i));
+            } else {
+                self.opened[i].name = new_name;
+            }
         }
         Ok(())
     }

@@ -1,9 +1,8 @@
 -- Segments are read and hashed, or are none.
-use Rattle.std.proofs.Common.{◌≡◌, ◌≢◌, ◌⊎◌, ℕ, ◌+◌, ◌<◌, ◌≤◌, List, [], ◌∷◌, ◌++◌, length, Option, None, Some, inl, inr}
-use Rattle.std.proofs.Common.{refl, sym, ap, subst, ◌∙◌, append_assoc, append-nil, length-append, arith}
-use Rattle.std.specs.Prelude.{ℤ, codes}
+use Rattle.std.proofs.Common.{◌≡◌, ◌≢◌, ℕ, ◌+◌, ◌≤◌, List, [], ◌∷◌, ◌++◌, length, Some, inl, inr}
+use Rattle.std.proofs.Common.{sym, ap, subst, ◌∙◌, append_assoc, append-nil, length-append, arith}
+use Rattle.std.specs.Prelude.{codes}
 use Rattle.std.specs.List.{AllByRecursion}
-use Rattle.std.specs.Io.KnownBytes.{Consumes, IsAtEnd}
 use Rattle.std.proofs.lemmas.List.{take_all}
 use Rattle.hex.specs.Hex.{encode_lower}
 use Rattle.sha2.specs.Hashers.{Holds256}
@@ -15,9 +14,9 @@ use Rattle.syslog_frame.specs.MsgLen.{MsgLen}
 use Rattle.syslog_frame.specs.declared.framing.Framing.TheVariants.{Counted}
 use Rattle.octet_devices.specs.Device.{InputState}
 use Rattle.archive_text.specs.Entries.{Entry}
-use Rattle.archive_text.specs.Faults.{BeginsWithOctets, IsArchiveFault, IsFaultBehind, IsLongestArchive}
+use Rattle.archive_text.specs.Faults.{BeginsWithOctets, IsArchiveFault, IsFaultBehind}
 use Rattle.archive_text.specs.Positions.{position_of}
-use Rattle.archive_text.specs.Text.{IsArchive, entry_text, text_of}
+use Rattle.archive_text.specs.Text.{entry_text, text_of}
 use Rattle.archive_text.specs.declared.fault.ArchiveFault.{ArchiveFault}
 use Rattle.archive_text.specs.declared.fault.ArchiveFault.TheVariants.{BadFrame, EntryTooLong, BadEntry}
 use Rattle.archive_text.specs.declared.fault.ArchiveFault.TheVariants.{NotCanonical, NotAscending}
@@ -25,17 +24,17 @@ use Rattle.archive_text.specs.declared.limits.TheConstants.{ENTRY_MAX}
 use Rattle.archive_text.proofs.Members.{all_append, all_left, all_right}
 use Rattle.archive_text.proofs.Prefixes.{archive_fault, archive_has_no_fault}
 use Rattle.archive_text.proofs.Texts.{no_text, one_begins, text_push}
-use Rattle.archive_streams.specs.Entries.{current, Ends, Halts, IsBegun, IsCutShort, IsOpen, Reads, ReadsOne}
+use Rattle.archive_streams.specs.Entries.{current, Ends, Halts, Reads, ReadsOne}
 use Rattle.archive_streams.specs.declared.entries.ArchiveEntries.{ArchiveEntries}
 use Rattle.archive_streams.specs.declared.fault.SideFault.{SideFault}
 use Rattle.archive_streams.specs.declared.fault.SideFault.TheVariants.{Archive as side_Archive, Input as side_Input}
 use Rattle.archive_streams.proofs.Counting.{bad_count}
 use Rattle.archive_streams.proofs.EntrySteps.{begun}
-use Rattle.archive_digest.specs.Periods.{IsIn, IsPeriodOf}
+use Rattle.archive_digest.specs.Periods.{IsIn}
 use Rattle.archive_digest.specs.declared.period.Period.TheVariants.{Day}
-use Rattle.record_store.specs.Segments.{IsSegmentOf, segment_name}
+use Rattle.record_store.specs.Segments.{segment_name}
 use Rattle.store_reading.specs.Days.{IsOf}
-use Rattle.store_reading.specs.Segments.{IsWholeOf, ReadsOf}
+use Rattle.store_reading.specs.Segments.{IsWholeOf}
 use Rattle.store_reading.proofs.DayOrders.{one_day}
 use Rattle.store_reading.proofs.Joined.{rest_of, whole_rest}
 use Rattle.store_upkeep.specs.Damages.{HashesOf, IsHashed, OfLeft, Refutes, check_fault_of}
@@ -77,7 +76,7 @@ hashes_whole day s t hasher d e f hex h ends digest = record {
 
 -- ---- a whole segment
 
-file_is : (day : List ℕ) (d e : InputState) (file : List ℕ) (w : IsWholeOf day d e) → d.left ≡ Some file
+pub file_is : (day : List ℕ) (d e : InputState) (file : List ℕ) (w : IsWholeOf day d e) → d.left ≡ Some file
     → file ≡ text_of w.entries
 file_is day d e file w left =
     let r = rest_of d.left e.left (text_of w.entries) file w.whole.consumed left in

@@ -1,2 +1,3 @@
+pub mod Compaction
 pub mod Damages
 pub mod Whole

@@ -1,13 +1,23 @@
-//! A store's folder is kept in order: [`verify`] reads all of it and finds what is damaged.
+//! A store's folder is kept up: [`verify`] reads all of it and finds what is damaged, [`compact`] joins
+//! the segments of each day that has many.
 #![tactic(auto)]
 
+mod compact_fault;
+mod compaction;
 mod damage;
 mod hashing;
 mod journal_check;
 mod segment_check;
+mod segments;
+mod stream_disk;
 #[cfg(test)]
 mod tests;
 mod verification;
+mod whole_files;
 
+pub use compact_fault::CompactFault;
+pub use compaction::{SEGMENTS_MAX, compact};
 pub use damage::{Damage, DamagedFile, damage_of};
+pub use stream_disk::StreamDisk;
 pub use verification::verify;
+pub use whole_files::WholeFiles;

@@ -13,8 +13,8 @@ use sha2::{Digest, Sha256};
 use std::alloc::Global;
 use store_reading::Day;
 
-// Reads a segment of a day to its end, and hashes it.
-fn hash_segment<R: Input>(
+/// Reads a segment of a day to its end, and hashes it.
+pub(crate) fn hash_segment<R: Input>(
     alloc: Global,
     day: &Day,
     reader: &mut R,

@@ -1,3 +1,7 @@
+//! Folders in memory are verified and compacted.
+
+mod compacting;
+
 use crate::{Damage, DamagedFile, verify};
 use archive_text::ArchiveFault;
 use disk::{Disk, DiskFault, FileName, MemoryDisk};

@@ -62,6 +62,7 @@ fn main(rt: HostRuntime) -> ExitCode {
         Ok(Request::Verify { dir }) => {
             stores::verify(&rt, rt.alloc(), dir, &mut output, &mut diagnostics)
         }
+        Ok(Request::Compact { dir }) => stores::compact(&rt, rt.alloc(), dir, &mut diagnostics),
         Ok(
             Request::SpillArchive {
                 input_framing,

@@ -1,13 +1,17 @@
-//! `read` and `verify`, over a folder of the system.
+//! `read`, `verify` and `compact`, over a folder of the system.
 
 use archive_engine::report_archive_fault;
 use archive_sets::InRange;
 use archive_text::ArchiveFault;
+use disk::DiskFault;
 use driver::{DONE, FAULT, NO_MEMORY, REFUSED, report};
+use folder_disk::{FileError, FolderLock, LockFault, LockFile};
 use octet_devices::{Output, ToWrite, write_all};
 use std::alloc::{AllocError, Global};
-use store_engine::{SystemFolder, read_store, report_no_store, report_read_fault};
-use store_upkeep::{Damage, DamagedFile};
+use std::fmt::Display;
+use store_engine::{SystemDisk, SystemFolder, read_store, report_no_store, report_read_fault};
+use store_reading::ReadFault;
+use store_upkeep::{CompactFault, Damage, DamagedFile};
 
 /// Writes the archive of the records in a range of time that a store holds. Returns the exit status.
 pub fn read<W: Output, N: Output>(
@@ -83,5 +87,96 @@ pub fn verify<W: Output, N: Output>(
         Ok(()) if damaged.is_empty() => DONE,
         Ok(()) => REFUSED,
         Err(fault) => report_read_fault(alloc, &fault, diagnostics),
+    }
+}
+
+// Reports words, and why, and returns the exit status.
+fn report_why<N: Output>(
+    alloc: Global,
+    what: &str,
+    why: impl Display + Drop,
+    diagnostics: &mut N,
+) -> u8 {
+    match format!(in alloc; "{what}: {why}\n") {
+        Ok(line) => report(diagnostics, line.as_bytes(), FAULT),
+        Err(_) => report(diagnostics, b"want of memory\n", NO_MEMORY),
+    }
+}
+
+// Reports that a call on a file or on the folder failed, by the error that the system last told.
+fn report_disk_fault<N: Output>(
+    alloc: Global,
+    disk: &SystemDisk<HostRuntime>,
+    what: &[u8],
+    fault: DiskFault,
+    diagnostics: &mut N,
+) -> u8 {
+    if matches!(fault, DiskFault::Memory) {
+        return report(diagnostics, b"want of memory\n", NO_MEMORY);
+    }
+    let what = str::from_utf8(what).unwrap_or("?");
+    match disk.last_error() {
+        Some(FileError { name: _, error }) => report_why(alloc, what, error, diagnostics),
+        None => report_why(alloc, what, fault, diagnostics),
+    }
+}
+
+// Reports that a segment is damaged.
+fn report_damage<N: Output>(alloc: Global, file: &DamagedFile, diagnostics: &mut N) -> u8 {
+    match damage_line(alloc, file) {
+        Ok(line) => report(diagnostics, &line, REFUSED),
+        Err(_) => report(diagnostics, b"want of memory\n", NO_MEMORY),
+    }
+}
+
+// Reports why a store was not compacted, and returns the exit status.
+fn report_compact_fault<N: Output>(
+    alloc: Global,
+    disk: &SystemDisk<HostRuntime>,
+    dir: &str,
+    fault: CompactFault,
+    diagnostics: &mut N,
+) -> u8 {
+    match fault {
+        CompactFault::Read(ReadFault::Folder { fault }) => {
+            report_disk_fault(alloc, disk, dir.as_bytes(), fault, diagnostics)
+        }
+        CompactFault::Read(ReadFault::Open { name, fault }) => {
+            report_disk_fault(alloc, disk, name.as_octets(), fault, diagnostics)
+        }
+        CompactFault::Read(fault) => report_read_fault(alloc, &fault, diagnostics),
+        CompactFault::Damaged { name, damage } => {
+            report_damage(alloc, &DamagedFile { name, damage }, diagnostics)
+        }
+        CompactFault::Write { name, fault } => {
+            report_disk_fault(alloc, disk, name.as_octets(), fault, diagnostics)
+        }
+        CompactFault::Day => report(diagnostics, b"no name of a day\n", FAULT),
+    }
+}
+
+// Reports why a store may not be compacted now, and returns the exit status.
+fn report_lock_fault<N: Output>(alloc: Global, fault: LockFault, diagnostics: &mut N) -> u8 {
+    let what = LockFile::Compaction.name();
+    match fault {
+        LockFault::Held => report_why(alloc, what, "the store is being compacted", diagnostics),
+        LockFault::Failed(error) => report_why(alloc, what, error, diagnostics),
+    }
+}
+
+/// Joins the segments of each day of a store that has more than eight. Returns the exit status: 0 where
+/// each day has at most eight then, 1 where a segment is damaged.
+pub fn compact<N: Output>(rt: &HostRuntime, alloc: Global, dir: &str, diagnostics: &mut N) -> u8 {
+    let mut disk = match SystemDisk::open(rt, dir) {
+        Ok(disk) => disk,
+        Err(error) => return report_no_store(alloc, &error, diagnostics),
+    };
+    let _lock = match FolderLock::take(rt, dir, LockFile::Compaction) {
+        Ok(lock) => lock,
+        Err(fault) => return report_lock_fault(alloc, fault, diagnostics),
+    };
+    match store_upkeep::compact(alloc, &mut disk) {
+        Ok(()) => DONE,
+        Err(fault) => report_compact_fault(alloc, &disk, dir, fault, diagnostics),
     }
 }

@@ -1,0 +1,111 @@
+use Rattle.std.proofs.Common.{arith, List, ℕ, subst, sym, ◌∙◌}
+use Rattle.store_upkeep.specs.Compaction.{AreDayNames}
+use Rattle.store_upkeep.proofs.DaysKept.{few_listed, listed_day, then_apart, unchanged_apart}
+use Rattle.store_upkeep.proofs.SameSets.{then_set, unchanged_set}
+use Rattle.store_upkeep.specs.declared.compaction.TheConstants.{SEGMENTS_MAX}
+use Rattle.store_upkeep.proofs.compaction.compact_day.Goals as goal
+
+pub returns-in_err-join_day-clause-set : goal.returns-in_err-join_day-clause-set
+returns-in_err-join_day-clause-set g c t sound =
+    let zero = g.D.Disk.state c.args.disk.now in
+    let one = g.D.Disk.state c.list.new.disk in
+    let two = g.D.Disk.state c.join_day.new.disk in
+    let names = c.in_ok-names.names.items in
+    let before = c.join_day.ensures.told t in
+    let same = c.list.ensures.same before in
+    let listed = c.in_ok-names.ensures.names before sound in
+    let found = subst (λ (l : List (List ℕ)). AreDayNames names c.args.day.now l) (sym c.deref-2.ensures.value)
+    (subst (λ (l : List (List ℕ)). AreDayNames l c.args.day.now c.in_ok-segments.segments.items) c.deref.ensures.value
+    c.in_ok-segments.ensures) in
+    then_set zero one two (unchanged_set zero one same)
+    (c.join_day.ensures.set t (same.lost ∙ sound) names listed found)
+
+pub returns-clause-set : goal.returns-clause-set
+returns-clause-set g c t sound =
+    let zero = g.D.Disk.state c.args.disk.now in
+    let one = g.D.Disk.state c.list.new.disk in
+    let two = g.D.Disk.state c.join_day.new.disk in
+    let names = c.in_ok-names.names.items in
+    let before = c.join_day.ensures.told t in
+    let same = c.list.ensures.same before in
+    let listed = c.in_ok-names.ensures.names before sound in
+    let found = subst (λ (l : List (List ℕ)). AreDayNames names c.args.day.now l) (sym c.deref-2.ensures.value)
+    (subst (λ (l : List (List ℕ)). AreDayNames l c.args.day.now c.in_ok-segments.segments.items) c.deref.ensures.value
+    c.in_ok-segments.ensures) in
+    then_set zero one two (unchanged_set zero one same)
+    (c.join_day.ensures.set t (same.lost ∙ sound) names listed found)
+
+pub returns-clause-few : goal.returns-clause-few
+returns-clause-few g c t sound =
+    let zero = g.D.Disk.state c.args.disk.now in
+    let one = g.D.Disk.state c.list.new.disk in
+    let two = g.D.Disk.state c.join_day.new.disk in
+    let names = c.in_ok-names.names.items in
+    let before = c.join_day.ensures.told t in
+    let same = c.list.ensures.same before in
+    let listed = c.in_ok-names.ensures.names before sound in
+    let found = subst (λ (l : List (List ℕ)). AreDayNames names c.args.day.now l) (sym c.deref-2.ensures.value)
+    (subst (λ (l : List (List ℕ)). AreDayNames l c.args.day.now c.in_ok-segments.segments.items) c.deref.ensures.value
+    c.in_ok-segments.ensures) in
+    c.in_ok-join_day.ensures.few t (same.lost ∙ sound) names listed found
+
+pub returns-clause-sound : goal.returns-clause-sound
+returns-clause-sound g c t sound =
+    let zero = g.D.Disk.state c.args.disk.now in
+    let one = g.D.Disk.state c.list.new.disk in
+    let two = g.D.Disk.state c.join_day.new.disk in
+    let names = c.in_ok-names.names.items in
+    let before = c.join_day.ensures.told t in
+    let same = c.list.ensures.same before in
+    let listed = c.in_ok-names.ensures.names before sound in
+    let found = subst (λ (l : List (List ℕ)). AreDayNames names c.args.day.now l) (sym c.deref-2.ensures.value)
+    (subst (λ (l : List (List ℕ)). AreDayNames l c.args.day.now c.in_ok-segments.segments.items) c.deref.ensures.value
+    c.in_ok-segments.ensures) in
+    c.in_ok-join_day.ensures.sound t (same.lost ∙ sound) names listed found
+
+pub returns-in_err-join_day-clause-others : goal.returns-in_err-join_day-clause-others
+returns-in_err-join_day-clause-others g c t =
+    let zero = g.D.Disk.state c.args.disk.now in
+    let one = g.D.Disk.state c.list.new.disk in
+    let two = g.D.Disk.state c.join_day.new.disk in
+    let names = c.in_ok-names.names.items in
+    let before = c.join_day.ensures.told t in
+    let found = subst (λ (l : List (List ℕ)). AreDayNames names c.args.day.now l) (sym c.deref-2.ensures.value)
+    (subst (λ (l : List (List ℕ)). AreDayNames l c.args.day.now c.in_ok-segments.segments.items) c.deref.ensures.value
+    c.in_ok-segments.ensures) in
+    then_apart zero one two c.args.day.now (unchanged_apart zero one c.args.day.now (c.list.ensures.same before))
+    (c.join_day.ensures.others t names found)
+
+pub returns-clause-others : goal.returns-clause-others
+returns-clause-others g c t =
+    let zero = g.D.Disk.state c.args.disk.now in
+    let one = g.D.Disk.state c.list.new.disk in
+    let two = g.D.Disk.state c.join_day.new.disk in
+    let names = c.in_ok-names.names.items in
+    let before = c.join_day.ensures.told t in
+    let found = subst (λ (l : List (List ℕ)). AreDayNames names c.args.day.now l) (sym c.deref-2.ensures.value)
+    (subst (λ (l : List (List ℕ)). AreDayNames l c.args.day.now c.in_ok-segments.segments.items) c.deref.ensures.value
+    c.in_ok-segments.ensures) in
+    then_apart zero one two c.args.day.now (unchanged_apart zero one c.args.day.now (c.list.ensures.same before))
+    (c.join_day.ensures.others t names found)
+
+pub returns-then-len-le-SEGMENTS_MAX-clause-few : goal.returns-then-len-le-SEGMENTS_MAX-clause-few
+returns-then-len-le-SEGMENTS_MAX-clause-few g c t sound =
+    let one = g.D.Disk.state c.list.new.disk in
+    let names = c.in_ok-names.names.items in
+    few_listed SEGMENTS_MAX one names c.in_ok-segments.segments.items c.args.day.now
+    (listed_day one names c.args.day.now (c.in_ok-names.ensures.names t sound))
+    (subst (λ (l : List (List ℕ)). AreDayNames l c.args.day.now c.in_ok-segments.segments.items) c.deref.ensures.value
+    c.in_ok-segments.ensures) (omega arith)
+
+pub returns-then-len-le-SEGMENTS_MAX-clause-set : goal.returns-then-len-le-SEGMENTS_MAX-clause-set
+returns-then-len-le-SEGMENTS_MAX-clause-set g c t sound =
+    unchanged_set (g.D.Disk.state c.args.disk.now) (g.D.Disk.state c.list.new.disk) (c.list.ensures.same t)
+
+pub returns-in_err-names-clause-set : goal.returns-in_err-names-clause-set
+returns-in_err-names-clause-set g c t sound =
+    unchanged_set (g.D.Disk.state c.args.disk.now) (g.D.Disk.state c.list.new.disk) (c.list.ensures.same t)
+
+pub returns-in_err-segments-clause-set : goal.returns-in_err-segments-clause-set
+returns-in_err-segments-clause-set g c t sound =
+    unchanged_set (g.D.Disk.state c.args.disk.now) (g.D.Disk.state c.list.new.disk) (c.list.ensures.same t)

@@ -1,0 +1,16 @@
+use Rattle.std.proofs.Common.{List, ℕ, subst, ◌∙◌}
+use Rattle.store_upkeep.specs.Damages.{OfLeft}
+use Rattle.store_upkeep.specs.Whole.{IsWholeSegment}
+use Rattle.store_upkeep.proofs.DayJoins.{input_result}
+use Rattle.store_upkeep.proofs.segments.open_segment.Goals as goal
+
+pub returns-in-Ok-clause-input : goal.returns-in-Ok-clause-input
+returns-in-Ok-clause-input g c tells sound =
+    let state = g.D.File.Input.state in
+    let before = c.open-in-Ok.ensures.told tells in
+    let same = c.in_ok-file.ensures.same before in
+    input_result state (g.D.Disk.state c.args.disk.now) (g.D.Disk.state c.open.new.disk) c.args.name.now
+    c.args.day.now (state c.in_ok-file.file) c.open-in-Ok.result same (c.in_ok-file.ensures.opened before sound)
+    (subst (λ (n : List ℕ). OfLeft (state c.in_ok-file.file) (IsWholeSegment c.args.day.now n)) c.as_octets.ensures.value
+    c.in-Ok.ensures.whole)
+    (c.open-in-Ok.ensures.opened tells (same.lost ∙ sound)) c.open-in-Ok.ensures.unused

@@ -1,0 +1,268 @@
+//! The segments of a day are joined into one.
+ghost use Rattle.std.specs.Prelude.{◌≡◌, ◌≢◌, ◌↔◌, Contains, IfOk, IsTrue, List, None, OnOk, Some, ℕ};
+ghost use Rattle.journal.specs.Journals.{IsOnDisk, IsSound};
+ghost use Rattle.archive_text.specs.Entries.{Entry};
+ghost use Rattle.record_store.specs.Names.{Counts, IsSegment};
+ghost use Rattle.record_store.specs.Puts.{KeepsOrSettlesApart};
+ghost use Rattle.store_reading.specs.Days.{IsDayText};
+ghost use Rattle.store_upkeep.specs.Compaction.{AreDayNames, AreListed, EachHasAtMost, GoesOn, HasAll};
+ghost use Rattle.store_upkeep.specs.Compaction.{HasAtMost, IsSameApart, KeepsSet, MayBePlaced};
+ghost use Rattle.store_upkeep.specs.Compaction.{RemovesOther, ShowsLess, shown};
+
+use crate::compact_fault::{CompactFault, write_fault};
+use crate::segments::{join_segments, list, name_of_draft, names_of_day};
+use crate::stream_disk::StreamDisk;
+use disk::{Disk, DiskFault, FileName};
+use std::alloc::{AllocError, Global};
+use store_reading::{Day, segment_day};
+
+/// The most segments that a day has once it is compacted.
+pub const SEGMENTS_MAX: usize = 8;
+
+// what a joined segment is called until all of it is on the disk
+fn draft_name(alloc: Global) -> Result<FileName, AllocError>
+    ensures { IfOk result (λ name. ¬ (Counts name)) }
+{
+    match FileName::new(alloc, b"compact.archive")? {
+        Some(name) => Ok(name),
+        None => unreachable!(),
+    }
+}
+
+// Gives a draft that is on the disk its name, in place of what is there.
+fn place<D: Disk>(disk: &mut D, draft: &FileName, name: &FileName) -> Result<(), DiskFault>
+    ensures placed { OnOk result (D.tells disk.new → (day text : List ℕ) (es : List Entry)
+        → MayBePlaced (D.state disk.old) draft.now name.now day text es
+        → IsOnDisk (D.state disk.new) name.now text) }
+
+    // whatever the result is: so at every moment
+    ensures set { D.tells disk.new → (day text : List ℕ) (es : List Entry)
+        → MayBePlaced (D.state disk.old) draft.now name.now day text es
+        → KeepsSet (D.state disk.old) (D.state disk.new) }
+    ensures others { D.tells disk.new → KeepsOrSettlesApart (D.state disk.old) (D.state disk.new)
+        draft.now name.now }
+
+    ensures told { D.tells disk.new → D.tells disk.old }
+{
+    disk.rename(draft, name)?;
+    disk.sync_names()?;
+    Ok(())
+}
+
+// Whether two names are the same.
+fn is_same(one: &FileName, other: &FileName) -> bool
+    ensures { IsTrue result ↔ (one.now ≡ other.now) }
+{
+    one.as_octets() == other.as_octets()
+}
+
+// Removes a segment, if it is there, unless it is the one that others are joined in.
+fn remove_other<D: Disk>(
+    disk: &mut D,
+    segment: &FileName,
+    joined: &FileName,
+) -> Result<(), DiskFault>
+    // whatever the result is: so at every moment
+    ensures done { D.tells disk.new
+        → RemovesOther (D.state disk.old) (D.state disk.new) segment.now joined.now }
+
+    ensures gone { OnOk result (D.tells disk.new → segment.now ≢ joined.now
+        → shown (D.state disk.new) segment.now ≡ None) }
+    ensures told { D.tells disk.new → D.tells disk.old }
+{
+    if is_same(segment, joined) {
+        return Ok(());
+    }
+    match disk.remove(segment) {
+        Err(DiskFault::Missing) => Ok(()),
+        removed => removed,
+    }
+}
+
+// Removes the segments of a day that were joined, but not the one that they are joined in.
+fn remove_joined<D: Disk>(
+    alloc: Global,
+    disk: &mut D,
+    segments: &[FileName],
+    joined: &FileName,
+) -> Result<(), CompactFault>
+    ensures gone { OnOk result (D.tells disk.new → (name : List ℕ) → Contains segments.now name
+        → name ≢ joined.now → shown (D.state disk.new) name ≡ None) }
+
+    // whatever the result is: so at every moment
+    ensures set { D.tells disk.new → (day text : List ℕ) (es : List Entry)
+        → HasAll (D.state disk.old) segments.now joined.now day text es
+        → KeepsSet (D.state disk.old) (D.state disk.new) }
+    ensures others { D.tells disk.new → (name : List ℕ) → ¬ (Contains segments.now name)
+        → shown (D.state disk.new) name ≡ shown (D.state disk.old) name }
+    ensures less { D.tells disk.new → ShowsLess (D.state disk.old) (D.state disk.new) }
+    ensures lost { D.tells disk.new → (D.state disk.new).lost ≡ (D.state disk.old).lost }
+
+    ensures told { D.tells disk.new → D.tells disk.old }
+{
+    'segments: for segment in segments {
+        if let Err(fault) = remove_other(disk, segment, joined) {
+            return Err(write_fault(alloc, segment, fault));
+        }
+    }
+    Ok(())
+}
+
+// Joins the segments of a day, and removes those that were joined.
+fn join_day<D: StreamDisk>(
+    alloc: Global,
+    disk: &mut D,
+    segments: &[FileName],
+    day: &Day,
+) -> Result<(), CompactFault>
+    ensures few { OnOk result (D.tells disk.new → IsSound (D.state disk.old)
+        → (names : List (List ℕ)) → AreListed (D.state disk.old) names
+        → AreDayNames names day.now segments.now
+        → HasAtMost SEGMENTS_MAX (D.state disk.new) day.now) }
+    ensures sound { OnOk result (D.tells disk.new → IsSound (D.state disk.old)
+        → (names : List (List ℕ)) → AreListed (D.state disk.old) names
+        → AreDayNames names day.now segments.now → IsSound (D.state disk.new)) }
+
+    // whatever the result is: so at every moment
+    ensures set { D.tells disk.new → IsSound (D.state disk.old)
+        → (names : List (List ℕ)) → AreListed (D.state disk.old) names
+        → AreDayNames names day.now segments.now
+        → KeepsSet (D.state disk.old) (D.state disk.new) }
+    ensures others { D.tells disk.new
+        → (names : List (List ℕ)) → AreDayNames names day.now segments.now
+        → IsSameApart day.now (D.state disk.old) (D.state disk.new) }
+
+    ensures told { D.tells disk.new → D.tells disk.old }
+{
+    let draft = draft_name(alloc)?;
+    join_segments(alloc, disk, segments, day, &draft)?;
+    let joined = name_of_draft(alloc, disk, &draft, day)?;
+    if let Err(fault) = place(disk, &draft, &joined) {
+        return Err(write_fault(alloc, &joined, fault));
+    }
+    remove_joined(alloc, disk, segments, &joined)?;
+    Ok(())
+}
+
+// Joins the segments of a day where it has more than `SEGMENTS_MAX`.
+fn compact_day<D: StreamDisk>(alloc: Global, disk: &mut D, day: &Day) -> Result<(), CompactFault>
+    ensures few { OnOk result (D.tells disk.new → IsSound (D.state disk.old)
+        → HasAtMost SEGMENTS_MAX (D.state disk.new) day.now) }
+    ensures sound { OnOk result (D.tells disk.new → IsSound (D.state disk.old)
+        → IsSound (D.state disk.new)) }
+
+    // whatever the result is: so at every moment
+    ensures set { D.tells disk.new → IsSound (D.state disk.old)
+        → KeepsSet (D.state disk.old) (D.state disk.new) }
+    ensures others { D.tells disk.new → IsSameApart day.now (D.state disk.old) (D.state disk.new) }
+
+    ensures told { D.tells disk.new → D.tells disk.old }
+{
+    let names = list(alloc, disk)?;
+    let segments = names_of_day(alloc, &names, day)?;
+    if segments.len() <= SEGMENTS_MAX {
+        return Ok(());
+    }
+    join_day(alloc, disk, &segments, day)?;
+    Ok(())
+}
+
+// Whether a day is the last one.
+fn is_last(last: &Option<Day>, day: &Day) -> bool
+    ensures { IsTrue result → last.now ≡ Some day.now }
+{
+    match last {
+        None => false,
+        Some(last) => last.is(day),
+    }
+}
+
+// Compacts the day of the segment that has a name, where that is another than the last one. Gives the
+// day.
+fn compact_day_of<D: StreamDisk>(
+    alloc: Global,
+    disk: &mut D,
+    names: &[FileName],
+    name: &FileName,
+    last: Option<Day>,
+) -> Result<Option<Day>, CompactFault>
+    ensures goes_on { IfOk result (λ next. D.tells disk.new
+        → GoesOn SEGMENTS_MAX (D.state disk.old) names.now last
+        → GoesOn SEGMENTS_MAX (D.state disk.new) names.now next) }
+    ensures few { OnOk result (D.tells disk.new
+        → GoesOn SEGMENTS_MAX (D.state disk.old) names.now last → (day : List ℕ)
+        → IsDayText day → IsSegment day name.now → HasAtMost SEGMENTS_MAX (D.state disk.new) day) }
+    ensures still { OnOk result (D.tells disk.new
+        → GoesOn SEGMENTS_MAX (D.state disk.old) names.now last → (day : List ℕ)
+        → HasAtMost SEGMENTS_MAX (D.state disk.old) day
+        → HasAtMost SEGMENTS_MAX (D.state disk.new) day) }
+
+    // whatever the result is: so at every moment
+    ensures set { D.tells disk.new → IsSound (D.state disk.old)
+        → KeepsSet (D.state disk.old) (D.state disk.new) }
+
+    ensures told { D.tells disk.new → D.tells disk.old }
+{
+    let Some(day) = segment_day(name.as_octets()) else {
+        return Ok(last);
+    };
+    if is_last(&last, &day) {
+        return Ok(last);
+    }
+    let listed = names_of_day(alloc, names, &day)?;
+    if listed.len() <= SEGMENTS_MAX {
+        return Ok(Some(day));
+    }
+    compact_day(alloc, disk, &day)?;
+    Ok(Some(day))
+}
+
+// Compacts the days of the segments that are among these names.
+fn compact_days<D: StreamDisk>(
+    alloc: Global,
+    disk: &mut D,
+    names: &[FileName],
+) -> Result<(), CompactFault>
+    ensures few { OnOk result (D.tells disk.new → IsSound (D.state disk.old)
+        → AreListed (D.state disk.old) names.now
+        → EachHasAtMost SEGMENTS_MAX (D.state disk.new)) }
+
+    // whatever the result is: so at every moment
+    ensures set { D.tells disk.new → IsSound (D.state disk.old)
+        → AreListed (D.state disk.old) names.now
+        → KeepsSet (D.state disk.old) (D.state disk.new) }
+
+    ensures told { D.tells disk.new → D.tells disk.old }
+{
+    let mut last = None;
+    'names: for name in names {
+        last = compact_day_of(alloc, disk, names, name, last)?;
+    }
+    Ok(())
+}
+
+/// Joins the segments of each day that has more than `SEGMENTS_MAX` into one, and then removes those
+/// that were joined. The joined segment is on the disk under its name before one of them is removed.
+///
+/// Each segment is read twice: once to see that it is an archive of entries of its day, and that its
+/// name has the SHA-256 of its octets, and once as it is joined. What was written is read again before
+/// it gets its name.
+///
+/// # Errors
+/// The first fault, and at which file. Nothing is removed of a day of which a segment is damaged or
+/// cannot be read. Whatever the fault is, the disk holds the same set.
+pub fn compact<D: StreamDisk>(alloc: Global, disk: &mut D) -> Result<(), CompactFault>
+    // each day has so few segments
+    ensures few { OnOk result (D.tells disk.new → IsSound (D.state disk.old)
+        → EachHasAtMost SEGMENTS_MAX (D.state disk.new)) }
+
+    // whatever the result is, the set is the same: so at every moment
+    ensures set { D.tells disk.new → IsSound (D.state disk.old)
+        → KeepsSet (D.state disk.old) (D.state disk.new) }
+
+    ensures told { D.tells disk.new → D.tells disk.old }
+{
+    let names = list(alloc, disk)?;
+    compact_days(alloc, disk, &names)?;
+    Ok(())
+}
