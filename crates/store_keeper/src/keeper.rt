@@ -99,7 +99,7 @@ impl<D: Disk + Drop> Keeping<PagedArchive> for DiskKeeper<D> {
 
     // Once a sync has failed it opens nothing: what a read shows then is not what the disk has.
     fn reopen(&mut self, alloc: Global) -> Result<(), KeepFault> {
-        if self.disk.has_lost() {
+        if !self.disk.is_sound() {
             return Err(KeepFault::Failed);
         }
         match self.store.reopen(alloc, &mut self.disk) {

@@ -1,5 +1,5 @@
 //! A disk that says whether a sync has failed on it.
-ghost use Rattle.std.specs.Prelude.{◌≡◌, false};
+ghost use Rattle.std.specs.Prelude.{◌≡◌, false, true};
 
 use disk::{Disk, DiskFault, FileName};
 use std::alloc::Global;
@@ -25,11 +25,11 @@ impl<D: Disk> WatchedDisk<D> {
         WatchedDisk { disk, lost: false }
     }
 
-    /// Whether a sync has failed.
-    pub fn has_lost(&self) -> bool
-        ensures { result ≡ false → D.tells (watched self.now) → IsSound (D.state (watched self.now)) }
+    /// Whether no sync has failed.
+    pub fn is_sound(&self) -> bool
+        ensures { result ≡ true → D.tells (watched self.now) → IsSound (D.state (watched self.now)) }
     {
-        self.lost
+        !self.lost
     }
 
     /// The disk below.
