@@ -1,1 +1,4 @@
 pub mod Keepers
+pub mod Keeping
+pub mod Runs
+pub mod Watching

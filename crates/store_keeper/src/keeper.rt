@@ -1,21 +1,19 @@
 //! A durable store and its disk.
-ghost use Rattle.std.specs.Prelude.{◌≡◌};
-ghost use Rattle.store_keeper.specs.Keepers.{disk_of};
 
-use archive_pages::{PagedArchive, Place};
-use archive_text::{AddFault, Added, Store};
+use crate::adding::add_all;
+use crate::watched::WatchedDisk;
+use archive_pages::PagedArchive;
 use disk::{Disk, DiskFault};
 use durable_store::{CheckpointFault, DurableStore, OpenFault};
 use record_store::{KeepFault as SegmentFault, StoreFault};
 use serve_engine::{KeepFault, Keeping, Taken};
 use std::alloc::Global;
-use syslog_grammar::view;
 
 /// A durable store and the disk that it is on, as what keeps the records of a server.
 #[derive(Drop)]
-pub struct DiskKeeper<D> {
+pub struct DiskKeeper<D: Disk> {
     store: DurableStore,
-    disk: D,
+    disk: WatchedDisk<D>,
 }
 
 // What a fault of the store means to a server.
@@ -37,58 +35,54 @@ fn fault_of_checkpoint(fault: CheckpointFault) -> KeepFault {
     }
 }
 
-// Adds the record of an entry.
-fn add_entry(alloc: Global, store: &mut DurableStore, octets: &[u8]) -> Result<Added, KeepFault> {
-    let Ok(view) = view(octets) else {
-        return Err(KeepFault::Failed);
-    };
-    match store.add_view(alloc, &view) {
-        Ok(added) => Ok(added),
-        Err(AddFault::Memory) => Err(KeepFault::Memory),
-        Err(AddFault::TooLong) => Err(KeepFault::Failed),
-    }
-}
-
-// Adds all records of a set.
-fn add_all(
-    alloc: Global,
-    store: &mut DurableStore,
-    fresh: &PagedArchive,
-) -> Result<Taken, KeepFault> {
-    let mut taken = Taken { new: 0, held: 0 };
-    let mut place = Place::first();
-    for _ in 0..u64::MAX {
-        let Some((entry, behind)) = fresh.next(place) else {
-            return Ok(taken);
-        };
-        match add_entry(alloc, store, entry.octets)? {
-            Added::New => taken.new = taken.new.saturating_add(1),
-            Added::Held => taken.held = taken.held.saturating_add(1),
-        }
-        place = behind;
-    }
-    Err(KeepFault::Failed)
-}
-
 impl<D: Disk + Drop> DiskKeeper<D> {
-    /// Opens the store on a disk. If that fails, the disk comes back.
-    pub fn open(alloc: Global, mut disk: D) -> Result<DiskKeeper<D>, (OpenFault, D)> {
+    ghost use Rattle.std.specs.Prelude.{◌≡◌, List, IfErr, IfOk};
+    ghost use Rattle.archive_text.specs.Entries.{Entry};
+    ghost use Rattle.journal.specs.Journals.{IsSound};
+    ghost use Rattle.record_store.specs.Crashes.{Keeps};
+    ghost use Rattle.record_store.specs.Stores.{begun};
+    ghost use Rattle.durable_store.specs.Durables.{Stands, entries_of};
+    ghost use Rattle.serve_engine.specs.Keepings.{Kept};
+    ghost use Rattle.store_keeper.specs.Keepers.{KeepsOn, disk_of, store_of};
+    ghost use Rattle.store_keeper.specs.Keeping.{kept_whole};
+    ghost use Rattle.store_keeper.specs.Watching.{watched};
+
+    /// Opens the store on a disk. The disk comes back where that fails.
+    ///
+    /// Where every crash leaves the same records in the folder, these are held and committed. After a
+    /// process that was killed more may be there than was committed: the store is between the two.
+    pub fn open(alloc: Global, mut disk: WatchedDisk<D>) -> Result<DiskKeeper<D>, (OpenFault, D)>
+        ensures whole { IfOk result (λ keeper. IsSound (D.state (watched disk))
+            → (es : List Entry) → Keeps (D.state (watched disk)) es es → KeepsOn keeper (kept_whole es)) }
+        ensures between { IfOk result (λ keeper. D.tells (disk_of keeper)
+            → IsSound (D.state (watched disk)) → (committed received : List Entry)
+            → Keeps (D.state (watched disk)) committed received
+            → Stands (store_of keeper) (D.state (disk_of keeper))
+            (begun committed received (entries_of (store_of keeper)))) }
+        ensures kept { IfErr result (λ r. D.tells r.1 → IsSound (D.state (watched disk))
+            → (committed received : List Entry) → Keeps (D.state (watched disk)) committed received
+            → Keeps (D.state r.1) committed received) }
+    {
         match DurableStore::open(alloc, &mut disk) {
             Ok(store) => Ok(DiskKeeper { store, disk }),
-            Err(fault) => Err((fault, disk)),
+            Err(fault) => Err((fault, disk.into_inner())),
         }
     }
 
-    /// The disk that the store is on.
+    /// The disk. Whatever a crash leaves of it has all that is committed, and nothing that is not held.
     pub fn disk(&self) -> &D
-        ensures { result.now ≡ disk_of self.now }
+        ensures same { result.now ≡ disk_of self.now }
+        ensures keeps { D.tells result.now → (k : Kept) → KeepsOn self.now k
+            → Keeps (D.state result.now) k.committed k.held }
     {
-        &self.disk
+        self.disk.inner()
     }
 }
 
 impl<D: Disk + Drop> Keeping<PagedArchive> for DiskKeeper<D> {
-    ghost stands = { λ _ _. ⊥ };
+    ghost use Rattle.store_keeper.specs.Keepers.{KeepsOn};
+
+    ghost stands = { λ keeper k. KeepsOn keeper k };
 
     fn take(&mut self, alloc: Global, fresh: &mut PagedArchive) -> Result<Taken, KeepFault> {
         let taken = add_all(alloc, &mut self.store, fresh)?;
@@ -103,10 +97,14 @@ impl<D: Disk + Drop> Keeping<PagedArchive> for DiskKeeper<D> {
         }
     }
 
+    // Once a sync has failed it opens nothing: what a read shows then is not what the disk has.
     fn reopen(&mut self, alloc: Global) -> Result<(), KeepFault> {
+        if !self.disk.is_sound() {
+            return Err(KeepFault::Failed);
+        }
         match self.store.reopen(alloc, &mut self.disk) {
             Ok(()) => Ok(()),
-            Err(fault) => Err(fault_of(fault)),
+            Err(cause) => Err(fault_of(cause)),
         }
     }
 

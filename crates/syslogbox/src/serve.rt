@@ -13,8 +13,7 @@ use socket_source::{Inherited, Listener, OpenFault as SocketFault, SocketSource,
 use std::alloc::{AllocError, Global};
 use std::fmt::Display;
 use std::time::Duration;
-use store_keeper::DiskKeeper;
-use syslog_collect::Collector;
+use store_keeper::{DiskKeeper, WatchedDisk, server_on};
 
 // Room for datagrams that wait, in octets, as far as the system gives it.
 const RECEIVE_BUFFER: u32 = 16 << 20;
@@ -193,7 +192,7 @@ fn open_store(
         Err(LockFault::Held) => return Err(refuse(rt, dir, "another server has the store")),
         Err(LockFault::Failed(error)) => return Err(refuse(rt, dir, error)),
     };
-    match DiskKeeper::open(rt.alloc(), disk) {
+    match DiskKeeper::open(rt.alloc(), WatchedDisk::new(disk)) {
         Ok(keeper) => Ok((lock, keeper)),
         Err((fault, disk)) => Err(refuse_store(rt, dir, fault, &disk)),
     }
@@ -228,14 +227,16 @@ fn make_server<'a>(
         Ok(file) => ToWrite::new(file),
         Err(error) => return Err(refuse(rt, words.dir, error)),
     };
-    let alloc = rt.alloc();
     let connections = words.options.connections as usize;
-    let set = PagedArchive::new(alloc);
-    let Ok(collector) = Collector::with_connections(alloc, set, words.options.reading, connections)
-    else {
-        return Err(out_of_memory(rt));
-    };
-    match Server::new(alloc, collector, keeper, ToWrite::new(rt.stderr()), refused) {
+    let reading = words.options.reading;
+    match server_on(
+        rt.alloc(),
+        keeper,
+        reading,
+        connections,
+        ToWrite::new(rt.stderr()),
+        refused,
+    ) {
         Ok(server) => Ok(server),
         Err(_) => Err(out_of_memory(rt)),
     }
@@ -253,7 +254,7 @@ fn run(rt: &HostRuntime, words: &ServeWords<'_>) -> Result<u8, Fault> {
         checkpoint_len: u64::from(words.options.checkpoint_mib) << 20,
         count_ticks: COUNT_MILLIS.checked_div(period(words)).unwrap_or(1).max(1),
     };
-    let end = server.serve(rt.alloc(), &mut source, &mut Second, &options);
+    let end = store_keeper::serve(rt.alloc(), &mut server, &mut source, &mut Second, &options);
     let status = end.status(server.counts().has_refused());
     let (keeper, _notes, _refused) = server.into_parts();
     match end {

@@ -1,0 +1,11 @@
+use Rattle.durable_store.specs.Durables.{entries_of}
+use Rattle.store_keeper.proofs.Kept.{open_kept}
+use Rattle.store_keeper.proofs.keeper.DiskKeeper.open.Goals as goal
+
+pub returns-in-Ok-clause-whole : goal.returns-in-Ok-clause-whole
+returns-in-Ok-clause-whole g c sound es keeps tells =
+    open_kept c.in-Ok.store (g.D.Disk.state c.open.new.disk.disk) es (entries_of c.in-Ok.store)
+    (c.in-Ok.ensures.opened tells sound es es keeps)
+
+pub returns-in-Err-clause-kept : goal.returns-in-Err-clause-kept
+returns-in-Err-clause-kept g c = rw c.into_inner.ensures c.open.ensures.any_moment

@@ -1,0 +1,44 @@
+-- What a run of a server leaves in a store's folder.
+use Rattle.std.specs.Prelude.{◌↔◌, ◌⊎◌, List, ◌++◌}
+use Rattle.disk.specs.States.{Files, State}
+use Rattle.disk.specs.declared.calls.Disk.{Ghosts}
+use Rattle.archive_pages.specs.Paged.{entries_in}
+use Rattle.archive_pages.specs.declared.paged.PagedArchive.{PagedArchive}
+use Rattle.archive_text.specs.Entries.{Entry, Has}
+use Rattle.syslog_legacy.specs.declared.frame_reading.FrameReading.{FrameReading}
+use Rattle.syslog_collect.specs.Collectors.{reading_of}
+use Rattle.syslog_collect.specs.Frames.{IsReceived}
+use Rattle.syslog_collect.specs.History.{AcceptedEvent}
+use Rattle.socket_source.specs.Steps.{SourceState}
+use Rattle.record_store.specs.Crashes.{MayLeaveCounted}
+use Rattle.record_store.specs.Holdings.{Held}
+use Rattle.serve_engine.specs.Servers.{DoneRun, intake_of}
+use Rattle.serve_engine.specs.Serving.{IfCommitted}
+use Rattle.serve_engine.specs.declared.serve_end.ServeEnd.{ServeEnd}
+use Rattle.serve_engine.specs.declared.server.Server.{Server}
+use Rattle.store_keeper.specs.Keepers.{KeepsOn, disk_of}
+use Rattle.store_keeper.specs.declared.keeper.DiskKeeper.{DiskKeeper}
+
+-- the disk that a server's store is on
+abbrev pub server_disk : {D N R : Type 0} {row : Ghosts D} → Server PagedArchive (DiskKeeper D row) N R → D
+server_disk server = disk_of (intake_of server).keeper
+
+-- whatever a crash leaves of a folder holds what was there first and what was received, and nothing else
+abbrev pub LeavesReceived : State → FrameReading → List Entry → List AcceptedEvent → Type 0
+LeavesReceived state way first events = (files : Files) → MayLeaveCounted state files → (e : Entry)
+    → Held files e ↔ (Has first e ⊎ IsReceived way events e)
+
+-- or nothing else
+abbrev pub LeavesNoOther : State → FrameReading → List Entry → List AcceptedEvent → Type 0
+LeavesNoOther state way first events = (files : Files) → MayLeaveCounted state files → (e : Entry) → Held files e
+    → Has first e ⊎ IsReceived way events e
+
+-- The run is what the engine says of it. On a disk that tells, a crash leaves then all that was received, where the run
+-- ends with all of it committed; and nothing else, however it ends.
+pub record RunLeaves {D N R : Type 0} {row : Ghosts D} (old new : Server PagedArchive (DiskKeeper D row) N R)
+    (source source_new : SourceState) (end : ServeEnd) (first : List Entry) (before : List AcceptedEvent) : Type 0 where
+  pub run : DoneRun entries_in KeepsOn (intake_of old) (intake_of new) source source_new end first before
+  pub received : row.tells (server_disk new) → IfCommitted end
+      (LeavesReceived (row.state (server_disk new)) (reading_of (intake_of old).collector) first (before ++ run.here))
+  pub no_other : row.tells (server_disk new)
+      → LeavesNoOther (row.state (server_disk new)) (reading_of (intake_of old).collector) first (before ++ run.here)

@@ -1,0 +1,62 @@
+//! A server over a store.
+ghost use Rattle.std.specs.Prelude.{◌≡◌, [], List, IfOk};
+ghost use Rattle.archive_pages.specs.Paged.{entries_in};
+ghost use Rattle.archive_text.specs.Entries.{Entry};
+ghost use Rattle.syslog_collect.specs.Collectors.{NoneWaits, reading_of};
+ghost use Rattle.syslog_collect.specs.History.{AcceptedEvent};
+ghost use Rattle.serve_engine.specs.Intakes.{StandsBy};
+ghost use Rattle.serve_engine.specs.Keepings.{Kept};
+ghost use Rattle.serve_engine.specs.Servers.{intake_of};
+ghost use Rattle.store_keeper.specs.Keepers.{KeepsOn};
+ghost use Rattle.store_keeper.specs.Keeping.{kept_whole};
+ghost use Rattle.store_keeper.specs.Runs.{RunLeaves};
+
+use crate::keeper::DiskKeeper;
+use archive_pages::PagedArchive;
+use disk::Disk;
+use octet_devices::Output;
+use serve_engine::{Pause, ServeEnd, ServeOptions, Server};
+use socket_source::ServerSource;
+use std::alloc::{AllocError, Global};
+use syslog_collect::Collector;
+use syslog_legacy::FrameReading;
+
+/// A server over a store, with room for so many connections, that reads frames so. It begins with what
+/// the store holds.
+pub fn server_on<D: Disk + Drop, N: Output + Drop, R: Output + Drop>(
+    alloc: Global,
+    keeper: DiskKeeper<D>,
+    reading: FrameReading,
+    connections: usize,
+    notes: N,
+    refused: R,
+) -> Result<Server<PagedArchive, DiskKeeper<D>, N, R>, AllocError>
+    ensures begins { IfOk result (λ server. (es : List Entry) → KeepsOn keeper (kept_whole es)
+        → StandsBy entries_in KeepsOn (intake_of server) (kept_whole es) es []) }
+    ensures settled { IfOk result (λ server. NoneWaits (intake_of server).collector) }
+    ensures reading { IfOk result (λ server. reading_of (intake_of server).collector ≡ reading) }
+{
+    let set = PagedArchive::new(alloc);
+    let Ok(collector) = Collector::with_connections(alloc, set, reading, connections) else {
+        return Err(AllocError);
+    };
+    let server = Server::new(alloc, collector, keeper, notes, refused)?;
+    Ok(server)
+}
+
+/// Serves a source into a store, as `Server::serve` does. Once it has finished, every crash leaves in
+/// the store's folder what was there first and what was received; and nothing else, however it ends.
+pub fn serve<D: Disk + Drop, N: Output + Drop, R: Output + Drop, Q: ServerSource, P: Pause>(
+    alloc: Global,
+    server: &mut Server<PagedArchive, DiskKeeper<D>, N, R>,
+    source: &mut Q,
+    pause: &mut P,
+    options: &ServeOptions,
+) -> ServeEnd
+    ensures { (k : Kept) (first : List Entry) (before : List AcceptedEvent)
+        → StandsBy entries_in KeepsOn (intake_of server.old) k first before
+        → NoneWaits (intake_of server.old).collector
+        → RunLeaves server.old server.new (Q.state source.old) (Q.state source.new) result first before }
+{
+    server.serve(alloc, source, pause, options)
+}

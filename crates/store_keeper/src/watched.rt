@@ -1,0 +1,101 @@
+//! A disk that says whether a sync has failed on it.
+ghost use Rattle.std.specs.Prelude.{◌≡◌, false, true};
+
+use disk::{Disk, DiskFault, FileName};
+use std::alloc::Global;
+
+/// A disk over another, which says whether a sync has failed on it. Once one has, whatever its fault,
+/// no later one promises anything until the machine is started anew.
+#[derive(Drop)]
+pub struct WatchedDisk<D: Disk> {
+    disk: D,
+    lost: bool,
+    ghost sound: { lost ≡ false → D.tells disk → (D.state disk).lost ≡ false },
+}
+
+impl<D: Disk> WatchedDisk<D> {
+    ghost use Rattle.journal.specs.Journals.{IsSound};
+    ghost use Rattle.store_keeper.specs.Watching.{watched};
+
+    /// Over a disk on which no sync has failed since the machine was started.
+    pub fn new(disk: D) -> WatchedDisk<D>
+        requires { D.tells disk → IsSound (D.state disk) }
+        ensures { watched result ≡ disk }
+    {
+        WatchedDisk { disk, lost: false }
+    }
+
+    /// Whether no sync has failed.
+    pub fn is_sound(&self) -> bool
+        ensures { result ≡ true → D.tells (watched self.now) → IsSound (D.state (watched self.now)) }
+    {
+        !self.lost
+    }
+
+    /// The disk below.
+    pub fn inner(&self) -> &D
+        ensures { result.now ≡ watched self.now }
+    {
+        &self.disk
+    }
+
+    /// The disk below.
+    pub fn into_inner(self) -> D
+        ensures { result ≡ watched self }
+    {
+        let WatchedDisk { disk, lost: _ } = self;
+        disk
+    }
+}
+
+impl<D: Disk> Disk for WatchedDisk<D> {
+    ghost state = { λ w. D.state w.disk };
+
+    ghost tells = { λ w. D.tells w.disk };
+
+    ghost has_failed = { λ w. D.has_failed w.disk };
+
+    fn names(&mut self, alloc: Global) -> Result<Vec<FileName>, DiskFault> {
+        self.disk.names(alloc)
+    }
+
+    fn read(&mut self, name: &FileName, at: u64, buf: &mut [u8]) -> Result<usize, DiskFault> {
+        self.disk.read(name, at, buf)
+    }
+
+    fn create(&mut self, name: &FileName) -> Result<(), DiskFault> {
+        self.disk.create(name)
+    }
+
+    fn append(&mut self, name: &FileName, octets: &[u8]) -> Result<(), DiskFault> {
+        self.disk.append(name, octets)
+    }
+
+    fn overwrite(&mut self, name: &FileName, at: u64, octet: u8) -> Result<(), DiskFault> {
+        self.disk.overwrite(name, at, octet)
+    }
+
+    fn cut(&mut self, name: &FileName, len: u64) -> Result<(), DiskFault> {
+        self.disk.cut(name, len)
+    }
+
+    fn sync(&mut self, name: &FileName) -> Result<(), DiskFault> {
+        let synced = self.disk.sync(name);
+        self.lost |= synced.is_err();
+        synced
+    }
+
+    fn rename(&mut self, from: &FileName, to: &FileName) -> Result<(), DiskFault> {
+        self.disk.rename(from, to)
+    }
+
+    fn remove(&mut self, name: &FileName) -> Result<(), DiskFault> {
+        self.disk.remove(name)
+    }
+
+    fn sync_names(&mut self) -> Result<(), DiskFault> {
+        let settled = self.disk.sync_names();
+        self.lost |= settled.is_err();
+        settled
+    }
+}
