@@ -10,7 +10,7 @@ use Rattle.syslog_collect.specs.History.{AcceptedEvent}
 use Rattle.socket_source.specs.Steps.{Given, SourceState, given_of, octets_of}
 use Rattle.socket_source.specs.declared.step.ServerStep.{ServerStep}
 use Rattle.serve_engine.specs.Intakes.{IsCommitted, StandsBy}
-use Rattle.serve_engine.specs.Keepings.{Kept}
+use Rattle.serve_engine.specs.Keepings.{Kept, StaysCommitted}
 use Rattle.serve_engine.specs.Servers.{DoneRun, ServesTurn}
 use Rattle.serve_engine.specs.Serving.{Commits, CommitsAll, GivesStep, HoldsReceived, IfCommitted, IfSettled, IsCause}
 use Rattle.serve_engine.specs.Serving.{IsCommitTurn, IsEndOf, IsStepTurn, Served, ServesStep, UnlessStopped}
@@ -54,13 +54,14 @@ tried entries stands old new a full t commits settled same turn k first before a
     (sym (append-nil before)) d.1 in
     record {
       kept = d.0;
+      stays = d.2;
       steps = [];
       here = [];
       stands_by = stands_on;
       served = (refl, refl);
       settled = quiet;
       commits = holds_all entries stands (reading_of old.collector) new full t d.0 first (before ++ []) same stands_on
-          quiet d.2;
+          quiet d.3;
       cause = commit_try t turn;
       few = omega arith;
     }
@@ -75,13 +76,14 @@ stepped entries stands old new a b s buf full t serves gives same turn k first b
     let d = serves k first before at none in
     record {
       kept = d.0;
+      stays = d.3;
       steps = given_of s buf ∷ [];
       here = d.1;
       stands_by = d.2;
-      served = served_one (reading_of old.collector) a b before (given_of s buf) d.1 gives d.3;
-      settled = d.4;
+      served = served_one (reading_of old.collector) a b before (given_of s buf) d.1 gives d.4;
+      settled = d.5;
       commits = λ asks. holds_all entries stands (reading_of old.collector) new full t d.0 first (before ++ d.1) same d.2
-          d.4 (d.5 asks);
+          d.5 (d.6 asks);
       cause = turn;
       few = omega arith;
     }
@@ -90,8 +92,9 @@ stepped entries stands old new a b s buf full t serves gives same turn k first b
 
 -- after so many turns
 pub record SoFar {S K : Type 0} (entries : S → List Entry) (stands : K → Kept → Type 0) (old new : Intake S K)
-    (a b : SourceState) (n : ℕ) (first : List Entry) (before : List AcceptedEvent) : Type 0 where
+    (a b : SourceState) (n : ℕ) (k : Kept) (first : List Entry) (before : List AcceptedEvent) : Type 0 where
   pub kept : Kept
+  pub stays : StaysCommitted k kept
   pub steps : List Given
   pub here : List AcceptedEvent
   pub stands_by : StandsBy entries stands new kept first (before ++ here)
@@ -101,9 +104,10 @@ pub record SoFar {S K : Type 0} (entries : S → List Entry) (stands : K → Kep
 
 pub start : {S K : Type 0} (entries : S → List Entry) (stands : K → Kept → Type 0) (old : Intake S K) (a : SourceState)
     (k : Kept) (first : List Entry) (before : List AcceptedEvent) → StandsBy entries stands old k first before
-    → NoneWaits old.collector → SoFar entries stands old old a a 0 first before
+    → NoneWaits old.collector → SoFar entries stands old old a a 0 k first before
 start entries stands old a k first before at none = record {
   kept = k;
+  stays = λ x had. had;
   steps = [];
   here = [];
   stands_by = subst (λ (es : List AcceptedEvent). StandsBy entries stands old k first es) (sym (append-nil before)) at;
@@ -116,13 +120,14 @@ lengths : (gs hs : List Given) (n : ℕ) → length gs ≤ n → length hs ≤ 1
 lengths gs hs n a b = omega (arith, a, b, length-append gs hs)
 
 pub next : {S K : Type 0} (entries : S → List Entry) (stands : K → Kept → Type 0) (old mid new : Intake S K)
-    (a b c : SourceState) (n : ℕ) (full : Bool) (first : List Entry) (before : List AcceptedEvent)
-    → reading_of mid.collector ≡ reading_of old.collector → SoFar entries stands old mid a b n first before
-    → ServesTurn entries stands mid new b c full On → SoFar entries stands old new a c (n + 1) first before
-next entries stands old mid new a b c n full first before same was serves =
+    (a b c : SourceState) (n : ℕ) (full : Bool) (k : Kept) (first : List Entry) (before : List AcceptedEvent)
+    → reading_of mid.collector ≡ reading_of old.collector → SoFar entries stands old mid a b n k first before
+    → ServesTurn entries stands mid new b c full On → SoFar entries stands old new a c (n + 1) k first before
+next entries stands old mid new a b c n full k first before same was serves =
     let d = serves was.kept first (before ++ was.here) was.stands_by was.settled in
     record {
       kept = d.kept;
+      stays = λ x had. d.stays x (was.stays x had);
       steps = was.steps ++ d.steps;
       here = was.here ++ d.here;
       stands_by = subst (λ (es : List AcceptedEvent). StandsBy entries stands new d.kept first es)
@@ -151,15 +156,16 @@ end_of Memory hs ks cause = tt
 end_of Endless hs ks cause = tt
 
 pub ends : {S K : Type 0} (entries : S → List Entry) (stands : K → Kept → Type 0) (old mid new : Intake S K)
-    (a b c : SourceState) (n : ℕ) (full : Bool) (end : ServeEnd) (first : List Entry) (before : List AcceptedEvent)
+    (a b c : SourceState) (n : ℕ) (full : Bool) (end : ServeEnd) (k : Kept) (first : List Entry) (before : List AcceptedEvent)
     → n + 1 < 2 ^ 64 → reading_of mid.collector ≡ reading_of old.collector
-    → SoFar entries stands old mid a b n first before
-    → ServesTurn entries stands mid new b c full (End end) → DoneRun entries stands old new a c end first before
-ends entries stands old mid new a b c n full end first before less same was serves =
+    → SoFar entries stands old mid a b n k first before
+    → ServesTurn entries stands mid new b c full (End end) → DoneRun entries stands old new a c end k first before
+ends entries stands old mid new a b c n full end k first before less same was serves =
     let d = serves was.kept first (before ++ was.here) was.stands_by was.settled in
     let joined = append_assoc before was.here d.here in
     record {
       kept = d.kept;
+      stays = λ x had. d.stays x (was.stays x had);
       steps = was.steps ++ d.steps;
       here = was.here ++ d.here;
       stands_by = subst (λ (es : List AcceptedEvent). StandsBy entries stands new d.kept first es) joined d.stands_by;
@@ -176,10 +182,11 @@ ends entries stands old mid new a b c n full end first before less same was serv
 
 -- there were as many turns as there may be
 pub endless : {S K : Type 0} (entries : S → List Entry) (stands : K → Kept → Type 0) (old new : Intake S K)
-    (a b : SourceState) (n : ℕ) (first : List Entry) (before : List AcceptedEvent)
-    → n < 2 ^ 64 → SoFar entries stands old new a b n first before → DoneRun entries stands old new a b Endless first before
-endless entries stands old new a b n first before less was = record {
+    (a b : SourceState) (n : ℕ) (k : Kept) (first : List Entry) (before : List AcceptedEvent) → n < 2 ^ 64
+    → SoFar entries stands old new a b n k first before → DoneRun entries stands old new a b Endless k first before
+endless entries stands old new a b n k first before less was = record {
   kept = was.kept;
+  stays = was.stays;
   steps = was.steps;
   here = was.here;
   stands_by = was.stands_by;
@@ -193,9 +200,10 @@ endless entries stands old new a b n first before less was = record {
 -- there was no memory for the first
 pub none_served : {S K : Type 0} (entries : S → List Entry) (stands : K → Kept → Type 0) (old : Intake S K)
     (a : SourceState) (k : Kept) (first : List Entry) (before : List AcceptedEvent)
-    → StandsBy entries stands old k first before → DoneRun entries stands old old a a Memory first before
+    → StandsBy entries stands old k first before → DoneRun entries stands old old a a Memory k first before
 none_served entries stands old a k first before at = record {
   kept = k;
+  stays = λ x had. had;
   steps = [];
   here = [];
   stands_by = subst (λ (es : List AcceptedEvent). StandsBy entries stands old k first es) (sym (append-nil before)) at;

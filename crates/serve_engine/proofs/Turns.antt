@@ -127,6 +127,7 @@ serves_event entries stands old new s octets full t e is none_asked accepts k fi
       k,
       d.0,
       d.1,
+      λ x had. had,
       subst (λ (o : Option AcceptedEvent). ServesEvent (reading_of old.collector) before o d.0) (sym is) d.2,
       d.3,
       λ asks. absurd (cc),
@@ -141,9 +142,10 @@ serves_commit entries stands old new s octets full t is commits settled k first 
       d.0,
       [],
       subst (λ (es : List AcceptedEvent). StandsBy entries stands new d.0 first es) (sym (append-nil before)) d.1,
+      d.2,
       subst (λ (o : Option AcceptedEvent). ServesEvent (reading_of old.collector) before o []) (sym is) refl,
       any_settled t (NoneWaits new.collector) (settled none),
-      λ asks. d.2,
+      λ asks. d.3,
     )
 
 pub serves_nothing : {S K : Type 0} (entries : S → List Entry) (stands : K → Kept → Type 0) (old new : Intake S K)
@@ -154,6 +156,7 @@ serves_nothing {S = S} {K = K} entries stands old new s octets full t is none_as
   [],
   subst (λ (i : Intake S K). StandsBy entries stands i k first (before ++ [])) (sym same)
       (subst (λ (es : List AcceptedEvent). StandsBy entries stands old k first es) (sym (append-nil before)) at),
+  λ x had. had,
   subst (λ (o : Option AcceptedEvent). ServesEvent (reading_of old.collector) before o []) (sym is) refl,
   any_settled t (NoneWaits new.collector) (subst (λ (i : Intake S K). NoneWaits i.collector) (sym same) none),
   λ asks. absurd (cc),

@@ -5,7 +5,7 @@ use Rattle.syslog_collect.specs.Collectors.{NoneWaits, reading_of}
 use Rattle.syslog_collect.specs.History.{AcceptedEvent}
 use Rattle.socket_source.specs.Steps.{Given, SourceState}
 use Rattle.serve_engine.specs.Intakes.{StandsBy}
-use Rattle.serve_engine.specs.Keepings.{Kept}
+use Rattle.serve_engine.specs.Keepings.{Kept, StaysCommitted}
 use Rattle.serve_engine.specs.Serving.{Commits, HoldsReceived, IfCommitted, IfSettled, IsCause, IsEndOf, Served, UnlessMemory}
 use Rattle.serve_engine.specs.declared.intake.Intake.{Intake}
 use Rattle.serve_engine.specs.declared.serve_end.ServeEnd.{ServeEnd}
@@ -21,12 +21,13 @@ abbrev pub is_full : {S K N R : Type 0} → Server S K N R → Bool
 is_full server = server.full
 
 -- An intake stood at first entries and events, where no frame waited. A source gave these steps, and these events were
--- accepted of them, behind which it stands; where a commit was asked for, what is committed is all that was received; where
--- the run ends, the steps say why.
+-- accepted of them, behind which it stands; what was committed still is; where a commit was asked for, what is committed is
+-- all that was received; where the run ends, the steps say why.
 pub record DoneTurn {S K : Type 0} (entries : S → List Entry) (stands : K → Kept → Type 0) (old new : Intake S K)
-    (source source_new : SourceState) (full : Bool) (turn : Turn) (first : List Entry) (before : List AcceptedEvent) : Type 0
-  where
+    (source source_new : SourceState) (full : Bool) (turn : Turn) (k : Kept) (first : List Entry)
+    (before : List AcceptedEvent) : Type 0 where
     pub kept : Kept
+    pub stays : StaysCommitted k kept
     pub steps : List Given
     pub here : List AcceptedEvent
     pub stands_by : StandsBy entries stands new kept first (before ++ here)
@@ -38,9 +39,10 @@ pub record DoneTurn {S K : Type 0} (entries : S → List Entry) (stands : K → 
 
 -- the same of a whole run
 pub record DoneRun {S K : Type 0} (entries : S → List Entry) (stands : K → Kept → Type 0) (old new : Intake S K)
-    (source source_new : SourceState) (end : ServeEnd) (first : List Entry) (before : List AcceptedEvent) : Type 0
-  where
+    (source source_new : SourceState) (end : ServeEnd) (k : Kept) (first : List Entry)
+    (before : List AcceptedEvent) : Type 0 where
     pub kept : Kept
+    pub stays : StaysCommitted k kept
     pub steps : List Given
     pub here : List AcceptedEvent
     pub stands_by : StandsBy entries stands new kept first (before ++ here)
@@ -55,10 +57,10 @@ abbrev pub ServesTurn : {S K : Type 0} → (S → List Entry) → (K → Kept �
     → SourceState → SourceState → Bool → Turn → Type 0
 ServesTurn entries stands old new source source_new full turn =
     (k : Kept) (first : List Entry) (before : List AcceptedEvent) → StandsBy entries stands old k first before
-    → NoneWaits old.collector → DoneTurn entries stands old new source source_new full turn first before
+    → NoneWaits old.collector → DoneTurn entries stands old new source source_new full turn k first before
 
 abbrev pub ServesRun : {S K : Type 0} → (S → List Entry) → (K → Kept → Type 0) → Intake S K → Intake S K
     → SourceState → SourceState → ServeEnd → Type 0
 ServesRun entries stands old new source source_new end =
     (k : Kept) (first : List Entry) (before : List AcceptedEvent) → StandsBy entries stands old k first before
-    → NoneWaits old.collector → DoneRun entries stands old new source source_new end first before
+    → NoneWaits old.collector → DoneRun entries stands old new source source_new end k first before

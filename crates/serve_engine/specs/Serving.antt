@@ -13,7 +13,7 @@ use Rattle.socket_source.specs.Steps.{Closes, GaveStep, Given, SourceState, give
 use Rattle.socket_source.specs.declared.step.ServerStep.{ServerStep}
 use Rattle.socket_source.specs.declared.step.ServerStep.TheVariants as step
 use Rattle.serve_engine.specs.Intakes.{IsCommitted, StandsBy}
-use Rattle.serve_engine.specs.Keepings.{Kept}
+use Rattle.serve_engine.specs.Keepings.{Kept, StaysCommitted}
 use Rattle.serve_engine.specs.Lines.{is_bad_count}
 use Rattle.serve_engine.specs.declared.intake.Intake.{Intake}
 use Rattle.serve_engine.specs.declared.serve_end.ServeEnd.{ServeEnd}
@@ -207,28 +207,30 @@ FaultsAs full turn = ((turn ≡ On) × (full ≡ true)) ⊎ ((turn ≡ End Disk)
 abbrev pub EndsUnlessFull : Bool → ServeEnd → Turn → Type 0
 EndsUnlessFull full end turn = ((turn ≡ On) × (full ≡ true)) ⊎ ((turn ≡ End end) × (full ≡ false))
 
--- wherever an intake stood, it stands with what is held then, and all of that is committed, unless it stopped
+-- wherever an intake stood, it stands with what is held then, and all of that is committed, unless it stopped; what was
+-- committed still is
 abbrev pub CommitsAll : {S K : Type 0} → (S → List Entry) → (K → Kept → Type 0) → Intake S K → Intake S K → Bool → Turn
     → Type 0
 CommitsAll entries stands old new full turn =
     (k : Kept) (first : List Entry) (before : List AcceptedEvent) → StandsBy entries stands old k first before
-    → (j : Kept) × StandsBy entries stands new j first before
+    → (j : Kept) × StandsBy entries stands new j first before × StaysCommitted k j
     × UnlessStopped turn full (IsCommitted entries new j)
 
--- wherever it stood, it stands with what is held then, of which this is so
+-- wherever it stood, it stands with what is held then, of which this is so; what was committed still is
 abbrev pub StandsOn : {S K : Type 0} → (S → List Entry) → (K → Kept → Type 0) → Intake S K → Intake S K
     → (Kept → Type 0) → Type 0
 StandsOn entries stands old new P =
     (k : Kept) (first : List Entry) (before : List AcceptedEvent) → StandsBy entries stands old k first before
-    → (j : Kept) × StandsBy entries stands new j first before × P j
+    → (j : Kept) × StandsBy entries stands new j first before × StaysCommitted k j × P j
 
--- wherever an intake stood, it stands behind what is accepted of a step; after some steps all is committed
+-- wherever an intake stood, it stands behind what is accepted of a step; after some steps all is committed; what was
+-- committed still is
 abbrev pub ServesStep : {S K : Type 0} → (S → List Entry) → (K → Kept → Type 0) → Intake S K → Intake S K → ServerStep
     → List ℕ → Bool → Turn → Type 0
 ServesStep entries stands old new step octets full turn =
     (k : Kept) (first : List Entry) (before : List AcceptedEvent) → StandsBy entries stands old k first before
     → NoneWaits old.collector → (j : Kept) × (here : List AcceptedEvent)
-    × StandsBy entries stands new j first (before ++ here)
+    × StandsBy entries stands new j first (before ++ here) × StaysCommitted k j
     × ServesEvent (reading_of old.collector) before (event_of step octets) here × IfSettled turn (NoneWaits new.collector)
     × (asks_commit step ≡ true → UnlessStopped turn full (IsCommitted entries new j))
 

@@ -12,5 +12,6 @@ returns-in-Err-clause-served g c k first before at = (
   k,
   subst (λ i. StandsBy (g.S.Store.entries) (g.K.Keeping.stands) i k first before) (sym c.fault.ensures.same)
       (c.in-Err.ensures.stands k first before at),
+  λ x had. had,
   stopped_fault _ _ _ c.fault.ensures.turn,
 )
