@@ -14,6 +14,7 @@ invariant-loop-turn g l = record {
       StandsBy (g.S.Store.entries) (g.K.Keeping.stands) l.fn.self.intake k first before →
       NoneWaits l.fn.self.intake.collector →
       SoFar (g.S.Store.entries) (g.K.Keeping.stands) l.fn.self.intake l.self.intake
-      (g.Q.ServerSource.state l.fn.source) (g.Q.ServerSource.state l.source) l._turn k first before;
+      (g.Q.ServerSource.state l.fn.source) (g.Q.ServerSource.state l.source) l.fn.self.full l.self.full l._turn k first
+      before;
   reading : reading_of l.self.intake.collector ≡ reading_of l.fn.self.intake.collector;
 }
