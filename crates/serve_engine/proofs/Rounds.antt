@@ -4,7 +4,6 @@ use Rattle.std.proofs.Common.{append_assoc}
 use Rattle.std.specs.Prelude.{◌-◌, ◌^◌, ◌<◌, Bool, Option, Some, None}
 use Rattle.std.proofs.lemmas.List.{append-nil}
 use Rattle.archive_text.specs.Entries.{Entry}
-use Rattle.syslog_legacy.specs.declared.frame_reading.FrameReading.{FrameReading}
 use Rattle.syslog_collect.specs.Collectors.{NoneWaits, reading_of}
 use Rattle.syslog_collect.specs.History.{AcceptedEvent}
 use Rattle.socket_source.specs.Steps.{Given, SourceState, given_of, octets_of}
@@ -14,7 +13,7 @@ use Rattle.serve_engine.specs.Keepings.{Kept, StaysCommitted}
 use Rattle.serve_engine.specs.Servers.{AreTurns, DoneRun, GoOn, IsTurn, Made, RunsTo, ServesTurn, events_of}
 use Rattle.serve_engine.specs.Servers.{full_after, kept_after}
 use Rattle.serve_engine.specs.Serving.{CommitsAll, GivesStep, HoldsReceived, IfCommitted, IfSettled, IsCause, IsCommitTurn}
-use Rattle.serve_engine.specs.Serving.{IsStepTurn, ServesStep, UnlessStopped, asks_commit, is_due}
+use Rattle.serve_engine.specs.Serving.{IsStepTurn, Manner, ServesStep, UnlessStopped, asks_commit, is_due, manner_of}
 use Rattle.serve_engine.specs.declared.intake.Intake.{Intake}
 use Rattle.serve_engine.specs.declared.serve_end.ServeEnd.{ServeEnd}
 use Rattle.serve_engine.specs.declared.serve_end.ServeEnd.TheVariants.{Finished, Source, Disk, Memory, Endless}
@@ -33,20 +32,21 @@ unless_both (End Memory) full P Q R h q f = tt
 unless_both (End Endless) full P Q R h q f = tt
 
 -- what is committed then
-holds_all : {S K : Type 0} (entries : S → List Entry) (stands : K → Kept → Type 0) (way : FrameReading)
-    (i : Intake S K) (full : Bool) (t : Turn) (j : Kept) (first : List Entry) (es : List AcceptedEvent)
-    → reading_of i.collector ≡ way → StandsBy entries stands i j first es
+holds_all : {S K : Type 0} (entries : S → List Entry) (stands : K → Kept → Type 0) (way : Manner) (i : Intake S K)
+    (full : Bool) (t : Turn) (j : Kept) (first : List Entry) (es : List AcceptedEvent)
+    → manner_of i.collector ≡ way → StandsBy entries stands i j first es
     → IfSettled t (NoneWaits i.collector) → UnlessStopped t full (IsCommitted entries i j)
-    → UnlessStopped t full (HoldsReceived way j.committed first es)
+    → UnlessStopped t full (HoldsReceived way.reading j.committed first es)
 holds_all entries stands way i full t j first es same at settled commits =
-    unless_both t full (IsCommitted entries i j) (NoneWaits i.collector) (HoldsReceived way j.committed first es) commits
-    settled (λ done none. subst (λ (w : FrameReading). HoldsReceived w j.committed first es) same
+    unless_both t full (IsCommitted entries i j) (NoneWaits i.collector)
+    (HoldsReceived way.reading j.committed first es) commits settled
+    (λ done none. subst (λ (w : Manner). HoldsReceived w.reading j.committed first es) same
     (committed_all entries stands i j first es at none done))
 
 -- the disk was full, and was tried again
 pub tried : {S K : Type 0} (entries : S → List Entry) (stands : K → Kept → Type 0) (old new : Intake S K)
     (a : SourceState) (full full_new : Bool) (t : Turn) → full ≡ true → CommitsAll entries stands old new full_new t
-    → (NoneWaits old.collector → NoneWaits new.collector) → reading_of new.collector ≡ reading_of old.collector
+    → (NoneWaits old.collector → NoneWaits new.collector) → manner_of new.collector ≡ manner_of old.collector
     → IsCommitTurn t → ServesTurn entries stands old new a a full full_new t
 tried entries stands old new a full full_new t was_full commits settled same turn k first before at none =
     let d = commits k first before at in
@@ -62,7 +62,7 @@ tried entries stands old new a full full_new t was_full commits settled same tur
         asked = sym was_full;
         served = (refl, refl);
         stays = d.2;
-        commits = λ due. holds_all entries stands (reading_of old.collector) new full_new t d.0 first (before ++ []) same
+        commits = λ due. holds_all entries stands (manner_of old.collector) new full_new t d.0 first (before ++ []) same
             stands_on quiet d.3;
         fills = λ due. absurd (cc);
         cause = commit_try t turn;
@@ -74,7 +74,7 @@ tried entries stands old new a full full_new t was_full commits settled same tur
 pub stepped : {S K : Type 0} (entries : S → List Entry) (stands : K → Kept → Type 0) (old new : Intake S K)
     (a b : SourceState) (s : ServerStep) (buf : List ℕ) (lost full full_new : Bool) (t : Turn) → full ≡ false
     → ServesStep entries stands old new s (octets_of s buf) lost full_new t → GivesStep a b (given_of s buf) lost
-    → reading_of new.collector ≡ reading_of old.collector → (asks_commit s ≡ false → full_new ≡ full) → IsStepTurn s t
+    → manner_of new.collector ≡ manner_of old.collector → (asks_commit s ≡ false → full_new ≡ full) → IsStepTurn s t
     → ServesTurn entries stands old new a b full full_new t
 stepped entries stands old new a b s buf lost full full_new t room serves gives same fills turn k first before at none =
     let d = serves k first before at none in
@@ -87,7 +87,7 @@ stepped entries stands old new a b s buf lost full full_new t room serves gives 
         asked = sym room;
         served = (lost, gives, d.4);
         stays = d.3;
-        commits = λ asks. holds_all entries stands (reading_of old.collector) new full_new t d.0 first (before ++ d.1) same
+        commits = λ asks. holds_all entries stands (manner_of old.collector) new full_new t d.0 first (before ++ d.1) same
             d.2 d.5 (d.6 asks);
         fills = fills;
         cause = turn;
@@ -103,7 +103,7 @@ pub record SoFar {S K : Type 0} (entries : S → List Entry) (stands : K → Kep
     0 where
   pub made : List Made
   pub stands_by : StandsBy entries stands new (kept_after k made) first (before ++ events_of made)
-  pub turns : AreTurns (reading_of old.collector) first k full before a made b
+  pub turns : AreTurns (manner_of old.collector) first k full before a made b
   pub stays : StaysCommitted k (kept_after k made)
   pub settled : NoneWaits new.collector
   pub now_full : full_after full made ≡ full_new
@@ -126,16 +126,16 @@ start entries stands old a full k first before at none = record {
 }
 
 -- a turn is one of a run that reads frames alike, and whose disk was so full before it
-turn_of_run : (way : FrameReading) (first : List Entry) (k : Kept) (full : Bool) (before : List AcceptedEvent)
-    (a b : SourceState) (m : Made) (mid_way : FrameReading) (mid_full : Bool) → mid_way ≡ way → full ≡ mid_full
+turn_of_run : (way : Manner) (first : List Entry) (k : Kept) (full : Bool) (before : List AcceptedEvent)
+    (a b : SourceState) (m : Made) (mid_way : Manner) (mid_full : Bool) → mid_way ≡ way → full ≡ mid_full
     → IsTurn mid_way first k mid_full before a b m → IsTurn way first k full before a b m
 turn_of_run way first k full before a b m mid_way mid_full same now is =
-    subst (λ (w : FrameReading). IsTurn w first k full before a b m) same
+    subst (λ (w : Manner). IsTurn w first k full before a b m) same
     (subst (λ (f : Bool). IsTurn mid_way first k f before a b m) (sym now) is)
 
 pub next : {S K : Type 0} (entries : S → List Entry) (stands : K → Kept → Type 0) (old mid new : Intake S K)
     (a b c : SourceState) (full full_mid full_new : Bool) (n : ℕ) (k : Kept) (first : List Entry)
-    (before : List AcceptedEvent) → reading_of mid.collector ≡ reading_of old.collector
+    (before : List AcceptedEvent) → manner_of mid.collector ≡ manner_of old.collector
     → SoFar entries stands old mid a b full full_mid n k first before
     → ServesTurn entries stands mid new b c full_mid full_new On
     → SoFar entries stands old new a c full full_new (n + 1) k first before
@@ -149,8 +149,8 @@ next entries stands old mid new a b c full full_mid full_new n k first before sa
       turns = (
         b,
         was.turns,
-        turn_of_run (reading_of old.collector) first (kept_after k was.made) (full_after full was.made)
-            (before ++ events_of was.made) b c m (reading_of mid.collector) full_mid same was.now_full d.is,
+        turn_of_run (manner_of old.collector) first (kept_after k was.made) (full_after full was.made)
+            (before ++ events_of was.made) b c m (manner_of mid.collector) full_mid same was.now_full d.is,
       );
       stays = λ x had. d.is.stays x (was.stays x had);
       settled = d.settled;
@@ -183,7 +183,7 @@ runs_to Endless m ms is cause on = absurd (never_endless m.step cause)
 
 pub ends : {S K : Type 0} (entries : S → List Entry) (stands : K → Kept → Type 0) (old mid new : Intake S K)
     (a b c : SourceState) (full full_mid full_new : Bool) (n : ℕ) (end : ServeEnd) (k : Kept) (first : List Entry)
-    (before : List AcceptedEvent) → n + 1 < 2 ^ 64 → reading_of mid.collector ≡ reading_of old.collector
+    (before : List AcceptedEvent) → n + 1 < 2 ^ 64 → manner_of mid.collector ≡ manner_of old.collector
     → SoFar entries stands old mid a b full full_mid n k first before
     → ServesTurn entries stands mid new b c full_mid full_new (End end)
     → DoneRun entries stands old new a c full end k first before
@@ -197,12 +197,12 @@ ends entries stands old mid new a b c full full_mid full_new n end k first befor
       turns = (
         b,
         was.turns,
-        turn_of_run (reading_of old.collector) first (kept_after k was.made) (full_after full was.made)
-            (before ++ events_of was.made) b c m (reading_of mid.collector) full_mid same was.now_full d.is,
+        turn_of_run (manner_of old.collector) first (kept_after k was.made) (full_after full was.made)
+            (before ++ events_of was.made) b c m (manner_of mid.collector) full_mid same was.now_full d.is,
       );
       stays = λ x had. d.is.stays x (was.stays x had);
       settled = d.settled;
-      committed = subst (λ (w : FrameReading). IfCommitted end (HoldsReceived w d.kept.committed first
+      committed = subst (λ (w : Manner). IfCommitted end (HoldsReceived w.reading d.kept.committed first
           (before ++ (events_of was.made ++ d.events)))) same
           (subst (λ (es : List AcceptedEvent). IfCommitted end (HoldsReceived (reading_of mid.collector) d.kept.committed
           first es)) joined (end_committed end d.step full_new _ d.is.cause d.is.commits));

@@ -7,7 +7,6 @@ use Rattle.collect_engine.specs.Receiving.{IfNotMemory}
 use Rattle.collect_engine.specs.declared.receiving.Received.{Received}
 use Rattle.collect_engine.specs.declared.receiving.Received.TheVariants as received
 use Rattle.syslog_frame.specs.declared.framing.Framing.{Framing}
-use Rattle.syslog_legacy.specs.declared.frame_reading.FrameReading.{FrameReading}
 use Rattle.syslog_collect.specs.Collectors.{NoneWaits, reading_of, store_of}
 use Rattle.syslog_collect.specs.Frames.{IsReceived}
 use Rattle.syslog_collect.specs.History.{AcceptedEvent, Ended, Opened, Piece}
@@ -17,9 +16,9 @@ use Rattle.socket_source.specs.declared.step.ServerStep.{ServerStep}
 use Rattle.serve_engine.specs.Intakes.{IsCommitted, StandsBy}
 use Rattle.serve_engine.specs.Keepings.{Kept}
 use Rattle.serve_engine.specs.Serving.{Accepts, CommitsAll, EndsUnlessFull, FaultsAs, HoldsReceived, IfSettled}
-use Rattle.serve_engine.specs.Serving.{IsAccepted, IsCommitTurn, IsEventTurn, IsReceivedAs, IsStepTurn, IsTryTurn, Receives}
-use Rattle.serve_engine.specs.Serving.{ServesEvent, ServesStep, UnlessMemory, UnlessStopped, asks_commit, ends_in_bad_count}
-use Rattle.serve_engine.specs.Serving.{event_of, loses, loses_opening, loses_piece, turn_of}
+use Rattle.serve_engine.specs.Serving.{IsAccepted, IsCommitTurn, IsEventTurn, IsReceivedAs, IsStepTurn, IsTryTurn, Manner}
+use Rattle.serve_engine.specs.Serving.{Receives, ServesEvent, ServesStep, UnlessMemory, UnlessStopped, asks_commit}
+use Rattle.serve_engine.specs.Serving.{ends_in_bad_count, event_of, loses, loses_opening, loses_piece, manner_of, turn_of}
 use Rattle.serve_engine.specs.declared.intake.Intake.{Intake}
 use Rattle.serve_engine.specs.declared.keeping.KeepFault.{KeepFault}
 use Rattle.serve_engine.specs.declared.keeping.KeepFault.TheVariants as keep
@@ -31,7 +30,7 @@ use Rattle.serve_engine.specs.declared.turn.Turn.TheVariants.{On, End}
 -- ---- one event
 
 -- what a collector makes of an event is accepted, where its connection is not lost
-pub accepted_own : (way : FrameReading) (before : List AcceptedEvent) (e : AcceptedEvent) (r : Received)
+pub accepted_own : (way : Manner) (before : List AcceptedEvent) (e : AcceptedEvent) (r : Received)
     (os : List Outcome) (own : List AcceptedEvent) (turn : Turn) → IsReceivedAs way before e r os own
     → loses e r os ≡ false → turn ≡ turn_of r → IsAccepted way before e own false turn
 accepted_own way before e r os own turn is kept on = record {
@@ -46,7 +45,7 @@ accepted_own way before e r os own turn is kept on = record {
 }
 
 -- of a connection that was not opened
-pub accepted_none : (way : FrameReading) (before : List AcceptedEvent) (c : ℕ) (k : Framing) (r : Received)
+pub accepted_none : (way : Manner) (before : List AcceptedEvent) (c : ℕ) (k : Framing) (r : Received)
     (os : List Outcome) (own : List AcceptedEvent) (turn : Turn) → IsReceivedAs way before (Opened c k) r os own
     → loses_opening r ≡ true → turn ≡ turn_of r → IsAccepted way before (Opened c k) own true turn
 accepted_none way before c k r os own turn is lost on = record {
@@ -61,7 +60,7 @@ accepted_none way before c k r os own turn is lost on = record {
 }
 
 -- with the end of a connection that is lost
-pub accepted_closing : (way : FrameReading) (before : List AcceptedEvent) (c : ℕ) (o : List ℕ) (r : Received)
+pub accepted_closing : (way : Manner) (before : List AcceptedEvent) (c : ℕ) (o : List ℕ) (r : Received)
     (os : List Outcome) (own closing : List AcceptedEvent) (turn : Turn) → IsReceivedAs way before (Piece c o) r os own
     → loses_piece r os ≡ true → Receives way (before ++ own) (Ended c) closing turn
     → IsAccepted way before (Piece c o) (own ++ closing) true turn
@@ -176,7 +175,7 @@ serves_event entries stands old new s octets lost full t e is none_asked accepts
       d.0,
       d.1,
       λ x had. had,
-      subst (λ (o : Option AcceptedEvent). ServesEvent (reading_of old.collector) before s o d.0 lost t) (sym is) d.2,
+      subst (λ (o : Option AcceptedEvent). ServesEvent (manner_of old.collector) before s o d.0 lost t) (sym is) d.2,
       d.3,
       λ asks. absurd (cc),
     )
@@ -191,7 +190,7 @@ serves_commit entries stands old new s octets full t is asked commits settled k 
       [],
       subst (λ (es : List AcceptedEvent). StandsBy entries stands new d.0 first es) (sym (append-nil before)) d.1,
       d.2,
-      subst (λ (o : Option AcceptedEvent). ServesEvent (reading_of old.collector) before s o [] false t) (sym is)
+      subst (λ (o : Option AcceptedEvent). ServesEvent (manner_of old.collector) before s o [] false t) (sym is)
           (refl, refl, λ asks. absurd (cc)),
       any_settled t (NoneWaits new.collector) (settled none),
       λ asks. d.3,
@@ -206,7 +205,7 @@ serves_nothing {S = S} {K = K} entries stands old new s octets full t is none_as
   subst (λ (i : Intake S K). StandsBy entries stands i k first (before ++ [])) (sym same)
       (subst (λ (es : List AcceptedEvent). StandsBy entries stands old k first es) (sym (append-nil before)) at),
   λ x had. had,
-  subst (λ (o : Option AcceptedEvent). ServesEvent (reading_of old.collector) before s o [] false t) (sym is)
+  subst (λ (o : Option AcceptedEvent). ServesEvent (manner_of old.collector) before s o [] false t) (sym is)
       (refl, refl, λ none. on),
   any_settled t (NoneWaits new.collector) (subst (λ (i : Intake S K). NoneWaits i.collector) (sym same) none),
   λ asks. absurd (cc),

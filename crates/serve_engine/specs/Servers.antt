@@ -1,14 +1,13 @@
 -- What a server does in a turn, and in a run.
 use Rattle.std.specs.Prelude.{◌≡◌, ◌⊎◌, ◌-◌, ◌<◌, ◌^◌, Bool, true, false, List, [], ◌∷◌, ◌++◌, length, Option, is_none}
 use Rattle.archive_text.specs.Entries.{Entry}
-use Rattle.syslog_legacy.specs.declared.frame_reading.FrameReading.{FrameReading}
 use Rattle.syslog_collect.specs.Collectors.{NoneWaits, reading_of}
 use Rattle.syslog_collect.specs.History.{AcceptedEvent}
 use Rattle.socket_source.specs.Steps.{Given, SourceState}
 use Rattle.serve_engine.specs.Intakes.{StandsBy}
 use Rattle.serve_engine.specs.Keepings.{Kept, StaysCommitted}
-use Rattle.serve_engine.specs.Serving.{HoldsReceived, IfCommitted, IfSettled, IsCause, Served, UnlessMemory, UnlessStopped}
-use Rattle.serve_engine.specs.Serving.{is_due}
+use Rattle.serve_engine.specs.Serving.{HoldsReceived, IfCommitted, IfSettled, IsCause, Manner, Served, UnlessMemory}
+use Rattle.serve_engine.specs.Serving.{UnlessStopped, is_due, manner_of}
 use Rattle.serve_engine.specs.declared.intake.Intake.{Intake}
 use Rattle.serve_engine.specs.declared.serve_end.ServeEnd.{ServeEnd}
 use Rattle.serve_engine.specs.declared.serve_end.ServeEnd.TheVariants.{Finished, Source, Disk, Memory, Endless}
@@ -38,12 +37,12 @@ pub record Made : Type 0 where
 -- A turn over first entries, behind what was kept and events before it. It has a step, unless the disk was full. What
 -- was committed still is; where a commit is due, what is committed is all that was received, unless the disk is full or
 -- it ends; and the disk is found full only then. Where it ends, the step says why.
-pub record IsTurn (way : FrameReading) (first : List Entry) (k : Kept) (full : Bool) (before : List AcceptedEvent)
+pub record IsTurn (way : Manner) (first : List Entry) (k : Kept) (full : Bool) (before : List AcceptedEvent)
     (source source_new : SourceState) (made : Made) : Type 0 where
   pub asked : is_none made.step ≡ full
   pub served : Served way source before made.step made.events made.turn source_new
   pub stays : StaysCommitted k made.kept
-  pub commits : is_due made.step ≡ true → UnlessStopped made.turn made.full (HoldsReceived way made.kept.committed first
+  pub commits : is_due made.step ≡ true → UnlessStopped made.turn made.full (HoldsReceived way.reading made.kept.committed first
       (before ++ made.events))
   pub fills : is_due made.step ≡ false → made.full ≡ full
   pub cause : IsCause made.step made.turn
@@ -57,7 +56,7 @@ pub record DoneTurn {S K : Type 0} (entries : S → List Entry) (stands : K → 
   pub events : List AcceptedEvent
   pub kept : Kept
   pub stands_by : StandsBy entries stands new kept first (before ++ events)
-  pub is : IsTurn (reading_of old.collector) first k full before source source_new
+  pub is : IsTurn (manner_of old.collector) first k full before source source_new
       (record { step = step; events = events; kept = kept; full = full_new; turn = turn })
   pub settled : IfSettled turn (NoneWaits new.collector)
 
@@ -78,7 +77,7 @@ events_of [] = []
 events_of (m ∷ ms) = events_of ms ++ m.events
 
 -- turns, each behind those before it
-abbrev pub AreTurns : FrameReading → List Entry → Kept → Bool → List AcceptedEvent → SourceState → List Made
+abbrev pub AreTurns : Manner → List Entry → Kept → Bool → List AcceptedEvent → SourceState → List Made
     → SourceState → Type 0
 AreTurns way first k full before a [] b = b ≡ a
 AreTurns way first k full before a (m ∷ ms) b = (between : SourceState)
@@ -111,7 +110,7 @@ pub record DoneRun {S K : Type 0} (entries : S → List Entry) (stands : K → K
     (before : List AcceptedEvent) : Type 0 where
   pub made : List Made
   pub stands_by : StandsBy entries stands new (kept_after k made) first (before ++ events_of made)
-  pub turns : AreTurns (reading_of old.collector) first k full before source made source_new
+  pub turns : AreTurns (manner_of old.collector) first k full before source made source_new
   pub stays : StaysCommitted k (kept_after k made)
   pub settled : UnlessMemory end (NoneWaits new.collector)
   pub committed : IfCommitted end (HoldsReceived (reading_of old.collector) (kept_after k made).committed first

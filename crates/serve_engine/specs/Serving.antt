@@ -1,13 +1,14 @@
 -- What a server does with the steps of a source.
 use Rattle.std.specs.Prelude.{◌≡◌, ◌⊎◌, ◌↔◌, ◌-◌, ℕ, Bool, true, false, List, [], ◌++◌, length, slice_get, Option, Some, None}
 use Rattle.archive_text.specs.Entries.{Entry, Has}
-use Rattle.collect_engine.specs.Receiving.{IfNotMemory, ReceivesAs}
+use Rattle.collect_engine.specs.Receiving.{IfNotMemory, IfRefused, MayNotOpen, ReceivesAs}
 use Rattle.collect_engine.specs.declared.receiving.Received.{Received}
 use Rattle.collect_engine.specs.declared.receiving.Received.TheVariants as received
 use Rattle.syslog_legacy.specs.declared.frame_reading.FrameReading.{FrameReading}
-use Rattle.syslog_collect.specs.Collectors.{NoneWaits, reading_of}
+use Rattle.syslog_collect.specs.Collectors.{NoneWaits, limit_of, reading_of}
 use Rattle.syslog_collect.specs.Frames.{IsReceived}
 use Rattle.syslog_collect.specs.History.{AcceptedEvent, Opened, Piece, Ended, Datagram, history_of}
+use Rattle.syslog_collect.specs.declared.collector.Collector.{Collector}
 use Rattle.syslog_collect.specs.declared.outcome.Outcome.{Outcome}
 use Rattle.socket_source.specs.Steps.{Closes, GaveStep, Given, SourceState, given_of}
 use Rattle.socket_source.specs.declared.step.ServerStep.{ServerStep}
@@ -22,6 +23,14 @@ use Rattle.serve_engine.specs.declared.serve_end.ServeEnd.{ServeEnd}
 use Rattle.serve_engine.specs.declared.serve_end.ServeEnd.TheVariants.{Finished, Source, Disk, Memory, Endless}
 use Rattle.serve_engine.specs.declared.turn.Turn.{Turn}
 use Rattle.serve_engine.specs.declared.turn.Turn.TheVariants.{On, End}
+
+-- how a collector reads frames, and how many connections it may have open
+pub record Manner : Type 0 where
+  pub reading : FrameReading
+  pub limit : ℕ
+
+abbrev pub manner_of : {S : Type 0} → Collector S → Manner
+manner_of c = record { reading = reading_of c; limit = limit_of c }
 
 -- ---- events
 
@@ -42,11 +51,12 @@ abbrev pub NoneOf : (ℕ → ℕ) → Type 0
 NoneOf w = (d : ℕ) → w d ≡ 0
 
 -- a collector in which no frame waits makes this of an event that comes after others; unless memory ran out, none waits
--- then
-abbrev pub IsReceivedAs : FrameReading → List AcceptedEvent → AcceptedEvent → Received → List Outcome
+-- then; an opening is refused only where its number is open, or as many are as may be
+abbrev pub IsReceivedAs : Manner → List AcceptedEvent → AcceptedEvent → Received → List Outcome
     → List AcceptedEvent → Type 0
 IsReceivedAs way before e r os own = (w : ℕ → ℕ) × (v : ℕ → ℕ) × NoneOf w × IfNotMemory r (NoneOf v)
-    × ReceivesAs way (history_of before) w v e r os own
+    × ReceivesAs way.reading (history_of before) w v e r os own
+    × IfRefused r (MayNotOpen way.limit (history_of before) e)
 
 -- how it goes on after an event
 abbrev pub turn_of : Received → Turn
@@ -56,7 +66,7 @@ turn_of received.Refused = On
 turn_of received.Memory = End Memory
 
 -- a collector makes this of an event that comes after others, and so it goes on
-abbrev pub Receives : FrameReading → List AcceptedEvent → AcceptedEvent → List AcceptedEvent → Turn → Type 0
+abbrev pub Receives : Manner → List AcceptedEvent → AcceptedEvent → List AcceptedEvent → Turn → Type 0
 Receives way before e own turn = (r : Received) × (os : List Outcome) × IsReceivedAs way before e r os own
     × (turn ≡ turn_of r)
 
@@ -90,7 +100,7 @@ loses (Ended c) r os = false
 loses (Datagram o) r os = false
 
 -- behind a piece whose connection is lost, that one ends; behind any other event nothing comes
-abbrev pub EndsLost : Bool → FrameReading → List AcceptedEvent → AcceptedEvent → Received → List AcceptedEvent → Turn
+abbrev pub EndsLost : Bool → Manner → List AcceptedEvent → AcceptedEvent → Received → List AcceptedEvent → Turn
     → Type 0
 EndsLost false way events e r closing turn = (closing ≡ []) × (turn ≡ turn_of r)
 EndsLost true way events (Opened c k) r closing turn = (closing ≡ []) × (turn ≡ turn_of r)
@@ -100,7 +110,7 @@ EndsLost true way events (Datagram o) r closing turn = ⊥
 
 -- of an event that comes after others this is accepted: what a collector makes of it, and the end of a connection that
 -- is lost
-pub record IsAccepted (way : FrameReading) (before : List AcceptedEvent) (e : AcceptedEvent) (here : List AcceptedEvent)
+pub record IsAccepted (way : Manner) (before : List AcceptedEvent) (e : AcceptedEvent) (here : List AcceptedEvent)
     (lost : Bool) (turn : Turn) : Type 0 where
   pub received : Received
   pub outcomes : List Outcome
@@ -124,7 +134,7 @@ asks_commit step.Finished = true
 asks_commit (step.Failed fault) = true
 
 -- of a step: what its event says; where it has none, nothing, and unless a commit is asked for it goes on
-abbrev pub ServesEvent : FrameReading → List AcceptedEvent → ServerStep → Option AcceptedEvent → List AcceptedEvent
+abbrev pub ServesEvent : Manner → List AcceptedEvent → ServerStep → Option AcceptedEvent → List AcceptedEvent
     → Bool → Turn → Type 0
 ServesEvent way before s None here lost turn = (here ≡ []) × (lost ≡ false) × (asks_commit s ≡ false → turn ≡ On)
 ServesEvent way before s (Some e) here lost turn = IsAccepted way before e here lost turn
@@ -157,7 +167,7 @@ pub record GivesStep (old new : SourceState) (g : Given) (lost : Bool) : Type 0 
   pub closes : ClosesOwn lost between new g.step
 
 -- the step of a turn was given, and served behind other events; with none nothing came
-abbrev pub Served : FrameReading → SourceState → List AcceptedEvent → Option Given → List AcceptedEvent → Turn
+abbrev pub Served : Manner → SourceState → List AcceptedEvent → Option Given → List AcceptedEvent → Turn
     → SourceState → Type 0
 Served way a before None here turn b = (here ≡ []) × (b ≡ a)
 Served way a before (Some g) here turn b = (lost : Bool) × GivesStep a b g lost
@@ -240,7 +250,7 @@ abbrev pub Accepts : {S K : Type 0} → (S → List Entry) → (K → Kept → T
 Accepts entries stands old new e lost turn =
     (k : Kept) (first : List Entry) (before : List AcceptedEvent) → StandsBy entries stands old k first before
     → NoneWaits old.collector → (here : List AcceptedEvent) × StandsBy entries stands new k first (before ++ here)
-    × IsAccepted (reading_of old.collector) before e here lost turn × IfSettled turn (NoneWaits new.collector)
+    × IsAccepted (manner_of old.collector) before e here lost turn × IfSettled turn (NoneWaits new.collector)
 
 -- a commit ends a run only where the disk failed or memory ran out
 abbrev pub IsCommitTurn : Turn → Type 0
@@ -280,7 +290,7 @@ ServesStep entries stands old new step octets lost full turn =
     (k : Kept) (first : List Entry) (before : List AcceptedEvent) → StandsBy entries stands old k first before
     → NoneWaits old.collector → (j : Kept) × (here : List AcceptedEvent)
     × StandsBy entries stands new j first (before ++ here) × StaysCommitted k j
-    × ServesEvent (reading_of old.collector) before step (event_of step octets) here lost turn
+    × ServesEvent (manner_of old.collector) before step (event_of step octets) here lost turn
     × IfSettled turn (NoneWaits new.collector) × (asks_commit step ≡ true → UnlessStopped turn full (IsCommitted entries new j))
 
 -- these are the first entries and the received set

@@ -2,13 +2,13 @@
 ghost use Rattle.std.specs.Prelude.{◌≡◌, ◌⊎◌, ◌++◌, Bool, List, false};
 ghost use Rattle.archive_text.specs.Entries.{Entry};
 ghost use Rattle.socket_source.specs.Steps.{Closes};
-ghost use Rattle.syslog_collect.specs.Collectors.{NoneWaits, reading_of};
+ghost use Rattle.syslog_collect.specs.Collectors.{NoneWaits};
 ghost use Rattle.syslog_collect.specs.History.{AcceptedEvent, Datagram, Ended, Opened, Piece};
 ghost use Rattle.serve_engine.specs.Intakes.{IsCommitted, StandsBy};
 ghost use Rattle.serve_engine.specs.Keepings.{Kept};
 ghost use Rattle.serve_engine.specs.Serving.{Accepts, ClosesLost, CommitsAll, EndsUnlessFull, FaultsAs, IfSettled};
 ghost use Rattle.serve_engine.specs.Serving.{IsCommitTurn, IsEventTurn, Receives, UnlessStopped, bad_last};
-ghost use Rattle.serve_engine.specs.Serving.{ends_in_bad_count, turn_of};
+ghost use Rattle.serve_engine.specs.Serving.{ends_in_bad_count, manner_of, turn_of};
 ghost use Rattle.serve_engine.specs.declared.serve_end.ServeEnd.TheVariants.{Disk, Memory};
 ghost use Rattle.serve_engine.specs.declared.turn.Turn.TheVariants.{End, On};
 
@@ -75,7 +75,7 @@ impl<S: Store + Drop, K: Keeping<S> + Drop, N: Output + Drop, R: Output + Drop> 
     ) -> Turn
         ensures served { (lost : Bool) × ClosesLost lost (Q.state source.old) (Q.state source.new) conn
             × Accepts S.entries K.stands self.old.intake self.new.intake (Opened conn framing) lost result }
-        ensures reading { reading_of self.new.intake.collector ≡ reading_of self.old.intake.collector }
+        ensures manner { manner_of self.new.intake.collector ≡ manner_of self.old.intake.collector }
         ensures full { self.new.full ≡ self.old.full }
         ensures turn { IsEventTurn result }
     {
@@ -100,9 +100,9 @@ impl<S: Store + Drop, K: Keeping<S> + Drop, N: Output + Drop, R: Output + Drop> 
             → StandsBy S.entries K.stands self.old.intake k first before
             → NoneWaits self.old.intake.collector → (here : List AcceptedEvent)
             × StandsBy S.entries K.stands self.new.intake k first (before ++ here)
-            × Receives (reading_of self.old.intake.collector) before (Ended lost) here result
+            × Receives (manner_of self.old.intake.collector) before (Ended lost) here result
             × IfSettled result (NoneWaits self.new.intake.collector) }
-        ensures reading { reading_of self.new.intake.collector ≡ reading_of self.old.intake.collector }
+        ensures manner { manner_of self.new.intake.collector ≡ manner_of self.old.intake.collector }
         ensures full { self.new.full ≡ self.old.full }
         ensures turn { IsEventTurn result }
         ensures closes { Closes (Q.state source.old) (Q.state source.new) lost }
@@ -123,7 +123,7 @@ impl<S: Store + Drop, K: Keeping<S> + Drop, N: Output + Drop, R: Output + Drop> 
     ) -> Turn
         ensures served { (lost : Bool) × ClosesLost lost (Q.state source.old) (Q.state source.new) conn
             × Accepts S.entries K.stands self.old.intake self.new.intake (Piece conn octets.now) lost result }
-        ensures reading { reading_of self.new.intake.collector ≡ reading_of self.old.intake.collector }
+        ensures manner { manner_of self.new.intake.collector ≡ manner_of self.old.intake.collector }
         ensures full { self.new.full ≡ self.old.full }
         ensures turn { IsEventTurn result }
     {
@@ -148,7 +148,7 @@ impl<S: Store + Drop, K: Keeping<S> + Drop, N: Output + Drop, R: Output + Drop> 
     pub(crate) fn ended(&mut self, alloc: Global, conn: u32, end: ConnectionEnd) -> Turn
         ensures served { Accepts S.entries K.stands self.old.intake self.new.intake
             (Ended conn) false result }
-        ensures reading { reading_of self.new.intake.collector ≡ reading_of self.old.intake.collector }
+        ensures manner { manner_of self.new.intake.collector ≡ manner_of self.old.intake.collector }
         ensures full { self.new.full ≡ self.old.full }
         ensures turn { IsEventTurn result }
     {
@@ -168,7 +168,7 @@ impl<S: Store + Drop, K: Keeping<S> + Drop, N: Output + Drop, R: Output + Drop> 
     ) -> Turn
         ensures served { Accepts S.entries K.stands self.old.intake self.new.intake
             (Datagram octets.now) false result }
-        ensures reading { reading_of self.new.intake.collector ≡ reading_of self.old.intake.collector }
+        ensures manner { manner_of self.new.intake.collector ≡ manner_of self.old.intake.collector }
         ensures full { self.new.full ≡ self.old.full }
         ensures turn { IsEventTurn result }
     {
@@ -214,7 +214,7 @@ impl<S: Store + Drop, K: Keeping<S> + Drop, N: Output + Drop, R: Output + Drop> 
     fn commit(&mut self, alloc: Global) -> Turn
         ensures served { CommitsAll S.entries K.stands self.old.intake self.new.intake self.new.full result }
         ensures settled { NoneWaits self.old.intake.collector → NoneWaits self.new.intake.collector }
-        ensures reading { reading_of self.new.intake.collector ≡ reading_of self.old.intake.collector }
+        ensures manner { manner_of self.new.intake.collector ≡ manner_of self.old.intake.collector }
         ensures turn { IsCommitTurn result }
     {
         match self.intake.commit(alloc) {
@@ -261,7 +261,7 @@ impl<S: Store + Drop, K: Keeping<S> + Drop, N: Output + Drop, R: Output + Drop> 
     pub(crate) fn tick(&mut self, alloc: Global, options: &ServeOptions) -> Turn
         ensures served { CommitsAll S.entries K.stands self.old.intake self.new.intake self.new.full result }
         ensures settled { NoneWaits self.old.intake.collector → NoneWaits self.new.intake.collector }
-        ensures reading { reading_of self.new.intake.collector ≡ reading_of self.old.intake.collector }
+        ensures manner { manner_of self.new.intake.collector ≡ manner_of self.old.intake.collector }
         ensures turn { IsCommitTurn result }
     {
         match self.commit(alloc) {
@@ -290,7 +290,7 @@ impl<S: Store + Drop, K: Keeping<S> + Drop, N: Output + Drop, R: Output + Drop> 
     pub(crate) fn finish(&mut self, alloc: Global, end: ServeEnd) -> Turn
         ensures served { CommitsAll S.entries K.stands self.old.intake self.new.intake self.new.full result }
         ensures settled { NoneWaits self.old.intake.collector → NoneWaits self.new.intake.collector }
-        ensures reading { reading_of self.new.intake.collector ≡ reading_of self.old.intake.collector }
+        ensures manner { manner_of self.new.intake.collector ≡ manner_of self.old.intake.collector }
         ensures turn { IsCommitTurn result ⊎ (result ≡ End end) }
     {
         match self.commit(alloc) {
@@ -303,7 +303,7 @@ impl<S: Store + Drop, K: Keeping<S> + Drop, N: Output + Drop, R: Output + Drop> 
     pub(crate) fn try_again(&mut self, alloc: Global) -> Turn
         ensures served { CommitsAll S.entries K.stands self.old.intake self.new.intake self.new.full result }
         ensures settled { NoneWaits self.old.intake.collector → NoneWaits self.new.intake.collector }
-        ensures reading { reading_of self.new.intake.collector ≡ reading_of self.old.intake.collector }
+        ensures manner { manner_of self.new.intake.collector ≡ manner_of self.old.intake.collector }
         ensures turn { IsCommitTurn result }
     {
         match self.intake.reopen(alloc) {

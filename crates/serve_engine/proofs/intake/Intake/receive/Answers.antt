@@ -7,3 +7,6 @@ returns-clause-received g c k first before at =
 
 pub returns-clause-settled : goal.returns-clause-settled
 returns-clause-settled g c k first before at none = c.receive.ensures.settled k.held first before at.collector none
+
+pub returns-clause-room : goal.returns-clause-room
+returns-clause-room g c k first before at = c.receive.ensures.room k.held first before at.collector

@@ -1,6 +1,6 @@
 use Rattle.std.proofs.Common.{true, false, refl, sym, ap}
 use Rattle.syslog_collect.specs.History.{Opened}
-use Rattle.serve_engine.specs.Serving.{loses_opening, turn_of}
+use Rattle.serve_engine.specs.Serving.{loses_opening, manner_of, turn_of}
 use Rattle.serve_engine.proofs.Turns.{accepted_none, accepted_own, after_event, lost_opening, turn_event}
 use Rattle.serve_engine.proofs.server.Server.opened.Goals as goal
 
@@ -13,8 +13,8 @@ returns-in-Accepted-clause-served g c = (
       let quiet = c.receive.ensures.settled k first before at none in (
         made.0,
         made.1,
-        accepted_own c.args.self.now.intake.collector.reading before (Opened c.args.conn c.args.framing) c.receive.result _
-            made.0 _ (_, _, none, quiet, made.2) (ap loses_opening c.in-Accepted.is) (sym (ap turn_of c.in-Accepted.is)),
+        accepted_own (manner_of c.args.self.now.intake.collector) before (Opened c.args.conn c.args.framing) c.receive.result _
+            made.0 _ (_, _, none, quiet, made.2, c.receive.ensures.room k first before at) (ap loses_opening c.in-Accepted.is) (sym (ap turn_of c.in-Accepted.is)),
         rw c.in-Accepted.is at quiet,
       ),
 )
@@ -28,8 +28,8 @@ returns-in_default-clause-served g c = (
       let quiet = c.receive.ensures.settled k first before at none in (
         made.0,
         made.1,
-        accepted_none c.args.self.now.intake.collector.reading before c.args.conn c.args.framing c.receive.result _ made.0 _
-            (_, _, none, quiet, made.2) (lost_opening c.receive.result c.in_default.not-Accepted) c.turn_after.ensures,
+        accepted_none (manner_of c.args.self.now.intake.collector) before c.args.conn c.args.framing c.receive.result _ made.0 _
+            (_, _, none, quiet, made.2, c.receive.ensures.room k first before at) (lost_opening c.receive.result c.in_default.not-Accepted) c.turn_after.ensures,
         after_event _ c.receive.result _ c.turn_after.ensures quiet,
       ),
 )

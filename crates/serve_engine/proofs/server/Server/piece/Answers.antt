@@ -1,7 +1,7 @@
 use Rattle.std.proofs.Common.{◌++◌, true, false, List, refl, subst, sym, ap, append_assoc, ◌∙◌}
-use Rattle.syslog_collect.specs.History.{AcceptedEvent, Piece}
+use Rattle.syslog_collect.specs.History.{AcceptedEvent, Ended, Piece}
 use Rattle.serve_engine.specs.Intakes.{StandsBy}
-use Rattle.serve_engine.specs.Serving.{ends_in_bad_count, loses_piece, turn_of}
+use Rattle.serve_engine.specs.Serving.{Manner, Receives, ends_in_bad_count, loses_piece, manner_of, turn_of}
 use Rattle.serve_engine.proofs.Turns.{accepted_closing, accepted_own, lost_taken, still_settled, taken_on}
 use Rattle.serve_engine.proofs.server.Server.piece.Goals as goal
 
@@ -15,8 +15,8 @@ returns-in-Memory-clause-served g c = (
       let os = c.receive-received.new.self.outcomes.items in (
         made.0,
         made.1,
-        accepted_own c.args.self.now.intake.collector.reading before (Piece c.args.conn c.args.octets.now)
-            c.receive-received.result os made.0 _ (_, _, none, quiet, made.2)
+        accepted_own (manner_of c.args.self.now.intake.collector) before (Piece c.args.conn c.args.octets.now)
+            c.receive-received.result os made.0 _ (_, _, none, quiet, made.2, c.receive-received.ensures.room k first before at)
             (ap (λ r. loses_piece r os) c.in-Memory.is) (sym (ap turn_of c.in-Memory.is)),
         tt,
       ),
@@ -35,9 +35,10 @@ returns-in-Refused-clause-served g c = (
         made.0 ++ lost.0,
         subst (λ (es : List AcceptedEvent). StandsBy (g.S.Store.entries) (g.K.Keeping.stands) c.lose.new.self.intake k
             first es) (append_assoc before made.0 lost.0) lost.1,
-        accepted_closing c.args.self.now.intake.collector.reading before c.args.conn c.args.octets.now
-            c.receive-received.result os made.0 lost.0 _ (_, _, none, settled, made.2)
-            (ap (λ r. loses_piece r os) c.in-Refused.is) (rw c.receive-received.ensures.reading at lost.2),
+        accepted_closing (manner_of c.args.self.now.intake.collector) before c.args.conn c.args.octets.now
+            c.receive-received.result os made.0 lost.0 _ (_, _, none, settled, made.2, c.receive-received.ensures.room k first before at)
+            (ap (λ r. loses_piece r os) c.in-Refused.is) (subst (λ (w : Manner). Receives w (before ++ made.0)
+            (Ended c.args.conn) lost.0 c.lose.result) c.receive-received.ensures.manner lost.2),
         lost.3,
       ),
 )
@@ -55,11 +56,12 @@ returns-then-ends_in_bad_count-clause-served g c = (
         made.0 ++ lost.0,
         subst (λ (es : List AcceptedEvent). StandsBy (g.S.Store.entries) (g.K.Keeping.stands)
             c.lose-then-ends_in_bad_count.new.self.intake k first es) (append_assoc before made.0 lost.0) lost.1,
-        accepted_closing c.args.self.now.intake.collector.reading before c.args.conn c.args.octets.now
-            c.receive-received.result os made.0 lost.0 _ (_, _, none, settled, made.2)
+        accepted_closing (manner_of c.args.self.now.intake.collector) before c.args.conn c.args.octets.now
+            c.receive-received.result os made.0 lost.0 _ (_, _, none, settled, made.2, c.receive-received.ensures.room k first before at)
             (lost_taken c.receive-received.result os true c.in-Accepted.is
             (ap ends_in_bad_count (sym c.as_slice-in-Accepted.ensures.value) ∙ sym c.ends_in_bad_count.ensures
-            ∙ c.if-ends_in_bad_count.true)) (rw c.receive-received.ensures.reading at lost.2),
+            ∙ c.if-ends_in_bad_count.true)) (subst (λ (w : Manner). Receives w (before ++ made.0)
+            (Ended c.args.conn) lost.0 c.lose-then-ends_in_bad_count.result) c.receive-received.ensures.manner lost.2),
         lost.3,
       ),
 )
@@ -74,8 +76,8 @@ returns-else-ends_in_bad_count-clause-served g c = (
       let os = c.receive-received.new.self.outcomes.items in (
         made.0,
         made.1,
-        accepted_own c.args.self.now.intake.collector.reading before (Piece c.args.conn c.args.octets.now)
-            c.receive-received.result os made.0 _ (_, _, none, settled, made.2)
+        accepted_own (manner_of c.args.self.now.intake.collector) before (Piece c.args.conn c.args.octets.now)
+            c.receive-received.result os made.0 _ (_, _, none, settled, made.2, c.receive-received.ensures.room k first before at)
             (lost_taken c.receive-received.result os false c.in-Accepted.is
             (ap ends_in_bad_count (sym c.as_slice-in-Accepted.ensures.value) ∙ sym c.ends_in_bad_count.ensures
             ∙ c.if-ends_in_bad_count.false)) (taken_on c.receive-received.result c.in-Accepted.is),

@@ -6,7 +6,7 @@ use Rattle.serve_engine.proofs.server.Server.turn.Goals as goal
 pub returns-then-self-clause-served : goal.returns-then-self-clause-served
 returns-then-self-clause-served g c =
     tried _ _ _ _ _ _ _ _ c.if-self.true c.try_again.ensures.served c.try_again.ensures.settled
-    c.try_again.ensures.reading c.try_again.ensures.turn
+    c.try_again.ensures.manner c.try_again.ensures.turn
 
 pub returns-then-self-clause-asked : goal.returns-then-self-clause-asked
 returns-then-self-clause-asked g c = rw c.if-self.true refl
@@ -19,7 +19,7 @@ returns-clause-served g c =
       gave = c.next-step.ensures;
       given = refl;
       closes = c.step.ensures.served.1;
-    }) c.step.ensures.reading c.step.ensures.full c.step.ensures.turn
+    }) c.step.ensures.manner c.step.ensures.full c.step.ensures.turn
 
 pub returns-clause-asked : goal.returns-clause-asked
 returns-clause-asked g c = rw c.if-self.false (
