@@ -28,7 +28,8 @@ use Rattle.syslog_collect.specs.declared.fault.CollectFault.TheVariants.{Already
 use Rattle.syslog_collect.specs.declared.fault.CollectFault.TheVariants.{StreamTooLong, Unreleased, Unterminated}
 use Rattle.syslog_collect.specs.declared.fault.CollectFault.TheVariants.{Memory}
 use Rattle.syslog_collect.specs.declared.outcome.Outcome.{Outcome}
-use Rattle.collect_engine.specs.Receiving.{IfNotMemory, IsWholeEnd, ReceivesAs, TakesPartOf, kept_outcomes, received_as}
+use Rattle.collect_engine.specs.Receiving.{IfNotMemory, IfRefused, IsWholeEnd, MayNotOpen, ReceivesAs, TakesPartOf}
+use Rattle.collect_engine.specs.Receiving.{kept_outcomes, received_as}
 use Rattle.collect_engine.specs.declared.receiving.Received.{Received}
 use Rattle.collect_engine.specs.declared.receiving.Received.TheVariants as received
 use Rattle.collect_engine.proofs.Settled.{broken_quiet, part_quiet}
@@ -311,3 +312,42 @@ stopped_as limit way cs v kept first es e at n fault a b log os many was stops (
     (event_as limit way h (waiting cs) u v e n fault mid b later many same one
     (stops_at_one limit way h v e at n fault stops)
     (λ c bad. broken_quiet way c cs kept first es was bad)))
+
+-- ---- where an opening is refused
+
+nothing_said : (r : Received) → IfRefused r (Unit {0})
+nothing_said received.Accepted = tt
+nothing_said (received.Unterminated start) = tt
+nothing_said received.Refused = tt
+nothing_said received.Memory = tt
+
+opening_refused : (limit : ℕ) (way : FrameReading) (h : History) (v : ℕ → ℕ) (c n : ℕ) (k : Framing) (fault : CollectFault)
+    → StopsAt limit way h v (event_Opened c k) n fault
+    → IfRefused (received_as fault) (MayNotOpen limit h (Opened c k))
+opening_refused limit way h v c n k (Memory m) stops = tt
+opening_refused limit way h v c n k ConnFailed stops = tt
+opening_refused limit way h v c n k (Unterminated start) stops = tt
+opening_refused limit way h v c n k AlreadyOpen (few, inl e) = absurd (cc)
+opening_refused limit way h v c n k AlreadyOpen (few, inr is) = inl is
+opening_refused limit way h v c n k TooManyOpen (few, inl e) = absurd (cc)
+opening_refused limit way h v c n k TooManyOpen (few, inr is) = inr is.1
+opening_refused limit way h v c n k NotOpen (few, inl e) = absurd (cc)
+opening_refused limit way h v c n k NotOpen (few, inr is) = absurd is
+opening_refused limit way h v c n k StreamTooLong (few, inl e) = absurd (cc)
+opening_refused limit way h v c n k StreamTooLong (few, inr is) = absurd is
+opening_refused limit way h v c n k Unreleased (few, inl e) = absurd (cc)
+opening_refused limit way h v c n k Unreleased (few, inr is) = absurd is
+
+event_refused : (limit : ℕ) (way : FrameReading) (h : History) (v : ℕ → ℕ) (e : Event) (n : ℕ) (fault : CollectFault)
+    → StopsAt limit way h v e n fault → IfRefused (received_as fault) (MayNotOpen limit h (accepted_event e))
+event_refused limit way h v (event_Opened c k) n fault stops = opening_refused limit way h v c n k fault stops
+event_refused limit way h v (event_Piece c o) n fault stops = nothing_said (received_as fault)
+event_refused limit way h v (event_Ended c) n fault stops = nothing_said (received_as fault)
+event_refused limit way h v (event_Datagram o) n fault stops = nothing_said (received_as fault)
+
+pub refused_at : (limit : ℕ) (way : FrameReading) (h : History) (v : ℕ → ℕ) (e : Event) (at n : ℕ) (fault : CollectFault)
+    (r : Received) → r ≡ received_as fault → StopsAs limit way h v (e ∷ []) (Stopped at n fault)
+    → IfRefused r (MayNotOpen limit h (accepted_event e))
+refused_at limit way h v e at n fault r is stops =
+    subst (λ (q : Received). IfRefused q (MayNotOpen limit h (accepted_event e))) (sym is)
+    (event_refused limit way h v e n fault (stops_at_one limit way h v e at n fault stops))

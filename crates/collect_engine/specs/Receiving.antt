@@ -95,6 +95,20 @@ ReceivesAs way h w v e (received.Unterminated start) os es =
 ReceivesAs way h w v e received.Refused os es = (es ≡ []) × (os ≡ []) × MayNotCome h v e
 ReceivesAs way h w v e received.Memory os es = TakesPartOf way h w v e os es
 
+-- an opening may not come, where so many connections may be open; of other events nothing is said
+abbrev pub MayNotOpen : ℕ → History → AcceptedEvent → Type 0
+MayNotOpen limit h (Opened c k) = IsSome (stream_of c h.streams) ⊎ (limit ≤ length h.streams)
+MayNotOpen limit h (Piece c o) = Unit {0}
+MayNotOpen limit h (Ended c) = Unit {0}
+MayNotOpen limit h (Datagram o) = Unit {0}
+
+-- where an event is refused
+abbrev pub IfRefused : Received → Type 0 → Type 0
+IfRefused received.Accepted P = Unit {0}
+IfRefused (received.Unterminated start) P = Unit {0}
+IfRefused received.Refused P = P
+IfRefused received.Memory P = Unit {0}
+
 -- where memory did not run out
 abbrev pub IfNotMemory : Received → Type 0 → Type 0
 IfNotMemory received.Accepted P = P

@@ -1,10 +1,11 @@
 //! What a collector makes of an event.
 ghost use Rattle.std.specs.Prelude.{◌≡◌, ◌++◌, List};
 ghost use Rattle.archive_text.specs.Entries.{Entry};
-ghost use Rattle.syslog_collect.specs.Collectors.{NoneWaits, Stands, behind, reading_of, waits_of};
+ghost use Rattle.syslog_collect.specs.Collectors.{NoneWaits, Stands, behind, limit_of, reading_of, waits_of};
 ghost use Rattle.syslog_collect.specs.History.{AcceptedEvent, history_of};
 ghost use Rattle.syslog_collect.specs.Runs.{accepted_event};
-ghost use Rattle.collect_engine.specs.Receiving.{IfNotMemory, ReceivesAs, kept_outcomes, received_as};
+ghost use Rattle.collect_engine.specs.Receiving.{IfNotMemory, IfRefused, MayNotOpen, ReceivesAs, kept_outcomes};
+ghost use Rattle.collect_engine.specs.Receiving.{received_as};
 
 use archive_text::Store;
 use std::alloc::Global;
@@ -62,7 +63,12 @@ pub fn receive<S: Store>(
         → Stands (behind past S.entries) collector.old first before
         → NoneWaits collector.old
         → IfNotMemory result (NoneWaits collector.new) }
+    ensures room { (past first : List Entry) (before : List AcceptedEvent)
+        → Stands (behind past S.entries) collector.old first before
+        → IfRefused result (MayNotOpen (limit_of collector.old) (history_of before)
+        (accepted_event event.entry)) }
     ensures reading { reading_of collector.new ≡ reading_of collector.old }
+    ensures limit { limit_of collector.new ≡ limit_of collector.old }
 {
     outcomes.clear();
     match collector.run(alloc, &[event], outcomes) {

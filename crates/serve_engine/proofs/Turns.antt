@@ -1,27 +1,27 @@
--- What is accepted of steps, one after the other.
-use Rattle.std.proofs.Common.{◌≡◌, ℕ, true, false, List, [], ◌∷◌, ◌++◌, inl, inr, refl, sym, ◌∙◌, ap, subst}
-use Rattle.std.proofs.Common.{append_assoc}
+-- What is accepted of a step, and when all is committed.
+use Rattle.std.proofs.Common.{◌≡◌, ℕ, true, false, List, [], ◌++◌, inl, inr, refl, sym, ◌∙◌, ap, subst}
 use Rattle.std.specs.Prelude.{◌⊎◌, ◌↔◌, Bool, Option, Some, None}
 use Rattle.std.proofs.lemmas.List.{append-nil}
 use Rattle.archive_text.specs.Entries.{Entry, Has}
 use Rattle.collect_engine.specs.Receiving.{IfNotMemory}
 use Rattle.collect_engine.specs.declared.receiving.Received.{Received}
 use Rattle.collect_engine.specs.declared.receiving.Received.TheVariants as received
-use Rattle.syslog_legacy.specs.declared.frame_reading.FrameReading.{FrameReading}
+use Rattle.syslog_frame.specs.declared.framing.Framing.{Framing}
 use Rattle.syslog_collect.specs.Collectors.{NoneWaits, reading_of, store_of}
 use Rattle.syslog_collect.specs.Frames.{IsReceived}
-use Rattle.syslog_collect.specs.History.{AcceptedEvent, Ended, Piece}
+use Rattle.syslog_collect.specs.History.{AcceptedEvent, Ended, Opened, Piece}
 use Rattle.syslog_collect.specs.declared.outcome.Outcome.{Outcome}
 use Rattle.syslog_collect.proofs.Headline.{holds_received}
-use Rattle.socket_source.specs.Steps.{Given, SourceState}
 use Rattle.socket_source.specs.declared.step.ServerStep.{ServerStep}
 use Rattle.serve_engine.specs.Intakes.{IsCommitted, StandsBy}
 use Rattle.serve_engine.specs.Keepings.{Kept}
-use Rattle.serve_engine.specs.Serving.{Accepts, CommitsAll, EndsUnlessFull, FaultsAs, GivesStep, HoldsReceived, IfSettled}
-use Rattle.serve_engine.specs.Serving.{IsAccepted, IsCommitTurn, IsEventTurn, IsReceivedAs, IsStepTurn, IsTryTurn, Served}
-use Rattle.serve_engine.specs.Serving.{ServesEvent, ServesStep, UnlessMemory, UnlessStopped, asks_commit, ends_in_bad_count}
-use Rattle.serve_engine.specs.Serving.{event_of, turn_of}
+use Rattle.serve_engine.specs.Serving.{Accepts, CommitsAll, EndsUnlessFull, FaultsAs, HoldsReceived, IfSettled}
+use Rattle.serve_engine.specs.Serving.{IsAccepted, IsCommitTurn, IsEventTurn, IsReceivedAs, IsStepTurn, IsTryTurn, Manner}
+use Rattle.serve_engine.specs.Serving.{Receives, ServesEvent, ServesStep, UnlessMemory, UnlessStopped, asks_commit}
+use Rattle.serve_engine.specs.Serving.{ends_in_bad_count, event_of, loses, loses_opening, loses_piece, manner_of, turn_of}
 use Rattle.serve_engine.specs.declared.intake.Intake.{Intake}
+use Rattle.serve_engine.specs.declared.keeping.KeepFault.{KeepFault}
+use Rattle.serve_engine.specs.declared.keeping.KeepFault.TheVariants as keep
 use Rattle.serve_engine.specs.declared.serve_end.ServeEnd.{ServeEnd}
 use Rattle.serve_engine.specs.declared.serve_end.ServeEnd.TheVariants.{Finished, Source, Disk, Memory, Endless}
 use Rattle.serve_engine.specs.declared.turn.Turn.{Turn}
@@ -29,29 +29,69 @@ use Rattle.serve_engine.specs.declared.turn.Turn.TheVariants.{On, End}
 
 -- ---- one event
 
--- what a collector makes of an event is accepted
-pub accepted_own : (way : FrameReading) (before : List AcceptedEvent) (e : AcceptedEvent) (r : Received)
-    (os : List Outcome) (own : List AcceptedEvent) → IsReceivedAs way before e r os own → IsAccepted way before e own
-accepted_own way before e r os own is = (r, os, own, [], is, sym (append-nil own), inl refl)
+-- what a collector makes of an event is accepted, where its connection is not lost
+pub accepted_own : (way : Manner) (before : List AcceptedEvent) (e : AcceptedEvent) (r : Received)
+    (os : List Outcome) (own : List AcceptedEvent) (turn : Turn) → IsReceivedAs way before e r os own
+    → loses e r os ≡ false → turn ≡ turn_of r → IsAccepted way before e own false turn
+accepted_own way before e r os own turn is kept on = record {
+  received = r;
+  outcomes = os;
+  own = own;
+  closing = [];
+  is = is;
+  all = sym (append-nil own);
+  lost_as = sym kept;
+  ends = (refl, on);
+}
 
--- with the end of its connection, where the piece ends in a bad count, or was refused
-pub accepted_closing : (way : FrameReading) (before : List AcceptedEvent) (c : ℕ) (o : List ℕ) (r : Received)
-    (os : List Outcome) (own closing : List AcceptedEvent) → IsReceivedAs way before (Piece c o) r os own
-    → (closing ≡ []) ⊎ (closing ≡ Ended c ∷ []) → (ends_in_bad_count os ≡ true) ⊎ (r ≡ received.Refused)
-    → IsAccepted way before (Piece c o) (own ++ closing)
-accepted_closing way before c o r os own closing is (inl none) cause =
-    (r, os, own, closing, is, refl, inl none)
-accepted_closing way before c o r os own closing is (inr ends) cause =
-    (r, os, own, closing, is, refl, inr (c, o, refl, ends, cause))
+-- of a connection that was not opened
+pub accepted_none : (way : Manner) (before : List AcceptedEvent) (c : ℕ) (k : Framing) (r : Received)
+    (os : List Outcome) (own : List AcceptedEvent) (turn : Turn) → IsReceivedAs way before (Opened c k) r os own
+    → loses_opening r ≡ true → turn ≡ turn_of r → IsAccepted way before (Opened c k) own true turn
+accepted_none way before c k r os own turn is lost on = record {
+  received = r;
+  outcomes = os;
+  own = own;
+  closing = [];
+  is = is;
+  all = sym (append-nil own);
+  lost_as = sym lost;
+  ends = (refl, on);
+}
 
--- of an end of a number it is the end, or nothing
-pub ending_only : (way : FrameReading) (before : List AcceptedEvent) (c : ℕ) (r : Received) (os : List Outcome)
-    (own : List AcceptedEvent) → IsReceivedAs way before (Ended c) r os own → (own ≡ []) ⊎ (own ≡ Ended c ∷ [])
-ending_only way before c received.Accepted os own (w, v, inl h) = inr h.0
-ending_only way before c received.Accepted os own (w, v, inr h) = inl h.0
-ending_only way before c (received.Unterminated start) os own (w, v, h) = inr h.0
-ending_only way before c received.Refused os own (w, v, h) = inl h.0
-ending_only way before c received.Memory os own (w, v, h) = inl h.0
+-- with the end of a connection that is lost
+pub accepted_closing : (way : Manner) (before : List AcceptedEvent) (c : ℕ) (o : List ℕ) (r : Received)
+    (os : List Outcome) (own closing : List AcceptedEvent) (turn : Turn) → IsReceivedAs way before (Piece c o) r os own
+    → loses_piece r os ≡ true → Receives way (before ++ own) (Ended c) closing turn
+    → IsAccepted way before (Piece c o) (own ++ closing) true turn
+accepted_closing way before c o r os own closing turn is lost ends = record {
+  received = r;
+  outcomes = os;
+  own = own;
+  closing = closing;
+  is = is;
+  all = refl;
+  lost_as = sym lost;
+  ends = ends;
+}
+
+-- an opening that is not accepted loses its connection
+pub lost_opening : (r : Received) → ¬ (r ≡ received.Accepted) → loses_opening r ≡ true
+lost_opening received.Accepted other = absurd (other refl)
+lost_opening (received.Unterminated start) other = refl
+lost_opening received.Refused other = refl
+lost_opening received.Memory other = refl
+
+-- of a piece that was taken, its outcomes tell whether the connection is lost
+pub lost_taken : (r : Received) (os : List Outcome) (b : Bool)
+    → (r ≡ received.Accepted) ⊎ ((start : ℕ) × (r ≡ received.Unterminated start)) → ends_in_bad_count os ≡ b
+    → loses_piece r os ≡ b
+lost_taken r os b (inl is) bad = subst (λ (q : Received). loses_piece q os ≡ b) (sym is) bad
+lost_taken r os b (inr (start, is)) bad = subst (λ (q : Received). loses_piece q os ≡ b) (sym is) bad
+
+pub taken_on : (r : Received) → (r ≡ received.Accepted) ⊎ ((start : ℕ) × (r ≡ received.Unterminated start)) → On ≡ turn_of r
+taken_on r (inl is) = sym (ap turn_of is)
+taken_on r (inr (start, is)) = sym (ap turn_of is)
 
 -- where memory did not run out, it goes on
 settled_turn : (r : Received) (P : Type 0) → IfNotMemory r P → IfSettled (turn_of r) P
@@ -79,11 +119,17 @@ still_settled r P (inr (start, is)) h = subst (λ (q : Received). IfNotMemory q 
 
 -- ---- commits
 
-pub stopped_fault : (full : Bool) (t : Turn) (P : Type 0) → FaultsAs full t → UnlessStopped t full P
-stopped_fault full t P (inl (is, was_full)) =
+-- after a fault nothing is said of the commit
+pub stopped_fault : (f : KeepFault) (full : Bool) (t : Turn) (P : Type 0) → FaultsAs f full t → UnlessStopped t full P
+stopped_fault keep.Full full t P (is, was_full) =
     subst (λ (u : Turn). UnlessStopped u full P) (sym is) (λ room. absurd (cc))
-stopped_fault full t P (inr (inl is)) = subst (λ (u : Turn). UnlessStopped u full P) (sym is) tt
-stopped_fault full t P (inr (inr is)) = subst (λ (u : Turn). UnlessStopped u full P) (sym is) tt
+stopped_fault keep.Failed full t P is = subst (λ (u : Turn). UnlessStopped u full P) (sym is) tt
+stopped_fault keep.Memory full t P is = subst (λ (u : Turn). UnlessStopped u full P) (sym is) tt
+
+pub fault_turn : (f : KeepFault) (full : Bool) (t : Turn) → FaultsAs f full t → IsCommitTurn t
+fault_turn keep.Full full t (is, was_full) = inl is
+fault_turn keep.Failed full t is = inr (inl is)
+fault_turn keep.Memory full t is = inr (inr is)
 
 pub unless_map : (t : Turn) (full : Bool) (P Q : Type 0) → UnlessStopped t full P → (P → Q) → UnlessStopped t full Q
 unless_map On full P Q h f = λ room. f (h room)
@@ -120,41 +166,47 @@ any_settled (End end) P h = settled_end end P h
 -- ---- a step
 
 pub serves_event : {S K : Type 0} (entries : S → List Entry) (stands : K → Kept → Type 0) (old new : Intake S K)
-    (s : ServerStep) (octets : List ℕ) (full : Bool) (t : Turn) (e : AcceptedEvent) → event_of s octets ≡ Some e
-    → asks_commit s ≡ false → Accepts entries stands old new e t → ServesStep entries stands old new s octets full t
-serves_event entries stands old new s octets full t e is none_asked accepts k first before at none =
+    (s : ServerStep) (octets : List ℕ) (lost full : Bool) (t : Turn) (e : AcceptedEvent) → event_of s octets ≡ Some e
+    → asks_commit s ≡ false → Accepts entries stands old new e lost t
+    → ServesStep entries stands old new s octets lost full t
+serves_event entries stands old new s octets lost full t e is none_asked accepts k first before at none =
     let d = accepts k first before at none in (
       k,
       d.0,
       d.1,
-      subst (λ (o : Option AcceptedEvent). ServesEvent (reading_of old.collector) before o d.0) (sym is) d.2,
+      λ x had. had,
+      subst (λ (o : Option AcceptedEvent). ServesEvent (manner_of old.collector) before s o d.0 lost t) (sym is) d.2,
       d.3,
       λ asks. absurd (cc),
     )
 
 pub serves_commit : {S K : Type 0} (entries : S → List Entry) (stands : K → Kept → Type 0) (old new : Intake S K)
-    (s : ServerStep) (octets : List ℕ) (full : Bool) (t : Turn) → event_of s octets ≡ None
+    (s : ServerStep) (octets : List ℕ) (full : Bool) (t : Turn) → event_of s octets ≡ None → asks_commit s ≡ true
     → CommitsAll entries stands old new full t → (NoneWaits old.collector → NoneWaits new.collector)
-    → ServesStep entries stands old new s octets full t
-serves_commit entries stands old new s octets full t is commits settled k first before at none =
+    → ServesStep entries stands old new s octets false full t
+serves_commit entries stands old new s octets full t is asked commits settled k first before at none =
     let d = commits k first before at in (
       d.0,
       [],
       subst (λ (es : List AcceptedEvent). StandsBy entries stands new d.0 first es) (sym (append-nil before)) d.1,
-      subst (λ (o : Option AcceptedEvent). ServesEvent (reading_of old.collector) before o []) (sym is) refl,
+      d.2,
+      subst (λ (o : Option AcceptedEvent). ServesEvent (manner_of old.collector) before s o [] false t) (sym is)
+          (refl, refl, λ asks. absurd (cc)),
       any_settled t (NoneWaits new.collector) (settled none),
-      λ asks. d.2,
+      λ asks. d.3,
     )
 
 pub serves_nothing : {S K : Type 0} (entries : S → List Entry) (stands : K → Kept → Type 0) (old new : Intake S K)
     (s : ServerStep) (octets : List ℕ) (full : Bool) (t : Turn) → event_of s octets ≡ None → asks_commit s ≡ false
-    → new ≡ old → t ≡ On → ServesStep entries stands old new s octets full t
+    → new ≡ old → t ≡ On → ServesStep entries stands old new s octets false full t
 serves_nothing {S = S} {K = K} entries stands old new s octets full t is none_asked same on k first before at none = (
   k,
   [],
   subst (λ (i : Intake S K). StandsBy entries stands i k first (before ++ [])) (sym same)
       (subst (λ (es : List AcceptedEvent). StandsBy entries stands old k first es) (sym (append-nil before)) at),
-  subst (λ (o : Option AcceptedEvent). ServesEvent (reading_of old.collector) before o []) (sym is) refl,
+  λ x had. had,
+  subst (λ (o : Option AcceptedEvent). ServesEvent (manner_of old.collector) before s o [] false t) (sym is)
+      (refl, refl, λ none. on),
   any_settled t (NoneWaits new.collector) (subst (λ (i : Intake S K). NoneWaits i.collector) (sym same) none),
   λ asks. absurd (cc),
 )
@@ -188,27 +240,3 @@ committed_all entries stands i k first es at none c =
     λ x. subst (λ (xs : List Entry). Has xs x ↔ (Has first x ⊎ IsReceived (reading_of i.collector) es x)) all
     (holds_received i.collector.reading i.collector.connections (k.held ++ entries (store_of i.collector)) first es
     at.collector none x)
-
--- ---- steps
-
-pub served_one : (way : FrameReading) (a b : SourceState) (before : List AcceptedEvent) (g : Given)
-    (here : List AcceptedEvent) → GivesStep a b g → ServesEvent way before (event_of g.step g.octets) here
-    → Served way a before (g ∷ []) here b
-served_one way a b before g here gives serves = (here, [], b, sym (append-nil here), gives, serves, (refl, refl))
-
-pub served_then : (way : FrameReading) (a b c : SourceState) (before es fs : List AcceptedEvent) (gs hs : List Given)
-    → Served way a before gs es b → Served way b (before ++ es) hs fs c → Served way a before (gs ++ hs) (es ++ fs) c
-served_then way a b c before es fs [] hs (none, same) next =
-    rw (none, sym same) (subst (λ (x : List AcceptedEvent). Served way b x hs fs c)
-    (ap (λ (x : List AcceptedEvent). before ++ x) none ∙ append-nil before) next)
-served_then way a b c before es fs (g ∷ gs) hs (here, later, between, is, gives, serves, rest) next = (
-  here,
-  later ++ fs,
-  between,
-  ap (λ (x : List AcceptedEvent). x ++ fs) is ∙ append_assoc here later fs,
-  gives,
-  serves,
-  served_then way between b c (before ++ here) later fs gs hs rest
-      (subst (λ (x : List AcceptedEvent). Served way b x hs fs c)
-      (ap (λ (x : List AcceptedEvent). before ++ x) is ∙ sym (append_assoc before here later)) next),
-)

@@ -3,13 +3,14 @@ use Rattle.std.specs.Prelude.{◌≡◌, List, []}
 use Rattle.archive_text.specs.Entries.{Entry}
 use Rattle.syslog_collect.specs.Collectors.{Stands, behind, store_of}
 use Rattle.syslog_collect.specs.History.{AcceptedEvent}
-use Rattle.serve_engine.specs.Keepings.{Kept}
+use Rattle.serve_engine.specs.Keepings.{IsWithin, Kept}
 use Rattle.serve_engine.specs.declared.intake.Intake.{Intake}
 
--- the collector stands at first entries and events, behind what is held
+-- the collector stands at first entries and events, behind what is held, of which some is committed
 pub record StandsBy {S K : Type 0} (entries : S → List Entry) (stands : K → Kept → Type 0) (intake : Intake S K) (k : Kept)
     (first : List Entry) (events : List AcceptedEvent) : Type 0 where
   pub keeper : stands intake.keeper k
+  pub within : IsWithin k
   pub collector : Stands (behind k.held entries) intake.collector first events
 
 -- all that is held is committed, and nothing else is there

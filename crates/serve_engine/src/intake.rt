@@ -1,13 +1,13 @@
 //! Where events go: a collector, and what keeps its records.
 ghost use Rattle.std.specs.Prelude.{◌≡◌, ◌++◌, ⊤, [], List, OnOk};
 ghost use Rattle.archive_text.specs.Entries.{Entry};
-ghost use Rattle.collect_engine.specs.Receiving.{IfNotMemory};
-ghost use Rattle.syslog_collect.specs.Collectors.{NoneWaits, reading_of, store_of};
-ghost use Rattle.syslog_collect.specs.History.{AcceptedEvent};
+ghost use Rattle.collect_engine.specs.Receiving.{IfNotMemory, IfRefused, MayNotOpen, ReceivesAs};
+ghost use Rattle.syslog_collect.specs.Collectors.{NoneWaits, limit_of, reading_of, store_of, waits_of};
+ghost use Rattle.syslog_collect.specs.History.{AcceptedEvent, history_of};
 ghost use Rattle.syslog_collect.specs.Runs.{accepted_event};
 ghost use Rattle.serve_engine.specs.Intakes.{IsCommitted, StandsBy};
 ghost use Rattle.serve_engine.specs.Keepings.{Kept};
-ghost use Rattle.serve_engine.specs.Serving.{IsReceivedAs, StandsOn};
+ghost use Rattle.serve_engine.specs.Serving.{StandsOn, manner_of};
 
 use crate::keeping::{KeepFault, Keeping, Taken};
 use archive_text::Store;
@@ -43,12 +43,17 @@ impl<S: Store + Drop, K: Keeping<S> + Drop> Intake<S, K> {
             → StandsBy S.entries K.stands self.old k first before
             → (accepted : List AcceptedEvent)
             × StandsBy S.entries K.stands self.new k first (before ++ accepted)
-            × IsReceivedAs (reading_of self.old.collector) before (accepted_event event.entry) result
-            self.new.outcomes.items accepted }
+            × ReceivesAs (reading_of self.old.collector) (history_of before) (waits_of self.old.collector)
+            (waits_of self.new.collector) (accepted_event event.entry) result self.new.outcomes.items
+            accepted }
+        ensures room { (k : Kept) (first : List Entry) (before : List AcceptedEvent)
+            → StandsBy S.entries K.stands self.old k first before
+            → IfRefused result (MayNotOpen (limit_of self.old.collector) (history_of before)
+            (accepted_event event.entry)) }
         ensures settled { (k : Kept) (first : List Entry) (before : List AcceptedEvent)
             → StandsBy S.entries K.stands self.old k first before
             → NoneWaits self.old.collector → IfNotMemory result (NoneWaits self.new.collector) }
-        ensures reading { reading_of self.new.collector ≡ reading_of self.old.collector }
+        ensures manner { manner_of self.new.collector ≡ manner_of self.old.collector }
     {
         receive(alloc, &mut self.collector, event, &mut self.outcomes)
     }
@@ -58,7 +63,7 @@ impl<S: Store + Drop, K: Keeping<S> + Drop> Intake<S, K> {
         ensures stands { StandsOn S.entries K.stands self.old self.new (λ _. ⊤) }
         ensures empty { OnOk result (S.entries (store_of self.new.collector) ≡ []) }
         ensures settled { NoneWaits self.old.collector → NoneWaits self.new.collector }
-        ensures reading { reading_of self.new.collector ≡ reading_of self.old.collector }
+        ensures manner { manner_of self.new.collector ≡ manner_of self.old.collector }
     {
         let fresh = self.collector.store_mut();
         self.keeper.take(alloc, fresh)
@@ -80,7 +85,7 @@ impl<S: Store + Drop, K: Keeping<S> + Drop> Intake<S, K> {
             (IsCommitted S.entries self.new)) }
         ensures stands { StandsOn S.entries K.stands self.old self.new (λ _. ⊤) }
         ensures settled { NoneWaits self.old.collector → NoneWaits self.new.collector }
-        ensures reading { reading_of self.new.collector ≡ reading_of self.old.collector }
+        ensures manner { manner_of self.new.collector ≡ manner_of self.old.collector }
     {
         let taken = self.hand_over(alloc)?;
         self.commit_held(alloc)?;

@@ -1,9 +1,9 @@
 //! The loop of a server.
-ghost use Rattle.std.specs.Prelude.{◌≡◌, length};
+ghost use Rattle.std.specs.Prelude.{◌≡◌, Bool, false, length};
 ghost use Rattle.socket_source.specs.Steps.{IsWithin, octets_of};
-ghost use Rattle.syslog_collect.specs.Collectors.{reading_of};
 ghost use Rattle.serve_engine.specs.Servers.{ServesRun, ServesTurn, intake_of, is_full};
-ghost use Rattle.serve_engine.specs.Serving.{ClosesOwn, IsStepTurn, ServesStep};
+ghost use Rattle.serve_engine.specs.Serving.{Asked, ClosesOwn, IsStepTurn, ServesStep, asks_commit};
+ghost use Rattle.serve_engine.specs.Serving.{manner_of};
 
 use crate::keeping::{Keeping, Pause};
 use crate::serve_end::ServeEnd;
@@ -34,10 +34,11 @@ impl<S: Store + Drop, K: Keeping<S> + Drop, N: Output + Drop, R: Output + Drop> 
         options: &ServeOptions,
     ) -> Turn
         requires within { IsWithin (length buf.now) step }
-        ensures served { ServesStep S.entries K.stands self.old.intake self.new.intake
-            step (octets_of step buf.now) self.new.full result }
-        ensures reading { reading_of self.new.intake.collector ≡ reading_of self.old.intake.collector }
-        ensures closes { ClosesOwn (Q.state source.old) (Q.state source.new) step }
+        ensures served { (lost : Bool) × ClosesOwn lost (Q.state source.old) (Q.state source.new) step
+            × ServesStep S.entries K.stands self.old.intake self.new.intake
+            step (octets_of step buf.now) lost self.new.full result }
+        ensures manner { manner_of self.new.intake.collector ≡ manner_of self.old.intake.collector }
+        ensures full { asks_commit step ≡ false → self.new.full ≡ self.old.full }
         ensures turn { IsStepTurn step result }
     {
         match step {
@@ -79,9 +80,10 @@ impl<S: Store + Drop, K: Keeping<S> + Drop, N: Output + Drop, R: Output + Drop> 
         options: &ServeOptions,
     ) -> Turn
         ensures served { ServesTurn S.entries K.stands (intake_of self.old) (intake_of self.new)
-            (Q.state source.old) (Q.state source.new) (is_full self.new) result }
-        ensures reading { reading_of (intake_of self.new).collector
-            ≡ reading_of (intake_of self.old).collector }
+            (Q.state source.old) (Q.state source.new) (is_full self.old) (is_full self.new) result }
+        ensures asked { Asked (is_full self.old) (Q.state source.old) (Q.state source.new) }
+        ensures manner { manner_of (intake_of self.new).collector
+            ≡ manner_of (intake_of self.old).collector }
     {
         if self.full {
             pause.pause();
@@ -100,9 +102,9 @@ impl<S: Store + Drop, K: Keeping<S> + Drop, N: Output + Drop, R: Output + Drop> 
         options: &ServeOptions,
     ) -> ServeEnd
         ensures served { ServesRun S.entries K.stands (intake_of self.old) (intake_of self.new)
-            (Q.state source.old) (Q.state source.new) result }
-        ensures reading { reading_of (intake_of self.new).collector
-            ≡ reading_of (intake_of self.old).collector }
+            (Q.state source.old) (Q.state source.new) (is_full self.old) result }
+        ensures manner { manner_of (intake_of self.new).collector
+            ≡ manner_of (intake_of self.old).collector }
     {
         let Ok(mut buf) = vec![in alloc; 0u8; PIECE_MAX] else {
             return ServeEnd::Memory;

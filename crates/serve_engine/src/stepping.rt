@@ -1,13 +1,14 @@
 //! What a server does with a step.
-ghost use Rattle.std.specs.Prelude.{◌≡◌, ◌⊎◌, ◌++◌, ⊤, [], ◌∷◌, true, false, List};
+ghost use Rattle.std.specs.Prelude.{◌≡◌, ◌⊎◌, ◌++◌, Bool, List, false};
 ghost use Rattle.archive_text.specs.Entries.{Entry};
 ghost use Rattle.socket_source.specs.Steps.{Closes};
-ghost use Rattle.syslog_collect.specs.Collectors.{NoneWaits, reading_of};
+ghost use Rattle.syslog_collect.specs.Collectors.{NoneWaits};
 ghost use Rattle.syslog_collect.specs.History.{AcceptedEvent, Datagram, Ended, Opened, Piece};
 ghost use Rattle.serve_engine.specs.Intakes.{IsCommitted, StandsBy};
 ghost use Rattle.serve_engine.specs.Keepings.{Kept};
-ghost use Rattle.serve_engine.specs.Serving.{Accepts, CommitsAll, EndsUnlessFull, FaultsAs, IfSettled, IsCommitTurn};
-ghost use Rattle.serve_engine.specs.Serving.{IsEventTurn, UnlessStopped, bad_last, ends_in_bad_count, turn_of};
+ghost use Rattle.serve_engine.specs.Serving.{Accepts, ClosesLost, CommitsAll, EndsUnlessFull, FaultsAs, IfSettled};
+ghost use Rattle.serve_engine.specs.Serving.{IsCommitTurn, IsEventTurn, Receives, UnlessStopped, bad_last};
+ghost use Rattle.serve_engine.specs.Serving.{ends_in_bad_count, manner_of, turn_of};
 ghost use Rattle.serve_engine.specs.declared.serve_end.ServeEnd.TheVariants.{Disk, Memory};
 ghost use Rattle.serve_engine.specs.declared.turn.Turn.TheVariants.{End, On};
 
@@ -72,13 +73,11 @@ impl<S: Store + Drop, K: Keeping<S> + Drop, N: Output + Drop, R: Output + Drop> 
         framing: Framing,
         peer: SocketAddr,
     ) -> Turn
-        ensures served { Accepts S.entries K.stands self.old.intake self.new.intake
-            (Opened conn framing) result }
-        ensures reading { reading_of self.new.intake.collector ≡ reading_of self.old.intake.collector }
+        ensures served { (lost : Bool) × ClosesLost lost (Q.state source.old) (Q.state source.new) conn
+            × Accepts S.entries K.stands self.old.intake self.new.intake (Opened conn framing) lost result }
+        ensures manner { manner_of self.new.intake.collector ≡ manner_of self.old.intake.collector }
         ensures full { self.new.full ≡ self.old.full }
         ensures turn { IsEventTurn result }
-        ensures closes { (Q.state source.new ≡ Q.state source.old)
-            ⊎ Closes (Q.state source.old) (Q.state source.new) conn }
     {
         let way = Way::Stream(framing, peer);
         match self.intake.receive(alloc, Event::Opened { conn, framing }) {
@@ -101,13 +100,12 @@ impl<S: Store + Drop, K: Keeping<S> + Drop, N: Output + Drop, R: Output + Drop> 
             → StandsBy S.entries K.stands self.old.intake k first before
             → NoneWaits self.old.intake.collector → (here : List AcceptedEvent)
             × StandsBy S.entries K.stands self.new.intake k first (before ++ here)
-            × ((here ≡ []) ⊎ (here ≡ Ended lost ∷ []))
+            × Receives (manner_of self.old.intake.collector) before (Ended lost) here result
             × IfSettled result (NoneWaits self.new.intake.collector) }
-        ensures reading { reading_of self.new.intake.collector ≡ reading_of self.old.intake.collector }
+        ensures manner { manner_of self.new.intake.collector ≡ manner_of self.old.intake.collector }
         ensures full { self.new.full ≡ self.old.full }
         ensures turn { IsEventTurn result }
-        ensures closes { (Q.state source.new ≡ Q.state source.old)
-            ⊎ Closes (Q.state source.old) (Q.state source.new) lost }
+        ensures closes { Closes (Q.state source.old) (Q.state source.new) lost }
     {
         source.close(lost);
         self.peers.set(lost, None);
@@ -123,13 +121,11 @@ impl<S: Store + Drop, K: Keeping<S> + Drop, N: Output + Drop, R: Output + Drop> 
         conn: u32,
         octets: &[u8],
     ) -> Turn
-        ensures served { Accepts S.entries K.stands self.old.intake self.new.intake
-            (Piece conn octets.now) result }
-        ensures reading { reading_of self.new.intake.collector ≡ reading_of self.old.intake.collector }
+        ensures served { (lost : Bool) × ClosesLost lost (Q.state source.old) (Q.state source.new) conn
+            × Accepts S.entries K.stands self.old.intake self.new.intake (Piece conn octets.now) lost result }
+        ensures manner { manner_of self.new.intake.collector ≡ manner_of self.old.intake.collector }
         ensures full { self.new.full ≡ self.old.full }
         ensures turn { IsEventTurn result }
-        ensures closes { (Q.state source.new ≡ Q.state source.old)
-            ⊎ Closes (Q.state source.old) (Q.state source.new) conn }
     {
         let way = self.peers.get(conn);
         let received = self.intake.receive(alloc, Event::Piece { conn, octets });
@@ -151,8 +147,8 @@ impl<S: Store + Drop, K: Keeping<S> + Drop, N: Output + Drop, R: Output + Drop> 
     // A connection has ended.
     pub(crate) fn ended(&mut self, alloc: Global, conn: u32, end: ConnectionEnd) -> Turn
         ensures served { Accepts S.entries K.stands self.old.intake self.new.intake
-            (Ended conn) result }
-        ensures reading { reading_of self.new.intake.collector ≡ reading_of self.old.intake.collector }
+            (Ended conn) false result }
+        ensures manner { manner_of self.new.intake.collector ≡ manner_of self.old.intake.collector }
         ensures full { self.new.full ≡ self.old.full }
         ensures turn { IsEventTurn result }
     {
@@ -171,8 +167,8 @@ impl<S: Store + Drop, K: Keeping<S> + Drop, N: Output + Drop, R: Output + Drop> 
         octets: &[u8],
     ) -> Turn
         ensures served { Accepts S.entries K.stands self.old.intake self.new.intake
-            (Datagram octets.now) result }
-        ensures reading { reading_of self.new.intake.collector ≡ reading_of self.old.intake.collector }
+            (Datagram octets.now) false result }
+        ensures manner { manner_of self.new.intake.collector ≡ manner_of self.old.intake.collector }
         ensures full { self.new.full ≡ self.old.full }
         ensures turn { IsEventTurn result }
     {
@@ -187,6 +183,7 @@ impl<S: Store + Drop, K: Keeping<S> + Drop, N: Output + Drop, R: Output + Drop> 
     // A connection came that there was no room for.
     pub(crate) fn turned_away(&mut self, alloc: Global, framing: Framing, peer: SocketAddr) -> Turn
         ensures same { self.new.intake ≡ self.old.intake }
+        ensures full { self.new.full ≡ self.old.full }
         ensures turn { result ≡ On }
     {
         let way = Way::Stream(framing, peer);
@@ -197,7 +194,7 @@ impl<S: Store + Drop, K: Keeping<S> + Drop, N: Output + Drop, R: Output + Drop> 
     // What a fault of the disk comes to. That it is full is told once.
     fn fault(&mut self, fault: KeepFault) -> Turn
         ensures same { self.new.intake ≡ self.old.intake }
-        ensures turn { FaultsAs self.new.full result }
+        ensures turn { FaultsAs fault self.new.full result }
     {
         match fault {
             KeepFault::Full => {
@@ -217,7 +214,7 @@ impl<S: Store + Drop, K: Keeping<S> + Drop, N: Output + Drop, R: Output + Drop> 
     fn commit(&mut self, alloc: Global) -> Turn
         ensures served { CommitsAll S.entries K.stands self.old.intake self.new.intake self.new.full result }
         ensures settled { NoneWaits self.old.intake.collector → NoneWaits self.new.intake.collector }
-        ensures reading { reading_of self.new.intake.collector ≡ reading_of self.old.intake.collector }
+        ensures manner { manner_of self.new.intake.collector ≡ manner_of self.old.intake.collector }
         ensures turn { IsCommitTurn result }
     {
         match self.intake.commit(alloc) {
@@ -264,7 +261,7 @@ impl<S: Store + Drop, K: Keeping<S> + Drop, N: Output + Drop, R: Output + Drop> 
     pub(crate) fn tick(&mut self, alloc: Global, options: &ServeOptions) -> Turn
         ensures served { CommitsAll S.entries K.stands self.old.intake self.new.intake self.new.full result }
         ensures settled { NoneWaits self.old.intake.collector → NoneWaits self.new.intake.collector }
-        ensures reading { reading_of self.new.intake.collector ≡ reading_of self.old.intake.collector }
+        ensures manner { manner_of self.new.intake.collector ≡ manner_of self.old.intake.collector }
         ensures turn { IsCommitTurn result }
     {
         match self.commit(alloc) {
@@ -293,7 +290,7 @@ impl<S: Store + Drop, K: Keeping<S> + Drop, N: Output + Drop, R: Output + Drop> 
     pub(crate) fn finish(&mut self, alloc: Global, end: ServeEnd) -> Turn
         ensures served { CommitsAll S.entries K.stands self.old.intake self.new.intake self.new.full result }
         ensures settled { NoneWaits self.old.intake.collector → NoneWaits self.new.intake.collector }
-        ensures reading { reading_of self.new.intake.collector ≡ reading_of self.old.intake.collector }
+        ensures manner { manner_of self.new.intake.collector ≡ manner_of self.old.intake.collector }
         ensures turn { IsCommitTurn result ⊎ (result ≡ End end) }
     {
         match self.commit(alloc) {
@@ -306,7 +303,7 @@ impl<S: Store + Drop, K: Keeping<S> + Drop, N: Output + Drop, R: Output + Drop> 
     pub(crate) fn try_again(&mut self, alloc: Global) -> Turn
         ensures served { CommitsAll S.entries K.stands self.old.intake self.new.intake self.new.full result }
         ensures settled { NoneWaits self.old.intake.collector → NoneWaits self.new.intake.collector }
-        ensures reading { reading_of self.new.intake.collector ≡ reading_of self.old.intake.collector }
+        ensures manner { manner_of self.new.intake.collector ≡ manner_of self.old.intake.collector }
         ensures turn { IsCommitTurn result }
     {
         match self.intake.reopen(alloc) {

@@ -8,7 +8,7 @@ use Rattle.syslog_collect.specs.declared.outcome.Outcome.{Outcome}
 use Rattle.syslog_collect.proofs.Logging.{none_after_all}
 use Rattle.collect_engine.specs.Receiving.{IfNotMemory, ReceivesAs, kept_outcomes}
 use Rattle.collect_engine.specs.declared.receiving.Received.{Received}
-use Rattle.collect_engine.proofs.Receives.{done_as, refused_settled, stopped_as}
+use Rattle.collect_engine.proofs.Receives.{done_as, refused_at, refused_settled, stopped_as}
 use Rattle.collect_engine.proofs.receiving.receive.Goals as goal
 
 pub returns-in-Done-clause-received : goal.returns-in-Done-clause-received
@@ -54,3 +54,10 @@ returns-in-Stopped-clause-settled g c past first before was settled =
     c.run.new.self.connections (history_of before) c.args.event here.at here.taken here.fault _ _
     c.clear.new.self.items c.run.new.log.items settled (here.ensures.cause past first before was)
     (here.ensures.logged past first before was))
+
+pub returns-in-Stopped-clause-room : goal.returns-in-Stopped-clause-room
+returns-in-Stopped-clause-room g c past first before was =
+    let here = c.in-Stopped in
+    refused_at c.args.collector.now.connections.limit c.args.collector.now.reading (history_of before)
+    (waiting c.run.new.self.connections) c.args.event here.at here.taken here.fault c.received_of.result
+    c.received_of.ensures (here.ensures.cause past first before was)

@@ -1,16 +1,20 @@
 use Rattle.std.proofs.Common.{subst, sym}
 use Rattle.serve_engine.specs.Intakes.{StandsBy}
-use Rattle.serve_engine.proofs.Turns.{stopped_fault}
+use Rattle.serve_engine.proofs.Turns.{fault_turn, stopped_fault}
 use Rattle.serve_engine.proofs.server.Server.commit.Goals as goal
 
 pub returns-in-Ok-clause-served : goal.returns-in-Ok-clause-served
 returns-in-Ok-clause-served g c k first before at =
-    let d = c.in-Ok.ensures.ok k first before at in (d.0, d.1, λ room. d.2)
+    let d = c.in-Ok.ensures.ok k first before at in (d.0, d.1, d.2, λ room. d.3)
 
 pub returns-in-Err-clause-served : goal.returns-in-Err-clause-served
 returns-in-Err-clause-served g c k first before at =
     let d = c.in-Err.ensures.stands k first before at in (
       d.0,
       subst (λ i. StandsBy (g.S.Store.entries) (g.K.Keeping.stands) i d.0 first before) (sym c.fault.ensures.same) d.1,
-      stopped_fault _ _ _ c.fault.ensures.turn,
+      d.2,
+      stopped_fault _ _ _ _ c.fault.ensures.turn,
     )
+
+pub returns-in-Err-clause-turn : goal.returns-in-Err-clause-turn
+returns-in-Err-clause-turn g c = fault_turn _ _ _ c.fault.ensures.turn

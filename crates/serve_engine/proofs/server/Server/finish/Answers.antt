@@ -9,8 +9,9 @@ returns-in-On-clause-served g c k first before at =
     let same = c.end_with.ensures.same in (
       d.0,
       subst (λ i. StandsBy (g.S.Store.entries) (g.K.Keeping.stands) i d.0 first before) (sym same) d.1,
+      d.2,
       rw c.end_with.ensures.full (ended_committed _ _ _ _ c.end_with.ensures.turn (λ room.
-          subst (λ i. IsCommitted (g.S.Store.entries) i d.0) (sym same) (d.2 room))),
+          subst (λ i. IsCommitted (g.S.Store.entries) i d.0) (sym same) (d.3 room))),
     )
 
 pub returns-in_default-clause-served : goal.returns-in_default-clause-served

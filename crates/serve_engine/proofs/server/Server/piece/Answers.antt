@@ -1,46 +1,86 @@
-use Rattle.std.proofs.Common.{◌++◌, List, inl, inr, subst, sym, ap, append_assoc, ◌∙◌}
-use Rattle.syslog_collect.specs.History.{AcceptedEvent, Piece}
+use Rattle.std.proofs.Common.{◌++◌, true, false, List, refl, subst, sym, ap, append_assoc, ◌∙◌}
+use Rattle.syslog_collect.specs.History.{AcceptedEvent, Ended, Piece}
 use Rattle.serve_engine.specs.Intakes.{StandsBy}
-use Rattle.serve_engine.specs.Serving.{ends_in_bad_count}
-use Rattle.serve_engine.proofs.Turns.{accepted_closing, accepted_own, still_settled}
+use Rattle.serve_engine.specs.Serving.{Manner, Receives, ends_in_bad_count, loses_piece, manner_of, turn_of}
+use Rattle.serve_engine.proofs.Turns.{accepted_closing, accepted_own, lost_taken, still_settled, taken_on}
 use Rattle.serve_engine.proofs.server.Server.piece.Goals as goal
 
 pub returns-in-Memory-clause-served : goal.returns-in-Memory-clause-served
-returns-in-Memory-clause-served g c k first before at none =
-    let made = c.receive-received.ensures.received k first before at in
-    (made.0, made.1, accepted_own c.args.self.now.intake.collector.reading before (Piece c.args.conn c.args.octets.now) _ _ made.0 made.2, tt)
+returns-in-Memory-clause-served g c = (
+  false,
+  refl,
+  λ k first before at none.
+      let made = c.receive-received.ensures.received k first before at in
+      let quiet = c.receive-received.ensures.settled k first before at none in
+      let os = c.receive-received.new.self.outcomes.items in (
+        made.0,
+        made.1,
+        accepted_own (manner_of c.args.self.now.intake.collector) before (Piece c.args.conn c.args.octets.now)
+            c.receive-received.result os made.0 _ (_, _, none, quiet, made.2, c.receive-received.ensures.room k first before at)
+            (ap (λ r. loses_piece r os) c.in-Memory.is) (sym (ap turn_of c.in-Memory.is)),
+        tt,
+      ),
+)
 
 pub returns-in-Refused-clause-served : goal.returns-in-Refused-clause-served
-returns-in-Refused-clause-served g c k first before at none =
-    let made = c.receive-received.ensures.received k first before at in
-    let quiet = rw c.in-Refused.is at (c.receive-received.ensures.settled k first before at none) in
-    let lost = c.lose.ensures.served k first (before ++ made.0) made.1 quiet in (
-      made.0 ++ lost.0,
-      subst (λ (es : List AcceptedEvent). StandsBy (g.S.Store.entries) (g.K.Keeping.stands) c.lose.new.self.intake k
-          first es) (append_assoc before made.0 lost.0) lost.1,
-      accepted_closing c.args.self.now.intake.collector.reading before c.args.conn c.args.octets.now _ _ made.0 lost.0 made.2 lost.2 (inr c.in-Refused.is),
-      lost.3,
-    )
+returns-in-Refused-clause-served g c = (
+  true,
+  c.lose.ensures.closes,
+  λ k first before at none.
+      let made = c.receive-received.ensures.received k first before at in
+      let settled = c.receive-received.ensures.settled k first before at none in
+      let quiet = rw c.in-Refused.is at settled in
+      let os = c.receive-received.new.self.outcomes.items in
+      let lost = c.lose.ensures.served k first (before ++ made.0) made.1 quiet in (
+        made.0 ++ lost.0,
+        subst (λ (es : List AcceptedEvent). StandsBy (g.S.Store.entries) (g.K.Keeping.stands) c.lose.new.self.intake k
+            first es) (append_assoc before made.0 lost.0) lost.1,
+        accepted_closing (manner_of c.args.self.now.intake.collector) before c.args.conn c.args.octets.now
+            c.receive-received.result os made.0 lost.0 _ (_, _, none, settled, made.2, c.receive-received.ensures.room k first before at)
+            (ap (λ r. loses_piece r os) c.in-Refused.is) (subst (λ (w : Manner). Receives w (before ++ made.0)
+            (Ended c.args.conn) lost.0 c.lose.result) c.receive-received.ensures.manner lost.2),
+        lost.3,
+      ),
+)
 
 pub returns-then-ends_in_bad_count-clause-served : goal.returns-then-ends_in_bad_count-clause-served
-returns-then-ends_in_bad_count-clause-served g c k first before at none =
-    let made = c.receive-received.ensures.received k first before at in
-    let quiet = still_settled _ _ c.in-Accepted.is (c.receive-received.ensures.settled k first before at none) in
-    let lost = c.lose-then-ends_in_bad_count.ensures.served k first (before ++ made.0) made.1 quiet in (
-      made.0 ++ lost.0,
-      subst (λ (es : List AcceptedEvent). StandsBy (g.S.Store.entries) (g.K.Keeping.stands)
-          c.lose-then-ends_in_bad_count.new.self.intake k first es) (append_assoc before made.0 lost.0) lost.1,
-      accepted_closing c.args.self.now.intake.collector.reading before c.args.conn c.args.octets.now _ _ made.0 lost.0 made.2 lost.2
-          (inl (ap ends_in_bad_count (sym c.as_slice-in-Accepted.ensures.value) ∙ sym c.ends_in_bad_count.ensures
-          ∙ c.if-ends_in_bad_count.true)),
-      lost.3,
-    )
+returns-then-ends_in_bad_count-clause-served g c = (
+  true,
+  c.lose-then-ends_in_bad_count.ensures.closes,
+  λ k first before at none.
+      let made = c.receive-received.ensures.received k first before at in
+      let settled = c.receive-received.ensures.settled k first before at none in
+      let quiet = still_settled _ _ c.in-Accepted.is settled in
+      let os = c.receive-received.new.self.outcomes.items in
+      let lost = c.lose-then-ends_in_bad_count.ensures.served k first (before ++ made.0) made.1 quiet in (
+        made.0 ++ lost.0,
+        subst (λ (es : List AcceptedEvent). StandsBy (g.S.Store.entries) (g.K.Keeping.stands)
+            c.lose-then-ends_in_bad_count.new.self.intake k first es) (append_assoc before made.0 lost.0) lost.1,
+        accepted_closing (manner_of c.args.self.now.intake.collector) before c.args.conn c.args.octets.now
+            c.receive-received.result os made.0 lost.0 _ (_, _, none, settled, made.2, c.receive-received.ensures.room k first before at)
+            (lost_taken c.receive-received.result os true c.in-Accepted.is
+            (ap ends_in_bad_count (sym c.as_slice-in-Accepted.ensures.value) ∙ sym c.ends_in_bad_count.ensures
+            ∙ c.if-ends_in_bad_count.true)) (subst (λ (w : Manner). Receives w (before ++ made.0)
+            (Ended c.args.conn) lost.0 c.lose-then-ends_in_bad_count.result) c.receive-received.ensures.manner lost.2),
+        lost.3,
+      ),
+)
 
 pub returns-else-ends_in_bad_count-clause-served : goal.returns-else-ends_in_bad_count-clause-served
-returns-else-ends_in_bad_count-clause-served g c k first before at none =
-    let made = c.receive-received.ensures.received k first before at in (
-      made.0,
-      made.1,
-      accepted_own c.args.self.now.intake.collector.reading before (Piece c.args.conn c.args.octets.now) _ _ made.0 made.2,
-      still_settled _ _ c.in-Accepted.is (c.receive-received.ensures.settled k first before at none),
-    )
+returns-else-ends_in_bad_count-clause-served g c = (
+  false,
+  refl,
+  λ k first before at none.
+      let made = c.receive-received.ensures.received k first before at in
+      let settled = c.receive-received.ensures.settled k first before at none in
+      let os = c.receive-received.new.self.outcomes.items in (
+        made.0,
+        made.1,
+        accepted_own (manner_of c.args.self.now.intake.collector) before (Piece c.args.conn c.args.octets.now)
+            c.receive-received.result os made.0 _ (_, _, none, settled, made.2, c.receive-received.ensures.room k first before at)
+            (lost_taken c.receive-received.result os false c.in-Accepted.is
+            (ap ends_in_bad_count (sym c.as_slice-in-Accepted.ensures.value) ∙ sym c.ends_in_bad_count.ensures
+            ∙ c.if-ends_in_bad_count.false)) (taken_on c.receive-received.result c.in-Accepted.is),
+        still_settled _ _ c.in-Accepted.is settled,
+      ),
+)

@@ -3,27 +3,27 @@ use Rattle.serve_engine.proofs.Rounds.{endless, ends, next, none_served, start}
 use Rattle.serve_engine.proofs.server.Server.serve.Goals as goal
 
 pub returns-in_default-clause-served : goal.returns-in_default-clause-served
-returns-in_default-clause-served g c = λ k first before at none. none_served _ _ _ _ k first before at
+returns-in_default-clause-served g c = λ k first before at none. none_served _ _ _ _ _ k first before at
 
 pub loop-turn-init : goal.loop-turn-init
 loop-turn-init g c = record {
-  served = λ k first before at none. start _ _ _ _ k first before at none;
-  reading = refl;
+  served = λ k first before at none. start _ _ _ _ _ k first before at none;
+  manner = refl;
 }
 
 pub loop-turn-preserved : goal.loop-turn-preserved
 loop-turn-preserved g c = record {
   served = λ k first before at none.
-      next _ _ _ _ _ _ _ _ _ _ first before c.loop-turn.invariant.reading
+      next _ _ _ _ _ _ _ _ _ _ _ _ k first before c.loop-turn.invariant.manner
       (c.loop-turn.invariant.served k first before at none) (rw c.in-On.is at c.turn.ensures.served);
-  reading = c.turn.ensures.reading ∙ c.loop-turn.invariant.reading;
+  manner = c.turn.ensures.manner ∙ c.loop-turn.invariant.manner;
 }
 
 pub returns-in-End-clause-served : goal.returns-in-End-clause-served
 returns-in-End-clause-served g c = λ k first before at none.
-    ends _ _ _ _ _ _ _ _ _ _ c.in-End.end first before (omega arith) c.loop-turn.invariant.reading
+    ends _ _ _ _ _ _ _ _ _ _ _ _ c.in-End.end k first before (omega arith) c.loop-turn.invariant.manner
     (c.loop-turn.invariant.served k first before at none) (rw c.in-End.is at c.turn.ensures.served)
 
 pub returns-clause-served : goal.returns-clause-served
 returns-clause-served g c = λ k first before at none.
-    endless _ _ _ _ _ _ _ first before (omega arith) (c.loop-turn.invariant.served k first before at none)
+    endless _ _ _ _ _ _ _ _ _ k first before (omega arith) (c.loop-turn.invariant.served k first before at none)

@@ -1,9 +1,10 @@
 use Rattle.std.proofs.Common.{◌≡◌, List}
 use Rattle.archive_text.specs.Entries.{Entry}
-use Rattle.syslog_collect.specs.Collectors.{NoneWaits, reading_of}
+use Rattle.syslog_collect.specs.Collectors.{NoneWaits}
 use Rattle.syslog_collect.specs.History.{AcceptedEvent}
 use Rattle.serve_engine.specs.Intakes.{StandsBy}
 use Rattle.serve_engine.specs.Keepings.{Kept}
+use Rattle.serve_engine.specs.Serving.{manner_of}
 use Rattle.serve_engine.proofs.Rounds.{SoFar}
 use Rattle.serve_engine.proofs.server.Server.serve.Given as goal
 
@@ -14,6 +15,7 @@ invariant-loop-turn g l = record {
       StandsBy (g.S.Store.entries) (g.K.Keeping.stands) l.fn.self.intake k first before →
       NoneWaits l.fn.self.intake.collector →
       SoFar (g.S.Store.entries) (g.K.Keeping.stands) l.fn.self.intake l.self.intake
-      (g.Q.ServerSource.state l.fn.source) (g.Q.ServerSource.state l.source) l._turn first before;
-  reading : reading_of l.self.intake.collector ≡ reading_of l.fn.self.intake.collector;
+      (g.Q.ServerSource.state l.fn.source) (g.Q.ServerSource.state l.source) l.fn.self.full l.self.full l._turn k first
+      before;
+  manner : manner_of l.self.intake.collector ≡ manner_of l.fn.self.intake.collector;
 }

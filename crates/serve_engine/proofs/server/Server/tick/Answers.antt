@@ -11,9 +11,10 @@ returns-in-On-clause-served g c k first before at =
       d.0,
       c.checkpoint.ensures.stands d.0 first before
           (subst (λ i. StandsBy (g.S.Store.entries) (g.K.Keeping.stands) i d.0 first before) (sym same) d.1),
+      d.2,
       unless_map c.checkpoint.result c.checkpoint.new.self.full (c.count_tick.new.self.full ≡ false)
           (IsCommitted (g.S.Store.entries) c.checkpoint.new.self.intake d.0) c.checkpoint.ensures.full (λ room.
-          let was = d.2 (sym c.count_tick.ensures.full ∙ room) in
+          let was = d.3 (sym c.count_tick.ensures.full ∙ room) in
           record {
             fresh = ap (λ x. g.S.Store.entries (store_of x))
                 (c.checkpoint.ensures.collector ∙ ap (λ i. i.collector) same) ∙ was.fresh;

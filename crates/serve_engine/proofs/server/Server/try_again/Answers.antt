@@ -1,6 +1,6 @@
 use Rattle.std.proofs.Common.{subst, sym}
 use Rattle.serve_engine.specs.Intakes.{StandsBy}
-use Rattle.serve_engine.proofs.Turns.{stopped_fault}
+use Rattle.serve_engine.proofs.Turns.{fault_turn, stopped_fault}
 use Rattle.serve_engine.proofs.server.Server.try_again.Goals as goal
 
 pub returns-in-Ok-clause-served : goal.returns-in-Ok-clause-served
@@ -12,5 +12,9 @@ returns-in-Err-clause-served g c k first before at = (
   k,
   subst (λ i. StandsBy (g.S.Store.entries) (g.K.Keeping.stands) i k first before) (sym c.fault.ensures.same)
       (c.in-Err.ensures.stands k first before at),
-  stopped_fault _ _ _ c.fault.ensures.turn,
+  λ x had. had,
+  stopped_fault _ _ _ _ c.fault.ensures.turn,
 )
+
+pub returns-in-Err-clause-turn : goal.returns-in-Err-clause-turn
+returns-in-Err-clause-turn g c = fault_turn _ _ _ c.fault.ensures.turn
