@@ -1,6 +1,6 @@
 -- What a run of a server leaves.
-use Rattle.std.proofs.Common.{◌≡◌, List, [], ◌++◌, sym, subst}
-use Rattle.std.specs.Prelude.{◌⊎◌}
+use Rattle.std.proofs.Common.{◌≡◌, List, [], ◌∷◌, ◌++◌, inl, inr, sym, subst}
+use Rattle.std.specs.Prelude.{◌⊎◌, Bool}
 use Rattle.std.proofs.lemmas.List.{append-nil}
 use Rattle.disk.specs.declared.calls.Disk.{Ghosts}
 use Rattle.archive_pages.specs.Paged.{entries_in}
@@ -17,15 +17,15 @@ use Rattle.syslog_collect.specs.declared.connections.Connections.{Connections}
 use Rattle.syslog_collect.proofs.Gains.{gains_behind}
 use Rattle.serve_engine.specs.Intakes.{StandsBy}
 use Rattle.serve_engine.specs.Keepings.{Kept}
-use Rattle.serve_engine.specs.Servers.{DoneRun, intake_of}
-use Rattle.serve_engine.specs.Serving.{HoldsReceived, IfCommitted}
+use Rattle.serve_engine.specs.Servers.{AreTurns, DoneRun, Made, events_of, intake_of, is_full, kept_after}
+use Rattle.serve_engine.specs.Serving.{HoldsReceived, IfCommitted, Manner, manner_of}
 use Rattle.serve_engine.specs.declared.serve_end.ServeEnd.{ServeEnd}
 use Rattle.serve_engine.specs.declared.server.Server.{Server}
 use Rattle.serve_engine.specs.declared.serve_end.ServeEnd.TheVariants.{Finished, Source, Disk, Memory, Endless}
 use Rattle.socket_source.specs.Steps.{SourceState}
 use Rattle.store_keeper.specs.Keepers.{KeepsOn, store_of as durable_of}
 use Rattle.store_keeper.specs.Keeping.{kept_whole}
-use Rattle.store_keeper.specs.Runs.{LeavesNoOther, LeavesReceived, RunLeaves, server_disk}
+use Rattle.store_keeper.specs.Runs.{LeavesCommitted, LeavesNoOther, LeavesReceived, RunLeaves, WasCommitted, server_disk}
 use Rattle.store_keeper.specs.declared.keeper.DiskKeeper.{DiskKeeper}
 use Rattle.store_keeper.proofs.Kept.{kept_keeps}
 use Rattle.store_keeper.proofs.Received.{nothing_else}
@@ -68,6 +68,7 @@ pub begins : {D N R : Type 0} {row : Ghosts D} (server : Server PagedArchive (Di
     → StandsBy entries_in KeepsOn (intake_of server) (kept_whole es) es []
 begins {D = D} {row = row} server collector keeper es none one other empty s on = record {
   keeper = subst (λ (x : DiskKeeper D row). KeepsOn x (kept_whole es)) (sym other) on;
+  within = λ x h. h;
   collector = subst (λ (x : Collector PagedArchive). CollectorStands (behind es entries_in) x es []) (sym one)
       (stands_new collector.reading collector.connections es (entries_in collector.store) none empty s);
 }
@@ -105,18 +106,43 @@ whole {row = row} new way k first events committed same at tells files may e =
       λ h. keeps.nothing_lost files may e ((committed e).1 h),
     )
 
+-- what was committed after a turn still is
+still : (way : Manner) (first : List Entry) (k : Kept) (full : Bool) (before : List AcceptedEvent)
+    (a b : SourceState) (made : List Made) → AreTurns way first k full before a made b
+    → (x : Entry) → Has k.committed x ⊎ WasCommitted made x → Has (kept_after k made).committed x
+still way first k full before a b [] turns x (inl had) = had
+still way first k full before a b [] turns x (inr none) = absurd none
+still way first k full before a b (m ∷ ms) (between, turns, is) x (inl had) =
+    is.stays x (still way first k full before a between ms turns x (inl had))
+still way first k full before a b (m ∷ ms) (between, turns, is) x (inr (inl now)) = now
+still way first k full before a b (m ∷ ms) (between, turns, is) x (inr (inr had)) =
+    is.stays x (still way first k full before a between ms turns x (inr had))
+
+-- so that a crash leaves it
+left : {D N R : Type 0} {row : Ghosts D} (new : Server PagedArchive (DiskKeeper D row) N R) (way : Manner)
+    (k : Kept) (full : Bool) (first : List Entry) (before events : List AcceptedEvent) (a b : SourceState)
+    (made : List Made) → AreTurns way first k full before a made b
+    → StandsBy entries_in KeepsOn (intake_of new) (kept_after k made) first events → row.tells (server_disk new)
+    → LeavesCommitted (row.state (server_disk new)) k made
+left {row = row} new way k full first before events a b made turns at tells files may e had =
+    (kept_keeps (durable_of (intake_of new).keeper) (row.state (server_disk new)) (kept_after k made)
+    (at.keeper tells)).nothing_lost files may e (still way first k full before a b made turns e had)
+
 pub run_leaves : {D N R : Type 0} {row : Ghosts D} (old new : Server PagedArchive (DiskKeeper D row) N R)
-    (a b : SourceState) (end : ServeEnd) (first : List Entry) (before : List AcceptedEvent)
+    (a b : SourceState) (end : ServeEnd) (k : Kept) (first : List Entry) (before : List AcceptedEvent)
     → reading_of (intake_of new).collector ≡ reading_of (intake_of old).collector
-    → DoneRun entries_in KeepsOn (intake_of old) (intake_of new) a b end first before
-    → RunLeaves old new a b end first before
-run_leaves {row = row} old new a b end first before same run =
+    → DoneRun entries_in KeepsOn (intake_of old) (intake_of new) a b (is_full old) end k first before
+    → RunLeaves old new a b end k first before
+run_leaves {row = row} old new a b end k first before same run =
     let way = reading_of (intake_of old).collector in
-    let events = before ++ run.here in
+    let events = before ++ events_of run.made in
+    let kept = kept_after k run.made in
     record {
       run = run;
-      received = λ tells. if_committed end (HoldsReceived way run.kept.committed first events)
+      received = λ tells. if_committed end (HoldsReceived way kept.committed first events)
           (LeavesReceived (row.state (server_disk new)) way first events) run.committed
-          (λ committed. whole new way run.kept first events committed same run.stands_by tells);
-      no_other = λ tells. only new way run.kept first events same run.stands_by tells;
+          (λ committed. whole new way kept first events committed same run.stands_by tells);
+      committed = λ tells. left new (manner_of (intake_of old).collector) k (is_full old) first before events a b run.made
+          run.turns run.stands_by tells;
+      no_other = λ tells. only new way kept first events same run.stands_by tells;
     }

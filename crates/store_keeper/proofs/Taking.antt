@@ -167,6 +167,7 @@ handed_all k old new none = record {
         (λ more. absurd (subst (λ (l : List Entry). Has l x) none more))
         (has_either (k.held ++ old) new x h),
   );
+  still = λ x h. has_left k.held old x h;
   committed = refl;
 }
 
@@ -186,5 +187,6 @@ handed_some k some old among = record {
         (λ fresh. has_right k.held old x fresh)
         (has_either (k.held ++ some) old x h),
   );
+  still = λ x h. has_left k.held some x h;
   committed = refl;
 }

@@ -1,5 +1,5 @@
 -- What a run of a server leaves in a store's folder.
-use Rattle.std.specs.Prelude.{◌↔◌, ◌⊎◌, List, ◌++◌}
+use Rattle.std.specs.Prelude.{◌↔◌, ◌⊎◌, List, [], ◌∷◌, ◌++◌}
 use Rattle.disk.specs.States.{Files, State}
 use Rattle.disk.specs.declared.calls.Disk.{Ghosts}
 use Rattle.archive_pages.specs.Paged.{entries_in}
@@ -12,7 +12,8 @@ use Rattle.syslog_collect.specs.History.{AcceptedEvent}
 use Rattle.socket_source.specs.Steps.{SourceState}
 use Rattle.record_store.specs.Crashes.{MayLeaveCounted}
 use Rattle.record_store.specs.Holdings.{Held}
-use Rattle.serve_engine.specs.Servers.{DoneRun, intake_of}
+use Rattle.serve_engine.specs.Keepings.{Kept}
+use Rattle.serve_engine.specs.Servers.{DoneRun, Made, events_of, intake_of, is_full}
 use Rattle.serve_engine.specs.Serving.{IfCommitted}
 use Rattle.serve_engine.specs.declared.serve_end.ServeEnd.{ServeEnd}
 use Rattle.serve_engine.specs.declared.server.Server.{Server}
@@ -33,12 +34,27 @@ abbrev pub LeavesNoOther : State → FrameReading → List Entry → List Accept
 LeavesNoOther state way first events = (files : Files) → MayLeaveCounted state files → (e : Entry) → Held files e
     → Has first e ⊎ IsReceived way events e
 
+-- an entry was committed after one of these turns
+abbrev pub WasCommitted : List Made → Entry → Type 0
+WasCommitted [] e = ⊥
+WasCommitted (m ∷ ms) e = Has m.kept.committed e ⊎ WasCommitted ms e
+
+-- or all that was committed at first, and after each of these turns
+abbrev pub LeavesCommitted : State → Kept → List Made → Type 0
+LeavesCommitted state k made = (files : Files) → MayLeaveCounted state files → (e : Entry)
+    → Has k.committed e ⊎ WasCommitted made e → Held files e
+
 -- The run is what the engine says of it. On a disk that tells, a crash leaves then all that was received, where the run
--- ends with all of it committed; and nothing else, however it ends.
+-- ends with all of it committed; however it ends, all that was committed at any time of it, and nothing that was not
+-- received.
 pub record RunLeaves {D N R : Type 0} {row : Ghosts D} (old new : Server PagedArchive (DiskKeeper D row) N R)
-    (source source_new : SourceState) (end : ServeEnd) (first : List Entry) (before : List AcceptedEvent) : Type 0 where
-  pub run : DoneRun entries_in KeepsOn (intake_of old) (intake_of new) source source_new end first before
-  pub received : row.tells (server_disk new) → IfCommitted end
-      (LeavesReceived (row.state (server_disk new)) (reading_of (intake_of old).collector) first (before ++ run.here))
-  pub no_other : row.tells (server_disk new)
-      → LeavesNoOther (row.state (server_disk new)) (reading_of (intake_of old).collector) first (before ++ run.here)
+    (source source_new : SourceState) (end : ServeEnd) (k : Kept) (first : List Entry) (before : List AcceptedEvent) : Type 0
+  where
+    pub run : DoneRun entries_in KeepsOn (intake_of old) (intake_of new) source source_new (is_full old) end k first before
+    pub received : row.tells (server_disk new) → IfCommitted end
+        (LeavesReceived (row.state (server_disk new)) (reading_of (intake_of old).collector) first
+        (before ++ events_of run.made))
+    pub committed : row.tells (server_disk new) → LeavesCommitted (row.state (server_disk new)) k run.made
+    pub no_other : row.tells (server_disk new)
+        → LeavesNoOther (row.state (server_disk new)) (reading_of (intake_of old).collector) first
+        (before ++ events_of run.made)

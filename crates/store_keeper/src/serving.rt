@@ -45,7 +45,8 @@ pub fn server_on<D: Disk + Drop, N: Output + Drop, R: Output + Drop>(
 }
 
 /// Serves a source into a store, as `Server::serve` does. Once it has finished, every crash leaves in
-/// the store's folder what was there first and what was received; and nothing else, however it ends.
+/// the store's folder what was there first and what was received. However it ends, every crash leaves
+/// all that was committed in any of its turns, and nothing that was not received.
 pub fn serve<D: Disk + Drop, N: Output + Drop, R: Output + Drop, Q: ServerSource, P: Pause>(
     alloc: Global,
     server: &mut Server<PagedArchive, DiskKeeper<D>, N, R>,
@@ -56,7 +57,7 @@ pub fn serve<D: Disk + Drop, N: Output + Drop, R: Output + Drop, Q: ServerSource
     ensures { (k : Kept) (first : List Entry) (before : List AcceptedEvent)
         → StandsBy entries_in KeepsOn (intake_of server.old) k first before
         → NoneWaits (intake_of server.old).collector
-        → RunLeaves server.old server.new (Q.state source.old) (Q.state source.new) result first before }
+        → RunLeaves server.old server.new (Q.state source.old) (Q.state source.new) result k first before }
 {
     server.serve(alloc, source, pause, options)
 }
