@@ -4,7 +4,7 @@ ghost use Rattle.archive_text.specs.Entries.{Entry};
 ghost use Rattle.socket_source.specs.Steps.{Closes};
 ghost use Rattle.syslog_collect.specs.Collectors.{NoneWaits};
 ghost use Rattle.syslog_collect.specs.History.{AcceptedEvent, Datagram, Ended, Opened, Piece};
-ghost use Rattle.serve_engine.specs.Intakes.{IsCommitted, StandsBy};
+ghost use Rattle.serve_engine.specs.Intakes.{StandsBy};
 ghost use Rattle.serve_engine.specs.Keepings.{Kept};
 ghost use Rattle.serve_engine.specs.Serving.{Accepts, ClosesLost, CommitsAll, EndsUnlessFull, FaultsAs, IfSettled};
 ghost use Rattle.serve_engine.specs.Serving.{IsCommitTurn, IsEventTurn, Receives, UnlessStopped, bad_last};

@@ -1,4 +1,4 @@
-use Rattle.std.proofs.Common.{◌++◌, List, [], ◌∷◌, sym, subst, ◌∙◌}
+use Rattle.std.proofs.Common.{List, [], ◌∷◌, sym, subst, ◌∙◌}
 use Rattle.syslog_collect.specs.Headline.{IsSettled}
 use Rattle.syslog_collect.specs.History.{history_of}
 use Rattle.syslog_collect.specs.Logs.{waiting}
