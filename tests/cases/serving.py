@@ -20,6 +20,7 @@ from lib.loopback import HERE, free_port, kind_of
 from lib.reference import archive_text, counted, counted_frames, framed
 from lib.server import (SOON, Runs, any_port, datagrams_wait, end, family_of, has_ipv6, numbered, refused_file, reset,
                         spelled, until, until_arrived, until_closed, until_taken)
+from lib.store_format import bodies_of
 
 SEED = 5426
 FRAME_MAX = 262_144
@@ -449,6 +450,35 @@ def few_descriptors(runs):
         runs.results.check("nothing else is told", status == 0 and all(map(away.fullmatch, lines)), f"{status} {lines}")
 
 
+# ---------------------------------------------------------------- commits
+
+def commits(runs):
+    """With --commit 0 what a read gave is committed before the next read, on a clock that stands still too; with any
+    other it waits for the clock."""
+    sent = [numbered(n) for n in range(20)]
+    still = runs.program.failing(still=1)
+    with runs.until_eof(*any_port("lf"), *any_port("udp"), "--commit", 0, environment=still) as server:
+        with server.open("udp") as one:
+            server.stop()
+            for record in sent:
+                one.send(record)
+            server.go_on()
+            runs.holds("--commit 0, datagrams", server, *sent)
+        batches, _ = bodies_of((server.store / "journal.1").read_bytes())
+        runs.results.same("--commit 0: a batch for each read", batches, [framed("counted", record) for record in sent])
+        with server.open("lf") as one:
+            one.sendall(A + b"\n" + Y)
+            runs.holds("--commit 0, a connection", server, A, *sent)
+            one.sendall(b"\n")
+            runs.holds("--commit 0, a connection goes on", server, A, Y, *sent)
+        runs.ends("--commit 0", server, 0)
+    with runs.until_eof(*any_port("lf"), "--commit", 1, environment=still) as server:
+        server.send("lf", A + b"\n")
+        runs.results.same("--commit 1, before a millisecond has passed", server.read(), (0, b"", b""))
+        runs.ends("--commit 1", server, 0)
+        runs.results.same("--commit 1, at its end", server.read(), (0, entries(A), b""))
+
+
 # ---------------------------------------------------------------- ends
 
 # the kind and the octets of a sender, and the status of a server with --until-eof
@@ -575,7 +605,7 @@ def counts(runs):
 
 
 TESTS = [listeners, families, inherited, not_inherited, streams, datagrams, at_once, cut_over, readings, wrong, endless,
-         numbers, too_many, idle, few_descriptors, statuses, open_ends, busy_end, signals, inputs, no_notes, counts,
+         numbers, too_many, idle, few_descriptors, commits, statuses, open_ends, busy_end, signals, inputs, no_notes, counts,
          *KEPT]
 
 

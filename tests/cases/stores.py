@@ -226,7 +226,7 @@ def ranges_without(day):
         yield ["--from", "1960-01-01T00:00:00Z"], "1960", "~"
         return
     one = date.fromisoformat(day)
-    low, high = f"{one + timedelta(1)}T00:00:00.000000Z", f"{one - timedelta(1)}T23:59:59.999999Z"
+    low, high = f"{one + timedelta(1)}T00:00:00.000000Z", f"{one}T00:00:00.000000Z"
     yield ["--from", low], low, "~"
     yield ["--to", high, "--undated"], "", high  # `-` stands below all digits
 

@@ -18,6 +18,7 @@
      SHIM_RECEIVE_SHORT=N the same gives at most one octet, if it is of a connection
      SHIM_COUNTS=FILE     how many of each were made, written at the end
      SHIM_SPEED=N         the clock that no one sets goes N times as fast, and waits for sockets end so much earlier
+     SHIM_STILL=1         that clock stands still
 
    Others make each call of a socket answer as a wrong source would, where they are set to a number that is not 0:
 
@@ -227,8 +228,10 @@ int clock_gettime(clockid_t clock, struct timespec *time) {
   if (!next) next = (int (*)(clockid_t, struct timespec *))next_of("clock_gettime");
   int status = next(clock, time);
   long long speed = (long long)chosen("SHIM_SPEED");
-  if (status != 0 || speed == 0 || clock != CLOCK_MONOTONIC) return status;
+  int still = chosen("SHIM_STILL") != 0;
+  if (status != 0 || (speed == 0 && !still) || clock != CLOCK_MONOTONIC) return status;
   if (first.tv_sec == 0) first = *time;
+  if (still) { *time = first; return 0; }
   long long passed = speed * ((time->tv_sec - first.tv_sec) * 1000000000LL + time->tv_nsec - first.tv_nsec);
   time->tv_sec = first.tv_sec + (first.tv_nsec + passed) / 1000000000;
   time->tv_nsec = (first.tv_nsec + passed) % 1000000000;

@@ -15,7 +15,7 @@ the octet that opens its batch (commits.c). Records come at moments by chance, t
 and beside 20,000 records a second over 64 connections, so long that a checkpoint falls into it.
 
 The limits: at most half of the processor time of rsyslog; fewer datagrams of a burst lost than by either peer, or none;
-each commit within the milliseconds of `--commit`, of which 0 means one. They are told as met or missed, and missing one
+each commit within the milliseconds of `--commit`, and for 0 within one. They are told as met or missed, and missing one
 is no failure.
 
 Tools are found as by `senders`, and skipped where they are not there. The stores are made in FOLDER, by default that of
@@ -51,7 +51,7 @@ MOST = 2_000  # connections that the receivers allow
 BEGUN = reference.instant(b"2026-11-26T12:00:00.000000Z")
 EACH = 50  # microseconds between the times of two records
 PART = 0.5  # of the processor time of rsyslog
-PERIODS = (1_000, 0)  # milliseconds of `--commit`
+PERIODS = (1_000, 1, 0)  # milliseconds of `--commit`
 
 Way = namedtuple("Way", "name form connections")
 WAYS = [*(Way(f"TCP, {told}, {count:,} connection{'s' * (count > 1)}", form, count)

@@ -28,7 +28,7 @@ pub struct ServeOptions {
     /// never.
     pub idle_seconds: Option<u32>,
     /// How many milliseconds after a record was read its batch is committed at the latest, 0 to
-    /// 3,600,000; 0 counts as 1.
+    /// 3,600,000; 0 means before the next read.
     pub commit_millis: u32,
     /// At how many MiB of a journal a checkpoint is made, 1 to 1,048,576.
     pub checkpoint_mib: u32,

@@ -12,7 +12,8 @@ pub struct SourceOptions {
     /// How long a connection may give nothing before it is closed, to within a period; None means
     /// for ever.
     pub idle: Option<Duration>,
-    /// How much time is between two ticks; less than a millisecond is taken for one.
+    /// How much time is between two ticks; less than a millisecond is taken for one. If it is zero,
+    /// a tick also comes behind each step that has read octets, before anything more is read.
     pub period: Duration,
     /// Whether the source watches standard input, and ends with it.
     pub until_eof: bool,

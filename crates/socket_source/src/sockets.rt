@@ -31,11 +31,19 @@ const REPORTED_MAX: usize = 1_024;
 // the shortest period, in milliseconds
 const PERIOD_MIN_MILLIS: u64 = 1;
 
+// how many ticks behind reads stand for those of periods to come, at most
+const EARLY_MAX: u64 = 60_000;
+
 // for how long what waits in the sockets is read once standard input has ended, in seconds
 const DRAIN_SECONDS: u64 = 10;
 
 // how often silent connections are looked for, in seconds
 const SWEEP_SECONDS: u64 = 1;
+
+// Whether a step has read octets.
+fn reads_octets(step: ServerStep) -> bool {
+    matches!(step, ServerStep::Piece { .. } | ServerStep::Datagram { .. })
+}
 
 // What is known of standard input.
 #[derive(Clone, Copy)]
@@ -64,6 +72,12 @@ pub(crate) struct Sockets<'a, R> {
     spare: Option<OwnedFd>,
     period: Duration,
     ticked: Instant,
+    // a tick comes behind each step that has read octets
+    at_once: bool,
+    // the last step has, and its tick is due
+    is_due: bool,
+    // how many of these ticks stand for those of periods to come
+    early: u64,
     idle: Option<Duration>,
     // when silent connections were last looked for, and the first number that was not looked at since
     sweeping_since: Instant,
@@ -103,12 +117,25 @@ impl<'a, R: Clock> Sockets<'a, R> {
         }
     }
 
-    // A period is over.
-    fn tick(&mut self, now: Instant) -> ServerStep
-        ensures { IsLawful (standing self.old) (standing self.new) 0 result }
+    // A period is over. A tick behind a read may stand for its own.
+    fn tick(&mut self, now: Instant) -> Option<ServerStep>
+        ensures { IfLawful (standing self.old) (standing self.new) 0 result }
     {
         self.ticked = now;
         self.retry_listeners();
+        if self.early > 0 {
+            self.early -= 1;
+            return None;
+        }
+        Some(ServerStep::Tick)
+    }
+
+    // The tick behind a read. It stands for that of a period to come: so as many ticks come as
+    // periods pass, unless there are more reads than that.
+    fn tick_at_once(&mut self) -> ServerStep
+        ensures { IsLawful (standing self.old) (standing self.new) 0 result }
+    {
+        self.early = self.early.saturating_add(1).min(EARLY_MAX);
         ServerStep::Tick
     }
 
@@ -388,8 +415,11 @@ impl<'a, R: Clock> Sockets<'a, R> {
             self.input = InputState::Drained;
             return Some(self.finish(now));
         }
+        if self.is_due {
+            return Some(self.tick_at_once());
+        }
         if now.duration_since(self.ticked) >= self.period {
-            return Some(self.tick(now));
+            return self.tick(now);
         }
         if let Some(step) = self.end_idle(now) {
             return Some(step);
@@ -420,6 +450,7 @@ impl<'a, R: Clock> Sockets<'a, R> {
         }
         for _turn in 0..u64::MAX {
             if let Some(step) = self.turn(buf) {
+                self.is_due = self.at_once & reads_octets(step);
                 return step;
             }
         }
@@ -468,6 +499,9 @@ impl<'a, R: Net + Files + Clock> Sockets<'a, R> {
             spare: spare_descriptor(),
             period: options.period.max(Duration::from_millis(PERIOD_MIN_MILLIS)),
             ticked: now,
+            at_once: options.period.is_zero(),
+            is_due: false,
+            early: 0,
             sweeping_since: now,
             idle: options.idle,
             swept: limit,

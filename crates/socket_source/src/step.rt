@@ -60,7 +60,7 @@ pub enum ServerStep {
         framing: Framing,
         peer: SocketAddr,
     },
-    /// The time of a period is up.
+    /// The time of a period is up, or the last step read octets and a tick is to follow it.
     Tick,
     /// Standard input has ended. What waits in the sockets may still come.
     InputEnded,

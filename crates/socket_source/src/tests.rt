@@ -315,6 +315,42 @@ fn a_silent_connection_is_closed(rt: HostRuntime) -> Result<(), Fail> {
     Ok(())
 }
 
+#[test]
+fn a_tick_follows_each_read_if_the_period_is_zero(rt: HostRuntime) -> Result<(), Fail> {
+    let listeners = [Listener::Udp(address("127.0.0.1:0")?)];
+    let mut options = options(false);
+    options.period = Duration::ZERO;
+    let mut source = SocketSource::open(&rt, rt.alloc(), &listeners, options)?;
+    let client = UdpSocket::bind(&rt, "127.0.0.1:0")?;
+    for _datagram in 0..3 {
+        client.send_to(b"d", source.local_addr(0).ok_or("no address")?)?;
+    }
+    let read = ServerStep::Datagram {
+        listener: 0,
+        peer: Some(client.local_addr()?),
+        len: 1,
+    };
+    let mut buf = [0u8; 16];
+    let mut reads = 0u32;
+    let mut last = ServerStep::Tick;
+    for _turn in 0..10_000 {
+        let step = source.next(&mut buf);
+        if step == read {
+            assert_eq!(rt; last, ServerStep::Tick);
+            reads = reads.saturating_add(1);
+        } else {
+            assert_eq!(rt; step, ServerStep::Tick);
+        }
+        last = step;
+        if reads == 3 {
+            break;
+        }
+    }
+    assert_eq!(rt; reads, 3);
+    assert_eq!(rt; source.next(&mut buf), ServerStep::Tick);
+    Ok(())
+}
+
 // Descriptors until the system has none left, or this many.
 fn all_descriptors(alloc: Global, most: usize) -> Result<Vec<i32>, Fail> {
     let mut all = Vec::new(alloc);

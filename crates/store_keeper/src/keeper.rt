@@ -1,7 +1,7 @@
 //! A durable store and its disk.
 
 use crate::adding::add_all;
-use crate::watched::WatchedDisk;
+use crate::watched::{SoundDisk, WatchedDisk};
 use archive_pages::PagedArchive;
 use disk::{Disk, DiskFault};
 use durable_store::{CheckpointFault, DurableStore, OpenFault};
@@ -38,31 +38,28 @@ fn fault_of_checkpoint(fault: CheckpointFault) -> KeepFault {
 impl<D: Disk + Drop> DiskKeeper<D> {
     ghost use Rattle.std.specs.Prelude.{◌≡◌, List, IfErr, IfOk};
     ghost use Rattle.archive_text.specs.Entries.{Entry};
-    ghost use Rattle.journal.specs.Journals.{IsSound};
     ghost use Rattle.record_store.specs.Crashes.{Keeps};
     ghost use Rattle.record_store.specs.Stores.{begun};
     ghost use Rattle.durable_store.specs.Durables.{Stands, entries_of};
     ghost use Rattle.serve_engine.specs.Keepings.{Kept};
     ghost use Rattle.store_keeper.specs.Keepers.{KeepsOn, disk_of, store_of};
     ghost use Rattle.store_keeper.specs.Keeping.{kept_whole};
-    ghost use Rattle.store_keeper.specs.Watching.{watched};
 
     /// Opens the store on a disk. The disk comes back where that fails.
     ///
     /// Where every crash leaves the same records in the folder, these are held and committed. After a
     /// process that was killed more may be there than was committed: the store is between the two.
-    pub fn open(alloc: Global, mut disk: WatchedDisk<D>) -> Result<DiskKeeper<D>, (OpenFault, D)>
-        ensures whole { IfOk result (λ keeper. IsSound (D.state (watched disk))
-            → (es : List Entry) → Keeps (D.state (watched disk)) es es → KeepsOn keeper (kept_whole es)) }
+    pub fn open(alloc: Global, sound: SoundDisk<D>) -> Result<DiskKeeper<D>, (OpenFault, D)>
+        ensures whole { IfOk result (λ keeper. (es : List Entry) → Keeps (D.state sound.disk) es es
+            → KeepsOn keeper (kept_whole es)) }
         ensures between { IfOk result (λ keeper. D.tells (disk_of keeper)
-            → IsSound (D.state (watched disk)) → (committed received : List Entry)
-            → Keeps (D.state (watched disk)) committed received
+            → (committed received : List Entry) → Keeps (D.state sound.disk) committed received
             → Stands (store_of keeper) (D.state (disk_of keeper))
             (begun committed received (entries_of (store_of keeper)))) }
-        ensures kept { IfErr result (λ r. D.tells r.1 → IsSound (D.state (watched disk))
-            → (committed received : List Entry) → Keeps (D.state (watched disk)) committed received
-            → Keeps (D.state r.1) committed received) }
+        ensures kept { IfErr result (λ r. D.tells r.1 → (committed received : List Entry)
+            → Keeps (D.state sound.disk) committed received → Keeps (D.state r.1) committed received) }
     {
+        let mut disk = WatchedDisk::new(sound);
         match DurableStore::open(alloc, &mut disk) {
             Ok(store) => Ok(DiskKeeper { store, disk }),
             Err(fault) => Err((fault, disk.into_inner())),

@@ -8,4 +8,4 @@ mod watched;
 
 pub use keeper::DiskKeeper;
 pub use serving::{serve, server_on};
-pub use watched::WatchedDisk;
+pub use watched::SoundDisk;

@@ -1,13 +1,22 @@
-//! A disk that says whether a sync has failed on it.
+//! Disks on which no sync has failed, and whether one has since.
 ghost use Rattle.std.specs.Prelude.{◌≡◌, false, true};
 
 use disk::{Disk, DiskFault, FileName};
 use std::alloc::Global;
 
+/// A disk on which no sync has failed since the machine was started. No call can find that out: who
+/// makes one of a disk says so.
+#[derive(Drop)]
+pub struct SoundDisk<D: Disk> {
+    /// The disk.
+    pub disk: D,
+    pub ghost sound: { D.tells disk → (D.state disk).lost ≡ false },
+}
+
 /// A disk over another, which says whether a sync has failed on it. Once one has, whatever its fault,
 /// no later one promises anything until the machine is started anew.
 #[derive(Drop)]
-pub struct WatchedDisk<D: Disk> {
+pub(crate) struct WatchedDisk<D: Disk> {
     disk: D,
     lost: bool,
     ghost sound: { lost ≡ false → D.tells disk → (D.state disk).lost ≡ false },
@@ -17,30 +26,31 @@ impl<D: Disk> WatchedDisk<D> {
     ghost use Rattle.journal.specs.Journals.{IsSound};
     ghost use Rattle.store_keeper.specs.Watching.{watched};
 
-    /// Over a disk on which no sync has failed since the machine was started.
-    pub fn new(disk: D) -> WatchedDisk<D>
-        requires { D.tells disk → IsSound (D.state disk) }
-        ensures { watched result ≡ disk }
+    /// Over a disk on which no sync has failed.
+    pub(crate) fn new(sound: SoundDisk<D>) -> WatchedDisk<D>
+        ensures over { watched result ≡ sound.disk }
+        ensures sound { D.tells (watched result) → IsSound (D.state (watched result)) }
     {
+        let SoundDisk { disk } = sound;
         WatchedDisk { disk, lost: false }
     }
 
     /// Whether no sync has failed.
-    pub fn is_sound(&self) -> bool
+    pub(crate) fn is_sound(&self) -> bool
         ensures { result ≡ true → D.tells (watched self.now) → IsSound (D.state (watched self.now)) }
     {
         !self.lost
     }
 
     /// The disk below.
-    pub fn inner(&self) -> &D
+    pub(crate) fn inner(&self) -> &D
         ensures { result.now ≡ watched self.now }
     {
         &self.disk
     }
 
     /// The disk below.
-    pub fn into_inner(self) -> D
+    pub(crate) fn into_inner(self) -> D
         ensures { result ≡ watched self }
     {
         let WatchedDisk { disk, lost: _ } = self;

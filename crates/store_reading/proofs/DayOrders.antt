@@ -1,16 +1,17 @@
 -- Days in the order of their entries.
 use Rattle.std.proofs.Common.{◌≡◌, ℕ, ◌+◌, ◌*◌, ◌<◌, ◌≤◌, List, [], ◌∷◌, ◌++◌, Option, None, Some, length}
 use Rattle.std.proofs.Common.{take}
-use Rattle.std.proofs.Common.{ℤ, pos, ◌<ℤ◌, ◌≤ℤ◌, ◌∙◌, refl, sym, ap, subst, arith, inl, inr}
-use Rattle.std.specs.Prelude.{◌≢◌, ◌⊎◌, ◌↔◌, Bool, codes, true, false, IsTrue}
+use Rattle.std.proofs.Common.{ℤ, pos, neg_ℤ, ◌+ℤ◌, ◌-ℤ◌, ◌*ℤ◌, ◌<ℤ◌, ◌≤ℤ◌, ◌∙◌, refl, sym, ap, subst, arith, inl, inr}
+use Rattle.std.specs.Prelude.{◌≢◌, ◌⊎◌, ◌↔◌, Bool, codes, true, false, IfSome, IsTrue}
 use Rattle.std.proofs.lemmas.Bool.{cases_lt, false≢true}
 use Rattle.std.proofs.lemmas.Int.{by_lt_z}
 use Rattle.jiff_core.proofs.SignedLemmas.{signed_arith}
-use Rattle.syslog_value.specs.Instants.{IsCivil, instant_of}
+use Rattle.syslog_value.specs.Calendar.{day_number}
+use Rattle.syslog_value.specs.Instants.{IsCivil, instant_of, second_of_day}
 use Rattle.syslog_value.specs.Order.{OctetsBelow}
 use Rattle.syslog_value.specs.declared.civil.Civil.{Civil}
 use Rattle.syslog_fields.specs.Canonical.{Canonical, HeaderForm, TimeForm, civil_text}
-use Rattle.syslog_value.specs.Parts.{Parts}
+use Rattle.syslog_value.specs.Parts.{IsInstant, Parts}
 use Rattle.syslog_fields.specs.Time.{padded}
 use Rattle.archive_text.specs.Entries.{Entry, InstantBelow, IsBelow, IsEntry}
 use Rattle.archive_text.proofs.Orders.{octets_irreflexive, octets_total, octets_transitive}
@@ -19,7 +20,7 @@ use Rattle.archive_digest.specs.Periods.{IsPeriodOf}
 use Rattle.archive_digest.specs.declared.period.Period.TheVariants.{Day}
 use Rattle.archive_digest.proofs.Civils.{key, key_rises, month_most}
 use Rattle.archive_digest.proofs.Names.{one_name}
-use Rattle.store_reading.specs.Days.{IsDayBelow, IsDayText, IsOf}
+use Rattle.store_reading.specs.Days.{HasInstant, IsDayBelow, IsDayText, IsFrom, IsOf}
 
 -- ---- the date of an instant
 
@@ -231,15 +232,70 @@ before_out f to u day d e not of lies below inside =
     let from : f ≤ℤ j.0 = here.0 in
     omega (arith, signed_arith, earlier, from)
 
-pub after_out : (from : Option ℤ) (t : ℤ) (u : Bool) (day d : List ℕ) (e : Entry) → day ≢ codes "undated" → IsOf day e
-    → IsPeriodOf Day (Some t) d → IsDayBelow d day → ¬ (IsInRange from (Some t) u e.instant)
-after_out from t u day d e not of lies below inside =
+pub from_out : (from : Option ℤ) (t : ℤ) (u : Bool) (day : List ℕ) (e : Entry) → day ≢ codes "undated" → IsOf day e
+    → IsFrom t day → ¬ (IsInRange from (Some t) u e.instant)
+from_out from t u day e not of late inside =
     let j = dated_instant day e.instant of not in
     let here = subst (IsInRange from (Some t) u) j.1 inside in
-    let later : t <ℤ j.0 = instant_order (Some t) (Some j.0) d day lies
-    (subst (λ (i : Option ℤ). IsPeriodOf Day i day) j.1 of) below in
+    let after : t ≤ℤ j.0 = late j.0 (subst (λ (i : Option ℤ). IsPeriodOf Day i day) j.1 of) in
     let until : j.0 <ℤ t = here.1 in
-    omega (arith, signed_arith, later, until)
+    omega (arith, signed_arith, after, until)
+
+-- a day behind that of the last instant before a bound is from the bound on
+pub behind_from : (t last : ℤ) (day d : List ℕ) → last ≡ t -ℤ pos 1 → IsPeriodOf Day (Some last) d → IsDayBelow d day
+    → IsFrom t day
+behind_from t last day d is lies below i of =
+    let later : last <ℤ i = instant_order (Some last) (Some i) d day lies of below in
+    omega (arith, signed_arith, is, later)
+
+-- and a day that is from the bound on is behind it
+pub from_behind : (t last : ℤ) (day d : List ℕ) → last ≡ t -ℤ pos 1 → IsPeriodOf Day (Some last) d → HasInstant day
+    → IsFrom t day → IsDayBelow d day
+from_behind t last day d is lies (i, of) late =
+    elim (day_total d day) [
+      | inl below ↦ below
+      | inr (inl same) ↦
+          let from : t ≤ℤ last = late last (subst (IsPeriodOf Day (Some last)) same lies) in
+          absurd (omega (arith, signed_arith, is, from))
+      | inr (inr above) ↦
+          let less : i <ℤ last = instant_order (Some i) (Some last) day d of lies above in
+          let from : t ≤ℤ i = late i of in
+          absurd (omega (arith, signed_arith, is, less, from))
+    ]
+
+day_from : (y m d : ℕ) → neg_ℤ (pos 719_528) ≤ℤ day_number y m d
+unfolding day_number
+day_from y m d = omega (arith, signed_arith)
+
+joined_from : (day : ℤ) (s u : ℕ) → neg_ℤ (pos 719_528) ≤ℤ day
+    → neg_ℤ (pos 62_167_219_200_000_000)
+    ≤ℤ ((day *ℤ pos 86_400 +ℤ pos s -ℤ pos 0 *ℤ pos 60) *ℤ pos 1_000_000 +ℤ pos u)
+joined_from day s u from = omega (arith, signed_arith)
+
+instant_from : (c : Civil) → neg_ℤ (pos 62_167_219_200_000_000) ≤ℤ instant_of c (pos 0)
+instant_from c =
+    joined_from (day_number c.year c.month c.day) (second_of_day c) c.micros (day_from c.year c.month c.day)
+
+-- each day is from the first instant of all on
+pub first_from : (t : ℤ) (day : List ℕ) → IsInstant t → ¬ (IsInstant (t -ℤ pos 1)) → IsFrom t day
+first_from t day valid none i of =
+    let m = dated i day of in
+    let least = instant_from m.civil in
+    by_lt_z i t
+    (λ less. absurd (none (
+      omega (arith, signed_arith, least, m.names, less),
+      omega (arith, signed_arith, valid.1),
+    )))
+    (λ le. le)
+
+-- `undated` has no instant
+undated_apart : (day : List ℕ) → day ≡ codes "undated" → ¬ (HasInstant day)
+undated_apart day is (i, of) = omega (arith, date_length i day of, ap length is)
+
+pub undated_behind : (to : Option ℤ) (day : List ℕ) (t : Bool) → day ≡ codes "undated"
+    → IfSome to (λ (bound : ℤ). HasInstant day → IsFrom bound day → IsTrue t)
+undated_behind None day t is = tt
+undated_behind (Some bound) day t is = λ dated from. absurd (undated_apart day is dated)
 
 pub named_order : (t : Bool) (a b x y : List ℕ) → a ≡ x → b ≡ y → IsTrue t ↔ IsDayBelow a b → IsTrue t ↔ IsDayBelow x y
 named_order t a b x y first second h =

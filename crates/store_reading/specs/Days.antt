@@ -1,8 +1,8 @@
 -- The days that segments are named by.
-use Rattle.std.specs.Prelude.{◌≡◌, ◌⊎◌, ℕ, ◌<◌, List, Option, None, Some, codes, length}
+use Rattle.std.specs.Prelude.{◌≡◌, ◌⊎◌, ℕ, ◌<◌, ℤ, ◌≤ℤ◌, List, Option, None, Some, codes, length}
 use Rattle.syslog_value.specs.Order.{OctetsBelow}
 use Rattle.archive_text.specs.Entries.{Entry}
-use Rattle.archive_digest.specs.Periods.{IsIn}
+use Rattle.archive_digest.specs.Periods.{IsIn, IsPeriodOf}
 use Rattle.archive_digest.specs.declared.period.Period.TheVariants.{Day}
 
 -- the name of a day: `undated`, or the ten octets of a date
@@ -21,3 +21,11 @@ IsDayBelow a b = (length a < length b) ⊎ ((length a ≡ length b) × OctetsBel
 abbrev pub IsAfter : Option (List ℕ) → List ℕ → Type 0
 IsAfter None day = Unit {0}
 IsAfter (Some last) day = IsDayBelow last day
+
+-- the day has an instant
+abbrev pub HasInstant : List ℕ → Type 0
+HasInstant day = (i : ℤ) × IsPeriodOf Day (Some i) day
+
+-- all instants of a day are from this one on
+abbrev pub IsFrom : ℤ → List ℕ → Type 0
+IsFrom bound day = (i : ℤ) → IsPeriodOf Day (Some i) day → bound ≤ℤ i

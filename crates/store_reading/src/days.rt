@@ -1,8 +1,8 @@
 //! The days of a folder, one behind the other.
-ghost use Rattle.std.specs.Prelude.{◌≡◌, ◌≤◌, ◌↔◌, ℕ, List, IfNone, IfSome, IsSomeAnd, IsTrue, length, option_map};
+ghost use Rattle.std.specs.Prelude.{◌≡◌, ◌≤◌, ◌↔◌, ℕ, ℤ, List, IfNone, IfSome, IsSomeAnd, IsTrue, length, option_map};
 ghost use Rattle.archive_text.specs.Entries.{Entry};
 ghost use Rattle.archive_join.specs.Ranges.{IsOfRange};
-ghost use Rattle.store_reading.specs.Days.{IsAfter, IsOf};
+ghost use Rattle.store_reading.specs.Days.{HasInstant, IsAfter, IsFrom, IsOf};
 ghost use Rattle.store_reading.specs.Names.{AddsDay, AddsName, IsFirstDay, IsNextDay, IsNextSegment};
 ghost use Rattle.store_reading.specs.Parts.{BeginsApart, BeginsWithDay, PartsAt};
 
@@ -11,6 +11,7 @@ use crate::names::segment_day;
 use archive_sets::{Condition, InRange};
 use archive_text::{ENTRY_MAX, EntryView, read_entry};
 use disk::FileName;
+use syslog_value::Instant;
 
 // What is behind the first entry of a text, where that is of the day.
 fn behind_of<'a>(text: &'a [u8], day: &Day) -> Option<&'a [u8]>
@@ -112,9 +113,21 @@ pub(crate) fn next_day(names: &[FileName], text: &[u8], last: Option<&Day>) -> O
     }
 }
 
+// Whether a dated day has no instant before a bound.
+fn is_from(to: Instant, day: &Day) -> bool
+    ensures from { IsTrue result → IsFrom to day.now }
+    ensures all { HasInstant day.now → IsFrom to day.now → IsTrue result }
+{
+    match Instant::from_micros(to.micros() - 1) {
+        Some(last) => Day::of(Some(last)).is_before(day),
+        None => true,
+    }
+}
+
 /// Whether no instant of a day is in a range.
 pub(crate) fn is_outside(range: &InRange, day: &Day) -> bool
-    ensures { IsTrue result → (e : Entry) → IsOf day.now e → ¬ (IsOfRange range.now e) }
+    ensures none { IsTrue result → (e : Entry) → IsOf day.now e → ¬ (IsOfRange range.now e) }
+    ensures behind { IfSome range.now.to (λ (to : ℤ). HasInstant day.now → IsFrom to day.now → IsTrue result) }
 {
     if day.is(&Day::undated()) {
         return !range.holds(&EntryView {
@@ -128,7 +141,7 @@ pub(crate) fn is_outside(range: &InRange, day: &Day) -> bool
         }
     }
     if let Some(to) = range.to {
-        return Day::of(Some(to)).is_before(day);
+        return is_from(to, day);
     }
     false
 }

@@ -18,6 +18,9 @@ const ALSO: &[u8] =
 const LATER: &[u8] =
     b"2024-03-01.3333333333333333333333333333333333333333333333333333333333333333.archive";
 
+const DAMAGED: &[u8] =
+    b"2024-03-02.4444444444444444444444444444444444444444444444444444444444444444.archive";
+
 // the texts of entries, in their order
 const A: &[u8] = b"19 <13>1 - h a - - - x";
 
@@ -173,6 +176,35 @@ fn a_range_is_half_open(rt: HostRuntime) -> Result<(), Fail> {
     let (answer, text) = written(alloc, &mut make_view(stored(alloc)?), range)?;
     assert!(rt; answer.is_ok());
     assert!(rt; text == joined(alloc, &[A, C])?);
+    Ok(())
+}
+
+// A range that ends where a day begins opens no segment of it; nor does one that ends before all
+// instants. One that has an instant of it does.
+#[test]
+fn a_range_leaves_damaged_days_alone(rt: HostRuntime) -> Result<(), Fail> {
+    let alloc = rt.alloc();
+    let mut disk = stored(alloc)?;
+    put(alloc, &mut disk, DAMAGED, &[b"no archive"])?;
+    let mut view = make_view(disk);
+    let day = Instant::from_micros(1_709_337_600_000_000).ok_or("no instant")?;
+    let first = Instant::from_micros(-62_167_219_200_000_000).ok_or("no instant")?;
+    let mut range = InRange {
+        from: None,
+        to: Some(day),
+        undated: true,
+    };
+    let (answer, text) = written(alloc, &mut view, range)?;
+    assert!(rt; answer.is_ok());
+    assert!(rt; text == joined(alloc, &[A, B, C, D])?);
+    range.to = Some(first);
+    let (answer, text) = written(alloc, &mut view, range)?;
+    assert!(rt; answer.is_ok());
+    assert!(rt; text.as_slice() == A);
+    range.to = Instant::from_micros(day.micros() + 1);
+    let (answer, text) = written(alloc, &mut view, range)?;
+    assert!(rt; matches!(&answer, Err(ReadFault::Damaged { .. })));
+    assert!(rt; text == joined(alloc, &[A, B, C, D])?);
     Ok(())
 }
 

@@ -13,7 +13,7 @@ use socket_source::{Inherited, Listener, OpenFault as SocketFault, SocketSource,
 use std::alloc::{AllocError, Global};
 use std::fmt::Display;
 use std::time::Duration;
-use store_keeper::{DiskKeeper, WatchedDisk, server_on};
+use store_keeper::{DiskKeeper, SoundDisk, server_on};
 
 // Room for datagrams that wait, in octets, as far as the system gives it.
 const RECEIVE_BUFFER: u32 = 16 << 20;
@@ -125,9 +125,10 @@ fn listeners<'a>(alloc: Global, words: &ServeWords<'a>) -> Result<Vec<Listener<'
     Ok(all)
 }
 
-// How often a tick comes: at least each millisecond.
-fn period(words: &ServeWords<'_>) -> u64 {
-    u64::from(words.options.commit_millis).max(1)
+// How many periods pass in a minute. The shortest one has a millisecond.
+fn periods_a_minute(words: &ServeWords<'_>) -> u64 {
+    let millis = u64::from(words.options.commit_millis).max(1);
+    COUNT_MILLIS.checked_div(millis).unwrap_or(1).max(1)
 }
 
 fn source_options(words: &ServeWords<'_>) -> SourceOptions {
@@ -137,7 +138,7 @@ fn source_options(words: &ServeWords<'_>) -> SourceOptions {
             Some(seconds) => Some(Duration::from_secs(u64::from(seconds))),
             None => None,
         },
-        period: Duration::from_millis(period(words)),
+        period: Duration::from_millis(u64::from(words.options.commit_millis)),
         until_eof: words.options.until_eof,
         receive_buffer: Some(RECEIVE_BUFFER),
     }
@@ -192,7 +193,7 @@ fn open_store(
         Err(LockFault::Held) => return Err(refuse(rt, dir, "another server has the store")),
         Err(LockFault::Failed(error)) => return Err(refuse(rt, dir, error)),
     };
-    match DiskKeeper::open(rt.alloc(), WatchedDisk::new(disk)) {
+    match DiskKeeper::open(rt.alloc(), SoundDisk { disk }) {
         Ok(keeper) => Ok((lock, keeper)),
         Err((fault, disk)) => Err(refuse_store(rt, dir, fault, &disk)),
     }
@@ -252,7 +253,7 @@ fn run(rt: &HostRuntime, words: &ServeWords<'_>) -> Result<u8, Fault> {
     }
     let options = ServeOptions {
         checkpoint_len: u64::from(words.options.checkpoint_mib) << 20,
-        count_ticks: COUNT_MILLIS.checked_div(period(words)).unwrap_or(1).max(1),
+        count_ticks: periods_a_minute(words),
     };
     let end = store_keeper::serve(rt.alloc(), &mut server, &mut source, &mut Second, &options);
     let status = end.status(server.counts().has_refused());

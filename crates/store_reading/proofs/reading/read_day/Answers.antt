@@ -10,7 +10,7 @@ use Rattle.store_reading.proofs.reading.read_day.Goals as goal
 pub returns-then-is_outside-clause-outcome : goal.returns-then-is_outside-clause-outcome
 returns-then-is_outside-clause-outcome g c t listed xs archive is of =
     nothing_of_day (g.F.Folder.files c.args.folder.now) c.args.kept.now.range c.args.day.now xs
-    (g.W.Output.state c.args.writer.now).taken of (c.is_outside.ensures (search rules))
+    (g.W.Output.state c.args.writer.now).taken of (c.is_outside.ensures.none (search rules))
 
 pub returns-in_err-inputs-clause-outcome : goal.returns-in_err-inputs-clause-outcome
 returns-in_err-inputs-clause-outcome g c t listed xs archive is of =
