@@ -175,9 +175,19 @@ def lines_on(way, address, notes):
     return [front + re.sub(rb"^\d+ (bad-count)", rb"\1", line) for line in notes.split(b"\n")[:-1]]
 
 
+def ones_for(kind, frames):
+    """Those of the frames that a stream can have."""
+    return [one for one in frames if one and (kind == "counted" or b"\n" not in one)]
+
+
 def framed_ones(kind, frames):
-    """Those of the frames that a stream can have, framed."""
-    return b"".join(framed(kind, one) for one in frames if one and (kind == "counted" or b"\n" not in one))
+    """The same, framed."""
+    return b"".join(framed(kind, one) for one in ones_for(kind, frames))
+
+
+def kept_of(lines, frames):
+    """What is kept of a connection's frames: each line, and the frame that it is on, unless that is too long."""
+    return [(line, None if line.endswith(b" too-long") else frames[int(line.split(b" ")[2]) - 1]) for line in lines]
 
 
 def streams(runs):
@@ -191,12 +201,13 @@ def streams(runs):
             runs.results.same(f"{kind}: what is read", server.until_held(text), (0, text, b""))
             runs.ends(f"{kind}, random frames", server, 1, *lines)
             kept = refused_file(server.store)
-            runs.results.check(f"{kind}: what is kept", kept == [(line, None) for line in lines], str(kept)[:300])
+            right = kept_of(lines, ones_for(kind, frames))
+            runs.results.check(f"{kind}: what is kept", kept == right, str(kept)[:300])
         runs.results.check(f"{kind}: some are refused, and some are not", len(lines) > 30 and len(text) > 3_000)
 
 
 def datagrams(runs):
-    """The same of datagrams, whose octets are kept too."""
+    """The same of datagrams."""
     frames, path = [b"", *mutations(300), LONG[:65_507], b"x" * 65_507], str(runs.path / "datagrams")
     outcomes = [reference.read(frame) for frame in frames]
     text = archive_text(reference.canonical(one) for one in outcomes if not isinstance(one, bytes))
@@ -255,9 +266,10 @@ def cut_over(runs):
         lines = [b"lf %b %d syntax priority 0" % (name, n) for n in (1, 2, 3)]
         runs.ends("refused frames at 64 MiB", server, 1, *lines)
     kept = refused_file(store)
-    runs.results.check("a new file of refused frames", kept == [(line, None) for line in lines[1:]], str(kept)[:300])
+    right = list(zip(lines[1:], (b"second", b"third")))
+    runs.results.check("a new file of refused frames", kept == right, str(kept)[:300])
     older = (store / "refused.1").read_bytes()
-    right = older == bytes(REFUSED_MAX - 1) + framed("counted", lines[0])
+    right = older == bytes(REFUSED_MAX - 1) + framed("counted", lines[0] + b"\nfirst")
     runs.results.check("the older one", right, f"{len(older)} {older[-99:]}")
 
 
@@ -572,7 +584,7 @@ def no_notes(runs):
         status, _ = server.end()
         runs.results.check("lines that cannot be written: the status", status == 1, str(status))
         kept = refused_file(server.store)
-        right = len(kept) == 1 and kept[0][0].endswith(b" 2 syntax priority 0")
+        right = len(kept) == 1 and kept[0][0].endswith(b" 2 syntax priority 0") and kept[0][1] == b"x"
         runs.results.check("the frame is kept", right, str(kept))
 
 

@@ -2,34 +2,36 @@
 use denote.Bor.{Bor}
 use Rattle.std.proofs.Common.{◌≡◌, ℕ, ◌+◌, ◌<◌, ◌≤◌, zero, suc, List, [], ◌∷◌, ◌++◌, length, take, refl, sym, ◌∙◌}
 use Rattle.std.proofs.Common.{ap, subst, inl, inr, arith}
-use Rattle.std.specs.Prelude.{IsSomeAnd, Some, None, Option}
+use Rattle.std.specs.Prelude.{◌⊎◌, IsSomeAnd, Some, None, Option}
 use Rattle.std.proofs.lemmas.Bool.Decides.{eqb_tells}
-use Rattle.std.proofs.lemmas.List.{append-nil}
+use Rattle.std.proofs.lemmas.List.{append-nil, take_all}
 use Rattle.archive_text.specs.Entries.{Entry}
 use Rattle.syslog_frame.specs.declared.framing.Framing.{Framing}
 use Rattle.syslog_frame.specs.declared.limits.TheConstants.{POSITION_MAX}
 use Rattle.syslog_legacy.specs.declared.frame_reading.FrameReading.{FrameReading}
 use Rattle.syslog_collect.specs.Headline.{IsSettled}
-use Rattle.syslog_collect.specs.History.{AcceptedEvent, Datagram, Ended, History, HoldsBadCount, Opened, Piece}
+use Rattle.syslog_collect.specs.History.{AcceptedEvent, Datagram, Ended, History, HoldsBadCount, Opened, Piece, Stream}
 use Rattle.syslog_collect.specs.History.{history_of, stream_of}
-use Rattle.syslog_collect.specs.Logs.{Grows, IsLogOf, LogsEvent, LogsPart, LogsRefused, LogsRun, waiting}
+use Rattle.syslog_collect.specs.Logs.{Grows, IsLogOf, LogsEvent, LogsPart, LogsPiece, LogsRefused, LogsRun, waiting}
+use Rattle.syslog_collect.specs.Observers.{HearsPiece}
 use Rattle.syslog_collect.specs.Runs.{accepted_event, accepted_part, accepted_refused_end, accepted_run}
 use Rattle.syslog_collect.specs.Runs.{nonempty_piece}
 use Rattle.syslog_collect.specs.Standing.{Stands}
-use Rattle.syslog_collect.specs.Stops.{EndsWell, IsPieceCause, StopsAs, StopsAt}
+use Rattle.syslog_collect.specs.Stops.{EndsWell, IsPieceCause, StopsAs, StopsAt, StopsPieceAt}
 use Rattle.syslog_collect.specs.declared.connections.Connections.{Connections}
 use Rattle.syslog_collect.specs.declared.limits.TheConstants.{CONNECTIONS_MAX}
 use Rattle.syslog_collect.specs.declared.event.Event.{Event}
 use Rattle.syslog_collect.specs.declared.event.Event.TheVariants.{Opened as event_Opened, Piece as event_Piece}
 use Rattle.syslog_collect.specs.declared.event.Event.TheVariants.{Ended as event_Ended, Datagram as event_Datagram}
+use Rattle.syslog_collect.specs.declared.event.EventEnd.TheVariants.{Done as end_Done, Stopped as end_Stopped}
 use Rattle.syslog_collect.specs.declared.event.RunEnd.TheVariants.{Stopped}
 use Rattle.syslog_collect.specs.declared.fault.CollectFault.{CollectFault}
 use Rattle.syslog_collect.specs.declared.fault.CollectFault.TheVariants.{AlreadyOpen, TooManyOpen, NotOpen, ConnFailed}
 use Rattle.syslog_collect.specs.declared.fault.CollectFault.TheVariants.{StreamTooLong, Unreleased, Unterminated}
 use Rattle.syslog_collect.specs.declared.fault.CollectFault.TheVariants.{Memory}
 use Rattle.syslog_collect.specs.declared.outcome.Outcome.{Outcome}
-use Rattle.collect_engine.specs.Receiving.{IfNotMemory, IfRefused, IsWholeEnd, MayNotOpen, ReceivesAs, TakesPartOf}
-use Rattle.collect_engine.specs.Receiving.{kept_outcomes, received_as}
+use Rattle.collect_engine.specs.Receiving.{HearsReceived, IfNotMemory, IfRefused, IsWholeEnd, MayNotOpen, ReceivesAs}
+use Rattle.collect_engine.specs.Receiving.{TakesPartOf, kept_outcomes, received_as}
 use Rattle.collect_engine.specs.declared.receiving.Received.{Received}
 use Rattle.collect_engine.specs.declared.receiving.Received.TheVariants as received
 use Rattle.collect_engine.proofs.Settled.{broken_quiet, part_quiet}
@@ -315,7 +317,7 @@ stopped_as limit way cs v kept first es e at n fault a b log os many was stops (
 
 -- ---- where an opening is refused
 
-nothing_said : (r : Received) → IfRefused r (Unit {0})
+pub nothing_said : (r : Received) → IfRefused r (Unit {0})
 nothing_said received.Accepted = tt
 nothing_said (received.Unterminated start) = tt
 nothing_said received.Refused = tt
@@ -351,3 +353,76 @@ pub refused_at : (limit : ℕ) (way : FrameReading) (h : History) (v : ℕ → �
 refused_at limit way h v e at n fault r is stops =
     subst (λ (q : Received). IfRefused q (MayNotOpen limit h (accepted_event e))) (sym is)
     (event_refused limit way h v e n fault (stops_at_one limit way h v e at n fault stops))
+
+-- ---- a piece by itself
+
+whole_log : (l m os : List Outcome) → m ≡ l ++ os → l ≡ [] → os ≡ m
+whole_log l m os log empty = sym (log ∙ ap (λ (z : List Outcome). z ++ os) empty)
+
+pub piece_done : (way : FrameReading) (h : History) (w v : ℕ → ℕ) (c : ℕ) (o : Bor (List ℕ)) (a b : List Entry)
+    (l m : List Outcome) → Grows (LogsPiece way h w v c o.now end_Done a b) l m → l ≡ []
+    → ReceivesAs way h w v (Piece c o.now) received.Accepted m (Piece c o.now ∷ [])
+piece_done way h w v c o a b l m (os, log, (logs, waits)) empty = inl (
+  refl,
+  (
+    a,
+    b,
+    subst (λ (z : List Outcome). LogsEvent way h w (Piece c o.now) a b z) (whole_log l m os log empty) logs,
+  ),
+  waits,
+  tt,
+)
+
+pub piece_stopped : (limit : ℕ) (way : FrameReading) (cs : Connections) (v : ℕ → ℕ) (kept first : List Entry)
+    (es : List AcceptedEvent) (c n : ℕ) (o : Bor (List ℕ)) (fault : CollectFault) (a b : List Entry)
+    (l m : List Outcome) → Stands way cs kept first es → n ≤ length o.now
+    → StopsPieceAt way c o.now n (v c) fault (history_of es)
+    → Grows (LogsPiece way (history_of es) (waiting cs) v c o.now (end_Stopped n fault) a b) l m → l ≡ []
+    → ReceivesAs way (history_of es) (waiting cs) v (Piece c o.now) (received_as fault) (kept_outcomes fault m)
+    (nonempty_piece c (take n o.now))
+piece_stopped limit way cs v kept first es c n o fault a b l m was within cause (os, log, logs) empty =
+    let h = history_of es in
+    subst (λ (z : List Outcome). ReceivesAs way h (waiting cs) v (Piece c o.now) (received_as fault)
+    (kept_outcomes fault z) (nonempty_piece c (take n o.now))) (whole_log l m os log empty)
+    (piece_as limit way h (waiting cs) (waiting cs) v c n o fault a b os (λ d. refl) logs (within, cause)
+    (λ bad. broken_quiet way c cs kept first es was bad))
+
+pub piece_settled : (limit : ℕ) (way : FrameReading) (cs ds : Connections) (h : History) (c n : ℕ) (o : Bor (List ℕ))
+    (fault : CollectFault) (a b : List Entry) (l m : List Outcome) → IsSettled cs → n ≤ length o.now
+    → StopsPieceAt way c o.now n (waiting ds c) fault h
+    → Grows (LogsPiece way h (waiting cs) (waiting ds) c o.now (end_Stopped n fault) a b) l m
+    → IfNotMemory (received_as fault) (IsSettled ds)
+piece_settled limit way cs ds h c n o fault a b l m settled within cause (os, log, logs) =
+    refused_settled limit way cs ds h (event_Piece c o) 0 n fault a b l m settled (omega arith, (within, cause))
+    (os, log, (waiting cs, [], os, a, refl, (refl, refl, λ d. refl), logs))
+
+pub hears_done : {O : Type 0} (t : O → Outcome → Option (List ℕ) → O → Type 0) (q : Option Stream) (o : List ℕ)
+    (waited waits : ℕ) (l m : List Outcome) (x y : O) → l ≡ [] → HearsPiece t q o waited waits l m x y
+    → HearsReceived t q o waited waits m x y
+hears_done t q o waited waits l m x y empty hears = (
+  length o,
+  m,
+  subst (λ (z : List Outcome). HearsPiece t q (take (length o) o) waited waits z m x y) empty
+      (subst (λ (u : List ℕ). HearsPiece t q u waited waits l m x y) (sym (take_all (length o) o (omega arith))) hears),
+  inl refl,
+)
+
+kept_or_none : (fault : CollectFault) (m : List Outcome) → (kept_outcomes fault m ≡ m) ⊎ (kept_outcomes fault m ≡ [])
+kept_or_none (Memory n) m = inl refl
+kept_or_none ConnFailed m = inr refl
+kept_or_none (Unterminated start) m = inr refl
+kept_or_none AlreadyOpen m = inr refl
+kept_or_none TooManyOpen m = inr refl
+kept_or_none NotOpen m = inr refl
+kept_or_none StreamTooLong m = inr refl
+kept_or_none Unreleased m = inr refl
+
+pub hears_stopped : {O : Type 0} (t : O → Outcome → Option (List ℕ) → O → Type 0) (q : Option Stream) (o : List ℕ)
+    (waited waits n : ℕ) (fault : CollectFault) (l m : List Outcome) (x y : O) → l ≡ []
+    → HearsPiece t q (take n o) waited waits l m x y → HearsReceived t q o waited waits (kept_outcomes fault m) x y
+hears_stopped t q o waited waits n fault l m x y empty hears = (
+  n,
+  m,
+  subst (λ (z : List Outcome). HearsPiece t q (take n o) waited waits z m x y) empty hears,
+  kept_or_none fault m,
+)

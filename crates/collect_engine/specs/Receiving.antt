@@ -1,13 +1,14 @@
 -- What a collector makes of one event.
 use Rattle.std.specs.Prelude.{◌≡◌, ◌⊎◌, ℕ, ◌+◌, ◌<◌, ◌≤◌, List, [], ◌∷◌, length, take}
-use Rattle.std.specs.Prelude.{None, IsSome, IsSomeAnd}
+use Rattle.std.specs.Prelude.{Option, None, IsSome, IsSomeAnd}
 use Rattle.archive_text.specs.Entries.{Entry}
 use Rattle.syslog_frame.specs.declared.limits.TheConstants.{POSITION_MAX}
 use Rattle.syslog_legacy.specs.declared.frame_reading.FrameReading.{FrameReading}
 use Rattle.syslog_collect.specs.Answers.{EndsWhole, IsUnfinished}
-use Rattle.syslog_collect.specs.History.{AcceptedEvent, Opened, Piece, Ended, Datagram, History, HoldsBadCount}
+use Rattle.syslog_collect.specs.History.{AcceptedEvent, Opened, Piece, Ended, Datagram, History, HoldsBadCount, Stream}
 use Rattle.syslog_collect.specs.History.{stream_of}
 use Rattle.syslog_collect.specs.Logs.{LogsEvent, LogsPart, waiting_after}
+use Rattle.syslog_collect.specs.Observers.{HearsPiece}
 use Rattle.syslog_collect.specs.Runs.{nonempty_piece}
 use Rattle.syslog_collect.specs.declared.fault.CollectFault.{CollectFault}
 use Rattle.syslog_collect.specs.declared.fault.CollectFault.TheVariants.{AlreadyOpen, TooManyOpen, NotOpen, ConnFailed}
@@ -115,3 +116,10 @@ IfNotMemory received.Accepted P = P
 IfNotMemory (received.Unterminated start) P = P
 IfNotMemory received.Refused P = P
 IfNotMemory received.Memory P = Unit {0}
+
+-- An observer was told of the frames of what was taken of a piece, and of their outcomes. These are the outcomes that are
+-- kept, unless none is.
+abbrev pub HearsReceived : {O : Type 0} → (O → Outcome → Option (List ℕ) → O → Type 0) → Option Stream → List ℕ → ℕ → ℕ
+    → List Outcome → O → O → Type 0
+HearsReceived t stream octets waited waits kept x y = (n : ℕ) × (outcomes : List Outcome)
+    × HearsPiece t stream (take n octets) waited waits [] outcomes x y × ((kept ≡ outcomes) ⊎ (kept ≡ []))

@@ -24,7 +24,7 @@ mod udp_source;
 pub use collect_words::{CollectWords, Transport};
 pub use collecting::run_collect;
 pub use list_source::ListSource;
-pub use receiving::{Received, receive};
+pub use receiving::{Received, receive, receive_piece};
 pub use serve_end::ServeEnd;
 pub use serving::{SERVE_TURNS, serve};
 pub use source::Source;

@@ -1,9 +1,9 @@
 //! Where events go: a collector, and what keeps its records.
 ghost use Rattle.std.specs.Prelude.{◌≡◌, ◌++◌, ⊤, [], List, OnOk};
 ghost use Rattle.archive_text.specs.Entries.{Entry};
-ghost use Rattle.collect_engine.specs.Receiving.{IfNotMemory, IfRefused, MayNotOpen, ReceivesAs};
+ghost use Rattle.collect_engine.specs.Receiving.{HearsReceived, IfNotMemory, IfRefused, MayNotOpen, ReceivesAs};
 ghost use Rattle.syslog_collect.specs.Collectors.{NoneWaits, limit_of, reading_of, store_of, waits_of};
-ghost use Rattle.syslog_collect.specs.History.{AcceptedEvent, history_of};
+ghost use Rattle.syslog_collect.specs.History.{AcceptedEvent, Piece, history_of, stream_of};
 ghost use Rattle.syslog_collect.specs.Runs.{accepted_event};
 ghost use Rattle.serve_engine.specs.Intakes.{IsCommitted, StandsBy};
 ghost use Rattle.serve_engine.specs.Keepings.{Kept};
@@ -11,9 +11,9 @@ ghost use Rattle.serve_engine.specs.Serving.{StandsOn, manner_of};
 
 use crate::keeping::{KeepFault, Keeping, Taken};
 use archive_text::Store;
-use collect_engine::{Received, receive};
+use collect_engine::{Received, receive, receive_piece};
 use std::alloc::Global;
-use syslog_collect::{Collector, Event, Outcome};
+use syslog_collect::{Collector, Event, Observer, Outcome};
 
 /// A collector over a set of what came since the last hand-over, and what keeps the rest.
 #[derive(Drop)]
@@ -56,6 +56,44 @@ impl<S: Store + Drop, K: Keeping<S> + Drop> Intake<S, K> {
         ensures manner { manner_of self.new.collector ≡ manner_of self.old.collector }
     {
         receive(alloc, &mut self.collector, event, &mut self.outcomes)
+    }
+
+    /// Gives a piece to the collector, and tells an observer of its frames.
+    pub(crate) fn receive_piece<O: Observer>(
+        &mut self,
+        alloc: Global,
+        conn: u32,
+        octets: &[u8],
+        observer: &mut O,
+    ) -> Received
+        ensures received { (k : Kept) (first : List Entry) (before : List AcceptedEvent)
+            → StandsBy S.entries K.stands self.old k first before
+            → (accepted : List AcceptedEvent)
+            × StandsBy S.entries K.stands self.new k first (before ++ accepted)
+            × ReceivesAs (reading_of self.old.collector) (history_of before) (waits_of self.old.collector)
+            (waits_of self.new.collector) (Piece conn octets.now) result self.new.outcomes.items accepted }
+        ensures room { (k : Kept) (first : List Entry) (before : List AcceptedEvent)
+            → StandsBy S.entries K.stands self.old k first before
+            → IfRefused result (MayNotOpen (limit_of self.old.collector) (history_of before)
+            (Piece conn octets.now)) }
+        ensures settled { (k : Kept) (first : List Entry) (before : List AcceptedEvent)
+            → StandsBy S.entries K.stands self.old k first before
+            → NoneWaits self.old.collector → IfNotMemory result (NoneWaits self.new.collector) }
+        ensures hears { (k : Kept) (first : List Entry) (before : List AcceptedEvent)
+            → StandsBy S.entries K.stands self.old k first before
+            → HearsReceived O.observes (stream_of conn (history_of before).streams) octets.now
+            (waits_of self.old.collector conn) (waits_of self.new.collector conn)
+            self.new.outcomes.items observer.old observer.new }
+        ensures manner { manner_of self.new.collector ≡ manner_of self.old.collector }
+    {
+        receive_piece(
+            alloc,
+            &mut self.collector,
+            conn,
+            octets,
+            &mut self.outcomes,
+            observer,
+        )
     }
 
     /// Hands over what came since the last call.

@@ -1,6 +1,6 @@
 //! Frames that are refused, as they are kept.
 ghost use Rattle.std.specs.Prelude.{◌≡◌, ◌++◌, OnOk, codes, decimal, length};
-ghost use Rattle.serve_engine.specs.Refusals.{counted_text, refusal_text};
+ghost use Rattle.serve_engine.specs.Refusals.{counted_text, octets_in, refusal_text};
 
 use itoa::Buffer;
 use std::alloc::{AllocError, Global};
@@ -37,7 +37,7 @@ pub(crate) fn put_refusal(
     line: &[u8],
     frame: Option<&[u8]>,
 ) -> Result<(), AllocError>
-    ensures { OnOk result (out.new.items ≡ out.old.items ++ counted_text (refusal_text line.now frame.entry)) }
+    ensures { OnOk result (out.new.items ≡ out.old.items ++ counted_text (refusal_text line.now (octets_in frame.entry))) }
 {
     match frame {
         None => put_counted(out, line),

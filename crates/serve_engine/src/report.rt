@@ -1,6 +1,6 @@
 //! What a server tells: lines, counts, and the frames that it refuses.
 ghost use Rattle.std.specs.Prelude.{◌≡◌, ◌≤◌, ◌+◌, ◌-◌, ◌^◌, min, true};
-ghost use Rattle.serve_engine.specs.Refusals.{KeepsFrame, is_kept};
+ghost use Rattle.serve_engine.specs.Refusals.{KeepsFrame, KeepsNext, is_kept, kept_in, octets_in};
 
 use crate::counts::ServeCounts;
 use crate::keeping::Taken;
@@ -12,7 +12,7 @@ use collect_engine::Received;
 use octet_devices::{Output, write_all};
 use socket_source::ConnectionEnd;
 use std::alloc::{AllocError, Global};
-use syslog_collect::Outcome;
+use syslog_collect::{Observer, Outcome};
 
 /// The lines, the counts, and the frames that are refused.
 #[derive(Drop)]
@@ -22,6 +22,8 @@ pub(crate) struct Report<N, R> {
     pub(crate) counts: ServeCounts,
     // the number of the next frame
     number: u64,
+    // the way by which the piece came whose frames are handled
+    way: Way,
     line: Vec<u8>,
     // the last frame that was kept, behind its line
     kept: Vec<u8>,
@@ -45,6 +47,7 @@ impl<N: Output + Drop, R: Output + Drop> Report<N, R> {
                 dropped: 0,
             },
             number: 1,
+            way: Way::Unix,
             line: Vec::new(alloc),
             kept: Vec::new(alloc),
         }
@@ -57,6 +60,7 @@ impl<N: Output + Drop, R: Output + Drop> Report<N, R> {
             refused,
             counts: _,
             number: _,
+            way: _,
             line: _,
             kept: _,
         } = self;
@@ -122,7 +126,7 @@ impl<N: Output + Drop, R: Output + Drop> Report<N, R> {
 
     // Keeps a frame that was refused, behind the line on it.
     fn keep_refused(&mut self, alloc: Global, frame: Option<&[u8]>)
-        ensures { KeepsFrame (R.state self.old.refused) (R.state self.new.refused) frame.entry
+        ensures { KeepsFrame (R.state self.old.refused) (R.state self.new.refused) (octets_in frame.entry)
             self.old.counts.dropped self.new.counts.dropped }
     {
         self.kept.clear();
@@ -145,7 +149,7 @@ impl<N: Output + Drop, R: Output + Drop> Report<N, R> {
         outcome: Outcome,
         frame: Option<&[u8]>,
     )
-        ensures { KeepsFrame (R.state self.old.refused) (R.state self.new.refused) frame.entry
+        ensures { KeepsFrame (R.state self.old.refused) (R.state self.new.refused) (octets_in frame.entry)
             self.old.counts.dropped self.new.counts.dropped }
     {
         self.line.clear();
@@ -163,7 +167,7 @@ impl<N: Output + Drop, R: Output + Drop> Report<N, R> {
         frame: Option<&[u8]>,
     )
         ensures kept { is_kept outcome ≡ true → KeepsFrame (R.state self.old.refused)
-            (R.state self.new.refused) frame.entry self.old.counts.dropped self.new.counts.dropped }
+            (R.state self.new.refused) (octets_in frame.entry) self.old.counts.dropped self.new.counts.dropped }
     {
         self.count(outcome);
         let number = self.number;
@@ -177,23 +181,26 @@ impl<N: Output + Drop, R: Output + Drop> Report<N, R> {
         }
     }
 
-    /// Tells what became of the frames of a piece or a datagram.
+    /// Tells what became of a datagram.
     pub(crate) fn outcomes(
         &mut self,
         alloc: Global,
         way: Way,
         outcomes: &[Outcome],
-        frame: Option<&[u8]>,
+        datagram: &[u8],
     ) {
         for outcome in outcomes {
-            match *outcome {
-                Outcome::BadCount { at } => {
-                    self.count(*outcome);
-                    self.tell(alloc, way, Happening::BadCount(at));
-                }
-                outcome => self.outcome(alloc, way, outcome, frame),
-            }
+            self.outcome(alloc, way, *outcome, Some(datagram));
         }
+    }
+
+    /// Counts octets of a piece, of whose frames it is told next.
+    pub(crate) fn begin_piece(&mut self, way: Way, octets: usize)
+        ensures refused { self.new.refused ≡ self.old.refused }
+        ensures dropped { self.new.counts.dropped ≡ self.old.counts.dropped }
+    {
+        self.way = way;
+        self.count_octets(octets);
     }
 
     /// Tells how a connection ended.
@@ -235,7 +242,10 @@ impl<N: Output + Drop, R: Output + Drop> Report<N, R> {
     }
 
     /// Counts octets of a piece or a datagram.
-    pub(crate) fn count_octets(&mut self, octets: usize) {
+    pub(crate) fn count_octets(&mut self, octets: usize)
+        ensures refused { self.new.refused ≡ self.old.refused }
+        ensures dropped { self.new.counts.dropped ≡ self.old.counts.dropped }
+    {
         count_up(&mut self.counts.octets, octets as u64);
     }
 
@@ -244,6 +254,24 @@ impl<N: Output + Drop, R: Output + Drop> Report<N, R> {
         count_up(&mut self.counts.new, taken.new);
         count_up(&mut self.counts.held, taken.held);
         count_up(&mut self.counts.batches, 1);
+    }
+}
+
+impl<N: Output + Drop, R: Output + Drop> Observer for Report<N, R> {
+    ghost observes = { λ x o f y. KeepsNext (kept_in R.state x) o f (kept_in R.state y) };
+
+    fn frame(&mut self, alloc: Global, outcome: Outcome, frame: &[u8]) {
+        self.outcome(alloc, self.way, outcome, Some(frame));
+    }
+
+    fn passed_over(&mut self, alloc: Global, outcome: Outcome) {
+        match outcome {
+            Outcome::BadCount { at } => {
+                self.count(outcome);
+                self.tell(alloc, self.way, Happening::BadCount(at));
+            }
+            outcome => self.outcome(alloc, self.way, outcome, None),
+        }
     }
 }
 

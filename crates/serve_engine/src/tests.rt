@@ -209,6 +209,35 @@ fn steps_are_served_and_told(rt: HostRuntime) -> Result<(), Fail> {
 }
 
 #[test]
+fn refused_frames_of_streams_are_kept(rt: HostRuntime) -> Result<(), Fail> {
+    let steps = [
+        (
+            opened(0, Framing::Counted, "192.0.2.1:4711")?,
+            b"".as_slice(),
+        ),
+        (opened(1, Framing::Lf, "192.0.2.2:99")?, b""),
+        (piece(0), b"6 <13>1"),
+        (piece(1), b"<13>1 - h a - - - z\nx"),
+        (piece(0), b" 4 <1\nx19 <13>1 - h a - - - x3 <9"),
+        (piece(1), b"y"),
+        (piece(0), b">"),
+        (piece(1), b"z\r\n\n"),
+        (ended(0, ConnectionEnd::Closed), b""),
+        (ended(1, ConnectionEnd::Closed), b""),
+    ];
+    let done = served(rt.alloc(), keeper(), &steps)?;
+    assert_eq!(rt; done.end, ServeEnd::Finished);
+    assert_eq!(rt; done.committed, 2);
+    let refused = b"50 counted 192.0.2.1:4711 2 syntax timestamp 6\n<13>1 \
+        47 counted 192.0.2.1:4711 3 syntax priority 2\n<1\nx\
+        45 counted 192.0.2.1:4711 5 syntax version 3\n<9>\
+        40 lf 192.0.2.2:99 6 syntax priority 0\nxyz\r\
+        36 lf 192.0.2.2:99 7 syntax priority 0\n";
+    assert_eq!(rt; done.refused.as_slice(), refused.as_slice());
+    Ok(())
+}
+
+#[test]
 fn a_full_disk_stops_reading(rt: HostRuntime) -> Result<(), Fail> {
     let steps = [
         (datagram(None)?, A),

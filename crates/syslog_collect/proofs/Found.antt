@@ -149,7 +149,7 @@ length_removed c (suc i) x (l ∷ ls) at = omega (arith, length_removed c i x ls
 
 -- ---- by numbers
 
-found_in : (way : FrameReading) (c : ℕ) (x : Connection) (cs : Connections) (kept first : List Entry)
+pub found_in : (way : FrameReading) (c : ℕ) (x : Connection) (cs : Connections) (kept first : List Entry)
     (es : List AcceptedEvent) → connection_in cs c ≡ Some x → (was : Stands way cs kept first es)
     → Found c x was.stands_at.order
 found_in way c x cs kept first es is was =
@@ -235,7 +235,7 @@ unchanged {T = T} {A = A} r c x y cs ds was now is b h = each r h
 
 -- ---- frames that wait
 
-waits_become : (c k : ℕ) (y : Connection) (cs ds : Connections) → Becomes cs ds c y
+pub waits_become : (c k : ℕ) (y : Connection) (cs ds : Connections) → Becomes cs ds c y
     → ready_count y.scanner.phase ≡ k → (d : ℕ) → waiting ds d ≡ cond (eqb c d) k (waiting cs d)
 waits_become c k y cs ds b is d = ap ready_in (b.at d) ∙ elim (eqb_tells c d) [
   | inl (here, eq) ↦ rw here is

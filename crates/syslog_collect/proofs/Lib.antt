@@ -18,3 +18,4 @@ pub mod Logging
 pub mod Stopping
 pub mod Numbering
 pub mod Found
+pub mod Hearing

@@ -182,7 +182,7 @@ take_whole : (rest : List ℕ) (n : ℕ) → length rest ≤ n → take n rest �
 take_whole rest n le = take_all n rest le
 
 -- at the end of the rest, all of it was accepted
-accepted_whole : (rest : List ℕ) (n : ℕ) (o : Option Outcome) → IsBadCount o ⊎ (length rest ≤ n)
+pub accepted_whole : (rest : List ℕ) (n : ℕ) (o : Option Outcome) → IsBadCount o ⊎ (length rest ≤ n)
     → take (accepted_count (length rest) n o) rest ≡ rest
 accepted_whole rest n (Some (BadCount at)) h = take_whole rest (length rest) (omega arith)
 accepted_whole rest n None (inr le) = take_whole rest n le

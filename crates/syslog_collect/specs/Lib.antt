@@ -9,4 +9,5 @@ pub mod Headline
 pub mod Runs
 pub mod Logs
 pub mod Stops
+pub mod Observers
 pub mod Lends

@@ -7,22 +7,26 @@ ghost use Rattle.syslog_collect.specs.Answers.{IsBadCount, IsCause, IsTaken, IsU
 ghost use Rattle.syslog_collect.specs.Answers.{accepted_octets, answered, dropped_octets};
 ghost use Rattle.syslog_collect.specs.History.{Stream};
 ghost use Rattle.syslog_collect.specs.Logs.{ready_count};
+ghost use Rattle.syslog_collect.specs.Observers.{HearsBy};
 ghost use Rattle.syslog_collect.specs.Standing.{IsAt};
 
 use crate::connection::{Connection, handle_ready};
 use crate::fault::{Advance, CollectFault};
+use crate::observer::Observer;
 use archive_text::Store;
 use std::alloc::Global;
 use syslog_frame::ScanFault;
 use syslog_legacy::FrameReading;
 
-/// Takes octets of a piece, at most up to the end of a frame, and handles the frame that is ready.
+/// Takes octets of a piece, at most up to the end of a frame, and handles the frame that is ready,
+/// of which it tells an observer.
 /// It is refused as [`Collector::advance`](crate::Collector::advance) says.
-pub fn advance_connection<S: Store>(
+pub fn advance_connection<S: Store, O: Observer>(
     alloc: Global,
     reading: FrameReading,
     connection: &mut Connection,
     store: &mut S,
+    observer: &mut O,
     piece: &[u8],
 ) -> Result<Advance, CollectFault>
     // How much is taken, and that each call comes closer to the end of the piece.
@@ -50,13 +54,16 @@ pub fn advance_connection<S: Store>(
     ensures drops { (s : Stream) (handled : List (List ℕ)) → IsAt connection.old s handled
         → AdvancesBy reading (dropped_octets piece.now result) connection.old connection.new
         (S.entries store.old) (S.entries store.new) (answered result) s handled }
+    ensures hears { (s : Stream) (handled : List (List ℕ)) → IsAt connection.old s handled
+        → HearsBy O.observes (dropped_octets piece.now result) connection.old connection.new
+        (answered result) s handled observer.old observer.new }
 {
     let used = match connection.scanner.push(piece) {
         Ok(used) => used,
         Err(ScanFault::Failed) => return Err(CollectFault::ConnFailed),
         Err(ScanFault::StreamTooLong) => return Err(CollectFault::StreamTooLong),
     };
-    let Ok(outcome) = handle_ready(alloc, reading, &connection.scanner, store) else {
+    let Ok(outcome) = handle_ready(alloc, reading, &connection.scanner, store, observer) else {
         return Err(CollectFault::Memory { used });
     };
     let _ = connection.scanner.release();

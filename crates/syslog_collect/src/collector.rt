@@ -21,6 +21,7 @@ use crate::connection::{Connection, handle};
 use crate::connections::Connections;
 use crate::fault::{Advance, CollectFault};
 use crate::limits::{CONNECTIONS_LIMIT, CONNECTIONS_MAX};
+use crate::observer::Unobserved;
 use crate::outcome::Outcome;
 use archive_text::{ENTRY_MAX, Store};
 use std::alloc::{AllocError, Global};
@@ -188,6 +189,7 @@ impl<S: Store> Collector<S> {
                 self.reading,
                 &mut self.connections.slots[place],
                 &mut self.store,
+                &mut Unobserved,
                 piece,
             ),
         }

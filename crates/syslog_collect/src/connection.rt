@@ -7,9 +7,11 @@ ghost use Rattle.syslog_legacy.specs.NewForm.{HasNewForm};
 ghost use Rattle.syslog_legacy.specs.Readings.{Legacy, ReadAs};
 ghost use Rattle.syslog_legacy.specs.Views.{legacy_view_parts};
 ghost use Rattle.syslog_frame.specs.Scan.{HasFrame};
+ghost use Rattle.syslog_collect.specs.Observers.{TellsReady};
 ghost use Rattle.syslog_collect.specs.Outcomes.{HandlesReady, HasEntry, HasFittingEntry, HasRecord};
 ghost use Rattle.syslog_collect.specs.Outcomes.{IsOutcome, IsRecordFrame, added_outcome};
 
+use crate::observer::Observer;
 use crate::outcome::Outcome;
 use archive_text::{AddFault, Added, Store};
 use std::alloc::{AllocError, Global};
@@ -162,26 +164,39 @@ pub fn handle<S: Store>(
     handle_octets(alloc, reading.clock, store, reading.octets(frame))
 }
 
-/// Handles what a scanner has ready, and leaves it ready. If an allocation fails, nothing has
-/// changed.
-pub fn handle_ready<S: Store>(
+/// Handles what a scanner has ready, tells an observer of it, and leaves it ready. If an allocation
+/// fails, nothing has changed.
+pub fn handle_ready<S: Store, O: Observer>(
     alloc: Global,
     reading: FrameReading,
     scanner: &Scanner,
     store: &mut S,
+    observer: &mut O,
 ) -> Result<Option<Outcome>, AllocError>
     ensures handles { IfOk result (λ o.
         HandlesReady reading scanner.now (S.entries store.old) (S.entries store.new) o) }
+    ensures tells { IfOk result (TellsReady O.observes scanner.now observer.old observer.new) }
     ensures err { OnErr result (S.entries store.new ≡ S.entries store.old) }
+    ensures silent { OnErr result (observer.new ≡ observer.old) }
     ensures waits { OnErr result (HasFrame scanner.now) }
     ensures spelled { OnErr result (HasRecord reading scanner.now) }
 {
     match scanner.ready() {
         None => Ok(None),
-        Some(Ready::BadCount { at }) => Ok(Some(Outcome::BadCount { at })),
-        Some(Ready::TooLong) => Ok(Some(Outcome::TooLong)),
+        Some(Ready::BadCount { at }) => {
+            let outcome = Outcome::BadCount { at };
+            observer.passed_over(alloc, outcome);
+            Ok(Some(outcome))
+        }
+        Some(Ready::TooLong) => {
+            observer.passed_over(alloc, Outcome::TooLong);
+            Ok(Some(Outcome::TooLong))
+        }
         Some(Ready::Frame(frame)) => match handle(alloc, reading, store, frame) {
-            Ok(outcome) => Ok(Some(outcome)),
+            Ok(outcome) => {
+                observer.frame(alloc, outcome, frame);
+                Ok(Some(outcome))
+            }
             Err(fault) => Err(fault),
         },
     }

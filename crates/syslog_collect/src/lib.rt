@@ -29,6 +29,7 @@
 //!   store.
 //! - Answers and Runs: what a call or a run accepted, as a function of its answer, and the cause of
 //!   each refusal. Stops: why a run stopped. Outcomes: what becomes of a frame.
+//! - Observers: what an [`Observer`] is told of the frames of a piece.
 //! - Logs: `LogsRun`, the log of a run, outcome by outcome.
 //! - Headline: `ReceivedSame`, that the received sets of two lists of events are equal.
 #![tactic(auto)]
@@ -42,14 +43,16 @@ mod fault;
 mod law;
 mod lending;
 mod limits;
+mod observer;
 mod outcome;
 mod piece;
 mod running;
 
 pub use collector::{Collector, merged_archives, same_archives};
-pub use event::{Event, RunEnd};
+pub use event::{Event, EventEnd, RunEnd};
 pub use fault::{Advance, CollectFault};
 pub use law::{frames_have_one_reading, received_records, stands_behind};
 pub use limits::{CONNECTIONS_LIMIT, CONNECTIONS_MAX};
+pub use observer::Observer;
 pub use outcome::Outcome;
 pub use syslog_sender::{SendFault, Sender};

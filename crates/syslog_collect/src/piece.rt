@@ -8,6 +8,7 @@ ghost use Rattle.syslog_collect.specs.Outcomes.{outcomes_of};
 ghost use Rattle.syslog_collect.specs.Runs.{IfAccepted, IfDone, IsStepWithin, Logs, LogsAdvance, OnGoing};
 ghost use Rattle.syslog_collect.specs.Runs.{piece_octets, step_octets, used_before};
 ghost use Rattle.syslog_collect.specs.Logs.{ready_count};
+ghost use Rattle.syslog_collect.specs.Observers.{HearsLog};
 ghost use Rattle.syslog_collect.specs.Standing.{IsAt};
 ghost use Rattle.syslog_collect.specs.Stops.{IfStopped, MayGoOn, OnStopped, StopsPiece, StopsStep};
 ghost use Rattle.syslog_frame.specs.Scan.{HasReady};
@@ -16,6 +17,7 @@ use crate::advancing::advance_connection;
 use crate::connection::Connection;
 use crate::event::EventEnd;
 use crate::fault::CollectFault;
+use crate::observer::Observer;
 use crate::outcome::Outcome;
 use archive_text::Store;
 use std::alloc::Global;
@@ -58,11 +60,12 @@ pub fn note(log: &mut Vec<Outcome>, outcome: Option<Outcome>)
 }
 
 /// Advances a connection once, and appends the outcome to the log, in which room is made first.
-fn take_step<S: Store>(
+fn take_step<S: Store, O: Observer>(
     alloc: Global,
     reading: FrameReading,
     connection: &mut Connection,
     store: &mut S,
+    observer: &mut O,
     rest: &[u8],
     log: &mut Vec<Outcome>,
 ) -> Step
@@ -83,12 +86,15 @@ fn take_step<S: Store>(
     ensures cause { (s : Stream) (handled : List (List ℕ)) → IsAt connection.old s handled
         → OnStopped result (λ used fault. StopsStep reading rest.now used
         (ready_count connection.old.scanner.phase) (ready_count connection.new.scanner.phase) fault s) }
+    ensures hears { (s : Stream) (handled : List (List ℕ)) → IsAt connection.old s handled
+        → HearsLog O.observes connection.new (step_octets rest.now result) log.old.items log.new.items
+        s handled observer.old observer.new }
 {
     if log.reserve(1).is_err() {
         let fault = CollectFault::Memory { used: 0 };
         return Step::Stopped { used: 0, fault };
     }
-    let advance = match advance_connection(alloc, reading, connection, store, rest) {
+    let advance = match advance_connection(alloc, reading, connection, store, observer, rest) {
         Ok(advance) => advance,
         Err(fault) => {
             let used = used_of(fault);
@@ -103,11 +109,12 @@ fn take_step<S: Store>(
 }
 
 /// Advances a connection until the piece is used up, and at least once.
-pub fn take_piece<S: Store>(
+pub fn take_piece<S: Store, O: Observer>(
     alloc: Global,
     reading: FrameReading,
     connection: &mut Connection,
     store: &mut S,
+    observer: &mut O,
     piece: &[u8],
     log: &mut Vec<Outcome>,
 ) -> EventEnd
@@ -124,10 +131,22 @@ pub fn take_piece<S: Store>(
     ensures cause { (s : Stream) (handled : List (List ℕ)) → IsAt connection.old s handled
         → IfStopped result (λ taken fault. StopsPiece reading piece.now taken
         (ready_count connection.new.scanner.phase) fault s) }
+    // Of which frames the observer is told.
+    ensures hears { (s : Stream) (handled : List (List ℕ)) → IsAt connection.old s handled
+        → HearsLog O.observes connection.new (piece_octets piece.now result) log.old.items
+        log.new.items s handled observer.old observer.new }
 {
     let mut taken = 0;
     'pieces: loop {
-        match take_step(alloc, reading, connection, store, &piece[taken..], log) {
+        match take_step(
+            alloc,
+            reading,
+            connection,
+            store,
+            observer,
+            &piece[taken..],
+            log,
+        ) {
             Step::Stopped { used, fault } => {
                 return EventEnd::Stopped {
                     taken: taken + used,

@@ -4,12 +4,13 @@ ghost use Rattle.std.specs.Prelude.{◌≡◌, ◌++◌, ◌<◌, ◌≤◌, ◌
 ghost use Rattle.archive_text.specs.Entries.{Entry};
 ghost use Rattle.syslog_collect.specs.Collectors.{GoesOn, HaveSameConnections, Stands, behind, limit_of, reading_of};
 ghost use Rattle.syslog_collect.specs.Collectors.{store_of, waits_of};
-ghost use Rattle.syslog_collect.specs.History.{AcceptedEvent, history_of};
+ghost use Rattle.syslog_collect.specs.History.{AcceptedEvent, history_of, stream_of};
 ghost use Rattle.syslog_collect.specs.Logs.{Grows, LogsDatagram, LogsEventEnd, LogsPiece, LogsRun};
 ghost use Rattle.syslog_collect.specs.Logs.{waiting_after_all};
+ghost use Rattle.syslog_collect.specs.Observers.{HearsPiece};
 ghost use Rattle.syslog_collect.specs.Outcomes.{IsRecordFrame};
 ghost use Rattle.syslog_collect.specs.Runs.{IfAllDone, IfDone, accepted_all, accepted_by, accepted_datagram_end};
-ghost use Rattle.syslog_collect.specs.Runs.{accepted_piece_end, accepted_run, event_end};
+ghost use Rattle.syslog_collect.specs.Runs.{accepted_piece_end, accepted_run, event_end, piece_octets};
 ghost use Rattle.syslog_collect.specs.Stops.{EndWell, EndsWell, IfStopped, StopsAs, StopsAt, StopsPieceAt};
 ghost use Rattle.syslog_collect.specs.Stops.{done_events};
 ghost use Rattle.syslog_collect.specs.declared.fault.CollectFault.TheVariants.{Memory};
@@ -18,6 +19,7 @@ use crate::collector::Collector;
 use crate::event::{Event, EventEnd, RunEnd};
 use crate::fault::CollectFault;
 use crate::limits::CONNECTIONS_MAX;
+use crate::observer::{Observer, Unobserved};
 use crate::outcome::Outcome;
 use crate::piece::{note, take_piece};
 use archive_text::Store;
@@ -47,6 +49,37 @@ impl<S: Store> Collector<S> {
             → IfStopped result (λ taken fault. StopsPieceAt (reading_of self.old) conn octets.now taken
             (waits_of self.new conn) fault (history_of events)) }
     {
+        self.observed_piece(alloc, conn, octets, log, &mut Unobserved)
+    }
+
+    /// Takes a connection's piece as [`Collector::run`] does, and tells an observer of each frame as
+    /// it is handled, with its octets.
+    pub fn observed_piece<O: Observer>(
+        &mut self,
+        alloc: Global,
+        conn: u32,
+        octets: &[u8],
+        log: &mut Vec<Outcome>,
+        observer: &mut O,
+    ) -> EventEnd
+        ensures goes_on { GoesOn S.entries self.old self.new (accepted_piece_end conn octets.now result) }
+        ensures logged { (past first : List Entry) (events : List AcceptedEvent)
+            → Stands (behind past S.entries) self.old first events
+            → Grows (LogsPiece (reading_of self.old) (history_of events) (waits_of self.old)
+            (waits_of self.new) conn octets.now result (S.entries (store_of self.old))
+            (S.entries (store_of self.new))) log.old.items log.new.items }
+        ensures within { IfStopped result (λ taken fault. taken ≤ length octets.now) }
+        ensures cause { (past first : List Entry) (events : List AcceptedEvent)
+            → Stands (behind past S.entries) self.old first events
+            → IfStopped result (λ taken fault. StopsPieceAt (reading_of self.old) conn octets.now taken
+            (waits_of self.new conn) fault (history_of events)) }
+        // It was told of exactly the frames whose outcomes were appended, outcome by outcome.
+        ensures hears { (past first : List Entry) (events : List AcceptedEvent)
+            → Stands (behind past S.entries) self.old first events
+            → HearsPiece O.observes (stream_of conn (history_of events).streams) (piece_octets octets.now result)
+            (waits_of self.old conn) (waits_of self.new conn) log.old.items log.new.items
+            observer.old observer.new }
+    {
         match self.connections.find(conn) {
             None => EventEnd::Stopped {
                 taken: 0,
@@ -57,6 +90,7 @@ impl<S: Store> Collector<S> {
                 self.reading,
                 &mut self.connections.slots[place],
                 &mut self.store,
+                observer,
                 octets,
                 log,
             ),

@@ -1,4 +1,5 @@
 use Rattle.std.proofs.Common.{◌+◌, length, inl, refl, arith}
+use Rattle.syslog_collect.proofs.Hearing.{hears_advanced, hears_waiting}
 use Rattle.syslog_collect.proofs.Moving.{advanced, good_unless_failed, pushed, released, too_long, waiting}
 use Rattle.syslog_collect.proofs.Moving.{waiting_record}
 use Rattle.syslog_collect.proofs.Taking.{ends_frame, in_turn, some_taken, stops_right}
@@ -93,3 +94,21 @@ returns-clause-taken g c s handled at =
           (pushed _ _ c.args.piece.now c.in-Ok.used e.failed e.too_long e.waits e.within e.position e.bound e.reads
           e.takes) c.in-Ok-handle_ready.ensures.handles e.takes at,
     )
+
+pub returns-in_default-clause-hears : goal.returns-in_default-clause-hears
+returns-in_default-clause-hears g c s handled at =
+    let e = c.in-Ok.ensures in
+    hears_waiting (g.O.Observer.observes) c.args.reading c.args.connection.now _ _ _ c.args.piece.now c.in-Ok.used s
+    handled _ _ refl
+    (pushed _ _ c.args.piece.now c.in-Ok.used e.failed e.too_long e.waits e.within e.position e.bound e.reads e.takes)
+    c.in_default.ensures.waits c.in_default.ensures.err c.in_default.ensures.silent at
+
+pub returns-clause-hears : goal.returns-clause-hears
+returns-clause-hears g c s handled at =
+    let e = c.in-Ok.ensures in
+    let r = c.release.ensures in
+    hears_advanced (g.O.Observer.observes) c.args.reading c.args.connection.now _ c.push.new.self _ _ c.args.piece.now
+    c.in-Ok.used (length c.args.piece.now) c.in-Ok-handle_ready.outcome s handled _ _ refl
+    (pushed _ _ c.args.piece.now c.in-Ok.used e.failed e.too_long e.waits e.within e.position e.bound e.reads e.takes)
+    c.in-Ok-handle_ready.ensures.handles c.in-Ok-handle_ready.ensures.tells
+    (released _ _ c.release.result r.value r.same r.frame r.failed r.reads) (λ lt. (lt, omega arith)) at

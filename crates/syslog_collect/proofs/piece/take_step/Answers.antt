@@ -5,6 +5,7 @@ use Rattle.syslog_collect.specs.Answers.{IsBadCount}
 use Rattle.syslog_collect.specs.Outcomes.{outcomes_of}
 use Rattle.syslog_collect.specs.declared.outcome.Outcome.{Outcome}
 use Rattle.syslog_collect.proofs.Between.{step_whole}
+use Rattle.syslog_collect.proofs.Hearing.{hears_ended, hears_nothing, hears_refused, hears_step}
 use Rattle.syslog_collect.proofs.Pieces.{goes_on, logs_nothing, logs_of, refused, step_ended, step_on, used_within}
 use Rattle.syslog_collect.proofs.Stopping.{step_cause, step_goes_on}
 use Rattle.syslog_collect.proofs.piece.take_step.Goals as goal
@@ -88,3 +89,34 @@ returns-clause-whole g c s d at =
     step_whole c.args.rest.now c.in-Ok.advance.used c.in-Ok.advance.outcome s
     (λ bad. not_both c.is_bad_count.result (c.is_bad_count.ensures.1 bad) c.if-is_bad_count.false) (omega arith)
     (c.in-Ok.ensures.taken s d at).1
+
+pub returns-then-is_err-clause-hears : goal.returns-then-is_err-clause-hears
+returns-then-is_err-clause-hears g c s d at =
+    hears_nothing (g.O.Observer.observes) _ _ _ s d _ _ c.reserve.ensures.items refl at
+
+pub returns-in-Err-clause-hears : goal.returns-in-Err-clause-hears
+returns-in-Err-clause-hears g c s d at =
+    hears_refused (g.O.Observer.observes) c.args.connection.now _ c.args.rest.now _ _ c.in-Err.fault c.used_of-used.result
+    s d _ _ c.used_of-used.ensures c.reserve.ensures.items at (c.in-Err.ensures.hears s d at)
+
+pub returns-then-is_bad_count-clause-hears : goal.returns-then-is_bad_count-clause-hears
+returns-then-is_bad_count-clause-hears g c s d at =
+    let o = c.in-Ok.advance.outcome in
+    let rest = c.args.rest.now in
+    let ends : IsBadCount o ⊎ (length rest ≤ c.in-Ok.advance.used) = elim c.then-is_bad_count.branch [
+      | then-is_bad_count-via-then-is_bad_count w ↦ inl (c.is_bad_count.ensures.0 w.if-is_bad_count.true)
+      | then-is_bad_count-via-else-is_bad_count+then-advance-rest w ↦ inr (omega (arith, w.if-advance-rest.true))
+    ] in
+    hears_ended (g.O.Observer.observes) c.advance_connection.new.connection rest c.args.log.now.items
+    c.note.new.log.items c.in-Ok.advance.used o s d _ _
+    (c.note.ensures ∙ ap (λ (u : List Outcome). u ++ outcomes_of o) c.reserve.ensures.items) ends
+    (c.in-Ok.ensures.hears s d at)
+
+pub returns-clause-hears : goal.returns-clause-hears
+returns-clause-hears g c s d at =
+    let o = c.in-Ok.advance.outcome in
+    hears_step (g.O.Observer.observes) c.advance_connection.new.connection c.args.rest.now c.args.log.now.items
+    c.note.new.log.items c.in-Ok.advance.used o s d _ _
+    (c.note.ensures ∙ ap (λ (u : List Outcome). u ++ outcomes_of o) c.reserve.ensures.items)
+    (λ bad. not_both c.is_bad_count.result (c.is_bad_count.ensures.1 bad) c.if-is_bad_count.false)
+    (c.in-Ok.ensures.hears s d at)
