@@ -4,7 +4,7 @@ from random import Random
 
 from cases.commands import row
 from cases.mutated import mutations
-from cases.rows import A, EXAMPLE, HELLO, MARK, NIL, entries
+from cases.rows import A, EXAMPLE, HELLO, MARK, NIL, TIME, entries, invalid
 from hostile.archives import POOL, TIMES, rounds
 from lib import algebra as second
 from lib.faults import each_allocation, each_call
@@ -26,14 +26,17 @@ ON_INPUT = [
     ("what ends behind it", ["select", "--to", "2026-11-25T10:30:00.000001Z"], LATE, 0, LATE, b""),
     ("an empty range", ["select", "--from", TIMES[5], "--to", TIMES[4]], LATE, 0, b"", b""),
     ("the digest of the empty archive", ["digest"], b"", 0, second.digest(b"")[1], b""),
-    *[("a time that is none", ["select", f"{bound}={time}"], b"x", 2, b"", None) for bound in ["--from", "--to"] for time in NOT_TIMES],
+    *[("a time that is none", ["select", f"{bound}={time}"], b"x", 2, b"", invalid(bound, time, TIME))
+      for bound in ["--from", "--to"] for time in NOT_TIMES],
     *[("a condition given twice", ["select", *(option * 2)], b"x", 2, b"", None)
       for option in [["--from", TIMES[4]], ["--to", TIMES[4]], ["--undated"], ["--only-undated"], ["--severity", "err"],
                      ["--facility", "kern"], ["--host", "h"], ["--app", "a"], ["--proc", "1"], ["--msgid", "m"], ["--id", "a"]]],
-    *[("undated alone, with a range", ["select", "--only-undated", bound, TIMES[4]], b"x", 2, b"", None) for bound in ["--from", "--to"]],
-    *[("a name that is none", ["select", option, name], b"x", 2, b"", None)
+    *[("undated alone, with a range", ["select", "--only-undated", bound, TIMES[4]], b"x", 2, b"",
+       f"error: --only-undated cannot be used with {bound}\n".encode()) for bound in ["--from", "--to"]],
+    *[("a name that is none", ["select", option, name], b"x", 2, b"", invalid(option, name))
       for option in ["--severity", "--facility"] for name in ["", "Err", "16", "error", "none"]],
-    *[("a period that is none", ["digest", "--by", name], b"x", 2, b"", None) for name in ["", "Day", "year", "week", "minute", "days"]],
+    *[("a period that is none", ["digest", "--by", name], b"x", 2, b"", invalid("--by", name))
+      for name in ["", "Day", "year", "week", "minute", "days"]],
     *[("superfluous words", [command, "x"], b"x", 2, b"", None) for command in ["select", "digest"]],
     *[("no archive", [command], b"x", 1, b"", b"bad-frame 0\n") for command in ["select", "digest"]],
     *[("no archive behind an entry", [command], entries(A) + b"1 x", 1, output, b"bad-entry %d syntax priority 0\n" % len(entries(A)))

@@ -86,6 +86,27 @@ REFUSED = [
 LINES = b"\nx\n" + b"a" * 262_145 + b"\n<0>1 - - - - - -"
 REPORTED = b"1 syntax priority 0\n2 syntax priority 0\n3 too-long\n"
 
+# what options take, as a line on another value says
+SEVERITIES = "emerg, alert, crit, err, warning, notice, info or debug"
+ADDRESS = "an address and a port, as 127.0.0.1:514 or [::1]:514"
+TAKES = {
+    "--framing": "datagram, counted or lf", "--to": "counted or lf", "--memory": "a number from 1 to 1048576",
+    "--legacy": "a year from 1 to 9998", "--zone": "E or W, then hours and minutes in two digits each, as E0130",
+    "--dialect": "bsd or wide", "--severity": SEVERITIES,
+    "--facility": "kern, user, mail, daemon, auth, syslog, lpr, news, uucp, cron, authpriv, ftp, ntp, audit, alert, clock or "
+                  "local0 to local7",
+    "--by": "month, day or hour", "--udp": ADDRESS, "--counted": ADDRESS, "--lf": ADDRESS, "--inherited": "udp, counted or lf",
+    "--connections": "a number from 1 to 16384", "--idle": "a number from 1 to 31536000",
+    "--commit": "a number from 0 to 3600000", "--checkpoint": "a number from 1 to 1048576",
+}
+TIME = "a time of RFC 5424 in the years 0 to 9999 of UTC, as 2026-11-25T10:00:00Z"
+
+
+def invalid(option, value, takes=None):
+    """The line on a value that its option does not take."""
+    return f"error: invalid value '{value}' for {option}: expected {takes or TAKES[option]}\n".encode()
+
+
 # words, standard input, status, standard output, standard error (None: any text, but some)
 WORDS = [
     ("counted frames", ["check", "--framing", "counted"], b"16 <0>1 - - - - - -17 <0>1 - - - - - - ", 0, b"1 ok\n2 ok\n", b""),
@@ -103,8 +124,8 @@ WORDS = [
     ("no lines", ["check", "--framing", "lf"], b"", 0, b"", b""),
     ("no counted frames", ["check", "--framing", "counted"], b"", 0, b"", b""),
     ("the framing of datagrams", ["check", "--framing", "datagram"], b"", 1, b"1 syntax priority 0\n", b""),
-    ("an unknown framing", ["check", "--framing", "tcp"], HELLO, 2, b"", None),
-    ("an empty framing", ["check", "--framing="], HELLO, 2, b"", None),
+    ("an unknown framing", ["check", "--framing", "tcp"], HELLO, 2, b"", invalid("--framing", "tcp")),
+    ("an empty framing", ["check", "--framing="], HELLO, 2, b"", invalid("--framing", "")),
     ("an option given twice", ["check", "--framing", "lf", "--framing", "lf"], HELLO, 2, b"", None),
     ("an option without its value", ["check", "--framing"], HELLO, 2, b"", None),
     ("check writes in no framing", ["check", "--to", "lf"], HELLO, 2, b"", None),
@@ -136,30 +157,35 @@ WORDS = [
     ("a host like an option", ["send", "--host", "-x", "x"], b"", 2, b"", None),
     ("a host that begins with a hyphen", ["send", "--host=-x", "x"], b"", 0, b"<13>1 - -x - - - - x\n", b""),
     ("an empty host", ["send", "--host=", "x"], b"", 2, b"", None),
-    ("an unknown facility", ["send", "--facility", "Kern", "x"], b"", 2, b"", None),
+    ("an unknown severity to send up to", ["send", "--up-to", "error", "x"], b"", 2, b"",
+     b"error: invalid value for --up-to: expected " + SEVERITIES.encode() + b"\n"),
+    ("an unknown facility", ["send", "--facility", "Kern", "x"], b"", 2, b"",
+     b"error: invalid value for --facility: expected " + TAKES["--facility"].encode() + b"\n"),
     ("nothing to send", ["send"], b"", 2, b"", None),
-    ("no room in memory", ["archive", "--spill", ".", "--memory", "0"], HELLO, 2, b"", None),
-    ("too much room in memory", ["archive", "--memory", "1048577"], HELLO, 2, b"", None),
+    ("no room in memory", ["archive", "--spill", ".", "--memory", "0"], HELLO, 2, b"", invalid("--memory", 0)),
+    ("too much room in memory", ["archive", "--memory", "1048577"], HELLO, 2, b"", invalid("--memory", 1048577)),
     ("room in memory without a folder", ["archive", "--memory", "1"], HELLO, 0, b"24 " + HELLO, b""),
     ("a folder given twice", ["archive", "--spill", ".", "--spill", "."], HELLO, 2, b"", None),
     ("a store is not named", ["read"], HELLO, 2, b"", None),
-    ("a store from no time", ["read", ".", "--from", "-"], HELLO, 2, b"", None),
+    ("a store from no time", ["read", ".", "--from", "-"], HELLO, 2, b"", invalid("--from", "-", TIME)),
     ("undated records of a store alone", ["read", ".", "--only-undated"], HELLO, 2, b"", None),
     ("two stores", ["verify", ".", "."], HELLO, 2, b"", None),
     ("no store that is compacted", ["compact"], HELLO, 2, b"", None),
     ("a range of a store that is compacted", ["compact", ".", "--undated"], HELLO, 2, b"", None),
     ("a range of a store that is verified", ["verify", ".", "--undated"], HELLO, 2, b"", None),
-    ("a server without a listener", ["serve", "."], HELLO, 2, b"", None),
+    ("a server without a listener", ["serve", "."], HELLO, 2, b"",
+     b"error: serve needs a listener: --udp, --counted, --lf, --unix or --inherited\n"),
     ("a server without a store", ["serve", "--udp", "127.0.0.1:0"], HELLO, 2, b"", None),
-    ("a listener without a port", ["serve", ".", "--udp", "127.0.0.1"], HELLO, 2, b"", None),
-    ("an IPv6 listener without brackets", ["serve", ".", "--lf", "::1:514"], HELLO, 2, b"", None),
-    ("a listener that is a name", ["serve", ".", "--counted", "localhost:514"], HELLO, 2, b"", None),
-    ("an inherited listener of no kind", ["serve", ".", "--inherited", "unix"], HELLO, 2, b"", None),
-    ("no connection at all", ["serve", ".", "--unix", "s", "--connections", "0"], HELLO, 2, b"", None),
-    ("too many connections", ["serve", ".", "--unix", "s", "--connections", "16385"], HELLO, 2, b"", None),
-    ("idle for no second", ["serve", ".", "--unix", "s", "--idle", "0"], HELLO, 2, b"", None),
-    ("a commit after more than an hour", ["serve", ".", "--unix", "s", "--commit", "3600001"], HELLO, 2, b"", None),
-    ("a checkpoint of nothing", ["serve", ".", "--unix", "s", "--checkpoint", "0"], HELLO, 2, b"", None),
+    ("a listener without a port", ["serve", ".", "--udp", "127.0.0.1"], HELLO, 2, b"", invalid("--udp", "127.0.0.1")),
+    ("an IPv6 listener without brackets", ["serve", ".", "--lf", "::1:514"], HELLO, 2, b"", invalid("--lf", "::1:514")),
+    ("a listener that is a name", ["serve", ".", "--counted", "localhost:514"], HELLO, 2, b"", invalid("--counted", "localhost:514")),
+    ("an inherited listener of no kind", ["serve", ".", "--inherited", "unix"], HELLO, 2, b"", invalid("--inherited", "unix")),
+    ("no connection at all", ["serve", ".", "--unix", "s", "--connections", "0"], HELLO, 2, b"", invalid("--connections", 0)),
+    ("too many connections", ["serve", ".", "--unix", "s", "--connections", "16385"], HELLO, 2, b"", invalid("--connections", 16385)),
+    ("idle for no second", ["serve", ".", "--unix", "s", "--idle", "0"], HELLO, 2, b"", invalid("--idle", 0)),
+    ("a commit after more than an hour", ["serve", ".", "--unix", "s", "--commit", "3600001"], HELLO, 2, b"", invalid("--commit", 3600001)),
+    ("the first of two values that are refused", ["serve", ".", "--idle", "0", "--udp", "514"], HELLO, 2, b"", invalid("--udp", 514)),
+    ("a checkpoint of nothing", ["serve", ".", "--unix", "s", "--checkpoint", "0"], HELLO, 2, b"", invalid("--checkpoint", 0)),
 ]
 
 COUNTED, LF = ["--framing", "counted"], ["--framing", "lf"]
@@ -189,9 +215,9 @@ STREAMS = [
      b"16 <0>1 - - - - - -", b"2 bad-count 19\n"),
     ("no lines to convert", ["convert", *LF], b"", 0, b"", b""),
     ("unordered elements", ["convert"], NIL + b"[b][a]", 0, NIL + b"[a][b]", b""),
-    ("an unknown framing to convert to", ["convert", "--to", "tcp"], HELLO, 2, b"", None),
+    ("an unknown framing to convert to", ["convert", "--to", "tcp"], HELLO, 2, b"", invalid("--to", "tcp")),
     ("a framing to convert to twice", ["convert", "--to", "lf", "--to", "lf"], HELLO, 2, b"", None),
-    ("no datagram to convert to", ["convert", "--to", "datagram"], HELLO, 2, b"", None),
+    ("no datagram to convert to", ["convert", "--to", "datagram"], HELLO, 2, b"", invalid("--to", "datagram")),
     ("fields are shown", ["show"], b'<165>1 - - - - - [a k="x\\n"] hi', 0, SHOWN, b""),
     ("lines are shown", ["show", *LF], HELLO + b"\nx\n" + HELLO + b"\n", 1,
      b"".join(b"record %d\npriority 165 local4 notice\ntime -\nhost -\napp -\nproc -\nmsgid -\n"
@@ -327,11 +353,11 @@ LEGACY = [
      b"record 1\npriority 13 user notice\ntime 2001-02-05T17:32:18.000000Z\nhost h\napp t\nproc 1\nmsgid -\nmessage any \"m\"\n", b""),
     ("a zone without a year has no effect", ["convert", "--zone", "W0500"], HELLO, 0, HELLO, b""),
     ("a zone without a year is no clock", ["check", "--zone", "W0500"], STAMP + b"h", 1, b"1 syntax version 4\n", b""),
-    *[("a zone that is none", ["convert", "--zone", zone], HELLO, 2, b"", None)
+    *[("a zone that is none", ["convert", "--zone", zone], HELLO, 2, b"", invalid("--zone", zone))
       for zone in ["E2400", "E0060", "e0000", "0000", "E000", "E00000", "+0100", "Z", "W24:00", "E-100", "E+100", "E 100"]],
-    *[("a zone that is none, with a year", [command, *LEGACY_2001, "--zone", zone], HELLO, 2, b"", None)
+    *[("a zone that is none, with a year", [command, *LEGACY_2001, "--zone", zone], HELLO, 2, b"", invalid("--zone", zone))
       for command in ["check", "convert", "show", "archive"] for zone in ["E2400", "W0060", ""]],
-    *[("a year that is none", [command, f"--legacy={year}"], HELLO, 2, b"", None)
+    *[("a year that is none", [command, f"--legacy={year}"], HELLO, 2, b"", invalid("--legacy", year))
       for command in ["check", "convert", "show", "archive"]
       for year in ["9999", "0", "", "+5", "-5", "2001x", " 2001", "67537", "18446744073709553617", "\u0662\u0660\u0660\u0661"]],
     ("a year without its value", ["check", "--legacy"], HELLO, 2, b"", None),
@@ -385,7 +411,7 @@ TRIMMED = [
       for command, output in [("check", b"1 ok\n"), ("convert", HELLO), ("archive", entries(HELLO))] for dialect in ["bsd", "wide"]],
     ("a dialect without a year is no clock", ["check", *WIDE], STAMP + b"h", 1, b"1 syntax version 4\n", b""),
     ("the packets of RFC 3164", ["convert", *LEGACY_2001, "--dialect", "bsd"], STAMP + b"h t: m", 0, IN_2001 + b"h t - - - m", b""),
-    *[("a dialect that is none", [command, *clock, "--dialect", dialect], HELLO, 2, b"", None)
+    *[("a dialect that is none", [command, *clock, "--dialect", dialect], HELLO, 2, b"", invalid("--dialect", dialect))
       for command in ["check", "convert", "show", "archive"] for clock in [[], LEGACY_2001] for dialect in ["", "BSD", "wide ", "rfc3164"]],
     ("a dialect given twice", ["check", *LEGACY_2001, *WIDE, *WIDE], HELLO, 2, b"", None),
     ("send has no dialect", ["send", *WIDE, "x"], b"", 2, b"", None),

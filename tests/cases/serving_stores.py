@@ -6,7 +6,7 @@ import socket
 import subprocess
 import threading
 
-from cases.rows import A
+from cases.rows import A, invalid
 from lib.loopback import HERE, kind_of
 from lib.reference import counted, framed
 from lib.server import SOON, any_port, numbered, spelled, until
@@ -313,12 +313,11 @@ WORDS = [[], ["--lf"], [*ALL, "--until-eof=1"], [*ALL, "--idle", "1", "--idle", 
 
 def options(runs):
     """Words that are wrong are told, and nothing is begun."""
-    values = [([*ALL, option, value], option) for option, values in VALUES.items() for value in values]
-    for words, option in [*values, *((words, "") for words in WORDS)]:
+    values = [([*ALL, option, value], invalid(option, value)) for option, values in VALUES.items() for value in values]
+    for words, line in [*values, *((words, b"error: ") for words in WORDS)]:
         store = runs.store()
         status, output, notes = runs.program.run(["serve", str(store), *words])
-        line = notes.split(b"\n")[0].decode()
-        right = (status, output) == (2, b"") and line.startswith("error: ") and option in line and not store.exists()
+        right = (status, output) == (2, b"") and notes.startswith(line) and not store.exists()
         runs.results.check(f"serve {words}", right, f"{status} {output} {notes}")
 
 

@@ -35,7 +35,8 @@ pub fn collect_command<'a>(alloc: Global) -> Result<Command<'a>, AllocError>
     with_reading(alloc, collect)
 }
 
-fn transport(name: &str) -> Option<Transport>
+/// The transport with this name; None for any other text.
+pub fn transport(name: &str) -> Option<Transport>
     ensures { result ≡ transport_of name.now }
 {
     match name {
@@ -46,8 +47,8 @@ fn transport(name: &str) -> Option<Transport>
     }
 }
 
-// How many datagrams or connections may be asked for at most.
-fn count_max(transport: Transport) -> u32
+/// How many datagrams or connections may be asked for at most.
+pub fn count_max(transport: Transport) -> u32
     ensures { result ≡ count_max transport }
 {
     match transport {

@@ -27,7 +27,8 @@ pub fn digest_command<'a>(alloc: Global) -> Result<Command<'a>, AllocError>
     )
 }
 
-fn period(name: &str) -> Option<Period>
+/// The period with this name; None for any other text.
+pub fn period(name: &str) -> Option<Period>
     ensures { result ≡ period_of name.now }
 {
     match name {

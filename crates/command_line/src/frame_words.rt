@@ -19,6 +19,9 @@ use std::alloc::{AllocError, Global};
 use syslog_frame::Framing;
 use syslog_legacy::FrameReading;
 
+/// How many MiB of memory a set may be given at most.
+pub const MEMORY_MAX: u32 = 1_048_576;
+
 // `--framing`, the framing of the input: a datagram by default.
 fn input_option<'a>(alloc: Global) -> Arg<'a>
     ensures rule { rule_of result ≡ default_rule (codes "framing") (codes "datagram") }
@@ -90,7 +93,8 @@ pub fn with_frame_commands<'a>(alloc: Global, line: Command<'a>) -> Result<Comma
     with_command(line, convert_command(alloc)?)
 }
 
-fn framing(name: &str) -> Option<Framing>
+/// The framing of a stream with this name; None for any other text.
+pub fn framing(name: &str) -> Option<Framing>
     ensures { result ≡ framing_of name.now }
 {
     match name {
@@ -100,7 +104,8 @@ fn framing(name: &str) -> Option<Framing>
     }
 }
 
-fn input_framing(name: &str) -> Option<InputFraming>
+/// The framing of an input with this name; None for any other text.
+pub fn input_framing(name: &str) -> Option<InputFraming>
     ensures { result ≡ input_framing_of name.now }
 {
     match name {
@@ -212,7 +217,7 @@ pub fn read_archive_words<'a>(matches: &ArgMatches<'a>) -> Option<Request<'a>>
 {
     let input_framing = input_framing_of_matches(matches)?;
     let reading = reading_of_matches(matches)?;
-    let memory_mib = number(value(matches, "memory")?, 1, 1_048_576)?;
+    let memory_mib = number(value(matches, "memory")?, 1, MEMORY_MAX)?;
     let spill = value(matches, "spill");
     Some(archive_by(input_framing, reading, memory_mib, spill))
 }

@@ -112,13 +112,15 @@ fn times(matches: &ArgMatches<'_>) -> Option<Times>
     times_by(from, to, undated, is_given(matches, "only-undated"))
 }
 
-fn severity(name: &str) -> Option<Severity>
+/// The severity with this name; None for any other text.
+pub fn severity(name: &str) -> Option<Severity>
     ensures { result ≡ severity_of name.now }
 {
     Severity::from_name(name)
 }
 
-fn facility(name: &str) -> Option<Facility>
+/// The facility with this name; None for any other text.
+pub fn facility(name: &str) -> Option<Facility>
     ensures { result ≡ facility_of name.now }
 {
     Facility::from_name(name)

@@ -599,11 +599,180 @@ fn tells(rt: &HostRuntime, words: &[&str], text: &str) -> bool {
 fn the_version_is_a_text(rt: HostRuntime) {
     assert!(rt; tells(&rt, &["--version"], "syslogbox 0.1.0\n"));
     assert!(rt; tells(&rt, &["-V"], "syslogbox 0.1.0\n"));
-    assert!(rt;
-        tells(
-            &rt,
-            &["digest", "--by", ""],
-            "error: --by is month, day or hour\n"
-        )
-    );
+}
+
+// words whose values are not all taken, and the text that names the first such option
+const REFUSED_FRAMES: [(&[&str], &str); 9] = [
+    (
+        &["check", "--framing", "xx"],
+        "error: invalid value 'xx' for --framing: expected datagram, counted or lf\n",
+    ),
+    (
+        &["show", "--zone", "E1", "--framing", ""],
+        "error: invalid value '' for --framing: expected datagram, counted or lf\n",
+    ),
+    (
+        &["check", "--dialect=x", "--legacy=9999", "--zone=0"],
+        "error: invalid value '9999' for --legacy: expected a year from 1 to 9998\n",
+    ),
+    (
+        &["check", "--dialect=x", "--zone=E2400"],
+        "error: invalid value 'E2400' for --zone: expected E or W, then hours and minutes in two \
+        digits each, as E0130\n",
+    ),
+    (
+        &["archive", "--memory=0", "--dialect=Wide"],
+        "error: invalid value 'Wide' for --dialect: expected bsd or wide\n",
+    ),
+    (
+        &["archive", "--memory", "1048577"],
+        "error: invalid value '1048577' for --memory: expected a number from 1 to 1048576\n",
+    ),
+    (
+        &["convert", "--to", "datagram"],
+        "error: invalid value 'datagram' for --to: expected counted or lf\n",
+    ),
+    (
+        &["convert", "--to=x", "--legacy=0"],
+        "error: invalid value '0' for --legacy: expected a year from 1 to 9998\n",
+    ),
+    (
+        &["digest", "--by", "week"],
+        "error: invalid value 'week' for --by: expected month, day or hour\n",
+    ),
+];
+
+const REFUSED_TIMES: [(&[&str], &str); 7] = [
+    (
+        &["select", "--to=-", "--facility=x"],
+        "error: invalid value '-' for --to: expected a time of RFC 5424 in the years 0 to 9999 of \
+        UTC, as 2026-11-25T10:00:00Z\n",
+    ),
+    (
+        &["read", "d", "--to=now", "--from=then"],
+        "error: invalid value 'then' for --from: expected a time of RFC 5424 in the years 0 to 9999 \
+        of UTC, as 2026-11-25T10:00:00Z\n",
+    ),
+    (
+        &["select", "--severity", "error", "--facility", "x"],
+        "error: invalid value 'error' for --severity: expected emerg, alert, crit, err, warning, \
+        notice, info or debug\n",
+    ),
+    (
+        &["select", "--severity=err", "--facility=LOCAL7"],
+        "error: invalid value 'LOCAL7' for --facility: expected kern, user, mail, daemon, auth, \
+        syslog, lpr, news, uucp, cron, authpriv, ftp, ntp, audit, alert, clock or local0 to \
+        local7\n",
+    ),
+    (
+        &["select", "--only-undated", "--from=2026-11-25T10:00:00Z"],
+        "error: --only-undated cannot be used with --from\n",
+    ),
+    (
+        &["select", "--only-undated", "--to=2026-11-25T10:00:00Z"],
+        "error: --only-undated cannot be used with --to\n",
+    ),
+    (
+        &[
+            "select",
+            "--only-undated",
+            "--to=",
+            "--from=2026-11-25T10:00:00Z",
+        ],
+        "error: invalid value '' for --to: expected a time of RFC 5424 in the years 0 to 9999 of \
+        UTC, as 2026-11-25T10:00:00Z\n",
+    ),
+];
+
+const REFUSED_SOCKETS: [(&[&str], &str); 14] = [
+    (
+        &["collect", "tcp", "0", "0"],
+        "error: invalid value 'tcp' for TRANSPORT: expected udp, counted or lf\n",
+    ),
+    (
+        &["collect", "udp", "65536", "0"],
+        "error: invalid value '65536' for PORT: expected a number from 1 to 65535\n",
+    ),
+    (
+        &["collect", "udp", "514", "1000001"],
+        "error: invalid value '1000001' for COUNT: expected a number from 1 to 1000000\n",
+    ),
+    (
+        &["collect", "lf", "514", "100001", "--legacy=x"],
+        "error: invalid value '100001' for COUNT: expected a number from 1 to 100000\n",
+    ),
+    (
+        &["collect", "lf", "514", "1", "--legacy=x"],
+        "error: invalid value 'x' for --legacy: expected a year from 1 to 9998\n",
+    ),
+    (
+        &["serve", "d"],
+        "error: serve needs a listener: --udp, --counted, --lf, --unix or --inherited\n",
+    ),
+    (
+        &["serve", "d", "--idle=0", "--udp=[::1]:514", "--udp=514"],
+        "error: invalid value '514' for --udp: expected an address and a port, as 127.0.0.1:514 \
+        or [::1]:514\n",
+    ),
+    (
+        &["serve", "d", "--lf=::1:514", "--counted=localhost:514"],
+        "error: invalid value 'localhost:514' for --counted: expected an address and a port, as \
+        127.0.0.1:514 or [::1]:514\n",
+    ),
+    (
+        &["serve", "d", "--lf", ""],
+        "error: invalid value '' for --lf: expected an address and a port, as 127.0.0.1:514 or \
+        [::1]:514\n",
+    ),
+    (
+        &["serve", "d", "--inherited=lf", "--inherited=unix"],
+        "error: invalid value 'unix' for --inherited: expected udp, counted or lf\n",
+    ),
+    (
+        &["serve", "d", "--connections=16385"],
+        "error: invalid value '16385' for --connections: expected a number from 1 to 16384\n",
+    ),
+    (
+        &[
+            "serve",
+            "d",
+            "--unix=p",
+            "--commit=3600001",
+            "--idle=31536001",
+        ],
+        "error: invalid value '31536001' for --idle: expected a number from 1 to 31536000\n",
+    ),
+    (
+        &[
+            "serve",
+            "d",
+            "--unix=p",
+            "--commit=3600001",
+            "--checkpoint=0",
+        ],
+        "error: invalid value '3600001' for --commit: expected a number from 0 to 3600000\n",
+    ),
+    (
+        &[
+            "serve",
+            "d",
+            "--unix=p",
+            "--dialect=x",
+            "--checkpoint=1048577",
+        ],
+        "error: invalid value '1048577' for --checkpoint: expected a number from 1 to 1048576\n",
+    ),
+];
+
+#[test]
+fn the_first_option_that_is_refused_is_named(rt: HostRuntime) {
+    for (words, text) in REFUSED_FRAMES {
+        assert!(rt; tells(&rt, words, text));
+    }
+    for (words, text) in REFUSED_TIMES {
+        assert!(rt; tells(&rt, words, text));
+    }
+    for (words, text) in REFUSED_SOCKETS {
+        assert!(rt; tells(&rt, words, text));
+    }
 }

@@ -23,7 +23,7 @@ use crate::set_words::{
     read_common_words, read_diff_words, read_minus_words, read_union_words, with_set_commands,
 };
 use crate::store_words::{read_store_words, with_store_commands};
-use crate::usage::takes;
+use crate::usage::refusal;
 use clap::error::ErrorKind;
 use clap::{Arg, ArgAction, ArgMatches, Command};
 use std::alloc::{AllocError, Global};
@@ -237,8 +237,7 @@ fn refused(alloc: Global, error: &clap::Error) -> WordsFault {
 
 // The text for a value that `clap` accepts and this program does not.
 fn unknown(alloc: Global, matches: &ArgMatches<'_>) -> WordsFault {
-    let name = matches.subcommand_name().unwrap_or("");
-    match String::from_str(alloc, takes(name)) {
+    match refusal(alloc, matches) {
         Ok(text) => WordsFault::Usage(text),
         Err(_) => WordsFault::Memory,
     }

@@ -22,8 +22,9 @@ fn minutes(digits: &[u8]) -> Option<u16>
     Some(u16::from(hours) * 60 + u16::from(minutes))
 }
 
-// How many minutes a zone is ahead of UTC: E is ahead, W is behind.
-fn zone(text: &str) -> Option<i16>
+/// How many minutes a zone is ahead of UTC: E is ahead, W is behind, as in `E0130`. None if the text
+/// is no zone.
+pub fn zone(text: &str) -> Option<i16>
     ensures { result ≡ zone_of text.now }
 {
     match text.as_bytes() {
@@ -60,7 +61,8 @@ fn year_clock(matches: &ArgMatches<'_>) -> Option<Option<LegacyClock>>
     clock(value(matches, "legacy"), zone)
 }
 
-fn dialect(name: &str) -> Option<Dialect>
+/// The dialect with this name, `bsd` or `wide`; None for any other text.
+pub fn dialect(name: &str) -> Option<Dialect>
     ensures { result ≡ dialect_of name.now }
 {
     match name {

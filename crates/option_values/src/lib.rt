@@ -9,6 +9,7 @@ mod numbers;
 mod reading_values;
 mod time_values;
 
+pub use clock_values::{dialect, zone};
 pub use given::{is_given, value, values};
 pub use numbers::{number, optional_number};
 pub use reading_values::reading_of_matches;

@@ -69,6 +69,20 @@ fn the_mask_holds_back_what_is_less_severe(rt: HostRuntime) {
 }
 
 #[test]
+fn the_option_that_is_refused_is_named(rt: HostRuntime) {
+    let mut unknown = options("x");
+    unknown.up_to = "error";
+    let refusal = "error: invalid value for --up-to: expected emerg, alert, crit, err, warning, \
+                   notice, info or debug\n";
+    assert!(rt; gives(&rt, unknown, 2, "", refusal));
+    unknown.up_to = "debug";
+    unknown.severity = "error";
+    let refusal = "error: invalid value for --severity: expected emerg, alert, crit, err, warning, \
+                   notice, info or debug\n";
+    assert!(rt; gives(&rt, unknown, 2, "", refusal));
+}
+
+#[test]
 fn a_line_holds_no_line_feed(rt: HostRuntime) {
     assert!(rt; gives(&rt, options("a\nb"), 1, "", "has-lf\n"));
     let mut counted = options("a\nb");
@@ -88,8 +102,8 @@ fn digits_alone_are_microseconds(rt: HostRuntime) {
     assert!(rt; gives(&rt, some, 0, last, ""));
     some.micros = Some("00000000000000000000000000000000000000001");
     assert!(rt; gives(&rt, some, 0, first, ""));
-    let refusal = "error: --micros is 0 to 253402300799999999 in decimal digits, \
-                   microseconds from 1970-01-01T00:00:00Z\n";
+    let refusal = "error: invalid value for --micros: expected 0 to 253402300799999999 in decimal \
+                   digits, microseconds from 1970-01-01T00:00:00Z\n";
     for micros in ["253402300800000000", "+5", "", "-1", "1 ", "\u{665}"] {
         some.micros = Some(micros);
         assert!(rt; gives(&rt, some, 2, "", refusal));

@@ -23,8 +23,10 @@ use syslog_value::{Facility, Instant, Mask, Priority, Severity, Word, WordFault}
 pub enum Restricted {
     /// `--facility`: the short name of a facility.
     Facility,
-    /// `--severity` or `--up-to`: the short name of a severity.
+    /// `--severity`: the short name of a severity.
     Severity,
+    /// `--up-to`: the short name of a severity.
+    UpTo,
     /// `--host`: a word of at most 255 octets.
     Hostname,
     /// `--app`: a word of at most 48 octets.
@@ -46,30 +48,41 @@ impl Restricted {
     {
         match self {
             Restricted::Facility => {
-                "error: --facility is kern, user, mail, daemon, auth, syslog, lpr, news, uucp, \
-                 cron, authpriv, ftp, ntp, audit, alert, clock or local0 to local7\n"
+                "error: invalid value for --facility: expected kern, user, mail, daemon, auth, \
+                 syslog, lpr, news, uucp, cron, authpriv, ftp, ntp, audit, alert, clock or local0 \
+                 to local7\n"
             }
             Restricted::Severity => {
-                "error: --severity and --up-to are emerg, alert, crit, err, warning, notice, \
-                 info or debug\n"
+                "error: invalid value for --severity: expected emerg, alert, crit, err, warning, \
+                 notice, info or debug\n"
+            }
+            Restricted::UpTo => {
+                "error: invalid value for --up-to: expected emerg, alert, crit, err, warning, \
+                 notice, info or debug\n"
             }
             Restricted::Hostname => {
-                "error: --host is 1 to 255 printable ASCII characters without spaces, and not -\n"
+                "error: invalid value for --host: expected 1 to 255 printable ASCII characters \
+                 without spaces, and not -\n"
             }
             Restricted::AppName => {
-                "error: --app is 1 to 48 printable ASCII characters without spaces, and not -\n"
+                "error: invalid value for --app: expected 1 to 48 printable ASCII characters \
+                 without spaces, and not -\n"
             }
             Restricted::ProcId => {
-                "error: --proc is 1 to 128 printable ASCII characters without spaces, and not -\n"
+                "error: invalid value for --proc: expected 1 to 128 printable ASCII characters \
+                 without spaces, and not -\n"
             }
             Restricted::MsgId => {
-                "error: --msgid is 1 to 32 printable ASCII characters without spaces, and not -\n"
+                "error: invalid value for --msgid: expected 1 to 32 printable ASCII characters \
+                 without spaces, and not -\n"
             }
             Restricted::Micros => {
-                "error: --micros is 0 to 253402300799999999 in decimal digits, \
-                 microseconds from 1970-01-01T00:00:00Z\n"
+                "error: invalid value for --micros: expected 0 to 253402300799999999 in decimal \
+                 digits, microseconds from 1970-01-01T00:00:00Z\n"
             }
-            Restricted::Framing => "error: --framing is counted or lf\n",
+            Restricted::Framing => {
+                "error: invalid value for --framing: expected counted or lf\n"
+            }
         }
     }
 }
@@ -119,13 +132,14 @@ fn facility(name: &str) -> Result<Facility, ValuesFault>
     }
 }
 
-fn severity(name: &str) -> Result<Severity, ValuesFault>
+// The severity with the name that is the value of an option.
+fn severity(name: &str, option: Restricted) -> Result<Severity, ValuesFault>
     ensures ok { IfOk result (λ severity. severity_name severity ≡ name.now) }
     ensures err { OnErr result (IsNoSeverityName name.now) }
 {
     match Severity::from_name(name) {
         Some(severity) => Ok(severity),
-        None => Err(ValuesFault::Refused(Restricted::Severity)),
+        None => Err(ValuesFault::Refused(option)),
     }
 }
 
@@ -198,7 +212,7 @@ fn sender(alloc: Global, options: &SendOptions<'_>) -> Result<Sender, ValuesFaul
     ensures err { IfErr result (λ fault. IsRefusal fault → NameNothing (texts_of options.now)) }
 {
     let facility = facility(options.facility)?;
-    let up_to = severity(options.up_to)?;
+    let up_to = severity(options.up_to, Restricted::UpTo)?;
     let hostname = word(alloc, options.hostname, Restricted::Hostname)?;
     let app_name = word(alloc, options.app_name, Restricted::AppName)?;
     let proc_id = word(alloc, options.proc_id, Restricted::ProcId)?;
@@ -215,7 +229,7 @@ pub fn read_values(alloc: Global, options: &SendOptions<'_>) -> Result<Values, V
 {
     Ok(Values {
         sender: sender(alloc, options)?,
-        severity: severity(options.severity)?,
+        severity: severity(options.severity, Restricted::Severity)?,
         instant: time(options.micros)?,
         msg_id: word(alloc, options.msg_id, Restricted::MsgId)?,
         framing: framing(options.framing)?,

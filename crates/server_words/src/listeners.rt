@@ -60,7 +60,8 @@ fn name_of(option: ListenerOption) -> &'static str
     }
 }
 
-fn inherited(name: &str) -> Option<InheritedKind>
+/// The kind of descriptor with this name, `udp`, `counted` or `lf`; None for any other text.
+pub fn inherited(name: &str) -> Option<InheritedKind>
     ensures { result ≡ inherited_of name.now }
 {
     match name {

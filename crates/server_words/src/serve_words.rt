@@ -10,14 +10,17 @@ use option_values::{is_given, number, optional_number, reading_of_matches, value
 use std::alloc::{AllocError, Global};
 use syslog_legacy::FrameReading;
 
-// The longest time that a connection may be idle, in seconds: a year.
-const IDLE_MAX: u32 = 31_536_000;
+/// How many connections may be open at once at most.
+pub const CONNECTIONS_MAX: u32 = 16_384;
 
-// The longest time before a batch is committed, in milliseconds: an hour.
-const COMMIT_MAX: u32 = 3_600_000;
+/// The longest time that a connection may be idle, in seconds: a year.
+pub const IDLE_MAX: u32 = 31_536_000;
 
-// The largest journal before a checkpoint, in MiB.
-const CHECKPOINT_MAX: u32 = 1_048_576;
+/// The longest time before a batch is committed, in milliseconds: an hour.
+pub const COMMIT_MAX: u32 = 3_600_000;
+
+/// The largest journal before a checkpoint, in MiB.
+pub const CHECKPOINT_MAX: u32 = 1_048_576;
 
 /// What a server is to do.
 #[derive(Clone, Copy, Debug, PartialEq, Eq)]
@@ -54,7 +57,7 @@ pub struct ServeWords<'a> {
 fn options(matches: &ArgMatches<'_>) -> Option<ServeOptions>
     ensures { result ≡ options_in (rows_of (found_of matches.now)) }
 {
-    let connections = number(value(matches, "connections")?, 1, 16_384)?;
+    let connections = number(value(matches, "connections")?, 1, CONNECTIONS_MAX)?;
     let idle_seconds = optional_number(matches, "idle", 1, IDLE_MAX)?;
     let commit_millis = number(value(matches, "commit")?, 0, COMMIT_MAX)?;
     let checkpoint_mib = number(value(matches, "checkpoint")?, 1, CHECKPOINT_MAX)?;
