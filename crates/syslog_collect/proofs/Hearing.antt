@@ -1,7 +1,7 @@
 -- What an observer is told of the frames of a connection.
-use Rattle.std.proofs.Common.{◌≡◌, ◌≤◌, ◌<◌, ℕ, ◌+◌, List, [], ◌∷◌, ◌++◌, length, take, eqb, inl, inr, refl, sym, ◌∙◌}
+use Rattle.std.proofs.Common.{◌≡◌, ◌≤◌, ◌<◌, ℕ, List, [], ◌∷◌, ◌++◌, length, take, inl, inr, refl, sym, ◌∙◌}
 use Rattle.std.proofs.Common.{ap, subst, append_assoc}
-use Rattle.std.specs.Prelude.{◌⊎◌, Option, Some, None, Result, Ok, Err}
+use Rattle.std.specs.Prelude.{◌⊎◌, Option, Some, None, Err}
 use Rattle.std.proofs.lemmas.Bool.Decides.{eqb_tells}
 use Rattle.std.proofs.lemmas.List.{append-nil}
 use Rattle.syslog_frame.specs.Scan.{Scan, HasFrame}
@@ -21,7 +21,7 @@ use Rattle.syslog_collect.specs.Frames.{IsFramesOf}
 use Rattle.syslog_collect.specs.History.{AcceptedEvent, Stream, history_of, stream_of, with_octets}
 use Rattle.syslog_collect.specs.Logs.{ready_count, ready_in, waiting}
 use Rattle.syslog_collect.specs.Numbers.{Becomes, connection_in}
-use Rattle.syslog_collect.specs.Observers.{AreTold, Hears, HearsBy, HearsLog, HearsOctets, HearsPiece, IsTold, IsToldOf}
+use Rattle.syslog_collect.specs.Observers.{AreTold, Hears, HearsBy, HearsLog, HearsPiece, IsTold, IsToldOf}
 use Rattle.syslog_collect.specs.Observers.{TellsFrame, TellsReady}
 use Rattle.syslog_collect.specs.Outcomes.{HandlesReady, IsOutcome, outcomes_of}
 use Rattle.syslog_collect.specs.Runs.{used_before}

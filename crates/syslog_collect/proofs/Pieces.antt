@@ -4,7 +4,7 @@ use Rattle.std.proofs.Common.{◌∙◌, ap, subst, append_assoc, arith}
 use Rattle.std.specs.Prelude.{◌⊎◌, Option, Some, None, Err}
 use Rattle.std.proofs.lemmas.List.{append-nil, length-append, length-drop, length-take, take-append-drop, take_all}
 use Rattle.std.proofs.lemmas.List.{take_rest}
-use Rattle.syslog_frame.specs.Scan.{HasReady, IsFailed, IsReading, Scan}
+use Rattle.syslog_frame.specs.Scan.{HasBadCount, HasReady, IsFailed, IsReading, Scan}
 use Rattle.syslog_frame.specs.declared.phase.Phase.{Phase}
 use Rattle.syslog_frame.specs.declared.phase.Phase.TheVariants.{Counting, Inside, Ended as phase_Ended}
 use Rattle.syslog_frame.specs.declared.phase.Phase.TheVariants.{BadCount as phase_BadCount, Failed}
@@ -22,7 +22,7 @@ use Rattle.syslog_collect.specs.declared.outcome.Outcome.TheVariants.{BadCount}
 use Rattle.syslog_collect.specs.Answers.{IsBadCount, IsUsedWithin, ReportsBadCount, Advances, AdvancesBy}
 use Rattle.syslog_collect.specs.Answers.{accepted_count, dropped_octets}
 use Rattle.syslog_collect.specs.History.{HoldsBadCount, Stream, with_octets}
-use Rattle.syslog_collect.specs.Outcomes.{AreReported, outcomes_of}
+use Rattle.syslog_collect.specs.Outcomes.{AreReported, HandlesReady, outcomes_of}
 use Rattle.syslog_collect.specs.Runs.{Logs, LogsAdvance, AdvancesOrStays, pending, used_before}
 use Rattle.syslog_collect.specs.Standing.{IsAt}
 
@@ -247,16 +247,42 @@ ready_or_not Counting = inr (λ h. elim h [ inl e ↦ absurd (cc) | inr e ↦ ab
 ready_or_not Inside = inr (λ h. elim h [ inl e ↦ absurd (cc) | inr e ↦ absurd (cc) ])
 ready_or_not Failed = inr (λ h. elim h [ inl e ↦ absurd (cc) | inr e ↦ absurd (cc) ])
 
-pub goes_on : (scanner : Scan) (used whole : ℕ) (B : Type 0) → ¬ (IsFailed scanner)
-    → (IsReading scanner → 0 < whole → used ≡ 0 → B) → ¬ B → used < whole → (0 < used) ⊎ HasReady scanner
-goes_on scanner used whole B live stops none lt =
+pub goes_on : (scanner : Scan) (used whole : ℕ) (B : Type 0)
+    → (¬ (HasReady scanner) → 0 < whole → used ≡ 0 → B) → ¬ B → used < whole → (0 < used) ⊎ HasReady scanner
+goes_on scanner used whole B stops none lt =
     elim (ready_or_not scanner.phase) [
       | inl ready ↦ inr ready
       | inr unready ↦
           let some : 0 < whole = omega arith in
-          let never : ¬ (used ≡ 0) = λ e. none (stops (unready, live) some e) in
+          let never : ¬ (used ≡ 0) = λ e. none (stops unready some e) in
           inl (omega (arith, never))
     ]
+
+-- what is met where no octets of a piece are used
+pub met_at_once : (way : FrameReading) (old new : Scan) (a b : List Entry) (used whole : ℕ) (o : Option Outcome)
+    → ¬ (IsFailed old) → (IsReading old → 0 < whole → ¬ (HasBadCount new) → 0 < used) → HandlesReady way new a b o
+    → ¬ (HasReady old) → 0 < whole → used ≡ 0 → IsBadCount o
+met_at_once way old new a b used whole (Some (BadCount at)) live moves handles unready some none = tt
+met_at_once way old new a b used whole None live moves handles unready some none =
+    let lt = moves (unready, live) some (λ (bad : HasBadCount new). elim handles.0 [
+      | inl reading ↦ reading.0 (inr bad)
+      | inr failed ↦ absurd (cc)
+    ]) in absurd (omega (arith, lt, none))
+met_at_once way old new a b used whole (Some New) live moves handles unready some none =
+    let frame = handles.0 in let lt = moves (unready, live) some (λ (bad : HasBadCount new). absurd (cc)) in
+    absurd (omega (arith, lt, none))
+met_at_once way old new a b used whole (Some Held) live moves handles unready some none =
+    let frame = handles.0 in let lt = moves (unready, live) some (λ (bad : HasBadCount new). absurd (cc)) in
+    absurd (omega (arith, lt, none))
+met_at_once way old new a b used whole (Some (Refused fault)) live moves handles unready some none =
+    let frame = handles.0 in let lt = moves (unready, live) some (λ (bad : HasBadCount new). absurd (cc)) in
+    absurd (omega (arith, lt, none))
+met_at_once way old new a b used whole (Some (RefusedLegacy offset)) live moves handles unready some none =
+    let frame = handles.0 in let lt = moves (unready, live) some (λ (bad : HasBadCount new). absurd (cc)) in
+    absurd (omega (arith, lt, none))
+met_at_once way old new a b used whole (Some TooLong) live moves handles unready some none =
+    let frame = handles.0 in let lt = moves (unready, live) some (λ (bad : HasBadCount new). absurd (cc)) in
+    absurd (omega (arith, lt, none))
 
 -- what is used of a rest is used of the piece
 pub within_rest : (piece : List ℕ) (n m : ℕ) → n ≤ length piece → m < length (take (length piece - n) (drop n piece))

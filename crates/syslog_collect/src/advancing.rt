@@ -1,7 +1,7 @@
 //! What a connection does with a piece.
 
 ghost use Rattle.std.specs.Prelude.{◌≡◌, ◌<◌, ◌≤◌, ℕ, List, IfOk, OnErr, OnOk, length};
-ghost use Rattle.syslog_frame.specs.Scan.{HasFrame, HasReady, IsFailed, IsReading};
+ghost use Rattle.syslog_frame.specs.Scan.{HasFrame, HasReady};
 ghost use Rattle.syslog_collect.specs.Answers.{AdvancesBy, IfMemory, IfRefused};
 ghost use Rattle.syslog_collect.specs.Answers.{IsBadCount, IsCause, IsTaken, IsUsedWithin};
 ghost use Rattle.syslog_collect.specs.Answers.{accepted_octets, answered, dropped_octets};
@@ -32,9 +32,8 @@ pub fn advance_connection<S: Store, O: Observer>(
     // How much is taken, and that each call comes closer to the end of the piece.
     ensures within { IsUsedWithin piece.now result }
     ensures settled { OnOk result (¬ (HasReady connection.new.scanner)) }
-    ensures progress { IfOk result (λ a. IsReading connection.old.scanner → 0 < length piece.now
+    ensures progress { IfOk result (λ a. ¬ (HasReady connection.old.scanner) → 0 < length piece.now
         → a.used ≡ 0 → IsBadCount a.outcome) }
-    ensures live { OnOk result (¬ (IsFailed connection.old.scanner)) }
     ensures number { connection.new.number ≡ connection.old.number }
     // Where memory was refused, the frame stays ready, and the store is what it was.
     ensures waits { IfMemory result (HasFrame connection.new.scanner) }

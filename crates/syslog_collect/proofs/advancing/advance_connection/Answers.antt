@@ -2,6 +2,7 @@ use Rattle.std.proofs.Common.{◌+◌, length, inl, refl, arith}
 use Rattle.syslog_collect.proofs.Hearing.{hears_advanced, hears_waiting}
 use Rattle.syslog_collect.proofs.Moving.{advanced, good_unless_failed, pushed, released, too_long, waiting}
 use Rattle.syslog_collect.proofs.Moving.{waiting_record}
+use Rattle.syslog_collect.proofs.Pieces.{met_at_once}
 use Rattle.syslog_collect.proofs.Taking.{ends_frame, in_turn, some_taken, stops_right}
 use Rattle.syslog_collect.proofs.Waiting.{ready_none}
 use Rattle.syslog_collect.proofs.advancing.advance_connection.Goals as goal
@@ -59,8 +60,11 @@ returns-clause-drops g c s handled at =
     c.in-Ok-handle_ready.ensures.handles
     (released _ _ c.release.result r.value r.same r.frame r.failed r.reads) (λ lt. (lt, omega arith)) at
 
-pub returns-clause-live : goal.returns-clause-live
-returns-clause-live g c = λ f. let e = c.in-Ok.ensures.failed.1 f in absurd (cc)
+pub returns-clause-progress : goal.returns-clause-progress
+returns-clause-progress g c =
+    met_at_once c.args.reading c.args.connection.now.scanner c.push.new.self _ _ c.in-Ok.used _
+    c.in-Ok-handle_ready.outcome (λ f. let e = c.in-Ok.ensures.failed.1 f in absurd (cc)) c.in-Ok.ensures.progress
+    c.in-Ok-handle_ready.ensures.handles
 
 pub returns-in-Err-StreamTooLong-clause-taken : goal.returns-in-Err-StreamTooLong-clause-taken
 returns-in-Err-StreamTooLong-clause-taken g c s handled at =

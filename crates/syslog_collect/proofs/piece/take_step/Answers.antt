@@ -49,7 +49,7 @@ pub returns-clause-progress : goal.returns-clause-progress
 returns-clause-progress g c =
     let stops = c.in-Ok.ensures.progress in
     goes_on c.args.connection.now.scanner c.in-Ok.advance.used (length c.args.rest.now)
-    (IsBadCount c.in-Ok.advance.outcome) c.in-Ok.ensures.live stops
+    (IsBadCount c.in-Ok.advance.outcome) stops
     (λ bad. not_both c.is_bad_count.result (c.is_bad_count.ensures.1 bad) c.if-is_bad_count.false) (omega arith)
 
 pub returns-clause-accepted : goal.returns-clause-accepted
