@@ -1,5 +1,5 @@
 // Package syslogbox reads and writes syslog records (RFC 5424), frames of streams (RFC 6587), legacy packets
-// (RFC 3164) and archives by libsyslogbox, which pkg-config has to find.
+// (RFC 3164) and archives, by libsyslogbox, which pkg-config has to find.
 package syslogbox
 
 /*
@@ -41,7 +41,7 @@ const (
 	NoParam      Kind = C.SYSLOGBOX_NO_PARAM
 )
 
-// The fields of RFC 5424, section 6, and which of two archives.
+// The fields of RFC 5424, section 6, and the names of the two archives.
 const (
 	NoField             Field = C.SYSLOGBOX_NO_FIELD
 	FieldPriority       Field = C.SYSLOGBOX_PRIORITY
@@ -138,7 +138,7 @@ func text(room int, call writing) ([]byte, error) {
 	return out[:n], nil
 }
 
-// Check gives nil where the octets are a record of RFC 5424, else a *Fault.
+// Check returns nil if the octets are a record of RFC 5424, and a *Fault otherwise.
 func Check(record []byte) error {
 	var fault C.struct_syslogbox_fault
 	if C.syslogbox_check(octets(record), C.size_t(len(record)), &fault) == 1 {
@@ -147,7 +147,7 @@ func Check(record []byte) error {
 	return faultOf(&fault)
 }
 
-// Canonical gives the one canonical form of the record.
+// Canonical returns the one canonical form of the record.
 func Canonical(record []byte) ([]byte, error) {
 	return text(2*len(record)+7, func(out *C.uint8_t, room C.size_t, fault *C.struct_syslogbox_fault) C.int64_t {
 		return C.syslogbox_canonical(octets(record), C.size_t(len(record)), out, room, fault)
@@ -162,7 +162,7 @@ func number(n int) C.int {
 	return C.int(n)
 }
 
-// Legacy gives the canonical form of the record that a packet is read as, in a year and so many minutes ahead of UTC.
+// Legacy returns the canonical form of the record that a packet is read as, in a year and so many minutes ahead of UTC.
 func Legacy(year, offsetMinutes int, packet []byte) ([]byte, error) {
 	return text(2*len(packet)+64, func(out *C.uint8_t, room C.size_t, fault *C.struct_syslogbox_fault) C.int64_t {
 		year, minutes := number(year), number(offsetMinutes)
@@ -170,14 +170,14 @@ func Legacy(year, offsetMinutes int, packet []byte) ([]byte, error) {
 	})
 }
 
-// Union gives the archive of the records of two archives.
+// Union returns the archive of the records of two archives.
 func Union(left, right []byte) ([]byte, error) {
 	return text(len(left)+len(right), func(out *C.uint8_t, room C.size_t, fault *C.struct_syslogbox_fault) C.int64_t {
 		return C.syslogbox_union(octets(left), C.size_t(len(left)), octets(right), C.size_t(len(right)), out, room, fault)
 	})
 }
 
-// Param is a parameter of an element, by what its value means.
+// Param is a parameter of an element, with its value unescaped.
 type Param struct{ Name, Value string }
 
 // Element is an element of the structured data.
@@ -197,7 +197,7 @@ type Record struct {
 	Message                          []byte // without the BOM
 }
 
-// Time gives the instant in UTC; false where the record has none.
+// Time returns the instant in UTC, and false if the record has none.
 func (r *Record) Time() (time.Time, bool) {
 	return time.UnixMicro(r.Micros).UTC(), r.HasTime
 }
@@ -230,7 +230,7 @@ func element(record []byte, n int) (Element, error) {
 	return e, nil
 }
 
-// View gives the parts of the record, its elements in the order of the octets.
+// View returns the parts of the record, its elements in the order of the octets.
 func View(record []byte) (*Record, error) {
 	var p C.struct_syslogbox_parts
 	var fault C.struct_syslogbox_fault
@@ -253,15 +253,15 @@ func View(record []byte) (*Record, error) {
 	return r, nil
 }
 
-// CountError says that no count of a frame goes on with an octet: its offset in the piece.
+// CountError says which octet cannot belong to the count of a frame, by its offset in the piece.
 type CountError struct{ Offset int }
 
 func (e *CountError) Error() string {
 	return fmt.Sprintf("syslogbox: no count goes on with octet %d", e.Offset)
 }
 
-// Next gives the next frame of a stream that begins with the piece, and how many octets it takes; 0 where none is whole
-// yet, and a *CountError where no frame begins so.
+// Next returns the next frame of a stream that begins with the piece, and how many octets it takes: 0 if none is whole
+// yet. The error is a *CountError if no frame begins so.
 func Next(framing Framing, piece []byte) (frame []byte, taken int, err error) {
 	var start, end C.size_t
 	n := C.syslogbox_frame(C.int(framing), octets(piece), C.size_t(len(piece)), &start, &end)
@@ -276,8 +276,8 @@ func Next(framing Framing, piece []byte) (frame []byte, taken int, err error) {
 	return piece[start:end], int(n), nil
 }
 
-// Split gives a function by which a bufio.Scanner goes over the frames of a stream; its Buffer sets how long one may
-// be. A stream that ends inside a frame is io.ErrUnexpectedEOF.
+// Split returns a function by which a bufio.Scanner goes over the frames of a stream; its Buffer sets how long one may
+// be. If the stream ends inside a frame, the error is io.ErrUnexpectedEOF.
 func Split(framing Framing) bufio.SplitFunc {
 	return func(piece []byte, atEnd bool) (int, []byte, error) {
 		frame, taken, err := Next(framing, piece)

@@ -1,6 +1,6 @@
 """Builds the wheel of syslogbox.py (PEP 517) by Python alone, so that `pip install ./python` needs no network.
 
-The library that `make lib` has built, or that is beside it in the tarball, goes into it; without one the system's is used.
+The library that `make lib` has built, or that is in the tarball, goes into it; if there is none, the system's is used.
 """
 import base64
 import hashlib

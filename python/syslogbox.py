@@ -9,8 +9,9 @@ Traceback (most recent call last):
     ...
 syslogbox.RecordError: a syntax error in the version at octet 4
 
-Octets are `bytes`; offsets count them from 0. What is refused raises an exception that tells the kind, the field and
-the octet. The library is found by the variable SYSLOGBOX_LIBRARY, beside this file, or by the system.
+Octets are `bytes`; offsets count them from 0. What is refused raises an exception with the kind, the field and the
+octet. The library is the one that the environment variable SYSLOGBOX_LIBRARY names, or the one beside this file, or the
+system's.
 """
 from __future__ import annotations
 
@@ -117,15 +118,15 @@ class SyslogError(ValueError):
 
 
 class RecordError(SyslogError):
-    """Octets are no record of RFC 5424."""
+    """Octets are not a record of RFC 5424."""
 
 
 class PacketError(SyslogError):
-    """A packet is no legacy record, or there is no such clock."""
+    """A packet is not a legacy record, or the year or the offset from UTC is out of range."""
 
 
 class ArchiveError(SyslogError):
-    """A text is no archive; `field` says which of the two."""
+    """Octets are not an archive; `field` says which of the two."""
 
 
 class StreamError(SyslogError):
@@ -218,10 +219,10 @@ def is_record(record: bytes) -> bool:
 
 
 def check(record: bytes) -> None:
-    """Nothing, where the octets are a record of RFC 5424.
+    """Returns nothing if the octets are a record of RFC 5424.
 
-    Raises RecordError, with the field and the octet, where they are none. Many records are checked faster by `check_all`
-    or `check_stream`.
+    Raises RecordError, with the field and the octet, if they are not. `check_all` and `check_stream` check many records
+    faster.
     """
     size = len(record)
     if not (_check_short if size < _SHORT else _check)(record, size, None):
@@ -229,7 +230,7 @@ def check(record: bytes) -> None:
 
 
 def _refusal(record: bytes) -> RecordError:
-    """Why octets are no record."""
+    """Why octets are not a record."""
     fault = _Fault()
     _check(record, len(record), ctypes.byref(fault))
     return RecordError(fault.kind, fault.field, fault.offset)
@@ -242,7 +243,7 @@ def canonical(record: bytes) -> bytes:
 
 @dataclass(frozen=True)
 class Element:
-    """An element of the structured data: its id, and its parameters in order. A name may stand there twice."""
+    """An element of the structured data: its id, and its parameters in order. A name may occur twice."""
 
     id: str
     params: Tuple[Tuple[str, str], ...] = ()
@@ -275,16 +276,16 @@ class Record:
 
     @property
     def time(self) -> Optional[datetime]:
-        """The instant in UTC. Raises OverflowError in the year 0, which `datetime` has not."""
+        """The instant in UTC. Raises OverflowError in the year 0, which `datetime` does not have."""
         return None if self.micros is None else _EPOCH + timedelta(microseconds=self.micros)
 
     @property
     def text(self) -> str:
-        """The message as text; octets that are no UTF-8 are replaced."""
+        """The message as text; octets that are not UTF-8 are replaced."""
         return self.message.decode("utf-8", "replace")
 
     def asdict(self) -> Dict[str, Any]:
-        """The parts by the keys of `syslogbox show --json`, with the instant in microseconds as `micros`."""
+        """The parts under the keys of `syslogbox show --json`, with the instant in microseconds as `micros`."""
         data = {element.id: [list(param) for param in element.params] for element in self.elements}
         return {"priority": self.priority, "facility": self.facility, "severity": self.severity, "micros": self.micros,
                 "host": self.hostname, "app": self.app_name, "proc": self.proc_id, "msgid": self.msg_id, "data": data,
@@ -331,8 +332,8 @@ def view(record: bytes) -> Record:
 def legacy(packet: bytes, year: int, offset_minutes: int = 0) -> bytes:
     """The canonical form of the record that a packet is read as.
 
-    A packet that begins as RFC 5424 does is read by that standard, any other by RFC 3164 in this year, from 1 to 9998,
-    so many minutes ahead of UTC. Raises RecordError for the first, PacketError for the others.
+    A packet that begins as RFC 5424 requires is read by that standard, any other by RFC 3164, with times of this year,
+    from 1 to 9998, this many minutes ahead of UTC. Raises RecordError for the former, PacketError for the latter.
     """
     limits = -2 ** 31, 2 ** 31 - 1
     year, offset_minutes = (min(max(number, limits[0]), limits[1]) for number in (year, offset_minutes))
@@ -378,7 +379,7 @@ class _Stream:
         self.held, self.before = self.held[count:], self.before + count
 
     def pass_over(self, count: Optional[int]) -> bool:
-        """Goes over so many octets, or a line where no count is given; and gives whether they came."""
+        """Skips so many octets, or a line if no count is given; returns whether they came."""
         while True:
             ends = self.held.find(b"\n") + 1 if count is None else count
             if 0 < ends <= len(self.held):
@@ -392,7 +393,7 @@ class _Stream:
 
 
 def _address(octets: bytes) -> int:
-    """Where octets stand in memory, as long as they are held."""
+    """Where octets are in memory, as long as they are held."""
     return ctypes.cast(_OCTETS(octets), _POINTER).value or 0
 
 
@@ -413,9 +414,10 @@ def frames(file: BinaryIO, framing: Framing = Framing.COUNTED, *, longest: int =
            too_long: Optional[Callable[[int], object]] = None, piece: int = 65_536) -> Iterator[bytes]:
     """The frames of a stream, each as it comes.
 
-    `file` has `read1` or `read`, as a file, a pipe or `socket.makefile("rb")`. Of a frame of more than `longest` octets
-    `too_long` is told the position, and the next one follows. Raises StreamError, with the position, where no frame
-    goes on, where the stream ends inside one, and for one that is too long where there is no `too_long`.
+    `file` has `read1` or `read`, like a file, a pipe or `socket.makefile("rb")`. For a frame of more than `longest` octets
+    `too_long` is called with its position, and the next one follows. Raises StreamError, with the position, if there is
+    no count where a frame should begin, if the stream ends inside a frame, and for a frame that is too long if there is
+    no `too_long`.
     """
     stream = _Stream(file, piece)
     framing = Framing(framing)
@@ -448,11 +450,11 @@ def frames(file: BinaryIO, framing: Framing = Framing.COUNTED, *, longest: int =
 
 
 def check_stream(stream: bytes, framing: Framing = Framing.COUNTED) -> Iterator[Tuple[int, RecordError]]:
-    """Of each frame that is no record its number, from 1 on, and why.
+    """For each frame that is not a record, its number, from 1 on, and why.
 
     It is `check` for the frames of a whole stream, and several times as fast, since one call passes over all records up to
-    the next frame that is none. A frame of any length is read. Raises StreamError, with the position, where no frame goes
-    on or the stream ends inside one.
+    the next frame that is not one. A frame of any length is read. Raises StreamError, with the position, if there is no
+    count where a frame should begin, or if the stream ends inside a frame.
     """
     count, start, end = ctypes.c_size_t(), ctypes.c_size_t(), ctypes.c_size_t()
     framing, address = Framing(framing), _address(stream)
@@ -471,9 +473,9 @@ def check_stream(stream: bytes, framing: Framing = Framing.COUNTED) -> Iterator[
 
 
 def check_all(records: Iterable[bytes]) -> Iterator[Tuple[int, RecordError]]:
-    """Of each that is no record its index, from 0 on, and why.
+    """For each that is not a record, its index, from 0 on, and why.
 
-    It is `check` for many, and some three times as fast, since one call goes over hundreds of them.
+    It is `check` for many records, and some three times as fast, since one call goes over hundreds of them.
 
     >>> [(index, error.offset) for index, error in check_all([b"<0>1 - - - - - -", b"<0>1"])]
     [(1, 4)]
@@ -489,7 +491,7 @@ def check_all(records: Iterable[bytes]) -> Iterator[Tuple[int, RecordError]]:
 
 
 def _refused(batch: List[bytes]) -> Iterator[Tuple[int, RecordError]]:
-    """Of each that is no record its index, and why."""
+    """For each that is not a record, its index, and why."""
     framing, stream, count = Framing.LF, b"\n".join([*batch, b""]), ctypes.c_size_t()
     passed = _pass(framing, stream, len(stream), ctypes.byref(count))
     if passed == len(stream) and count.value == len(batch):
@@ -520,7 +522,7 @@ class Formatter(logging.Formatter):
     """Log records as canonical records of RFC 5424.
 
     The level gives the severity, `created` the time in UTC, the process the PROCID and the logger's name the MSGID;
-    the message is UTF-8 behind the BOM (6.4). A log record's `structured_data`, a mapping of ids to mappings of names
+    the message is UTF-8 after the BOM (6.4). A log record's `structured_data`, a mapping of ids to mappings of names
     to values, given as `extra`, becomes the elements. Octets that a field cannot have become `_`.
     """
 
@@ -561,8 +563,8 @@ class Formatter(logging.Formatter):
 class Handler(logging.Handler):
     """Writes log records as canonical records of RFC 5424 into a binary file, framed.
 
-    `file` has `write`, as a file or `socket.makefile("wb")`, and is flushed after each record where it has `flush`. A
-    `framing` of None writes bare octets by one `write` each, as a datagram socket's `makefile("wb", buffering=0)` wants
+    `file` has `write`, like a file or `socket.makefile("wb")`, and is flushed after each record if it has `flush`. A
+    `framing` of None writes bare octets, one `write` a record, as a datagram socket's `makefile("wb", buffering=0)` needs
     them.
     """
 
