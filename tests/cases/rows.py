@@ -88,10 +88,10 @@ REPORTED = b"1 syntax priority 0\n2 syntax priority 0\n3 too-long\n"
 
 # what options take, as a line on another value says
 SEVERITIES = "emerg, alert, crit, err, warning, notice, info or debug"
-ADDRESS = "an address and a port, as 127.0.0.1:514 or [::1]:514"
+ADDRESS = "an address and a port, such as 127.0.0.1:514 or [::1]:514"
 TAKES = {
     "--framing": "datagram, counted or lf", "--to": "counted or lf", "--memory": "a number from 1 to 1048576",
-    "--legacy": "a year from 1 to 9998", "--zone": "E or W, then hours and minutes in two digits each, as E0130",
+    "--legacy": "a year from 1 to 9998", "--zone": "E or W, then hours and minutes in two digits each, such as E0130",
     "--dialect": "bsd or wide", "--severity": SEVERITIES,
     "--facility": "kern, user, mail, daemon, auth, syslog, lpr, news, uucp, cron, authpriv, ftp, ntp, audit, alert, clock or "
                   "local0 to local7",
@@ -99,7 +99,7 @@ TAKES = {
     "--connections": "a number from 1 to 16384", "--idle": "a number from 1 to 31536000",
     "--commit": "a number from 0 to 3600000", "--checkpoint": "a number from 1 to 1048576",
 }
-TIME = "a time of RFC 5424 in the years 0 to 9999 of UTC, as 2026-11-25T10:00:00Z"
+TIME = "a time of RFC 5424 in the years 0 to 9999 of UTC, such as 2026-11-25T10:00:00Z"
 
 
 def invalid(option, value, takes=None):

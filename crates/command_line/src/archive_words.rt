@@ -40,8 +40,7 @@ fn archive_command<'a>(alloc: Global) -> Result<Command<'a>, AllocError>
 {
     let about = "Write the records as an archive: each once, in its canonical form, in one order";
     let archive = input_command(alloc, "archive", about)?;
-    let help =
-        "Folder for what does not fit in memory, in files that are unlinked while they are open";
+    let help = "Folder for what does not fit in memory; its files are unlinked while open";
     let archive = with_arg(archive, told_option(alloc, "spill", help))?;
     let help = "MiB of memory for the records, with --spill: 1 to 1048576";
     with_arg(archive, default_option(alloc, "memory", "256", help))
@@ -52,7 +51,8 @@ fn migrate_command<'a>(alloc: Global) -> Result<Command<'a>, AllocError>
     ensures app { IfOk result (λ c. app_of c ≡ migrate_app) }
     ensures local { IfOk result (λ c. (fields_of c).has_globals ≡ false) }
 {
-    let about = "Write the archive of an old one, whose elements are in the order of the octets";
+    let about =
+        "Write the archive of the records of an old one, whose elements are in the order in which they came";
     with_arg(
         command(alloc, "migrate", about),
         positional(alloc, "FILE", "File of an old archive"),

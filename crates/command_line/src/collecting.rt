@@ -27,10 +27,10 @@ pub fn collect_command<'a>(alloc: Global) -> Result<Command<'a>, AllocError>
         "collect",
         "Receive records on 127.0.0.1 and write them as an archive",
     );
-    let help = "How they come: udp, or counted or lf over TCP";
+    let help = "udp, or counted or lf (both over TCP)";
     let collect = with_arg(collect, positional(alloc, "TRANSPORT", help))?;
     let collect = with_arg(collect, positional(alloc, "PORT", "Port: 1 to 65535"))?;
-    let help = "How many datagrams (1 to 1000000) or connections (1 to 100000) are received";
+    let help = "Number of datagrams (1 to 1000000) or connections (1 to 100000) to receive";
     let collect = with_arg(collect, positional(alloc, "COUNT", help))?;
     with_reading(alloc, collect)
 }

@@ -20,7 +20,7 @@ pub fn digest_command<'a>(alloc: Global) -> Result<Command<'a>, AllocError>
     ensures local { IfOk result (λ c. (fields_of c).has_globals ≡ false) }
 {
     let about = "Write a line for each period of an archive: its records, octets and SHA-256";
-    let help = "How long the periods are: month, day or hour";
+    let help = "Length of the periods: month, day or hour";
     with_arg(
         command(alloc, "digest", about),
         default_option(alloc, "by", "day", help),

@@ -63,7 +63,7 @@ fn check_command<'a>(alloc: Global) -> Result<Command<'a>, AllocError>
 {
     let about = "Say for each frame whether it is a record, and if not, where it stops being one";
     let help =
-        "At the end, tell how many packets were legacy, and how many of them lacked a time or a host";
+        "At the end, print how many packets were legacy, and how many of these had no time or no host";
     with_arg(
         input_command(alloc, "check", about)?,
         flag(alloc, "summary", help),

@@ -15,12 +15,13 @@ fn with_legacy<'a>(alloc: Global, command: Command<'a>) -> Result<Command<'a>, A
     ensures app { IfOk result (λ c. app_of c ≡ with_legacy_rules (app_of command.entry)) }
     ensures local { IfOk result (λ c. (fields_of c).has_globals ≡ false) }
 {
-    let help = "Read legacy packets (RFC 3164) too, in this year: 1 to 9998";
+    let help = "Also read legacy packets (RFC 3164), with times of this year: 1 to 9998";
     let command = with_arg(command, told_option(alloc, "legacy", help))?;
-    let help = "Zone of their times: E (ahead of UTC) or W (behind), hours and minutes, as E0130";
+    let help =
+        "Offset of their times from UTC: E (ahead) or W (behind), hours and minutes, such as E0130";
     let command = with_arg(command, default_option(alloc, "zone", "E0000", help))?;
     let help =
-        "How they are spelled: bsd (RFC 3164) or wide (also as devices and programs send them)";
+        "Dialect of legacy packets: bsd (RFC 3164) or wide (also what many devices and programs send)";
     with_arg(command, default_option(alloc, "dialect", "bsd", help))
 }
 

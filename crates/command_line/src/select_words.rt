@@ -25,7 +25,7 @@ pub(crate) fn with_range<'a>(alloc: Global, select: Command<'a>) -> Result<Comma
     ensures app { IfOk result (λ c. app_of c ≡ with_range_rules (app_of select.entry)) }
     ensures local { IfOk result (λ c. (fields_of c).has_globals ≡ false) }
 {
-    let help = "Records at or after this time (RFC 5424, as 2026-11-25T10:00:00Z)";
+    let help = "Records at or after this time of RFC 5424, such as 2026-11-25T10:00:00Z";
     let select = with_arg(select, told_option(alloc, "from", help))?;
     with_arg(select, told_option(alloc, "to", "Records before this time"))
 }
@@ -37,7 +37,7 @@ fn with_times<'a>(alloc: Global, select: Command<'a>) -> Result<Command<'a>, All
     ensures local { IfOk result (λ c. (fields_of c).has_globals ≡ false) }
 {
     let select = with_range(alloc, select)?;
-    let help = "Also records without a time, beside those of --from and --to";
+    let help = "Also records without a time, which --from and --to leave out";
     let select = with_arg(select, flag(alloc, "undated", help))?;
     let help = "Only records without a time";
     with_arg(select, flag(alloc, "only-undated", help))

@@ -28,7 +28,7 @@ fn with_addresses<'a>(alloc: Global, serve: Command<'a>) -> Result<Command<'a>, 
     ensures app { IfOk result (λ c. app_of c ≡ with_address_rules (app_of serve.entry)) }
     ensures local { IfOk result (λ c. (fields_of c).has_globals ≡ false) }
 {
-    let help = "Receive datagrams on ADDR:PORT, as 127.0.0.1:514 or [::1]:514";
+    let help = "Receive datagrams on ADDR:PORT, such as 127.0.0.1:514 or [::1]:514";
     let serve = with_arg(serve, list_option(alloc, "udp", help))?;
     let help = "Accept connections on ADDR:PORT whose frames are counted";
     let serve = with_arg(serve, list_option(alloc, "counted", help))?;
@@ -46,7 +46,7 @@ fn with_sockets<'a>(alloc: Global, serve: Command<'a>) -> Result<Command<'a>, Al
     let help = "Receive datagrams on a socket at this path";
     let serve = with_arg(serve, list_option(alloc, "unix", help))?;
     let help =
-        "Take the next descriptor handed over, from 3 on, as a socket of this kind: udp, counted or lf";
+        "Use the next inherited descriptor, from 3 on, as a socket of this kind: udp, counted or lf";
     with_arg(serve, list_option(alloc, "inherited", help))
 }
 
@@ -59,9 +59,10 @@ fn with_limits<'a>(alloc: Global, serve: Command<'a>) -> Result<Command<'a>, All
     let help = "Connections that may be open at once: 1 to 16384";
     let serve = with_arg(serve, default_option(alloc, "connections", "1024", help))?;
     let help =
-        "Seconds without an octet before a connection is closed: 1 to 31536000 [default: never]";
+        "Seconds without an octet after which a connection is closed: 1 to 31536000 [default: never]";
     let serve = with_arg(serve, told_option(alloc, "idle", help))?;
-    let help = "Milliseconds within which a record is committed: 0 to 3600000";
+    let help =
+        "Milliseconds within which a record is committed: 0 (before the next read) to 3600000";
     let serve = with_arg(serve, default_option(alloc, "commit", "1000", help))?;
     let help = "MiB that a journal may reach before a checkpoint: 1 to 1048576";
     with_arg(serve, default_option(alloc, "checkpoint", "64", help))

@@ -34,7 +34,7 @@ fn union_command<'a>(alloc: Global) -> Result<Command<'a>, AllocError>
 fn with_part_commands<'a>(alloc: Global, line: Command<'a>) -> Result<Command<'a>, AllocError>
     ensures { IfOk result (λ c. app_of c ≡ with_part_commands (app_of line.entry)) }
 {
-    let about = "Write the archive of the records that both of two archives have";
+    let about = "Write the archive of the records that two archives both have";
     let common = two_files_command(alloc, "common", about)?;
     let line = with_command(line, common)?;
     let about = "Write the archive of the records of one archive that another lacks";

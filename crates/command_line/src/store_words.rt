@@ -37,7 +37,7 @@ fn read_command<'a>(alloc: Global) -> Result<Command<'a>, AllocError>
 {
     let about = "Write the archive of the records that a store holds";
     let read = with_range(alloc, folder_command(alloc, "read", about)?)?;
-    let help = "Also records without a time, beside those of --from and --to";
+    let help = "Also records without a time, which --from and --to leave out";
     with_arg(read, flag(alloc, "undated", help))
 }
 
@@ -46,7 +46,7 @@ pub fn with_store_commands<'a>(alloc: Global, line: Command<'a>) -> Result<Comma
     ensures { IfOk result (λ c. app_of c ≡ with_store_commands (app_of line.entry)) }
 {
     let line = with_command(line, read_command(alloc)?)?;
-    let about = "Read all of a store and write a line for each of its files that is damaged";
+    let about = "Read a whole store and write a line for each damaged file";
     let verify = folder_command(alloc, "verify", about)?;
     let about = "Join the segments of each day of a store that has more than eight";
     let compact = folder_command(alloc, "compact", about)?;

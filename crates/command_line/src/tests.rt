@@ -618,7 +618,7 @@ const REFUSED_FRAMES: [(&[&str], &str); 9] = [
     (
         &["check", "--dialect=x", "--zone=E2400"],
         "error: invalid value 'E2400' for --zone: expected E or W, then hours and minutes in two \
-        digits each, as E0130\n",
+        digits each, such as E0130\n",
     ),
     (
         &["archive", "--memory=0", "--dialect=Wide"],
@@ -646,12 +646,12 @@ const REFUSED_TIMES: [(&[&str], &str); 7] = [
     (
         &["select", "--to=-", "--facility=x"],
         "error: invalid value '-' for --to: expected a time of RFC 5424 in the years 0 to 9999 of \
-        UTC, as 2026-11-25T10:00:00Z\n",
+        UTC, such as 2026-11-25T10:00:00Z\n",
     ),
     (
         &["read", "d", "--to=now", "--from=then"],
         "error: invalid value 'then' for --from: expected a time of RFC 5424 in the years 0 to 9999 \
-        of UTC, as 2026-11-25T10:00:00Z\n",
+        of UTC, such as 2026-11-25T10:00:00Z\n",
     ),
     (
         &["select", "--severity", "error", "--facility", "x"],
@@ -680,7 +680,7 @@ const REFUSED_TIMES: [(&[&str], &str); 7] = [
             "--from=2026-11-25T10:00:00Z",
         ],
         "error: invalid value '' for --to: expected a time of RFC 5424 in the years 0 to 9999 of \
-        UTC, as 2026-11-25T10:00:00Z\n",
+        UTC, such as 2026-11-25T10:00:00Z\n",
     ),
 ];
 
@@ -711,17 +711,17 @@ const REFUSED_SOCKETS: [(&[&str], &str); 14] = [
     ),
     (
         &["serve", "d", "--idle=0", "--udp=[::1]:514", "--udp=514"],
-        "error: invalid value '514' for --udp: expected an address and a port, as 127.0.0.1:514 \
+        "error: invalid value '514' for --udp: expected an address and a port, such as 127.0.0.1:514 \
         or [::1]:514\n",
     ),
     (
         &["serve", "d", "--lf=::1:514", "--counted=localhost:514"],
-        "error: invalid value 'localhost:514' for --counted: expected an address and a port, as \
+        "error: invalid value 'localhost:514' for --counted: expected an address and a port, such as \
         127.0.0.1:514 or [::1]:514\n",
     ),
     (
         &["serve", "d", "--lf", ""],
-        "error: invalid value '' for --lf: expected an address and a port, as 127.0.0.1:514 or \
+        "error: invalid value '' for --lf: expected an address and a port, such as 127.0.0.1:514 or \
         [::1]:514\n",
     ),
     (

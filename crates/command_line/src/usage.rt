@@ -151,10 +151,10 @@ fn expected(alloc: Global, kind: Kind) -> Result<String, AllocError> {
         Kind::InputFraming => "datagram, counted or lf",
         Kind::Framing => "counted or lf",
         Kind::Year => "a year from 1 to 9998",
-        Kind::Zone => "E or W, then hours and minutes in two digits each, as E0130",
+        Kind::Zone => "E or W, then hours and minutes in two digits each, such as E0130",
         Kind::Dialect => "bsd or wide",
         Kind::Time => {
-            "a time of RFC 5424 in the years 0 to 9999 of UTC, as 2026-11-25T10:00:00Z"
+            "a time of RFC 5424 in the years 0 to 9999 of UTC, such as 2026-11-25T10:00:00Z"
         }
         Kind::Severity => "emerg, alert, crit, err, warning, notice, info or debug",
         Kind::Facility => {
@@ -163,7 +163,7 @@ fn expected(alloc: Global, kind: Kind) -> Result<String, AllocError> {
         }
         Kind::Period => "month, day or hour",
         Kind::Transport | Kind::Inherited => "udp, counted or lf",
-        Kind::Address => "an address and a port, as 127.0.0.1:514 or [::1]:514",
+        Kind::Address => "an address and a port, such as 127.0.0.1:514 or [::1]:514",
         Kind::Number(first, last) => {
             return format!(in alloc; "a number from {first} to {last}");
         }
