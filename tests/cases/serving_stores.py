@@ -288,12 +288,12 @@ def folders(runs):
     for command in "read", "verify":
         for path in without, file:
             status, output, notes = runs.program.run([command, str(path)])
-            right = (status, output) == (2, b"") and notes.startswith(b"no store: ")
+            right = (status, output) == (2, b"") and notes.startswith(b"not a store: ")
             runs.results.check(f"{command} of no store", right, str(notes))
         store = runs.store()
         store.mkdir()
         runs.results.same(f"{command} of an empty folder", runs.program.run([command, str(store)]),
-                          (2, b"", b"no store: no journal in it\n"))
+                          (2, b"", b"not a store: it has neither a journal nor a segment\n"))
 
 
 # values that an option does not take

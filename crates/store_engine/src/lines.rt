@@ -86,7 +86,7 @@ pub enum NoStore {
     #[error("{0}")]
     System(io::Error),
     /// It has neither a journal nor a segment.
-    #[error("no journal in it")]
+    #[error("it has neither a journal nor a segment")]
     NoFiles,
 }
 
@@ -95,7 +95,7 @@ pub enum NoStore {
 pub fn report_no_store<N: Output>(alloc: Global, why: &NoStore, diagnostics: &mut N) -> u8
     ensures { (result ≡ FAULT) ⊎ (result ≡ NO_MEMORY) }
 {
-    match format!(in alloc; "no store: {why}\n") {
+    match format!(in alloc; "not a store: {why}\n") {
         Ok(line) => report(diagnostics, line.as_bytes(), FAULT),
         Err(_) => report(diagnostics, b"want of memory\n", NO_MEMORY),
     }

@@ -102,7 +102,7 @@ pub fn report_read_fault<N: Output>(alloc: Global, fault: &ReadFault, diagnostic
         ReadFault::Open { name, fault } => report_opening(alloc, name, *fault, diagnostics),
         ReadFault::Read { name, fault } => report_input(alloc, name, *fault, diagnostics),
         ReadFault::Folder { fault } => report_folder(*fault, diagnostics),
-        ReadFault::Gone => report(diagnostics, b"folder changes\n", FAULT),
+        ReadFault::Gone => report(diagnostics, b"the folder keeps changing\n", FAULT),
         ReadFault::TooManyDays => report(diagnostics, b"too many days\n", FAULT),
         ReadFault::Write => report(diagnostics, b"write fault\n", FAULT),
         ReadFault::Memory => report(diagnostics, b"want of memory\n", NO_MEMORY),

@@ -151,7 +151,7 @@ fn report_compact_fault<N: Output>(
         CompactFault::Write { name, fault } => {
             report_disk_fault(alloc, disk, name.as_octets(), fault, diagnostics)
         }
-        CompactFault::Day => report(diagnostics, b"no name of a day\n", FAULT),
+        CompactFault::Day => report(diagnostics, b"the name of a segment has no day\n", FAULT),
     }
 }
 
