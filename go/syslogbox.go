@@ -64,8 +64,8 @@ const (
 )
 
 var kinds = map[Kind]string{
-	Syntax: "syntax", InstantRange: "instant out of range", RepeatedID: "repeated id", NotUTF8: "no UTF-8",
-	BadFrame: "bad frame", EntryTooLong: "entry too long", BadEntry: "entry that is no record",
+	Syntax: "syntax", InstantRange: "instant out of range", RepeatedID: "repeated id", NotUTF8: "not UTF-8",
+	BadFrame: "bad frame", EntryTooLong: "entry too long", BadEntry: "entry that is not a record",
 	NotCanonical: "entry that is not canonical", NotAscending: "entry that does not ascend", NoRoom: "no room",
 	NoMemory: "no memory", BadClock: "bad clock", NoElement: "no such element", NoParam: "no such parameter",
 }
@@ -257,7 +257,7 @@ func View(record []byte) (*Record, error) {
 type CountError struct{ Offset int }
 
 func (e *CountError) Error() string {
-	return fmt.Sprintf("syslogbox: no count goes on with octet %d", e.Offset)
+	return fmt.Sprintf("syslogbox: octet %d cannot belong to a count", e.Offset)
 }
 
 // Next returns the next frame of a stream that begins with the piece, and how many octets it takes: 0 if none is whole

@@ -6,14 +6,14 @@
  *
  * For every call:
  * - `len` octets can be read at its pointer, and `room` octets written at `out`. They do not overlap, nor with the
- *   structs. A pointer may be null where its length is 0. Lengths are below 2^63.
- * - `fault` may be null, where the caller needs no reason. It is written where the call fails, and left alone where it
- *   does not. A call that fails leaves `out`, `parts`, `element` and `param` as they were.
+ *   structs. A pointer may be null if its length is 0. Lengths are below 2^63.
+ * - `fault` may be null if the caller needs no reason. It is written if the call fails, and left alone otherwise. A call
+ *   that fails leaves `out`, `parts`, `element` and `param` as they were.
  * - Offsets and lengths count octets, from 0 on.
  * - syslogbox_check, _view, _element, _param, _frame and _pass take no memory. The others call malloc, and fail with
- *   SYSLOGBOX_NO_MEMORY where it fails.
+ *   SYSLOGBOX_NO_MEMORY if it fails.
  * - On the stack a record of up to 2,000 octets took less than 32 KiB, one of 262,144 octets less than 2 MiB, and longer
- *   ones less than 4 MiB: most of it where there are thousands of elements. A thread with less room may overflow.
+ *   ones less than 4 MiB: most of it if there are thousands of elements. A thread with less room may overflow.
  */
 #ifndef SYSLOGBOX_H
 #define SYSLOGBOX_H
@@ -38,11 +38,11 @@ enum syslogbox_kind {
                                      before the offset, and none with one more */
     SYSLOGBOX_INSTANT_RANGE = 2,  /* the timestamp there names an instant before the year 0 or after 9999 */
     SYSLOGBOX_REPEATED_ID = 3,    /* the element's id there is that of an earlier one (6.3.2) */
-    SYSLOGBOX_NOT_UTF8 = 4,       /* a legacy packet's message starts with the BOM, and is no UTF-8 there */
-    SYSLOGBOX_BAD_FRAME = 5,      /* of an archive, `field` says which: no count goes on with the octet there; or its
-                                     length, where it ends inside an entry */
+    SYSLOGBOX_NOT_UTF8 = 4,       /* a legacy packet's message starts with the BOM, and is not UTF-8 there */
+    SYSLOGBOX_BAD_FRAME = 5,      /* of an archive, `field` says which: the octet there cannot belong to a count; or
+                                     its length, if it ends inside an entry */
     SYSLOGBOX_ENTRY_TOO_LONG = 6, /* the entry there has more than SYSLOGBOX_ENTRY_MAX octets */
-    SYSLOGBOX_BAD_ENTRY = 7,      /* the entry there is no record: syslogbox_check of its octets says why */
+    SYSLOGBOX_BAD_ENTRY = 7,      /* the entry there is not a record: syslogbox_check of its octets says why */
     SYSLOGBOX_NOT_CANONICAL = 8,  /* the entry there is a record, and not in its canonical form */
     SYSLOGBOX_NOT_ASCENDING = 9,  /* the entry there is not above the one before it */
     SYSLOGBOX_NO_ROOM = 10,       /* the room is too small: `offset` octets are needed */
@@ -87,7 +87,7 @@ struct syslogbox_parts {
     uint32_t has_time;  /* 1 or 0 */
     uint32_t facility;  /* 0 to 23 */
     uint32_t severity;  /* 0, the most severe, to 7 */
-    uint32_t has_bom;   /* 1 where the message starts with the BOM, and so is UTF-8 */
+    uint32_t has_bom;   /* 1 if the message starts with the BOM, and so is UTF-8 */
     struct syslogbox_span hostname, app_name, proc_id, msg_id;
     struct syslogbox_span structured_data; /* as it is spelled: "-", or the elements */
     size_t elements;                       /* how many there are: syslogbox_element shows each */
@@ -158,15 +158,15 @@ int64_t syslogbox_value(const uint8_t *raw, size_t len, uint8_t *out, size_t roo
  *   0       none is whole yet: call again with more octets behind these. Where the count of a frame was read, it begins
  *           at *start and will end at *end, beyond the piece; else both are 0. A caller that keeps octets from others
  *           sets a limit of its own: a count may say up to 9,999,999,999, and a line has no end.
- *   -1      no frame begins so: no count goes on with the octet at *start, which is *end too (octet counting alone).
+ *   -1      no frame begins so: the octet at *start, which is *end too, cannot belong to a count (octet counting alone).
  *   -2      there is no such framing, and nothing was written.
  */
 int64_t syslogbox_frame(int framing, const uint8_t *piece, size_t len, size_t *start, size_t *end);
 
 /*
  * Passes over the frames at the front of `piece` that are records, as by syslogbox_frame and syslogbox_check: returns how
- * many octets of the stream they take, and *count is how many they are. What follows is a frame that is no record, or no
- * whole frame. -2 where there is no such framing, and nothing was written.
+ * many octets of the stream they take, and *count is how many they are. What follows is a frame that is not a record, or
+ * no whole frame. -2 if there is no such framing, and nothing was written.
  */
 int64_t syslogbox_pass(int framing, const uint8_t *piece, size_t len, size_t *count);
 

@@ -16,7 +16,7 @@ version=$(sh scripts/version.sh)
 day=$(sed -n "s/^## $version (\(.*\))\$/\1/p" CHANGELOG.md)
 [ -n "$day" ] || die "CHANGELOG.md has no entry '## $version (YEAR-MONTH-DAY)'."
 [ "$(cat release/SOURCES)" = "$(sh scripts/sources.sh)" ] ||
-    die "release/ was built from other sources: 'make release' writes it anew."
+    die "release/ was built from other sources: run 'make proved', then 'make release'."
 : "${SOURCE_DATE_EPOCH:=$(date -d "$day" +%s)}"
 export SOURCE_DATE_EPOCH
 

@@ -13,5 +13,5 @@ cp release/SOURCES build/syslogbox.sources
 echo "build/syslogbox is linked from release/: proved by $(cat release/KIT),"
 echo "and built from the sources $(cat release/SOURCES)"
 if [ "$(cat release/SOURCES)" != "$sources" ]; then
-    echo "The sources as they are, $sources, are others: 'make proved' proves and builds them."
+    echo "These sources ($sources) are different: 'make proved' proves and builds them."
 fi

@@ -55,7 +55,7 @@ def first(room, results):
     with open(folder / SOURCE, "a", encoding="utf-8") as source:
         source.write("// changed\n")
     status, said = run(["make"], cwd=folder, env=only)
-    results.check("make says that the sources are others", status == 0 and "'make proved' proves and builds them" in said, said)
+    results.check("make says that the sources are different", status == 0 and "'make proved' proves and builds them" in said, said)
     other_machine(folder, only, results)
 
 
