@@ -16,6 +16,16 @@ pub record IsBatch (es : List Entry) (body : List ℕ) : Type 0 where
   pub fits : AllByRecursion (λ e. length e.octets ≤ ENTRY_MAX) es
   pub text : body ≡ text_of es
 
+-- octets are those of some batch
+abbrev pub IsReadable : List ℕ → Type 0
+IsReadable body = (es : List Entry) × IsBatch es body
+
+-- each batch of a journal's file is one of entries
+pub record IsWholeJournal (file : List ℕ) : Type 0 where
+  pub bodies : List (List ℕ)
+  pub batches : HasBatches file bodies
+  pub readable : AllByRecursion IsReadable bodies
+
 -- the entry is one of a batch
 pub record BatchHas (body : List ℕ) (e : Entry) : Type 0 where
   pub entries : List Entry

@@ -36,6 +36,10 @@ pub record IsSegmentOf (day text : List ℕ) (es : List Entry) : Type 0 where
   pub text_is : text ≡ text_of es
   pub days : AllByRecursion (IsIn Day day) es
 
+-- a text is the archive of some entries of a day
+abbrev pub IsArchiveOfDay : List ℕ → List ℕ → Type 0
+IsArchiveOfDay day text = (es : List Entry) × IsSegmentOf day text es
+
 -- What a crash may leave under a name holds no other entries than these: so it is where a file of the name has the octets
 -- that its name says, unless SHA-256 collides, and where there is none.
 abbrev pub HoldsNoMore : State → List ℕ → List Entry → Type 0
