@@ -8,6 +8,7 @@ use Rattle.serve_engine.specs.Intakes.{StandsBy}
 use Rattle.serve_engine.specs.Keepings.{Kept, StaysCommitted}
 use Rattle.serve_engine.specs.Serving.{HoldsReceived, IfCommitted, IfSettled, IsCause, Manner, Served, UnlessMemory}
 use Rattle.serve_engine.specs.Serving.{UnlessStopped, is_due, manner_of}
+use Rattle.serve_engine.specs.declared.counts.ServeCounts.{ServeCounts}
 use Rattle.serve_engine.specs.declared.intake.Intake.{Intake}
 use Rattle.serve_engine.specs.declared.serve_end.ServeEnd.{ServeEnd}
 use Rattle.serve_engine.specs.declared.serve_end.ServeEnd.TheVariants.{Finished, Source, Disk, Memory, Endless}
@@ -18,6 +19,10 @@ use Rattle.serve_engine.specs.declared.turn.Turn.TheVariants.{On, End}
 -- its collector and what keeps its records
 abbrev pub intake_of : {S K N R : Type 0} → Server S K N R → Intake S K
 intake_of server = server.intake
+
+-- what it has counted
+abbrev pub counts_of : {S K N R : Type 0} → Server S K N R → ServeCounts
+counts_of server = server.report.counts
 
 -- its disk was full at the last try
 abbrev pub is_full : {S K N R : Type 0} → Server S K N R → Bool

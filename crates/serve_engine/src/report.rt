@@ -1,6 +1,6 @@
 //! What a server tells: lines, counts, and the frames that it refuses.
-ghost use Rattle.std.specs.Prelude.{◌≡◌, ◌≤◌, ◌+◌, ◌-◌, ◌^◌, min, true};
-ghost use Rattle.serve_engine.specs.Refusals.{KeepsFrame, KeepsNext, is_kept, kept_in, octets_in};
+ghost use Rattle.std.specs.Prelude.{◌≡◌, ◌≤◌, ◌+◌, ◌-◌, ◌^◌, min};
+ghost use Rattle.serve_engine.specs.Refusals.{KeepsEach, KeepsFrame, KeepsNext, KeepsNone, kept_in, octets_in};
 
 use crate::counts::ServeCounts;
 use crate::keeping::Taken;
@@ -78,7 +78,9 @@ impl<N: Output + Drop, R: Output + Drop> Report<N, R> {
     }
 
     /// Tells what happened to a connection.
-    pub(crate) fn tell(&mut self, alloc: Global, way: Way, happening: Happening) {
+    pub(crate) fn tell(&mut self, alloc: Global, way: Way, happening: Happening)
+        ensures { KeepsNone (kept_in R.state self.old) (kept_in R.state self.new) }
+    {
         self.line.clear();
         let made = put_happening(alloc, &mut self.line, way, happening);
         self.write_line(made);
@@ -166,8 +168,8 @@ impl<N: Output + Drop, R: Output + Drop> Report<N, R> {
         outcome: Outcome,
         frame: Option<&[u8]>,
     )
-        ensures kept { is_kept outcome ≡ true → KeepsFrame (R.state self.old.refused)
-            (R.state self.new.refused) (octets_in frame.entry) self.old.counts.dropped self.new.counts.dropped }
+        ensures kept { KeepsNext (kept_in R.state self.old) outcome (octets_in frame.entry)
+            (kept_in R.state self.new) }
     {
         self.count(outcome);
         let number = self.number;
@@ -188,7 +190,10 @@ impl<N: Output + Drop, R: Output + Drop> Report<N, R> {
         way: Way,
         outcomes: &[Outcome],
         datagram: &[u8],
-    ) {
+    )
+        ensures kept { KeepsEach datagram.now outcomes.now (kept_in R.state self.old)
+            (kept_in R.state self.new) }
+    {
         for outcome in outcomes {
             self.outcome(alloc, way, *outcome, Some(datagram));
         }

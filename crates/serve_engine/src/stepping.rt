@@ -2,12 +2,11 @@
 ghost use Rattle.std.specs.Prelude.{◌≡◌, ◌⊎◌, ◌++◌, Bool, List, false};
 ghost use Rattle.archive_text.specs.Entries.{Entry};
 ghost use Rattle.socket_source.specs.Steps.{Closes};
-ghost use Rattle.syslog_collect.specs.Collectors.{NoneWaits, waits_of};
+ghost use Rattle.syslog_collect.specs.Collectors.{NoneWaits};
 ghost use Rattle.syslog_collect.specs.History.{AcceptedEvent, Datagram, Ended, Opened, Piece};
-ghost use Rattle.syslog_collect.specs.History.{history_of, stream_of};
 ghost use Rattle.serve_engine.specs.Intakes.{StandsBy};
 ghost use Rattle.serve_engine.specs.Keepings.{Kept};
-ghost use Rattle.serve_engine.specs.Refusals.{KeepsFrames, kept_in};
+ghost use Rattle.serve_engine.specs.Refusals.{KeepsRefused, kept_in};
 ghost use Rattle.serve_engine.specs.Serving.{Accepts, ClosesLost, CommitsAll, EndsUnlessFull, FaultsAs, IfSettled};
 ghost use Rattle.serve_engine.specs.Serving.{IsCommitTurn, IsEventTurn, Receives, UnlessStopped, bad_last};
 ghost use Rattle.serve_engine.specs.Serving.{ends_in_bad_count, manner_of, turn_of};
@@ -126,11 +125,8 @@ impl<S: Store + Drop, K: Keeping<S> + Drop, N: Output + Drop, R: Output + Drop> 
     ) -> Turn
         ensures served { (lost : Bool) × ClosesLost lost (Q.state source.old) (Q.state source.new) conn
             × Accepts S.entries K.stands self.old.intake self.new.intake (Piece conn octets.now) lost result }
-        ensures kept { (k : Kept) (first : List Entry) (before : List AcceptedEvent)
-            → StandsBy S.entries K.stands self.old.intake k first before
-            → KeepsFrames (stream_of conn (history_of before).streams) octets.now
-            (waits_of self.old.intake.collector conn) (kept_in R.state self.old.report)
-            (kept_in R.state self.new.report) }
+        ensures kept { KeepsRefused S.entries K.stands self.old.intake self.new.intake (Piece conn octets.now) result
+            (kept_in R.state self.old.report) (kept_in R.state self.new.report) }
         ensures manner { manner_of self.new.intake.collector ≡ manner_of self.old.intake.collector }
         ensures full { self.new.full ≡ self.old.full }
         ensures turn { IsEventTurn result }
@@ -176,6 +172,8 @@ impl<S: Store + Drop, K: Keeping<S> + Drop, N: Output + Drop, R: Output + Drop> 
     ) -> Turn
         ensures served { Accepts S.entries K.stands self.old.intake self.new.intake
             (Datagram octets.now) false result }
+        ensures kept { KeepsRefused S.entries K.stands self.old.intake self.new.intake (Datagram octets.now) result
+            (kept_in R.state self.old.report) (kept_in R.state self.new.report) }
         ensures manner { manner_of self.new.intake.collector ≡ manner_of self.old.intake.collector }
         ensures full { self.new.full ≡ self.old.full }
         ensures turn { IsEventTurn result }
