@@ -87,14 +87,18 @@ impl<N: Output + Drop, R: Output + Drop> Report<N, R> {
     }
 
     /// Tells a line whose text is known.
-    pub(crate) fn tell_text(&mut self, text: &[u8]) {
+    pub(crate) fn tell_text(&mut self, text: &[u8])
+        ensures { KeepsNone (kept_in R.state self.old) (kept_in R.state self.new) }
+    {
         self.line.clear();
         let made = self.line.extend_from_slice(text);
         self.write_line(made);
     }
 
     /// Tells the counts.
-    pub(crate) fn tell_counts(&mut self) {
+    pub(crate) fn tell_counts(&mut self)
+        ensures { KeepsNone (kept_in R.state self.old) (kept_in R.state self.new) }
+    {
         self.line.clear();
         let made = put_counts(&mut self.line, &self.counts);
         self.write_line(made);
@@ -209,13 +213,9 @@ impl<N: Output + Drop, R: Output + Drop> Report<N, R> {
     }
 
     /// Tells how a connection ended.
-    pub(crate) fn ended(
-        &mut self,
-        alloc: Global,
-        way: Way,
-        received: Received,
-        end: ConnectionEnd,
-    ) {
+    pub(crate) fn ended(&mut self, alloc: Global, way: Way, received: Received, end: ConnectionEnd)
+        ensures { KeepsNone (kept_in R.state self.old) (kept_in R.state self.new) }
+    {
         if let Received::Unterminated { start } = received {
             count_up(&mut self.counts.broken, 1);
             self.tell(alloc, way, Happening::Unterminated(start));
@@ -228,21 +228,27 @@ impl<N: Output + Drop, R: Output + Drop> Report<N, R> {
     }
 
     /// Tells that the disk is full, unless it was full before.
-    pub(crate) fn tell_full(&mut self, before: bool) {
+    pub(crate) fn tell_full(&mut self, before: bool)
+        ensures { KeepsNone (kept_in R.state self.old) (kept_in R.state self.new) }
+    {
         if !before {
             self.tell_text(b"store full\n");
         }
     }
 
     /// Tells how serving ends.
-    pub(crate) fn tell_end(&mut self, end: ServeEnd) {
+    pub(crate) fn tell_end(&mut self, end: ServeEnd)
+        ensures { KeepsNone (kept_in R.state self.old) (kept_in R.state self.new) }
+    {
         if let ServeEnd::Source(_) = end {
             self.tell_text(b"source fault\n");
         }
     }
 
     /// Counts a connection.
-    pub(crate) fn count_connection(&mut self) {
+    pub(crate) fn count_connection(&mut self)
+        ensures { KeepsNone (kept_in R.state self.old) (kept_in R.state self.new) }
+    {
         count_up(&mut self.counts.connections, 1);
     }
 
@@ -255,7 +261,9 @@ impl<N: Output + Drop, R: Output + Drop> Report<N, R> {
     }
 
     /// Counts what was handed over and committed.
-    pub(crate) fn committed(&mut self, taken: Taken) {
+    pub(crate) fn committed(&mut self, taken: Taken)
+        ensures { KeepsNone (kept_in R.state self.old) (kept_in R.state self.new) }
+    {
         count_up(&mut self.counts.new, taken.new);
         count_up(&mut self.counts.held, taken.held);
         count_up(&mut self.counts.batches, 1);
