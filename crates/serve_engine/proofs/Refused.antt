@@ -6,10 +6,11 @@ use Rattle.std.proofs.lemmas.List.{append-nil, append_cancel_left, take-append-d
 use Rattle.archive_text.specs.Entries.{Entry}
 use Rattle.octet_devices.specs.Device.{OutputState}
 use Rattle.syslog_frame.specs.Frames.{Frames}
-use Rattle.syslog_frame.proofs.FrameLaws.{begun_frames, unique_frames}
+use Rattle.syslog_frame.proofs.FrameLaws.{bad_longer, begun_frames, unique_frames}
 use Rattle.syslog_legacy.specs.declared.frame_reading.FrameReading.{FrameReading}
 use Rattle.syslog_collect.specs.Frames.{IsFramesOf}
-use Rattle.syslog_collect.specs.History.{AcceptedEvent, History, Piece, Stream, history_of, stream_of, with_octets}
+use Rattle.syslog_collect.specs.History.{AcceptedEvent, History, HoldsBadCount, Piece, Stream, history_of, stream_of}
+use Rattle.syslog_collect.specs.History.{with_octets}
 use Rattle.syslog_collect.specs.Logs.{LogsOctets}
 use Rattle.syslog_collect.specs.Observers.{AreTold, HearsOctets, HearsPiece, IsTold}
 use Rattle.syslog_collect.specs.Outcomes.{AreReported, IsReported}
@@ -262,6 +263,30 @@ kept_whole way c octets h w waits os x y none (a, b, log) (n, told, heard, same)
         kept_octets way s octets n (w c) waits a b os outs x y none logs hears
         (subst (λ (u : List Outcome). (os ≡ u) ⊎ (os ≡ [])) is same)
 
+-- behind a bad count
+kept_behind : (c : ℕ) (octets : List ℕ) (h : History) (w : ℕ → ℕ) (waits : ℕ) (os : List Outcome)
+    (x y : OutputState × ℕ) → w c ≡ 0 → IsSomeAnd (stream_of c h.streams) HoldsBadCount
+    → HearsReceived KeepsNext (stream_of c h.streams) octets (w c) waits os x y → KeepsNone x y
+kept_behind c octets h w waits os x y none bad (n, told, heard, same) = at (stream_of c h.streams) bad heard
+  where
+    at : (q : Option Stream) → IsSomeAnd q HoldsBadCount
+        → HearsPiece KeepsNext q (take n octets) (w c) waits [] told x y → KeepsNone x y
+    at None bad hears = absurd bad
+    at (Some s) (frames, rest, place, bad) (outs, is, hears) =
+        let before : hears.waiting_before ≡ [] = empty hears.waiting_before (hears.count_before ∙ none) in
+        let were : IsFramesOf s hears.handled = subst (λ (u : List (List ℕ)). IsFramesOf s u)
+        (append-nil hears.handled)
+        (subst (λ (u : List (List ℕ)). IsFramesOf s (hears.handled ++ u)) before hears.before) in
+        let handled : hears.handled ≡ frames = (unique_frames s.framing s.octets hears.handled frames were.0 rest were.1
+        bad.frames_are).0 in
+        let longer = bad_longer s.framing s.octets (take n octets) frames rest place bad in
+        let now : hears.handled ++ (hears.fresh ++ hears.waiting_now) ≡ frames =
+        (unique_frames s.framing (s.octets ++ take n octets)
+        (hears.handled ++ (hears.fresh ++ hears.waiting_now)) frames hears.now.0 (rest ++ take n octets) hears.now.1 longer.frames_are).0 in
+        let more : [] ≡ hears.fresh ++ hears.waiting_now = append_cancel_left hears.handled []
+        (hears.fresh ++ hears.waiting_now) (append-nil hears.handled ∙ handled ∙ sym now) in
+        silent x y hears.fresh outs (first_empty hears.fresh hears.waiting_now more) hears.told
+
 -- what was kept of a piece, by what was accepted of it
 pub kept_frames : {way : Manner} {before here : List AcceptedEvent} {c : ℕ} {octets : List ℕ} {lost : Bool}
     {turn : Turn} (taken : IsAccepted way before (Piece c octets) here lost turn) (x y : OutputState × ℕ)
@@ -270,6 +295,7 @@ pub kept_frames : {way : Manner} {before here : List AcceptedEvent} {c : ℕ} {o
 kept_frames {way = way} {before = before} {c = c} {octets = octets} taken x y heard = record {
   told = heard;
   whole = λ own. by_answer taken.received taken.own own taken.is.4;
+  passed = λ own accepted. behind taken.received taken.own own accepted taken.is.4;
 }
   where
     by_answer : (r : Received) (own : List AcceptedEvent) → own ≡ Piece c octets ∷ []
@@ -282,6 +308,16 @@ kept_frames {way = way} {before = before} {c = c} {octets = octets} taken x y he
     by_answer (received.Unterminated start) own is (all, outcomes, waits, inside) = absurd inside
     by_answer received.Refused own is (none, outcomes, why) = absurd (cc)
     by_answer received.Memory own is part = tt
+
+    behind : (r : Received) (own : List AcceptedEvent) → own ≡ [] → r ≡ received.Accepted
+        → ReceivesAs way.reading (history_of before) taken.is.0 taken.is.1 (Piece c octets) r taken.outcomes own
+        → KeepsNone x y
+    behind received.Accepted own is accepted (inl (all, log, waits, whole)) = absurd (cc)
+    behind received.Accepted own is accepted (inr (none, outcomes, waits, bad)) =
+        kept_behind c octets (history_of before) taken.is.0 (taken.is.1 c) taken.outcomes x y (taken.is.2 c) bad heard
+    behind (received.Unterminated start) own is accepted part = absurd (cc)
+    behind received.Refused own is accepted part = absurd (cc)
+    behind received.Memory own is accepted part = absurd (cc)
 
 -- ---- a datagram
 

@@ -5,6 +5,7 @@ use Rattle.std.specs.Io.KnownBytes.{Appends}
 use Rattle.archive_text.specs.Entries.{Entry}
 use Rattle.octet_devices.specs.Device.{OutputState}
 use Rattle.collect_engine.specs.Receiving.{HearsReceived, IfNotMemory}
+use Rattle.collect_engine.specs.declared.receiving.Received.TheVariants as received
 use Rattle.syslog_collect.specs.Collectors.{NoneWaits}
 use Rattle.syslog_collect.specs.History.{AcceptedEvent, Opened, Piece, Ended, Datagram, Stream, history_of, stream_of}
 use Rattle.syslog_collect.specs.Observers.{HearsPiece}
@@ -72,7 +73,8 @@ abbrev pub KeepsPiece : Option Stream → List ℕ → List Outcome → OutputSt
 KeepsPiece stream octets outcomes old new = (between : OutputState × ℕ)
     × HearsPiece KeepsNext stream octets 0 0 [] outcomes old between × KeepsNone between new
 
--- of what was accepted of a piece, the frames were whose outcomes it has; where all of it was, these are its frames
+-- of what was accepted of a piece, the frames were whose outcomes it has; where all of it was, these are its frames;
+-- where it was passed over, none was
 pub record KeepsFrames {way : Manner} {before : List AcceptedEvent} {c : ℕ} {octets : List ℕ}
     {here : List AcceptedEvent} {lost : Bool} {turn : Turn}
     (taken : IsAccepted way before (Piece c octets) here lost turn) (old new : OutputState × ℕ) : Type 0 where
@@ -80,6 +82,7 @@ pub record KeepsFrames {way : Manner} {before : List AcceptedEvent} {c : ℕ} {o
       taken.outcomes old new
   pub whole : taken.own ≡ Piece c octets ∷ [] → IfNotMemory taken.received (KeepsPiece
       (stream_of c (history_of before).streams) octets taken.outcomes old new)
+  pub passed : taken.own ≡ [] → taken.received ≡ received.Accepted → KeepsNone old new
 
 -- of what was accepted of an event: of a datagram it is the whole; an opening and an end have no frame
 abbrev pub KeepsEvent : {way : Manner} {before here : List AcceptedEvent} {lost : Bool} {turn : Turn}

@@ -71,12 +71,15 @@ returns-in-Failed-clause-served g c = (
 )
 
 pub returns-in-Opened-clause-kept : goal.returns-in-Opened-clause-kept
-returns-in-Opened-clause-kept g c = kept_step _ _ _ _ _ (Opened c.in-Opened.conn c.in-Opened.framing) _ _ _ (rw c.in-Opened.is refl)
-    (kept_none _ _ _ _ (Opened c.in-Opened.conn c.in-Opened.framing) _ _ _ _ (λ way before here taken. c.opened.ensures.kept) c.opened.ensures.served.2)
+returns-in-Opened-clause-kept g c =
+    kept_step _ _ _ _ _ (Opened c.in-Opened.conn c.in-Opened.framing) _ _ _ (rw c.in-Opened.is refl)
+    (kept_none _ _ _ _ (Opened c.in-Opened.conn c.in-Opened.framing) _ _ _ _
+    (λ way before here taken. c.opened.ensures.kept) c.opened.ensures.served.2)
 
 pub returns-in-Ended-clause-kept : goal.returns-in-Ended-clause-kept
 returns-in-Ended-clause-kept g c = kept_step _ _ _ _ _ (Ended c.in-Ended.conn) _ _ _ (rw c.in-Ended.is refl)
-    (kept_none _ _ _ _ (Ended c.in-Ended.conn) _ _ _ _ (λ way before here taken. c.ended.ensures.kept) c.ended.ensures.served)
+    (kept_none _ _ _ _ (Ended c.in-Ended.conn) _ _ _ _ (λ way before here taken. c.ended.ensures.kept)
+    c.ended.ensures.served)
 
 pub returns-in-Piece-clause-kept : goal.returns-in-Piece-clause-kept
 returns-in-Piece-clause-kept g c = kept_step _ _ _ _ _ _ _ _ _ (rw c.in-Piece.is refl) c.piece.ensures.kept
