@@ -30,7 +30,7 @@ use Rattle.serve_engine.specs.declared.turn.Turn.TheVariants.{On, End}
 -- ---- one event
 
 -- what a collector makes of an event is accepted, where its connection is not lost
-pub accepted_own : (way : Manner) (before : List AcceptedEvent) (e : AcceptedEvent) (r : Received)
+abbrev pub accepted_own : (way : Manner) (before : List AcceptedEvent) (e : AcceptedEvent) (r : Received)
     (os : List Outcome) (own : List AcceptedEvent) (turn : Turn) → IsReceivedAs way before e r os own
     → loses e r os ≡ false → turn ≡ turn_of r → IsAccepted way before e own false turn
 accepted_own way before e r os own turn is kept on = record {
@@ -60,7 +60,7 @@ accepted_none way before c k r os own turn is lost on = record {
 }
 
 -- with the end of a connection that is lost
-pub accepted_closing : (way : Manner) (before : List AcceptedEvent) (c : ℕ) (o : List ℕ) (r : Received)
+abbrev pub accepted_closing : (way : Manner) (before : List AcceptedEvent) (c : ℕ) (o : List ℕ) (r : Received)
     (os : List Outcome) (own closing : List AcceptedEvent) (turn : Turn) → IsReceivedAs way before (Piece c o) r os own
     → loses_piece r os ≡ true → Receives way (before ++ own) (Ended c) closing turn
     → IsAccepted way before (Piece c o) (own ++ closing) true turn

@@ -1,6 +1,7 @@
 pub mod Keepings
 pub mod Lines
 pub mod Refusals
+pub mod Counts
 pub mod Intakes
 pub mod Serving
 pub mod Servers

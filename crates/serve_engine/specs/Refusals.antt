@@ -1,12 +1,24 @@
 -- Frames that are refused, as they are kept.
-use Rattle.std.specs.Prelude.{◌≡◌, ◌⊎◌, ◌-◌, ◌^◌, ◌<◌, ℕ, List, ◌++◌, length, codes, decimal, Bool, true, false, Option, Some, None}
+use Rattle.std.specs.Prelude.{◌≡◌, ◌⊎◌, ◌-◌, ◌^◌, ◌<◌, ◌≤◌, ℕ, List, [], ◌∷◌, ◌++◌, length, codes, decimal}
+use Rattle.std.specs.Prelude.{Bool, true, false, Option, Some, None}
 use Rattle.std.specs.Io.KnownBytes.{Appends}
+use Rattle.archive_text.specs.Entries.{Entry}
 use Rattle.octet_devices.specs.Device.{OutputState}
-use Rattle.collect_engine.specs.Receiving.{HearsReceived}
-use Rattle.syslog_collect.specs.History.{Stream}
+use Rattle.collect_engine.specs.Receiving.{HearsReceived, IfNotMemory}
+use Rattle.collect_engine.specs.declared.receiving.Received.TheVariants as received
+use Rattle.syslog_collect.specs.Collectors.{NoneWaits}
+use Rattle.syslog_collect.specs.History.{AcceptedEvent, Opened, Piece, Ended, Datagram, Stream, history_of, stream_of}
+use Rattle.syslog_collect.specs.Observers.{HearsPiece}
 use Rattle.syslog_collect.specs.declared.outcome.Outcome.{Outcome}
-use Rattle.syslog_collect.specs.declared.outcome.Outcome.TheVariants.{New, Held, Refused, RefusedLegacy, TooLong, BadCount}
+use Rattle.syslog_collect.specs.declared.outcome.Outcome.TheVariants.{New, Held, Refused, RefusedLegacy, TooLong}
+use Rattle.syslog_collect.specs.declared.outcome.Outcome.TheVariants.{BadCount}
+use Rattle.socket_source.specs.Steps.{Given, SourceState}
+use Rattle.serve_engine.specs.Intakes.{StandsBy}
+use Rattle.serve_engine.specs.Keepings.{Kept}
+use Rattle.serve_engine.specs.Serving.{GivesStep, IsAccepted, Manner, event_of, manner_of}
+use Rattle.serve_engine.specs.declared.intake.Intake.{Intake}
 use Rattle.serve_engine.specs.declared.report.Report.{Report}
+use Rattle.serve_engine.specs.declared.turn.Turn.{Turn}
 use denote.Bor.{Bor}
 
 -- a counted frame
@@ -23,25 +35,24 @@ abbrev pub refusal_text : List ℕ → Option (List ℕ) → List ℕ
 refusal_text line None = line
 refusal_text line (Some frame) = line ++ (codes "\n" ++ frame)
 
--- the frame is kept octet for octet
-abbrev pub is_kept : Outcome → Bool
-is_kept New = false
-is_kept Held = false
-is_kept (Refused fault) = true
-is_kept (RefusedLegacy offset) = true
-is_kept TooLong = false
-is_kept (BadCount at) = false
-
 -- a frame was written behind a line; or it was dropped, and counted
 abbrev pub KeepsFrame : OutputState → OutputState → Option (List ℕ) → ℕ → ℕ → Type 0
 KeepsFrame old new frame dropped dropped_new =
     ((line : List ℕ) × Appends old.taken new.taken (counted_text (refusal_text line frame)))
     ⊎ ((dropped < dropped_new) ⊎ (dropped_new ≡ 2 ^ 64 - 1))
 
--- the frame of an outcome was, if it is kept
+-- nothing was, though lines may have been dropped
+abbrev pub KeepsNone : OutputState × ℕ → OutputState × ℕ → Type 0
+KeepsNone old new = (new.0 ≡ old.0) × (old.1 ≤ new.1)
+
+-- by its outcome a frame was kept with its octets, or, where it is too long, a line alone; else nothing was
 abbrev pub KeepsOutcome : OutputState → OutputState → Outcome → Option (List ℕ) → ℕ → ℕ → Type 0
-KeepsOutcome old new outcome frame dropped dropped_new =
-    is_kept outcome ≡ true → KeepsFrame old new frame dropped dropped_new
+KeepsOutcome old new New frame dropped dropped_new = KeepsNone (old, dropped) (new, dropped_new)
+KeepsOutcome old new Held frame dropped dropped_new = KeepsNone (old, dropped) (new, dropped_new)
+KeepsOutcome old new (Refused fault) frame dropped dropped_new = KeepsFrame old new frame dropped dropped_new
+KeepsOutcome old new (RefusedLegacy offset) frame dropped dropped_new = KeepsFrame old new frame dropped dropped_new
+KeepsOutcome old new TooLong frame dropped dropped_new = KeepsFrame old new None dropped dropped_new
+KeepsOutcome old new (BadCount at) frame dropped dropped_new = KeepsNone (old, dropped) (new, dropped_new)
 
 -- where the frames go that are kept, and how many were dropped
 abbrev pub kept_in : {N R : Type 0} → (R → OutputState) → Report N R → OutputState × ℕ
@@ -51,7 +62,54 @@ kept_in state report = (state report.refused, report.counts.dropped)
 abbrev pub KeepsNext : OutputState × ℕ → Outcome → Option (List ℕ) → OutputState × ℕ → Type 0
 KeepsNext old outcome frame new = KeepsOutcome old.0 new.0 outcome frame old.1 new.1
 
--- of the frames of what was taken of a piece, outcome by outcome
-abbrev pub KeepsFrames : Option Stream → List ℕ → ℕ → OutputState × ℕ → OutputState × ℕ → Type 0
-KeepsFrames stream octets waited old new = (waits : ℕ) × (outcomes : List Outcome)
-    × HearsReceived KeepsNext stream octets waited waits outcomes old new
+-- octets were, once for each outcome that asks for it
+abbrev pub KeepsEach : List ℕ → List Outcome → OutputState × ℕ → OutputState × ℕ → Type 0
+KeepsEach octets [] old new = new ≡ old
+KeepsEach octets (o ∷ os) old new =
+    (between : OutputState × ℕ) × KeepsNext old o (Some octets) between × KeepsEach octets os between new
+
+-- where no frame waits, the frames were that a piece completes, outcome by outcome, and then no other
+abbrev pub KeepsPiece : Option Stream → List ℕ → List Outcome → OutputState × ℕ → OutputState × ℕ → Type 0
+KeepsPiece stream octets outcomes old new = (between : OutputState × ℕ)
+    × HearsPiece KeepsNext stream octets 0 0 [] outcomes old between × KeepsNone between new
+
+-- of what was accepted of a piece, the frames were whose outcomes it has; where all of it was, these are its frames;
+-- where it was passed over, none was
+pub record KeepsFrames {way : Manner} {before : List AcceptedEvent} {c : ℕ} {octets : List ℕ}
+    {here : List AcceptedEvent} {lost : Bool} {turn : Turn}
+    (taken : IsAccepted way before (Piece c octets) here lost turn) (old new : OutputState × ℕ) : Type 0 where
+  pub told : HearsReceived KeepsNext (stream_of c (history_of before).streams) octets (taken.is.0 c) (taken.is.1 c)
+      taken.outcomes old new
+  pub whole : taken.own ≡ Piece c octets ∷ [] → IfNotMemory taken.received (KeepsPiece
+      (stream_of c (history_of before).streams) octets taken.outcomes old new)
+  pub passed : taken.own ≡ [] → taken.received ≡ received.Accepted → KeepsNone old new
+
+-- of what was accepted of an event: of a datagram it is the whole; an opening and an end have no frame
+abbrev pub KeepsEvent : {way : Manner} {before here : List AcceptedEvent} {lost : Bool} {turn : Turn}
+    (e : AcceptedEvent) → IsAccepted way before e here lost turn → OutputState × ℕ → OutputState × ℕ → Type 0
+KeepsEvent (Opened c k) taken old new = KeepsNone old new
+KeepsEvent (Piece c octets) taken old new = KeepsFrames taken old new
+KeepsEvent (Ended c) taken old new = KeepsNone old new
+KeepsEvent (Datagram octets) taken old new = KeepsEach octets taken.outcomes old new
+
+-- wherever an intake stood, it stands behind what is accepted of an event, and what is refused of that was kept
+abbrev pub KeepsRefused : {S K : Type 0} → (S → List Entry) → (K → Kept → Type 0) → Intake S K → Intake S K
+    → AcceptedEvent → Turn → OutputState × ℕ → OutputState × ℕ → Type 0
+KeepsRefused entries stands old new e turn was now =
+    (k : Kept) (first : List Entry) (before : List AcceptedEvent) → StandsBy entries stands old k first before
+    → NoneWaits old.collector → (lost : Bool) × (here : List AcceptedEvent)
+    × StandsBy entries stands new k first (before ++ here)
+    × (taken : IsAccepted (manner_of old.collector) before e here lost turn) × KeepsEvent e taken was now
+
+-- of the event of a step, if it has one
+abbrev pub KeepsStep : {S K : Type 0} → (S → List Entry) → (K → Kept → Type 0) → Intake S K → Intake S K
+    → Option AcceptedEvent → Turn → OutputState × ℕ → OutputState × ℕ → Type 0
+KeepsStep entries stands old new None turn was now = KeepsNone was now
+KeepsStep entries stands old new (Some e) turn was now = KeepsRefused entries stands old new e turn was now
+
+-- of the step that a source gave, or, where the disk is full, of none
+abbrev pub KeepsTurn : {S K : Type 0} → (S → List Entry) → (K → Kept → Type 0) → Intake S K → Intake S K → SourceState
+    → SourceState → Bool → Turn → OutputState × ℕ → OutputState × ℕ → Type 0
+KeepsTurn entries stands old new source source_new true turn was now = KeepsNone was now
+KeepsTurn entries stands old new source source_new false turn was now = (g : Given) × (lost : Bool)
+    × GivesStep source source_new g lost × KeepsStep entries stands old new (event_of g.step g.octets) turn was now

@@ -1,13 +1,17 @@
 -- What a server does in a turn, and in a run.
-use Rattle.std.specs.Prelude.{◌≡◌, ◌⊎◌, ◌-◌, ◌<◌, ◌^◌, Bool, true, false, List, [], ◌∷◌, ◌++◌, length, Option, is_none}
+use Rattle.std.specs.Prelude.{◌≡◌, ◌⊎◌, ◌-◌, ◌<◌, ◌^◌, ℕ, Bool, true, false, List, [], ◌∷◌, ◌++◌, length}
+use Rattle.std.specs.Prelude.{Option, is_none}
 use Rattle.archive_text.specs.Entries.{Entry}
+use Rattle.octet_devices.specs.Device.{OutputState}
 use Rattle.syslog_collect.specs.Collectors.{NoneWaits, reading_of}
 use Rattle.syslog_collect.specs.History.{AcceptedEvent}
 use Rattle.socket_source.specs.Steps.{Given, SourceState}
 use Rattle.serve_engine.specs.Intakes.{StandsBy}
 use Rattle.serve_engine.specs.Keepings.{Kept, StaysCommitted}
+use Rattle.serve_engine.specs.Refusals.{kept_in}
 use Rattle.serve_engine.specs.Serving.{HoldsReceived, IfCommitted, IfSettled, IsCause, Manner, Served, UnlessMemory}
 use Rattle.serve_engine.specs.Serving.{UnlessStopped, is_due, manner_of}
+use Rattle.serve_engine.specs.declared.counts.ServeCounts.{ServeCounts}
 use Rattle.serve_engine.specs.declared.intake.Intake.{Intake}
 use Rattle.serve_engine.specs.declared.serve_end.ServeEnd.{ServeEnd}
 use Rattle.serve_engine.specs.declared.serve_end.ServeEnd.TheVariants.{Finished, Source, Disk, Memory, Endless}
@@ -18,6 +22,14 @@ use Rattle.serve_engine.specs.declared.turn.Turn.TheVariants.{On, End}
 -- its collector and what keeps its records
 abbrev pub intake_of : {S K N R : Type 0} → Server S K N R → Intake S K
 intake_of server = server.intake
+
+-- what it has counted
+abbrev pub counts_of : {S K N R : Type 0} → Server S K N R → ServeCounts
+counts_of server = server.report.counts
+
+-- where it keeps the frames that it refuses, and how many it has dropped
+abbrev pub refusals_of : {S K N R : Type 0} → (R → OutputState) → Server S K N R → OutputState × ℕ
+refusals_of state server = kept_in state server.report
 
 -- its disk was full at the last try
 abbrev pub is_full : {S K N R : Type 0} → Server S K N R → Bool

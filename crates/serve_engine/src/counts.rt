@@ -1,4 +1,6 @@
 //! What a server counts.
+ghost use Rattle.std.specs.Prelude.{◌↔◌, IsTrue};
+ghost use Rattle.serve_engine.specs.Counts.{HasRefused};
 
 use collect_engine::Received;
 use syslog_collect::Outcome;
@@ -30,7 +32,9 @@ pub struct ServeCounts {
 
 impl ServeCounts {
     /// Whether a frame, a count or the end of a connection was refused.
-    pub fn has_refused(&self) -> bool {
+    pub fn has_refused(&self) -> bool
+        ensures { IsTrue result ↔ HasRefused self.now }
+    {
         self.refused > 0 || self.too_long > 0 || self.broken > 0
     }
 }

@@ -1,6 +1,6 @@
 //! What a server tells: lines, counts, and the frames that it refuses.
-ghost use Rattle.std.specs.Prelude.{◌≡◌, ◌≤◌, ◌+◌, ◌-◌, ◌^◌, min, true};
-ghost use Rattle.serve_engine.specs.Refusals.{KeepsFrame, KeepsNext, is_kept, kept_in, octets_in};
+ghost use Rattle.std.specs.Prelude.{◌≡◌, ◌≤◌, ◌+◌, ◌-◌, ◌^◌, min};
+ghost use Rattle.serve_engine.specs.Refusals.{KeepsEach, KeepsFrame, KeepsNext, KeepsNone, kept_in, octets_in};
 
 use crate::counts::ServeCounts;
 use crate::keeping::Taken;
@@ -78,21 +78,27 @@ impl<N: Output + Drop, R: Output + Drop> Report<N, R> {
     }
 
     /// Tells what happened to a connection.
-    pub(crate) fn tell(&mut self, alloc: Global, way: Way, happening: Happening) {
+    pub(crate) fn tell(&mut self, alloc: Global, way: Way, happening: Happening)
+        ensures { KeepsNone (kept_in R.state self.old) (kept_in R.state self.new) }
+    {
         self.line.clear();
         let made = put_happening(alloc, &mut self.line, way, happening);
         self.write_line(made);
     }
 
     /// Tells a line whose text is known.
-    pub(crate) fn tell_text(&mut self, text: &[u8]) {
+    pub(crate) fn tell_text(&mut self, text: &[u8])
+        ensures { KeepsNone (kept_in R.state self.old) (kept_in R.state self.new) }
+    {
         self.line.clear();
         let made = self.line.extend_from_slice(text);
         self.write_line(made);
     }
 
     /// Tells the counts.
-    pub(crate) fn tell_counts(&mut self) {
+    pub(crate) fn tell_counts(&mut self)
+        ensures { KeepsNone (kept_in R.state self.old) (kept_in R.state self.new) }
+    {
         self.line.clear();
         let made = put_counts(&mut self.line, &self.counts);
         self.write_line(made);
@@ -166,8 +172,8 @@ impl<N: Output + Drop, R: Output + Drop> Report<N, R> {
         outcome: Outcome,
         frame: Option<&[u8]>,
     )
-        ensures kept { is_kept outcome ≡ true → KeepsFrame (R.state self.old.refused)
-            (R.state self.new.refused) (octets_in frame.entry) self.old.counts.dropped self.new.counts.dropped }
+        ensures kept { KeepsNext (kept_in R.state self.old) outcome (octets_in frame.entry)
+            (kept_in R.state self.new) }
     {
         self.count(outcome);
         let number = self.number;
@@ -188,7 +194,10 @@ impl<N: Output + Drop, R: Output + Drop> Report<N, R> {
         way: Way,
         outcomes: &[Outcome],
         datagram: &[u8],
-    ) {
+    )
+        ensures kept { KeepsEach datagram.now outcomes.now (kept_in R.state self.old)
+            (kept_in R.state self.new) }
+    {
         for outcome in outcomes {
             self.outcome(alloc, way, *outcome, Some(datagram));
         }
@@ -204,13 +213,9 @@ impl<N: Output + Drop, R: Output + Drop> Report<N, R> {
     }
 
     /// Tells how a connection ended.
-    pub(crate) fn ended(
-        &mut self,
-        alloc: Global,
-        way: Way,
-        received: Received,
-        end: ConnectionEnd,
-    ) {
+    pub(crate) fn ended(&mut self, alloc: Global, way: Way, received: Received, end: ConnectionEnd)
+        ensures { KeepsNone (kept_in R.state self.old) (kept_in R.state self.new) }
+    {
         if let Received::Unterminated { start } = received {
             count_up(&mut self.counts.broken, 1);
             self.tell(alloc, way, Happening::Unterminated(start));
@@ -223,21 +228,27 @@ impl<N: Output + Drop, R: Output + Drop> Report<N, R> {
     }
 
     /// Tells that the disk is full, unless it was full before.
-    pub(crate) fn tell_full(&mut self, before: bool) {
+    pub(crate) fn tell_full(&mut self, before: bool)
+        ensures { KeepsNone (kept_in R.state self.old) (kept_in R.state self.new) }
+    {
         if !before {
             self.tell_text(b"store full\n");
         }
     }
 
     /// Tells how serving ends.
-    pub(crate) fn tell_end(&mut self, end: ServeEnd) {
+    pub(crate) fn tell_end(&mut self, end: ServeEnd)
+        ensures { KeepsNone (kept_in R.state self.old) (kept_in R.state self.new) }
+    {
         if let ServeEnd::Source(_) = end {
             self.tell_text(b"source fault\n");
         }
     }
 
     /// Counts a connection.
-    pub(crate) fn count_connection(&mut self) {
+    pub(crate) fn count_connection(&mut self)
+        ensures { KeepsNone (kept_in R.state self.old) (kept_in R.state self.new) }
+    {
         count_up(&mut self.counts.connections, 1);
     }
 
@@ -250,7 +261,9 @@ impl<N: Output + Drop, R: Output + Drop> Report<N, R> {
     }
 
     /// Counts what was handed over and committed.
-    pub(crate) fn committed(&mut self, taken: Taken) {
+    pub(crate) fn committed(&mut self, taken: Taken)
+        ensures { KeepsNone (kept_in R.state self.old) (kept_in R.state self.new) }
+    {
         count_up(&mut self.counts.new, taken.new);
         count_up(&mut self.counts.held, taken.held);
         count_up(&mut self.counts.batches, 1);

@@ -1,6 +1,6 @@
 //! A server: where events go, what it tells, and who is connected.
 ghost use Rattle.std.specs.Prelude.{◌≡◌, false, IfOk};
-ghost use Rattle.serve_engine.specs.Servers.{intake_of, is_full};
+ghost use Rattle.serve_engine.specs.Servers.{counts_of, intake_of, is_full};
 
 use crate::counts::ServeCounts;
 use crate::intake::Intake;
@@ -68,7 +68,9 @@ impl<S: Store + Drop, K: Keeping<S> + Drop, N: Output + Drop, R: Output + Drop> 
     }
 
     /// What has been counted so far.
-    pub fn counts(&self) -> ServeCounts {
+    pub fn counts(&self) -> ServeCounts
+        ensures { result ≡ counts_of self.now }
+    {
         self.report.counts
     }
 }

@@ -1,9 +1,10 @@
 //! The loop of a server.
 ghost use Rattle.std.specs.Prelude.{◌≡◌, Bool, false, length};
 ghost use Rattle.socket_source.specs.Steps.{IsWithin, octets_of};
-ghost use Rattle.serve_engine.specs.Servers.{ServesRun, ServesTurn, intake_of, is_full};
+ghost use Rattle.serve_engine.specs.Refusals.{KeepsStep, KeepsTurn, kept_in};
+ghost use Rattle.serve_engine.specs.Servers.{ServesRun, ServesTurn, intake_of, is_full, refusals_of};
 ghost use Rattle.serve_engine.specs.Serving.{Asked, ClosesOwn, IsStepTurn, ServesStep, asks_commit};
-ghost use Rattle.serve_engine.specs.Serving.{manner_of};
+ghost use Rattle.serve_engine.specs.Serving.{event_of, manner_of};
 
 use crate::keeping::{Keeping, Pause};
 use crate::serve_end::ServeEnd;
@@ -40,6 +41,9 @@ impl<S: Store + Drop, K: Keeping<S> + Drop, N: Output + Drop, R: Output + Drop> 
         ensures manner { manner_of self.new.intake.collector ≡ manner_of self.old.intake.collector }
         ensures full { asks_commit step ≡ false → self.new.full ≡ self.old.full }
         ensures turn { IsStepTurn step result }
+        ensures kept { KeepsStep S.entries K.stands self.old.intake self.new.intake
+            (event_of step (octets_of step buf.now)) result (kept_in R.state self.old.report)
+            (kept_in R.state self.new.report) }
     {
         match step {
             ServerStep::Opened {
@@ -82,6 +86,10 @@ impl<S: Store + Drop, K: Keeping<S> + Drop, N: Output + Drop, R: Output + Drop> 
         ensures served { ServesTurn S.entries K.stands (intake_of self.old) (intake_of self.new)
             (Q.state source.old) (Q.state source.new) (is_full self.old) (is_full self.new) result }
         ensures asked { Asked (is_full self.old) (Q.state source.old) (Q.state source.new) }
+        // What was kept of frames that were refused.
+        ensures kept { KeepsTurn S.entries K.stands (intake_of self.old) (intake_of self.new)
+            (Q.state source.old) (Q.state source.new) (is_full self.old) result
+            (refusals_of R.state self.old) (refusals_of R.state self.new) }
         ensures manner { manner_of (intake_of self.new).collector
             ≡ manner_of (intake_of self.old).collector }
     {

@@ -40,7 +40,7 @@ impl<D: Disk + Drop> DiskKeeper<D> {
     ghost use Rattle.archive_text.specs.Entries.{Entry};
     ghost use Rattle.record_store.specs.Crashes.{Keeps};
     ghost use Rattle.record_store.specs.Stores.{begun};
-    ghost use Rattle.durable_store.specs.Durables.{Stands, entries_of};
+    ghost use Rattle.durable_store.specs.Durables.{IsBroken, Stands, entries_of};
     ghost use Rattle.serve_engine.specs.Keepings.{Kept};
     ghost use Rattle.store_keeper.specs.Keepers.{KeepsOn, disk_of, store_of};
     ghost use Rattle.store_keeper.specs.Keeping.{kept_whole};
@@ -56,6 +56,7 @@ impl<D: Disk + Drop> DiskKeeper<D> {
             → (committed received : List Entry) → Keeps (D.state sound.disk) committed received
             → Stands (store_of keeper) (D.state (disk_of keeper))
             (begun committed received (entries_of (store_of keeper)))) }
+        ensures unbroken { IfOk result (λ keeper. ¬ (IsBroken (store_of keeper))) }
         ensures kept { IfErr result (λ r. D.tells r.1 → (committed received : List Entry)
             → Keeps (D.state sound.disk) committed received → Keeps (D.state r.1) committed received) }
     {

@@ -1,9 +1,10 @@
 //! A server over a store.
-ghost use Rattle.std.specs.Prelude.{◌≡◌, [], List, IfOk};
+ghost use Rattle.std.specs.Prelude.{◌≡◌, [], List, IfOk, max, min};
 ghost use Rattle.archive_pages.specs.Paged.{entries_in};
 ghost use Rattle.archive_text.specs.Entries.{Entry};
-ghost use Rattle.syslog_collect.specs.Collectors.{NoneWaits, reading_of};
+ghost use Rattle.syslog_collect.specs.Collectors.{NoneWaits, limit_of, reading_of};
 ghost use Rattle.syslog_collect.specs.History.{AcceptedEvent};
+ghost use Rattle.syslog_collect.specs.declared.limits.TheConstants.{CONNECTIONS_LIMIT, CONNECTIONS_MAX};
 ghost use Rattle.serve_engine.specs.Intakes.{StandsBy};
 ghost use Rattle.serve_engine.specs.Keepings.{Kept};
 ghost use Rattle.serve_engine.specs.Servers.{intake_of};
@@ -22,7 +23,8 @@ use syslog_collect::Collector;
 use syslog_legacy::FrameReading;
 
 /// A server over a store, with room for so many connections, that reads frames so. It begins with what
-/// the store holds.
+/// the store holds. The number of connections is from `CONNECTIONS_MAX` to `CONNECTIONS_LIMIT`; one
+/// outside is taken for the nearest of these.
 pub fn server_on<D: Disk + Drop, N: Output + Drop, R: Output + Drop>(
     alloc: Global,
     keeper: DiskKeeper<D>,
@@ -35,6 +37,8 @@ pub fn server_on<D: Disk + Drop, N: Output + Drop, R: Output + Drop>(
         → StandsBy entries_in KeepsOn (intake_of server) (kept_whole es) es []) }
     ensures settled { IfOk result (λ server. NoneWaits (intake_of server).collector) }
     ensures reading { IfOk result (λ server. reading_of (intake_of server).collector ≡ reading) }
+    ensures limit { IfOk result (λ server. limit_of (intake_of server).collector
+        ≡ max CONNECTIONS_MAX (min connections CONNECTIONS_LIMIT)) }
 {
     let set = PagedArchive::new(alloc);
     let Ok(collector) = Collector::with_connections(alloc, set, reading, connections) else {

@@ -1,4 +1,6 @@
 use Rattle.std.proofs.Common.{false, refl}
+use Rattle.syslog_collect.specs.History.{Ended, Opened}
+use Rattle.serve_engine.proofs.Refused.{kept_none, kept_step}
 use Rattle.serve_engine.proofs.Turns.{serves_commit, serves_event, serves_nothing}
 use Rattle.serve_engine.proofs.server.Server.step.Goals as goal
 
@@ -67,3 +69,20 @@ returns-in-Failed-clause-served g c = (
   serves_commit _ _ _ _ c.args.step _ _ _ (rw c.in-Failed.is refl) (rw c.in-Failed.is refl) c.finish-in-Failed.ensures.served
       c.finish-in-Failed.ensures.settled,
 )
+
+pub returns-in-Opened-clause-kept : goal.returns-in-Opened-clause-kept
+returns-in-Opened-clause-kept g c =
+    kept_step _ _ _ _ _ (Opened c.in-Opened.conn c.in-Opened.framing) _ _ _ (rw c.in-Opened.is refl)
+    (kept_none _ _ _ _ (Opened c.in-Opened.conn c.in-Opened.framing) _ _ _ _
+    (λ way before here taken. c.opened.ensures.kept) c.opened.ensures.served.2)
+
+pub returns-in-Ended-clause-kept : goal.returns-in-Ended-clause-kept
+returns-in-Ended-clause-kept g c = kept_step _ _ _ _ _ (Ended c.in-Ended.conn) _ _ _ (rw c.in-Ended.is refl)
+    (kept_none _ _ _ _ (Ended c.in-Ended.conn) _ _ _ _ (λ way before here taken. c.ended.ensures.kept)
+    c.ended.ensures.served)
+
+pub returns-in-Piece-clause-kept : goal.returns-in-Piece-clause-kept
+returns-in-Piece-clause-kept g c = kept_step _ _ _ _ _ _ _ _ _ (rw c.in-Piece.is refl) c.piece.ensures.kept
+
+pub returns-in-Datagram-clause-kept : goal.returns-in-Datagram-clause-kept
+returns-in-Datagram-clause-kept g c = kept_step _ _ _ _ _ _ _ _ _ (rw c.in-Datagram.is refl) c.datagram.ensures.kept

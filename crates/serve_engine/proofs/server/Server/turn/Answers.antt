@@ -33,3 +33,20 @@ returns-clause-asked g c = rw c.if-self.false (
     closes = c.step.ensures.served.1;
   },
 )
+
+pub returns-then-self-clause-kept : goal.returns-then-self-clause-kept
+returns-then-self-clause-kept g c = rw c.if-self.true c.try_again.ensures.kept
+
+pub returns-clause-kept : goal.returns-clause-kept
+returns-clause-kept g c = rw c.if-self.false (
+  given_of c.next-step.result c.next-step.new.buf,
+  c.step.ensures.served.0,
+  record {
+    between = _;
+    buf = c.next-step.new.buf;
+    gave = c.next-step.ensures;
+    given = refl;
+    closes = c.step.ensures.served.1;
+  },
+  c.step.ensures.kept,
+)
