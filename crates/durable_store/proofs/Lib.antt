@@ -1,3 +1,4 @@
 pub mod Additions
 pub mod Daily
+pub mod Readable
 pub mod Recovered

@@ -11,6 +11,7 @@ use Rattle.record_store.specs.Shown.{GivesNewest}
 use Rattle.record_store.specs.Stores.{IsBroken as IsStoreBroken, Sets, Stands as JournalStands, batch_of, number_of}
 use Rattle.record_store.specs.Stores.{with_waiting}
 use Rattle.record_store.specs.declared.store.RecordStore.{RecordStore}
+use Rattle.durable_store.specs.Recovery.{IsWholeJournal}
 use Rattle.durable_store.specs.declared.store.DurableStore.{DurableStore}
 
 -- the entries in memory, in order
@@ -35,11 +36,12 @@ pub record Stands (store : DurableStore) (state : State) (sets : Sets) : Type 0 
   pub journal : JournalStands store.store state sets
   pub held : (e : Entry) → Has (entries_of store) e ↔ Has sets.since e
 
--- the entries in memory are those of the batches of the newest journal that is shown
+-- the entries in memory are those of the batches of the newest journal that is shown, each of which is whole
 pub record Recovers (store : DurableStore) (state : State) : Type 0 where
   pub text : List ℕ
   pub newest : GivesNewest state (number_of store.store) text
   pub has : (e : Entry) → Has (entries_of store) e ↔ JournalHas text e
+  pub whole : IsWholeJournal text
 
 -- what becomes of the sets where an entry is added: a new one was received, and waits
 abbrev pub with_added : Sets → Entry → Added → Sets

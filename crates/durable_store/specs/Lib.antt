@@ -1,3 +1,4 @@
+pub mod Causes
 pub mod Durables
 pub mod Recovery
 pub mod Segments

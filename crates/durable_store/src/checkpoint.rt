@@ -1,10 +1,11 @@
 //! A checkpoint.
-ghost use Rattle.std.specs.Prelude.{◌≡◌, ◌↔◌, [], IsErr, OnErr, OnOk};
+ghost use Rattle.std.specs.Prelude.{◌≡◌, ◌↔◌, [], IsErr, None, OnErr, OnOk};
 ghost use Rattle.archive_pages.specs.Paged.{entries_in};
 ghost use Rattle.record_store.specs.Stores.{AreAmong, IsBroken as IsStoreBroken, Sets};
-ghost use Rattle.record_store.specs.Stores.{Stands as JournalStands};
+ghost use Rattle.record_store.specs.Shown.{journal_shown};
+ghost use Rattle.record_store.specs.Stores.{Stands as JournalStands, number_of};
 ghost use Rattle.record_store.specs.Turns.{turned};
-ghost use Rattle.durable_store.specs.Durables.{IsBroken, Stands, entries_of};
+ghost use Rattle.durable_store.specs.Durables.{IsBroken, Stands, entries_of, journal_store};
 
 use crate::DurableStore;
 use crate::fault::CheckpointFault;
@@ -29,6 +30,8 @@ fn write_out<D: Disk>(
         → JournalStands store.old (D.state disk.old) sets → AreAmong (entries_in set.now) sets.received
         → AreAmong sets.since (entries_in set.now)
         → JournalStands store.new (D.state disk.new) sets) }
+    ensures removed { OnOk result (D.tells disk.new
+        → journal_shown (D.state disk.new) (number_of store.old) ≡ None) }
     ensures whole { OnOk result (¬ (IsStoreBroken store.new)) }
     ensures told { D.tells disk.new → D.tells disk.old }
 {
@@ -61,6 +64,10 @@ impl DurableStore {
             → Stands self.new (D.state disk.new) (turned sets)) }
         ensures err { OnErr result (D.tells disk.new → (sets : Sets)
             → Stands self.old (D.state disk.old) sets → Stands self.new (D.state disk.new) sets) }
+
+        // the journal that was there is removed
+        ensures removed { OnOk result (D.tells disk.new
+            → journal_shown (D.state disk.new) (number_of (journal_store self.old)) ≡ None) }
 
         ensures empty { OnOk result (entries_of self.new ≡ []) }
         ensures same { OnErr result (entries_of self.new ≡ entries_of self.old) }

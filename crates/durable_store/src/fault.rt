@@ -89,8 +89,13 @@ impl From<AllocError> for CheckpointFault {
 }
 
 impl CheckpointFault {
+    ghost use Rattle.std.specs.Prelude.{◌↔◌, IsTrue};
+    ghost use Rattle.durable_store.specs.Causes.{TellsFull};
+
     /// Whether the disk is full, so that the store may be opened again once it has room.
-    pub fn is_full(&self) -> bool {
+    pub fn is_full(&self) -> bool
+        ensures { IsTrue result ↔ TellsFull self.now }
+    {
         match self {
             CheckpointFault::Store(fault) => fault.is_full(),
             CheckpointFault::Segment(KeepFault::Disk(fault)) => *fault == DiskFault::Full,

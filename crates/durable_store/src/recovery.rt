@@ -1,11 +1,12 @@
 //! The entries of a journal's batches are brought into memory.
-ghost use Rattle.std.specs.Prelude.{◌≡◌, ◌++◌, IfNone, IfOk, IfSome, OnOk};
+ghost use Rattle.std.specs.Prelude.{◌≡◌, ◌≤◌, ◌++◌, IfErr, IfNone, IfOk, IfSome, OnOk, length};
 ghost use Rattle.journal.specs.Batches.{IsBody, IsClosed, open_batch};
 ghost use Rattle.archive_pages.specs.Paged.{entries_in};
 ghost use Rattle.archive_text.specs.Entries.{IsEntry};
 ghost use Rattle.archive_text.specs.EntryViews.{entry_of};
 ghost use Rattle.record_store.specs.Holdings.{BatchHas, JournalHas};
-ghost use Rattle.durable_store.specs.Recovery.{Adds, AddsFirst};
+ghost use Rattle.durable_store.specs.Recovery.{Adds, AddsFirst, BeginsWithSome, IsReadable, IsWholeJournal};
+ghost use Rattle.durable_store.specs.Recovery.{Refutes};
 
 use crate::fault::OpenFault;
 use archive_pages::PagedArchive;
@@ -26,7 +27,8 @@ fn add_entry(
     at: u64,
 ) -> Result<(), OpenFault>
     requires { IsEntry (entry_of entry.now) }
-    ensures { OnOk result (Adds (entries_in set.old) (entries_in set.new) (λ e. entry_of entry.now ≡ e)) }
+    ensures adds { OnOk result (Adds (entries_in set.old) (entries_in set.new) (λ e. entry_of entry.now ≡ e)) }
+    ensures fault { IfErr result (Refutes number (length entry.now.octets.now ≤ ENTRY_MAX)) }
 {
     let Ok(shown) = view(entry.octets) else {
         let fault = ArchiveFault::NotCanonical { at };
@@ -50,8 +52,9 @@ fn add_first<'a>(
     number: u64,
     at: u64,
 ) -> Result<&'a [u8], OpenFault>
-    ensures { IfOk result (λ behind. AddsFirst text.now behind.now (entries_in set.old)
+    ensures adds { IfOk result (λ behind. AddsFirst text.now behind.now (entries_in set.old)
         (entries_in set.new)) }
+    ensures fault { IfErr result (Refutes number (BeginsWithSome text.now)) }
 {
     match read_entry(ENTRY_MAX as u64, text) {
         Ok((entry, behind)) => {
@@ -73,7 +76,9 @@ fn add_batch(
     number: u64,
     offset: u64,
 ) -> Result<(), OpenFault>
-    ensures { OnOk result (Adds (entries_in set.old) (entries_in set.new) (BatchHas body.now)) }
+    ensures adds { OnOk result (Adds (entries_in set.old) (entries_in set.new) (BatchHas body.now)) }
+    ensures whole { OnOk result (IsReadable body.now) }
+    ensures fault { IfErr result (Refutes number (IsReadable body.now)) }
 {
     let mut rest = body;
     'entries: while !rest.is_empty() {
@@ -101,7 +106,9 @@ pub(crate) fn add_batches(
     file: &[u8],
     number: u64,
 ) -> Result<(), OpenFault>
-    ensures { OnOk result (Adds (entries_in set.old) (entries_in set.new) (JournalHas file.now)) }
+    ensures adds { OnOk result (Adds (entries_in set.old) (entries_in set.new) (JournalHas file.now)) }
+    ensures whole { OnOk result (IsWholeJournal file.now) }
+    ensures fault { IfErr result (Refutes number (IsWholeJournal file.now)) }
 {
     let mut rest = file;
     'batches: while let Some((body, behind)) = first_batch(rest) {

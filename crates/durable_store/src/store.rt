@@ -7,6 +7,7 @@ ghost use Rattle.archive_text.specs.Entries.{Entry};
 ghost use Rattle.record_store.specs.Causes.{IsCause, commit_causes, opening_causes};
 ghost use Rattle.record_store.specs.Crashes.{Keeps};
 ghost use Rattle.record_store.specs.Stores.{IsReady, Sets, all_committed, begun};
+ghost use Rattle.durable_store.specs.Causes.{IsOpeningCause};
 ghost use Rattle.durable_store.specs.Durables.{IsBroken, Recovers, Stands, entries_of, journal_store, waiting_of};
 
 use crate::fault::OpenFault;
@@ -53,6 +54,8 @@ impl DurableStore {
 
         ensures whole { IfOk result (λ store. ¬ (IsBroken store)) }
         ensures told { D.tells disk.new → D.tells disk.old }
+        ensures cause { IfErr result (IsOpeningCause (D.tells disk.new) (D.has_failed disk.new)
+            (D.state disk.old)) }
     {
         let (store, batches) = open(alloc, disk)?;
         let mut set = PagedArchive::new(alloc);

@@ -28,6 +28,7 @@ use Rattle.record_store.specs.Names.{IsJournal}
 use Rattle.record_store.proofs.Batches.{batch_has, journal_has, push_has, pushed_either, pushed_has}
 use Rattle.store_reading.specs.Journals.{Adds, AddsJournal, HasAsJournal, IsOfJournals, JournalsHave, NamedJournalsHave}
 use Rattle.store_reading.specs.Folders.{AreNamesOf}
+use Rattle.store_reading.specs.Whole.{IsReadable}
 use Rattle.store_reading.proofs.Held.{listed_name, no_name, some_before, some_either, some_last}
 
 -- ---- an entry
@@ -133,6 +134,7 @@ pub record JournalAdded (old new : List Entry) (file rest : List ℕ) : Type 0 w
   pub sized : AllByRecursion IsBody bodies
   pub parts : file ≡ batches_text bodies ++ rest
   pub adds : Adds old new (BatchesHave bodies)
+  pub readable : AllByRecursion IsReadable bodies
 
 pub journal_begun : (old : List Entry) (file : List ℕ) → JournalAdded old old file file
 journal_begun old file = record {
@@ -140,7 +142,13 @@ journal_begun old file = record {
   sized = tt;
   parts = refl;
   adds = adds_none old (BatchesHave []) (λ e h. h);
+  readable = tt;
 }
+
+all_pushed : (bodies : List (List ℕ)) (body : List ℕ) → AllByRecursion IsReadable bodies → IsReadable body
+    → AllByRecursion IsReadable (bodies ++ body ∷ [])
+all_pushed [] body all last = (last, tt)
+all_pushed (b ∷ bodies) body all last = (all.0, all_pushed bodies body all.1 last)
 
 -- the octets of a batch behind its head
 behind_head : (rest behind : List ℕ) (len : ℕ) (b : BeginsWithBatch rest len) → behind ≡ drop 5 rest
@@ -171,8 +179,9 @@ batch_parts rest behind body after len b behind_is body_is after_is =
     )
 
 pub journal_more : (old mid new : List Entry) (file rest body after : List ℕ) → JournalAdded old mid file rest
-    → IsBody body × (rest ≡ open_batch body ++ after) → Adds mid new (BatchHas body) → JournalAdded old new file after
-journal_more old mid new file rest body after j (sized, is) adds = record {
+    → IsBody body × (rest ≡ open_batch body ++ after) → Adds mid new (BatchHas body) → IsReadable body
+    → JournalAdded old new file after
+journal_more old mid new file rest body after j (sized, is) adds readable = record {
   bodies = j.bodies ++ body ∷ [];
   sized = sized_push j.bodies body j.sized sized;
   parts = j.parts ∙ ap (λ (t : List ℕ). batches_text j.bodies ++ t) is
@@ -182,6 +191,7 @@ journal_more old mid new file rest body after j (sized, is) adds = record {
         λ h. pushed_either j.bodies body e h,
         λ h. elim h [ inl k ↦ pushed_has j.bodies body e k | inr k ↦ push_has j.bodies body e k ],
       ));
+  readable = all_pushed j.bodies body j.readable readable;
 }
 
 -- it is shorter then

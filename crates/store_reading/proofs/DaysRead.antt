@@ -50,7 +50,7 @@ begun files range text old j = record {
   writes = nothing_written files range old;
 }
 
-some_not : (found : Option (List ℕ)) (d day : List ℕ) → found ≡ Some day
+pub some_not : (found : Option (List ℕ)) (d day : List ℕ) → found ≡ Some day
     → IsSomeAnd found (λ (x : List ℕ). ¬ (IsDayBelow d x))
     → ¬ (IsDayBelow d day)
 some_not found d day is h = subst (λ (o : Option (List ℕ)). IsSomeAnd o (λ (x : List ℕ). ¬ (IsDayBelow d x))) is h

@@ -10,4 +10,5 @@ pub mod Ranged
 pub mod SameSets
 pub mod SegmentNames
 pub mod Segments
+pub mod Whole
 pub mod Written

@@ -1,21 +1,22 @@
 -- The next of some days.
-use Rattle.std.proofs.Common.{◌≡◌, ◌⊎◌, ℕ, List, [], ◌∷◌, ◌++◌, Option, None, Some, inl, inr, sym, subst}
-use Rattle.std.specs.Prelude.{IsSomeAnd}
+use Rattle.std.proofs.Common.{◌≡◌, ◌⊎◌, ℕ, List, [], ◌∷◌, ◌++◌, Option, None, Some, inl, inr, refl, sym, subst}
+use Rattle.std.specs.Prelude.{IfSome, IsSomeAnd}
 use Rattle.record_store.specs.Names.{IsSegment}
 use Rattle.store_reading.specs.Days.{IsAfter, IsDayBelow, IsDayText}
 use Rattle.store_reading.specs.Names.{AddsDay, HaveSegment, IsFirstDay, IsNextDay, IsNextSegment}
 use Rattle.store_reading.proofs.DayOrders.{day_irreflexive, day_transitive}
-use Rattle.store_reading.proofs.Held.{no_name, some_either}
+use Rattle.store_reading.proofs.Held.{no_name, some_before, some_either, some_last}
 
 -- ---- one day more
 
 pub not_later : (last : Option (List ℕ)) (day : List ℕ) (next : Option (List ℕ)) → ¬ (IsAfter last day)
     → AddsDay last day next next
-not_later last day next not = record { behind = λ h. h; day_found = λ h. absurd (not h); still = λ other h. h }
+not_later last day next not =
+    record { behind = λ h. h; day_found = λ h. absurd (not h); still = λ other h. h; one = inl refl }
 
 pub first_day : (last : Option (List ℕ)) (day : List ℕ) → IsAfter last day → AddsDay last day None (Some day)
 first_day last day after =
-    record { behind = λ h. after; day_found = λ h. day_irreflexive day; still = λ other h. absurd h }
+    record { behind = λ h. after; day_found = λ h. day_irreflexive day; still = λ other h. absurd h; one = inr refl }
 
 pub nearer_day : (last : Option (List ℕ)) (day next : List ℕ) → IsAfter last day → IsDayBelow day next
     → AddsDay last day (Some next) (Some day)
@@ -23,22 +24,36 @@ nearer_day last day next after less = record {
   behind = λ h. after;
   day_found = λ h. day_irreflexive day;
   still = λ other h below. h (day_transitive other day next below less);
+  one = inr refl;
 }
 
 pub farther_day : (last : Option (List ℕ)) (day next : List ℕ) → ¬ (IsDayBelow day next)
     → AddsDay last day (Some next) (Some next)
-farther_day last day next not = record { behind = λ h. h; day_found = λ h. not; still = λ other h. h }
+farther_day last day next not =
+    record { behind = λ h. h; day_found = λ h. not; still = λ other h. h; one = inl refl }
 
 -- ---- the segments of names
 
 pub next_none : (last : Option (List ℕ)) → IsNextSegment last [] None
 next_none last =
-    record { behind = tt; none_before = λ day text have after. absurd (no_name (IsSegment day) have) }
+    record { segment = tt; behind = tt; none_before = λ day text have after. absurd (no_name (IsSegment day) have) }
+
+still_segment : (names : List (List ℕ)) (name : List ℕ) (next : Option (List ℕ)) → IfSome next (HaveSegment names)
+    → IfSome next (HaveSegment (names ++ name ∷ []))
+still_segment names name None have = tt
+still_segment names name (Some day) have = some_before names name (IsSegment day) have
 
 pub next_more : (last : Option (List ℕ)) (names : List (List ℕ)) (name day : List ℕ) (next found : Option (List ℕ))
-    → IsNextSegment last names next → ((d : List ℕ) → IsDayText d → IsSegment d name → Some day ≡ Some d)
+    → IsNextSegment last names next → IsSegment day name
+    → ((d : List ℕ) → IsDayText d → IsSegment d name → Some day ≡ Some d)
     → AddsDay last day next found → IsNextSegment last (names ++ name ∷ []) found
-next_more last names name day next found n only a = record {
+next_more last names name day next found n is only a = record {
+  segment = elim a.one [
+    | inl same ↦ subst (λ (o : Option (List ℕ)). IfSome o (HaveSegment (names ++ name ∷ []))) (sym same)
+        (still_segment names name next n.segment)
+    | inr same ↦ subst (λ (o : Option (List ℕ)). IfSome o (HaveSegment (names ++ name ∷ []))) (sym same)
+        (some_last names name (IsSegment day) is)
+  ];
   behind = a.behind n.behind;
   none_before = λ d text have after. go d text after (some_either names name (IsSegment d) have);
 }
@@ -55,6 +70,7 @@ pub next_other : (last : Option (List ℕ)) (names : List (List ℕ)) (name : Li
     → IsNextSegment last names next → found ≡ None → ((d : List ℕ) → IsDayText d → IsSegment d name → found ≡ Some d)
     → IsNextSegment last (names ++ name ∷ []) next
 next_other last names name next found n none only = record {
+  segment = still_segment names name next n.segment;
   behind = n.behind;
   none_before = λ d text have after. go d text after (some_either names name (IsSegment d) have);
 }

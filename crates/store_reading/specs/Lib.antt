@@ -7,3 +7,4 @@ pub mod Journals
 pub mod Parts
 pub mod Sets
 pub mod Sources
+pub mod Whole

@@ -1,5 +1,5 @@
 -- The names of a store's files, and the days of its segments.
-use Rattle.std.specs.Prelude.{◌≡◌, ◌⊎◌, ℕ, All, Contains, List, [], ◌∷◌, ◌++◌, Option, IfSome, IsSomeAnd, length}
+use Rattle.std.specs.Prelude.{◌≡◌, ◌⊎◌, ℕ, All, Contains, List, [], ◌∷◌, ◌++◌, Option, Some, IfSome, IsSomeAnd, length}
 use Rattle.record_store.specs.Names.{IsHexadecimal, IsSegment}
 use Rattle.store_reading.specs.Days.{IsAfter, IsDayBelow, IsDayText, IsOf}
 use Rattle.archive_text.specs.Entries.{Entry}
@@ -19,6 +19,7 @@ pub record AddsDay (last : Option (List ℕ)) (day : List ℕ) (next found : Opt
   pub day_found : IsAfter last day → IsSomeAnd found (λ (d : List ℕ). ¬ (IsDayBelow day d))
   pub still : (other : List ℕ) → IsSomeAnd next (λ (d : List ℕ). ¬ (IsDayBelow other d))
       → IsSomeAnd found (λ (d : List ℕ). ¬ (IsDayBelow other d))
+  pub one : (found ≡ next) ⊎ (found ≡ Some day)
 
 -- some name of a list is P
 abbrev pub SomeName : List (List ℕ) → (List ℕ → Type 0) → Type 0
@@ -28,9 +29,10 @@ SomeName names P = (name : List ℕ) × Contains names name × P name
 abbrev pub HaveSegment : List (List ℕ) → List ℕ → Type 0
 HaveSegment names day = SomeName names (IsSegment day)
 
--- a day that comes behind the last one, and before which no day of a segment comes that does; or there is none that
--- does
+-- the day of a segment, which comes behind the last one, and before which no day of a segment comes that does; or there
+-- is none that does
 pub record IsNextSegment (last : Option (List ℕ)) (names : List (List ℕ)) (found : Option (List ℕ)) : Type 0 where
+  pub segment : IfSome found (HaveSegment names)
   pub behind : IfSome found (IsAfter last)
   pub none_before : (day : List ℕ) → IsDayText day → HaveSegment names day → IsAfter last day
       → IsSomeAnd found (λ (next : List ℕ). ¬ (IsDayBelow day next))

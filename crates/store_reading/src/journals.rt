@@ -9,6 +9,8 @@ ghost use Rattle.store_reading.specs.Folders.{AreNamesOf};
 ghost use Rattle.store_reading.specs.Journals.{Adds, AddsFirst, AddsJournal, GivesAll, HasAsJournal, IsOfJournals};
 ghost use Rattle.store_reading.specs.Journals.{NamedJournalsHave};
 ghost use Rattle.store_reading.specs.Sources.{set_entries};
+ghost use Rattle.store_reading.specs.Whole.{IsReadable, IsWholeJournal, IsWholeJournalAt, JournalsAreWhole};
+ghost use Rattle.store_reading.specs.Whole.{NamedJournalsAreWhole};
 
 use crate::fault::{CheckFault, FileFault, ReadFault};
 use crate::folder::Folder;
@@ -74,7 +76,8 @@ fn add_batch(
     body: &[u8],
     offset: u64,
 ) -> Result<(), CheckFault>
-    ensures { OnOk result (Adds (set_entries set.old) (set_entries set.new) (BatchHas body.now)) }
+    ensures adds { OnOk result (Adds (set_entries set.old) (set_entries set.new) (BatchHas body.now)) }
+    ensures whole { OnOk result (IsReadable body.now) }
 {
     let mut rest = body;
     'entries: while !rest.is_empty() {
@@ -98,7 +101,8 @@ pub fn first_batch(octets: &[u8]) -> Option<(&[u8], &[u8])>
 
 // Adds the entries of all batches of a journal.
 fn add_batches(alloc: Global, set: &mut PagedArchive, file: &[u8]) -> Result<(), CheckFault>
-    ensures { OnOk result (Adds (set_entries set.old) (set_entries set.new) (JournalHas file.now)) }
+    ensures adds { OnOk result (Adds (set_entries set.old) (set_entries set.new) (JournalHas file.now)) }
+    ensures whole { OnOk result (IsWholeJournal file.now) }
 {
     let mut rest = file;
     'batches: while let Some((body, behind)) = first_batch(rest) {
@@ -134,8 +138,9 @@ fn add_octets<R: Input>(
     set: &mut PagedArchive,
     reader: &mut R,
 ) -> Result<(), CheckFault>
-    ensures { OnOk result (AddsJournal (R.state reader.old) (set_entries set.old)
+    ensures adds { OnOk result (AddsJournal (R.state reader.old) (set_entries set.old)
         (set_entries set.new)) }
+    ensures whole { OnOk result (IfSome (R.state reader.old).left IsWholeJournal) }
 {
     let octets = read_octets(alloc, reader)?;
     add_batches(alloc, set, &octets)
@@ -150,6 +155,8 @@ fn add_journal<F: Folder>(
 ) -> Result<(), ReadFault>
     ensures adds { OnOk result (F.tells folder.new → Adds (set_entries set.old)
         (set_entries set.new) (HasAsJournal (F.files folder.old) name.now)) }
+    ensures whole { OnOk result (F.tells folder.new
+        → IsWholeJournalAt (F.files folder.old) name.now) }
     ensures same { F.tells folder.new → F.files folder.new ≡ F.files folder.old }
     ensures told { F.tells folder.new → F.tells folder.old }
 {
@@ -173,6 +180,8 @@ fn add_journals<F: Folder>(
     ensures adds { OnOk result (F.tells folder.new
         → Adds (set_entries set.old)
         (set_entries set.new) (NamedJournalsHave (F.files folder.old) names.now)) }
+    ensures whole { OnOk result (F.tells folder.new
+        → NamedJournalsAreWhole (F.files folder.old) names.now) }
     ensures same { F.tells folder.new → F.files folder.new ≡ F.files folder.old }
     ensures told { F.tells folder.new → F.tells folder.old }
 {
@@ -198,6 +207,7 @@ fn set_text(alloc: Global, set: &PagedArchive) -> Result<Vec<u8>, ReadFault>
 /// listed again: a checkpoint has made segments of it.
 pub(crate) fn read_journals<F: Folder>(alloc: Global, folder: &mut F) -> Result<Vec<u8>, ReadFault>
     ensures journals { F.tells folder.new → IfOk result (λ v. IsOfJournals (F.files folder.old) v.items) }
+    ensures whole { OnOk result (F.tells folder.new → JournalsAreWhole (F.files folder.old)) }
     ensures same { F.tells folder.new → F.files folder.new ≡ F.files folder.old }
     ensures told { F.tells folder.new → F.tells folder.old }
 {

@@ -4,6 +4,7 @@ ghost use Rattle.record_store.specs.Names.{IsSegment};
 ghost use Rattle.store_reading.specs.Folders.{AreNamesOf};
 ghost use Rattle.store_reading.specs.Segments.{AddsSegment, AreSegmentsOf};
 ghost use Rattle.store_reading.specs.Sources.{source_state};
+ghost use Rattle.store_reading.specs.Whole.{IsWholeSegmentAt, NamedSegmentsAreWhole};
 
 use crate::day::Day;
 use crate::fault::ReadFault;
@@ -37,6 +38,8 @@ fn open_named<F: Folder>(
     ensures opened { OnOk result (F.tells folder.new → AddsSegment (F.files folder.old) name.now day.now
         (map (source_state F.File.state) inputs.old.items)
         (map (source_state F.File.state) inputs.new.items)) }
+    ensures whole { OnOk result (F.tells folder.new
+        → IsWholeSegmentAt (F.files folder.old) day.now name.now) }
     ensures same { F.tells folder.new → F.files folder.new ≡ F.files folder.old }
     ensures told { F.tells folder.new → F.tells folder.old }
 {
@@ -61,6 +64,8 @@ pub fn open_segments<'a, F: Folder>(
 ) -> Result<Vec<Source<'a, F::File>>, ReadFault>
     ensures opened { IfOk result (λ v. F.tells folder.new → AreSegmentsOf (F.files folder.old) names.now
         day.now (map (source_state F.File.state) v.items)) }
+    ensures whole { OnOk result (F.tells folder.new
+        → NamedSegmentsAreWhole (F.files folder.old) names.now day.now) }
     ensures same { F.tells folder.new → F.files folder.new ≡ F.files folder.old }
     ensures told { F.tells folder.new → F.tells folder.old }
 {
@@ -81,6 +86,8 @@ pub(crate) fn open_day<'a, F: Folder>(
 ) -> Result<Vec<Source<'a, F::File>>, ReadFault>
     ensures opened { IfOk result (λ v. F.tells folder.new → AreSegmentsOf (F.files folder.old)
         names.new.items day.now (map (source_state F.File.state) v.items)) }
+    ensures whole { OnOk result (F.tells folder.new
+        → NamedSegmentsAreWhole (F.files folder.old) names.new.items day.now) }
     ensures names { F.tells folder.new → AreNamesOf (F.files folder.old) names.old.items
         → AreNamesOf (F.files folder.old) names.new.items }
     ensures same { F.tells folder.new → F.files folder.new ≡ F.files folder.old }

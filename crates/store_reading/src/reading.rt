@@ -1,9 +1,10 @@
 //! The archive of what a folder holds is written.
-ghost use Rattle.std.specs.Prelude.{◌≡◌, IfOk, MatchResult, map};
+ghost use Rattle.std.specs.Prelude.{◌≡◌, IfOk, MatchResult, OnOk, map};
 ghost use Rattle.store_reading.specs.Folders.{AreNamesOf};
 ghost use Rattle.store_reading.specs.Journals.{IsOfJournals};
 ghost use Rattle.store_reading.specs.Sets.{AreInputsOf, DayOutcome, WritesPart, WritesSet};
 ghost use Rattle.store_reading.specs.Sources.{source_state};
+ghost use Rattle.store_reading.specs.Whole.{DaysAreWhole, IsWholeIn, MeetsRange, SegmentsAreWhole};
 
 use crate::day::Day;
 use crate::days::{day_len, is_outside, next_day};
@@ -91,6 +92,8 @@ fn day_inputs<'a, F: Folder>(
     ensures inputs { IfOk result (λ v. F.tells folder.new
         → AreNamesOf (F.files folder.old) names.old.items
         → AreInputsOf (F.files folder.old) day.now text.now (map (source_state F.File.state) v.items)) }
+    ensures whole { OnOk result (F.tells folder.new → AreNamesOf (F.files folder.old) names.old.items
+        → SegmentsAreWhole (F.files folder.old) day.now) }
     ensures names { F.tells folder.new → AreNamesOf (F.files folder.old) names.old.items
         → AreNamesOf (F.files folder.old) names.new.items }
     ensures same { F.tells folder.new → F.files folder.new ≡ F.files folder.old }
@@ -115,6 +118,8 @@ fn read_day<F: Folder, W: Output>(
     ensures outcome { F.tells folder.new → AreNamesOf (F.files folder.old) names.old.items
         → DayOutcome result (F.files folder.old) kept.now.range day.now text.now
         (W.state writer.old).taken (W.state writer.new).taken }
+    ensures whole { OnOk result (F.tells folder.new → AreNamesOf (F.files folder.old) names.old.items
+        → MeetsRange kept.now.range day.now → SegmentsAreWhole (F.files folder.old) day.now) }
     ensures names { F.tells folder.new → AreNamesOf (F.files folder.old) names.old.items
         → AreNamesOf (F.files folder.old) names.new.items }
     ensures same { F.tells folder.new → F.files folder.new ≡ F.files folder.old }
@@ -146,6 +151,8 @@ fn read_days<F: Folder, W: Output>(
         (W.state writer.new).taken)
         (λ _. WritesPart (F.files folder.old) kept.now.range (W.state writer.old).taken
         (W.state writer.new).taken) }
+    ensures whole { OnOk result (F.tells folder.new → AreNamesOf (F.files folder.old) names.old.items
+        → DaysAreWhole (F.files folder.old) kept.now.range) }
     ensures same { F.tells folder.new → F.files folder.new ≡ F.files folder.old }
     ensures told { F.tells folder.new → F.tells folder.old }
 {
@@ -184,6 +191,10 @@ pub fn read<F: Folder, W: Output>(
         (W.state writer.new).taken)
         (λ _. WritesPart (F.files folder.old) range (W.state writer.old).taken
         (W.state writer.new).taken) }
+
+    // no damaged file is passed over
+    ensures whole { OnOk result (F.tells folder.new → IsWholeIn (F.files folder.old) range) }
+
     ensures same { F.tells folder.new → F.files folder.new ≡ F.files folder.old }
     ensures told { F.tells folder.new → F.tells folder.old }
 {

@@ -1,5 +1,7 @@
 use Rattle.archive_pages.specs.Paged.{entries_in}
+use Rattle.durable_store.specs.Recovery.{IsReadable, IsWholeJournal, Refutes}
 use Rattle.durable_store.proofs.Recovered.{journal_begun, journal_more, journal_whole, shorter_rest}
+use Rattle.durable_store.proofs.Readable.{at_err, journal_read, next_readable, refutes_more}
 use Rattle.durable_store.proofs.recovery.add_batches.Goals as goal
 
 pub batches-init : goal.batches-init
@@ -10,13 +12,28 @@ batches-preserved c =
     journal_more (entries_in c.args.set.now) (entries_in c.batches.set) (entries_in c.add_batch.new.set)
     c.args.file.now
     c.batches.rest.now c.in-Some.body.now c.in-Some.behind.now c.batches.invariant c.in-Some.ensures.some
-    c.in_ok-add_batch.ensures
+    c.in_ok-add_batch.ensures.adds c.in_ok-add_batch.ensures.whole
 
 pub batches-smaller : goal.batches-smaller
 batches-smaller c =
     shorter_rest c.batches.rest.now c.in-Some.body.now c.in-Some.behind.now c.in-Some.ensures.some
 
-pub returns : goal.returns
-returns c =
+pub returns-clause-adds : goal.returns-clause-adds
+returns-clause-adds c =
     journal_whole (entries_in c.args.set.now) (entries_in c.batches.set) c.args.file.now c.batches.rest.now
     c.batches.invariant c.in_default.ensures.none
+
+pub returns-clause-whole : goal.returns-clause-whole
+returns-clause-whole c =
+    journal_read (entries_in c.args.set.now) (entries_in c.batches.set) c.args.file.now c.batches.rest.now
+    c.batches.invariant c.in_default.ensures.none
+
+pub returns-in_err-add_batch-clause-fault : goal.returns-in_err-add_batch-clause-fault
+returns-in_err-add_batch-clause-fault c =
+    at_err c.from_residual.result c.in_err-add_batch.field-0.0
+    (Refutes c.args.number (IsWholeJournal c.args.file.now)) c.from_residual.ensures.1
+    (refutes_more c.args.number (IsReadable c.in-Some.body.now) (IsWholeJournal c.args.file.now)
+    c.in_err-add_batch.field-0.0
+    (λ w. next_readable (entries_in c.args.set.now) (entries_in c.batches.set) c.args.file.now c.batches.rest.now
+    c.in-Some.body.now c.in-Some.behind.now c.batches.invariant c.in-Some.ensures.some w)
+    c.in_err-add_batch.ensures.fault)

@@ -1,4 +1,4 @@
-use Rattle.std.proofs.Common.{◌≡◌, ℤ, pos, ◌-ℤ◌, arith, false, true}
+use Rattle.std.proofs.Common.{◌≡◌, pos, ◌-ℤ◌, arith}
 use Rattle.std.proofs.lemmas.Bool.{false≢true}
 use Rattle.std.proofs.lemmas.Int.{ints}
 use Rattle.syslog_value.specs.Parts.{IsInstant}

@@ -12,4 +12,5 @@ returns-in-None c names n =
 pub returns-in-Some : goal.returns-in-Some
 returns-in-Some c names n =
     next_more (option_map (λ d. d.now) c.args.last) names c.args.name.now c.in-Some.day c.args.next c.nearer.result n
+    c.in-Some.ensures.some.1
     (λ d text segment. sym c.in-Some.is ∙ c.segment_day.ensures.only d text segment) c.nearer.ensures

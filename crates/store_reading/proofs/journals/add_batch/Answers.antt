@@ -2,6 +2,7 @@ use Rattle.std.proofs.Common.{rules}
 use Rattle.store_reading.specs.Sources.{set_entries}
 use Rattle.store_reading.proofs.Batched.{batch_begun, batch_more, batch_whole, no_octets}
 use Rattle.store_reading.proofs.Parted.{shorter}
+use Rattle.store_reading.proofs.Whole.{batch_read}
 use Rattle.store_reading.proofs.journals.add_batch.Goals as goal
 
 pub entries-init : goal.entries-init
@@ -17,8 +18,14 @@ entries-preserved c =
 pub entries-smaller : goal.entries-smaller
 entries-smaller c = let a = c.in_ok-rest.ensures in shorter c.entries.rest.now a.0 c.in_ok-rest.rest.now a.1
 
-pub returns : goal.returns
-returns c =
+pub returns-clause-adds : goal.returns-clause-adds
+returns-clause-adds c =
     batch_whole (set_entries c.args.set.now) (set_entries c.entries.set) c.args.body.now c.entries.rest.now
+    c.entries.invariant
+    (no_octets c.entries.rest.now (search rules))
+
+pub returns-clause-whole : goal.returns-clause-whole
+returns-clause-whole c =
+    batch_read (set_entries c.args.set.now) (set_entries c.entries.set) c.args.body.now c.entries.rest.now
     c.entries.invariant
     (no_octets c.entries.rest.now (search rules))

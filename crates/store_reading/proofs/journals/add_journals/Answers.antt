@@ -1,9 +1,11 @@
-use Rattle.std.proofs.Common.{List, ℕ, [], ◌∷◌, ◌++◌, take, refl, sym, ap, subst, ◌∙◌}
+use Rattle.std.proofs.Common.{List, ℕ, arith, [], ◌∷◌, ◌++◌, take, refl, sym, ap, subst, ◌∙◌}
 use Rattle.std.proofs.lemmas.List.{take_all, take_more}
 use Rattle.disk.specs.States.{Files}
 use Rattle.store_reading.specs.Journals.{Adds, HasAsJournal, NamedJournalsHave}
 use Rattle.store_reading.specs.Sources.{set_entries}
 use Rattle.store_reading.proofs.Batched.{names_more, names_none}
+use Rattle.store_reading.specs.Whole.{IsWholeJournalAt, NamedJournalsAreWhole}
+use Rattle.store_reading.proofs.Whole.{more_whole}
 use Rattle.store_reading.proofs.journals.add_journals.Goals as goal
 
 pub names-init : goal.names-init
@@ -11,6 +13,7 @@ names-init g c = record {
   told = λ t. t;
   same = λ t. refl;
   adds = λ t. names_none (g.F.Folder.files c.args.folder.now) (set_entries c.args.set.now);
+  whole = λ t name has. absurd (omega (arith, has.1));
 }
 
 pub names-preserved : goal.names-preserved
@@ -30,6 +33,11 @@ names-preserved g c =
           (names_more files first c.name-item.result old mid new (c.names.invariant.adds before)
           (subst (λ (f : Files). Adds mid new (HasAsJournal f c.name-item.result)) (c.names.invariant.same before)
           (c.in_ok-add_journal.ensures.adds t)));
+      whole = λ t. let before = c.add_journal.ensures.told t in
+          subst (λ (l : List (List ℕ)). NamedJournalsAreWhole files l) (sym more)
+          (more_whole (IsWholeJournalAt files) first c.name-item.result (c.names.invariant.whole before)
+          (subst (λ (f : Files). IsWholeJournalAt f c.name-item.result) (c.names.invariant.same before)
+          (c.in_ok-add_journal.ensures.whole t)));
     }
 
 pub returns-clause-adds : goal.returns-clause-adds
@@ -37,3 +45,8 @@ returns-clause-adds g c t =
     subst (λ (l : List (List ℕ)). Adds (set_entries c.args.set.now) (set_entries c.names.set)
     (NamedJournalsHave (g.F.Folder.files c.args.folder.now) l))
     (take_all c.names.name-index c.args.names.now c.names-test.false) (c.names.invariant.adds t)
+
+pub returns-clause-whole : goal.returns-clause-whole
+returns-clause-whole g c t =
+    subst (λ (l : List (List ℕ)). NamedJournalsAreWhole (g.F.Folder.files c.args.folder.now) l)
+    (take_all c.names.name-index c.args.names.now c.names-test.false) (c.names.invariant.whole t)

@@ -1,6 +1,7 @@
 use Rattle.std.proofs.Common.{◌≡◌, take}
 use Rattle.store_reading.specs.Journals.{Adds, NamedJournalsHave}
 use Rattle.store_reading.specs.Sources.{set_entries}
+use Rattle.store_reading.specs.Whole.{NamedJournalsAreWhole}
 use Rattle.store_reading.proofs.journals.add_journals.Given as goal
 
 abbrev pub invariant-names : goal.invariant-names
@@ -9,4 +10,6 @@ invariant-names g l = record {
   same : g.F.Folder.tells l.folder → g.F.Folder.files l.folder ≡ g.F.Folder.files l.fn.folder;
   adds : g.F.Folder.tells l.folder → Adds (set_entries l.fn.set) (set_entries l.set)
       (NamedJournalsHave (g.F.Folder.files l.fn.folder) (take l.name-index l.names));
+  whole : g.F.Folder.tells l.folder
+      → NamedJournalsAreWhole (g.F.Folder.files l.fn.folder) (take l.name-index l.names);
 }

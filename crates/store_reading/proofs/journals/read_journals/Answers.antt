@@ -4,6 +4,8 @@ use Rattle.store_reading.specs.Folders.{AreNamesOf}
 use Rattle.store_reading.specs.Journals.{Adds, NamedJournalsHave}
 use Rattle.store_reading.specs.Sources.{set_entries}
 use Rattle.store_reading.proofs.Batched.{text_of_journals}
+use Rattle.store_reading.specs.Whole.{NamedJournalsAreWhole}
+use Rattle.store_reading.proofs.Whole.{all_whole, on_ok}
 use Rattle.store_reading.proofs.journals.read_journals.Goals as goal
 
 pub returns-in-Ok-clause-journals : goal.returns-in-Ok-clause-journals
@@ -22,3 +24,15 @@ returns-in-Ok-clause-journals g c t =
     (subst (λ (ns : List (List ℕ)). Adds old new (NamedJournalsHave (g.F.Folder.files c.list.new.folder) ns))
     c.deref.ensures.value (c.in-Ok.ensures.adds t))))
     c.set_text.ensures.archive c.set_text.ensures.text
+
+pub returns-in-Ok-clause-whole : goal.returns-in-Ok-clause-whole
+returns-in-Ok-clause-whole g c = on_ok c.set_text.result (λ t.
+    let listing = c.add_journals.ensures.told t in
+    let before = c.in_ok-names.ensures.told listing in
+    let files = g.F.Folder.files c.args.folder.now in
+    let names = c.in_ok-names.names.items in
+    all_whole files names
+    (subst (λ (f : Files). AreNamesOf f names) (c.listings.invariant.same before) (c.in_ok-names.ensures.names listing))
+    (subst (λ (f : Files). NamedJournalsAreWhole f names) (c.listings.invariant.same before)
+    (subst (λ (f : Files). NamedJournalsAreWhole f names) (c.in_ok-names.ensures.same listing)
+    (subst (NamedJournalsAreWhole (g.F.Folder.files c.list.new.folder)) c.deref.ensures.value (c.in-Ok.ensures.whole t)))))

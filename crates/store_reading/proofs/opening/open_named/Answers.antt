@@ -7,6 +7,7 @@ use Rattle.store_reading.specs.Segments.{AreSegmentsOf}
 use Rattle.store_reading.specs.Sources.{source_state}
 use Rattle.store_reading.specs.declared.source.Source.TheVariants.{File}
 use Rattle.store_reading.proofs.Segments.{segments_more, segments_other}
+use Rattle.store_reading.proofs.Whole.{segment_whole}
 use Rattle.store_reading.proofs.opening.open_named.Goals as goal
 
 pub returns-then-not-is_segment_of-clause-opened : goal.returns-then-not-is_segment_of-clause-opened
@@ -29,3 +30,14 @@ returns-clause-opened g c t names s =
     (segments_more files names name day (map state c.args.inputs.now.items) (g.F.File.Input.state c.in_ok-file.file) s
     segment
     (c.in_ok-file.ensures.input t))
+
+pub returns-clause-whole : goal.returns-clause-whole
+returns-clause-whole g c t =
+    segment_whole (g.F.Folder.files c.args.folder.now) c.args.name.now c.args.day.now
+    (g.F.File.Input.state c.in_ok-file.file) (c.in_ok-file.ensures.input t)
+
+pub returns-then-not-is_segment_of-clause-whole : goal.returns-then-not-is_segment_of-clause-whole
+returns-then-not-is_segment_of-clause-whole g c t segment =
+    let off : c.is_segment_of.result ≡ false = search rules in
+    absurd (false≢true (sym off
+    ∙ c.is_segment_of.ensures.1 (subst (IsSegment c.args.day.now) (sym c.as_octets.ensures.value) segment)))

@@ -3,6 +3,8 @@ use Rattle.std.proofs.lemmas.List.{take_more}
 use Rattle.disk.specs.States.{Files}
 use Rattle.store_reading.specs.Segments.{AddsSegment, AreSegmentsOf}
 use Rattle.store_reading.specs.Sources.{source_state}
+use Rattle.store_reading.specs.Whole.{IsWholeSegmentAt, NamedSegmentsAreWhole}
+use Rattle.store_reading.proofs.Whole.{more_whole}
 use Rattle.store_reading.proofs.opening.open_segments.Goals as goal
 
 pub names-preserved : goal.names-preserved
@@ -22,4 +24,9 @@ names-preserved g c =
           (map state c.open_named.new.inputs.items)) (c.names.invariant.same before)
           (c.in_ok-open_named.ensures.opened t) first
           (c.names.invariant.opened before));
+      whole = λ t. let before = c.open_named.ensures.told t in
+          subst (λ (l : List (List ℕ)). NamedSegmentsAreWhole files l day) (sym more)
+          (more_whole (IsWholeSegmentAt files day) first c.name-item.result (c.names.invariant.whole before)
+          (subst (λ (f : Files). IsWholeSegmentAt f day c.name-item.result) (c.names.invariant.same before)
+          (c.in_ok-open_named.ensures.whole t)));
     }

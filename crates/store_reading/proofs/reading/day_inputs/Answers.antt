@@ -4,6 +4,7 @@ use Rattle.store_reading.specs.Sets.{AreOfDay}
 use Rattle.store_reading.specs.Sources.{source_state}
 use Rattle.store_reading.specs.declared.source.Source.TheVariants.{Octets}
 use Rattle.store_reading.proofs.Joined.{octets_input, of_day}
+use Rattle.store_reading.proofs.Whole.{day_whole}
 use Rattle.store_reading.proofs.reading.day_inputs.Goals as goal
 
 pub returns-clause-inputs : goal.returns-clause-inputs
@@ -18,3 +19,8 @@ returns-clause-inputs g c t listed xs archive is =
     (state (Octets c.new.result))
     (c.open_day.ensures.names t listed) (c.in_ok-inputs.ensures.opened t)
     (octets_input (state (Octets c.new.result)) c.args.text.now xs c.new.ensures is archive))
+
+pub returns-clause-whole : goal.returns-clause-whole
+returns-clause-whole g c t listed =
+    day_whole (g.F.Folder.files c.args.folder.now) c.open_day.new.names.items c.args.day.now
+    (c.open_day.ensures.names t listed) (c.in_ok-inputs.ensures.whole t)

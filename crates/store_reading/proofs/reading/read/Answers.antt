@@ -6,6 +6,8 @@ use Rattle.store_reading.specs.Folders.{AreNamesOf}
 use Rattle.store_reading.specs.Journals.{IsOfJournals}
 use Rattle.store_reading.specs.Sets.{WritesPart, WritesSet}
 use Rattle.store_reading.proofs.DaysRead.{nothing_part}
+use Rattle.store_reading.specs.Whole.{DaysAreWhole}
+use Rattle.store_reading.proofs.Whole.{on_ok_more}
 use Rattle.store_reading.proofs.reading.read.Goals as goal
 
 pub returns-in_err-text-clause-outcome : goal.returns-in_err-text-clause-outcome
@@ -34,3 +36,15 @@ returns-clause-outcome g c t =
     (c.in_ok-names.ensures.names listing))
     (subst (IsOfJournals (g.F.Folder.files c.list.new.folder)) (sym c.deref.ensures.value)
     (subst (λ (f : Files). IsOfJournals f c.in_ok-text.text.items) (sym same) (c.in_ok-text.ensures.journals before))))
+
+pub returns-clause-whole : goal.returns-clause-whole
+returns-clause-whole g c = on_ok_more c.read_days.result (λ whole t.
+    let listing = c.read_days.ensures.told t in
+    let before = c.in_ok-names.ensures.told listing in
+    let same = c.in_ok-names.ensures.same listing ∙ c.in_ok-text.ensures.same before in
+    record {
+      journals = c.in_ok-text.ensures.whole before;
+      segments = subst (λ (f : Files). DaysAreWhole f c.args.range) same (whole t
+          (subst (λ (f : Files). AreNamesOf f c.in_ok-names.names.items) (sym (c.in_ok-names.ensures.same listing))
+          (c.in_ok-names.ensures.names listing)));
+    }) c.read_days.ensures.whole

@@ -6,6 +6,8 @@ use Rattle.store_reading.specs.Folders.{AreNamesOf}
 use Rattle.store_reading.specs.Names.{IsNextDay}
 use Rattle.store_reading.specs.Sets.{WritesDay, WritesPartOfDay}
 use Rattle.store_reading.proofs.DaysRead.{begun, copied_is, read_all, read_cut, read_more, read_part}
+use Rattle.store_reading.specs.Whole.{SegmentsAreWhole}
+use Rattle.store_reading.proofs.Whole.{days_more_whole, days_whole}
 use Rattle.store_reading.proofs.reading.read_days.Goals as goal
 
 pub days-init : goal.days-init
@@ -15,6 +17,7 @@ days-init g c = record {
   names = λ t listed. listed;
   read = λ t listed j. begun (g.F.Folder.files c.args.folder.now) c.args.kept.now.range c.args.text.now
       (g.W.Output.state c.args.writer.now).taken j;
+  whole = λ t listed day not. absurd (not tt);
 }
 
 pub returns-in_default-clause-outcome : goal.returns-in_default-clause-outcome
@@ -60,6 +63,12 @@ days-preserved g c =
           (λ xs up is of. subst (λ (f : Files). WritesDay f range c.in-Some.day xs mid new) (i.same before)
           (c.in_ok-read_day.ensures.outcome t (subst (λ (f : Files). AreNamesOf f names) (sym (i.same before))
           (i.names before listed)) xs up is of));
+      whole = λ t listed. let before = c.read_day.ensures.told t in
+          days_more_whole files range c.days.last names rest c.next_day.result next (i.names before listed)
+          (i.whole before listed) c.in-Some.day c.in-Some.is
+          (λ meets. subst (λ (f : Files). SegmentsAreWhole f c.in-Some.day) (i.same before)
+          (c.in_ok-read_day.ensures.whole t (subst (λ (f : Files). AreNamesOf f names) (sym (i.same before))
+          (i.names before listed)) meets));
     }
 
 pub returns-in_err-read_day-clause-outcome : goal.returns-in_err-read_day-clause-outcome
@@ -89,3 +98,15 @@ pub returns-clause-outcome : goal.returns-clause-outcome
 returns-clause-outcome g c t listed j =
     read_cut (g.F.Folder.files c.args.folder.now) c.args.kept.now.range c.days.last c.days.rest.now
     (g.W.Output.state c.args.writer.now).taken (g.W.Output.state c.days.writer).taken (c.days.invariant.read t listed j)
+
+pub returns-in_default-clause-whole : goal.returns-in_default-clause-whole
+returns-in_default-clause-whole g c t listed =
+    let i = c.days.invariant in
+    let names = c.days.names.items in
+    let rest = c.days.rest.now in
+    let next = subst (λ (l : Option (List ℕ)). IsNextDay l names rest c.next_day.result)
+    (copied_is c.as_ref.result ∙ c.as_ref.ensures.value)
+    (subst (λ (ns : List (List ℕ)). IsNextDay (option_map (λ d. d.now) c.as_ref.result) ns rest c.next_day.result)
+    c.deref.ensures.value c.next_day.ensures) in
+    days_whole (g.F.Folder.files c.args.folder.now) c.args.kept.now.range c.days.last names rest c.next_day.result next
+    (i.names t listed) (i.whole t listed) c.in_default.is

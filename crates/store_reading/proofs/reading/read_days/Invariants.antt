@@ -1,6 +1,7 @@
 use Rattle.std.proofs.Common.{◌≡◌}
 use Rattle.store_reading.specs.Folders.{AreNamesOf}
 use Rattle.store_reading.specs.Journals.{IsOfJournals}
+use Rattle.store_reading.specs.Whole.{EarlierAreWhole}
 use Rattle.store_reading.proofs.DaysRead.{AreRead}
 use Rattle.store_reading.proofs.reading.read_days.Given as goal
 
@@ -14,4 +15,6 @@ invariant-days g l = record {
       → IsOfJournals (g.F.Folder.files l.fn.folder) l.text
       → AreRead (g.F.Folder.files l.fn.folder) l.kept.range l.last l.rest
       (g.W.Output.state l.fn.writer).taken (g.W.Output.state l.writer).taken;
+  whole : g.F.Folder.tells l.folder → AreNamesOf (g.F.Folder.files l.fn.folder) l.fn.names.items
+      → EarlierAreWhole (g.F.Folder.files l.fn.folder) l.kept.range l.last;
 }

@@ -1,0 +1,142 @@
+-- What was read is whole.
+use Rattle.std.proofs.Common.{◌≡◌, ◌⊎◌, ℕ, List, [], ◌∷◌, ◌++◌, Option, None, Some, inl, inr, refl, sym, ap, subst, ◌∙◌}
+use Rattle.std.proofs.Common.{append-nil}
+use Rattle.std.specs.Prelude.{Contains, Err, IfSome, IsSome, IsSomeAnd, Ok, OnOk, Result}
+use Rattle.std.proofs.lemmas.List.Elements.{Contains-push_cases}
+use Rattle.disk.specs.States.{Files}
+use Rattle.octet_devices.specs.Device.{InputState}
+use Rattle.journal.specs.Batches.{IsClosed}
+use Rattle.archive_text.specs.Entries.{Entry}
+use Rattle.archive_text.specs.Text.{text_of}
+use Rattle.archive_sets.specs.declared.range.InRange.{InRange}
+use Rattle.store_reading.specs.Days.{IsAfter, IsDayBelow}
+use Rattle.store_reading.specs.Folders.{AreNamesOf, Opens}
+use Rattle.store_reading.specs.Names.{HaveSegment, IsNextDay}
+use Rattle.store_reading.specs.Segments.{IsSegmentInput}
+use Rattle.store_reading.specs.Whole.{DaysAreWhole, EarlierAreWhole, IsArchiveOfDay, IsReadable, IsWholeJournal}
+use Rattle.store_reading.specs.Whole.{IsWholeJournalAt, IsWholeSegmentAt, JournalsAreWhole, MeetsRange}
+use Rattle.store_reading.specs.Whole.{NamedJournalsAreWhole, NamedSegmentsAreWhole, SegmentsAreWhole}
+use Rattle.store_reading.proofs.Batched.{BatchAdded, JournalAdded}
+use Rattle.store_reading.proofs.DayOrders.{day_text, day_total}
+use Rattle.store_reading.proofs.DaysRead.{some_not}
+use Rattle.store_reading.proofs.NextDays.{after_or_not}
+
+-- what holds of any result holds of one that is no fault
+pub on_ok : {T E P : Type 0} (r : Result T E) → P → OnOk r P
+on_ok (Ok x) p = p
+on_ok (Err e) p = tt
+
+pub on_ok_more : {T E P Q : Type 0} (r : Result T E) → (P → Q) → OnOk r P → OnOk r Q
+on_ok_more (Ok x) from p = from p
+on_ok_more (Err e) from p = tt
+
+-- ---- a journal
+
+pub batch_read : (old new : List Entry) (body rest : List ℕ) → BatchAdded old new body rest → rest ≡ []
+    → IsReadable body
+batch_read old new body rest b none = (
+  b.entries,
+  record {
+    entries = b.are;
+    fits = b.fit;
+    text = b.parts ∙ ap (λ (t : List ℕ). text_of b.entries ++ t) none ∙ append-nil (text_of b.entries);
+  },
+)
+
+pub journal_read : (old new : List Entry) (file rest : List ℕ) → JournalAdded old new file rest → IsClosed rest
+    → IsWholeJournal file
+journal_read old new file rest j closed = record {
+  bodies = j.bodies;
+  batches = record { tail = rest; text = j.parts; closed = closed; sized = j.sized };
+  readable = j.readable;
+}
+
+-- what an input had left is what it gave
+pub left_whole : (left : Option (List ℕ)) (octets : List ℕ) → IfSome left (λ (input : List ℕ). octets ≡ input)
+    → IsWholeJournal octets → IfSome left IsWholeJournal
+left_whole None octets is whole = tt
+left_whole (Some input) octets is whole = subst IsWholeJournal is whole
+
+file_whole : (file left : Option (List ℕ)) → IsSomeAnd file (λ octets. left ≡ Some octets) → IfSome left IsWholeJournal
+    → IfSome file IsWholeJournal
+file_whole None left opens whole = tt
+file_whole (Some f) left opens whole = subst (λ (l : Option (List ℕ)). IfSome l IsWholeJournal) opens whole
+
+-- the journal that was opened
+pub opened_whole : (files : Files) (name : List ℕ) (d : InputState) → Opens files name d → IfSome d.left IsWholeJournal
+    → IsWholeJournalAt files name
+opened_whole files name d opens whole = λ journal. file_whole (files name) d.left opens whole
+
+-- ---- names
+
+pub more_whole : (P : List ℕ → Type 0) (names : List (List ℕ)) (last : List ℕ)
+    → ((name : List ℕ) → Contains names name → P name) → P last
+    → (name : List ℕ) → Contains (names ++ last ∷ []) name → P name
+more_whole P names last before one name has =
+    elim (Contains-push_cases names last name has) [ inl k ↦ before name k | inr is ↦ subst P is one ]
+
+-- where all names that have a file are listed
+listed_whole : (P : List ℕ → Type 0) (files : Files) (names : List (List ℕ)) (name : List ℕ) (o : Option (List ℕ))
+    → o ≡ files name → AreNamesOf files names → (Contains names name → IfSome (files name) P) → IfSome o P
+listed_whole P files names name None is listed whole = tt
+listed_whole P files names name (Some file) is listed whole =
+    subst (λ (o : Option (List ℕ)). IfSome o P) (sym is) (whole ((listed name).1 (ap_some is)))
+  where
+    ap_some : Some file ≡ files name → IsSome (files name)
+    ap_some same = subst (λ (o : Option (List ℕ)). IsSome o) same refl
+
+pub all_whole : (files : Files) (names : List (List ℕ)) → AreNamesOf files names → NamedJournalsAreWhole files names
+    → JournalsAreWhole files
+all_whole files names listed whole name journal =
+    listed_whole IsWholeJournal files names name (files name) refl listed (λ has. whole name has journal)
+
+pub day_whole : (files : Files) (names : List (List ℕ)) (day : List ℕ) → AreNamesOf files names
+    → NamedSegmentsAreWhole files names day → SegmentsAreWhole files day
+day_whole files names day listed whole name segment =
+    listed_whole (IsArchiveOfDay day) files names name (files name) refl listed (λ has. whole name has segment)
+
+-- ---- segments
+
+-- the segment that was opened
+pub segment_whole : (files : Files) (name day : List ℕ) (d : InputState) → IsSegmentInput files name day d
+    → IsWholeSegmentAt files day name
+segment_whole files name day d i = λ segment. subst (λ (o : Option (List ℕ)). IfSome o (IsArchiveOfDay day)) (sym i.file)
+    (i.entries, record { archive = i.input.archive; text_is = refl; days = i.days })
+
+-- ---- days
+
+module _ (files : Files) (range : InRange) (last : Option (List ℕ)) (names : List (List ℕ)) (rest : List ℕ)
+    (found : Option (List ℕ)) (n : IsNextDay last names rest found) (listed : AreNamesOf files names)
+    (before : EarlierAreWhole files range last) where
+  -- of a day behind the last one that has no segment nothing is to be whole
+  no_segment : (d : List ℕ) → ¬ (HaveSegment names d) → SegmentsAreWhole files d
+  no_segment d none name segment =
+      listed_whole (IsArchiveOfDay d) files names name (files name) refl listed
+      (λ has. absurd (none (name, has, segment)))
+
+  -- where there is no further day
+  pub days_whole : found ≡ None → DaysAreWhole files range
+  days_whole none d meets =
+      elim (after_or_not last d) [
+        | inr not ↦ before d not meets
+        | inl after ↦ no_segment d (λ have.
+            subst (λ (o : Option (List ℕ)). IsSomeAnd o (λ (x : List ℕ). ¬ (IsDayBelow d x))) none
+            (n.none_before d (day_text d meets.0 meets.1) (inl have) after))
+      ]
+
+  -- one day more
+  pub days_more_whole : (day : List ℕ) → found ≡ Some day → (MeetsRange range day → SegmentsAreWhole files day)
+      → EarlierAreWhole files range (Some day)
+  days_more_whole day is one d not meets = go (day_total day d)
+    where
+      below : IsDayBelow d day → IsAfter last d ⊎ ¬ (IsAfter last d) → SegmentsAreWhole files d
+      below less (inr up_to) = before d up_to meets
+      below less (inl after) =
+          no_segment d
+          (λ have. some_not found d day is (n.none_before d (day_text d meets.0 meets.1) (inl have) after) less)
+
+      go : IsDayBelow day d ⊎ ((day ≡ d) ⊎ IsDayBelow d day) → SegmentsAreWhole files d
+      go (inl after) = absurd (not after)
+      go (inr (inl same)) =
+          subst (SegmentsAreWhole files) same (one (subst (MeetsRange range) (sym same) meets))
+      go (inr (inr less)) = below less (after_or_not last d)

@@ -1,0 +1,68 @@
+-- Files that are whole.
+use Rattle.std.specs.Prelude.{ℕ, List, Option, Contains, IfSome}
+use Rattle.std.specs.List.{AllByRecursion}
+use Rattle.disk.specs.States.{Files}
+use Rattle.journal.specs.Batches.{HasBatches}
+use Rattle.archive_text.specs.Entries.{Entry}
+use Rattle.archive_sets.specs.declared.range.InRange.{InRange}
+use Rattle.archive_join.specs.Ranges.{IsOfRange}
+use Rattle.record_store.specs.Holdings.{IsBatch}
+use Rattle.record_store.specs.Names.{IsJournal, IsSegment}
+use Rattle.record_store.specs.Segments.{IsSegmentOf}
+use Rattle.store_reading.specs.Days.{IsAfter, IsOf}
+
+-- octets are a sequence of entries
+abbrev pub IsReadable : List ℕ → Type 0
+IsReadable body = (es : List Entry) × IsBatch es body
+
+-- each batch of a journal is a sequence of entries
+pub record IsWholeJournal (file : List ℕ) : Type 0 where
+  pub bodies : List (List ℕ)
+  pub batches : HasBatches file bodies
+  pub readable : AllByRecursion IsReadable bodies
+
+-- the file under a name, if there is one, is whole where the name is that of a journal
+abbrev pub IsWholeJournalAt : Files → List ℕ → Type 0
+IsWholeJournalAt files name = IsJournal name → IfSome (files name) IsWholeJournal
+
+-- so it is under each of these names
+abbrev pub NamedJournalsAreWhole : Files → List (List ℕ) → Type 0
+NamedJournalsAreWhole files names = (name : List ℕ) → Contains names name → IsWholeJournalAt files name
+
+-- so it is under each name of the folder
+abbrev pub JournalsAreWhole : Files → Type 0
+JournalsAreWhole files = (name : List ℕ) → IsWholeJournalAt files name
+
+-- octets are the archive of entries of a day
+abbrev pub IsArchiveOfDay : List ℕ → List ℕ → Type 0
+IsArchiveOfDay day file = (es : List Entry) × IsSegmentOf day file es
+
+-- the file under a name, if there is one, is an archive of the day where the name is that of a segment of the day
+abbrev pub IsWholeSegmentAt : Files → List ℕ → List ℕ → Type 0
+IsWholeSegmentAt files day name = IsSegment day name → IfSome (files name) (IsArchiveOfDay day)
+
+-- so it is under each of these names
+abbrev pub NamedSegmentsAreWhole : Files → List (List ℕ) → List ℕ → Type 0
+NamedSegmentsAreWhole files names day = (name : List ℕ) → Contains names name → IsWholeSegmentAt files day name
+
+-- so it is under each name of the folder
+abbrev pub SegmentsAreWhole : Files → List ℕ → Type 0
+SegmentsAreWhole files day = (name : List ℕ) → IsWholeSegmentAt files day name
+
+-- an entry of the day may be in the range
+abbrev pub MeetsRange : InRange → List ℕ → Type 0
+MeetsRange range day = (e : Entry) × IsOf day e × IsOfRange range e
+
+-- the segments of each day of the range are whole
+abbrev pub DaysAreWhole : Files → InRange → Type 0
+DaysAreWhole files range = (day : List ℕ) → MeetsRange range day → SegmentsAreWhole files day
+
+-- those of each up to the last one
+abbrev pub EarlierAreWhole : Files → InRange → Option (List ℕ) → Type 0
+EarlierAreWhole files range last =
+    (day : List ℕ) → ¬ (IsAfter last day) → MeetsRange range day → SegmentsAreWhole files day
+
+-- what is read of a range is whole: each journal, and the segments of each day of the range
+pub record IsWholeIn (files : Files) (range : InRange) : Type 0 where
+  pub journals : JournalsAreWhole files
+  pub segments : DaysAreWhole files range
