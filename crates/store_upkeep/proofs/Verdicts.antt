@@ -1,8 +1,7 @@
 -- What is said of files.
-use Rattle.std.proofs.Common.{◌≡◌, ◌⊎◌, ℕ, ◌+◌, ◌-◌, List, [], ◌∷◌, ◌++◌, length, take, Option, None, Some, inl, inr}
-use Rattle.std.proofs.Common.{refl, sym, ap, subst, ◌∙◌, append_assoc, length-append, map, arith}
-use Rattle.std.specs.Prelude.{◌↔◌, Contains, Err, IfOk, IfSome, IsNone, IsSome, IsSomeAnd, Ok, Result, codes}
-use Rattle.std.specs.List.{AllByRecursion}
+use Rattle.std.proofs.Common.{◌≡◌, ℕ, ◌-◌, List, [], ◌∷◌, ◌++◌, length, take, Option, None, Some, inl, inr}
+use Rattle.std.proofs.Common.{refl, sym, ap, subst, ◌∙◌, append-nil, append_assoc, length-append, arith}
+use Rattle.std.specs.Prelude.{Contains, Err, IfOk, IfSome, IsNone, IsSome, IsSomeAnd, Ok, Result, codes}
 use Rattle.std.proofs.lemmas.List.{map-append, take_at}
 use Rattle.std.proofs.lemmas.List.Elements.{Contains-append_left, Contains-push, Contains-push_cases}
 use Rattle.disk.specs.States.{Files}
@@ -12,7 +11,8 @@ use Rattle.record_store.specs.Names.{IsJournal, IsSegment}
 use Rattle.record_store.proofs.Named.{not_both}
 use Rattle.store_reading.specs.Days.{IsDayText}
 use Rattle.store_reading.specs.Folders.{AreNamesOf, Opens}
-use Rattle.store_upkeep.specs.Damages.{AreDamaged, IsFoundBy, IsVerdict, IsWholeOrListed, OfLeft, Refutes, names_of}
+use Rattle.store_upkeep.specs.Damages.{AddsTo, AreDamaged, IsFoundBy, IsVerdict, IsWholeOrListed, OfLeft, Refutes}
+use Rattle.store_upkeep.specs.Damages.{names_of}
 use Rattle.store_upkeep.specs.Whole.{IsDamagedAt, IsWholeAt, IsWholeFile, IsWholeJournal, IsWholeSegment}
 use Rattle.store_upkeep.specs.declared.damage.CheckFault.{CheckFault}
 use Rattle.store_upkeep.specs.declared.damage.CheckFault.TheVariants.{Damaged, Input, Memory}
@@ -116,15 +116,23 @@ damaged_push files ds d all one =
 names_push : (ds : List DamagedFile) (d : DamagedFile) → names_of (ds ++ d ∷ []) ≡ names_of ds ++ d.name ∷ []
 names_push ds d = map-append (λ (x : DamagedFile). x.name) ds (d ∷ [])
 
-pub stays_push : (ds : List DamagedFile) (d : DamagedFile) (name : List ℕ) → Contains (names_of ds) name
-    → Contains (names_of (ds ++ d ∷ [])) name
-stays_push ds d name has =
-    subst (λ (l : List (List ℕ)). Contains l name) (sym (names_push ds d))
-    (Contains-append_left (names_of ds) (d.name ∷ []) name has)
-
 pub listed_push : (ds : List DamagedFile) (d : DamagedFile) → Contains (names_of (ds ++ d ∷ [])) d.name
 listed_push ds d =
     subst (λ (l : List (List ℕ)). Contains l d.name) (sym (names_push ds d)) (Contains-push (names_of ds) d.name)
+
+pub adds_none : (ds : List DamagedFile) → AddsTo ds ds
+adds_none ds = ([], sym (append-nil ds))
+
+pub adds_then : (a b c : List DamagedFile) → AddsTo a b → AddsTo b c → AddsTo a c
+adds_then a b c (x, one) (y, two) =
+    (x ++ y, two ∙ ap (λ (l : List DamagedFile). l ++ y) one ∙ append_assoc a x y)
+
+pub adds_stays : (old new : List DamagedFile) → AddsTo old new → (name : List ℕ) → Contains (names_of old) name
+    → Contains (names_of new) name
+adds_stays old new (added, is) name has =
+    subst (λ (l : List (List ℕ)). Contains l name)
+    (sym (ap names_of is ∙ map-append (λ (x : DamagedFile). x.name) old added))
+    (Contains-append_left (names_of old) (names_of added) name has)
 
 pub listed_on : (files : Files) (old new : List DamagedFile) (name : List ℕ)
     → ((other : List ℕ) → Contains (names_of old) other → Contains (names_of new) other)

@@ -1,5 +1,5 @@
 -- What is wrong with files.
-use Rattle.std.specs.Prelude.{◌≡◌, ◌⊎◌, ℕ, List, Option, None, Some, IsNone, Contains, map}
+use Rattle.std.specs.Prelude.{◌≡◌, ◌⊎◌, ℕ, List, ◌++◌, Option, None, Some, IsNone, Contains, map}
 use Rattle.std.specs.List.{AllByRecursion}
 use Rattle.disk.specs.States.{Files}
 use Rattle.hex.specs.Hex.{encode_lower}
@@ -13,17 +13,24 @@ use Rattle.archive_streams.specs.declared.fault.SideFault.{SideFault}
 use Rattle.archive_streams.specs.declared.fault.SideFault.TheVariants.{Archive as side_Archive, Input as side_Input}
 use Rattle.store_reading.specs.Folders.{Opens}
 use Rattle.store_reading.specs.Segments.{IsWholeOf, ReadsOf}
+use Rattle.store_reading.specs.declared.fault.FileFault.{FileFault}
+use Rattle.store_reading.specs.declared.fault.FileFault.TheVariants.{Archive as file_Archive, OtherDay as file_OtherDay}
 use Rattle.store_upkeep.specs.Whole.{IsDamagedAt, IsWholeAt}
 use Rattle.store_upkeep.specs.declared.damage.CheckFault.{CheckFault}
 use Rattle.store_upkeep.specs.declared.damage.CheckFault.TheVariants.{Damaged, Input, Memory}
 use Rattle.store_upkeep.specs.declared.damage.Damage.{Damage}
-use Rattle.store_upkeep.specs.declared.damage.Damage.TheVariants.{Archive}
+use Rattle.store_upkeep.specs.declared.damage.Damage.TheVariants.{Archive, OtherDay}
 use Rattle.store_upkeep.specs.declared.damage.DamagedFile.{DamagedFile}
 
 -- why no entry comes next
 abbrev pub check_fault_of : SideFault → CheckFault
 check_fault_of (side_Archive fault) = Damaged (Archive fault)
 check_fault_of (side_Input fault) = Input fault
+
+-- the damage that a fault of reading tells
+abbrev pub damage_told : FileFault → Damage
+damage_told (file_Archive fault) = Archive fault
+damage_told (file_OtherDay at) = OtherDay at
 
 -- a fault of the octets, under which something is not so
 abbrev pub Refutes : CheckFault → Type 0 → Type 0
@@ -64,6 +71,10 @@ OpensOrNone state (Some file) files name = Opens files name (state file)
 -- each is damaged
 abbrev pub AreDamaged : Files → List DamagedFile → Type 0
 AreDamaged files ds = AllByRecursion (λ (d : DamagedFile). IsDamagedAt files d.name) ds
+
+-- all that was in a list is in it still, in its order, and what is new is behind it
+abbrev pub AddsTo : List DamagedFile → List DamagedFile → Type 0
+AddsTo old new = (added : List DamagedFile) × (new ≡ old ++ added)
 
 abbrev pub names_of : List DamagedFile → List (List ℕ)
 names_of ds = map (λ (d : DamagedFile). d.name) ds

@@ -2,8 +2,7 @@
 ghost use Rattle.std.specs.Prelude.{◌≡◌, Contains, IfOk, IsTrue, List, ℕ, OnOk};
 ghost use Rattle.record_store.specs.Names.{IsJournal, IsSegment};
 ghost use Rattle.store_reading.specs.Days.{IsDayText};
-ghost use Rattle.store_upkeep.specs.Damages.{AreDamaged, IsVerdict, IsWholeOrListed, OpensOrNone, names_of};
-ghost use Rattle.store_upkeep.specs.Damages.{IsFoundBy};
+ghost use Rattle.store_upkeep.specs.Damages.{AddsTo, AreDamaged, IsFoundBy, IsVerdict, IsWholeOrListed, OpensOrNone};
 
 use crate::damage::{CheckFault, Damage, DamagedFile};
 use crate::journal_check::check_journal;
@@ -135,8 +134,7 @@ fn verify_file<F: Folder>(
         → AreDamaged (F.files folder.old) damaged.new.items }
     ensures listed { OnOk result (F.tells folder.new
         → IsWholeOrListed (F.files folder.old) damaged.new.items name.now) }
-    ensures stays { (other : List ℕ) → Contains (names_of damaged.old.items) other
-        → Contains (names_of damaged.new.items) other }
+    ensures added { AddsTo damaged.old.items damaged.new.items }
     ensures same { F.tells folder.new → F.files folder.new ≡ F.files folder.old }
     ensures told { F.tells folder.new → F.tells folder.old }
 {
@@ -159,6 +157,7 @@ fn verify_files<F: Folder>(
         → AreDamaged (F.files folder.old) damaged.new.items }
     ensures listed { OnOk result (F.tells folder.new → (name : List ℕ) → Contains names.now name
         → IsWholeOrListed (F.files folder.old) damaged.new.items name) }
+    ensures added { AddsTo damaged.old.items damaged.new.items }
     ensures same { F.tells folder.new → F.files folder.new ≡ F.files folder.old }
     ensures told { F.tells folder.new → F.tells folder.old }
 {
@@ -189,6 +188,9 @@ pub fn verify<F: Folder>(
     // each that is damaged is there
     ensures listed { OnOk result (F.tells folder.new → (name : List ℕ)
         → IsWholeOrListed (F.files folder.old) damaged.new.items name) }
+
+    // what was in the list stays, and what is added stands behind it
+    ensures added { AddsTo damaged.old.items damaged.new.items }
 
     ensures same { F.tells folder.new → F.files folder.new ≡ F.files folder.old }
     ensures told { F.tells folder.new → F.tells folder.old }

@@ -1,7 +1,6 @@
 use Rattle.std.proofs.Common.{IsTrue, false, refl, rules, ◌≡◌, ap, subst, sym}
 use Rattle.archive_text.specs.Entries.{Entry}
-use Rattle.archive_text.specs.Text.{entry_text}
-use Rattle.archive_streams.specs.Entries.{current, Ends, ReadsOne}
+use Rattle.archive_streams.specs.Entries.{current}
 use Rattle.sha2.specs.Hashers.{Holds256}
 use Rattle.std.proofs.Common.{List, ℕ, ◌++◌}
 use Rattle.syslog_frame.specs.Frames.{framed}
