@@ -1,7 +1,8 @@
 -- The segments of a day are joined into a draft.
 use Rattle.std.proofs.Common.{◌≡◌, ℕ, Bool, List, [], ◌∷◌, ◌++◌, inl, inr, refl, sym, ap, subst, ◌∙◌}
 use Rattle.std.proofs.Common.{append-nil, arith, length}
-use Rattle.std.specs.Prelude.{◌↔◌, ◌≤◌, Contains, Err, IfOk, IsSome, IsSomeAnd, Ok, OnOk, Option, None, Result, Some, codes}
+use Rattle.std.specs.Prelude.{◌↔◌, ◌≤◌, Contains, Err, IfOk, IsSome, IsSomeAnd, Ok, OnOk, Option, None, Result, Some}
+use Rattle.std.specs.Prelude.{codes}
 use Rattle.std.specs.Io.KnownBytes.{Appends}
 use Rattle.std.specs.Option.{option_map}
 use Rattle.std.proofs.lemmas.List.Elements.{Contains-append_left, Contains-push, Contains-push_cases}

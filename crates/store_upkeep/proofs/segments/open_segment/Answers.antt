@@ -24,5 +24,6 @@ returns-in-Ok-clause-whole g c =
     (λ tells sound segment.
     segment_whole_at (shown (g.D.Disk.state c.args.disk.now)) c.args.name.now c.args.day.now (state c.in_ok-file.file)
     segment (c.in_ok-file.ensures.opened (c.open-in-Ok.ensures.told tells) sound)
-    (subst (λ (n : List ℕ). OfLeft (state c.in_ok-file.file) (IsWholeSegment c.args.day.now n)) c.as_octets.ensures.value
+    (subst (λ (n : List ℕ). OfLeft (state c.in_ok-file.file) (IsWholeSegment c.args.day.now n))
+    c.as_octets.ensures.value
     c.in-Ok.ensures.whole))

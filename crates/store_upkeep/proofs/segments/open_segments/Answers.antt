@@ -65,4 +65,5 @@ segments-preserved g c =
 pub returns-clause-whole : goal.returns-clause-whole
 returns-clause-whole g c t sound are =
     subst (AreWholeAt (shown (g.D.Disk.state c.args.disk.now)))
-    (take_all c.segments.segment-index c.args.segments.now c.segments-test.false) (c.segments.invariant.whole t sound are)
+    (take_all c.segments.segment-index c.args.segments.now c.segments-test.false)
+    (c.segments.invariant.whole t sound are)
