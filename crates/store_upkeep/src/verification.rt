@@ -2,7 +2,8 @@
 ghost use Rattle.std.specs.Prelude.{◌≡◌, Contains, IfOk, IsTrue, List, ℕ, OnOk};
 ghost use Rattle.record_store.specs.Names.{IsJournal, IsSegment};
 ghost use Rattle.store_reading.specs.Days.{IsDayText};
-ghost use Rattle.store_upkeep.specs.Damages.{AddsTo, AreDamaged, IsFoundBy, IsVerdict, IsWholeOrListed, OpensOrNone};
+ghost use Rattle.store_upkeep.specs.Damages.{AddsTo, AreAsTold, AreDamaged, IsFoundBy, IsVerdict, IsWholeOrListed};
+ghost use Rattle.store_upkeep.specs.Damages.{OpensOrNone};
 
 use crate::damage::{CheckFault, Damage, DamagedFile};
 use crate::journal_check::check_journal;
@@ -132,6 +133,8 @@ fn verify_file<F: Folder>(
 ) -> Result<(), ReadFault>
     ensures damaged { F.tells folder.new → AreDamaged (F.files folder.old) damaged.old.items
         → AreDamaged (F.files folder.old) damaged.new.items }
+    ensures as_told { F.tells folder.new → AreAsTold (F.files folder.old) damaged.old.items
+        → AreAsTold (F.files folder.old) damaged.new.items }
     ensures listed { OnOk result (F.tells folder.new
         → IsWholeOrListed (F.files folder.old) damaged.new.items name.now) }
     ensures added { AddsTo damaged.old.items damaged.new.items }
@@ -155,6 +158,8 @@ fn verify_files<F: Folder>(
 ) -> Result<(), ReadFault>
     ensures damaged { F.tells folder.new → AreDamaged (F.files folder.old) damaged.old.items
         → AreDamaged (F.files folder.old) damaged.new.items }
+    ensures as_told { F.tells folder.new → AreAsTold (F.files folder.old) damaged.old.items
+        → AreAsTold (F.files folder.old) damaged.new.items }
     ensures listed { OnOk result (F.tells folder.new → (name : List ℕ) → Contains names.now name
         → IsWholeOrListed (F.files folder.old) damaged.new.items name) }
     ensures added { AddsTo damaged.old.items damaged.new.items }
@@ -184,6 +189,10 @@ pub fn verify<F: Folder>(
     // each that is added is damaged
     ensures damaged { F.tells folder.new → AreDamaged (F.files folder.old) damaged.old.items
         → AreDamaged (F.files folder.old) damaged.new.items }
+
+    // and as it is told
+    ensures as_told { F.tells folder.new → AreAsTold (F.files folder.old) damaged.old.items
+        → AreAsTold (F.files folder.old) damaged.new.items }
 
     // each that is damaged is there
     ensures listed { OnOk result (F.tells folder.new → (name : List ℕ)
