@@ -1,7 +1,8 @@
 -- The segments of a day are joined into a draft.
 use Rattle.std.proofs.Common.{◌≡◌, ℕ, Bool, List, [], ◌∷◌, ◌++◌, inl, inr, refl, sym, ap, subst, ◌∙◌}
 use Rattle.std.proofs.Common.{append-nil, arith, length}
-use Rattle.std.specs.Prelude.{◌↔◌, ◌≤◌, Contains, Err, IfOk, IsSome, IsSomeAnd, Ok, Option, None, Result, Some, codes}
+use Rattle.std.specs.Prelude.{◌↔◌, ◌≤◌, Contains, Err, IfOk, IsSome, IsSomeAnd, Ok, OnOk, Option, None, Result, Some}
+use Rattle.std.specs.Prelude.{codes}
 use Rattle.std.specs.Io.KnownBytes.{Appends}
 use Rattle.std.specs.Option.{option_map}
 use Rattle.std.proofs.lemmas.List.Elements.{Contains-append_left, Contains-push, Contains-push_cases}
@@ -34,7 +35,7 @@ use Rattle.store_reading.proofs.Held.{day_held, no_name}
 use Rattle.store_reading.proofs.Joined.{rest_of, whole_rest}
 use Rattle.store_upkeep.specs.Compaction.{AreDayNames, AreListed, IsJoinOf, MayBePlaced, shown}
 use Rattle.store_upkeep.specs.Damages.{IsHashed, OfLeft}
-use Rattle.store_upkeep.specs.Whole.{IsWholeSegment}
+use Rattle.store_upkeep.specs.Whole.{IsWholeAt, IsWholeSegment}
 use Rattle.store_upkeep.proofs.Hashed.{file_is}
 use Rattle.store_upkeep.proofs.Verdicts.{day_named}
 
@@ -120,6 +121,16 @@ input_still old new name day d same i = record {
   file = sym (ap shown_now (same.entries name)) ∙ i.file;
   days = i.days;
 }
+
+-- what is whole of a file that is shown still
+pub whole_still : (old new : State) (name : List ℕ) → IsUnchanged old new → IsWholeAt (shown new) name
+    → IsWholeAt (shown old) name
+whole_still old new name same whole file is = whole file (ap shown_now (same.entries name) ∙ is)
+
+-- what is so whatever a call gave
+pub on_ok : {F E : Type 0} (r : Result F E) (P : Type 0) → P → OnOk r P
+on_ok (Ok x) P p = p
+on_ok (Err e) P p = tt
 
 -- ---- what was written
 

@@ -1,7 +1,7 @@
 -- Days are compacted, one behind the other.
-use Rattle.std.proofs.Common.{◌≡◌, ◌≢◌, ◌⊎◌, ℕ, ◌≤◌, List, [], ◌∷◌, ◌++◌, inl, inr, ⊎_elim, sym, ap, subst, ◌∙◌}
+use Rattle.std.proofs.Common.{◌≡◌, ◌≢◌, ◌⊎◌, ℕ, ◌≤◌, List, [], ◌∷◌, ◌++◌, inl, inr, ⊎_elim, sym, ap, subst, ◌∙◌, refl}
 use Rattle.std.proofs.Common.{length}
-use Rattle.std.specs.Prelude.{Contains, IsSome, Option, None, Some}
+use Rattle.std.specs.Prelude.{Contains, IsSome, IsSomeAnd, Option, None, Some}
 use Rattle.std.proofs.lemmas.Bool.{false≢true}
 use Rattle.std.proofs.lemmas.List.Elements.{Contains-push, Contains-push_cases}
 use Rattle.disk.specs.Calls.{IsUnchanged}
@@ -19,10 +19,13 @@ use Rattle.record_store.proofs.Drafted.{segment_no_more}
 use Rattle.record_store.proofs.Leavings.{settled_shown}
 use Rattle.record_store.proofs.Named.{same_or_apart}
 use Rattle.store_reading.specs.Days.{IsDayText}
-use Rattle.store_upkeep.specs.Compaction.{AreDayNames, AreListed, DayIsListed, EachHasAtMost, GoesOn, HasAll}
-use Rattle.store_upkeep.specs.Compaction.{HasAtMost, IsJoinOf, IsSameApart, KeepsSet, MayBePlaced, ShowsLess, shown}
+use Rattle.store_upkeep.specs.Compaction.{AreDayNames, AreListed, AreWholeAt, DayIsListed, EachHasAtMost, GoesOn}
+use Rattle.store_upkeep.specs.Compaction.{HasAll, HasAtMost, IsJoinOf, IsSameApart, IsWholeDay, KeepsDamagedDays}
+use Rattle.store_upkeep.specs.Compaction.{KeepsOtherFiles, KeepsSet, KeepsUnlessDayIsWhole, MayBePlaced, ShowsLess}
+use Rattle.store_upkeep.specs.Compaction.{compact_draft, shown}
+use Rattle.store_upkeep.specs.Whole.{IsWholeFile}
 use Rattle.store_upkeep.proofs.DayJoins.{day_has, join_still, may_place}
-use Rattle.store_upkeep.proofs.SameSets.{aside_set, then_set}
+use Rattle.store_upkeep.proofs.SameSets.{aside_set, draft_apart_name, then_set}
 use Rattle.store_upkeep.proofs.Verdicts.{day_named}
 
 no_some : (o : Option (List ℕ)) → o ≡ None → IsSome o → ⊥
@@ -30,26 +33,89 @@ no_some o none some = false≢true (subst IsSome none some)
 
 -- ---- what is the same apart from a day
 
-pub aside_apart : (old new : State) (draft day : List ℕ) → KeepsOthers old new draft → ¬ (Counts draft)
+segment_apart : (day name : List ℕ) → IsSegment day name → name ≢ compact_draft
+segment_apart day name segment is = draft_apart_name (inr (day, subst (IsSegment day) is segment))
+
+pub aside_apart : (old new : State) (draft day : List ℕ) → KeepsOthers old new draft → draft ≡ compact_draft
     → IsSameApart day old new
-aside_apart old new draft day others apart name counts not =
-    ap shown_now (others name (λ is. apart (subst Counts is counts)))
+aside_apart old new draft day others named name differs not =
+    ap shown_now (others name (λ is. differs (is ∙ named)))
 
 pub unchanged_apart : (old new : State) (day : List ℕ) → IsUnchanged old new → IsSameApart day old new
-unchanged_apart old new day same name counts not = ap shown_now (same.entries name)
+unchanged_apart old new day same name differs not = ap shown_now (same.entries name)
 
 pub then_apart : (a b c : State) (day : List ℕ) → IsSameApart day a b → IsSameApart day b c → IsSameApart day a c
-then_apart a b c day one two name counts not = two name counts not ∙ one name counts not
+then_apart a b c day one two name differs not = two name differs not ∙ one name differs not
 
 pub placed_apart : (old new : State) (draft joined day : List ℕ) → KeepsOrSettlesApart old new draft joined
-    → ¬ (Counts draft) → IsSegment day joined → IsSameApart day old new
-placed_apart old new draft joined day others apart segment name counts not =
+    → draft ≡ compact_draft → IsSegment day joined → IsSameApart day old new
+placed_apart old new draft joined day others named segment name differs not =
     settled_shown (old.entries name) (new.entries name)
-    (others name (λ is. apart (subst Counts is counts)) (λ is. not (subst (IsSegment day) (sym is) segment)))
+    (others name (λ is. differs (is ∙ named)) (λ is. not (subst (IsSegment day) (sym is) segment)))
 
 pub removed_apart : (old new : State) (day : List ℕ) (names segments : List (List ℕ)) → AreDayNames names day segments
     → ((name : List ℕ) → ¬ (Contains segments name) → shown new name ≡ shown old name) → IsSameApart day old new
-removed_apart old new day names segments found others name counts not = others name (λ has. not (found.are name has))
+removed_apart old new day names segments found others name differs not = others name (λ has. not (found.are name has))
+
+-- ---- the files of no day, and those of damaged days
+
+pub unchanged_files : (old new : State) → IsUnchanged old new → KeepsOtherFiles old new
+unchanged_files old new same name differs not = ap shown_now (same.entries name)
+
+pub then_files : (a b c : State) → KeepsOtherFiles a b → KeepsOtherFiles b c → KeepsOtherFiles a c
+then_files a b c one two name differs not = two name differs not ∙ one name differs not
+
+pub day_files : (old new : State) (day : List ℕ) → IsDayText day → IsSameApart day old new → KeepsOtherFiles old new
+day_files old new day text same name differs not = same name differs (not day text)
+
+pub unchanged_damaged : (old new : State) → IsUnchanged old new → KeepsDamagedDays old new
+unchanged_damaged old new same day damaged segment is_damaged name named = ap shown_now (same.entries name)
+
+pub then_damaged : (a b c : State) → KeepsDamagedDays a b → KeepsDamagedDays b c → KeepsDamagedDays a c
+then_damaged a b c one two day damaged segment is_damaged name named =
+    two day damaged segment
+    (subst (λ (o : Option (List ℕ)). IsSomeAnd o (λ file. ¬ (IsWholeFile damaged file)))
+    (sym (one day damaged segment is_damaged damaged segment)) is_damaged)
+    name named
+    ∙ one day damaged segment is_damaged name named
+
+not_whole : (o : Option (List ℕ)) (name : List ℕ) → IsSomeAnd o (λ file. ¬ (IsWholeFile name file))
+    → ((file : List ℕ) → o ≡ Some file → IsWholeFile name file) → ⊥
+not_whole None name damaged whole = damaged
+not_whole (Some file) name damaged whole = damaged (whole file refl)
+
+pub day_damaged : (old new : State) (day : List ℕ) → IsSameApart day old new → KeepsUnlessDayIsWhole day old new
+    → KeepsDamagedDays old new
+day_damaged old new day others unless other damaged segment is_damaged name named = ⊎_elim
+    (λ (is : other ≡ day). ⊎_elim
+    (λ same. same name (segment_apart other name named))
+    (λ whole. absurd (not_whole (shown old damaged) damaged is_damaged
+    (whole damaged (subst (λ (d : List ℕ). IsSegment d damaged) is segment))))
+    unless)
+    (λ (differs : other ≢ day).
+    others name (segment_apart other name named) (λ mine. differs (day_named other day name named mine)))
+    (same_or_apart other day)
+
+pub aside_unless : (old new : State) (draft day : List ℕ) → KeepsOthers old new draft → draft ≡ compact_draft
+    → KeepsUnlessDayIsWhole day old new
+aside_unless old new draft day others named =
+    inl (λ name differs. ap shown_now (others name (λ is. differs (is ∙ named))))
+
+pub unchanged_unless : (old new : State) (day : List ℕ) → IsUnchanged old new → KeepsUnlessDayIsWhole day old new
+unchanged_unless old new day same = inl (λ name differs. ap shown_now (same.entries name))
+
+-- what was listed of an unchanged disk
+pub unchanged_then_unless : (a b c : State) (day : List ℕ) → IsUnchanged a b → KeepsUnlessDayIsWhole day b c
+    → KeepsUnlessDayIsWhole day a c
+unchanged_then_unless a b c day same (inl still) =
+    inl (λ name differs. still name differs ∙ ap shown_now (same.entries name))
+unchanged_then_unless a b c day same (inr whole) =
+    inr (λ name segment file is. whole name segment file (ap shown_now (same.entries name) ∙ is))
+
+pub whole_day : (state : State) (names segments : List (List ℕ)) (day : List ℕ) → AreListed state names
+    → AreDayNames names day segments → AreWholeAt (shown state) segments → IsWholeDay (shown state) day
+whole_day state names segments day listed found whole name segment file is =
+    whole name (found.all name (listed name (subst IsSome (sym is) refl)) segment) file is
 
 -- ---- the day that is joined
 
@@ -180,7 +246,8 @@ module _ (most : ℕ) (old new : State) (day : List ℕ) (few : HasAtMost most n
   was_shown : (other name : List ℕ) → other ≢ day → IsSegment other name → IsSome (shown new name)
       → IsSome (shown old name)
   was_shown other name differs named some =
-      subst IsSome (others name (inr (other, named)) (λ mine. differs (day_named other day name named mine))) some
+      subst IsSome
+      (others name (segment_apart other name named) (λ mine. differs (day_named other day name named mine))) some
 
   pub few_still : (other : List ℕ) → HasAtMost most old other → HasAtMost most new other
   few_still other h = ⊎_elim

@@ -1,6 +1,6 @@
 -- Segments are read and hashed, or are none.
 use Rattle.std.proofs.Common.{◌≡◌, ◌≢◌, ℕ, ◌+◌, ◌≤◌, List, [], ◌∷◌, ◌++◌, length, Some, inl, inr}
-use Rattle.std.proofs.Common.{sym, ap, subst, ◌∙◌, append_assoc, append-nil, length-append, arith}
+use Rattle.std.proofs.Common.{◌-◌, ◌^◌, min, refl, sym, ap, subst, ◌∙◌, append_assoc, append-nil, length-append, arith}
 use Rattle.std.specs.Prelude.{codes}
 use Rattle.std.specs.List.{AllByRecursion}
 use Rattle.std.proofs.lemmas.List.{take_all}
@@ -37,22 +37,29 @@ use Rattle.store_reading.specs.Days.{IsOf}
 use Rattle.store_reading.specs.Segments.{IsWholeOf}
 use Rattle.store_reading.proofs.DayOrders.{one_day}
 use Rattle.store_reading.proofs.Joined.{rest_of, whole_rest}
-use Rattle.store_upkeep.specs.Damages.{HashesOf, IsHashed, OfLeft, Refutes, check_fault_of}
+use Rattle.store_upkeep.specs.Damages.{HashesOf, IsArchiveDamage, IsHashed, IsOtherDayAt, IsSegmentDamage, OfLeft}
+use Rattle.store_upkeep.specs.Damages.{Refutes, Tells, check_fault_of, position}
 use Rattle.store_upkeep.specs.Whole.{IsArchiveOfDay, IsWholeSegment}
 use Rattle.store_upkeep.specs.declared.damage.CheckFault.{CheckFault}
 use Rattle.store_upkeep.specs.declared.damage.CheckFault.TheVariants.{Damaged, Input, Memory}
+use Rattle.store_upkeep.specs.declared.damage.Damage.TheVariants.{Archive, Digest, OtherDay}
 
 -- ---- entry by entry
 
 pub hashes_none : (day : List ℕ) (s : ArchiveEntries) (hasher : Sha256) (d : InputState) → Reads s d d []
-    → Holds256 hasher [] → HashesOf day s hasher d d
+    → Holds256 hasher [] → HashesOf day s hasher 0 d d
 hashes_none day s hasher d none empty =
-    record { segment = record { entries = []; reads = none; days = tt }; hashed = empty }
+    record { segment = record { entries = []; reads = none; days = tt }; hashed = empty; place = refl }
 
-pub hashes_more : (day : List ℕ) (s t : ArchiveEntries) (hasher next : Sha256) (d e f : InputState)
-    → HashesOf day s hasher d e → ReadsOne s t e f → IsOf day (current t)
-    → ((m : List ℕ) → Holds256 hasher m → Holds256 next (m ++ entry_text (current t))) → HashesOf day t next d f
-hashes_more day s t hasher next d e f h one of more = record {
+place_more : (most a b at n later : ℕ) → at ≡ min a most → n ≡ min b most → later ≡ min (at + n) most
+    → later ≡ min (a + b) most
+place_more most a b at n later one two both = omega arith
+
+pub hashes_more : (day : List ℕ) (s t : ArchiveEntries) (hasher next : Sha256) (at n later : ℕ) (d e f : InputState)
+    → HashesOf day s hasher at d e → ReadsOne s t e f → IsOf day (current t)
+    → ((m : List ℕ) → Holds256 hasher m → Holds256 next (m ++ entry_text (current t)))
+    → n ≡ position (length (entry_text (current t))) → later ≡ position (at + n) → HashesOf day t next later d f
+hashes_more day s t hasher next at n later d e f h one of more size sum = record {
   segment = record {
     entries = h.segment.entries ++ current t ∷ [];
     reads = one.reads d h.segment.entries h.segment.reads;
@@ -60,12 +67,16 @@ hashes_more day s t hasher next d e f h one of more = record {
   };
   hashed = subst (Holds256 next) (sym (text_push h.segment.entries (current t)))
       (more (text_of h.segment.entries) h.hashed);
+  place = place_more (2 ^ 64 - 1) (length (text_of h.segment.entries)) (length (entry_text (current t))) at n later
+      h.place size sum
+      ∙ ap position (sym (ap length (text_push h.segment.entries (current t))
+      ∙ length-append (text_of h.segment.entries) (entry_text (current t))));
 }
 
-pub hashes_whole : (day : List ℕ) (s t : ArchiveEntries) (hasher : Sha256) (d e f : InputState) (hex : List ℕ)
-    → HashesOf day s hasher d e → Ends s t e f
+pub hashes_whole : (day : List ℕ) (s t : ArchiveEntries) (hasher : Sha256) (at : ℕ) (d e f : InputState)
+    (hex : List ℕ) → HashesOf day s hasher at d e → Ends s t e f
     → ((text : List ℕ) → Holds256 hasher text → hex ≡ encode_lower (sha256 text)) → IsHashed day d f hex
-hashes_whole day s t hasher d e f hex h ends digest = record {
+hashes_whole day s t hasher at d e f hex h ends digest = record {
   segment = record {
     entries = h.segment.entries;
     whole = ends.whole d h.segment.entries h.segment.reads;
@@ -100,6 +111,15 @@ module _ (day name : List ℕ) (d e : InputState) (hex file : List ℕ) (h : IsH
     named = named ∙ hex_is;
   }
 
+  pub segment_digest : name ≢ day ++ 46 ∷ hex ++ codes ".archive" → IsSegmentDamage day name file Digest
+  segment_digest other = (
+    (
+      h.segment.entries,
+      record { archive = h.segment.whole.archive; text_is = text_is; days = h.segment.days },
+    ),
+    λ is. other (is ∙ sym hex_is),
+  )
+
   pub segment_misnamed : name ≢ day ++ 46 ∷ hex ++ codes ".archive" → ¬ (IsWholeSegment day name file)
   segment_misnamed other w = other (w.named ∙ sym hex_is)
 
@@ -128,6 +148,23 @@ module _ (day : List ℕ) (d e : InputState) (file : List ℕ) (left : d.left �
             let last = all_right (IsIn Day day) es (current s ∷ []) all in
             differs (one_day found day (current s) of last.0)
       ]
+
+  pub other_day_at : (s : ArchiveEntries) (es : List Entry) (found : List ℕ) (at : ℕ)
+      → Reads s d e (es ++ current s ∷ []) → AllByRecursion (IsOf day) es → at ≡ position (length (text_of es))
+      → IsOf found (current s) → found ≢ day → IsOtherDayAt day file at
+  other_day_at s es found at reads days place of differs =
+      let b = begun s d e (es ++ current s ∷ []) reads in
+      let r = rest_of d.left e.left b.given file b.consumed left in
+      record {
+        before = es;
+        entry = current s;
+        behind = b.rest ++ r.0;
+        parts = r.2 ∙ ap (λ (t : List ℕ). t ++ r.0) b.parts
+            ∙ append_assoc (text_of (es ++ current s ∷ [])) b.rest r.0;
+        days = days;
+        other = λ mine. differs (one_day found day (current s) of mine);
+        place = place;
+      }
 
 -- ---- a text that is no archive
 
@@ -196,17 +233,32 @@ no_archive day fault file bad (es, is) =
     archive_has_no_fault ENTRY_MAX es fault is.archive
     (subst (λ (t : List ℕ). IsArchiveFault ENTRY_MAX t fault) is.text_is bad)
 
--- what the fault by which a reading stopped says of the file
-pub stopped : (day : List ℕ) (fault : SideFault) (s t : ArchiveEntries) (hasher : Sha256) (d e f : InputState)
-    → HashesOf day s hasher d e → Halts fault s t e f
-    → OfLeft d (λ file. Refutes (check_fault_of fault) (IsArchiveOfDay day file))
-stopped day (side_Input fault) s t hasher d e f h halts file left = tt
-stopped day (side_Archive fault) s t hasher d e f h halts file left =
+-- the fault by which a reading stopped is that of the file
+pub stopped_told : (day : List ℕ) (fault : SideFault) (s t : ArchiveEntries) (hasher : Sha256) (at : ℕ)
+    (d e f : InputState) → HashesOf day s hasher at d e → Halts fault s t e f
+    → OfLeft d (λ file. Tells (check_fault_of fault) (IsArchiveDamage day file))
+stopped_told day (side_Input fault) s t hasher at d e f h halts file left = tt
+stopped_told day (side_Archive fault) s t hasher at d e f h halts file left =
     let c = halts.cut_short d h.segment.entries h.segment.reads in
     let r = rest_of d.left f.left c.given file c.consumed left in
-    no_archive day fault file
-    (subst (λ (t : List ℕ). IsArchiveFault ENTRY_MAX t fault) (sym r.2)
-    (goes_on c.given r.0 fault c.cause.0 (λ at. whole_rest f.left r.0 r.1 (c.cause.1 at).1)))
+    subst (λ (t : List ℕ). IsArchiveFault ENTRY_MAX t fault) (sym r.2)
+    (goes_on c.given r.0 fault c.cause.0 (λ at. whole_rest f.left r.0 r.1 (c.cause.1 at).1))
+
+-- and so the file is no archive
+pub stopped : (day : List ℕ) (fault : SideFault) (s t : ArchiveEntries) (hasher : Sha256) (at : ℕ)
+    (d e f : InputState) → HashesOf day s hasher at d e → Halts fault s t e f
+    → OfLeft d (λ file. Refutes (check_fault_of fault) (IsArchiveOfDay day file))
+stopped day (side_Input fault) s t hasher at d e f h halts file left = tt
+stopped day (side_Archive fault) s t hasher at d e f h halts file left =
+    no_archive day fault file (stopped_told day (side_Archive fault) s t hasher at d e f h halts file left)
+
+pub tells_segment : (day name file : List ℕ) (fault : CheckFault) → Tells fault (IsArchiveDamage day file)
+    → Tells fault (IsSegmentDamage day name file)
+tells_segment day name file (Damaged (Archive fault)) told = told
+tells_segment day name file (Damaged (OtherDay at)) told = told
+tells_segment day name file (Damaged Digest) told = absurd told
+tells_segment day name file (Input fault) told = tt
+tells_segment day name file Memory told = tt
 
 pub refutes_whole : (day name file : List ℕ) (fault : CheckFault) → Refutes fault (IsArchiveOfDay day file)
     → Refutes fault (IsWholeSegment day name file)

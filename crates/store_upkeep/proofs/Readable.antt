@@ -1,18 +1,17 @@
 -- Batches are read, or not.
-use Rattle.std.proofs.Common.{◌≡◌, ℕ, ◌<◌, ◌≤◌, List, [], ◌∷◌, ◌++◌, length, refl, sym, ap, subst, ◌∙◌, arith}
-use Rattle.std.proofs.Common.{append_assoc, append-nil, length-append}
+use Rattle.std.proofs.Common.{◌≡◌, ℕ, ◌<◌, List, [], ◌∷◌, ◌++◌, length, refl, sym, ap, subst, ◌∙◌, arith}
+use Rattle.std.proofs.Common.{append_assoc, length-append}
 use Rattle.std.specs.List.{AllByRecursion}
 use Rattle.journal.specs.Batches.{batches_text, HasBatches, IsBody, IsClosed, open_batch}
 use Rattle.journal.proofs.Readings.{same_batch}
-use Rattle.archive_text.specs.Entries.{Entry, IsEntry}
-use Rattle.archive_text.specs.Faults.{IsFaultBefore, IsFaultBehind}
+use Rattle.archive_text.specs.Entries.{Entry}
+use Rattle.archive_text.specs.Faults.{IsFaultBefore}
 use Rattle.archive_text.specs.Text.{BeginsWithEntry, entry_text, text_of}
 use Rattle.archive_text.specs.declared.fault.ArchiveFault.{ArchiveFault}
 use Rattle.archive_text.specs.declared.limits.TheConstants.{ENTRY_MAX}
 use Rattle.archive_text.proofs.FaultLaws.{fault_later}
 use Rattle.archive_text.proofs.Prefixes.{fault_excludes}
 use Rattle.archive_text.proofs.Texts.{entry_carries, one_beginning, text_some}
-use Rattle.record_store.specs.Holdings.{IsBatch}
 use Rattle.store_upkeep.specs.Whole.{IsAsGood, IsReadable, IsWholeJournal}
 
 pub as_good : (A : Type 0) → IsAsGood A A

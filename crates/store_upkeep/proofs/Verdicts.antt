@@ -1,8 +1,7 @@
 -- What is said of files.
-use Rattle.std.proofs.Common.{◌≡◌, ◌⊎◌, ℕ, ◌+◌, ◌-◌, List, [], ◌∷◌, ◌++◌, length, take, Option, None, Some, inl, inr}
-use Rattle.std.proofs.Common.{refl, sym, ap, subst, ◌∙◌, append_assoc, length-append, map, arith}
-use Rattle.std.specs.Prelude.{◌↔◌, Contains, Err, IfOk, IfSome, IsNone, IsSome, IsSomeAnd, Ok, Result, codes}
-use Rattle.std.specs.List.{AllByRecursion}
+use Rattle.std.proofs.Common.{◌≡◌, ℕ, ◌-◌, List, [], ◌∷◌, ◌++◌, length, take, Option, None, Some, inl, inr}
+use Rattle.std.proofs.Common.{refl, sym, ap, subst, ◌∙◌, append-nil, append_assoc, length-append, arith}
+use Rattle.std.specs.Prelude.{Contains, Err, IfOk, IfSome, IsNone, IsSome, IsSomeAnd, Ok, Result, codes}
 use Rattle.std.proofs.lemmas.List.{map-append, take_at}
 use Rattle.std.proofs.lemmas.List.Elements.{Contains-append_left, Contains-push, Contains-push_cases}
 use Rattle.disk.specs.States.{Files}
@@ -12,7 +11,9 @@ use Rattle.record_store.specs.Names.{IsJournal, IsSegment}
 use Rattle.record_store.proofs.Named.{not_both}
 use Rattle.store_reading.specs.Days.{IsDayText}
 use Rattle.store_reading.specs.Folders.{AreNamesOf, Opens}
-use Rattle.store_upkeep.specs.Damages.{AreDamaged, IsFoundBy, IsVerdict, IsWholeOrListed, OfLeft, Refutes, names_of}
+use Rattle.store_upkeep.specs.Damages.{AddsTo, AreAsTold, AreDamaged, IsDamageOf, IsFoundBy, IsJournalDamage}
+use Rattle.store_upkeep.specs.Damages.{IsSegmentDamage, IsToldAt, IsVerdict, IsWholeOrListed, OfLeft, Refutes, Tells}
+use Rattle.store_upkeep.specs.Damages.{names_of}
 use Rattle.store_upkeep.specs.Whole.{IsDamagedAt, IsWholeAt, IsWholeFile, IsWholeJournal, IsWholeSegment}
 use Rattle.store_upkeep.specs.declared.damage.CheckFault.{CheckFault}
 use Rattle.store_upkeep.specs.declared.damage.CheckFault.TheVariants.{Damaged, Input, Memory}
@@ -43,10 +44,10 @@ left_of : (o left : Option (List ℕ)) (file : List ℕ) → IsSomeAnd o (λ oct
 left_of None left file opened is = absurd opened
 left_of (Some x) left file opened is = opened ∙ is
 
-damaged_where : (o left : Option (List ℕ)) (P : List ℕ → Type 0) → IsSomeAnd o (λ octets. left ≡ Some octets)
-    → ((file : List ℕ) → left ≡ Some file → ¬ (P file)) → IsSomeAnd o (λ file. ¬ (P file))
-damaged_where None left P opened not = absurd opened
-damaged_where (Some file) left P opened not = not file opened
+some_where : (o left : Option (List ℕ)) (P : List ℕ → Type 0) → IsSomeAnd o (λ octets. left ≡ Some octets)
+    → ((file : List ℕ) → left ≡ Some file → P file) → IsSomeAnd o (λ file. P file)
+some_where None left P opened of = absurd opened
+some_where (Some file) left P opened of = of file opened
 
 -- the day in a segment's name
 day_at : (day name : List ℕ) (s : IsSegment day name) → take (length name - 73) name ≡ day
@@ -89,42 +90,98 @@ other_whole_at files name no_journal no_segment file is = record {
 }
 
 -- what a check found of a file that was opened
-found_verdict : (files : Files) (name : List ℕ) (d : InputState) (P : List ℕ → Type 0) (fault : CheckFault)
-    (found : Option Damage) → Opens files name d → ((file : List ℕ) → IsWholeFile name file → P file)
-    → OfLeft d (λ file. Refutes fault (P file)) → IsFoundBy fault found → IsVerdict found files name
-found_verdict files name d P (Damaged damage) found opened of refuted is =
+found_verdict : (files : Files) (name : List ℕ) (d : InputState) (fault : CheckFault) (found : Option Damage)
+    → Opens files name d → OfLeft d (λ file. Tells fault (IsDamageOf name file)) → IsFoundBy fault found
+    → IsVerdict found files name
+found_verdict files name d (Damaged damage) found opened told is =
     subst (λ (o : Option Damage). IsVerdict o files name) (sym is)
-    (damaged_where (files name) d.left (IsWholeFile name) opened (λ file left w. refuted file left (of file w)))
-found_verdict files name d P (Input fault) found opened of refuted is = absurd is
-found_verdict files name d P Memory found opened of refuted is = absurd is
+    (some_where (files name) d.left (λ (file : List ℕ). IsDamageOf name file damage) opened told)
+found_verdict files name d (Input fault) found opened told is = absurd is
+found_verdict files name d Memory found opened told is = absurd is
 
-pub result_verdict : {E : Type 0} (files : Files) (name : List ℕ) (d : InputState) (P : List ℕ → Type 0)
-    (fault : CheckFault) (r : Result (Option Damage) E) → Opens files name d
-    → ((file : List ℕ) → IsWholeFile name file → P file) → OfLeft d (λ file. Refutes fault (P file))
+result_verdict : {E : Type 0} (files : Files) (name : List ℕ) (d : InputState) (fault : CheckFault)
+    (r : Result (Option Damage) E) → Opens files name d → OfLeft d (λ file. Tells fault (IsDamageOf name file))
     → IfOk r (IsFoundBy fault) → IfOk r (λ found. IsVerdict found files name)
-result_verdict files name d P fault (Ok found) opened of refuted is =
-    found_verdict files name d P fault found opened of refuted is
-result_verdict files name d P fault (Err e) opened of refuted is = tt
+result_verdict files name d fault (Ok found) opened told is = found_verdict files name d fault found opened told is
+result_verdict files name d fault (Err e) opened told is = tt
+
+segment_told : (name day file : List ℕ) (fault : CheckFault) → IsDayText day → IsSegment day name
+    → Refutes fault (IsWholeSegment day name file) → Tells fault (IsSegmentDamage day name file)
+    → Tells fault (IsDamageOf name file)
+segment_told name day file (Damaged damage) text segment refuted told = record {
+  not_whole = λ w. refuted (w.segment day text segment);
+  journal = λ journal. absurd (not_both day name journal segment);
+  segment = λ other dated named. subst (λ (x : List ℕ). IsSegmentDamage x name file damage)
+      (day_named day other name segment named) told;
+}
+segment_told name day file (Input fault) text segment refuted told = tt
+segment_told name day file Memory text segment refuted told = tt
+
+journal_told : (name file : List ℕ) (fault : CheckFault) → IsJournal name → Refutes fault (IsWholeJournal file)
+    → Tells fault IsJournalDamage → Tells fault (IsDamageOf name file)
+journal_told name file (Damaged damage) journal refuted told = record {
+  not_whole = λ w. refuted (w.journal journal);
+  journal = λ named. told;
+  segment = λ day dated named. absurd (not_both day name journal named);
+}
+journal_told name file (Input fault) journal refuted told = tt
+journal_told name file Memory journal refuted told = tt
+
+pub segment_verdict : {E : Type 0} (files : Files) (name day : List ℕ) (d : InputState) (fault : CheckFault)
+    (r : Result (Option Damage) E) → IsDayText day → IsSegment day name → Opens files name d
+    → OfLeft d (λ file. Refutes fault (IsWholeSegment day name file))
+    → OfLeft d (λ file. Tells fault (IsSegmentDamage day name file)) → IfOk r (IsFoundBy fault)
+    → IfOk r (λ found. IsVerdict found files name)
+segment_verdict files name day d fault r text segment opened refuted told found =
+    result_verdict files name d fault r opened
+    (λ file left. segment_told name day file fault text segment (refuted file left) (told file left)) found
+
+pub journal_verdict : {E : Type 0} (files : Files) (name : List ℕ) (d : InputState) (fault : CheckFault)
+    (r : Result (Option Damage) E) → IsJournal name → Opens files name d
+    → OfLeft d (λ file. Refutes fault (IsWholeJournal file)) → Tells fault IsJournalDamage → IfOk r (IsFoundBy fault)
+    → IfOk r (λ found. IsVerdict found files name)
+journal_verdict files name d fault r journal opened refuted told found =
+    result_verdict files name d fault r opened
+    (λ file left. journal_told name file fault journal (refuted file left) told) found
+
+told_damaged : (o : Option (List ℕ)) (name : List ℕ) (damage : Damage)
+    → IsSomeAnd o (λ file. IsDamageOf name file damage) → IsSomeAnd o (λ file. ¬ (IsWholeFile name file))
+told_damaged None name damage told = absurd told
+told_damaged (Some file) name damage told = told.not_whole
 
 -- ---- those that are damaged
 
 pub damaged_push : (files : Files) (ds : List DamagedFile) (d : DamagedFile) → AreDamaged files ds
-    → IsDamagedAt files d.name → AreDamaged files (ds ++ d ∷ [])
-damaged_push files ds d all one =
-    all_append (λ (x : DamagedFile). IsDamagedAt files x.name) ds (d ∷ []) all (one, tt)
+    → IsToldAt files d.name d.damage → AreDamaged files (ds ++ d ∷ [])
+damaged_push files ds d all told =
+    all_append (λ (x : DamagedFile). IsDamagedAt files x.name) ds (d ∷ []) all
+    (told_damaged (files d.name) d.name d.damage told, tt)
+
+pub as_told_push : (files : Files) (ds : List DamagedFile) (d : DamagedFile) → AreAsTold files ds
+    → IsToldAt files d.name d.damage → AreAsTold files (ds ++ d ∷ [])
+as_told_push files ds d all told =
+    all_append (λ (x : DamagedFile). IsToldAt files x.name x.damage) ds (d ∷ []) all (told, tt)
 
 names_push : (ds : List DamagedFile) (d : DamagedFile) → names_of (ds ++ d ∷ []) ≡ names_of ds ++ d.name ∷ []
 names_push ds d = map-append (λ (x : DamagedFile). x.name) ds (d ∷ [])
 
-pub stays_push : (ds : List DamagedFile) (d : DamagedFile) (name : List ℕ) → Contains (names_of ds) name
-    → Contains (names_of (ds ++ d ∷ [])) name
-stays_push ds d name has =
-    subst (λ (l : List (List ℕ)). Contains l name) (sym (names_push ds d))
-    (Contains-append_left (names_of ds) (d.name ∷ []) name has)
-
 pub listed_push : (ds : List DamagedFile) (d : DamagedFile) → Contains (names_of (ds ++ d ∷ [])) d.name
 listed_push ds d =
     subst (λ (l : List (List ℕ)). Contains l d.name) (sym (names_push ds d)) (Contains-push (names_of ds) d.name)
+
+pub adds_none : (ds : List DamagedFile) → AddsTo ds ds
+adds_none ds = ([], sym (append-nil ds))
+
+pub adds_then : (a b c : List DamagedFile) → AddsTo a b → AddsTo b c → AddsTo a c
+adds_then a b c (x, one) (y, two) =
+    (x ++ y, two ∙ ap (λ (l : List DamagedFile). l ++ y) one ∙ append_assoc a x y)
+
+pub adds_stays : (old new : List DamagedFile) → AddsTo old new → (name : List ℕ) → Contains (names_of old) name
+    → Contains (names_of new) name
+adds_stays old new (added, is) name has =
+    subst (λ (l : List (List ℕ)). Contains l name)
+    (sym (ap names_of is ∙ map-append (λ (x : DamagedFile). x.name) old added))
+    (Contains-append_left (names_of old) (names_of added) name has)
 
 pub listed_on : (files : Files) (old new : List DamagedFile) (name : List ℕ)
     → ((other : List ℕ) → Contains (names_of old) other → Contains (names_of new) other)

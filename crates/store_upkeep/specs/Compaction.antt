@@ -1,5 +1,5 @@
 -- What it is to join the segments of a day.
-use Rattle.std.specs.Prelude.{◌≡◌, ◌≢◌, ◌⊎◌, ◌↔◌, ℕ, ◌≤◌, List, Option, None, IfSome, IsSome, Contains, length}
+use Rattle.std.specs.Prelude.{◌≡◌, ◌≢◌, ◌⊎◌, ◌↔◌, ℕ, ◌≤◌, List, Option, None, IfSome, IsSome, Contains, codes, length}
 use Rattle.disk.specs.Calls.{IsUnchanged, RemovesFile}
 use Rattle.disk.specs.Files.{settled}
 use Rattle.disk.specs.Memory.{shown_now}
@@ -12,7 +12,7 @@ use Rattle.record_store.specs.Names.{Counts, IsSegment}
 use Rattle.record_store.specs.Segments.{IsSegmentOf, ShowsNoMore, segment_name}
 use Rattle.store_reading.specs.Days.{IsDayText}
 use Rattle.store_reading.specs.Segments.{NamesHave}
-use Rattle.store_upkeep.specs.Whole.{IsWholeAt}
+use Rattle.store_upkeep.specs.Whole.{IsDamagedAt, IsWholeAt}
 use Rattle.store_upkeep.specs.declared.whole_files.WholeFiles.{WholeFiles}
 
 -- the octets that a read shows under each name
@@ -26,9 +26,42 @@ pub record KeepsSet (old new : State) : Type 0 where
   pub held : (e : Entry) → Held (shown new) e ↔ Held (shown old) e
   pub whole : (name : List ℕ) → Counts name → (shown new name ≡ shown old name) ⊎ IsWholeAt (shown new) name
 
--- the files that count and are no segments of the day are the same
+-- what a joined segment is called until all of it is on the disk
+abbrev pub compact_draft : List ℕ
+compact_draft = codes "compact.archive"
+
+-- a read shows under a name what it showed
+abbrev pub IsSameAt : State → State → List ℕ → Type 0
+IsSameAt old new name = shown new name ≡ shown old name
+
+-- the files that are no segments of the day are the same, but for the draft
 abbrev pub IsSameApart : List ℕ → State → State → Type 0
-IsSameApart day old new = (name : List ℕ) → Counts name → ¬ (IsSegment day name) → shown new name ≡ shown old name
+IsSameApart day old new = (name : List ℕ) → name ≢ compact_draft → ¬ (IsSegment day name) → IsSameAt old new name
+
+-- the files that are segments of no day are the same, but for the draft
+abbrev pub KeepsOtherFiles : State → State → Type 0
+KeepsOtherFiles old new =
+    (name : List ℕ) → name ≢ compact_draft → ((day : List ℕ) → IsDayText day → ¬ (IsSegment day name))
+    → IsSameAt old new name
+
+-- the files under these names are whole
+abbrev pub AreWholeAt : Files → List (List ℕ) → Type 0
+AreWholeAt files names = (name : List ℕ) → Contains names name → IsWholeAt files name
+
+-- each segment of the day is whole
+abbrev pub IsWholeDay : Files → List ℕ → Type 0
+IsWholeDay files day = (name : List ℕ) → IsSegment day name → IsWholeAt files name
+
+-- the files are the same but for the draft, or each segment of the day was whole
+abbrev pub KeepsUnlessDayIsWhole : List ℕ → State → State → Type 0
+KeepsUnlessDayIsWhole day old new =
+    ((name : List ℕ) → name ≢ compact_draft → IsSameAt old new name) ⊎ IsWholeDay (shown old) day
+
+-- the segments of a day of which one is damaged are the same
+abbrev pub KeepsDamagedDays : State → State → Type 0
+KeepsDamagedDays old new =
+    (day damaged : List ℕ) → IsSegment day damaged → IsDamagedAt (shown old) damaged → (name : List ℕ)
+    → IsSegment day name → IsSameAt old new name
 
 -- a read shows under each name what it showed, or no file
 abbrev pub ShowsLess : State → State → Type 0

@@ -1,5 +1,5 @@
 -- Files of a store that are whole.
-use Rattle.std.specs.Prelude.{◌≡◌, ℕ, List, Option, Some, IsSomeAnd}
+use Rattle.std.specs.Prelude.{◌≡◌, ℕ, List, Some, IsSomeAnd}
 use Rattle.std.specs.List.{AllByRecursion}
 use Rattle.disk.specs.States.{Files}
 use Rattle.journal.specs.Batches.{HasBatches}

@@ -1,4 +1,5 @@
 //! Why a store was not compacted.
+ghost use Rattle.store_upkeep.specs.Faults.{IsOrNoMemory, check_told};
 
 use crate::damage::{CheckFault, Damage, DamagedFile, damage_of};
 use disk::{DiskFault, FileName};
@@ -44,9 +45,10 @@ impl<T: Drop> From<AllocFailed<T>> for CompactFault {
 }
 
 impl From<ReadFault> for CompactFault {
-    ghost use Rattle.std.specs.Prelude.{⊤};
+    ghost use Rattle.std.specs.Prelude.{◌≡◌};
+    ghost use Rattle.store_upkeep.specs.Faults.{read_told};
 
-    ghost from_gives = { λ _ _. ⊤ };
+    ghost from_gives = { λ fault wrapped. wrapped ≡ read_told fault };
 
     fn from(fault: ReadFault) -> CompactFault {
         match fault {
@@ -60,7 +62,9 @@ impl From<ReadFault> for CompactFault {
 }
 
 /// The fault of a file that could not be written, removed or given its name.
-pub(crate) fn write_fault(alloc: Global, name: &FileName, fault: DiskFault) -> CompactFault {
+pub(crate) fn write_fault(alloc: Global, name: &FileName, fault: DiskFault) -> CompactFault
+    ensures { IsOrNoMemory (CompactFault.Write name.now fault) result }
+{
     match name.copy(alloc) {
         Ok(name) => CompactFault::Write { name, fault },
         Err(_) => CompactFault::Read(ReadFault::Memory),
@@ -68,7 +72,9 @@ pub(crate) fn write_fault(alloc: Global, name: &FileName, fault: DiskFault) -> C
 }
 
 /// The fault of a file that could not be opened.
-pub(crate) fn open_fault(alloc: Global, name: &FileName, fault: DiskFault) -> CompactFault {
+pub(crate) fn open_fault(alloc: Global, name: &FileName, fault: DiskFault) -> CompactFault
+    ensures { IsOrNoMemory (CompactFault.Read (ReadFault.Open name.now fault)) result }
+{
     match name.copy(alloc) {
         Ok(name) => CompactFault::Read(ReadFault::Open { name, fault }),
         Err(_) => CompactFault::Read(ReadFault::Memory),
@@ -76,7 +82,9 @@ pub(crate) fn open_fault(alloc: Global, name: &FileName, fault: DiskFault) -> Co
 }
 
 /// The fault of a file that was checked.
-pub(crate) fn check_fault(alloc: Global, name: &FileName, fault: CheckFault) -> CompactFault {
+pub(crate) fn check_fault(alloc: Global, name: &FileName, fault: CheckFault) -> CompactFault
+    ensures { IsOrNoMemory (check_told name.now fault) result }
+{
     let Ok(name) = name.copy(alloc) else {
         return CompactFault::Read(ReadFault::Memory);
     };

@@ -6,8 +6,9 @@ ghost use Rattle.record_store.specs.Names.{Counts, IsSegment};
 ghost use Rattle.record_store.specs.Puts.{KeepsOrSettlesApart};
 ghost use Rattle.store_reading.specs.Days.{IsDayText};
 ghost use Rattle.store_upkeep.specs.Compaction.{AreDayNames, AreListed, EachHasAtMost, GoesOn, HasAll};
-ghost use Rattle.store_upkeep.specs.Compaction.{HasAtMost, IsSameApart, KeepsSet, MayBePlaced};
-ghost use Rattle.store_upkeep.specs.Compaction.{RemovesOther, ShowsLess, shown};
+ghost use Rattle.store_upkeep.specs.Compaction.{HasAtMost, IsSameApart, KeepsDamagedDays, KeepsOtherFiles};
+ghost use Rattle.store_upkeep.specs.Compaction.{KeepsSet, KeepsUnlessDayIsWhole, MayBePlaced};
+ghost use Rattle.store_upkeep.specs.Compaction.{RemovesOther, ShowsLess, compact_draft, shown};
 
 use crate::compact_fault::{CompactFault, write_fault};
 use crate::segments::{join_segments, list, name_of_draft, names_of_day};
@@ -21,7 +22,8 @@ pub const SEGMENTS_MAX: usize = 8;
 
 // what a joined segment is called until all of it is on the disk
 fn draft_name(alloc: Global) -> Result<FileName, AllocError>
-    ensures { IfOk result (λ name. ¬ (Counts name)) }
+    ensures named { IfOk result (λ name. name ≡ compact_draft) }
+    ensures apart { IfOk result (λ name. ¬ (Counts name)) }
 {
     match FileName::new(alloc, b"compact.archive")? {
         Some(name) => Ok(name),
@@ -131,6 +133,10 @@ fn join_day<D: StreamDisk>(
     ensures others { D.tells disk.new
         → (names : List (List ℕ)) → AreDayNames names day.now segments.now
         → IsSameApart day.now (D.state disk.old) (D.state disk.new) }
+    ensures whole { D.tells disk.new → IsSound (D.state disk.old)
+        → (names : List (List ℕ)) → AreListed (D.state disk.old) names
+        → AreDayNames names day.now segments.now
+        → KeepsUnlessDayIsWhole day.now (D.state disk.old) (D.state disk.new) }
 
     ensures told { D.tells disk.new → D.tells disk.old }
 {
@@ -155,6 +161,8 @@ fn compact_day<D: StreamDisk>(alloc: Global, disk: &mut D, day: &Day) -> Result<
     ensures set { D.tells disk.new → IsSound (D.state disk.old)
         → KeepsSet (D.state disk.old) (D.state disk.new) }
     ensures others { D.tells disk.new → IsSameApart day.now (D.state disk.old) (D.state disk.new) }
+    ensures whole { D.tells disk.new → IsSound (D.state disk.old)
+        → KeepsUnlessDayIsWhole day.now (D.state disk.old) (D.state disk.new) }
 
     ensures told { D.tells disk.new → D.tells disk.old }
 {
@@ -200,6 +208,9 @@ fn compact_day_of<D: StreamDisk>(
     // whatever the result is: so at every moment
     ensures set { D.tells disk.new → IsSound (D.state disk.old)
         → KeepsSet (D.state disk.old) (D.state disk.new) }
+    ensures others { D.tells disk.new → KeepsOtherFiles (D.state disk.old) (D.state disk.new) }
+    ensures damaged { D.tells disk.new → IsSound (D.state disk.old)
+        → KeepsDamagedDays (D.state disk.old) (D.state disk.new) }
 
     ensures told { D.tells disk.new → D.tells disk.old }
 {
@@ -231,6 +242,10 @@ fn compact_days<D: StreamDisk>(
     ensures set { D.tells disk.new → IsSound (D.state disk.old)
         → AreListed (D.state disk.old) names.now
         → KeepsSet (D.state disk.old) (D.state disk.new) }
+    ensures others { D.tells disk.new → KeepsOtherFiles (D.state disk.old) (D.state disk.new) }
+    ensures damaged { D.tells disk.new → IsSound (D.state disk.old)
+        → AreListed (D.state disk.old) names.now
+        → KeepsDamagedDays (D.state disk.old) (D.state disk.new) }
 
     ensures told { D.tells disk.new → D.tells disk.old }
 {
@@ -259,6 +274,13 @@ pub fn compact<D: StreamDisk>(alloc: Global, disk: &mut D) -> Result<(), Compact
     // whatever the result is, the set is the same: so at every moment
     ensures set { D.tells disk.new → IsSound (D.state disk.old)
         → KeepsSet (D.state disk.old) (D.state disk.new) }
+
+    // whatever the result is, journals and names that do not count show what they showed
+    ensures others { D.tells disk.new → KeepsOtherFiles (D.state disk.old) (D.state disk.new) }
+
+    // and so do the segments of a day of which one is damaged
+    ensures damaged { D.tells disk.new → IsSound (D.state disk.old)
+        → KeepsDamagedDays (D.state disk.old) (D.state disk.new) }
 
     ensures told { D.tells disk.new → D.tells disk.old }
 {

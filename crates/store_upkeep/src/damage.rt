@@ -1,4 +1,6 @@
 //! What is wrong with a file.
+ghost use Rattle.std.specs.Prelude.{◌≡◌};
+ghost use Rattle.store_upkeep.specs.Damages.{damage_told};
 
 use archive_streams::{EntriesFault, InputFault};
 use archive_text::ArchiveFault;
@@ -64,7 +66,9 @@ impl From<EntriesFault> for CheckFault {
 }
 
 /// The damage of a file for which reading gave this fault.
-pub fn damage_of(fault: FileFault) -> Damage {
+pub fn damage_of(fault: FileFault) -> Damage
+    ensures { result ≡ damage_told fault }
+{
     match fault {
         FileFault::Archive(fault) => Damage::Archive(fault),
         FileFault::OtherDay { at } => Damage::OtherDay { at },

@@ -5,6 +5,7 @@ ghost use Rattle.sha2.specs.Hashers.{Holds256};
 ghost use Rattle.sha2.specs.Sha256.{sha256};
 ghost use Rattle.syslog_frame.specs.Frames.{framed};
 ghost use Rattle.syslog_frame.specs.declared.framing.Framing.TheVariants.{Counted};
+ghost use Rattle.store_upkeep.specs.Damages.{position};
 
 use itoa::Buffer;
 use sha2::{Digest, Sha256};
@@ -15,8 +16,9 @@ pub(crate) const HEX_LEN: usize = 64;
 
 /// Hashes the text of an entry, and gives the number of its octets.
 pub(crate) fn hash_entry(hasher: &mut Sha256, octets: &[u8]) -> u64
-    ensures { (m : List ℕ) → Holds256 hasher.old m
+    ensures hashed { (m : List ℕ) → Holds256 hasher.old m
         → Holds256 hasher.new (m ++ framed Counted octets.now) }
+    ensures size { result ≡ position (length (framed Counted octets.now)) }
 {
     let mut buffer = Buffer::new();
     let count = buffer.format(octets.len()).as_bytes();

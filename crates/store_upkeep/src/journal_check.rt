@@ -1,6 +1,6 @@
 //! A journal is checked.
 ghost use Rattle.std.specs.Prelude.{IfErr, OnErr, OnOk};
-ghost use Rattle.store_upkeep.specs.Damages.{OfLeft, Refutes};
+ghost use Rattle.store_upkeep.specs.Damages.{IsJournalDamage, OfLeft, Refutes, Tells};
 ghost use Rattle.store_upkeep.specs.Whole.{IsReadable, IsWholeJournal};
 
 use crate::damage::{CheckFault, Damage};
@@ -48,6 +48,7 @@ pub(crate) fn check_journal<R: Input>(alloc: Global, reader: &mut R) -> Result<(
     ensures whole { OnOk result (OfLeft (R.state reader.old) IsWholeJournal) }
     ensures damaged { IfErr result (λ fault. OfLeft (R.state reader.old) (λ file.
         Refutes fault (IsWholeJournal file))) }
+    ensures told { IfErr result (λ fault. Tells fault IsJournalDamage) }
 {
     let octets = match read_octets(alloc, reader) {
         Ok(octets) => octets,

@@ -2,7 +2,7 @@
 ghost use Rattle.std.specs.Prelude.{IfErr, IfOk, List, ℕ, OnOk};
 ghost use Rattle.archive_text.specs.Entries.{Entry};
 ghost use Rattle.record_store.specs.Segments.{IsSegmentOf};
-ghost use Rattle.store_upkeep.specs.Damages.{IsHashed, OfLeft, Refutes};
+ghost use Rattle.store_upkeep.specs.Damages.{IsArchiveDamage, IsHashed, IsSegmentDamage, OfLeft, Refutes, Tells};
 ghost use Rattle.store_upkeep.specs.Whole.{IsArchiveOfDay, IsWholeSegment};
 
 use crate::damage::{CheckFault, Damage};
@@ -23,6 +23,8 @@ pub(crate) fn hash_segment<R: Input>(
         hex) }
     ensures damaged { IfErr result (λ fault. OfLeft (R.state reader.old) (λ file.
         Refutes fault (IsArchiveOfDay day.now file))) }
+    ensures told { IfErr result (λ fault. OfLeft (R.state reader.old) (λ file.
+        Tells fault (IsArchiveDamage day.now file))) }
 {
     let mut entries = ArchiveEntries::new(alloc)?;
     let mut hasher = Sha256::new();
@@ -52,6 +54,8 @@ pub(crate) fn check_segment<R: Input>(
     ensures whole { OnOk result (OfLeft (R.state reader.old) (IsWholeSegment day.now name.now)) }
     ensures damaged { IfErr result (λ fault. OfLeft (R.state reader.old) (λ file.
         Refutes fault (IsWholeSegment day.now name.now file))) }
+    ensures told { IfErr result (λ fault. OfLeft (R.state reader.old) (λ file.
+        Tells fault (IsSegmentDamage day.now name.now file))) }
 {
     let hex = match hash_segment(alloc, day, reader) {
         Ok(hex) => hex,

@@ -7,7 +7,8 @@ ghost use Rattle.record_store.specs.Names.{IsSegment};
 ghost use Rattle.record_store.specs.Segments.{segment_name};
 ghost use Rattle.store_reading.specs.Folders.{IsUnused, Opens};
 ghost use Rattle.store_reading.specs.Segments.{AreSegmentsOf, IsSegmentInput};
-ghost use Rattle.store_upkeep.specs.Compaction.{AreDayNames, AreListed, IsJoinOf, shown};
+ghost use Rattle.store_upkeep.specs.Compaction.{AreDayNames, AreListed, AreWholeAt, IsJoinOf, shown};
+ghost use Rattle.store_upkeep.specs.Whole.{IsWholeAt};
 
 use crate::compact_fault::{CompactFault, check_fault, open_fault, write_fault};
 use crate::hashing::segment_octets;
@@ -95,6 +96,8 @@ fn open_segment<D: StreamDisk>(
 ) -> Result<D::File, CompactFault>
     ensures input { D.tells disk.new → IsSound (D.state disk.old) → IfOk result (λ file.
         IsSegmentInput (shown (D.state disk.old)) name.now day.now (D.File.state file)) }
+    ensures whole { OnOk result (D.tells disk.new → IsSound (D.state disk.old)
+        → IsSegment day.now name.now → IsWholeAt (shown (D.state disk.old)) name.now) }
     ensures same { D.tells disk.new → IsUnchanged (D.state disk.old) (D.state disk.new) }
     ensures told { D.tells disk.new → D.tells disk.old }
 {
@@ -116,6 +119,9 @@ fn open_segments<D: StreamDisk>(
         → ((name : List ℕ) → Contains segments.now name → IsSegment day.now name)
         → AreSegmentsOf (shown (D.state disk.old)) segments.now day.now
         (map D.File.state v.items)) }
+    ensures whole { OnOk result (D.tells disk.new → IsSound (D.state disk.old)
+        → ((name : List ℕ) → Contains segments.now name → IsSegment day.now name)
+        → AreWholeAt (shown (D.state disk.old)) segments.now) }
     ensures same { D.tells disk.new → IsUnchanged (D.state disk.old) (D.state disk.new) }
     ensures told { D.tells disk.new → D.tells disk.old }
 {
@@ -218,6 +224,9 @@ pub(crate) fn join_segments<D: StreamDisk>(
     ensures joined { OnOk result (D.tells disk.new → IsSound (D.state disk.old)
         → ((name : List ℕ) → Contains segments.now name → IsSegment day.now name)
         → IsJoinOf (D.state disk.old) (D.state disk.new) draft.now day.now segments.now) }
+    ensures whole { OnOk result (D.tells disk.new → IsSound (D.state disk.old)
+        → ((name : List ℕ) → Contains segments.now name → IsSegment day.now name)
+        → AreWholeAt (shown (D.state disk.old)) segments.now) }
     ensures others { D.tells disk.new
         → KeepsOthers (D.state disk.old) (D.state disk.new) draft.now }
     ensures told { D.tells disk.new → D.tells disk.old }

@@ -2,8 +2,8 @@
 ghost use Rattle.std.specs.Prelude.{◌≡◌, Contains, IfOk, IsTrue, List, ℕ, OnOk};
 ghost use Rattle.record_store.specs.Names.{IsJournal, IsSegment};
 ghost use Rattle.store_reading.specs.Days.{IsDayText};
-ghost use Rattle.store_upkeep.specs.Damages.{AreDamaged, IsVerdict, IsWholeOrListed, OpensOrNone, names_of};
-ghost use Rattle.store_upkeep.specs.Damages.{IsFoundBy};
+ghost use Rattle.store_upkeep.specs.Damages.{AddsTo, AreAsTold, AreDamaged, IsFoundBy, IsVerdict, IsWholeOrListed};
+ghost use Rattle.store_upkeep.specs.Damages.{OpensOrNone};
 
 use crate::damage::{CheckFault, Damage, DamagedFile};
 use crate::journal_check::check_journal;
@@ -133,10 +133,11 @@ fn verify_file<F: Folder>(
 ) -> Result<(), ReadFault>
     ensures damaged { F.tells folder.new → AreDamaged (F.files folder.old) damaged.old.items
         → AreDamaged (F.files folder.old) damaged.new.items }
+    ensures as_told { F.tells folder.new → AreAsTold (F.files folder.old) damaged.old.items
+        → AreAsTold (F.files folder.old) damaged.new.items }
     ensures listed { OnOk result (F.tells folder.new
         → IsWholeOrListed (F.files folder.old) damaged.new.items name.now) }
-    ensures stays { (other : List ℕ) → Contains (names_of damaged.old.items) other
-        → Contains (names_of damaged.new.items) other }
+    ensures added { AddsTo damaged.old.items damaged.new.items }
     ensures same { F.tells folder.new → F.files folder.new ≡ F.files folder.old }
     ensures told { F.tells folder.new → F.tells folder.old }
 {
@@ -157,8 +158,11 @@ fn verify_files<F: Folder>(
 ) -> Result<(), ReadFault>
     ensures damaged { F.tells folder.new → AreDamaged (F.files folder.old) damaged.old.items
         → AreDamaged (F.files folder.old) damaged.new.items }
+    ensures as_told { F.tells folder.new → AreAsTold (F.files folder.old) damaged.old.items
+        → AreAsTold (F.files folder.old) damaged.new.items }
     ensures listed { OnOk result (F.tells folder.new → (name : List ℕ) → Contains names.now name
         → IsWholeOrListed (F.files folder.old) damaged.new.items name) }
+    ensures added { AddsTo damaged.old.items damaged.new.items }
     ensures same { F.tells folder.new → F.files folder.new ≡ F.files folder.old }
     ensures told { F.tells folder.new → F.tells folder.old }
 {
@@ -186,9 +190,16 @@ pub fn verify<F: Folder>(
     ensures damaged { F.tells folder.new → AreDamaged (F.files folder.old) damaged.old.items
         → AreDamaged (F.files folder.old) damaged.new.items }
 
+    // and as it is told
+    ensures as_told { F.tells folder.new → AreAsTold (F.files folder.old) damaged.old.items
+        → AreAsTold (F.files folder.old) damaged.new.items }
+
     // each that is damaged is there
     ensures listed { OnOk result (F.tells folder.new → (name : List ℕ)
         → IsWholeOrListed (F.files folder.old) damaged.new.items name) }
+
+    // what was in the list stays, and what is added stands behind it
+    ensures added { AddsTo damaged.old.items damaged.new.items }
 
     ensures same { F.tells folder.new → F.files folder.new ≡ F.files folder.old }
     ensures told { F.tells folder.new → F.tells folder.old }

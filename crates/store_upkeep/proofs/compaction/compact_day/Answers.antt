@@ -1,6 +1,7 @@
 use Rattle.std.proofs.Common.{arith, List, ℕ, subst, sym, ◌∙◌}
 use Rattle.store_upkeep.specs.Compaction.{AreDayNames}
-use Rattle.store_upkeep.proofs.DaysKept.{few_listed, listed_day, then_apart, unchanged_apart}
+use Rattle.store_upkeep.proofs.DaysKept.{few_listed, listed_day, then_apart, unchanged_apart, unchanged_then_unless}
+use Rattle.store_upkeep.proofs.DaysKept.{unchanged_unless}
 use Rattle.store_upkeep.proofs.SameSets.{then_set, unchanged_set}
 use Rattle.store_upkeep.specs.declared.compaction.TheConstants.{SEGMENTS_MAX}
 use Rattle.store_upkeep.proofs.compaction.compact_day.Goals as goal
@@ -109,3 +110,46 @@ returns-in_err-names-clause-set g c t sound =
 pub returns-in_err-segments-clause-set : goal.returns-in_err-segments-clause-set
 returns-in_err-segments-clause-set g c t sound =
     unchanged_set (g.D.Disk.state c.args.disk.now) (g.D.Disk.state c.list.new.disk) (c.list.ensures.same t)
+
+pub returns-in_err-join_day-clause-whole : goal.returns-in_err-join_day-clause-whole
+returns-in_err-join_day-clause-whole g c t sound =
+    let zero = g.D.Disk.state c.args.disk.now in
+    let one = g.D.Disk.state c.list.new.disk in
+    let names = c.in_ok-names.names.items in
+    let before = c.join_day.ensures.told t in
+    let same = c.list.ensures.same before in
+    let listed = c.in_ok-names.ensures.names before sound in
+    let found = subst (λ (l : List (List ℕ)). AreDayNames names c.args.day.now l) (sym c.deref-2.ensures.value)
+    (subst (λ (l : List (List ℕ)). AreDayNames l c.args.day.now c.in_ok-segments.segments.items) c.deref.ensures.value
+    c.in_ok-segments.ensures) in
+    unchanged_then_unless zero one (g.D.Disk.state c.join_day.new.disk) c.args.day.now same
+    (c.join_day.ensures.whole t (same.lost ∙ sound) names listed found)
+
+pub returns-clause-whole : goal.returns-clause-whole
+returns-clause-whole g c t sound =
+    let zero = g.D.Disk.state c.args.disk.now in
+    let one = g.D.Disk.state c.list.new.disk in
+    let names = c.in_ok-names.names.items in
+    let before = c.join_day.ensures.told t in
+    let same = c.list.ensures.same before in
+    let listed = c.in_ok-names.ensures.names before sound in
+    let found = subst (λ (l : List (List ℕ)). AreDayNames names c.args.day.now l) (sym c.deref-2.ensures.value)
+    (subst (λ (l : List (List ℕ)). AreDayNames l c.args.day.now c.in_ok-segments.segments.items) c.deref.ensures.value
+    c.in_ok-segments.ensures) in
+    unchanged_then_unless zero one (g.D.Disk.state c.join_day.new.disk) c.args.day.now same
+    (c.join_day.ensures.whole t (same.lost ∙ sound) names listed found)
+
+pub returns-then-len-le-SEGMENTS_MAX-clause-whole : goal.returns-then-len-le-SEGMENTS_MAX-clause-whole
+returns-then-len-le-SEGMENTS_MAX-clause-whole g c t sound =
+    unchanged_unless (g.D.Disk.state c.args.disk.now) (g.D.Disk.state c.list.new.disk) c.args.day.now
+    (c.list.ensures.same t)
+
+pub returns-in_err-names-clause-whole : goal.returns-in_err-names-clause-whole
+returns-in_err-names-clause-whole g c t sound =
+    unchanged_unless (g.D.Disk.state c.args.disk.now) (g.D.Disk.state c.list.new.disk) c.args.day.now
+    (c.list.ensures.same t)
+
+pub returns-in_err-segments-clause-whole : goal.returns-in_err-segments-clause-whole
+returns-in_err-segments-clause-whole g c t sound =
+    unchanged_unless (g.D.Disk.state c.args.disk.now) (g.D.Disk.state c.list.new.disk) c.args.day.now
+    (c.list.ensures.same t)

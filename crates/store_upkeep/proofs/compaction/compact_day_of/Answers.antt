@@ -1,7 +1,8 @@
 use Rattle.std.proofs.Common.{arith, rules, subst, sym}
 use Rattle.record_store.specs.Names.{IsSegment}
 use Rattle.store_upkeep.specs.declared.compaction.TheConstants.{SEGMENTS_MAX}
-use Rattle.store_upkeep.proofs.DaysKept.{few_last, few_named, few_or_listed, few_still, goes_on, on_with}
+use Rattle.store_upkeep.proofs.DaysKept.{day_damaged, day_files, few_last, few_named, few_or_listed, few_still}
+use Rattle.store_upkeep.proofs.DaysKept.{goes_on, on_with}
 use Rattle.store_upkeep.proofs.compaction.compact_day_of.Goals as goal
 
 pub returns-in_default-clause-few : goal.returns-in_default-clause-few
@@ -49,3 +50,23 @@ pub returns-clause-still : goal.returns-clause-still
 returns-clause-still g c t on other h =
     few_still SEGMENTS_MAX (g.D.Disk.state c.args.disk.now) (g.D.Disk.state c.compact_day.new.disk) c.in-Some.day
     (c.in_ok-compact_day.ensures.few t on.sound) (c.compact_day.ensures.others t) other h
+
+pub returns-in_err-compact_day-clause-others : goal.returns-in_err-compact_day-clause-others
+returns-in_err-compact_day-clause-others g c t =
+    day_files (g.D.Disk.state c.args.disk.now) (g.D.Disk.state c.compact_day.new.disk) c.in-Some.day
+    c.in-Some.ensures.some.0 (c.compact_day.ensures.others t)
+
+pub returns-in_err-compact_day-clause-damaged : goal.returns-in_err-compact_day-clause-damaged
+returns-in_err-compact_day-clause-damaged g c t sound =
+    day_damaged (g.D.Disk.state c.args.disk.now) (g.D.Disk.state c.compact_day.new.disk) c.in-Some.day
+    (c.compact_day.ensures.others t) (c.compact_day.ensures.whole t sound)
+
+pub returns-clause-others : goal.returns-clause-others
+returns-clause-others g c t =
+    day_files (g.D.Disk.state c.args.disk.now) (g.D.Disk.state c.compact_day.new.disk) c.in-Some.day
+    c.in-Some.ensures.some.0 (c.compact_day.ensures.others t)
+
+pub returns-clause-damaged : goal.returns-clause-damaged
+returns-clause-damaged g c t sound =
+    day_damaged (g.D.Disk.state c.args.disk.now) (g.D.Disk.state c.compact_day.new.disk) c.in-Some.day
+    (c.compact_day.ensures.others t) (c.compact_day.ensures.whole t sound)

@@ -3,7 +3,8 @@ use Rattle.std.specs.Prelude.{Contains}
 use Rattle.journal.specs.Journals.{IsSound}
 use Rattle.record_store.specs.Names.{IsSegment}
 use Rattle.store_reading.specs.Days.{IsDayText}
-use Rattle.store_upkeep.specs.Compaction.{AreListed, GoesOn, HasAtMost, KeepsSet}
+use Rattle.store_upkeep.specs.Compaction.{AreListed, GoesOn, HasAtMost, KeepsDamagedDays, KeepsOtherFiles}
+use Rattle.store_upkeep.specs.Compaction.{KeepsSet}
 use Rattle.store_upkeep.specs.declared.compaction.TheConstants.{SEGMENTS_MAX}
 use Rattle.store_upkeep.proofs.compaction.compact_days.Given as goal
 
@@ -14,6 +15,8 @@ invariant-names g l =
     record {
       told : g.D.Disk.tells l.disk → g.D.Disk.tells l.fn.disk;
       set : g.D.Disk.tells l.disk → IsSound before → AreListed before l.names → KeepsSet before now;
+      others : g.D.Disk.tells l.disk → KeepsOtherFiles before now;
+      damaged : g.D.Disk.tells l.disk → IsSound before → AreListed before l.names → KeepsDamagedDays before now;
       goes_on : g.D.Disk.tells l.disk → IsSound before → AreListed before l.names
           → GoesOn SEGMENTS_MAX now l.names l.last;
       few : g.D.Disk.tells l.disk → IsSound before → AreListed before l.names → (day name : List ℕ)

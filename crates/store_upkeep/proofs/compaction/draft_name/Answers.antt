@@ -4,7 +4,7 @@ use Rattle.std.specs.Prelude.{codes}
 use Rattle.record_store.specs.Names.{Counts}
 use Rattle.store_upkeep.proofs.compaction.draft_name.Goals as goal
 
-pub returns : goal.returns
-returns c counts =
+pub returns-clause-apart : goal.returns-clause-apart
+returns-clause-apart c counts =
     let is : c.in-Some.name ≡ codes "compact.archive" = search rules in
     draft_apart_name (subst Counts is counts)

@@ -1,6 +1,7 @@
-use Rattle.std.proofs.Common.{arith, ◌∙◌}
-use Rattle.store_upkeep.proofs.DaysKept.{aside_apart, few_four, placed_apart, placed_three, removed_apart}
-use Rattle.store_upkeep.proofs.DaysKept.{removed_four, sound_three, then_apart, unchanged_apart}
+use Rattle.std.proofs.Common.{arith, inr, ◌∙◌}
+use Rattle.store_upkeep.proofs.DaysKept.{aside_apart, aside_unless, few_four, placed_apart, placed_three}
+use Rattle.store_upkeep.proofs.DaysKept.{removed_apart, removed_four, sound_three, then_apart, unchanged_apart}
+use Rattle.store_upkeep.proofs.DaysKept.{whole_day}
 use Rattle.store_upkeep.proofs.SameSets.{aside_set, then_set, unchanged_set}
 use Rattle.store_upkeep.specs.declared.compaction.TheConstants.{SEGMENTS_MAX}
 use Rattle.store_upkeep.proofs.compaction.join_day.Goals as goal
@@ -8,12 +9,12 @@ use Rattle.store_upkeep.proofs.compaction.join_day.Goals as goal
 pub returns-in_err-join_segments-clause-set : goal.returns-in_err-join_segments-clause-set
 returns-in_err-join_segments-clause-set g c t sound names listed found =
     aside_set (g.D.Disk.state c.args.disk.now) (g.D.Disk.state c.join_segments.new.disk) c.in_ok-draft.draft
-    (c.join_segments.ensures.others t) c.in_ok-draft.ensures
+    (c.join_segments.ensures.others t) c.in_ok-draft.ensures.apart
 
 pub returns-in_err-join_segments-clause-others : goal.returns-in_err-join_segments-clause-others
 returns-in_err-join_segments-clause-others g c t names found =
     aside_apart (g.D.Disk.state c.args.disk.now) (g.D.Disk.state c.join_segments.new.disk) c.in_ok-draft.draft
-    c.args.day.now (c.join_segments.ensures.others t) c.in_ok-draft.ensures
+    c.args.day.now (c.join_segments.ensures.others t) c.in_ok-draft.ensures.named
 
 pub returns-in_err-joined-clause-set : goal.returns-in_err-joined-clause-set
 returns-in_err-joined-clause-set g c t sound names listed found =
@@ -22,7 +23,7 @@ returns-in_err-joined-clause-set g c t sound names listed found =
     let two = g.D.Disk.state c.name_of_draft.new.disk in
     then_set zero one two
     (aside_set zero one c.in_ok-draft.draft (c.join_segments.ensures.others (c.name_of_draft.ensures.told t))
-    c.in_ok-draft.ensures)
+    c.in_ok-draft.ensures.apart)
     (unchanged_set one two (c.name_of_draft.ensures.same t))
 
 pub returns-in_err-joined-clause-others : goal.returns-in_err-joined-clause-others
@@ -33,7 +34,7 @@ returns-in_err-joined-clause-others g c t names found =
     let day = c.args.day.now in
     then_apart zero one two day
     (aside_apart zero one c.in_ok-draft.draft day
-    (c.join_segments.ensures.others (c.name_of_draft.ensures.told t)) c.in_ok-draft.ensures)
+    (c.join_segments.ensures.others (c.name_of_draft.ensures.told t)) c.in_ok-draft.ensures.named)
     (unchanged_apart one two day (c.name_of_draft.ensures.same t))
 
 pub returns-in-Err-clause-set : goal.returns-in-Err-clause-set
@@ -46,7 +47,7 @@ returns-in-Err-clause-set g c t sound names listed found =
     let t_one = c.name_of_draft.ensures.told t_two in
     let j = c.in_ok-join_segments.ensures.joined t_one sound found.are in
     placed_three zero one two three c.in_ok-draft.draft c.in_ok-joined.joined c.args.day.now names
-    c.args.segments.now j c.in_ok-draft.ensures (c.join_segments.ensures.others t_one)
+    c.args.segments.now j c.in_ok-draft.ensures.apart (c.join_segments.ensures.others t_one)
     (c.name_of_draft.ensures.same t_two) listed found c.in_ok-joined.ensures.segment
     (c.in_ok-joined.ensures.name t_two j.draft_is.sound) (c.place.ensures.set t)
 
@@ -61,10 +62,10 @@ returns-in-Err-clause-others g c t names found =
     let day = c.args.day.now in
     then_apart zero two three day
     (then_apart zero one two day
-    (aside_apart zero one c.in_ok-draft.draft day (c.join_segments.ensures.others t_one) c.in_ok-draft.ensures)
+    (aside_apart zero one c.in_ok-draft.draft day (c.join_segments.ensures.others t_one) c.in_ok-draft.ensures.named)
     (unchanged_apart one two day (c.name_of_draft.ensures.same t_two)))
     (placed_apart two three c.in_ok-draft.draft c.in_ok-joined.joined day (c.place.ensures.others t)
-    c.in_ok-draft.ensures c.in_ok-joined.ensures.segment)
+    c.in_ok-draft.ensures.named c.in_ok-joined.ensures.segment)
 
 pub returns-in_err-remove_joined-clause-set : goal.returns-in_err-remove_joined-clause-set
 returns-in_err-remove_joined-clause-set g c t sound names listed found =
@@ -78,7 +79,7 @@ returns-in_err-remove_joined-clause-set g c t sound names listed found =
     let t_one = c.name_of_draft.ensures.told t_two in
     let j = c.in_ok-join_segments.ensures.joined t_one sound found.are in
     removed_four zero one two three c.in_ok-draft.draft c.in_ok-joined.joined c.args.day.now names
-    c.args.segments.now j c.in_ok-draft.ensures (c.join_segments.ensures.others t_one)
+    c.args.segments.now j c.in_ok-draft.ensures.apart (c.join_segments.ensures.others t_one)
     (c.name_of_draft.ensures.same t_two) listed found c.in_ok-joined.ensures.segment
     (c.in_ok-joined.ensures.name t_two j.draft_is.sound) (c.place.ensures.set t_three)
     (c.place.ensures.others t_three) (c.in_default.ensures.placed t_three) four (c.remove_joined.ensures.set t)
@@ -97,10 +98,10 @@ returns-in_err-remove_joined-clause-others g c t names found =
     then_apart zero three four day
     (then_apart zero two three day
     (then_apart zero one two day
-    (aside_apart zero one c.in_ok-draft.draft day (c.join_segments.ensures.others t_one) c.in_ok-draft.ensures)
+    (aside_apart zero one c.in_ok-draft.draft day (c.join_segments.ensures.others t_one) c.in_ok-draft.ensures.named)
     (unchanged_apart one two day (c.name_of_draft.ensures.same t_two)))
     (placed_apart two three c.in_ok-draft.draft c.in_ok-joined.joined day (c.place.ensures.others t_three)
-    c.in_ok-draft.ensures c.in_ok-joined.ensures.segment))
+    c.in_ok-draft.ensures.named c.in_ok-joined.ensures.segment))
     (removed_apart three four day names c.args.segments.now found (c.remove_joined.ensures.others t))
 
 pub returns-clause-few : goal.returns-clause-few
@@ -115,7 +116,7 @@ returns-clause-few g c t sound names listed found =
     let t_one = c.name_of_draft.ensures.told t_two in
     let j = c.in_ok-join_segments.ensures.joined t_one sound found.are in
     few_four zero one two three c.in_ok-draft.draft c.in_ok-joined.joined c.args.day.now names
-    c.args.segments.now j c.in_ok-draft.ensures (c.join_segments.ensures.others t_one)
+    c.args.segments.now j c.in_ok-draft.ensures.apart (c.join_segments.ensures.others t_one)
     (c.name_of_draft.ensures.same t_two) listed found c.in_ok-joined.ensures.segment
     (c.in_ok-joined.ensures.name t_two j.draft_is.sound) (c.place.ensures.set t_three)
     (c.place.ensures.others t_three) (c.in_default.ensures.placed t_three) four (c.remove_joined.ensures.less t)
@@ -133,7 +134,7 @@ returns-clause-sound g c t sound names listed found =
     let j = c.in_ok-join_segments.ensures.joined t_one sound found.are in
     c.remove_joined.ensures.lost t
     ∙ sound_three zero one two three c.in_ok-draft.draft c.in_ok-joined.joined c.args.day.now names
-    c.args.segments.now j c.in_ok-draft.ensures (c.join_segments.ensures.others t_one)
+    c.args.segments.now j c.in_ok-draft.ensures.apart (c.join_segments.ensures.others t_one)
     (c.name_of_draft.ensures.same t_two) listed found c.in_ok-joined.ensures.segment
     (c.in_ok-joined.ensures.name t_two j.draft_is.sound) (c.place.ensures.set t_three)
     (c.place.ensures.others t_three) (c.in_default.ensures.placed t_three)
@@ -150,7 +151,7 @@ returns-clause-set g c t sound names listed found =
     let t_one = c.name_of_draft.ensures.told t_two in
     let j = c.in_ok-join_segments.ensures.joined t_one sound found.are in
     removed_four zero one two three c.in_ok-draft.draft c.in_ok-joined.joined c.args.day.now names
-    c.args.segments.now j c.in_ok-draft.ensures (c.join_segments.ensures.others t_one)
+    c.args.segments.now j c.in_ok-draft.ensures.apart (c.join_segments.ensures.others t_one)
     (c.name_of_draft.ensures.same t_two) listed found c.in_ok-joined.ensures.segment
     (c.in_ok-joined.ensures.name t_two j.draft_is.sound) (c.place.ensures.set t_three)
     (c.place.ensures.others t_three) (c.in_default.ensures.placed t_three) four (c.remove_joined.ensures.set t)
@@ -169,8 +170,37 @@ returns-clause-others g c t names found =
     then_apart zero three four day
     (then_apart zero two three day
     (then_apart zero one two day
-    (aside_apart zero one c.in_ok-draft.draft day (c.join_segments.ensures.others t_one) c.in_ok-draft.ensures)
+    (aside_apart zero one c.in_ok-draft.draft day (c.join_segments.ensures.others t_one) c.in_ok-draft.ensures.named)
     (unchanged_apart one two day (c.name_of_draft.ensures.same t_two)))
     (placed_apart two three c.in_ok-draft.draft c.in_ok-joined.joined day (c.place.ensures.others t_three)
-    c.in_ok-draft.ensures c.in_ok-joined.ensures.segment))
+    c.in_ok-draft.ensures.named c.in_ok-joined.ensures.segment))
     (removed_apart three four day names c.args.segments.now found (c.remove_joined.ensures.others t))
+
+pub returns-in_err-join_segments-clause-whole : goal.returns-in_err-join_segments-clause-whole
+returns-in_err-join_segments-clause-whole g c t sound names listed found =
+    aside_unless (g.D.Disk.state c.args.disk.now) (g.D.Disk.state c.join_segments.new.disk) c.in_ok-draft.draft
+    c.args.day.now (c.join_segments.ensures.others t) c.in_ok-draft.ensures.named
+
+pub returns-in_err-joined-clause-whole : goal.returns-in_err-joined-clause-whole
+returns-in_err-joined-clause-whole g c t sound names listed found =
+    let t_one = c.name_of_draft.ensures.told t in
+    inr (whole_day (g.D.Disk.state c.args.disk.now) names c.args.segments.now c.args.day.now listed found
+    (c.in_ok-join_segments.ensures.whole t_one sound found.are))
+
+pub returns-in-Err-clause-whole : goal.returns-in-Err-clause-whole
+returns-in-Err-clause-whole g c t sound names listed found =
+    let t_one = c.name_of_draft.ensures.told (c.place.ensures.told t) in
+    inr (whole_day (g.D.Disk.state c.args.disk.now) names c.args.segments.now c.args.day.now listed found
+    (c.in_ok-join_segments.ensures.whole t_one sound found.are))
+
+pub returns-in_err-remove_joined-clause-whole : goal.returns-in_err-remove_joined-clause-whole
+returns-in_err-remove_joined-clause-whole g c t sound names listed found =
+    let t_one = c.name_of_draft.ensures.told (c.place.ensures.told (c.remove_joined.ensures.told t)) in
+    inr (whole_day (g.D.Disk.state c.args.disk.now) names c.args.segments.now c.args.day.now listed found
+    (c.in_ok-join_segments.ensures.whole t_one sound found.are))
+
+pub returns-clause-whole : goal.returns-clause-whole
+returns-clause-whole g c t sound names listed found =
+    let t_one = c.name_of_draft.ensures.told (c.place.ensures.told (c.remove_joined.ensures.told t)) in
+    inr (whole_day (g.D.Disk.state c.args.disk.now) names c.args.segments.now c.args.day.now listed found
+    (c.in_ok-join_segments.ensures.whole t_one sound found.are))

@@ -1,4 +1,4 @@
-use Rattle.store_upkeep.proofs.Readable.{good_then, whole_closed, whole_first, whole_parts}
+use Rattle.store_upkeep.proofs.Readable.{good_then, whole_first, whole_parts}
 use Rattle.store_upkeep.proofs.journal_check.check_batches.Goals as goal
 
 pub batches-preserved : goal.batches-preserved

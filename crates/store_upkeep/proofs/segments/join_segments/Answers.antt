@@ -28,3 +28,7 @@ returns-clause-others g c tells =
     others_then (g.D.Disk.state c.args.disk.now) (g.D.Disk.state c.open_segments.new.disk)
     (g.D.Disk.state c.begin.new.disk) (g.D.Disk.state c.settle.new.disk) c.args.draft.now
     (c.open_segments.ensures.same opened) (c.begin.ensures.others begun) (c.settle.ensures.others tells)
+
+pub returns-clause-whole : goal.returns-clause-whole
+returns-clause-whole g c tells sound are =
+    c.in_ok-inputs.ensures.whole (c.begin.ensures.told (c.settle.ensures.told tells)) sound are

@@ -1,13 +1,16 @@
 use Rattle.std.proofs.Common.{List, ℕ, [], ◌∷◌, ◌++◌, map, take, sym, ap, subst, ◌∙◌}
 use Rattle.std.specs.Prelude.{Contains}
-use Rattle.std.proofs.lemmas.List.{map-append, take_more}
+use Rattle.std.proofs.lemmas.List.{map-append, take_all, take_more}
 use Rattle.std.proofs.lemmas.List.Elements.{Contains-get_or}
 use Rattle.octet_devices.specs.Device.{InputState}
 use Rattle.record_store.proofs.Compared.{same_state, same_then}
 use Rattle.store_reading.specs.Segments.{AreSegmentsOf}
 use Rattle.store_reading.proofs.Segments.{segments_more, segments_none}
-use Rattle.store_upkeep.specs.Compaction.{shown}
-use Rattle.store_upkeep.proofs.DayJoins.{input_still}
+use Rattle.store_reading.proofs.Held.{no_name}
+use Rattle.store_upkeep.specs.Compaction.{AreWholeAt, shown}
+use Rattle.store_upkeep.specs.Whole.{IsWholeAt}
+use Rattle.store_upkeep.proofs.DayJoins.{input_still, whole_still}
+use Rattle.store_upkeep.proofs.Verdicts.{names_more}
 use Rattle.store_upkeep.proofs.segments.open_segments.Goals as goal
 
 pub segments-init : goal.segments-init
@@ -18,6 +21,7 @@ segments-init g c = record {
       subst (λ (ds : List InputState). AreSegmentsOf (shown (g.D.Disk.state c.args.disk.now)) [] c.args.day.now ds)
       (sym (ap (map g.D.File.Input.state) c.new-inputs.ensures.items))
       (segments_none (shown (g.D.Disk.state c.args.disk.now)) c.args.day.now);
+  whole = λ t sound are name has. absurd (no_name (λ (n : List ℕ). Unit {0}) (name, has, tt));
 }
 
 pub segments-preserved : goal.segments-preserved
@@ -30,6 +34,8 @@ segments-preserved g c =
     let then = g.D.Disk.state c.segments.disk in
     let one = g.D.Disk.state c.open_segment.new.disk in
     let item = c.segment-item.result in
+    let here = subst (Contains all) (sym c.segment-item.is)
+    (Contains-get_or all c.segments.segment-index item c.segments-test.true) in
     let more = take_more all c.segments.segment-index item c.segments-test.true
     ∙ ap (λ (n : List ℕ). first ++ n ∷ []) (sym c.segment-item.is) in
     record {
@@ -45,8 +51,19 @@ segments-preserved g c =
           ∙ map-append state c.segments.inputs.items (c.in_ok-file.file ∷ [])))
           (segments_more (shown zero) first item day (map state c.segments.inputs.items) (state c.in_ok-file.file)
           (c.segments.invariant.opened before sound are)
-          (are item (subst (Contains all) (sym c.segment-item.is)
-          (Contains-get_or all c.segments.segment-index item c.segments-test.true)))
+          (are item here)
           (input_still zero then item day (state c.in_ok-file.file) same
           (c.in_ok-file.ensures.input t (same.lost ∙ sound)))));
+      whole = λ t sound are.
+          let before = c.open_segment.ensures.told t in
+          let same = c.segments.invariant.same before in
+          subst (AreWholeAt (shown zero)) (sym more)
+          (names_more (IsWholeAt (shown zero)) first item (c.segments.invariant.whole before sound are)
+          (whole_still zero then item same (c.in_ok-file.ensures.whole t (same.lost ∙ sound) (are item here))));
     }
+
+pub returns-clause-whole : goal.returns-clause-whole
+returns-clause-whole g c t sound are =
+    subst (AreWholeAt (shown (g.D.Disk.state c.args.disk.now)))
+    (take_all c.segments.segment-index c.args.segments.now c.segments-test.false)
+    (c.segments.invariant.whole t sound are)

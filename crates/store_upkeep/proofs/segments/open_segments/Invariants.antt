@@ -4,7 +4,7 @@ use Rattle.disk.specs.Calls.{IsUnchanged}
 use Rattle.journal.specs.Journals.{IsSound}
 use Rattle.record_store.specs.Names.{IsSegment}
 use Rattle.store_reading.specs.Segments.{AreSegmentsOf}
-use Rattle.store_upkeep.specs.Compaction.{shown}
+use Rattle.store_upkeep.specs.Compaction.{AreWholeAt, shown}
 use Rattle.store_upkeep.proofs.segments.open_segments.Given as goal
 
 abbrev pub invariant-segments : goal.invariant-segments
@@ -15,4 +15,7 @@ invariant-segments g l = record {
       → ((name : List ℕ) → Contains l.segments name → IsSegment l.day name)
       → AreSegmentsOf (shown (g.D.Disk.state l.fn.disk)) (take l.segment-index l.segments) l.day
       (map g.D.File.Input.state l.inputs.items);
+  whole : g.D.Disk.tells l.disk → IsSound (g.D.Disk.state l.fn.disk)
+      → ((name : List ℕ) → Contains l.segments name → IsSegment l.day name)
+      → AreWholeAt (shown (g.D.Disk.state l.fn.disk)) (take l.segment-index l.segments);
 }

@@ -1,7 +1,7 @@
 use Rattle.std.proofs.Common.{List, ℕ, subst, sym}
 use Rattle.std.specs.Prelude.{Contains}
 use Rattle.disk.specs.States.{Files}
-use Rattle.store_upkeep.specs.Damages.{AreDamaged, IsWholeOrListed}
+use Rattle.store_upkeep.specs.Damages.{IsWholeOrListed}
 use Rattle.store_upkeep.proofs.Verdicts.{all_names}
 use Rattle.store_upkeep.proofs.verification.verify.Goals as goal
 

@@ -3,8 +3,8 @@ use Rattle.std.specs.Prelude.{Contains}
 use Rattle.std.proofs.lemmas.List.{take_all, take_more}
 use Rattle.disk.specs.States.{Files}
 use Rattle.store_reading.proofs.Held.{no_name}
-use Rattle.store_upkeep.specs.Damages.{AreDamaged, IsWholeOrListed}
-use Rattle.store_upkeep.proofs.Verdicts.{listed_on, names_more}
+use Rattle.store_upkeep.specs.Damages.{AreAsTold, AreDamaged, IsWholeOrListed}
+use Rattle.store_upkeep.proofs.Verdicts.{adds_none, adds_stays, adds_then, listed_on, names_more}
 use Rattle.store_upkeep.proofs.verification.verify_files.Goals as goal
 
 pub names-init : goal.names-init
@@ -12,6 +12,8 @@ names-init g c = record {
   told = λ t. t;
   same = λ t. refl;
   damaged = λ t h. h;
+  as_told = λ t h. h;
+  added = adds_none c.args.damaged.now.items;
   listed = λ t name has. absurd (no_name (λ (n : List ℕ). Unit {0}) (name, has, tt));
 }
 
@@ -22,6 +24,14 @@ returns-in_err-verify_file-clause-damaged g c t h =
     subst (λ (f : Files). AreDamaged f c.verify_file.new.damaged.items) same
     (c.verify_file.ensures.damaged t
     (subst (λ (f : Files). AreDamaged f c.names.damaged.items) (sym same) (c.names.invariant.damaged before h)))
+
+pub returns-in_err-verify_file-clause-as_told : goal.returns-in_err-verify_file-clause-as_told
+returns-in_err-verify_file-clause-as_told g c t h =
+    let before = c.verify_file.ensures.told t in
+    let same = c.names.invariant.same before in
+    subst (λ (f : Files). AreAsTold f c.verify_file.new.damaged.items) same
+    (c.verify_file.ensures.as_told t
+    (subst (λ (f : Files). AreAsTold f c.names.damaged.items) (sym same) (c.names.invariant.as_told before h)))
 
 pub names-preserved : goal.names-preserved
 names-preserved g c =
@@ -39,12 +49,24 @@ names-preserved g c =
           subst (λ (f : Files). AreDamaged f new) same
           (c.verify_file.ensures.damaged t
           (subst (λ (f : Files). AreDamaged f mid) (sym same) (c.names.invariant.damaged before h)));
+      as_told = λ t h. let before = c.verify_file.ensures.told t in
+          let same = c.names.invariant.same before in
+          subst (λ (f : Files). AreAsTold f new) same
+          (c.verify_file.ensures.as_told t
+          (subst (λ (f : Files). AreAsTold f mid) (sym same) (c.names.invariant.as_told before h)));
+      added = adds_then c.args.damaged.now.items mid new c.names.invariant.added c.verify_file.ensures.added;
       listed = λ t name has. let before = c.verify_file.ensures.told t in
           names_more (λ (n : List ℕ). IsWholeOrListed files new n) first c.name-item.result
-          (λ n there. listed_on files mid new n c.verify_file.ensures.stays (c.names.invariant.listed before n there))
+          (λ n there. listed_on files mid new n (adds_stays mid new c.verify_file.ensures.added)
+          (c.names.invariant.listed before n there))
           (subst (λ (f : Files). IsWholeOrListed f new c.name-item.result) (c.names.invariant.same before)
           (c.in_ok-verify_file.ensures.listed t)) name (subst (λ (l : List (List ℕ)). Contains l name) more has);
     }
+
+pub returns-in_err-verify_file-clause-added : goal.returns-in_err-verify_file-clause-added
+returns-in_err-verify_file-clause-added g c =
+    adds_then c.args.damaged.now.items c.names.damaged.items c.verify_file.new.damaged.items c.names.invariant.added
+    c.verify_file.ensures.added
 
 pub returns-clause-listed : goal.returns-clause-listed
 returns-clause-listed g c t name has =
