@@ -20,10 +20,10 @@ use Rattle.archive_text.specs.declared.limits.TheConstants.{ENTRY_MAX}
 use Rattle.archive_text.proofs.FaultLaws.{fault_later}
 use Rattle.archive_text.proofs.Prefixes.{fault_excludes}
 use Rattle.archive_text.proofs.Texts.{entry_carries, one_beginning, text_some}
-use Rattle.record_store.specs.Holdings.{IsBatch}
+use Rattle.record_store.specs.Holdings.{IsBatch, IsReadable, IsWholeJournal}
 use Rattle.record_store.specs.Shown.{GivesNewest}
 use Rattle.durable_store.specs.Causes.{IsOpeningCause}
-use Rattle.durable_store.specs.Recovery.{BeginsWithSome, IsReadable, IsWholeJournal, Refutes}
+use Rattle.durable_store.specs.Recovery.{BeginsWithSome, Refutes}
 use Rattle.durable_store.specs.declared.fault.OpenFault.{OpenFault}
 use Rattle.durable_store.specs.declared.fault.OpenFault.TheVariants.{Store, Damaged, Memory}
 use Rattle.durable_store.proofs.Recovered.{BatchAdded, JournalAdded}

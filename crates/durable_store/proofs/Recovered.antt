@@ -20,9 +20,9 @@ use Rattle.archive_text.specs.declared.store.Added.{Added}
 use Rattle.archive_text.proofs.Members.{all_append, has_either, has_left, has_right}
 use Rattle.archive_text.proofs.Places.{adds_has}
 use Rattle.archive_text.proofs.Texts.{one_entry_of, text_goes_on, text_some}
-use Rattle.record_store.specs.Holdings.{BatchHas, BatchesHave, IsBatch, JournalHas}
+use Rattle.record_store.specs.Holdings.{BatchHas, BatchesHave, IsBatch, IsReadable, JournalHas}
 use Rattle.record_store.proofs.Batches.{batch_has, journal_has, push_has, pushed_either, pushed_has}
-use Rattle.durable_store.specs.Recovery.{Adds, IsReadable}
+use Rattle.durable_store.specs.Recovery.{Adds}
 
 -- ---- an entry
 

@@ -6,7 +6,7 @@ use Rattle.journal.specs.Journals.{IsSound}
 use Rattle.record_store.specs.Causes.{IsCause, TellsFull as StoreTellsFull, opening_causes}
 use Rattle.record_store.specs.Shown.{GivesNewest}
 use Rattle.record_store.specs.declared.keeping.KeepFault.TheVariants.{Disk}
-use Rattle.durable_store.specs.Recovery.{IsWholeJournal}
+use Rattle.record_store.specs.Holdings.{IsWholeJournal}
 use Rattle.durable_store.specs.declared.fault.CheckpointFault.{CheckpointFault}
 use Rattle.durable_store.specs.declared.fault.CheckpointFault.TheVariants.{Store, Segment}
 use Rattle.durable_store.specs.declared.fault.OpenFault.{OpenFault}

@@ -6,12 +6,11 @@ use Rattle.archive_text.specs.Entries.{Entry, Has, IsEntryOf}
 use Rattle.archive_text.specs.declared.store.Added.{Added}
 use Rattle.archive_text.specs.declared.store.Added.TheVariants.{New, Held}
 use Rattle.archive_pages.specs.Paged.{entries_in}
-use Rattle.record_store.specs.Holdings.{JournalHas}
+use Rattle.record_store.specs.Holdings.{IsWholeJournal, JournalHas}
 use Rattle.record_store.specs.Shown.{GivesNewest}
 use Rattle.record_store.specs.Stores.{IsBroken as IsStoreBroken, Sets, Stands as JournalStands, batch_of, number_of}
 use Rattle.record_store.specs.Stores.{with_waiting}
 use Rattle.record_store.specs.declared.store.RecordStore.{RecordStore}
-use Rattle.durable_store.specs.Recovery.{IsWholeJournal}
 use Rattle.durable_store.specs.declared.store.DurableStore.{DurableStore}
 
 -- the entries in memory, in order

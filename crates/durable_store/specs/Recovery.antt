@@ -1,23 +1,10 @@
 -- Entries are brought into memory.
 use Rattle.std.specs.Prelude.{◌≡◌, ◌↔◌, ◌⊎◌, ℕ, List}
-use Rattle.std.specs.List.{AllByRecursion}
-use Rattle.journal.specs.Batches.{HasBatches}
 use Rattle.archive_text.specs.Entries.{Entry, Has}
 use Rattle.archive_text.specs.Text.{BeginsWithEntry}
 use Rattle.archive_text.specs.declared.limits.TheConstants.{ENTRY_MAX}
-use Rattle.record_store.specs.Holdings.{IsBatch}
 use Rattle.durable_store.specs.declared.fault.OpenFault.{OpenFault}
 use Rattle.durable_store.specs.declared.fault.OpenFault.TheVariants.{Store, Damaged, Memory}
-
--- octets are a sequence of entries
-abbrev pub IsReadable : List ℕ → Type 0
-IsReadable body = (es : List Entry) × IsBatch es body
-
--- each batch of a journal is a sequence of entries
-pub record IsWholeJournal (file : List ℕ) : Type 0 where
-  pub bodies : List (List ℕ)
-  pub batches : HasBatches file bodies
-  pub readable : AllByRecursion IsReadable bodies
 
 -- an entry is at the beginning of a text
 abbrev pub BeginsWithSome : List ℕ → Type 0

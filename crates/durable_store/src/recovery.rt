@@ -4,8 +4,8 @@ ghost use Rattle.journal.specs.Batches.{IsBody, IsClosed, open_batch};
 ghost use Rattle.archive_pages.specs.Paged.{entries_in};
 ghost use Rattle.archive_text.specs.Entries.{IsEntry};
 ghost use Rattle.archive_text.specs.EntryViews.{entry_of};
-ghost use Rattle.record_store.specs.Holdings.{BatchHas, JournalHas};
-ghost use Rattle.durable_store.specs.Recovery.{Adds, AddsFirst, BeginsWithSome, IsReadable, IsWholeJournal};
+ghost use Rattle.record_store.specs.Holdings.{BatchHas, IsReadable, IsWholeJournal, JournalHas};
+ghost use Rattle.durable_store.specs.Recovery.{Adds, AddsFirst, BeginsWithSome};
 ghost use Rattle.durable_store.specs.Recovery.{Refutes};
 
 use crate::fault::OpenFault;

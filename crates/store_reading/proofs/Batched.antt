@@ -23,12 +23,11 @@ use Rattle.archive_text.specs.declared.store.Added.{Added}
 use Rattle.archive_text.proofs.Members.{all_append, has_either, has_left, has_right}
 use Rattle.archive_text.proofs.Places.{adds_has}
 use Rattle.archive_text.proofs.Texts.{one_entry_of, text_goes_on}
-use Rattle.record_store.specs.Holdings.{BatchHas, BatchesHave, IsBatch, JournalHas}
+use Rattle.record_store.specs.Holdings.{BatchHas, BatchesHave, IsBatch, IsReadable, JournalHas}
 use Rattle.record_store.specs.Names.{IsJournal}
 use Rattle.record_store.proofs.Batches.{batch_has, journal_has, push_has, pushed_either, pushed_has}
 use Rattle.store_reading.specs.Journals.{Adds, AddsJournal, HasAsJournal, IsOfJournals, JournalsHave, NamedJournalsHave}
 use Rattle.store_reading.specs.Folders.{AreNamesOf}
-use Rattle.store_reading.specs.Whole.{IsReadable}
 use Rattle.store_reading.proofs.Held.{listed_name, no_name, some_before, some_either, some_last}
 
 -- ---- an entry

@@ -13,7 +13,9 @@ use Rattle.store_reading.specs.Days.{IsAfter, IsDayBelow}
 use Rattle.store_reading.specs.Folders.{AreNamesOf, Opens}
 use Rattle.store_reading.specs.Names.{HaveSegment, IsNextDay}
 use Rattle.store_reading.specs.Segments.{IsSegmentInput}
-use Rattle.store_reading.specs.Whole.{DaysAreWhole, EarlierAreWhole, IsArchiveOfDay, IsReadable, IsWholeJournal}
+use Rattle.store_reading.specs.Whole.{DaysAreWhole, EarlierAreWhole}
+use Rattle.record_store.specs.Segments.{IsArchiveOfDay}
+use Rattle.record_store.specs.Holdings.{IsReadable, IsWholeJournal}
 use Rattle.store_reading.specs.Whole.{IsWholeJournalAt, IsWholeSegmentAt, JournalsAreWhole, MeetsRange}
 use Rattle.store_reading.specs.Whole.{NamedJournalsAreWhole, NamedSegmentsAreWhole, SegmentsAreWhole}
 use Rattle.store_reading.proofs.Batched.{BatchAdded, JournalAdded}

@@ -1,25 +1,13 @@
 -- Files that are whole.
 use Rattle.std.specs.Prelude.{ℕ, List, Option, Contains, IfSome}
-use Rattle.std.specs.List.{AllByRecursion}
 use Rattle.disk.specs.States.{Files}
-use Rattle.journal.specs.Batches.{HasBatches}
 use Rattle.archive_text.specs.Entries.{Entry}
 use Rattle.archive_sets.specs.declared.range.InRange.{InRange}
 use Rattle.archive_join.specs.Ranges.{IsOfRange}
-use Rattle.record_store.specs.Holdings.{IsBatch}
+use Rattle.record_store.specs.Holdings.{IsWholeJournal}
 use Rattle.record_store.specs.Names.{IsJournal, IsSegment}
-use Rattle.record_store.specs.Segments.{IsSegmentOf}
+use Rattle.record_store.specs.Segments.{IsArchiveOfDay}
 use Rattle.store_reading.specs.Days.{IsAfter, IsOf}
-
--- octets are a sequence of entries
-abbrev pub IsReadable : List ℕ → Type 0
-IsReadable body = (es : List Entry) × IsBatch es body
-
--- each batch of a journal is a sequence of entries
-pub record IsWholeJournal (file : List ℕ) : Type 0 where
-  pub bodies : List (List ℕ)
-  pub batches : HasBatches file bodies
-  pub readable : AllByRecursion IsReadable bodies
 
 -- the file under a name, if there is one, is whole where the name is that of a journal
 abbrev pub IsWholeJournalAt : Files → List ℕ → Type 0
@@ -32,10 +20,6 @@ NamedJournalsAreWhole files names = (name : List ℕ) → Contains names name �
 -- so it is under each name of the folder
 abbrev pub JournalsAreWhole : Files → Type 0
 JournalsAreWhole files = (name : List ℕ) → IsWholeJournalAt files name
-
--- octets are the archive of entries of a day
-abbrev pub IsArchiveOfDay : List ℕ → List ℕ → Type 0
-IsArchiveOfDay day file = (es : List Entry) × IsSegmentOf day file es
 
 -- the file under a name, if there is one, is an archive of the day where the name is that of a segment of the day
 abbrev pub IsWholeSegmentAt : Files → List ℕ → List ℕ → Type 0

@@ -4,12 +4,12 @@ ghost use Rattle.journal.specs.Batches.{IsBody, IsClosed, open_batch};
 ghost use Rattle.archive_text.specs.Entries.{IsEntry};
 ghost use Rattle.archive_text.specs.EntryViews.{entry_of};
 ghost use Rattle.archive_text.specs.Text.{IsArchive, text_of};
-ghost use Rattle.record_store.specs.Holdings.{BatchHas, JournalHas};
+ghost use Rattle.record_store.specs.Holdings.{BatchHas, IsReadable, IsWholeJournal, JournalHas};
 ghost use Rattle.store_reading.specs.Folders.{AreNamesOf};
 ghost use Rattle.store_reading.specs.Journals.{Adds, AddsFirst, AddsJournal, GivesAll, HasAsJournal, IsOfJournals};
 ghost use Rattle.store_reading.specs.Journals.{NamedJournalsHave};
 ghost use Rattle.store_reading.specs.Sources.{set_entries};
-ghost use Rattle.store_reading.specs.Whole.{IsReadable, IsWholeJournal, IsWholeJournalAt, JournalsAreWhole};
+ghost use Rattle.store_reading.specs.Whole.{IsWholeJournalAt, JournalsAreWhole};
 ghost use Rattle.store_reading.specs.Whole.{NamedJournalsAreWhole};
 
 use crate::fault::{CheckFault, FileFault, ReadFault};

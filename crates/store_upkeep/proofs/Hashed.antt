@@ -32,14 +32,14 @@ use Rattle.archive_streams.proofs.Counting.{bad_count}
 use Rattle.archive_streams.proofs.EntrySteps.{begun}
 use Rattle.archive_digest.specs.Periods.{IsIn}
 use Rattle.archive_digest.specs.declared.period.Period.TheVariants.{Day}
-use Rattle.record_store.specs.Segments.{segment_name}
+use Rattle.record_store.specs.Segments.{IsArchiveOfDay, segment_name}
 use Rattle.store_reading.specs.Days.{IsOf}
 use Rattle.store_reading.specs.Segments.{IsWholeOf}
 use Rattle.store_reading.proofs.DayOrders.{one_day}
 use Rattle.store_reading.proofs.Joined.{rest_of, whole_rest}
 use Rattle.store_upkeep.specs.Damages.{HashesOf, IsArchiveDamage, IsHashed, IsOtherDayAt, IsSegmentDamage, OfLeft}
 use Rattle.store_upkeep.specs.Damages.{Refutes, Tells, check_fault_of, position}
-use Rattle.store_upkeep.specs.Whole.{IsArchiveOfDay, IsWholeSegment}
+use Rattle.store_upkeep.specs.Whole.{IsWholeSegment}
 use Rattle.store_upkeep.specs.declared.damage.CheckFault.{CheckFault}
 use Rattle.store_upkeep.specs.declared.damage.CheckFault.TheVariants.{Damaged, Input, Memory}
 use Rattle.store_upkeep.specs.declared.damage.Damage.TheVariants.{Archive, Digest, OtherDay}

@@ -12,7 +12,8 @@ use Rattle.archive_text.specs.declared.limits.TheConstants.{ENTRY_MAX}
 use Rattle.archive_text.proofs.FaultLaws.{fault_later}
 use Rattle.archive_text.proofs.Prefixes.{fault_excludes}
 use Rattle.archive_text.proofs.Texts.{entry_carries, one_beginning, text_some}
-use Rattle.store_upkeep.specs.Whole.{IsAsGood, IsReadable, IsWholeJournal}
+use Rattle.store_upkeep.specs.Whole.{IsAsGood}
+use Rattle.record_store.specs.Holdings.{IsReadable, IsWholeJournal}
 
 pub as_good : (A : Type 0) → IsAsGood A A
 as_good A = record { there = λ a. a; back = λ a. a }

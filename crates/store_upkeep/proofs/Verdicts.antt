@@ -14,7 +14,8 @@ use Rattle.store_reading.specs.Folders.{AreNamesOf, Opens}
 use Rattle.store_upkeep.specs.Damages.{AddsTo, AreAsTold, AreDamaged, IsDamageOf, IsFoundBy, IsJournalDamage}
 use Rattle.store_upkeep.specs.Damages.{IsSegmentDamage, IsToldAt, IsVerdict, IsWholeOrListed, OfLeft, Refutes, Tells}
 use Rattle.store_upkeep.specs.Damages.{names_of}
-use Rattle.store_upkeep.specs.Whole.{IsDamagedAt, IsWholeAt, IsWholeFile, IsWholeJournal, IsWholeSegment}
+use Rattle.store_upkeep.specs.Whole.{IsDamagedAt, IsWholeAt, IsWholeFile, IsWholeSegment}
+use Rattle.record_store.specs.Holdings.{IsWholeJournal}
 use Rattle.store_upkeep.specs.declared.damage.CheckFault.{CheckFault}
 use Rattle.store_upkeep.specs.declared.damage.CheckFault.TheVariants.{Damaged, Input, Memory}
 use Rattle.store_upkeep.specs.declared.damage.Damage.{Damage}

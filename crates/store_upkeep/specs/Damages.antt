@@ -16,13 +16,13 @@ use Rattle.archive_streams.specs.declared.entries.ArchiveEntries.{ArchiveEntries
 use Rattle.archive_streams.specs.declared.fault.SideFault.{SideFault}
 use Rattle.archive_streams.specs.declared.fault.SideFault.TheVariants.{Archive as side_Archive, Input as side_Input}
 use Rattle.record_store.specs.Names.{IsJournal, IsSegment}
-use Rattle.record_store.specs.Segments.{segment_name}
+use Rattle.record_store.specs.Segments.{IsArchiveOfDay, segment_name}
 use Rattle.store_reading.specs.Days.{IsDayText, IsOf}
 use Rattle.store_reading.specs.Folders.{Opens}
 use Rattle.store_reading.specs.Segments.{IsWholeOf, ReadsOf}
 use Rattle.store_reading.specs.declared.fault.FileFault.{FileFault}
 use Rattle.store_reading.specs.declared.fault.FileFault.TheVariants.{Archive as file_Archive, OtherDay as file_OtherDay}
-use Rattle.store_upkeep.specs.Whole.{IsArchiveOfDay, IsDamagedAt, IsWholeAt, IsWholeFile}
+use Rattle.store_upkeep.specs.Whole.{IsDamagedAt, IsWholeAt, IsWholeFile}
 use Rattle.store_upkeep.specs.declared.damage.CheckFault.{CheckFault}
 use Rattle.store_upkeep.specs.declared.damage.CheckFault.TheVariants.{Damaged, Input, Memory}
 use Rattle.store_upkeep.specs.declared.damage.Damage.{Damage}

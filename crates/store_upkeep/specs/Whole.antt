@@ -1,27 +1,11 @@
 -- Files of a store that are whole.
 use Rattle.std.specs.Prelude.{◌≡◌, ℕ, List, Some, IsSomeAnd}
-use Rattle.std.specs.List.{AllByRecursion}
 use Rattle.disk.specs.States.{Files}
-use Rattle.journal.specs.Batches.{HasBatches}
 use Rattle.archive_text.specs.Entries.{Entry}
-use Rattle.record_store.specs.Holdings.{IsBatch}
+use Rattle.record_store.specs.Holdings.{IsWholeJournal}
 use Rattle.record_store.specs.Names.{IsJournal, IsSegment}
 use Rattle.record_store.specs.Segments.{IsSegmentOf, segment_name}
 use Rattle.store_reading.specs.Days.{IsDayText}
-
--- octets are a sequence of entries
-abbrev pub IsReadable : List ℕ → Type 0
-IsReadable body = (es : List Entry) × IsBatch es body
-
--- each batch of a journal is a sequence of entries
-pub record IsWholeJournal (file : List ℕ) : Type 0 where
-  pub bodies : List (List ℕ)
-  pub batches : HasBatches file bodies
-  pub readable : AllByRecursion IsReadable bodies
-
--- octets are the archive of entries of a day
-abbrev pub IsArchiveOfDay : List ℕ → List ℕ → Type 0
-IsArchiveOfDay day file = (es : List Entry) × IsSegmentOf day file es
 
 -- a segment is the archive of entries of its day, and its name has the SHA-256 of its octets
 pub record IsWholeSegment (day name file : List ℕ) : Type 0 where

@@ -1,7 +1,7 @@
 //! A journal is checked.
 ghost use Rattle.std.specs.Prelude.{IfErr, OnErr, OnOk};
 ghost use Rattle.store_upkeep.specs.Damages.{IsJournalDamage, OfLeft, Refutes, Tells};
-ghost use Rattle.store_upkeep.specs.Whole.{IsReadable, IsWholeJournal};
+ghost use Rattle.record_store.specs.Holdings.{IsReadable, IsWholeJournal};
 
 use crate::damage::{CheckFault, Damage};
 use archive_text::{ArchiveFault, ENTRY_MAX, read_entry};

@@ -1,9 +1,9 @@
 //! A segment is checked.
 ghost use Rattle.std.specs.Prelude.{IfErr, IfOk, List, ℕ, OnOk};
 ghost use Rattle.archive_text.specs.Entries.{Entry};
-ghost use Rattle.record_store.specs.Segments.{IsSegmentOf};
+ghost use Rattle.record_store.specs.Segments.{IsArchiveOfDay, IsSegmentOf};
 ghost use Rattle.store_upkeep.specs.Damages.{IsArchiveDamage, IsHashed, IsSegmentDamage, OfLeft, Refutes, Tells};
-ghost use Rattle.store_upkeep.specs.Whole.{IsArchiveOfDay, IsWholeSegment};
+ghost use Rattle.store_upkeep.specs.Whole.{IsWholeSegment};
 
 use crate::damage::{CheckFault, Damage};
 use crate::hashing::{HEX_LEN, hash_entry, hexadecimal, segment_octets};

@@ -1,6 +1,7 @@
 use Rattle.std.proofs.Common.{◌≡◌, [], rules}
 use Rattle.archive_pages.specs.Paged.{entries_in}
-use Rattle.durable_store.specs.Recovery.{BeginsWithSome, IsReadable, Refutes}
+use Rattle.durable_store.specs.Recovery.{BeginsWithSome, Refutes}
+use Rattle.record_store.specs.Holdings.{IsReadable}
 use Rattle.durable_store.proofs.Recovered.{batch_begun, batch_more, batch_whole, no_octets, shorter}
 use Rattle.durable_store.proofs.Readable.{at_err, batch_read, begins_some, refutes_more, rest_readable}
 use Rattle.durable_store.proofs.recovery.add_batch.Goals as goal

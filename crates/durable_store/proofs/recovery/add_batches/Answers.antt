@@ -1,5 +1,6 @@
 use Rattle.archive_pages.specs.Paged.{entries_in}
-use Rattle.durable_store.specs.Recovery.{IsReadable, IsWholeJournal, Refutes}
+use Rattle.durable_store.specs.Recovery.{Refutes}
+use Rattle.record_store.specs.Holdings.{IsReadable, IsWholeJournal}
 use Rattle.durable_store.proofs.Recovered.{journal_begun, journal_more, journal_whole, shorter_rest}
 use Rattle.durable_store.proofs.Readable.{at_err, journal_read, next_readable, refutes_more}
 use Rattle.durable_store.proofs.recovery.add_batches.Goals as goal

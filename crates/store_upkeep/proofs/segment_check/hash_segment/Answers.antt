@@ -6,7 +6,7 @@ use Rattle.std.proofs.Common.{List, ℕ, ◌++◌, length, ◌∙◌}
 use Rattle.syslog_frame.specs.Frames.{framed}
 use Rattle.syslog_frame.specs.declared.framing.Framing.TheVariants.{Counted}
 use Rattle.store_upkeep.specs.Damages.{IsArchiveDamage, Refutes, Tells, position}
-use Rattle.store_upkeep.specs.Whole.{IsArchiveOfDay}
+use Rattle.record_store.specs.Segments.{IsArchiveOfDay}
 use Rattle.store_upkeep.specs.declared.damage.CheckFault.{CheckFault}
 use Rattle.store_reading.proofs.Segments.{of_found}
 use Rattle.store_upkeep.proofs.Hashed.{hashes_more, hashes_none, hashes_whole, other_day, other_day_at}

@@ -1,7 +1,7 @@
 use Rattle.std.proofs.Common.{ℕ, List, subst, sym}
 use Rattle.record_store.specs.Shown.{GivesNewest}
 use Rattle.record_store.specs.Stores.{number_of}
-use Rattle.durable_store.specs.Recovery.{IsWholeJournal}
+use Rattle.record_store.specs.Holdings.{IsWholeJournal}
 use Rattle.archive_pages.specs.Paged.{entries_in}
 use Rattle.durable_store.specs.Causes.{IsOpeningCause}
 use Rattle.durable_store.proofs.Readable.{at_err, opening_refuted}
