@@ -45,7 +45,7 @@ KeepsFrame old new frame dropped dropped_new =
 abbrev pub KeepsNone : OutputState × ℕ → OutputState × ℕ → Type 0
 KeepsNone old new = (new.0 ≡ old.0) × (old.1 ≤ new.1)
 
--- by its outcome a frame was kept with its octets, or, where it is too long, a line alone; else nothing was
+-- by its outcome a frame was kept with its octets; where it is too long, a line was written; else nothing was
 abbrev pub KeepsOutcome : OutputState → OutputState → Outcome → Option (List ℕ) → ℕ → ℕ → Type 0
 KeepsOutcome old new New frame dropped dropped_new = KeepsNone (old, dropped) (new, dropped_new)
 KeepsOutcome old new Held frame dropped dropped_new = KeepsNone (old, dropped) (new, dropped_new)
