@@ -1,6 +1,7 @@
 pub mod Batched
 pub mod DayOrders
 pub mod DaysRead
+pub mod Faulted
 pub mod Held
 pub mod Joined
 pub mod Nearest

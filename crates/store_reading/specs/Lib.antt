@@ -1,4 +1,5 @@
 pub mod Days
+pub mod Faults
 pub mod Folders
 pub mod Names
 pub mod Ranges

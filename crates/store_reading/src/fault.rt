@@ -104,8 +104,12 @@ impl From<EntriesFault> for CheckFault {
 }
 
 impl CheckFault {
+    ghost use Rattle.store_reading.specs.Faults.{IsFaultAt};
+
     /// The fault for the file with this name.
-    pub fn of(self, name: FileName) -> ReadFault {
+    pub fn of(self, name: FileName) -> ReadFault
+        ensures { IsFaultAt name self result }
+    {
         match self {
             CheckFault::Damaged(fault) => ReadFault::Damaged { name, fault },
             CheckFault::Input(fault) => ReadFault::Read { name, fault },

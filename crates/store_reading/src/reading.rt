@@ -1,5 +1,6 @@
 //! The archive of what a folder holds is written.
 ghost use Rattle.std.specs.Prelude.{◌≡◌, IfOk, MatchResult, OnOk, map};
+ghost use Rattle.store_reading.specs.Faults.{IsFaultOfInput, IsJoinFault};
 ghost use Rattle.store_reading.specs.Folders.{AreNamesOf};
 ghost use Rattle.store_reading.specs.Journals.{IsOfJournals};
 ghost use Rattle.store_reading.specs.Sets.{AreInputsOf, DayOutcome, WritesPart, WritesSet};
@@ -32,9 +33,11 @@ fn fault_at(
     day: &Day,
     input: usize,
     fault: CheckFault,
-) -> ReadFault {
+) -> ReadFault
+    ensures { IsFaultOfInput day.now names.now input fault result }
+{
     let mut at: usize = 0;
-    for name in names {
+    'names: for name in names {
         if is_segment_of(name.as_octets(), day) {
             if at == input {
                 return match name.copy(alloc) {
@@ -49,7 +52,9 @@ fn fault_at(
 }
 
 /// Why the segments of a day among these names were not joined, from the fault of joining them.
-pub fn join_fault(alloc: Global, names: &[FileName], day: &Day, fault: JoinFault) -> ReadFault {
+pub fn join_fault(alloc: Global, names: &[FileName], day: &Day, fault: JoinFault) -> ReadFault
+    ensures { IsJoinFault day.now names.now fault result }
+{
     match fault {
         JoinFault::Archive { input, fault } => fault_at(
             alloc,
