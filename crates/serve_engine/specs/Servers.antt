@@ -8,7 +8,7 @@ use Rattle.syslog_collect.specs.History.{AcceptedEvent}
 use Rattle.socket_source.specs.Steps.{Given, SourceState}
 use Rattle.serve_engine.specs.Intakes.{StandsBy}
 use Rattle.serve_engine.specs.Keepings.{Kept, StaysCommitted}
-use Rattle.serve_engine.specs.Refusals.{kept_in}
+use Rattle.serve_engine.specs.Refusals.{KeepsTurn, kept_in}
 use Rattle.serve_engine.specs.Serving.{HoldsReceived, IfCommitted, IfSettled, IsCause, Manner, Served, UnlessMemory}
 use Rattle.serve_engine.specs.Serving.{UnlessStopped, is_due, manner_of}
 use Rattle.serve_engine.specs.declared.counts.ServeCounts.{ServeCounts}
@@ -142,3 +142,42 @@ abbrev pub ServesRun : {S K : Type 0} → (S → List Entry) → (K → Kept →
 ServesRun entries stands old new source source_new full end =
     (k : Kept) (first : List Entry) (before : List AcceptedEvent) → StandsBy entries stands old k first before
     → NoneWaits old.collector → DoneRun entries stands old new source source_new full end k first before
+
+-- ---- what a run keeps of frames that are refused
+
+-- where a server is: its intake, its source, whether its disk was full, and what it kept and dropped
+pub record Place (S K : Type 0) : Type 0 where
+  pub intake : Intake S K
+  pub source : SourceState
+  pub full : Bool
+  pub refusals : OutputState × ℕ
+
+abbrev pub place_of : {S K N R : Type 0} → (R → OutputState) → Server S K N R → SourceState → Place S K
+place_of state server source = record {
+  intake = server.intake;
+  source = source;
+  full = server.full;
+  refusals = refusals_of state server;
+}
+
+-- a turn that goes on so leads from one place to another: it is served, and what is refused in it is kept
+pub record Leads {S K : Type 0} (entries : S → List Entry) (stands : K → Kept → Type 0) (turn : Turn)
+    (old new : Place S K) : Type 0 where
+  pub served : ServesTurn entries stands old.intake new.intake old.source new.source old.full new.full turn
+  pub kept : KeepsTurn entries stands old.intake new.intake old.source new.source old.full turn old.refusals
+      new.refusals
+
+-- turns that go on lead there through these places, the last one first
+abbrev pub LeadsOn : {S K : Type 0} → (S → List Entry) → (K → Kept → Type 0) → Place S K → List (Place S K) → Place S K
+    → Type 0
+LeadsOn entries stands a [] b = b ≡ a
+LeadsOn entries stands a (p ∷ ps) b = LeadsOn entries stands a ps p × Leads entries stands On p b
+
+-- they lead there through some
+abbrev pub LeadsFrom : {S K : Type 0} → (S → List Entry) → (K → Kept → Type 0) → Place S K → Place S K → Type 0
+LeadsFrom {S = S} {K = K} entries stands a b = (ps : List (Place S K)) × LeadsOn entries stands a ps b
+
+-- a run that ends so leads there: turns that go on, and one that ends it, or none
+abbrev pub LeadsTo : {S K : Type 0} → (S → List Entry) → (K → Kept → Type 0) → ServeEnd → Place S K → Place S K → Type 0
+LeadsTo {S = S} {K = K} entries stands end a b = (p : Place S K) × LeadsFrom entries stands a p
+    × ((b ≡ p) ⊎ Leads entries stands (End end) p b)

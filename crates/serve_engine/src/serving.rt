@@ -2,7 +2,8 @@
 ghost use Rattle.std.specs.Prelude.{◌≡◌, Bool, false, length};
 ghost use Rattle.socket_source.specs.Steps.{IsWithin, octets_of};
 ghost use Rattle.serve_engine.specs.Refusals.{KeepsStep, KeepsTurn, kept_in};
-ghost use Rattle.serve_engine.specs.Servers.{ServesRun, ServesTurn, intake_of, is_full, refusals_of};
+ghost use Rattle.serve_engine.specs.Servers.{LeadsTo, ServesRun, ServesTurn, intake_of, is_full, place_of};
+ghost use Rattle.serve_engine.specs.Servers.{refusals_of};
 ghost use Rattle.serve_engine.specs.Serving.{Asked, ClosesOwn, IsStepTurn, ServesStep, asks_commit};
 ghost use Rattle.serve_engine.specs.Serving.{event_of, manner_of};
 
@@ -111,6 +112,9 @@ impl<S: Store + Drop, K: Keeping<S> + Drop, N: Output + Drop, R: Output + Drop> 
     ) -> ServeEnd
         ensures served { ServesRun S.entries K.stands (intake_of self.old) (intake_of self.new)
             (Q.state source.old) (Q.state source.new) (is_full self.old) result }
+        // What was kept, turn by turn, of frames that were refused.
+        ensures kept { LeadsTo S.entries K.stands result (place_of R.state self.old (Q.state source.old))
+            (place_of R.state self.new (Q.state source.new)) }
         ensures manner { manner_of (intake_of self.new).collector
             ≡ manner_of (intake_of self.old).collector }
     {

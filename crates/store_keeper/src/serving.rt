@@ -7,7 +7,7 @@ ghost use Rattle.syslog_collect.specs.History.{AcceptedEvent};
 ghost use Rattle.syslog_collect.specs.declared.limits.TheConstants.{CONNECTIONS_LIMIT, CONNECTIONS_MAX};
 ghost use Rattle.serve_engine.specs.Intakes.{StandsBy};
 ghost use Rattle.serve_engine.specs.Keepings.{Kept};
-ghost use Rattle.serve_engine.specs.Servers.{intake_of};
+ghost use Rattle.serve_engine.specs.Servers.{LeadsTo, intake_of, place_of};
 ghost use Rattle.store_keeper.specs.Keepers.{KeepsOn};
 ghost use Rattle.store_keeper.specs.Keeping.{kept_whole};
 ghost use Rattle.store_keeper.specs.Runs.{RunLeaves};
@@ -58,10 +58,13 @@ pub fn serve<D: Disk + Drop, N: Output + Drop, R: Output + Drop, Q: ServerSource
     pause: &mut P,
     options: &ServeOptions,
 ) -> ServeEnd
-    ensures { (k : Kept) (first : List Entry) (before : List AcceptedEvent)
+    ensures leaves { (k : Kept) (first : List Entry) (before : List AcceptedEvent)
         → StandsBy entries_in KeepsOn (intake_of server.old) k first before
         → NoneWaits (intake_of server.old).collector
         → RunLeaves server.old server.new (Q.state source.old) (Q.state source.new) result k first before }
+    // What was kept, turn by turn, of frames that were refused.
+    ensures kept { LeadsTo entries_in KeepsOn result (place_of R.state server.old (Q.state source.old))
+        (place_of R.state server.new (Q.state source.new)) }
 {
     server.serve(alloc, source, pause, options)
 }

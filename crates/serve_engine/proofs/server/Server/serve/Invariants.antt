@@ -4,6 +4,7 @@ use Rattle.syslog_collect.specs.Collectors.{NoneWaits}
 use Rattle.syslog_collect.specs.History.{AcceptedEvent}
 use Rattle.serve_engine.specs.Intakes.{StandsBy}
 use Rattle.serve_engine.specs.Keepings.{Kept}
+use Rattle.serve_engine.specs.Servers.{LeadsFrom, place_of}
 use Rattle.serve_engine.specs.Serving.{manner_of}
 use Rattle.serve_engine.proofs.Rounds.{SoFar}
 use Rattle.serve_engine.proofs.server.Server.serve.Given as goal
@@ -18,4 +19,7 @@ invariant-loop-turn g l = record {
       (g.Q.ServerSource.state l.fn.source) (g.Q.ServerSource.state l.source) l.fn.self.full l.self.full l._turn k first
       before;
   manner : manner_of l.self.intake.collector ≡ manner_of l.fn.self.intake.collector;
+  leads : LeadsFrom (g.S.Store.entries) (g.K.Keeping.stands)
+      (place_of (g.R.Output.state) l.fn.self (g.Q.ServerSource.state l.fn.source))
+      (place_of (g.R.Output.state) l.self (g.Q.ServerSource.state l.source));
 }
