@@ -1,19 +1,26 @@
 -- Batches are read, or not.
 use Rattle.std.proofs.Common.{◌≡◌, ℕ, ◌<◌, List, [], ◌∷◌, ◌++◌, length, refl, sym, ap, subst, ◌∙◌, arith}
-use Rattle.std.proofs.Common.{append_assoc, length-append}
+use Rattle.std.proofs.Common.{◌+◌, ◌-◌, ◌≤◌, ◌^◌, suc, inl, inr, min, append_assoc, length-append}
+use Rattle.std.specs.Int.{w32, to_le_bytes}
 use Rattle.std.specs.List.{AllByRecursion}
 use Rattle.journal.specs.Batches.{batches_text, HasBatches, IsBody, IsClosed, open_batch}
+use Rattle.journal.proofs.Batches.{text-push}
 use Rattle.journal.proofs.Readings.{same_batch}
-use Rattle.archive_text.specs.Entries.{Entry}
+use Rattle.archive_text.specs.Entries.{Entry, IsEntry}
 use Rattle.archive_text.specs.Faults.{IsFaultBefore}
+use Rattle.archive_text.specs.Positions.{later, position_of}
 use Rattle.archive_text.specs.Text.{BeginsWithEntry, entry_text, text_of}
 use Rattle.archive_text.specs.declared.fault.ArchiveFault.{ArchiveFault}
+use Rattle.archive_text.specs.declared.fault.ArchiveFault.TheVariants.{BadFrame, EntryTooLong, BadEntry}
+use Rattle.archive_text.specs.declared.fault.ArchiveFault.TheVariants.{NotCanonical, NotAscending}
 use Rattle.archive_text.specs.declared.limits.TheConstants.{ENTRY_MAX}
 use Rattle.archive_text.proofs.FaultLaws.{fault_later}
 use Rattle.archive_text.proofs.Prefixes.{fault_excludes}
-use Rattle.archive_text.proofs.Texts.{entry_carries, one_beginning, text_some}
+use Rattle.archive_text.proofs.Members.{all_append}
+use Rattle.archive_text.proofs.Texts.{entry_carries, one_beginning, text_goes_on, text_some}
+use Rattle.record_store.specs.Holdings.{IsBatch, IsReadable, IsWholeJournal}
+use Rattle.store_upkeep.specs.Damages.{IsBatchFault, IsJournalFault}
 use Rattle.store_upkeep.specs.Whole.{IsAsGood}
-use Rattle.record_store.specs.Holdings.{IsReadable, IsWholeJournal}
 
 pub as_good : (A : Type 0) → IsAsGood A A
 as_good A = record { there = λ a. a; back = λ a. a }
@@ -66,7 +73,104 @@ unreadable rest fault bad some (f ∷ es, b) =
       parts = b.text;
     }) (tt, tt)
 
+-- a batch was read up to here
+pub record IsReadUpTo (body rest : List ℕ) : Type 0 where
+  pub entries : List Entry
+  pub parts : body ≡ text_of entries ++ rest
+  pub before : IsBatch entries (text_of entries)
+
+pub reads_begin : (body : List ℕ) → IsReadUpTo body body
+reads_begin body = record {
+  entries = [];
+  parts = refl;
+  before = record { entries = tt; fits = tt; text = refl };
+}
+
+pub reads_more : (body rest behind : List ℕ) (e : Entry) → IsReadUpTo body rest
+    → BeginsWithEntry ENTRY_MAX rest e behind → IsReadUpTo body behind
+reads_more body rest behind e r begins = record {
+  entries = r.entries ++ e ∷ [];
+  parts = text_goes_on r.entries e body rest behind r.parts begins.parts;
+  before = record {
+    entries = all_append IsEntry r.entries (e ∷ []) r.before.entries (begins.entry, tt);
+    fits = all_append (λ (x : Entry). length x.octets ≤ ENTRY_MAX) r.entries (e ∷ []) r.before.fits (begins.fits, tt);
+    text = refl;
+  };
+}
+
+position_within : (rest : List ℕ) (fault : ArchiveFault) → IsFaultBefore ENTRY_MAX rest fault
+    → position_of fault ≤ length rest
+position_within rest (BadFrame at) (inl (none, offset)) = offset.within
+position_within rest (BadFrame at) (inr (count, behind, follows, fits, short, cut)) = omega (arith, cut)
+position_within rest (EntryTooLong at) (is, long) = omega (arith, is)
+position_within rest (BadEntry at fault) (is, bad) = omega (arith, is)
+position_within rest (NotCanonical at) (is, bad) = omega (arith, is)
+position_within rest (NotAscending at) none = absurd none
+
+pub batch_fault : (body rest : List ℕ) (offset octets : ℕ) (fault told : ArchiveFault) → IsReadUpTo body rest
+    → IsFaultBefore ENTRY_MAX rest fault → octets ≡ min (offset + (length body - length rest)) (2 ^ 64 - 1)
+    → (octets + position_of fault < 2 ^ 64 → told ≡ later octets fault) → offset + length body < 2 ^ 64
+    → IsBatchFault body offset told
+batch_fault body rest offset octets fault told r bad sum fits small =
+    let whole : length body ≡ length (text_of r.entries) + length rest =
+    ap length r.parts ∙ length-append (text_of r.entries) rest
+    in
+    let within = position_within rest fault bad in
+    let is : octets ≡ offset + length (text_of r.entries) = omega arith in
+    record {
+      entries = r.entries;
+      rest = rest;
+      parts = r.parts;
+      before = r.before;
+      fault = fault;
+      is = bad;
+      place = fits (omega arith) ∙ ap (λ (n : ℕ). later n fault) is;
+    }
+
 -- ---- a journal
+
+-- a journal was read up to here
+pub record IsCheckedUpTo (file rest : List ℕ) : Type 0 where
+  pub bodies : List (List ℕ)
+  pub readable : AllByRecursion IsReadable bodies
+  pub parts : file ≡ batches_text bodies ++ rest
+
+pub checks_begin : (file : List ℕ) → IsCheckedUpTo file file
+checks_begin file = record { bodies = []; readable = tt; parts = refl }
+
+pub checks_more : (file rest body behind : List ℕ) → IsCheckedUpTo file rest → IsReadable body
+    → rest ≡ open_batch body ++ behind → IsCheckedUpTo file behind
+checks_more file rest body behind c readable is = record {
+  bodies = c.bodies ++ body ∷ [];
+  readable = all_append IsReadable c.bodies (body ∷ []) c.readable (readable, tt);
+  parts = c.parts ∙ ap (λ (t : List ℕ). batches_text c.bodies ++ t) is
+      ∙ sym (append_assoc (batches_text c.bodies) (open_batch body) behind) ∙ sym (text-push c.bodies body behind);
+}
+
+pub journal_fault : (file rest body behind : List ℕ) (offset : ℕ) (told : ArchiveFault) → IsCheckedUpTo file rest
+    → IsBody body → rest ≡ open_batch body ++ behind
+    → offset ≡ length file - length behind - length body → length file < 2 ^ 64
+    → (offset + length body < 2 ^ 64 → IsBatchFault body offset told) → IsJournalFault file told
+journal_fault file rest body behind offset told c sized is place small fault =
+    let number = to_le_bytes w32 (length body) in
+    let size : length file ≡ length (batches_text c.bodies) + (suc (length number + length body) + length behind) =
+    ap length c.parts ∙ length-append (batches_text c.bodies) rest
+    ∙ ap (λ (n : ℕ). length (batches_text c.bodies) + n)
+    (ap length is ∙ length-append (open_batch body) behind
+    ∙ ap (λ (n : ℕ). n + length behind) (ap suc (length-append number body)))
+    in
+    record {
+      bodies = c.bodies;
+      readable = c.readable;
+      body = body;
+      behind = behind;
+      fits = sized;
+      parts = c.parts ∙ ap (λ (t : List ℕ). batches_text c.bodies ++ t) is
+          ∙ sym (append_assoc (batches_text c.bodies) (open_batch body) behind);
+      offset = offset;
+      begins = omega arith;
+      fault = fault (omega arith);
+    }
 
 pub whole_closed : (rest : List ℕ) → IsClosed rest → IsWholeJournal rest
 whole_closed rest closed = record {

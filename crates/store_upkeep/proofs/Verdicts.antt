@@ -119,7 +119,7 @@ segment_told name day file (Input fault) text segment refuted told = tt
 segment_told name day file Memory text segment refuted told = tt
 
 journal_told : (name file : List ℕ) (fault : CheckFault) → IsJournal name → Refutes fault (IsWholeJournal file)
-    → Tells fault IsJournalDamage → Tells fault (IsDamageOf name file)
+    → Tells fault (IsJournalDamage file) → Tells fault (IsDamageOf name file)
 journal_told name file (Damaged damage) journal refuted told = record {
   not_whole = λ w. refuted (w.journal journal);
   journal = λ named. told;
@@ -139,11 +139,11 @@ segment_verdict files name day d fault r text segment opened refuted told found 
 
 pub journal_verdict : {E : Type 0} (files : Files) (name : List ℕ) (d : InputState) (fault : CheckFault)
     (r : Result (Option Damage) E) → IsJournal name → Opens files name d
-    → OfLeft d (λ file. Refutes fault (IsWholeJournal file)) → Tells fault IsJournalDamage → IfOk r (IsFoundBy fault)
-    → IfOk r (λ found. IsVerdict found files name)
+    → OfLeft d (λ file. Refutes fault (IsWholeJournal file)) → OfLeft d (λ file. Tells fault (IsJournalDamage file))
+    → IfOk r (IsFoundBy fault) → IfOk r (λ found. IsVerdict found files name)
 journal_verdict files name d fault r journal opened refuted told found =
     result_verdict files name d fault r opened
-    (λ file left. journal_told name file fault journal (refuted file left) told) found
+    (λ file left. journal_told name file fault journal (refuted file left) (told file left)) found
 
 told_damaged : (o : Option (List ℕ)) (name : List ℕ) (damage : Damage)
     → IsSomeAnd o (λ file. IsDamageOf name file damage) → IsSomeAnd o (λ file. ¬ (IsWholeFile name file))

@@ -1,6 +1,6 @@
 //! A journal is checked.
-ghost use Rattle.std.specs.Prelude.{IfErr, OnErr, OnOk};
-ghost use Rattle.store_upkeep.specs.Damages.{IsJournalDamage, OfLeft, Refutes, Tells};
+ghost use Rattle.std.specs.Prelude.{◌+◌, ◌<◌, ◌^◌, IfErr, OnErr, OnOk, length};
+ghost use Rattle.store_upkeep.specs.Damages.{IsBatchFault, IsJournalDamage, IsJournalFault, OfLeft, Refutes, Tells};
 ghost use Rattle.record_store.specs.Holdings.{IsReadable, IsWholeJournal};
 
 use crate::damage::{CheckFault, Damage};
@@ -13,6 +13,8 @@ use store_reading::{CheckFault as ReadingFault, first_batch, read_octets};
 fn check_batch(body: &[u8], offset: u64) -> Result<(), ArchiveFault>
     ensures ok { OnOk result (IsReadable body.now) }
     ensures err { OnErr result (¬ (IsReadable body.now)) }
+    ensures told { IfErr result (λ fault. offset + length body.now < 2 ^ 64
+        → IsBatchFault body.now offset fault) }
 {
     let mut rest = body;
     'entries: while !rest.is_empty() {
@@ -31,6 +33,7 @@ fn check_batch(body: &[u8], offset: u64) -> Result<(), ArchiveFault>
 fn check_batches(file: &[u8]) -> Result<(), ArchiveFault>
     ensures ok { OnOk result (IsWholeJournal file.now) }
     ensures err { OnErr result (¬ (IsWholeJournal file.now)) }
+    ensures told { IfErr result (IsJournalFault file.now) }
 {
     let mut rest = file;
     'batches: while let Some((body, behind)) = first_batch(rest) {
@@ -48,7 +51,8 @@ pub(crate) fn check_journal<R: Input>(alloc: Global, reader: &mut R) -> Result<(
     ensures whole { OnOk result (OfLeft (R.state reader.old) IsWholeJournal) }
     ensures damaged { IfErr result (λ fault. OfLeft (R.state reader.old) (λ file.
         Refutes fault (IsWholeJournal file))) }
-    ensures told { IfErr result (λ fault. Tells fault IsJournalDamage) }
+    ensures told { IfErr result (λ fault. OfLeft (R.state reader.old) (λ file.
+        Tells fault (IsJournalDamage file))) }
 {
     let octets = match read_octets(alloc, reader) {
         Ok(octets) => octets,

@@ -1,14 +1,30 @@
-use Rattle.store_upkeep.proofs.Readable.{good_then, whole_first, whole_parts}
+use Rattle.std.proofs.Common.{arith}
+use Rattle.record_store.specs.Holdings.{IsWholeJournal}
+use Rattle.store_upkeep.proofs.Readable.{as_good, checks_begin, checks_more, good_then, journal_fault, whole_first}
+use Rattle.store_upkeep.proofs.Readable.{whole_parts}
 use Rattle.store_upkeep.proofs.journal_check.check_batches.Goals as goal
+
+pub batches-init : goal.batches-init
+batches-init c = record { good = as_good (IsWholeJournal c.args.file.now); checked = checks_begin c.args.file.now }
 
 pub batches-preserved : goal.batches-preserved
 batches-preserved c =
     let first = c.in-Some.ensures.some in
-    good_then _ _ _ c.batches.invariant
-    (whole_first c.batches.rest.now c.in-Some.body.now c.in-Some.behind.now first.0 first.1 c.in-Ok.ensures.ok)
+    record {
+      good = good_then _ _ _ c.batches.invariant.good
+          (whole_first c.batches.rest.now c.in-Some.body.now c.in-Some.behind.now first.0 first.1 c.in-Ok.ensures.ok);
+      checked = checks_more c.args.file.now c.batches.rest.now c.in-Some.body.now c.in-Some.behind.now
+          c.batches.invariant.checked c.in-Ok.ensures.ok first.1;
+    }
 
 pub returns-in-Err-clause-err : goal.returns-in-Err-clause-err
 returns-in-Err-clause-err c h =
     let first = c.in-Some.ensures.some in
     c.in-Err.ensures.err (whole_parts c.batches.rest.now c.in-Some.body.now c.in-Some.behind.now first.0 first.1
-    (c.batches.invariant.there h)).0
+    (c.batches.invariant.good.there h)).0
+
+pub returns-in-Err-clause-told : goal.returns-in-Err-clause-told
+returns-in-Err-clause-told c =
+    let first = c.in-Some.ensures.some in
+    journal_fault c.args.file.now c.batches.rest.now c.in-Some.body.now c.in-Some.behind.now _ c.in-Err.fault
+    c.batches.invariant.checked first.0 first.1 (omega arith) (omega arith) c.in-Err.ensures.told
