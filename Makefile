@@ -3,7 +3,7 @@
 PREFIX = /usr/local
 DESTDIR =
 
-.PHONY: all lib proved fault-injection check release dist mutants bench soak install clean
+.PHONY: all lib proved fault-injection check release dist mutants bench soak install uninstall clean
 
 # Links build/syslogbox from the object in release/, and says of which sources that is.
 all:
@@ -60,6 +60,11 @@ install: all lib
 	sh scripts/install.sh build/syslogbox "$(DESTDIR)$(PREFIX)" "$(PREFIX)"
 	sh scripts/install-library.sh "$(DESTDIR)$(PREFIX)" "$(PREFIX)"
 	@[ -n "$(DESTDIR)" ] || sh scripts/ldconfig.sh "$(PREFIX)/lib"
+
+# Removes the files that `make install` puts below the same PREFIX, and with DESTDIR below that.
+uninstall: all lib
+	@case "$(PREFIX)" in /*) ;; *) echo "PREFIX has to begin with a slash." >&2; exit 1 ;; esac
+	sh scripts/uninstall.sh "$(DESTDIR)$(PREFIX)" "$(PREFIX)"
 
 # Removes what was built and what checks kept.
 clean:

@@ -1,4 +1,5 @@
-"""`make install`: what is installed says where it is, and the library is found; and the library where `make lib` leaves it."""
+"""`make install`: what is installed says where it is, and the library is found, and `make uninstall` leaves only what others put
+there; and the library where `make lib` leaves it."""
 import os
 import re
 import subprocess
@@ -90,6 +91,12 @@ def staged(folder, room, results):
     units("below DESTDIR", below, "/usr/local/bin/syslogbox", results)
     told = (below / "lib/pkgconfig/syslogbox.pc").read_text()
     results.check("below DESTDIR: pkg-config is told of PREFIX", told.startswith("prefix=/usr/local\n"), told)
+    other = below / "bin/other"
+    other.write_text("")
+    for _ in range(2):
+        status, said = run(["make", "uninstall", f"DESTDIR={room}/staged"], cwd=folder)
+        left = [path for path in below.rglob("*") if not path.is_dir() or path.is_symlink()]
+        results.check("make uninstall leaves only what others put there", (status, left) == (0, [other]), f"{left} {said}")
 
 
 def in_place(folder, room, results):
