@@ -130,9 +130,12 @@ def changed(repository, results):
     results.check("mutants: a mutant that changed is tried again", repository.checked() == ["none", "goal"], str(repository.checked()))
     (repository.root / "crates/low/src/lib.rt").write_text(SOURCE + "// more\n")
     status, _, last = ended(repository.start())
+    results.check("mutants: a comment changes nothing", (status, last, repository.checked()) == (*right, []), f"{status} {last}")
+    (repository.root / "crates/low/src/lib.rt").write_text(SOURCE + "const MORE: u8 = 1;\n")
+    status, _, last = ended(repository.start())
     tried = set(repository.checked()) == {"none", "answer", "elsewhere", "goal", "hidden", "slow"}
     results.check("mutants: of other sources all are tried again", (status, last) == right and tried, f"{status} {last}")
-    (repository.root / "crates/low/src/lib.rt").write_text(SOURCE + "// case goal\n")
+    (repository.root / "crates/low/src/lib.rt").write_text(SOURCE + "const MORE: u8 = 1; // case goal\n")
     status, _, last = ended(repository.start())
     right = (1, "0 refused for a goal, 0 for a name alone, 0 let through, 5 unreadable")
     results.check("mutants: a crate that is not proved as it stands", (status, last) == right, f"{status} {last}")

@@ -12,10 +12,16 @@ def checksum(*parts):
     return found.hexdigest()
 
 
+def text_of(path):
+    """A file without its lines that are comments alone."""
+    mark = b"--" if path.suffix == ".antt" else b"//"
+    return b"".join(line for line in path.read_bytes().splitlines(keepends=True) if not line.lstrip().startswith(mark))
+
+
 def sources(folder, parts=("src", "specs", "proofs")):
-    """A sum of the files of a crate."""
+    """A sum of the files of a crate, their comments apart."""
     paths = sorted(path for part in parts for path in (folder / part).rglob("*") if path.is_file())
-    return checksum(*(piece for path in paths for piece in (path.relative_to(folder), path.read_bytes())))
+    return checksum(*(piece for path in paths for piece in (path.relative_to(folder), text_of(path))))
 
 
 class Journal:

@@ -5,10 +5,10 @@ named or of all. It works on copies of the repository, so that nothing in it cha
 goal of meaning; it fails where it is refused for a name alone, is still proved, or cannot be judged. Where answers name what the
 edit took away, as a goal that has another name now, their functions are checked once more without these answers.
 
-What is known of a mutant is kept in build/mutants.jsonl, by the mutant's text, the crate's sources, those of the crates below,
-the kit and these scripts, so a run that was stopped goes on where it was. The last line is `N refused for a goal, M for a name
-alone, K let through, U unreadable`; the last number has all that were not judged: edits that cannot be applied or read, limits
-of the prover, crates that are not proved as they stand, and what a run that was stopped left. The status is 0 exactly where
+What is known of a mutant is kept in build/mutants.jsonl, by the mutant's text, the crate's sources without comments, those of the
+crates below, the kit and these scripts, so a run that was stopped goes on where it was. The last line is `N refused for a goal, M
+for a name alone, K let through, U unreadable`; the last number has all that were not judged: edits that cannot be applied or read,
+limits of the prover, crates that are not proved as they stand, and what a run that was stopped left. The status is 0 exactly where
 all are refused for a goal.
 """
 import argparse

@@ -18,7 +18,8 @@ use syslog_legacy::FrameReading;
 /// the one order of archives. A line on each frame that is refused, on a bad count and on an end
 /// inside a frame goes to the diagnostics. Returns the exit status: `DONE` if nothing was refused,
 /// else `REFUSED`; `FAULT` if a device failed or the input has no end; `NO_MEMORY` if memory ran
-/// out. After the last two no archive is written, unless the output failed behind a part of it.
+/// out. After the last two no archive is written, or the first octets of one if the output or the
+/// diagnostics failed.
 /// After a bad count nothing more is read.
 pub fn archive_input<R: Input, W: Output, N: Output>(
     alloc: Global,

@@ -215,9 +215,10 @@ fn close<N: Output>(stop: SpillStop, diagnostics: &mut N) -> u8
 }
 
 /// Writes the records of the rest of the input as an archive, by way of a set that may be larger
-/// than memory and holds nothing yet. The output, the lines and the status are those of
-/// [`archive_input`](crate::archive_input), whatever the set's room. A run is made before anything
-/// is read, to tell whether there can be any.
+/// than memory and holds nothing yet. The lines and the status are those of
+/// [`archive_input`](crate::archive_input), whatever the set's room; so is the output, if the runs
+/// of the spill give back what was written to them. A run is made before anything is read, to tell
+/// whether there can be any.
 ///
 /// Returns the exit status: `DONE` if nothing was refused, else `REFUSED`; `FAULT` if a device or
 /// the spill failed or the input has no end; `NO_MEMORY` if memory ran out. After the last two, the

@@ -53,7 +53,6 @@ impl Selection {
 /// # Errors
 /// The first fault that is met. What is selected of the entries before it is written first; if the
 /// writer fails then, that is the answer. `Memory` comes only before anything is read or written.
-/// writer fails then, that is the answer. `Memory` only before anything is read or written.
 pub fn select_stream<C: Condition, R: Input, W: Output>(
     alloc: Global,
     condition: &C,

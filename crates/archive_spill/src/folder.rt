@@ -13,8 +13,9 @@ use std::rt::Files;
 /// How many names are tried for a file, since others may be taken.
 const NAMES_MAX: u64 = 65_536;
 
-/// Runs in files of a folder. Each has no name: it is removed as soon as it is open, and its room
-/// is free again once it is closed. No contract knows its octets.
+/// Runs in files of a folder. The name of each is removed as soon as it is open, and its room is
+/// free again once it is closed; a file whose name cannot be removed stays. No contract knows its
+/// octets.
 #[derive(Drop)]
 pub struct FolderSpill<R> {
     rt: R,

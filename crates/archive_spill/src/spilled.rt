@@ -72,7 +72,8 @@ impl<P: Spill + Drop> SpilledArchive<P, P::Run> {
     ///
     /// # Errors
     /// `TooLong`, or `Memory` if there was none for the record: the set is as it was. Otherwise
-    /// `Spill` or `Memory`: a run is lost, and from then on each call answers `Spill`.
+    /// `Spill` or `Memory`: a run is lost, and from then on `add`, `add_view` and `write` answer
+    /// `Spill`.
     pub fn add(&mut self, record: &Record) -> Result<(), SpillFault>
         ensures ok { OnOk result ((es : List Entry) → Holds P.tells P.Run.state self.old es
             → (e : Entry) × IsEntryOf record.now e × Holds P.tells P.Run.state self.new (e ∷ es)) }

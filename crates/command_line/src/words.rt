@@ -125,13 +125,11 @@ pub(crate) fn command<'a>(alloc: Global, name: &'a str, about: &'a str) -> Comma
 }
 
 // The command line with no subcommand yet.
-fn empty_line<'a>(alloc: Global) -> Command<'a>
-    ensures { app_of result ≡ empty_app }
+fn empty_line<'a>(alloc: Global) -> Result<Command<'a>, AllocError>
+    ensures { IfOk result (λ c. app_of c ≡ empty_app) }
 {
-    Command::new(alloc, "syslogbox")
-        .version(VERSION)
-        .no_binary_name(true)
-        .subcommand_required(true)
+    let line = Command::new(alloc, "syslogbox").bin_name("syslogbox")?;
+    Ok(line.version(VERSION).no_binary_name(true).subcommand_required(true))
 }
 
 /// The command line with one more subcommand.
@@ -175,7 +173,7 @@ fn with_receivers<'a>(alloc: Global, line: Command<'a>) -> Result<Command<'a>, A
 pub(crate) fn whole_line<'a>(alloc: Global) -> Result<Command<'a>, AllocError>
     ensures { IfOk result (λ c. app_of c ≡ line_app) }
 {
-    let line = with_frame_commands(alloc, empty_line(alloc))?;
+    let line = with_frame_commands(alloc, empty_line(alloc)?)?;
     let line = with_archives(alloc, line)?;
     let line = with_store_commands(alloc, line)?;
     let line = with_command(line, send_command(alloc)?)?;

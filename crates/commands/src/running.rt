@@ -248,7 +248,8 @@ pub fn run_request<R: Input, W: Output, N: Output, F: Files>(
 /// program's name.
 ///
 /// Records go to the output, reports of what went wrong to the diagnostics. If the arguments are no
-/// request, or ask for help, a text goes to the diagnostics and the status is 2.
+/// request, or ask for help, a text goes to the diagnostics and the status is 2; it is 3 if there
+/// is no memory for the text.
 pub fn run<R: Input, W: Output, N: Output, F: Files>(
     alloc: Global,
     args: &[String],

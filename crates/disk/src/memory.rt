@@ -237,7 +237,8 @@ fn crash_all(
     Ok(())
 }
 
-/// A folder in memory. It keeps what a crash may leave, and fails only when out of memory.
+/// A folder in memory. It keeps what a crash may leave. It never fails as a device does: no call
+/// answers `Full` or `Failed`.
 #[derive(Drop)]
 pub struct MemoryDisk {
     alloc: Global,
@@ -258,7 +259,8 @@ impl MemoryDisk {
     /// The folder after a crash, all of it on the disk then. Of the octets of each file that were
     /// not on the disk, as many as `kept` are left; those that are unsure are as they were shown
     /// or, if one is given, all `octet`. If `undone`, each name is as it first was since the folder
-    /// was synced. It fails only when out of memory.
+    /// was synced. Whatever is asked for, it is something that a crash may leave. It fails only when
+    /// out of memory.
     pub fn crash(
         self,
         kept: usize,

@@ -162,7 +162,6 @@ fn close<N: Output>(stopped: Stopped, diagnostics: &mut N) -> u8
 /// `FAULT` if a device failed or the input has no end; `NO_MEMORY` if memory ran out. After the
 /// last two, the last line of the diagnostics tells the cause, and before it stands what came of
 /// the octets that were read.
-/// came of the octets that were read.
 pub fn drive<S: Session, R: Input, W: Output, N: Output>(
     alloc: Global,
     session: &mut S,

@@ -31,7 +31,6 @@ pub trait FrameHandler {
     ///
     /// # Errors
     /// Out of memory: the handler must not be used any more.
-    /// Out of memory: the handler is used no more.
     fn on_frame(
         &mut self,
         number: u64,

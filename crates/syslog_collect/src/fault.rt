@@ -36,7 +36,8 @@ pub enum CollectFault {
     /// The stream stops inside the frame whose first octet is at this position.
     #[error("the frame at {start} is unfinished")]
     Unterminated { start: u64 },
-    /// An allocation failed. `used` octets of the piece were taken.
+    /// An allocation failed. The first `used` octets of the piece were taken; of a run, `used` of
+    /// those that were taken are of the frame that waits.
     #[error("out of memory")]
     Memory { used: usize },
 }

@@ -131,8 +131,8 @@ fn stop_of(scanner: &Scanner) -> StreamEnd
 }
 
 /// The frames of a stream that comes in these pieces, and how it stops after them. It does not
-/// matter how the stream is cut. It fails if the stream is longer than `POSITION_MAX` octets or
-/// memory runs out.
+/// matter how the stream is cut. It fails if the stream goes on past `POSITION_MAX` octets without
+/// a bad count, or memory runs out.
 pub fn frames_of_pieces(
     alloc: Global,
     framing: Framing,

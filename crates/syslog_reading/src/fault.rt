@@ -28,8 +28,8 @@ pub enum Field {
 /// Why octets are no well-formed record. Offsets count octets from the start of the record, from 0.
 #[derive(Clone, Copy, Debug, PartialEq, Eq, Error)]
 pub enum Fault {
-    /// The octets are outside the grammar: some record begins with the octets before the offset,
-    /// and none begins with one octet more.
+    /// The octets are outside the grammar: some text of it (SYSLOG-MSG, RFC 5424, section 6) begins
+    /// with the octets before the offset, and none begins with one octet more.
     #[error("a syntax error at octet {offset}")]
     Syntax { field: Field, offset: usize },
     /// The instant lies before the year 0 or after the year 9999. The offset is that of the
