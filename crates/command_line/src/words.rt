@@ -1,6 +1,6 @@
 //! The command line, parsed by `clap`. The request is a function of the words alone.
 
-ghost use Rattle.std.specs.Prelude.{◌≡◌, false, map, option_map, option_and_then, IfOk, IfErr, Some, None};
+ghost use Rattle.std.specs.Prelude.{◌≡◌, false, map, option_map, option_and_then, IfOk, IfErr, Some, None, codes};
 ghost use Rattle.clap.specs.Words.{app_of, found_of, rows_of, rule_of, subcommand_rows_of};
 ghost use Rattle.clap.specs.Simple.{new_app, with_rule, with_subcommand};
 ghost use Rattle.clap.specs.declared.builder.command.Command.TheViews.{out-Command as fields_of};
@@ -124,12 +124,21 @@ pub(crate) fn command<'a>(alloc: Global, name: &'a str, about: &'a str) -> Comma
     Command::new(alloc, name).about(about)
 }
 
-// The command line with no subcommand yet.
-fn empty_line<'a>(alloc: Global) -> Result<Command<'a>, AllocError>
-    ensures { IfOk result (λ c. app_of c ≡ empty_app) }
+// The program's command, by whose name the usage of each subcommand begins.
+fn program<'a>(alloc: Global) -> Result<Command<'a>, AllocError>
+    ensures { IfOk result (λ c. app_of c ≡ new_app (codes "syslogbox")) }
 {
-    let line = Command::new(alloc, "syslogbox").bin_name("syslogbox")?;
-    Ok(line.version(VERSION).no_binary_name(true).subcommand_required(true))
+    Command::new(alloc, "syslogbox").bin_name("syslogbox")
+}
+
+// The command line with no subcommand yet.
+fn empty_line<'a>(program: Command<'a>) -> Command<'a>
+    ensures { app_of program.entry ≡ new_app (codes "syslogbox") → app_of result ≡ empty_app }
+{
+    program
+        .version(VERSION)
+        .no_binary_name(true)
+        .subcommand_required(true)
 }
 
 /// The command line with one more subcommand.
@@ -173,7 +182,7 @@ fn with_receivers<'a>(alloc: Global, line: Command<'a>) -> Result<Command<'a>, A
 pub(crate) fn whole_line<'a>(alloc: Global) -> Result<Command<'a>, AllocError>
     ensures { IfOk result (λ c. app_of c ≡ line_app) }
 {
-    let line = with_frame_commands(alloc, empty_line(alloc)?)?;
+    let line = with_frame_commands(alloc, empty_line(program(alloc)?))?;
     let line = with_archives(alloc, line)?;
     let line = with_store_commands(alloc, line)?;
     let line = with_command(line, send_command(alloc)?)?;

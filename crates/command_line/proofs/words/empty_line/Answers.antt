@@ -14,7 +14,7 @@ abbrev needs : Command-F Command → Command-F Command
 needs f = record f { subcommand_required = true }
 
 pub returns : goal.returns
-returns c =
+returns c = λ is.
     ap app_of_fields (c.subcommand_required.ensures
     ∙ ap needs (c.no_binary_name.ensures ∙ ap nameless c.version.ensures))
-    ∙ ap top c.new.ensures.app
+    ∙ ap top is
