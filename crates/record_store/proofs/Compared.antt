@@ -1,7 +1,7 @@
 -- Two files are compared, and a segment is brought beside what is there.
-use Rattle.std.proofs.Common.{◌≡◌, ◌≢◌, ◌⊎◌, inl, inr, ⊎_elim, ℕ, ◌+◌, ◌<◌, ◌≤◌, ◌^◌, List, [], ◌++◌, length, take, drop, min}
+use Rattle.std.proofs.Common.{◌≡◌, ◌⊎◌, inl, inr, ⊎_elim, ℕ, ◌+◌, ◌<◌, ◌≤◌, List, ◌++◌, length, take, drop, min}
 use Rattle.std.proofs.Common.{refl, sym, ap, subst, ◌∙◌, arith}
-use Rattle.std.specs.Prelude.{Option, None, Some, IsSomeAnd, IsNone, false}
+use Rattle.std.specs.Prelude.{Option, None, Some, IsSomeAnd, false}
 use Rattle.std.specs.Option.{option_map}
 use Rattle.std.proofs.lemmas.List.{take-take, take_all}
 use Rattle.syslog_frame.proofs.Cuts.{take_add}
@@ -9,8 +9,8 @@ use Rattle.disk.specs.Calls.{Gives, IsUnchanged}
 use Rattle.disk.specs.Files.{File}
 use Rattle.disk.specs.Memory.{shown_now}
 use Rattle.disk.specs.States.{Entry as DiskEntry, NameMayLeave, State, kept}
-use Rattle.journal.specs.Journals.{IsOnDisk, IsSound, KeepsOrSettlesOthers, Shows}
-use Rattle.archive_text.specs.Entries.{Entry, Has}
+use Rattle.journal.specs.Journals.{IsOnDisk, KeepsOrSettlesOthers, Shows}
+use Rattle.archive_text.specs.Entries.{Entry}
 use Rattle.record_store.specs.Crashes.{Keeps}
 use Rattle.record_store.specs.Holdings.{HeldAt}
 use Rattle.record_store.specs.Keeping.{AgreeAt, AgreeFrom, AreSame, Brings, Puts, ShowsAtMost}

@@ -4,6 +4,7 @@ pub mod Committing
 pub mod Compared
 pub mod Covering
 pub mod Creating
+pub mod Differing
 pub mod Drafted
 pub mod Folders
 pub mod Leavings

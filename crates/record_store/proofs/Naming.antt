@@ -1,14 +1,15 @@
 -- The names of a store's files are names.
-use Rattle.std.proofs.Common.{ℕ, ◌<◌, ◌≤◌, ◌^◌, List, [], ◌∷◌, length, ap, arith, length-append}
-use Rattle.std.specs.Prelude.{All, codes, decimal}
+use Rattle.std.proofs.Common.{◌≡◌, inl, inr, ⊎_elim, suc, ℕ, ◌<◌, ◌≤◌, ◌^◌, ◌/◌, ◌%◌, List, [], ◌∷◌, ◌++◌, length, ap, arith, length-append}
+use Rattle.std.specs.Prelude.{All, codes, decimal, slice_index}
 use Rattle.std.specs.List.{AllByRecursion}
-use Rattle.std.proofs.lemmas.List.Elements.{All-cons, All-nil}
+use Rattle.std.proofs.lemmas.List.Elements.{All-append, All-cons, All-get_or, All-nil, All-weaker}
+use Rattle.hex.specs.Hex.{IsBytes, encode_lower, encode_with, lower_digits}
 use Rattle.octet_language.specs.Digits.{IsDigit}
 use Rattle.octet_language.proofs.Decimal.{digits_decimal}
 use Rattle.octet_language.proofs.Lists.{AllByRecursion-append}
 use Rattle.disk.specs.Names.{IsFileName, IsNameOctet}
 use Rattle.archive_text.proofs.Members.{all_weaker}
-use Rattle.record_store.specs.Names.{journal_name}
+use Rattle.record_store.specs.Names.{IsDayName, IsHexadecimal, journal_name}
 use Rattle.record_store.proofs.Named.{journal_length}
 
 all_of : (P : ℕ → Type 0) (xs : List ℕ) → AllByRecursion P xs → All P xs
@@ -51,4 +52,66 @@ journal_is_name n small =
       no_dots = λ is. omega (arith, size, ap length is);
       each = all_of IsNameOctet (journal_name n)
           (AllByRecursion-append IsNameOctet (codes "journal.") (decimal n) journal_octets (decimal_octets n small));
+    }
+
+-- ---- segments
+
+decimal_digit : (octet : ℕ) → 48 ≤ octet → octet ≤ 57 → IsHexadecimal octet
+decimal_digit octet above below = inl (above, below)
+
+letter : (octet : ℕ) → 97 ≤ octet → octet ≤ 102 → IsHexadecimal octet
+letter octet above below = inr (above, below)
+
+lower_are : AllByRecursion IsHexadecimal lower_digits
+lower_are = (decimal_digit 48 (omega arith) (omega arith), (decimal_digit 49 (omega arith) (omega arith), (decimal_digit 50 (omega arith) (omega arith), (decimal_digit 51 (omega arith) (omega arith), (decimal_digit 52 (omega arith) (omega arith), (decimal_digit 53 (omega arith) (omega arith), (decimal_digit 54 (omega arith) (omega arith), (decimal_digit 55 (omega arith) (omega arith), (decimal_digit 56 (omega arith) (omega arith), (decimal_digit 57 (omega arith) (omega arith), (letter 97 (omega arith) (omega arith), (letter 98 (omega arith) (omega arith), (letter 99 (omega arith) (omega arith), (letter 100 (omega arith) (omega arith), (letter 101 (omega arith) (omega arith), (letter 102 (omega arith) (omega arith), tt))))))))))))))))
+
+lower_is : (d : ℕ) → d < 16 → IsHexadecimal (slice_index lower_digits d)
+lower_is d below = All-get_or IsHexadecimal lower_digits d 0 below (all_of IsHexadecimal lower_digits lower_are)
+
+pub encoded_digits : (bytes : List ℕ) → IsBytes bytes → All IsHexadecimal (encode_lower bytes)
+unfolding encode_with
+encoded_digits [] are = All-nil IsHexadecimal
+encoded_digits (b ∷ rest) are =
+    let small : b < 256 = are 0 in
+    All-cons IsHexadecimal (slice_index lower_digits (b / 16))
+    (slice_index lower_digits (b % 16) ∷ encode_with lower_digits rest) (lower_is (b / 16) (omega arith))
+    (All-cons IsHexadecimal (slice_index lower_digits (b % 16)) (encode_with lower_digits rest)
+    (lower_is (b % 16) (omega arith)) (encoded_digits rest (λ k. are (suc k))))
+
+digits_are : (hex : List ℕ) → All IsHexadecimal hex → All IsNameOctet hex
+digits_are hex are =
+    All-weaker IsHexadecimal IsNameOctet
+    (λ x digit. above x (⊎_elim (λ decimal. decimal.0) (λ low. omega (arith, low.0)) digit)) hex are
+
+ending_octets : AllByRecursion IsNameOctet (codes ".archive")
+ending_octets = (
+  dot,
+  (
+    above 97 (omega arith),
+    (
+      above 114 (omega arith),
+      (
+        above 99 (omega arith),
+        (
+          above 104 (omega arith),
+          (above 105 (omega arith), (above 118 (omega arith), (above 101 (omega arith), tt))),
+        ),
+      ),
+    ),
+  ),
+)
+
+pub segment_is_name : (day hex : List ℕ) → length hex ≡ 64 → All IsHexadecimal hex → IsDayName day
+    → IsFileName (day ++ 46 ∷ hex ++ codes ".archive")
+segment_is_name day hex long are is =
+    let size = length-append (day ++ 46 ∷ hex) (codes ".archive") in
+    let front = length-append day (46 ∷ hex) in
+    record {
+      some = omega (arith, size, front, long);
+      short = omega (arith, size, front, long, is.short);
+      no_dot = λ same. omega (arith, size, front, long, ap length same);
+      no_dots = λ same. omega (arith, size, front, long, ap length same);
+      each = All-append IsNameOctet (day ++ 46 ∷ hex) (codes ".archive")
+          (All-append IsNameOctet day (46 ∷ hex) is.each (All-cons IsNameOctet 46 hex dot (digits_are hex are)))
+          (all_of IsNameOctet (codes ".archive") ending_octets);
     }

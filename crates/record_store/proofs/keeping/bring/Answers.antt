@@ -1,7 +1,4 @@
 use Rattle.std.proofs.Common.{inr, ⊎_elim}
-use Rattle.std.specs.Prelude.{None}
-use Rattle.disk.specs.Memory.{shown_now}
-use Rattle.disk.specs.States.{State}
 use Rattle.record_store.specs.Keeping.{AreSame}
 use Rattle.record_store.proofs.Compared.{alike_then, none_puts, same_on_disk, same_puts, same_shows, same_then}
 use Rattle.record_store.proofs.keeping.bring.Goals as goal
