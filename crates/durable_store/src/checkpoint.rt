@@ -1,10 +1,11 @@
 //! A checkpoint.
-ghost use Rattle.std.specs.Prelude.{◌≡◌, ◌↔◌, [], IsErr, None, OnErr, OnOk};
+ghost use Rattle.std.specs.Prelude.{◌≡◌, ◌↔◌, [], IfErr, IsErr, None, OnErr, OnOk};
 ghost use Rattle.archive_pages.specs.Paged.{entries_in};
 ghost use Rattle.record_store.specs.Stores.{AreAmong, IsBroken as IsStoreBroken, Sets};
 ghost use Rattle.record_store.specs.Shown.{journal_shown};
 ghost use Rattle.record_store.specs.Stores.{Stands as JournalStands, number_of};
 ghost use Rattle.record_store.specs.Turns.{turned};
+ghost use Rattle.durable_store.specs.Causes.{IsCheckpointCause, StandsAtAll, StandsWith};
 ghost use Rattle.durable_store.specs.Durables.{IsBroken, Stands, entries_of, journal_store};
 
 use crate::DurableStore;
@@ -34,6 +35,8 @@ fn write_out<D: Disk>(
         → journal_shown (D.state disk.new) (number_of store.old) ≡ None) }
     ensures whole { OnOk result (¬ (IsStoreBroken store.new)) }
     ensures told { D.tells disk.new → D.tells disk.old }
+    ensures cause { IfErr result (IsCheckpointCause (D.tells disk.new) (D.has_failed disk.new)
+        (StandsWith store.old (D.state disk.old) (entries_in set.now)) store.old (D.state disk.new)) }
 {
     if store.is_broken() {
         return Err(CheckpointFault::Store(StoreFault::Broken));
@@ -73,6 +76,8 @@ impl DurableStore {
         ensures same { OnErr result (entries_of self.new ≡ entries_of self.old) }
         ensures breaks { IsErr result ↔ IsBroken self.new }
         ensures told { D.tells disk.new → D.tells disk.old }
+        ensures cause { IfErr result (IsCheckpointCause (D.tells disk.new) (D.has_failed disk.new)
+            (StandsAtAll self.old (D.state disk.old)) (journal_store self.old) (D.state disk.new)) }
     {
         match write_out(alloc, disk, &mut self.store, &self.set) {
             Ok(()) => {
