@@ -1,19 +1,17 @@
 -- Why a checkpoint fails.
-use Rattle.std.proofs.Common.{◌≡◌, ◌⊎◌, inl, inr, ⊎_elim, ℕ, ◌+◌, ◌≤◌, ◌^◌, List, ap, arith, subst, sym, ◌∙◌, length, take}
-use Rattle.std.specs.Prelude.{ℤ, All, Err, IfErr, None, Option, Result, Some, codes, false}
+use Rattle.std.proofs.Common.{◌≡◌, ℕ, ◌+◌, ◌≤◌, List, ap, arith, subst, sym, ◌∙◌, length, take}
+use Rattle.std.specs.Prelude.{ℤ, None, Option, Some, codes}
 use Rattle.std.specs.List.{AllByRecursion}
 use Rattle.std.proofs.lemmas.List.Elements.{All-from_recursion}
-use Rattle.disk.specs.Calls.{IsUnchanged}
 use Rattle.disk.specs.Memory.{shown_now}
 use Rattle.disk.specs.Names.{IsNameOctet}
 use Rattle.disk.specs.States.{State}
-use Rattle.disk.specs.declared.fault.DiskFault.{DiskFault}
 use Rattle.disk.specs.declared.fault.DiskFault.TheVariants.{Missing, Exists, Full, Failed, Memory}
 use Rattle.syslog_value.specs.declared.civil.Civil.{Civil}
 use Rattle.syslog_fields.specs.Canonical.{civil_text}
 use Rattle.archive_digest.specs.Periods.{IsPeriodOf}
 use Rattle.archive_digest.specs.declared.period.Period.TheVariants.{Day as day_Period}
-use Rattle.record_store.specs.Keeping.{IsKeepCause, ShowsOther}
+use Rattle.record_store.specs.Keeping.{IsKeepCause}
 use Rattle.record_store.specs.Names.{IsDayName}
 use Rattle.record_store.specs.Segments.{Drafts}
 use Rattle.record_store.specs.declared.keeping.KeepFault.{KeepFault}
@@ -26,9 +24,6 @@ use Rattle.durable_store.specs.declared.fault.CheckpointFault.{CheckpointFault}
 use Rattle.durable_store.specs.declared.fault.CheckpointFault.TheVariants.{Store, Segment}
 
 -- ---- a day has a name
-
-above : (octet : ℕ) → 45 ≤ octet → ¬ (octet ≡ 47) → IsNameOctet octet
-above octet high apart = (apart, λ is. omega (arith, is, high))
 
 digit : (n : ℕ) → IsNameOctet (48 + n)
 digit n = (λ is. omega (arith, is), λ is. omega (arith, is))

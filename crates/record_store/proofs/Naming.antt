@@ -1,5 +1,6 @@
 -- The names of a store's files are names.
-use Rattle.std.proofs.Common.{◌≡◌, inl, inr, ⊎_elim, suc, ℕ, ◌<◌, ◌≤◌, ◌^◌, ◌/◌, ◌%◌, List, [], ◌∷◌, ◌++◌, length, ap, arith, length-append}
+use Rattle.std.proofs.Common.{◌≡◌, inl, inr, ⊎_elim, zero, suc, ℕ, ◌+◌, ◌<◌, ◌≤◌, ◌^◌, ◌/◌, ◌%◌, List, [], ◌∷◌, ◌++◌, length}
+use Rattle.std.proofs.Common.{ap, arith, length-append}
 use Rattle.std.specs.Prelude.{All, codes, decimal, slice_index}
 use Rattle.std.specs.List.{AllByRecursion}
 use Rattle.std.proofs.lemmas.List.Elements.{All-append, All-cons, All-get_or, All-nil, All-weaker}
@@ -56,14 +57,23 @@ journal_is_name n small =
 
 -- ---- segments
 
-decimal_digit : (octet : ℕ) → 48 ≤ octet → octet ≤ 57 → IsHexadecimal octet
-decimal_digit octet above below = inl (above, below)
+-- numbers that follow one another
+abbrev counted : ℕ → ℕ → List ℕ
+counted first zero = []
+counted first (suc n) = first ∷ counted (first + 1) n
 
-letter : (octet : ℕ) → 97 ≤ octet → octet ≤ 102 → IsHexadecimal octet
-letter octet above below = inr (above, below)
+decimals : (first n : ℕ) → 48 ≤ first → first + n ≤ 58 → AllByRecursion IsHexadecimal (counted first n)
+decimals first zero from to = tt
+decimals first (suc n) from to = (inl (from, omega arith), decimals (first + 1) n (omega arith) (omega arith))
+
+letters : (first n : ℕ) → 97 ≤ first → first + n ≤ 103 → AllByRecursion IsHexadecimal (counted first n)
+letters first zero from to = tt
+letters first (suc n) from to = (inr (from, omega arith), letters (first + 1) n (omega arith) (omega arith))
 
 lower_are : AllByRecursion IsHexadecimal lower_digits
-lower_are = (decimal_digit 48 (omega arith) (omega arith), (decimal_digit 49 (omega arith) (omega arith), (decimal_digit 50 (omega arith) (omega arith), (decimal_digit 51 (omega arith) (omega arith), (decimal_digit 52 (omega arith) (omega arith), (decimal_digit 53 (omega arith) (omega arith), (decimal_digit 54 (omega arith) (omega arith), (decimal_digit 55 (omega arith) (omega arith), (decimal_digit 56 (omega arith) (omega arith), (decimal_digit 57 (omega arith) (omega arith), (letter 97 (omega arith) (omega arith), (letter 98 (omega arith) (omega arith), (letter 99 (omega arith) (omega arith), (letter 100 (omega arith) (omega arith), (letter 101 (omega arith) (omega arith), (letter 102 (omega arith) (omega arith), tt))))))))))))))))
+lower_are =
+    AllByRecursion-append IsHexadecimal (counted 48 10) (counted 97 6) (decimals 48 10 (omega arith) (omega arith))
+    (letters 97 6 (omega arith) (omega arith))
 
 lower_is : (d : ℕ) → d < 16 → IsHexadecimal (slice_index lower_digits d)
 lower_is d below = All-get_or IsHexadecimal lower_digits d 0 below (all_of IsHexadecimal lower_digits lower_are)
