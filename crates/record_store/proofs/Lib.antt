@@ -16,6 +16,7 @@ pub mod Numbered
 pub mod Opened
 pub mod Placed
 pub mod Readings
+pub mod Remaining
 pub mod Showing
 pub mod Standing
 pub mod Successions

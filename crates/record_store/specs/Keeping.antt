@@ -6,7 +6,7 @@ use Rattle.disk.specs.States.{State}
 use Rattle.archive_text.specs.Entries.{Entry}
 use Rattle.record_store.specs.Causes.{IsFileCause}
 use Rattle.record_store.specs.Names.{Counts, IsDayName}
-use Rattle.record_store.specs.Puts.{KeepsOrSettlesApart, LeavesOldOr}
+use Rattle.record_store.specs.Puts.{KeepsOrSettlesApart, LeavesOldOr, ShowsOldOr}
 use Rattle.record_store.specs.Segments.{Drafts, IsSegmentOf, segment_name}
 use Rattle.record_store.specs.Stores.{AreAmong}
 use Rattle.record_store.specs.declared.keeping.KeepFault.{KeepFault}
@@ -51,6 +51,7 @@ ShowsAtMost state name text =
 pub record Puts (old new : State) (draft name text : List ℕ) : Type 0 where
   pub shown : ShowsAtMost old name text
   pub leaves : LeavesOldOr old new name text
+  pub shows : ShowsOldOr old new name text
   pub others : KeepsOrSettlesApart old new draft name
 
 -- that, or nothing is done

@@ -13,7 +13,7 @@ use Rattle.archive_digest.specs.Periods.{IsIn}
 use Rattle.archive_digest.specs.declared.period.Period.TheVariants.{Day}
 use Rattle.record_store.specs.Causes.{IsDraftCause}
 use Rattle.record_store.specs.Holdings.{HeldAt}
-use Rattle.record_store.specs.Names.{Counts, IsDayName, journal_name}
+use Rattle.record_store.specs.Names.{Counts, IsDayName, IsSegment, journal_name}
 use Rattle.record_store.specs.Stores.{AreAmong}
 use Rattle.record_store.specs.declared.segment.SegmentDraft.{SegmentDraft}
 use Rattle.record_store.specs.declared.segment.SegmentFault.{SegmentFault}
@@ -72,3 +72,8 @@ JournalsSettle old new = (n : ℕ) → n < 2 ^ 64
 abbrev pub IsSegmentCause : Type 0 → Type 0 → State → List ℕ → List ℕ → SegmentFault → Type 0
 IsSegmentCause tells failed state draft day (Disk fault) = IsDraftCause tells failed state draft fault
 IsSegmentCause tells failed state draft day No_day = ¬ (IsDayName day)
+
+-- a read shows each segment that it showed, with the same octets
+abbrev pub SegmentsStay : State → State → Type 0
+SegmentsStay old new = (day name octets : List ℕ) → IsSegment day name
+    → shown_now (old.entries name) ≡ Some octets → shown_now (new.entries name) ≡ Some octets

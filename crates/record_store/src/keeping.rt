@@ -184,7 +184,8 @@ impl SegmentDraft {
     ghost use Rattle.record_store.specs.Crashes.{Keeps};
     ghost use Rattle.record_store.specs.Keeping.{IsDraftOf, IsKeepCause, IsTaken};
     ghost use Rattle.record_store.specs.Names.{Counts, journal_name};
-    ghost use Rattle.record_store.specs.Segments.{Drafts, JournalsSettle, draft_of, segment_name};
+    ghost use Rattle.record_store.specs.Segments.{Drafts, JournalsSettle, SegmentsStay, draft_of};
+    ghost use Rattle.record_store.specs.Segments.{segment_name};
     ghost use Rattle.record_store.specs.Turns.{HeldApart};
 
     /// Brings the segment to the disk under its name, `DAY.HEX.archive` with the SHA-256 of its
@@ -212,6 +213,9 @@ impl SegmentDraft {
             → (name : List ℕ) (others : List Entry) → HeldApart (D.state disk.old) name others
             → HeldApart (D.state disk.new) name others }
 
+        ensures segments { D.tells disk.new → (text : List ℕ) → Drafts self (D.state disk.old) text
+            → ¬ (Counts (draft_of self)) → SegmentsStay (D.state disk.old) (D.state disk.new) }
+
         // a file of other octets stays as it is
         ensures stays { D.tells disk.new → IsTaken self (D.state disk.old) day.now
             → IsErr result × IsUnchanged (D.state disk.old) (D.state disk.new) }
@@ -237,7 +241,8 @@ impl SegmentDraft {
 impl RecordStore {
     ghost use Rattle.archive_text.specs.Entries.{Entry};
     ghost use Rattle.record_store.specs.Keeping.{IsDraftOf, IsKeepCause, IsTaken};
-    ghost use Rattle.record_store.specs.Names.{journal_name};
+    ghost use Rattle.record_store.specs.Names.{Counts, journal_name};
+    ghost use Rattle.record_store.specs.Segments.{Drafts, SegmentsStay, draft_of};
     ghost use Rattle.record_store.specs.Stores.{IsBroken, IsSameButBroken, Sets, Stands};
     ghost use Rattle.record_store.specs.Turns.{HeldApart};
 
@@ -268,6 +273,9 @@ impl RecordStore {
             → IsDraftOf draft (D.state disk.old) day.now es received
             → (name : List ℕ) (others : List Entry) → HeldApart (D.state disk.old) name others
             → HeldApart (D.state disk.new) name others }
+
+        ensures segments { D.tells disk.new → (text : List ℕ) → Drafts draft (D.state disk.old) text
+            → ¬ (Counts (draft_of draft)) → SegmentsStay (D.state disk.old) (D.state disk.new) }
 
         // a file of other octets stays as it is
         ensures stays { D.tells disk.new → IsTaken draft (D.state disk.old) day.now

@@ -7,7 +7,7 @@ ghost use Rattle.sha2.specs.Hashers.{Holds256};
 ghost use Rattle.sha2.specs.Sha256.{sha256};
 ghost use Rattle.journal.specs.Journals.{IsOnDisk, IsSound, KeepsOthers, Shows};
 ghost use Rattle.record_store.specs.Names.{IsDayName, IsHexadecimal, IsSegment};
-ghost use Rattle.record_store.specs.Puts.{KeepsOrSettlesApart, LeavesOldOr};
+ghost use Rattle.record_store.specs.Puts.{KeepsOrSettlesApart, LeavesOldOr, ShowsOldOr};
 
 use crate::RecordStore;
 use crate::putting::clear;
@@ -115,6 +115,9 @@ pub(crate) fn place<D: Disk>(
     ensures any_moment { D.tells disk.new → (file : File) → Shows (D.state disk.old) draft.now file
         → name.now ≢ draft.now
         → LeavesOldOr (D.state disk.old) (D.state disk.new) name.now file.shown }
+    ensures shows { D.tells disk.new → (file : File) → Shows (D.state disk.old) draft.now file
+        → name.now ≢ draft.now
+        → ShowsOldOr (D.state disk.old) (D.state disk.new) name.now file.shown }
     ensures others { D.tells disk.new → KeepsOrSettlesApart (D.state disk.old) (D.state disk.new)
         draft.now name.now }
 

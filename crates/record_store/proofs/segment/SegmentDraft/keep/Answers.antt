@@ -7,6 +7,7 @@ use Rattle.record_store.specs.Segments.{segment_name}
 use Rattle.record_store.proofs.Compared.{brought_journals, brought_keeps, brought_still}
 use Rattle.record_store.proofs.Differing.{taken_stays}
 use Rattle.record_store.proofs.Drafted.{name_apart, segment_held, shows_of}
+use Rattle.record_store.proofs.Remaining.{brought_stay}
 use Rattle.record_store.proofs.segment.SegmentDraft.keep.Goals as goal
 
 pub returns-in_err-bring-clause-any_moment : goal.returns-in_err-bring-clause-any_moment
@@ -163,3 +164,36 @@ returns-then-branch-clause-stays g c tells taken =
     let some : Some taken.octets ≡ Some taken.text =
     sym shown ∙ sym (ap shown_now (same.entries name)) ∙ ap shown_now at.entry in
     absurd (taken.other (cc some))
+
+pub returns-in_err-bring-clause-segments : goal.returns-in_err-bring-clause-segments
+returns-in_err-bring-clause-segments g c tells text drafts apart =
+    let zero = g.D.Disk.state c.args.disk.now in
+    let new = g.D.Disk.state c.bring.new.disk in
+    let file = shows_of zero c.args.self.name text drafts.shown drafts.sound in
+    let segment = rw c.in-Some.is at c.in_ok-name.ensures.segment in
+    let differs = name_apart c.args.self.name c.args.day.now c.in-Some.name segment apart in
+    let brings = subst (λ (t : List ℕ). Brings zero new c.args.self.name c.in-Some.name t) file.2
+    (c.bring.ensures.any_moment tells file.0 file.1 differs) in
+    brought_stay zero new c.args.self.name c.in-Some.name text apart brings
+
+pub returns-then-branch-clause-segments : goal.returns-then-branch-clause-segments
+returns-then-branch-clause-segments g c tells text drafts apart =
+    let zero = g.D.Disk.state c.args.disk.now in
+    let new = g.D.Disk.state c.bring.new.disk in
+    let file = shows_of zero c.args.self.name text drafts.shown drafts.sound in
+    let segment = rw c.in-Some.is at c.in_ok-name.ensures.segment in
+    let differs = name_apart c.args.self.name c.args.day.now c.in-Some.name segment apart in
+    let brings = subst (λ (t : List ℕ). Brings zero new c.args.self.name c.in-Some.name t) file.2
+    (c.bring.ensures.any_moment tells file.0 file.1 differs) in
+    brought_stay zero new c.args.self.name c.in-Some.name text apart brings
+
+pub returns-clause-segments : goal.returns-clause-segments
+returns-clause-segments g c tells text drafts apart =
+    let zero = g.D.Disk.state c.args.disk.now in
+    let new = g.D.Disk.state c.bring.new.disk in
+    let file = shows_of zero c.args.self.name text drafts.shown drafts.sound in
+    let segment = rw c.in-Some.is at c.in_ok-name.ensures.segment in
+    let differs = name_apart c.args.self.name c.args.day.now c.in-Some.name segment apart in
+    let brings = subst (λ (t : List ℕ). Brings zero new c.args.self.name c.in-Some.name t) file.2
+    (c.bring.ensures.any_moment tells file.0 file.1 differs) in
+    brought_stay zero new c.args.self.name c.in-Some.name text apart brings
