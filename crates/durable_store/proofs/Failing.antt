@@ -1,5 +1,5 @@
--- Why a checkpoint fails.
-use Rattle.std.proofs.Common.{◌≡◌, ℕ, ◌+◌, ◌≤◌, List, ap, arith, subst, sym, ◌∙◌, length, take}
+-- Why a checkpoint fails, and that segments stay.
+use Rattle.std.proofs.Common.{◌≡◌, inr, ℕ, ◌+◌, ◌≤◌, List, ap, arith, subst, sym, ◌∙◌, length, take}
 use Rattle.std.specs.Prelude.{ℤ, None, Option, Some, codes}
 use Rattle.std.specs.List.{AllByRecursion}
 use Rattle.std.proofs.lemmas.List.Elements.{All-from_recursion}
@@ -12,14 +12,15 @@ use Rattle.syslog_fields.specs.Canonical.{civil_text}
 use Rattle.archive_digest.specs.Periods.{IsPeriodOf}
 use Rattle.archive_digest.specs.declared.period.Period.TheVariants.{Day as day_Period}
 use Rattle.record_store.specs.Keeping.{IsKeepCause}
-use Rattle.record_store.specs.Names.{IsDayName}
-use Rattle.record_store.specs.Segments.{Drafts}
+use Rattle.record_store.specs.Names.{Counts, IsDayName}
+use Rattle.record_store.specs.Segments.{Drafts, SegmentsStay}
 use Rattle.record_store.specs.declared.keeping.KeepFault.{KeepFault}
 use Rattle.record_store.specs.declared.keeping.KeepFault.TheVariants.{Disk, Day, Differs}
 use Rattle.record_store.specs.declared.segment.SegmentDraft.{SegmentDraft}
 use Rattle.record_store.specs.declared.store.RecordStore.{RecordStore}
 use Rattle.record_store.proofs.Causing.{cause_weaker}
 use Rattle.durable_store.specs.Causes.{IsCheckpointCause, IsKeepingCause, IsWritingCause, turning_causes}
+use Rattle.durable_store.specs.Segments.{KeepsAside}
 use Rattle.durable_store.specs.declared.fault.CheckpointFault.{CheckpointFault}
 use Rattle.durable_store.specs.declared.fault.CheckpointFault.TheVariants.{Store, Segment}
 
@@ -118,3 +119,10 @@ kept_cause tells failed known old new draft day (Differs name) named drafts is =
         other = other.other;
       };
     }
+
+-- ---- beside a draft
+
+pub aside_stay : (old new : State) (draft : List ℕ) → KeepsAside old new draft → ¬ (Counts draft)
+    → SegmentsStay old new
+aside_stay old new draft aside apart day name octets segment shown =
+    ap shown_now (aside.others name (λ is. apart (subst Counts is (inr (day, segment))))) ∙ shown

@@ -2,6 +2,7 @@
 ghost use Rattle.std.specs.Prelude.{◌≡◌, ◌↔◌, [], IfErr, IsErr, None, OnErr, OnOk};
 ghost use Rattle.archive_pages.specs.Paged.{entries_in};
 ghost use Rattle.record_store.specs.Stores.{AreAmong, IsBroken as IsStoreBroken, Sets};
+ghost use Rattle.record_store.specs.Segments.{SegmentsStay};
 ghost use Rattle.record_store.specs.Shown.{journal_shown};
 ghost use Rattle.record_store.specs.Stores.{Stands as JournalStands, number_of};
 ghost use Rattle.record_store.specs.Turns.{turned};
@@ -31,6 +32,8 @@ fn write_out<D: Disk>(
         → JournalStands store.old (D.state disk.old) sets → AreAmong (entries_in set.now) sets.received
         → AreAmong sets.since (entries_in set.now)
         → JournalStands store.new (D.state disk.new) sets) }
+    ensures segments { D.tells disk.new → StandsWith store.old (D.state disk.old) (entries_in set.now)
+        → SegmentsStay (D.state disk.old) (D.state disk.new) }
     ensures removed { OnOk result (D.tells disk.new
         → journal_shown (D.state disk.new) (number_of store.old) ≡ None) }
     ensures whole { OnOk result (¬ (IsStoreBroken store.new)) }
@@ -67,6 +70,10 @@ impl DurableStore {
             → Stands self.new (D.state disk.new) (turned sets)) }
         ensures err { OnErr result (D.tells disk.new → (sets : Sets)
             → Stands self.old (D.state disk.old) sets → Stands self.new (D.state disk.new) sets) }
+
+        // whatever the result is: so at every moment
+        ensures segments { D.tells disk.new → StandsAtAll self.old (D.state disk.old)
+            → SegmentsStay (D.state disk.old) (D.state disk.new) }
 
         // the journal that was there is removed
         ensures removed { OnOk result (D.tells disk.new

@@ -10,7 +10,7 @@ ghost use Rattle.archive_text.specs.Text.{IsArchive};
 ghost use Rattle.archive_text.specs.declared.limits.TheConstants.{ENTRY_MAX};
 ghost use Rattle.journal.specs.Journals.{IsSound};
 ghost use Rattle.record_store.specs.Names.{Counts, journal_name};
-ghost use Rattle.record_store.specs.Segments.{Drafts, draft_of};
+ghost use Rattle.record_store.specs.Segments.{Drafts, SegmentsStay, draft_of};
 ghost use Rattle.record_store.specs.Stores.{AreAmong, IsBroken as IsStoreBroken, IsWhole, Sets};
 ghost use Rattle.record_store.specs.Stores.{Stands as JournalStands, number_of};
 ghost use Rattle.record_store.specs.Turns.{HeldApart};
@@ -170,6 +170,8 @@ fn write_day<D: Disk>(
         → IsArchive ENTRY_MAX (entry_of first.now ∷ entries_from set.now behind)
         → AreAmong (entry_of first.now ∷ entries_from set.now behind) sets.received
         → JournalStands store.new (D.state disk.new) sets }
+    ensures segments { D.tells disk.new → IsSound (D.state disk.old)
+        → SegmentsStay (D.state disk.old) (D.state disk.new) }
 
     ensures number { number_of store.new ≡ number_of store.old }
     ensures goes_on { OnOk result (IsStoreBroken store.new → IsStoreBroken store.old) }
@@ -200,6 +202,9 @@ pub(crate) fn write_days<D: Disk>(
     ensures stands { D.tells disk.new → (sets : Sets) → IsWhole store.old
         → JournalStands store.old (D.state disk.old) sets → AreAmong (entries_in set.now) sets.received
         → JournalStands store.new (D.state disk.new) sets }
+    ensures segments { D.tells disk.new → IsWhole store.old
+        → StandsWith store.old (D.state disk.old) (entries_in set.now)
+        → SegmentsStay (D.state disk.old) (D.state disk.new) }
 
     ensures number { number_of store.new ≡ number_of store.old }
     ensures goes_on { OnOk result (IsStoreBroken store.new → IsStoreBroken store.old) }

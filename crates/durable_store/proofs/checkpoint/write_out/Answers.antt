@@ -4,6 +4,7 @@ use Rattle.record_store.specs.Stores.{IsWhole, number_of}
 use Rattle.record_store.specs.Names.{journal_name}
 use Rattle.record_store.specs.Turns.{turn_causes}
 use Rattle.record_store.proofs.Causing.{cause_weaker}
+use Rattle.record_store.proofs.Remaining.{stay_then}
 use Rattle.durable_store.specs.Causes.{StandsWith, turning_causes}
 use Rattle.durable_store.specs.declared.fault.CheckpointFault.TheVariants.{Store}
 use Rattle.durable_store.proofs.Daily.{not_broken, on_err, since_held, still_whole}
@@ -69,3 +70,20 @@ returns-in_err-turn-clause-cause g c =
     (λ long. long)
     (λ broken. c.in_ok-write_days.ensures.goes_on broken)
     fault c.in_err-turn.ensures.cause)
+
+pub returns-in_err-write_days-clause-segments : goal.returns-in_err-write_days-clause-segments
+returns-in_err-write_days-clause-segments g c tells with =
+    c.write_days.ensures.segments tells (not_broken c.args.store.now c.is_broken.result c.is_broken.ensures
+    c.if-is_broken.false) with
+
+pub returns-in_err-turn-clause-segments : goal.returns-in_err-turn-clause-segments
+returns-in_err-turn-clause-segments g c tells with =
+    let whole = not_broken c.args.store.now c.is_broken.result c.is_broken.ensures c.if-is_broken.false in
+    stay_then (g.D.Disk.state c.args.disk.now) (g.D.Disk.state c.write_days.new.disk) (g.D.Disk.state c.turn.new.disk)
+    (c.write_days.ensures.segments (c.turn.ensures.told tells) whole with) (c.turn.ensures.segments tells)
+
+pub returns-clause-segments : goal.returns-clause-segments
+returns-clause-segments g c tells with =
+    let whole = not_broken c.args.store.now c.is_broken.result c.is_broken.ensures c.if-is_broken.false in
+    stay_then (g.D.Disk.state c.args.disk.now) (g.D.Disk.state c.write_days.new.disk) (g.D.Disk.state c.turn.new.disk)
+    (c.write_days.ensures.segments (c.turn.ensures.told tells) whole with) (c.turn.ensures.segments tells)

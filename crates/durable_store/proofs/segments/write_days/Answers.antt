@@ -4,6 +4,7 @@ use Rattle.archive_pages.specs.Paged.{entries_from, entries_in}
 use Rattle.journal.specs.Journals.{IsSound}
 use Rattle.record_store.specs.Stores.{IsWhole}
 use Rattle.durable_store.specs.Causes.{StandsWith}
+use Rattle.record_store.proofs.Remaining.{stay_then}
 use Rattle.durable_store.proofs.Daily.{all_held, days_more, days_stand, still_whole}
 use Rattle.durable_store.proofs.Failing.{writing_less}
 use Rattle.durable_store.proofs.Readable.{at_err}
@@ -30,6 +31,13 @@ days-preserved g c = record {
       c.days.invariant.written c.in-Some.ensures.some c.args.set.now.paged.archive
       (λ whole. still_whole c.args.store.now c.days.store c.days.invariant.goes_on whole) c.write_day.ensures.stands
       c.in_ok-place.ensures.wrote;
+  segments = λ tells whole with.
+      let told = c.write_day.ensures.told tells in
+      let stands = c.days.invariant.written.stands told with.0 whole with.1 with.2 in
+      let still = still_whole c.args.store.now c.days.store c.days.invariant.goes_on whole in
+      stay_then (g.D.Disk.state c.args.disk.now) (g.D.Disk.state c.days.disk) (g.D.Disk.state c.write_day.new.disk)
+      (c.days.invariant.segments told whole with)
+      (c.write_day.ensures.segments tells (stands.ready still).stands.sound);
 }
 
 pub returns-clause-held : goal.returns-clause-held
@@ -53,3 +61,12 @@ returns-in_err-place-clause-cause g c =
     let stands = c.days.invariant.written.stands told with.0 known.0 with.1 with.2 in
     (stands.ready (still_whole c.args.store.now c.days.store c.days.invariant.goes_on known.0)).stands.sound)
     c.in_err-place.ensures.cause)
+
+pub returns-in_err-place-clause-segments : goal.returns-in_err-place-clause-segments
+returns-in_err-place-clause-segments g c tells whole with =
+    let told = c.write_day.ensures.told tells in
+    let stands = c.days.invariant.written.stands told with.0 whole with.1 with.2 in
+    let still = still_whole c.args.store.now c.days.store c.days.invariant.goes_on whole in
+    stay_then (g.D.Disk.state c.args.disk.now) (g.D.Disk.state c.days.disk) (g.D.Disk.state c.write_day.new.disk)
+    (c.days.invariant.segments told whole with)
+    (c.write_day.ensures.segments tells (stands.ready still).stands.sound)

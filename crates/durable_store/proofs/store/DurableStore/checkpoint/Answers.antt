@@ -20,3 +20,13 @@ returns-in-Err-clause-cause g c =
     (g.D.Disk.state c.write_out.new.disk) c.in-Err.fault
     (λ tell known. (known.0, known.1.journal, λ e has. known.1.journal.within e ((known.1.held e).0 has)))
     c.in-Err.ensures.cause
+
+pub returns-in-Ok-clause-segments : goal.returns-in-Ok-clause-segments
+returns-in-Ok-clause-segments g c tells known =
+    c.write_out.ensures.segments tells
+    (known.0, known.1.journal, λ e has. known.1.journal.within e ((known.1.held e).0 has))
+
+pub returns-in-Err-clause-segments : goal.returns-in-Err-clause-segments
+returns-in-Err-clause-segments g c tells known =
+    c.write_out.ensures.segments tells
+    (known.0, known.1.journal, λ e has. known.1.journal.within e ((known.1.held e).0 has))
