@@ -1,10 +1,12 @@
 //! A checkpoint.
-ghost use Rattle.std.specs.Prelude.{◌≡◌, ◌↔◌, [], IsErr, None, OnErr, OnOk};
+ghost use Rattle.std.specs.Prelude.{◌≡◌, ◌↔◌, [], IfErr, IsErr, None, OnErr, OnOk};
 ghost use Rattle.archive_pages.specs.Paged.{entries_in};
 ghost use Rattle.record_store.specs.Stores.{AreAmong, IsBroken as IsStoreBroken, Sets};
+ghost use Rattle.record_store.specs.Segments.{SegmentsStay};
 ghost use Rattle.record_store.specs.Shown.{journal_shown};
 ghost use Rattle.record_store.specs.Stores.{Stands as JournalStands, number_of};
 ghost use Rattle.record_store.specs.Turns.{turned};
+ghost use Rattle.durable_store.specs.Causes.{IsCheckpointCause, StandsAtAll, StandsWith};
 ghost use Rattle.durable_store.specs.Durables.{IsBroken, Stands, entries_of, journal_store};
 
 use crate::DurableStore;
@@ -30,10 +32,14 @@ fn write_out<D: Disk>(
         → JournalStands store.old (D.state disk.old) sets → AreAmong (entries_in set.now) sets.received
         → AreAmong sets.since (entries_in set.now)
         → JournalStands store.new (D.state disk.new) sets) }
+    ensures segments { D.tells disk.new → StandsWith store.old (D.state disk.old) (entries_in set.now)
+        → SegmentsStay (D.state disk.old) (D.state disk.new) }
     ensures removed { OnOk result (D.tells disk.new
         → journal_shown (D.state disk.new) (number_of store.old) ≡ None) }
     ensures whole { OnOk result (¬ (IsStoreBroken store.new)) }
     ensures told { D.tells disk.new → D.tells disk.old }
+    ensures cause { IfErr result (IsCheckpointCause (D.tells disk.new) (D.has_failed disk.new)
+        (StandsWith store.old (D.state disk.old) (entries_in set.now)) store.old (D.state disk.new)) }
 {
     if store.is_broken() {
         return Err(CheckpointFault::Store(StoreFault::Broken));
@@ -65,6 +71,10 @@ impl DurableStore {
         ensures err { OnErr result (D.tells disk.new → (sets : Sets)
             → Stands self.old (D.state disk.old) sets → Stands self.new (D.state disk.new) sets) }
 
+        // whatever the result is: so at every moment
+        ensures segments { D.tells disk.new → StandsAtAll self.old (D.state disk.old)
+            → SegmentsStay (D.state disk.old) (D.state disk.new) }
+
         // the journal that was there is removed
         ensures removed { OnOk result (D.tells disk.new
             → journal_shown (D.state disk.new) (number_of (journal_store self.old)) ≡ None) }
@@ -73,6 +83,8 @@ impl DurableStore {
         ensures same { OnErr result (entries_of self.new ≡ entries_of self.old) }
         ensures breaks { IsErr result ↔ IsBroken self.new }
         ensures told { D.tells disk.new → D.tells disk.old }
+        ensures cause { IfErr result (IsCheckpointCause (D.tells disk.new) (D.has_failed disk.new)
+            (StandsAtAll self.old (D.state disk.old)) (journal_store self.old) (D.state disk.new)) }
     {
         match write_out(alloc, disk, &mut self.store, &self.set) {
             Ok(()) => {

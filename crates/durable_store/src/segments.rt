@@ -1,5 +1,5 @@
 //! The segments of a checkpoint.
-ghost use Rattle.std.specs.Prelude.{◌≡◌, ◌++◌, ◌∷◌, ◌<◌, ◌^◌, IfOk, IfSome, IsTrue, List, ℕ, OnOk};
+ghost use Rattle.std.specs.Prelude.{◌≡◌, ◌++◌, ◌∷◌, ◌<◌, ◌^◌, [], IfErr, IfOk, IfSome, IsTrue, List, ℕ, OnOk};
 ghost use Rattle.syslog_frame.specs.Frames.{framed};
 ghost use Rattle.syslog_frame.specs.declared.framing.Framing.TheVariants.{Counted};
 ghost use Rattle.archive_digest.specs.Periods.{IsIn, IsPeriodOf};
@@ -10,10 +10,11 @@ ghost use Rattle.archive_text.specs.Text.{IsArchive};
 ghost use Rattle.archive_text.specs.declared.limits.TheConstants.{ENTRY_MAX};
 ghost use Rattle.journal.specs.Journals.{IsSound};
 ghost use Rattle.record_store.specs.Names.{Counts, journal_name};
-ghost use Rattle.record_store.specs.Segments.{draft_of};
+ghost use Rattle.record_store.specs.Segments.{Drafts, SegmentsStay, draft_of};
 ghost use Rattle.record_store.specs.Stores.{AreAmong, IsBroken as IsStoreBroken, IsWhole, Sets};
 ghost use Rattle.record_store.specs.Stores.{Stands as JournalStands, number_of};
 ghost use Rattle.record_store.specs.Turns.{HeldApart};
+ghost use Rattle.durable_store.specs.Causes.{IsWritingCause, StandsWith};
 ghost use Rattle.durable_store.specs.Segments.{IsWritten, KeepsAside, PutsDay, WritesDay};
 
 use crate::fault::CheckpointFault;
@@ -67,6 +68,8 @@ fn put_entry<D: Disk>(
         → KeepsAside (D.state disk.old) (D.state disk.new) (draft_of draft.old) }
     ensures name { draft_of draft.new ≡ draft_of draft.old }
     ensures told { D.tells disk.new → D.tells disk.old }
+    ensures cause { IfErr result (IsWritingCause (D.tells disk.new) (D.has_failed disk.new)
+        ((text : List ℕ) × Drafts draft.old (D.state disk.old) text) (D.state disk.new)) }
 {
     hold_back(buffer, octets)?;
     if buffer.len() >= PIECE {
@@ -133,6 +136,8 @@ fn put_day<D: Disk>(
         → KeepsAside (D.state disk.old) (D.state disk.new) (draft_of draft.old) }
     ensures name { draft_of draft.new ≡ draft_of draft.old }
     ensures told { D.tells disk.new → D.tells disk.old }
+    ensures cause { IfErr result (IsWritingCause (D.tells disk.new) (D.has_failed disk.new)
+        (Drafts draft.old (D.state disk.old) []) (D.state disk.new)) }
 {
     let mut buffer = Vec::new(alloc);
     put_entry(disk, draft, &mut buffer, first.octets)?;
@@ -165,10 +170,14 @@ fn write_day<D: Disk>(
         → IsArchive ENTRY_MAX (entry_of first.now ∷ entries_from set.now behind)
         → AreAmong (entry_of first.now ∷ entries_from set.now behind) sets.received
         → JournalStands store.new (D.state disk.new) sets }
+    ensures segments { D.tells disk.new → IsSound (D.state disk.old)
+        → SegmentsStay (D.state disk.old) (D.state disk.new) }
 
     ensures number { number_of store.new ≡ number_of store.old }
     ensures goes_on { OnOk result (IsStoreBroken store.new → IsStoreBroken store.old) }
     ensures told { D.tells disk.new → D.tells disk.old }
+    ensures cause { IfErr result (IsWritingCause (D.tells disk.new) (D.has_failed disk.new)
+        (IsSound (D.state disk.old)) (D.state disk.new)) }
 {
     let day = day_of(alloc, first.instant)?;
     let mut draft = SegmentDraft::begin(disk, draft_name(alloc)?)?;
@@ -193,10 +202,15 @@ pub(crate) fn write_days<D: Disk>(
     ensures stands { D.tells disk.new → (sets : Sets) → IsWhole store.old
         → JournalStands store.old (D.state disk.old) sets → AreAmong (entries_in set.now) sets.received
         → JournalStands store.new (D.state disk.new) sets }
+    ensures segments { D.tells disk.new → IsWhole store.old
+        → StandsWith store.old (D.state disk.old) (entries_in set.now)
+        → SegmentsStay (D.state disk.old) (D.state disk.new) }
 
     ensures number { number_of store.new ≡ number_of store.old }
     ensures goes_on { OnOk result (IsStoreBroken store.new → IsStoreBroken store.old) }
     ensures told { D.tells disk.new → D.tells disk.old }
+    ensures cause { IfErr result (IsWritingCause (D.tells disk.new) (D.has_failed disk.new)
+        (IsWhole store.old × StandsWith store.old (D.state disk.old) (entries_in set.now)) (D.state disk.new)) }
 {
     let mut place = Place::first();
     'days: while let Some((entry, behind)) = set.next(place) {

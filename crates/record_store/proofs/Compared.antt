@@ -1,7 +1,7 @@
 -- Two files are compared, and a segment is brought beside what is there.
-use Rattle.std.proofs.Common.{◌≡◌, ◌≢◌, ◌⊎◌, inl, inr, ⊎_elim, ℕ, ◌+◌, ◌<◌, ◌≤◌, ◌^◌, List, [], ◌++◌, length, take, drop, min}
+use Rattle.std.proofs.Common.{◌≡◌, ◌⊎◌, inl, inr, ⊎_elim, ℕ, ◌+◌, ◌<◌, ◌≤◌, List, ◌++◌, length, take, drop, min}
 use Rattle.std.proofs.Common.{refl, sym, ap, subst, ◌∙◌, arith}
-use Rattle.std.specs.Prelude.{Option, None, Some, IsSomeAnd, IsNone, false}
+use Rattle.std.specs.Prelude.{Option, None, Some, IsSomeAnd, false}
 use Rattle.std.specs.Option.{option_map}
 use Rattle.std.proofs.lemmas.List.{take-take, take_all}
 use Rattle.syslog_frame.proofs.Cuts.{take_add}
@@ -9,13 +9,13 @@ use Rattle.disk.specs.Calls.{Gives, IsUnchanged}
 use Rattle.disk.specs.Files.{File}
 use Rattle.disk.specs.Memory.{shown_now}
 use Rattle.disk.specs.States.{Entry as DiskEntry, NameMayLeave, State, kept}
-use Rattle.journal.specs.Journals.{IsOnDisk, IsSound, KeepsOrSettlesOthers, Shows}
-use Rattle.archive_text.specs.Entries.{Entry, Has}
+use Rattle.journal.specs.Journals.{IsOnDisk, KeepsOrSettlesOthers, Shows, ShowsTheSame}
+use Rattle.archive_text.specs.Entries.{Entry}
 use Rattle.record_store.specs.Crashes.{Keeps}
 use Rattle.record_store.specs.Holdings.{HeldAt}
 use Rattle.record_store.specs.Keeping.{AgreeAt, AgreeFrom, AreSame, Brings, Puts, ShowsAtMost}
 use Rattle.record_store.specs.Names.{Counts, IsSegment}
-use Rattle.record_store.specs.Puts.{KeepsOrSettlesApart, LeavesOldOr}
+use Rattle.record_store.specs.Puts.{KeepsOrSettlesApart, LeavesOldOr, ShowsOldOr}
 use Rattle.record_store.specs.Segments.{IsSegmentOf, JournalsSettle, ShowsNoMore}
 use Rattle.record_store.specs.Stores.{AreAmong}
 use Rattle.record_store.specs.Turns.{HeldApart}
@@ -107,14 +107,15 @@ agree_whole zero state one other at n same none before agrees sound =
 
 -- where no file is there
 pub none_puts : (zero one two : State) (draft name text : List ℕ) → IsUnchanged zero one
-    → shown_now (zero.entries name) ≡ None → LeavesOldOr one two name text → KeepsOrSettlesApart one two draft name
-    → Puts zero two draft name text
-none_puts zero one two draft name text same none leaves others = record {
+    → shown_now (zero.entries name) ≡ None → LeavesOldOr one two name text → ShowsOldOr one two name text
+    → KeepsOrSettlesApart one two draft name → Puts zero two draft name text
+none_puts zero one two draft name text same none leaves shows others = record {
   shown = inl none;
   leaves = λ octets may. ⊎_elim
       (λ before. inl (subst (λ (e : DiskEntry). NameMayLeave e octets) (same.entries name) before))
       (λ (whole : octets ≡ Some text). inr whole)
       (leaves octets may);
+  shows = ⊎_elim (λ before. inl (before ∙ ap shown_now (same.entries name))) (λ whole. inr whole) shows;
   others = λ other from to. ⊎_elim
       (λ still. inl (still ∙ same.entries other))
       (λ on_disk. inr (on_disk ∙ ap kept (same.entries other)))
@@ -140,8 +141,8 @@ same_file zero one draft name file same shows alike =
 -- where one of the same octets is
 pub same_puts : (zero one two : State) (draft name : List ℕ) (file : File) → IsUnchanged zero one
     → Shows zero draft file → AreSame zero draft name → LeavesSettled one two name
-    → KeepsOrSettlesOthers one two name → Puts zero two draft name file.shown
-same_puts zero one two draft name file same shows alike leaves others =
+    → ShowsTheSame one two → KeepsOrSettlesOthers one two name → Puts zero two draft name file.shown
+same_puts zero one two draft name file same shows alike leaves still others =
     let found = same_file zero one draft name file same shows alike in
     record {
       shown = inr (sym (alike shows.sound)
@@ -150,8 +151,9 @@ same_puts zero one two draft name file same shows alike leaves others =
           (λ before. inl (subst (λ (e : DiskEntry). NameMayLeave e octets) (same.entries name) before))
           (λ (whole : octets ≡ Some found.0.shown). inr (whole ∙ ap (λ (t : List ℕ). Some t) found.2))
           (leaves found.0 octets found.1 may);
+      shows = inl (still name ∙ ap shown_now (same.entries name));
       others = λ other from to. ⊎_elim
-          (λ still. inl (still ∙ same.entries other))
+          (λ as_it_was. inl (as_it_was ∙ same.entries other))
           (λ on_disk. inr (on_disk ∙ ap kept (same.entries other)))
           (others other to);
     }

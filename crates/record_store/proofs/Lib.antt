@@ -4,6 +4,7 @@ pub mod Committing
 pub mod Compared
 pub mod Covering
 pub mod Creating
+pub mod Differing
 pub mod Drafted
 pub mod Folders
 pub mod Leavings
@@ -15,6 +16,7 @@ pub mod Numbered
 pub mod Opened
 pub mod Placed
 pub mod Readings
+pub mod Remaining
 pub mod Showing
 pub mod Standing
 pub mod Successions

@@ -3,7 +3,7 @@ use Rattle.std.proofs.Common.{◌≡◌, ◌⊎◌, inl, inr, ⊎_elim, ℕ, ◌
 use Rattle.std.specs.Prelude.{Option, None, Some, IsSomeAnd}
 use Rattle.disk.specs.Files.{File}
 use Rattle.disk.specs.Memory.{shown_now}
-use Rattle.disk.specs.States.{Entry as DiskEntry, NameMayLeave, State, kept}
+use Rattle.disk.specs.States.{Entry as DiskEntry, NameMayLeave, State}
 use Rattle.journal.specs.Batches.{HasBatches}
 use Rattle.journal.specs.declared.journal.Journal.{Journal}
 use Rattle.journal.specs.Journals.{IsOnDisk, IsSound, KeepsOrSettlesOthers, KeepsOthers, LeavesThese, OpensOn}

@@ -101,7 +101,7 @@ module _ (zero one two three : State) (draft name text : List ℕ) (apart : name
         (subst (λ (e : Entry). NameMayLeave e octets) (is_put renames settles).entry may))
 
 -- the names are settled, or a sync has failed before
-settled_either : (old new : State) (name : List ℕ) → SettlesNames old new
+pub settled_either : (old new : State) (name : List ℕ) → SettlesNames old new
     → (new.entries name ≡ old.entries name) ⊎ (new.entries name ≡ kept (old.entries name))
 settled_either old new name settles =
     ⊎_elim

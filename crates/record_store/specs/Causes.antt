@@ -1,5 +1,5 @@
 -- Why a call on a store fails.
-use Rattle.std.specs.Prelude.{◌≡◌, ◌≢◌, ◌≤◌, ◌⊎◌, ℕ, ◌^◌, List, Some, length}
+use Rattle.std.specs.Prelude.{◌≡◌, ◌≢◌, ◌≤◌, ◌⊎◌, ℕ, ◌^◌, List, None, Some, length}
 use Rattle.disk.specs.Memory.{shown_now}
 use Rattle.disk.specs.States.{State}
 use Rattle.disk.specs.declared.fault.DiskFault.{DiskFault}
@@ -39,6 +39,24 @@ IsCause causes Broken = causes.broken
 IsCause causes (Journal number fault) = IsJournalCause causes fault
 IsCause causes (Folder fault) = IsDiskCause causes fault
 IsCause causes No_memory = Unit {0}
+
+-- what has to be so where a disk's fault is told of a call on files: that the disk failed, where it is told as failed or
+-- as full; that a file was missing; that one was in the way. Want of memory needs no cause.
+abbrev pub IsFileCause : Type 0 → Type 0 → Type 0 → DiskFault → Type 0
+IsFileCause failed missing exists Missing = missing
+IsFileCause failed missing exists Exists = exists
+IsFileCause failed missing exists Full = failed
+IsFileCause failed missing exists Failed = failed
+IsFileCause failed missing exists Memory = Unit {0}
+
+-- of a draft that is begun: no file is missing or in the way
+abbrev pub IsBeginningCause : Type 0 → Type 0 → DiskFault → Type 0
+IsBeginningCause tells failed fault = IsFileCause failed (¬ tells) (¬ tells) fault
+
+-- of a call on a draft: its file is missing only where a read shows none, and none is in the way
+abbrev pub IsDraftCause : Type 0 → Type 0 → State → List ℕ → DiskFault → Type 0
+IsDraftCause tells failed state name fault =
+    IsFileCause failed (tells → shown_now (state.entries name) ≡ None) (¬ tells) fault
 
 -- a full disk is told
 abbrev pub TellsFull : StoreFault → Type 0

@@ -1,6 +1,7 @@
 -- The names of a store's files. A name that is none of these counts for nothing.
 use Rattle.std.specs.Prelude.{◌≡◌, ◌⊎◌, ℕ, ◌^◌, ◌<◌, ◌≤◌, List, ◌∷◌, ◌++◌, All, Contains, codes, decimal, length}
 use Rattle.std.specs.Prelude.{Option, None, Some, IsNone, MatchOption}
+use Rattle.disk.specs.Names.{IsNameOctet}
 
 -- journal.N
 abbrev pub journal_name : ℕ → List ℕ
@@ -22,6 +23,11 @@ pub record IsSegment (day name : List ℕ) : Type 0 where
   pub long : length digest ≡ 64
   pub digits : All IsHexadecimal digest
   pub name_is : name ≡ day ++ 46 ∷ digest ++ codes ".archive"
+
+-- a file's name can be that of a segment of this day: it has at most 182 octets, none of them NUL or the slash
+pub record IsDayName (day : List ℕ) : Type 0 where
+  pub short : length day ≤ 182
+  pub each : All IsNameOctet day
 
 -- a file under the name counts
 abbrev pub Counts : List ℕ → Type 0

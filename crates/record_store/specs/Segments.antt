@@ -11,10 +11,13 @@ use Rattle.archive_text.specs.Text.{IsArchive, text_of}
 use Rattle.archive_text.specs.declared.limits.TheConstants.{ENTRY_MAX}
 use Rattle.archive_digest.specs.Periods.{IsIn}
 use Rattle.archive_digest.specs.declared.period.Period.TheVariants.{Day}
+use Rattle.record_store.specs.Causes.{IsDraftCause}
 use Rattle.record_store.specs.Holdings.{HeldAt}
-use Rattle.record_store.specs.Names.{Counts, journal_name}
+use Rattle.record_store.specs.Names.{Counts, IsDayName, IsSegment, journal_name}
 use Rattle.record_store.specs.Stores.{AreAmong}
 use Rattle.record_store.specs.declared.segment.SegmentDraft.{SegmentDraft}
+use Rattle.record_store.specs.declared.segment.SegmentFault.{SegmentFault}
+use Rattle.record_store.specs.declared.segment.SegmentFault.TheVariants.{Disk, Day as No_day}
 
 -- DAY.HEX.archive, HEX the SHA-256 of the text
 abbrev pub segment_name : List ℕ → List ℕ → List ℕ
@@ -64,3 +67,13 @@ abbrev pub JournalsSettle : State → State → Type 0
 JournalsSettle old new = (n : ℕ) → n < 2 ^ 64
     → (new.entries (journal_name n) ≡ old.entries (journal_name n))
     ⊎ (new.entries (journal_name n) ≡ kept (old.entries (journal_name n)))
+
+-- what has to be so where a segment is not finished
+abbrev pub IsSegmentCause : Type 0 → Type 0 → State → List ℕ → List ℕ → SegmentFault → Type 0
+IsSegmentCause tells failed state draft day (Disk fault) = IsDraftCause tells failed state draft fault
+IsSegmentCause tells failed state draft day No_day = ¬ (IsDayName day)
+
+-- a read shows each segment that it showed, with the same octets
+abbrev pub SegmentsStay : State → State → Type 0
+SegmentsStay old new = (day name octets : List ℕ) → IsSegment day name
+    → shown_now (old.entries name) ≡ Some octets → shown_now (new.entries name) ≡ Some octets

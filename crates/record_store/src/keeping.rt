@@ -1,10 +1,11 @@
 //! A segment is kept under its name, whatever is there already.
-ghost use Rattle.std.specs.Prelude.{◌≡◌, ◌≢◌, ◌^◌, ◌<◌, ◌≤◌, ◌⊎◌, IfOk, IfSome, IsTrue, List, ℕ, None, OnOk};
+ghost use Rattle.std.specs.Prelude.{◌≡◌, ◌≢◌, ◌^◌, ◌<◌, ◌≤◌, ◌⊎◌, IfErr, IfOk, IfSome, IsErr, IsErrOf, IsNone};
+ghost use Rattle.std.specs.Prelude.{IsSome, IsTrue, List, ℕ, None, OnOk};
 ghost use Rattle.disk.specs.Calls.{IsUnchanged};
 ghost use Rattle.disk.specs.Files.{File};
 ghost use Rattle.disk.specs.Memory.{shown_now};
-ghost use Rattle.journal.specs.Journals.{IsOnDisk, Shows};
-ghost use Rattle.record_store.specs.Keeping.{AgreeAt, AreSame, Brings};
+ghost use Rattle.journal.specs.Journals.{IsOnDisk, IsSound, Shows};
+ghost use Rattle.record_store.specs.Keeping.{AgreeAt, AreOther, AreSame, Brings, DifferAt};
 ghost use Rattle.record_store.specs.Names.{IsSegment};
 
 use crate::RecordStore;
@@ -68,9 +69,17 @@ fn compare_at<D: Disk>(
 ) -> Result<Option<usize>, DiskFault>
     ensures agree { IfOk result (λ found. D.tells disk.new → IfSome found
         (AgreeAt (D.state disk.old) one.now other.now at)) }
+    ensures differ { IfOk result (λ found. D.tells disk.new → IsNone found
+        → DifferAt (D.state disk.old) one.now other.now) }
     ensures within { IfOk result (λ found. IfSome found (λ n. n ≤ PIECE)) }
     ensures same { D.tells disk.new → IsUnchanged (D.state disk.old) (D.state disk.new) }
     ensures told { D.tells disk.new → D.tells disk.old }
+    ensures failed { IsErrOf result DiskFault.Failed → D.has_failed disk.new }
+    ensures full { IsErrOf result DiskFault.Full → D.has_failed disk.new }
+    ensures missing { D.tells disk.new → IsErrOf result DiskFault.Missing
+        → IsNone ((D.state disk.old).entries one.now).now
+        ⊎ IsNone ((D.state disk.old).entries other.now).now }
+    ensures not_exists { D.tells disk.new → ¬ (IsErrOf result DiskFault.Exists) }
 {
     let mut left = [0u8; PIECE];
     let mut right = [0u8; PIECE];
@@ -93,8 +102,16 @@ fn compare_at<D: Disk>(
 fn are_same<D: Disk>(disk: &mut D, one: &FileName, other: &FileName) -> Result<bool, DiskFault>
     ensures same_octets { IfOk result (λ same. IsTrue same → D.tells disk.new
         → AreSame (D.state disk.old) one.now other.now) }
+    ensures other_octets { IfOk result (λ same. IsTrue same ⊎ (D.tells disk.new
+        → AreOther (D.state disk.old) one.now other.now)) }
     ensures same { D.tells disk.new → IsUnchanged (D.state disk.old) (D.state disk.new) }
     ensures told { D.tells disk.new → D.tells disk.old }
+    ensures failed { IsErrOf result DiskFault.Failed → D.has_failed disk.new }
+    ensures full { IsErrOf result DiskFault.Full → D.has_failed disk.new }
+    ensures missing { D.tells disk.new → IsErrOf result DiskFault.Missing
+        → IsNone ((D.state disk.old).entries one.now).now
+        ⊎ IsNone ((D.state disk.old).entries other.now).now }
+    ensures not_exists { D.tells disk.new → ¬ (IsErrOf result DiskFault.Exists) }
 {
     let mut at = 0;
     'pieces: while at < COMPARED_MAX {
@@ -113,8 +130,14 @@ fn are_same<D: Disk>(disk: &mut D, one: &FileName, other: &FileName) -> Result<b
 fn is_there<D: Disk>(disk: &mut D, name: &FileName) -> Result<bool, DiskFault>
     ensures there { IfOk result (λ there. IsTrue there ⊎ (D.tells disk.new
         → shown_now ((D.state disk.old).entries name.now) ≡ None)) }
+    ensures some { IfOk result (λ there. IsTrue there → D.tells disk.new
+        → IsSound (D.state disk.old) → IsSome ((D.state disk.old).entries name.now).now) }
     ensures same { D.tells disk.new → IsUnchanged (D.state disk.old) (D.state disk.new) }
     ensures told { D.tells disk.new → D.tells disk.old }
+    ensures failed { IsErrOf result DiskFault.Failed → D.has_failed disk.new }
+    ensures full { IsErrOf result DiskFault.Full → D.has_failed disk.new }
+    ensures not_missing { D.tells disk.new → ¬ (IsErrOf result DiskFault.Missing) }
+    ensures not_exists { D.tells disk.new → ¬ (IsErrOf result DiskFault.Exists) }
 {
     match disk.read(name, 0, &mut [0u8; 1]) {
         Ok(_) => Ok(true),
@@ -135,7 +158,15 @@ fn bring<D: Disk>(disk: &mut D, draft: &FileName, name: &FileName) -> Result<boo
         → name.now ≢ draft.now
         → Brings (D.state disk.old) (D.state disk.new) draft.now name.now file.shown }
 
+    ensures other_octets { IfOk result (λ done. IsTrue done ⊎ (D.tells disk.new
+        → IsUnchanged (D.state disk.old) (D.state disk.new)
+        × AreOther (D.state disk.old) draft.now name.now)) }
     ensures told { D.tells disk.new → D.tells disk.old }
+    ensures failed { IsErrOf result DiskFault.Failed → D.has_failed disk.new }
+    ensures full { IsErrOf result DiskFault.Full → D.has_failed disk.new }
+    ensures missing { D.tells disk.new → IsSound (D.state disk.old)
+        → IsErrOf result DiskFault.Missing → IsNone ((D.state disk.old).entries draft.now).now }
+    ensures not_exists { D.tells disk.new → ¬ (IsErrOf result DiskFault.Exists) }
 {
     if is_there(disk, name)? {
         if are_same(disk, draft, name)? {
@@ -151,9 +182,10 @@ fn bring<D: Disk>(disk: &mut D, draft: &FileName, name: &FileName) -> Result<boo
 impl SegmentDraft {
     ghost use Rattle.archive_text.specs.Entries.{Entry};
     ghost use Rattle.record_store.specs.Crashes.{Keeps};
-    ghost use Rattle.record_store.specs.Keeping.{IsDraftOf};
+    ghost use Rattle.record_store.specs.Keeping.{IsDraftOf, IsKeepCause, IsTaken};
     ghost use Rattle.record_store.specs.Names.{Counts, journal_name};
-    ghost use Rattle.record_store.specs.Segments.{Drafts, JournalsSettle, draft_of, segment_name};
+    ghost use Rattle.record_store.specs.Segments.{Drafts, JournalsSettle, SegmentsStay, draft_of};
+    ghost use Rattle.record_store.specs.Segments.{segment_name};
     ghost use Rattle.record_store.specs.Turns.{HeldApart};
 
     /// Brings the segment to the disk under its name, `DAY.HEX.archive` with the SHA-256 of its
@@ -181,7 +213,16 @@ impl SegmentDraft {
             → (name : List ℕ) (others : List Entry) → HeldApart (D.state disk.old) name others
             → HeldApart (D.state disk.new) name others }
 
+        ensures segments { D.tells disk.new → (text : List ℕ) → Drafts self (D.state disk.old) text
+            → ¬ (Counts (draft_of self)) → SegmentsStay (D.state disk.old) (D.state disk.new) }
+
+        // a file of other octets stays as it is
+        ensures stays { D.tells disk.new → IsTaken self (D.state disk.old) day.now
+            → IsErr result × IsUnchanged (D.state disk.old) (D.state disk.new) }
+
         ensures told { D.tells disk.new → D.tells disk.old }
+        ensures cause { IfErr result (IsKeepCause (D.tells disk.new) (D.has_failed disk.new)
+            (D.state disk.old) (D.state disk.new) self day.now) }
     {
         let SegmentDraft {
             name: draft,
@@ -198,10 +239,10 @@ impl SegmentDraft {
 }
 
 impl RecordStore {
-    ghost use Rattle.std.specs.Prelude.{IsErr};
     ghost use Rattle.archive_text.specs.Entries.{Entry};
-    ghost use Rattle.record_store.specs.Keeping.{IsDraftOf};
-    ghost use Rattle.record_store.specs.Names.{journal_name};
+    ghost use Rattle.record_store.specs.Keeping.{IsDraftOf, IsKeepCause, IsTaken};
+    ghost use Rattle.record_store.specs.Names.{Counts, journal_name};
+    ghost use Rattle.record_store.specs.Segments.{Drafts, SegmentsStay, draft_of};
     ghost use Rattle.record_store.specs.Stores.{IsBroken, IsSameButBroken, Sets, Stands};
     ghost use Rattle.record_store.specs.Turns.{HeldApart};
 
@@ -233,10 +274,19 @@ impl RecordStore {
             → (name : List ℕ) (others : List Entry) → HeldApart (D.state disk.old) name others
             → HeldApart (D.state disk.new) name others }
 
+        ensures segments { D.tells disk.new → (text : List ℕ) → Drafts draft (D.state disk.old) text
+            → ¬ (Counts (draft_of draft)) → SegmentsStay (D.state disk.old) (D.state disk.new) }
+
+        // a file of other octets stays as it is
+        ensures stays { D.tells disk.new → IsTaken draft (D.state disk.old) day.now
+            → IsErr result × IsUnchanged (D.state disk.old) (D.state disk.new) }
+
         ensures same { IsSameButBroken self.old self.new }
         ensures breaks { IsErr result → IsBroken self.new }
         ensures goes_on { OnOk result (IsBroken self.new → IsBroken self.old) }
         ensures told { D.tells disk.new → D.tells disk.old }
+        ensures cause { IfErr result (IsKeepCause (D.tells disk.new) (D.has_failed disk.new)
+            (D.state disk.old) (D.state disk.new) draft day.now) }
     {
         match draft.keep(alloc, disk, day) {
             Ok(()) => Ok(()),

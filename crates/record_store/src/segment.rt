@@ -1,13 +1,13 @@
 //! A segment is written, a piece at a time.
-ghost use Rattle.std.specs.Prelude.{◌≡◌, ◌≢◌, ◌<◌, ◌^◌, ◌++◌, ◌∷◌, ◌↔◌, [], All, IfOk, IfSome, IsTrue, List, ℕ};
-ghost use Rattle.std.specs.Prelude.{OnOk, codes};
+ghost use Rattle.std.specs.Prelude.{◌≡◌, ◌≢◌, ◌<◌, ◌^◌, ◌++◌, ◌∷◌, ◌↔◌, [], All, IfErr, IfOk, IfSome, IsErrOf};
+ghost use Rattle.std.specs.Prelude.{IsNone, IsTrue, List, ℕ, OnOk, codes};
 ghost use Rattle.disk.specs.Files.{File};
 ghost use Rattle.hex.specs.Hex.{encode_lower};
 ghost use Rattle.sha2.specs.Hashers.{Holds256};
 ghost use Rattle.sha2.specs.Sha256.{sha256};
 ghost use Rattle.journal.specs.Journals.{IsOnDisk, IsSound, KeepsOthers, Shows};
-ghost use Rattle.record_store.specs.Names.{IsHexadecimal, IsSegment};
-ghost use Rattle.record_store.specs.Puts.{KeepsOrSettlesApart, LeavesOldOr};
+ghost use Rattle.record_store.specs.Names.{IsDayName, IsHexadecimal, IsSegment};
+ghost use Rattle.record_store.specs.Puts.{KeepsOrSettlesApart, LeavesOldOr, ShowsOldOr};
 
 use crate::RecordStore;
 use crate::putting::clear;
@@ -70,7 +70,9 @@ fn are_hexadecimal(octets: &[u8]) -> bool
 
 // The digest of what was hashed, in hexadecimal.
 pub(crate) fn hexadecimal(hasher: Sha256) -> [u8; HEX_LEN]
-    ensures { (text : List ℕ) → Holds256 hasher text → result ≡ encode_lower (sha256 text) }
+    ensures digest { (text : List ℕ) → Holds256 hasher text
+        → result ≡ encode_lower (sha256 text) }
+    ensures digits { All IsHexadecimal result }
 {
     let mut hex = [0; HEX_LEN];
     let _ = hex::encode_to_slice(hasher.finalize(), &mut hex);
@@ -86,6 +88,8 @@ pub(crate) fn name_of_segment(
     ensures name { IfOk result (λ found. IfSome found (λ name.
         name ≡ day.now ++ 46 ∷ hex.now ++ codes ".archive")) }
     ensures segment { IfOk result (λ found. IfSome found (λ name. IsSegment day.now name)) }
+    ensures none { IfOk result (λ found. IsNone found → All IsHexadecimal hex.now
+        → ¬ (IsDayName day.now)) }
 {
     if !are_hexadecimal(hex) {
         return Ok(None);
@@ -111,10 +115,18 @@ pub(crate) fn place<D: Disk>(
     ensures any_moment { D.tells disk.new → (file : File) → Shows (D.state disk.old) draft.now file
         → name.now ≢ draft.now
         → LeavesOldOr (D.state disk.old) (D.state disk.new) name.now file.shown }
+    ensures shows { D.tells disk.new → (file : File) → Shows (D.state disk.old) draft.now file
+        → name.now ≢ draft.now
+        → ShowsOldOr (D.state disk.old) (D.state disk.new) name.now file.shown }
     ensures others { D.tells disk.new → KeepsOrSettlesApart (D.state disk.old) (D.state disk.new)
         draft.now name.now }
 
     ensures told { D.tells disk.new → D.tells disk.old }
+    ensures failed { IsErrOf result DiskFault.Failed → D.has_failed disk.new }
+    ensures full { IsErrOf result DiskFault.Full → D.has_failed disk.new }
+    ensures missing { D.tells disk.new → IsErrOf result DiskFault.Missing
+        → IsNone ((D.state disk.old).entries draft.now).now }
+    ensures not_exists { D.tells disk.new → ¬ (IsErrOf result DiskFault.Exists) }
 {
     disk.sync(draft)?;
     disk.rename(draft, name)?;
@@ -123,10 +135,11 @@ pub(crate) fn place<D: Disk>(
 
 impl SegmentDraft {
     ghost use Rattle.archive_text.specs.Entries.{Entry};
+    ghost use Rattle.record_store.specs.Causes.{IsBeginningCause, IsDraftCause};
     ghost use Rattle.record_store.specs.Crashes.{Keeps};
     ghost use Rattle.record_store.specs.Names.{Counts, journal_name};
-    ghost use Rattle.record_store.specs.Segments.{Drafts, IsOfSegment, JournalsSettle, draft_of};
-    ghost use Rattle.record_store.specs.Segments.{segment_name};
+    ghost use Rattle.record_store.specs.Segments.{Drafts, IsOfSegment, IsSegmentCause, JournalsSettle};
+    ghost use Rattle.record_store.specs.Segments.{draft_of, segment_name};
     ghost use Rattle.record_store.specs.Stores.{Sets, Stands};
     ghost use Rattle.record_store.specs.Turns.{HeldApart};
 
@@ -144,6 +157,7 @@ impl SegmentDraft {
             → Stands store (D.state disk.old) sets → Stands store (D.state disk.new) sets }
 
         ensures told { D.tells disk.new → D.tells disk.old }
+        ensures cause { IfErr result (IsBeginningCause (D.tells disk.new) (D.has_failed disk.new)) }
     {
         clear(disk, &name)?;
         disk.create(&name)?;
@@ -169,6 +183,8 @@ impl SegmentDraft {
             → Stands store (D.state disk.new) sets }
 
         ensures told { D.tells disk.new → D.tells disk.old }
+        ensures cause { IfErr result (IsDraftCause (D.tells disk.new) (D.has_failed disk.new)
+            (D.state disk.old) (draft_of self.old)) }
     {
         disk.append(&self.name, piece)?;
         self.hasher.update(piece);
@@ -211,6 +227,8 @@ impl SegmentDraft {
             → HeldApart (D.state disk.new) name others }
 
         ensures told { D.tells disk.new → D.tells disk.old }
+        ensures cause { IfErr result (IsSegmentCause (D.tells disk.new) (D.has_failed disk.new)
+            (D.state disk.old) (draft_of self) day.now) }
     {
         let SegmentDraft {
             name: draft,
@@ -228,7 +246,7 @@ impl RecordStore {
     ghost use Rattle.std.specs.Prelude.{IsErr};
     ghost use Rattle.archive_text.specs.Entries.{Entry};
     ghost use Rattle.record_store.specs.Names.{journal_name};
-    ghost use Rattle.record_store.specs.Segments.{IsOfSegment};
+    ghost use Rattle.record_store.specs.Segments.{IsOfSegment, IsSegmentCause, draft_of};
     ghost use Rattle.record_store.specs.Stores.{IsBroken, Sets, Stands, number_of};
     ghost use Rattle.record_store.specs.Turns.{HeldApart};
 
@@ -264,6 +282,8 @@ impl RecordStore {
         ensures breaks { IsErr result → IsBroken self.new }
         ensures goes_on { OnOk result (IsBroken self.new → IsBroken self.old) }
         ensures told { D.tells disk.new → D.tells disk.old }
+        ensures cause { IfErr result (IsSegmentCause (D.tells disk.new) (D.has_failed disk.new)
+            (D.state disk.old) (draft_of draft) day.now) }
     {
         match draft.finish(alloc, disk, day) {
             Ok(_name) => Ok(()),

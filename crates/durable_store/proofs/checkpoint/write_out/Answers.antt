@@ -1,7 +1,15 @@
+use Rattle.std.proofs.Common.{◌≡◌, ◌⊎◌, ◌+◌, ◌^◌, ℕ, subst}
 use Rattle.archive_pages.specs.Paged.{entries_in}
-use Rattle.record_store.specs.Stores.{number_of}
+use Rattle.record_store.specs.Stores.{IsWhole, number_of}
 use Rattle.record_store.specs.Names.{journal_name}
+use Rattle.record_store.specs.Turns.{turn_causes}
+use Rattle.record_store.proofs.Causing.{cause_weaker}
+use Rattle.record_store.proofs.Remaining.{stay_then}
+use Rattle.durable_store.specs.Causes.{StandsWith, turning_causes}
+use Rattle.durable_store.specs.declared.fault.CheckpointFault.TheVariants.{Store}
 use Rattle.durable_store.proofs.Daily.{not_broken, on_err, since_held, still_whole}
+use Rattle.durable_store.proofs.Failing.{writing_fails, writing_less}
+use Rattle.durable_store.proofs.Readable.{at_err}
 use Rattle.durable_store.proofs.checkpoint.write_out.Goals as goal
 
 pub returns-in_err-turn-clause-err : goal.returns-in_err-turn-clause-err
@@ -27,3 +35,55 @@ returns-clause-done g c tells sets stands among since =
     (entries_in c.args.set.now) sets.since
     (c.in_ok-write_days.ensures.held told sets whole stands among (number_of c.write_days.new.store)
     (mid.ready still).small) since)
+
+pub returns-in_err-write_days-clause-cause : goal.returns-in_err-write_days-clause-cause
+returns-in_err-write_days-clause-cause g c =
+    let store = c.args.store.now in
+    let new = g.D.Disk.state c.write_days.new.disk in
+    let tells = g.D.Disk.tells c.write_days.new.disk in
+    let failed = g.D.Disk.has_failed c.write_days.new.disk in
+    let stands = StandsWith store (g.D.Disk.state c.args.disk.now) (entries_in c.args.set.now) in
+    let fault = c.in_err-write_days.field-0.0 in
+    let whole = not_broken store c.is_broken.result c.is_broken.ensures c.if-is_broken.false in
+    at_err c.from_residual.result fault _ c.from_residual.ensures.1
+    (writing_fails tells failed stands store new fault
+    (writing_less tells failed (IsWhole store × stands) stands new fault (λ tell known. (whole, known))
+    c.in_err-write_days.ensures.cause))
+
+pub returns-in_err-turn-clause-cause : goal.returns-in_err-turn-clause-cause
+returns-in_err-turn-clause-cause g c =
+    let store = c.args.store.now in
+    let mid = c.write_days.new.store in
+    let then = g.D.Disk.state c.write_days.new.disk in
+    let tells = g.D.Disk.tells c.turn.new.disk in
+    let failed = g.D.Disk.has_failed c.turn.new.disk in
+    let stands = StandsWith store (g.D.Disk.state c.args.disk.now) (entries_in c.args.set.now) in
+    let fault = c.in_err-turn.field-0.0 in
+    let whole = not_broken store c.is_broken.result c.is_broken.ensures c.if-is_broken.false in
+    at_err c.from_residual-in_err-turn.result (Store fault) _ c.from_residual-in_err-turn.ensures.1
+    (cause_weaker (turn_causes tells failed mid then) (turning_causes tells failed stands store)
+    (λ is. is)
+    (λ full. subst (λ (n : ℕ). failed ⊎ (n + 1 ≡ 2 ^ 64)) c.write_days.ensures.number full)
+    (λ other tell known.
+    let told = c.turn.ensures.told tell in
+    other tell known.0 (c.write_days.ensures.stands told known.0 whole known.1 known.2))
+    (λ long. long)
+    (λ broken. c.in_ok-write_days.ensures.goes_on broken)
+    fault c.in_err-turn.ensures.cause)
+
+pub returns-in_err-write_days-clause-segments : goal.returns-in_err-write_days-clause-segments
+returns-in_err-write_days-clause-segments g c tells with =
+    c.write_days.ensures.segments tells (not_broken c.args.store.now c.is_broken.result c.is_broken.ensures
+    c.if-is_broken.false) with
+
+pub returns-in_err-turn-clause-segments : goal.returns-in_err-turn-clause-segments
+returns-in_err-turn-clause-segments g c tells with =
+    let whole = not_broken c.args.store.now c.is_broken.result c.is_broken.ensures c.if-is_broken.false in
+    stay_then (g.D.Disk.state c.args.disk.now) (g.D.Disk.state c.write_days.new.disk) (g.D.Disk.state c.turn.new.disk)
+    (c.write_days.ensures.segments (c.turn.ensures.told tells) whole with) (c.turn.ensures.segments tells)
+
+pub returns-clause-segments : goal.returns-clause-segments
+returns-clause-segments g c tells with =
+    let whole = not_broken c.args.store.now c.is_broken.result c.is_broken.ensures c.if-is_broken.false in
+    stay_then (g.D.Disk.state c.args.disk.now) (g.D.Disk.state c.write_days.new.disk) (g.D.Disk.state c.turn.new.disk)
+    (c.write_days.ensures.segments (c.turn.ensures.told tells) whole with) (c.turn.ensures.segments tells)

@@ -1,7 +1,4 @@
 use Rattle.std.proofs.Common.{inr, ⊎_elim}
-use Rattle.std.specs.Prelude.{None}
-use Rattle.disk.specs.Memory.{shown_now}
-use Rattle.disk.specs.States.{State}
 use Rattle.record_store.specs.Keeping.{AreSame}
 use Rattle.record_store.proofs.Compared.{alike_then, none_puts, same_on_disk, same_puts, same_shows, same_then}
 use Rattle.record_store.proofs.keeping.bring.Goals as goal
@@ -32,7 +29,7 @@ returns-then-branch-2-clause-any_moment g c tells file shows apart =
     let alike : AreSame zero c.args.draft.now c.args.name.now =
     alike_then zero one c.args.draft.now c.args.name.now first (c.in_ok-are_same.ensures.same_octets c.if-branch-2.true told) in
     inr (same_puts zero two three c.args.draft.now c.args.name.now file same shows alike
-    (c.settle.ensures.leaves tells) (c.settle.ensures.others tells))
+    (c.settle.ensures.leaves tells) (c.settle.ensures.shows tells) (c.settle.ensures.others tells))
 
 pub returns-in_err-settle-clause-any_moment : goal.returns-in_err-settle-clause-any_moment
 returns-in_err-settle-clause-any_moment g c tells file shows apart =
@@ -46,7 +43,7 @@ returns-in_err-settle-clause-any_moment g c tells file shows apart =
     let alike : AreSame zero c.args.draft.now c.args.name.now =
     alike_then zero one c.args.draft.now c.args.name.now first (c.in_ok-are_same.ensures.same_octets c.if-branch-2.true told) in
     inr (same_puts zero two three c.args.draft.now c.args.name.now file same shows alike
-    (c.settle.ensures.leaves tells) (c.settle.ensures.others tells))
+    (c.settle.ensures.leaves tells) (c.settle.ensures.shows tells) (c.settle.ensures.others tells))
 
 pub returns-clause-brought : goal.returns-clause-brought
 returns-clause-brought g c _ tells file shows apart =
@@ -69,7 +66,8 @@ returns-clause-any_moment g c tells file shows apart =
     let none = ⊎_elim (λ there. absurd (cc (there, c.if-branch.false))) (λ absent. absent told)
     c.in_ok-is_there.ensures.there in
     inr (none_puts zero one two c.args.draft.now c.args.name.now file.shown same none
-    (c.place.ensures.any_moment tells file still apart) (c.place.ensures.others tells))
+    (c.place.ensures.any_moment tells file still apart) (c.place.ensures.shows tells file still apart)
+    (c.place.ensures.others tells))
 
 pub returns-in_err-place-clause-any_moment : goal.returns-in_err-place-clause-any_moment
 returns-in_err-place-clause-any_moment g c tells file shows apart =
@@ -82,4 +80,5 @@ returns-in_err-place-clause-any_moment g c tells file shows apart =
     let none = ⊎_elim (λ there. absurd (cc (there, c.if-branch.false))) (λ absent. absent told)
     c.in_ok-is_there.ensures.there in
     inr (none_puts zero one two c.args.draft.now c.args.name.now file.shown same none
-    (c.place.ensures.any_moment tells file still apart) (c.place.ensures.others tells))
+    (c.place.ensures.any_moment tells file still apart) (c.place.ensures.shows tells file still apart)
+    (c.place.ensures.others tells))

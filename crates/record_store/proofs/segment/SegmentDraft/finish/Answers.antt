@@ -22,7 +22,7 @@ returns-clause-held g c tells es received of number small =
     let new = g.D.Disk.state c.place.new.disk in
     let named : c.in-Some.name ≡ segment_name c.args.day.now of.text =
     (rw c.in-Some.is at c.in_ok-name.ensures.name)
-    ∙ ap (λ (h : List ℕ). c.args.day.now ++ 46 ∷ h ++ codes ".archive") (c.hexadecimal.ensures of.text of.drafts.hashed) in
+    ∙ ap (λ (h : List ℕ). c.args.day.now ++ 46 ∷ h ++ codes ".archive") (c.hexadecimal.ensures.digest of.text of.drafts.hashed) in
     let file = shows_of zero c.args.self.name of.text of.drafts.shown of.drafts.sound in
     let segment = rw c.in-Some.is at c.in_ok-name.ensures.segment in
     let differs = name_apart c.args.self.name c.args.day.now c.in-Some.name segment of.apart in
@@ -36,7 +36,7 @@ returns-in_err-place-clause-any_moment g c tells es committed received of keeps 
     let new = g.D.Disk.state c.place.new.disk in
     let named : c.in-Some.name ≡ segment_name c.args.day.now of.text =
     (rw c.in-Some.is at c.in_ok-name.ensures.name)
-    ∙ ap (λ (h : List ℕ). c.args.day.now ++ 46 ∷ h ++ codes ".archive") (c.hexadecimal.ensures of.text of.drafts.hashed) in
+    ∙ ap (λ (h : List ℕ). c.args.day.now ++ 46 ∷ h ++ codes ".archive") (c.hexadecimal.ensures.digest of.text of.drafts.hashed) in
     let file = shows_of zero c.args.self.name of.text of.drafts.shown of.drafts.sound in
     let segment = rw c.in-Some.is at c.in_ok-name.ensures.segment in
     let differs = name_apart c.args.self.name c.args.day.now c.in-Some.name segment of.apart in
@@ -59,7 +59,7 @@ returns-in_err-place-clause-still_held g c tells es received of name others hold
     let new = g.D.Disk.state c.place.new.disk in
     let named : c.in-Some.name ≡ segment_name c.args.day.now of.text =
     (rw c.in-Some.is at c.in_ok-name.ensures.name)
-    ∙ ap (λ (h : List ℕ). c.args.day.now ++ 46 ∷ h ++ codes ".archive") (c.hexadecimal.ensures of.text of.drafts.hashed) in
+    ∙ ap (λ (h : List ℕ). c.args.day.now ++ 46 ∷ h ++ codes ".archive") (c.hexadecimal.ensures.digest of.text of.drafts.hashed) in
     let file = shows_of zero c.args.self.name of.text of.drafts.shown of.drafts.sound in
     let segment = rw c.in-Some.is at c.in_ok-name.ensures.segment in
     let differs = name_apart c.args.self.name c.args.day.now c.in-Some.name segment of.apart in
@@ -76,7 +76,7 @@ returns-clause-any_moment g c tells es committed received of keeps =
     let new = g.D.Disk.state c.place.new.disk in
     let named : c.in-Some.name ≡ segment_name c.args.day.now of.text =
     (rw c.in-Some.is at c.in_ok-name.ensures.name)
-    ∙ ap (λ (h : List ℕ). c.args.day.now ++ 46 ∷ h ++ codes ".archive") (c.hexadecimal.ensures of.text of.drafts.hashed) in
+    ∙ ap (λ (h : List ℕ). c.args.day.now ++ 46 ∷ h ++ codes ".archive") (c.hexadecimal.ensures.digest of.text of.drafts.hashed) in
     let file = shows_of zero c.args.self.name of.text of.drafts.shown of.drafts.sound in
     let segment = rw c.in-Some.is at c.in_ok-name.ensures.segment in
     let differs = name_apart c.args.self.name c.args.day.now c.in-Some.name segment of.apart in
@@ -99,7 +99,7 @@ returns-clause-still_held g c tells es received of name others holds =
     let new = g.D.Disk.state c.place.new.disk in
     let named : c.in-Some.name ≡ segment_name c.args.day.now of.text =
     (rw c.in-Some.is at c.in_ok-name.ensures.name)
-    ∙ ap (λ (h : List ℕ). c.args.day.now ++ 46 ∷ h ++ codes ".archive") (c.hexadecimal.ensures of.text of.drafts.hashed) in
+    ∙ ap (λ (h : List ℕ). c.args.day.now ++ 46 ∷ h ++ codes ".archive") (c.hexadecimal.ensures.digest of.text of.drafts.hashed) in
     let file = shows_of zero c.args.self.name of.text of.drafts.shown of.drafts.sound in
     let segment = rw c.in-Some.is at c.in_ok-name.ensures.segment in
     let differs = name_apart c.args.self.name c.args.day.now c.in-Some.name segment of.apart in

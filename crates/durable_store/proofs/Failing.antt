@@ -1,0 +1,128 @@
+-- Why a checkpoint fails, and that segments stay.
+use Rattle.std.proofs.Common.{◌≡◌, inr, ℕ, ◌+◌, ◌≤◌, List, ap, arith, subst, sym, ◌∙◌, length, take}
+use Rattle.std.specs.Prelude.{ℤ, None, Option, Some, codes}
+use Rattle.std.specs.List.{AllByRecursion}
+use Rattle.std.proofs.lemmas.List.Elements.{All-from_recursion}
+use Rattle.disk.specs.Memory.{shown_now}
+use Rattle.disk.specs.Names.{IsNameOctet}
+use Rattle.disk.specs.States.{State}
+use Rattle.disk.specs.declared.fault.DiskFault.TheVariants.{Missing, Exists, Full, Failed, Memory}
+use Rattle.syslog_value.specs.declared.civil.Civil.{Civil}
+use Rattle.syslog_fields.specs.Canonical.{civil_text}
+use Rattle.archive_digest.specs.Periods.{IsPeriodOf}
+use Rattle.archive_digest.specs.declared.period.Period.TheVariants.{Day as day_Period}
+use Rattle.record_store.specs.Keeping.{IsKeepCause}
+use Rattle.record_store.specs.Names.{Counts, IsDayName}
+use Rattle.record_store.specs.Segments.{Drafts, SegmentsStay}
+use Rattle.record_store.specs.declared.keeping.KeepFault.{KeepFault}
+use Rattle.record_store.specs.declared.keeping.KeepFault.TheVariants.{Disk, Day, Differs}
+use Rattle.record_store.specs.declared.segment.SegmentDraft.{SegmentDraft}
+use Rattle.record_store.specs.declared.store.RecordStore.{RecordStore}
+use Rattle.record_store.proofs.Causing.{cause_weaker}
+use Rattle.durable_store.specs.Causes.{IsCheckpointCause, IsKeepingCause, IsWritingCause, turning_causes}
+use Rattle.durable_store.specs.Segments.{KeepsAside}
+use Rattle.durable_store.specs.declared.fault.CheckpointFault.{CheckpointFault}
+use Rattle.durable_store.specs.declared.fault.CheckpointFault.TheVariants.{Store, Segment}
+
+-- ---- a day has a name
+
+digit : (n : ℕ) → IsNameOctet (48 + n)
+digit n = (λ is. omega (arith, is), λ is. omega (arith, is))
+
+dash : IsNameOctet 45
+dash = (λ is. omega (arith, is), λ is. omega (arith, is))
+
+undated : AllByRecursion IsNameOctet (codes "undated")
+undated = (digit 69, (digit 62, (digit 52, (digit 49, (digit 68, (digit 53, (digit 52, tt)))))))
+
+dated : (c : Civil) → AllByRecursion IsNameOctet (take 10 (civil_text c))
+unfolding civil_text
+dated c = (
+  digit _,
+  (digit _, (digit _, (digit _, (dash, (digit _, (digit _, (dash, (digit _, (digit _, tt))))))))),
+)
+
+ten : (c : Civil) → length (take 10 (civil_text c)) ≤ 182
+unfolding civil_text
+ten c = omega arith
+
+pub day_is_name : (i : Option ℤ) (day : List ℕ) → IsPeriodOf day_Period i day → IsDayName day
+day_is_name None day is = subst IsDayName (sym is) (record {
+  short = omega arith;
+  each = All-from_recursion IsNameOctet (codes "undated") undated;
+})
+day_is_name (Some i) day (time, (c, exists, names, text), first) =
+    let is : day ≡ take 10 (civil_text c) = first ∙ ap (take 10) text in
+    subst IsDayName (sym is) (record {
+      short = ten c;
+      each = All-from_recursion IsNameOctet (take 10 (civil_text c)) (dated c);
+    })
+
+-- ---- causes
+
+-- where more is known
+pub keeping_less : (tells failed stands known : Type 0) (new : State) (fault : KeepFault) → (tells → known → stands)
+    → IsKeepingCause tells failed stands new fault → IsKeepingCause tells failed known new fault
+keeping_less tells failed stands known new (Disk Missing) from is = λ tell k. is tell (from tell k)
+keeping_less tells failed stands known new (Disk Exists) from is = is
+keeping_less tells failed stands known new (Disk Full) from is = is
+keeping_less tells failed stands known new (Disk Failed) from is = is
+keeping_less tells failed stands known new (Disk Memory) from is = is
+keeping_less tells failed stands known new Day from is = is
+keeping_less tells failed stands known new (Differs name) from is = λ tell k. is tell (from tell k)
+
+pub writing_less : (tells failed stands known : Type 0) (new : State) (fault : CheckpointFault)
+    → (tells → known → stands) → IsWritingCause tells failed stands new fault
+    → IsWritingCause tells failed known new fault
+writing_less tells failed stands known new (Store fault) from is = is
+writing_less tells failed stands known new (Segment fault) from is =
+    keeping_less tells failed stands known new fault from is
+
+pub checkpoint_less : (tells failed stands known : Type 0) (store : RecordStore) (new : State)
+    (fault : CheckpointFault) → (tells → known → stands) → IsCheckpointCause tells failed stands store new fault
+    → IsCheckpointCause tells failed known store new fault
+checkpoint_less tells failed stands known store new (Store fault) from is =
+    cause_weaker (turning_causes tells failed stands store) (turning_causes tells failed known store)
+    (λ failed. failed) (λ full. full) (λ other tell k. other tell (from tell k)) (λ long. long) (λ broken. broken) fault is
+checkpoint_less tells failed stands known store new (Segment fault) from is =
+    keeping_less tells failed stands known new fault from is
+
+-- where segments are not written, no checkpoint is made
+pub writing_fails : (tells failed stands : Type 0) (store : RecordStore) (new : State) (fault : CheckpointFault)
+    → IsWritingCause tells failed stands new fault → IsCheckpointCause tells failed stands store new fault
+writing_fails tells failed stands store new (Store fault) is = absurd is
+writing_fails tells failed stands store new (Segment fault) is = is
+
+-- of a draft that is kept
+pub kept_cause : (tells failed known : Type 0) (old new : State) (draft : SegmentDraft) (day : List ℕ)
+    (fault : KeepFault) → IsDayName day → (tells → known → (text : List ℕ) × Drafts draft old text)
+    → IsKeepCause tells failed old new draft day fault → IsKeepingCause tells failed known new fault
+kept_cause tells failed known old new draft day (Disk Missing) named drafts is = λ tell k.
+    let drafted = drafts tell k in
+    absurd (cc (is tell drafted.1.sound, drafted.1.shown))
+kept_cause tells failed known old new draft day (Disk Exists) named drafts is = is
+kept_cause tells failed known old new draft day (Disk Full) named drafts is = is
+kept_cause tells failed known old new draft day (Disk Failed) named drafts is = is
+kept_cause tells failed known old new draft day (Disk Memory) named drafts is = is
+kept_cause tells failed known old new draft day Day named drafts is = absurd (is named)
+kept_cause tells failed known old new draft day (Differs name) named drafts is = λ tell k.
+    let drafted = drafts tell k in
+    let told = is tell in
+    let other = told.1 drafted.0 drafted.1 in
+    record {
+      day = day;
+      text = drafted.0;
+      other = record {
+        named = other.named;
+        octets = other.octets;
+        shown = ap shown_now (told.0.entries name) ∙ other.shown;
+        other = other.other;
+      };
+    }
+
+-- ---- beside a draft
+
+pub aside_stay : (old new : State) (draft : List ℕ) → KeepsAside old new draft → ¬ (Counts draft)
+    → SegmentsStay old new
+aside_stay old new draft aside apart day name octets segment shown =
+    ap shown_now (aside.others name (λ is. apart (subst Counts is (inr (day, segment))))) ∙ shown
