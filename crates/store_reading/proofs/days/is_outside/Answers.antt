@@ -1,9 +1,13 @@
-use Rattle.std.proofs.Common.{◌∙◌, ℤ, Option, rules, subst}
-use Rattle.std.specs.Prelude.{not}
+use Rattle.std.proofs.Common.{◌∙◌, ℤ, Option, rules, subst, sym}
+use Rattle.std.specs.Prelude.{IfSome, not}
+use Rattle.std.proofs.lemmas.Bool.{false≢true}
 use Rattle.archive_sets.specs.Conditions.{IsInRange}
-use Rattle.store_reading.proofs.DayOrders.{before_out, from_out, not_undated, undated_behind, undated_out}
+use Rattle.store_reading.specs.Days.{HasInstant, IsFrom, IsUpTo}
+use Rattle.store_reading.proofs.DayOrders.{before_out, day_meets, from_out, not_undated, not_up_to, undated_behind}
+use Rattle.store_reading.proofs.DayOrders.{undated_meets, undated_out}
 use Rattle.store_reading.proofs.Ranged.{clash}
 use Rattle.store_reading.proofs.days.is_outside.Goals as goal
+use Rattle.store_reading.proofs.days.is_outside.Goals.{in-Some+else-is_before, in_default}
 
 pub returns-then-is-clause-none : goal.returns-then-is-clause-none
 returns-then-is-clause-none c out e of inside =
@@ -36,3 +40,42 @@ returns-then-is-clause-behind c =
 
 pub returns-in-Some-to-clause-behind : goal.returns-in-Some-to-clause-behind
 returns-in-Some-to-clause-behind c = rw c.in-Some-to.is c.is_from.ensures.all
+
+pub returns-then-is-clause-inside : goal.returns-then-is-clause-inside
+returns-then-is-clause-inside c off =
+    undated_meets c.args.range.now c.args.day.now c.holds.result
+    (c.is.ensures.0 (search rules) ∙ c.undated.ensures) off
+    (λ kept. c.holds.ensures.0 kept)
+
+pub returns-in-Some-to-clause-inside : goal.returns-in-Some-to-clause-inside
+returns-in-Some-to-clause-inside c off =
+    let range = c.args.range.now in
+    let day = c.args.day.now in
+    day_meets range day
+    (not_undated c.is.result day c.undated.result c.is.ensures c.undated.ensures c.if-is.false)
+    (elim c.match-range.branch [
+      | in-Some+else-is_before w ↦
+          subst (λ (o : Option ℤ). IfSome o (λ (f : ℤ). HasInstant day → ¬ (IsUpTo f day))) (sym w.in-Some.is)
+          (not_up_to w.in-Some.from day w.of.result w.of.ensures
+          (λ below. false≢true (sym w.if-is_before.false ∙ w.is_before.ensures.1 below)))
+      | in_default w ↦
+          subst (λ (o : Option ℤ). IfSome o (λ (f : ℤ). HasInstant day → ¬ (IsUpTo f day))) (sym w.in_default.is) tt
+    ])
+    (subst (λ (o : Option ℤ). IfSome o (λ (t : ℤ). HasInstant day → ¬ (IsFrom t day))) (sym c.in-Some-to.is)
+    (λ has from. false≢true (sym off ∙ c.is_from.ensures.all has from)))
+
+pub returns-clause-inside : goal.returns-clause-inside
+returns-clause-inside c off =
+    let range = c.args.range.now in
+    let day = c.args.day.now in
+    day_meets range day
+    (not_undated c.is.result day c.undated.result c.is.ensures c.undated.ensures c.if-is.false)
+    (elim c.match-range.branch [
+      | in-Some+else-is_before w ↦
+          subst (λ (o : Option ℤ). IfSome o (λ (f : ℤ). HasInstant day → ¬ (IsUpTo f day))) (sym w.in-Some.is)
+          (not_up_to w.in-Some.from day w.of.result w.of.ensures
+          (λ below. false≢true (sym w.if-is_before.false ∙ w.is_before.ensures.1 below)))
+      | in_default w ↦
+          subst (λ (o : Option ℤ). IfSome o (λ (f : ℤ). HasInstant day → ¬ (IsUpTo f day))) (sym w.in_default.is) tt
+    ])
+    (subst (λ (o : Option ℤ). IfSome o (λ (t : ℤ). HasInstant day → ¬ (IsFrom t day))) (sym c.in_default-to.is) tt)

@@ -1,5 +1,6 @@
 use Rattle.std.proofs.Common.{List, ℕ, subst}
-use Rattle.store_upkeep.specs.Damages.{IsSegmentDamage, OfLeft, Refutes, Tells}
+use Rattle.store_reading.specs.Damages.{OfLeft}
+use Rattle.store_upkeep.specs.Damages.{IsSegmentDamage, Refutes, Tells}
 use Rattle.store_upkeep.specs.Whole.{IsWholeSegment}
 use Rattle.store_upkeep.proofs.Verdicts.{segment_verdict, segment_whole_at}
 use Rattle.store_upkeep.proofs.verification.check_segment_file.Goals as goal
