@@ -304,10 +304,9 @@ named_order t a b x y first second h =
     subst (λ (u : List ℕ). IsTrue t ↔ IsDayBelow u y) first (subst (λ (v : List ℕ). IsTrue t ↔ IsDayBelow a v) second h)
 
 -- a test that a day is `undated` failed
-pub not_undated : (t : Bool) (day undated : List ℕ) → IsTrue t ↔ (day ≡ undated) → undated ≡ codes "undated" → t ≡ false
-    → day ≢ codes "undated"
-not_undated true day undated says is off same = absurd (cc off)
-not_undated false day undated says is off same = false≢true (says.1 (same ∙ sym is))
+pub not_undated : (t : Bool) (day : List ℕ) → IsTrue t ↔ (day ≡ codes "undated") → t ≡ false → day ≢ codes "undated"
+not_undated true day says off same = absurd (cc off)
+not_undated false day says off same = false≢true (says.1 same)
 
 -- ---- days that may have a record in a range
 
@@ -315,20 +314,22 @@ some_all : (o : Option ℤ) (P : ℤ → Type 0) → ((x : ℤ) → P x) → IfS
 some_all None P p = tt
 some_all (Some x) P p = p x
 
-pub undated_meets : (range : InRange) (day : List ℕ) (kept : Bool) → day ≡ codes "undated" → not kept ≡ false
-    → (kept ≡ true → IsInRange range.from range.to range.undated None) → MayMeet range day
-undated_meets range day true is off inside = record {
+pub undated_meets : (range : InRange) (day : List ℕ) (kept : Bool) → IsDayText day → day ≡ codes "undated"
+    → not kept ≡ false → (kept ≡ true → IsInRange range.from range.to range.undated None) → MayMeet range day
+undated_meets range day true named is off inside = record {
+  dated = named;
   undated = λ same. inside refl;
   from = some_all range.from (λ (f : ℤ). HasInstant day → ¬ (IsUpTo f day))
       (λ f has. absurd (undated_apart day is has));
   to = some_all range.to (λ (t : ℤ). HasInstant day → ¬ (IsFrom t day)) (λ t has. absurd (undated_apart day is has));
 }
-undated_meets range day false is off inside = absurd (cc off)
+undated_meets range day false named is off inside = absurd (cc off)
 
-pub day_meets : (range : InRange) (day : List ℕ) → day ≢ codes "undated"
+pub day_meets : (range : InRange) (day : List ℕ) → IsDayText day → day ≢ codes "undated"
     → IfSome range.from (λ (f : ℤ). HasInstant day → ¬ (IsUpTo f day))
     → IfSome range.to (λ (t : ℤ). HasInstant day → ¬ (IsFrom t day)) → MayMeet range day
-day_meets range day dated from to = record { undated = λ is. absurd (dated is); from = from; to = to }
+day_meets range day named not from to =
+    record { dated = named; undated = λ is. absurd (not is); from = from; to = to }
 
 -- a day that is not before that of an instant
 pub not_up_to : (f : ℤ) (day d : List ℕ) → IsPeriodOf Day (Some f) d → ¬ (IsDayBelow day d) → HasInstant day

@@ -131,7 +131,7 @@ pub(crate) fn is_outside(range: &InRange, day: &Day) -> bool
     ensures behind { IfSome range.now.to (λ (to : ℤ). HasInstant day.now → IsFrom to day.now → IsTrue result) }
     ensures inside { result ≡ false → MayMeet range.now day.now }
 {
-    if day.is(&Day::undated()) {
+    if day.is_undated() {
         return !range.holds(&EntryView {
             instant: None,
             octets: b"",
