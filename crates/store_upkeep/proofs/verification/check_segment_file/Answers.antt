@@ -22,4 +22,4 @@ returns-clause-verdict g c tells text segment =
     c.as_octets.ensures.value c.in-Err.ensures.damaged)
     (subst (λ (n : List ℕ). OfLeft d (λ file. Tells c.in-Err.fault (IsSegmentDamage day n file)))
     c.as_octets.ensures.value c.in-Err.ensures.told)
-    c.found_by.ensures
+    c.found_by.ensures.found
