@@ -4,7 +4,7 @@ use Rattle.std.specs.Prelude.{codes}
 use Rattle.std.specs.Io.KnownBytes.{Appends}
 use Rattle.octet_devices.specs.Device.{OutputState}
 use Rattle.driver.specs.Devices.{Reports}
-use Rattle.driver.specs.declared.status.TheConstants.{FAULT, NO_MEMORY, REFUSED}
+use Rattle.driver.specs.declared.status.TheConstants.{NO_MEMORY, REFUSED}
 
 appends_first : (old new : Option (List ℕ)) (line : List ℕ) → old ≡ Some [] → Appends old new line → new ≡ Some line
 appends_first None new line is appends = absurd (cc is)

@@ -1,5 +1,5 @@
 -- What `read` does.
-use Rattle.std.specs.Prelude.{◌≡◌, ℕ, List, ◌++◌, Option, codes}
+use Rattle.std.specs.Prelude.{◌≡◌, ℕ, List, ◌++◌, Option, None, Some, Result, Ok, Err, IfErr, codes}
 use Rattle.disk.specs.States.{Files}
 use Rattle.disk.specs.declared.fault.DiskFault.{DiskFault}
 use Rattle.disk.specs.declared.fault.DiskFault.TheVariants.{Missing, Exists, Full, Failed, Memory as disk_Memory}
@@ -9,7 +9,9 @@ use Rattle.archive_streams.specs.declared.fault.InputFault.{InputFault}
 use Rattle.archive_streams.specs.declared.fault.InputFault.TheVariants.{Device, Endless}
 use Rattle.driver.specs.declared.status.TheConstants.{DONE, FAULT, NO_MEMORY, REFUSED}
 use Rattle.set_engine.specs.Ended.{EndsAs, Telling}
+use Rattle.store_reading.specs.Causes.{IsCause, WriterFailures, reading_causes}
 use Rattle.store_reading.specs.Sets.{WritesPart, WritesSet}
+use Rattle.store_reading.specs.Whole.{IsWholeIn}
 use Rattle.store_reading.specs.declared.fault.ReadFault.{ReadFault}
 use Rattle.store_reading.specs.declared.fault.ReadFault.TheVariants.{Folder, Open, Damaged, Read, Gone, TooManyDays}
 use Rattle.store_reading.specs.declared.fault.ReadFault.TheVariants.{Write, Memory}
@@ -68,14 +70,23 @@ is_of_file Memory = ⊥
 abbrev pub read_telling : Telling ReadFault
 read_telling = record { line = read_line; status = read_status; takes_memory = is_of_file }
 
--- the archive of what the folder holds, of the range, was written
+-- the archive of what the folder holds, of the range, was written, and no damaged file was passed over
 pub record IsRead (tells : Type 0) (files : Files) (range : InRange) (old new : OutputState) (status : ℕ) : Type 0 where
   pub done : status ≡ DONE
   pub written : tells → WritesSet files range old.taken new.taken
+  pub whole : tells → IsWholeIn files range
 
--- what a reading does, whatever the folder and the devices do; `tells` says that the folder tells its files
-pub record RanRead (tells : Type 0) (files : Files) (range : InRange) (w w_new n n_new : OutputState) (status : ℕ) :
+-- the result of a reading that ended so
+abbrev pub result_of : Option ReadFault → Result (Unit {0}) ReadFault
+result_of None = Ok tt
+result_of (Some fault) = Err fault
+
+-- what a reading does, whatever the folder and the devices do; `tells` says that the folder tells its files, `failed`
+-- that it has failed. Its fault has a cause, and is the output's just where that failed
+pub record RanRead (tells failed : Type 0) (files : Files) (range : InRange) (w w_new n n_new : OutputState) (status : ℕ) :
     Type 0 where
   pub ending : Option ReadFault
   pub outcome : EndsAs read_telling (IsRead tells files range w w_new)
       (λ fault. tells → WritesPart files range w.taken w_new.taken) ending n n_new status
+  pub cause : IfErr (result_of ending) (IsCause (reading_causes tells failed files range))
+  pub writer : WriterFailures (result_of ending) w.failures w_new.failures

@@ -119,9 +119,10 @@ pub fn read_store<F: Folder, W: Output, N: Output>(
     output: &mut W,
     diagnostics: &mut N,
 ) -> u8
-    // the whole archive, or a prefix of it and a line
-    ensures ran { RanRead (F.tells folder.new) (F.files folder.old) range (W.state output.old)
-        (W.state output.new) (N.state diagnostics.old) (N.state diagnostics.new) result }
+    // the whole archive, or a prefix of it and a line on a fault that has a cause
+    ensures ran { RanRead (F.tells folder.new) (F.has_failed folder.new) (F.files folder.old) range
+        (W.state output.old) (W.state output.new) (N.state diagnostics.old)
+        (N.state diagnostics.new) result }
     ensures same { F.tells folder.new → F.files folder.new ≡ F.files folder.old }
     ensures told { F.tells folder.new → F.tells folder.old }
 {

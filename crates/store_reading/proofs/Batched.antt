@@ -2,7 +2,7 @@
 use Rattle.std.proofs.Common.{◌≡◌, ◌⊎◌, ℕ, ◌<◌, ◌≤◌, List, [], ◌∷◌, ◌++◌, Option, None, Some, length, take, drop}
 use Rattle.std.proofs.Common.{inl, inr}
 use Rattle.std.proofs.Common.{refl, sym, ap, subst, ◌∙◌, append_assoc, arith, length-append}
-use Rattle.std.specs.Prelude.{◌↔◌, Err, IfOk, IfSome, IsSomeAnd, Ok, Result, Vec, ℤ}
+use Rattle.std.specs.Prelude.{◌↔◌, Err, IfOk, IfSome, IsErrOf, IsSomeAnd, Ok, Result, Vec, ℤ}
 use Rattle.std.specs.Int.{to_le_bytes, w32}
 use Rattle.std.specs.List.{AllByRecursion}
 use Rattle.std.proofs.lemmas.List.{append-nil, length-take, take_all, take_at, drop_at}
@@ -11,6 +11,7 @@ use Rattle.octet_devices.specs.Device.{InputState}
 use Rattle.journal.specs.Batches.{batches_text, BeginsWithBatch, HasBatches, IsBody, IsClosed, open_batch}
 use Rattle.journal.proofs.Batches.{sized_push, text-push}
 use Rattle.journal.proofs.Readings.{body_is}
+use Rattle.octet_language.specs.Language.{AnyOf}
 use Rattle.syslog_value.specs.Parts.{Parts}
 use Rattle.syslog_reading.specs.WellFormed.{WellFormed}
 use Rattle.syslog_reading.proofs.Laws.{one_meaning}
@@ -19,6 +20,7 @@ use Rattle.archive_text.specs.Entries.{Entry, Has, IsEntry, IsEntryOf}
 use Rattle.archive_text.specs.Stores.{AddsRecord}
 use Rattle.archive_text.specs.Text.{BeginsWithEntry, IsArchive, text_of}
 use Rattle.archive_text.specs.declared.limits.TheConstants.{ENTRY_MAX}
+use Rattle.archive_text.specs.declared.store.AddFault.{AddFault}
 use Rattle.archive_text.specs.declared.store.Added.{Added}
 use Rattle.archive_text.proofs.Members.{all_append, has_either, has_left, has_right}
 use Rattle.archive_text.proofs.Places.{adds_has}
@@ -42,6 +44,20 @@ entry_added e r old new added (q, is) formed (f, also, adds) x =
       λ k. elim (h.0 k) [ inl first ↦ inr (sym one ∙ first) | inr before ↦ inl before ],
       λ k. h.1 (elim k [ inl before ↦ inr before | inr first ↦ inl (one ∙ first) ]),
     )
+
+-- it is a record
+pub entry_formed : (e : Entry) → IsEntry e → AnyOf WellFormed e.octets
+entry_formed e (r, is) = (r, canonical_well_formed r e.octets is.valid is.canonical)
+
+pub too_long : {T : Type 0} {fault : AddFault} → fault ≡ AddFault.TooLong → IsErrOf {T = T} (Err fault) AddFault.TooLong
+too_long is = ap (λ (f : AddFault). Err f) is
+
+-- the entry of a record that the octets of an entry are is that entry
+pub entry_fits : (e : Entry) → IsEntry e
+    → ((r : Parts ℤ) (f : Entry) → WellFormed r e.octets → IsEntryOf r f → ENTRY_MAX < length f.octets)
+    → ¬ (length e.octets ≤ ENTRY_MAX)
+entry_fits e (r, is) long fits =
+    let above = long r e (canonical_well_formed r e.octets is.valid is.canonical) is in omega arith
 
 -- ---- sets that grow
 

@@ -2,7 +2,7 @@
 use Rattle.std.proofs.Common.{◌≡◌, ℕ, ◌+◌, ◌*◌, ◌<◌, ◌≤◌, List, [], ◌∷◌, ◌++◌, Option, None, Some, length}
 use Rattle.std.proofs.Common.{take}
 use Rattle.std.proofs.Common.{ℤ, pos, neg_ℤ, ◌+ℤ◌, ◌-ℤ◌, ◌*ℤ◌, ◌<ℤ◌, ◌≤ℤ◌, ◌∙◌, refl, sym, ap, subst, arith, inl, inr}
-use Rattle.std.specs.Prelude.{◌≢◌, ◌⊎◌, ◌↔◌, Bool, codes, true, false, IfSome, IsTrue}
+use Rattle.std.specs.Prelude.{◌≢◌, ◌⊎◌, ◌↔◌, Bool, codes, true, false, IfSome, IsTrue, not}
 use Rattle.std.proofs.lemmas.Bool.{cases_lt, false≢true}
 use Rattle.std.proofs.lemmas.Int.{by_lt_z}
 use Rattle.jiff_core.proofs.SignedLemmas.{signed_arith}
@@ -16,11 +16,13 @@ use Rattle.syslog_fields.specs.Time.{padded}
 use Rattle.archive_text.specs.Entries.{Entry, InstantBelow, IsBelow, IsEntry}
 use Rattle.archive_text.proofs.Orders.{octets_irreflexive, octets_total, octets_transitive}
 use Rattle.archive_sets.specs.Conditions.{IsInRange}
+use Rattle.archive_sets.specs.declared.range.InRange.{InRange}
 use Rattle.archive_digest.specs.Periods.{IsPeriodOf}
 use Rattle.archive_digest.specs.declared.period.Period.TheVariants.{Day}
 use Rattle.archive_digest.proofs.Civils.{key, key_rises, month_most}
 use Rattle.archive_digest.proofs.Names.{one_name}
-use Rattle.store_reading.specs.Days.{HasInstant, IsDayBelow, IsDayText, IsFrom, IsOf}
+use Rattle.store_reading.specs.Days.{HasInstant, IsDayBelow, IsDayText, IsFrom, IsOf, IsUpTo}
+use Rattle.store_reading.specs.Ranges.{MayMeet}
 
 -- ---- the date of an instant
 
@@ -302,7 +304,44 @@ named_order t a b x y first second h =
     subst (λ (u : List ℕ). IsTrue t ↔ IsDayBelow u y) first (subst (λ (v : List ℕ). IsTrue t ↔ IsDayBelow a v) second h)
 
 -- a test that a day is `undated` failed
-pub not_undated : (t : Bool) (day undated : List ℕ) → IsTrue t ↔ (day ≡ undated) → undated ≡ codes "undated" → t ≡ false
-    → day ≢ codes "undated"
-not_undated true day undated says is off same = absurd (cc off)
-not_undated false day undated says is off same = false≢true (says.1 (same ∙ sym is))
+pub not_undated : (t : Bool) (day : List ℕ) → IsTrue t ↔ (day ≡ codes "undated") → t ≡ false → day ≢ codes "undated"
+not_undated true day says off same = absurd (cc off)
+not_undated false day says off same = false≢true (says.1 same)
+
+-- ---- days that may have a record in a range
+
+some_all : (o : Option ℤ) (P : ℤ → Type 0) → ((x : ℤ) → P x) → IfSome o P
+some_all None P p = tt
+some_all (Some x) P p = p x
+
+pub undated_meets : (range : InRange) (day : List ℕ) (kept : Bool) → IsDayText day → day ≡ codes "undated"
+    → not kept ≡ false → (kept ≡ true → IsInRange range.from range.to range.undated None) → MayMeet range day
+undated_meets range day true named is off inside = record {
+  dated = named;
+  undated = λ same. inside refl;
+  from = some_all range.from (λ (f : ℤ). HasInstant day → ¬ (IsUpTo f day))
+      (λ f has. absurd (undated_apart day is has));
+  to = some_all range.to (λ (t : ℤ). HasInstant day → ¬ (IsFrom t day)) (λ t has. absurd (undated_apart day is has));
+}
+undated_meets range day false named is off inside = absurd (cc off)
+
+pub day_meets : (range : InRange) (day : List ℕ) → IsDayText day → day ≢ codes "undated"
+    → IfSome range.from (λ (f : ℤ). HasInstant day → ¬ (IsUpTo f day))
+    → IfSome range.to (λ (t : ℤ). HasInstant day → ¬ (IsFrom t day)) → MayMeet range day
+day_meets range day named not from to =
+    record { dated = named; undated = λ is. absurd (not is); from = from; to = to }
+
+-- a day that is not before that of an instant
+pub not_up_to : (f : ℤ) (day d : List ℕ) → IsPeriodOf Day (Some f) d → ¬ (IsDayBelow day d) → HasInstant day
+    → ¬ (IsUpTo f day)
+not_up_to f day d lies late (i, of) before =
+    elim (day_total day d) [
+      | inl below ↦ late below
+      | inr (inl same) ↦
+          let less : f <ℤ f = before f (subst (IsPeriodOf Day (Some f)) (sym same) lies) in
+          absurd (omega (arith, signed_arith, less))
+      | inr (inr above) ↦
+          let later : f <ℤ i = instant_order (Some f) (Some i) d day lies of above in
+          let less : i <ℤ f = before i of in
+          absurd (omega (arith, signed_arith, later, less))
+    ]

@@ -18,7 +18,7 @@ use Rattle.store_reading.specs.Folders.{AreNamesOf}
 use Rattle.store_reading.specs.Journals.{IsOfJournals, JournalsHave}
 use Rattle.store_reading.specs.Names.{IsFirstDay, IsNextDay}
 use Rattle.store_reading.specs.Parts.{IsParted, PartsAt}
-use Rattle.store_reading.specs.Sets.{WritesDay, WritesDays, WritesPart, WritesPartOfDay, WritesSet}
+use Rattle.store_reading.specs.Sets.{IsArchiveText, WritesDay, WritesDays, WritesPart, WritesPartOfDay, WritesSet}
 use Rattle.store_reading.proofs.DayOrders.{day_text, some_day}
 use Rattle.store_reading.proofs.NextDays.{HeadAfter, head_after}
 use Rattle.store_reading.proofs.Written.{NoneBefore, all_written, day_stopped, day_written, days_cut, nothing_written}
@@ -152,6 +152,15 @@ pub read_cut : (files : Files) (range : InRange) (last : Option (List ℕ)) (res
     → AreRead files range last rest old new → WritesPart files range old new
 read_cut files range last rest old new r =
     days_cut files range last r.js r.more old new r.writes r.archive r.have r.head
+
+-- the day's part of the journals' entries
+pub part_archive : (files : Files) (range : InRange) (last : Option (List ℕ)) (rest : List ℕ) (old new : Option (List ℕ))
+    → AreRead files range last rest old new → (day : List ℕ) (at : ℕ) (text : List ℕ) → PartsAt day rest at
+    → text ≡ take at rest → IsArchiveText text
+part_archive files range last rest old new r day at text parts is =
+    let archive = archive_right ENTRY_MAX r.js r.more r.archive in
+    let p = parts r.more archive r.rest_is in
+    (p.front, archive_left ENTRY_MAX p.front p.back (subst (IsArchive ENTRY_MAX) p.parts archive), is ∙ p.first)
 
 -- before anything was written
 pub nothing_part : (files : Files) (range : InRange) (old : Option (List ℕ)) → WritesPart files range old old

@@ -1,4 +1,6 @@
 pub mod Batched
+pub mod Causing
+pub mod Damaged
 pub mod DayOrders
 pub mod DaysRead
 pub mod Faulted
@@ -8,6 +10,7 @@ pub mod Nearest
 pub mod NextDays
 pub mod Parted
 pub mod Ranged
+pub mod Readable
 pub mod SameSets
 pub mod SegmentNames
 pub mod Segments

@@ -1,5 +1,5 @@
 -- The days that segments are named by.
-use Rattle.std.specs.Prelude.{◌≡◌, ◌⊎◌, ℕ, ◌<◌, ℤ, ◌≤ℤ◌, List, Option, None, Some, codes, length}
+use Rattle.std.specs.Prelude.{◌≡◌, ◌⊎◌, ℕ, ◌<◌, ℤ, ◌<ℤ◌, ◌≤ℤ◌, List, Option, None, Some, codes, length}
 use Rattle.syslog_value.specs.Order.{OctetsBelow}
 use Rattle.archive_text.specs.Entries.{Entry}
 use Rattle.archive_digest.specs.Periods.{IsIn, IsPeriodOf}
@@ -29,3 +29,7 @@ HasInstant day = (i : ℤ) × IsPeriodOf Day (Some i) day
 -- all instants of a day are from this one on
 abbrev pub IsFrom : ℤ → List ℕ → Type 0
 IsFrom bound day = (i : ℤ) → IsPeriodOf Day (Some i) day → bound ≤ℤ i
+
+-- all instants of a day are before this one
+abbrev pub IsUpTo : ℤ → List ℕ → Type 0
+IsUpTo bound day = (i : ℤ) → IsPeriodOf Day (Some i) day → i <ℤ bound

@@ -3,6 +3,8 @@ use Rattle.std.specs.Prelude.{◌≡◌, ◌⊎◌, ℕ, ◌+◌, List, [], ◌�
 use Rattle.archive_join.specs.declared.fault.JoinFault.{JoinFault}
 use Rattle.archive_join.specs.declared.fault.JoinFault.TheVariants.{Archive, Read, Endless, Write, Memory}
 use Rattle.archive_streams.specs.declared.fault.InputFault.TheVariants.{Device, Endless as No_end}
+use Rattle.archive_streams.specs.declared.fault.SideFault.{SideFault}
+use Rattle.archive_streams.specs.declared.fault.SideFault.TheVariants.{Archive as side_Archive, Input as side_Input}
 use Rattle.record_store.specs.Names.{IsSegment}
 use Rattle.store_reading.specs.declared.fault.CheckFault.{CheckFault}
 use Rattle.store_reading.specs.declared.fault.CheckFault.TheVariants.{Damaged, Input, Memory as No_memory}
@@ -10,6 +12,11 @@ use Rattle.store_reading.specs.declared.fault.FileFault.TheVariants.{Archive as 
 use Rattle.store_reading.specs.declared.fault.ReadFault.{ReadFault}
 use Rattle.store_reading.specs.declared.fault.ReadFault.TheVariants.{Damaged as Is_damaged, Read as Not_read, Gone}
 use Rattle.store_reading.specs.declared.fault.ReadFault.TheVariants.{Write as Not_written, Memory as Out_of_memory}
+
+-- why no entry of a file comes next
+abbrev pub check_fault_of : SideFault → CheckFault
+check_fault_of (side_Archive fault) = Damaged (No_archive fault)
+check_fault_of (side_Input fault) = Input fault
 
 -- the fault of a file is told for the file of this name
 abbrev pub IsFaultAt : List ℕ → CheckFault → ReadFault → Type 0

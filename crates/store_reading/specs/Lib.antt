@@ -1,3 +1,5 @@
+pub mod Causes
+pub mod Damages
 pub mod Days
 pub mod Faults
 pub mod Folders

@@ -41,6 +41,10 @@ pub record AreOfDay (files : Files) (day : List ℕ) (xs : List Entry) (ds : Lis
   pub inputs : AreArchives ds entries
   pub have : (e : Entry) → IsHeld entries e ↔ IsInDay files day xs e
 
+-- a text is that of an archive
+abbrev pub IsArchiveText : List ℕ → Type 0
+IsArchiveText text = (xs : List Entry) × IsArchive ENTRY_MAX xs × (text ≡ text_of xs)
+
 -- the same of the archive that a text is
 abbrev pub AreInputsOf : Files → List ℕ → List ℕ → List InputState → Type 0
 AreInputsOf files day text ds = (xs : List Entry) → IsArchive ENTRY_MAX xs → text ≡ text_of xs

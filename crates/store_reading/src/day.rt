@@ -96,6 +96,14 @@ impl Day {
         self.as_octets() == other.as_octets()
     }
 
+    /// Whether it is the day of records without a time.
+    pub(crate) fn is_undated(&self) -> bool
+        ensures undated { IsTrue result ↔ (self.now ≡ codes "undated") }
+        ensures day { IsDayText self.now }
+    {
+        self.as_octets() == b"undated".as_slice()
+    }
+
     /// Whether it comes before another: `undated` before all dates.
     pub fn is_before(&self, other: &Day) -> bool
         ensures { IsTrue result ↔ IsDayBelow self.now other.now }

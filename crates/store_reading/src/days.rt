@@ -1,10 +1,11 @@
 //! The days of a folder, one behind the other.
-ghost use Rattle.std.specs.Prelude.{◌≡◌, ◌≤◌, ◌↔◌, ℕ, ℤ, List, IfNone, IfSome, IsSomeAnd, IsTrue, length, option_map};
+ghost use Rattle.std.specs.Prelude.{◌≡◌, ◌≤◌, ◌↔◌, ℕ, ℤ, List, false, IfNone, IfSome, IsSomeAnd, IsTrue, length, option_map};
 ghost use Rattle.archive_text.specs.Entries.{Entry};
 ghost use Rattle.archive_join.specs.Ranges.{IsOfRange};
 ghost use Rattle.store_reading.specs.Days.{HasInstant, IsAfter, IsFrom, IsOf};
 ghost use Rattle.store_reading.specs.Names.{AddsDay, AddsName, IsFirstDay, IsNextDay, IsNextSegment};
 ghost use Rattle.store_reading.specs.Parts.{BeginsApart, BeginsWithDay, PartsAt};
+ghost use Rattle.store_reading.specs.Ranges.{MayMeet};
 
 use crate::day::Day;
 use crate::names::segment_day;
@@ -128,8 +129,9 @@ fn is_from(to: Instant, day: &Day) -> bool
 pub(crate) fn is_outside(range: &InRange, day: &Day) -> bool
     ensures none { IsTrue result → (e : Entry) → IsOf day.now e → ¬ (IsOfRange range.now e) }
     ensures behind { IfSome range.now.to (λ (to : ℤ). HasInstant day.now → IsFrom to day.now → IsTrue result) }
+    ensures inside { result ≡ false → MayMeet range.now day.now }
 {
-    if day.is(&Day::undated()) {
+    if day.is_undated() {
         return !range.holds(&EntryView {
             instant: None,
             octets: b"",

@@ -91,9 +91,10 @@ impl From<AllocError> for CheckFault {
 }
 
 impl From<EntriesFault> for CheckFault {
-    ghost use Rattle.std.specs.Prelude.{⊤};
+    ghost use Rattle.std.specs.Prelude.{◌≡◌};
+    ghost use Rattle.store_reading.specs.Faults.{check_fault_of};
 
-    ghost from_gives = { λ _ _. ⊤ };
+    ghost from_gives = { λ fault wrapped. wrapped ≡ check_fault_of fault };
 
     fn from(fault: EntriesFault) -> CheckFault {
         match fault {

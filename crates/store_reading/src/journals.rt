@@ -1,10 +1,13 @@
 //! The entries of journals.
-ghost use Rattle.std.specs.Prelude.{◌≡◌, ◌++◌, IfNone, IfOk, IfSome, OnOk};
+ghost use Rattle.std.specs.Prelude.{◌≡◌, ◌≤◌, ◌++◌, IfErr, IfNone, IfOk, IfSome, IsSome, List, ℕ, OnOk, length};
 ghost use Rattle.journal.specs.Batches.{IsBody, IsClosed, open_batch};
 ghost use Rattle.archive_text.specs.Entries.{IsEntry};
 ghost use Rattle.archive_text.specs.EntryViews.{entry_of};
 ghost use Rattle.archive_text.specs.Text.{IsArchive, text_of};
 ghost use Rattle.record_store.specs.Holdings.{BatchHas, IsReadable, IsWholeJournal, JournalHas};
+ghost use Rattle.record_store.specs.Names.{IsJournal};
+ghost use Rattle.store_reading.specs.Causes.{IsCause, IsListedJournal, file_causes};
+ghost use Rattle.store_reading.specs.Damages.{IsDamagedBatch, IsDamagedJournal, IsFirstFault, OfLeft, Tells};
 ghost use Rattle.store_reading.specs.Folders.{AreNamesOf};
 ghost use Rattle.store_reading.specs.Journals.{Adds, AddsFirst, AddsJournal, GivesAll, HasAsJournal, IsOfJournals};
 ghost use Rattle.store_reading.specs.Journals.{NamedJournalsHave};
@@ -34,9 +37,11 @@ const HEAD: usize = 5;
 
 // Adds an entry to a set.
 fn add_entry(alloc: Global, set: &mut PagedArchive, entry: &EntryView<'_>) -> Result<(), CheckFault>
-    requires { IsEntry (entry_of entry.now) }
-    ensures { OnOk result (Adds (set_entries set.old)
+    requires entry { IsEntry (entry_of entry.now) }
+    requires fits { length entry.now.octets.now ≤ ENTRY_MAX }
+    ensures adds { OnOk result (Adds (set_entries set.old)
         (set_entries set.new) (λ e. entry_of entry.now ≡ e)) }
+    ensures memory { IfErr result (λ fault. fault ≡ CheckFault.Memory) }
 {
     let Ok(shown) = view(entry.octets) else {
         return Err(CheckFault::Damaged(FileFault::Archive(ArchiveFault::NotCanonical { at: 0 })));
@@ -57,8 +62,9 @@ fn add_first<'a>(
     text: &'a [u8],
     at: u64,
 ) -> Result<&'a [u8], CheckFault>
-    ensures { IfOk result (λ behind. AddsFirst text.now behind.now (set_entries set.old)
+    ensures adds { IfOk result (λ behind. AddsFirst text.now behind.now (set_entries set.old)
         (set_entries set.new)) }
+    ensures damaged { IfErr result (λ fault. Tells fault (IsFirstFault text.now at)) }
 {
     match read_entry(ENTRY_MAX as u64, text) {
         Ok((entry, behind)) => {
@@ -78,6 +84,7 @@ fn add_batch(
 ) -> Result<(), CheckFault>
     ensures adds { OnOk result (Adds (set_entries set.old) (set_entries set.new) (BatchHas body.now)) }
     ensures whole { OnOk result (IsReadable body.now) }
+    ensures damaged { IfErr result (λ fault. Tells fault (IsDamagedBatch body.now offset)) }
 {
     let mut rest = body;
     'entries: while !rest.is_empty() {
@@ -103,6 +110,7 @@ pub fn first_batch(octets: &[u8]) -> Option<(&[u8], &[u8])>
 fn add_batches(alloc: Global, set: &mut PagedArchive, file: &[u8]) -> Result<(), CheckFault>
     ensures adds { OnOk result (Adds (set_entries set.old) (set_entries set.new) (JournalHas file.now)) }
     ensures whole { OnOk result (IsWholeJournal file.now) }
+    ensures damaged { IfErr result (λ fault. Tells fault (IsDamagedJournal file.now)) }
 {
     let mut rest = file;
     'batches: while let Some((body, behind)) = first_batch(rest) {
@@ -118,7 +126,8 @@ fn add_batches(alloc: Global, set: &mut PagedArchive, file: &[u8]) -> Result<(),
 /// # Errors
 /// The reader failed, gave no end, or gave more than 2^40 octets; or lack of memory.
 pub fn read_octets<R: Input>(alloc: Global, reader: &mut R) -> Result<Vec<u8>, CheckFault>
-    ensures { IfOk result (λ v. GivesAll (R.state reader.old) (R.state reader.new) v.items) }
+    ensures given { IfOk result (λ v. GivesAll (R.state reader.old) (R.state reader.new) v.items) }
+    ensures not_damaged { IfErr result (λ fault. Tells fault (λ damage. ⊥)) }
 {
     match read_all(alloc, reader, JOURNAL_MAX) {
         Ok(octets) => {
@@ -141,6 +150,8 @@ fn add_octets<R: Input>(
     ensures adds { OnOk result (AddsJournal (R.state reader.old) (set_entries set.old)
         (set_entries set.new)) }
     ensures whole { OnOk result (IfSome (R.state reader.old).left IsWholeJournal) }
+    ensures damaged { IfErr result (λ fault. OfLeft (R.state reader.old) (λ file.
+        Tells fault (IsDamagedJournal file))) }
 {
     let octets = read_octets(alloc, reader)?;
     add_batches(alloc, set, &octets)
@@ -159,6 +170,8 @@ fn add_journal<F: Folder>(
         → IsWholeJournalAt (F.files folder.old) name.now) }
     ensures same { F.tells folder.new → F.files folder.new ≡ F.files folder.old }
     ensures told { F.tells folder.new → F.tells folder.old }
+    ensures cause { IfErr result (IsCause (file_causes (F.tells folder.new) (F.has_failed folder.new)
+        (F.files folder.old) (λ (n : List ℕ). (n ≡ name.now) × IsJournal n) IsDamagedJournal)) }
 {
     if !is_journal(name.as_octets()) {
         return Ok(());
@@ -184,6 +197,8 @@ fn add_journals<F: Folder>(
         → NamedJournalsAreWhole (F.files folder.old) names.now) }
     ensures same { F.tells folder.new → F.files folder.new ≡ F.files folder.old }
     ensures told { F.tells folder.new → F.tells folder.old }
+    ensures cause { IfErr result (IsCause (file_causes (F.tells folder.new) (F.has_failed folder.new)
+        (F.files folder.old) (IsListedJournal names.now) IsDamagedJournal)) }
 {
     'names: for name in names {
         add_journal(alloc, folder, name, set)?;
@@ -195,6 +210,7 @@ fn add_journals<F: Folder>(
 fn set_text(alloc: Global, set: &PagedArchive) -> Result<Vec<u8>, ReadFault>
     ensures text { IfOk result (λ v. v.items ≡ text_of (set_entries set.now)) }
     ensures archive { IsArchive ENTRY_MAX (set_entries set.now) }
+    ensures memory { IfErr result (λ fault. fault ≡ ReadFault.Memory) }
 {
     let mut text = ToWrite::new(Vec::new(alloc));
     match set.write(&mut text) {
@@ -210,6 +226,10 @@ pub(crate) fn read_journals<F: Folder>(alloc: Global, folder: &mut F) -> Result<
     ensures whole { OnOk result (F.tells folder.new → JournalsAreWhole (F.files folder.old)) }
     ensures same { F.tells folder.new → F.files folder.new ≡ F.files folder.old }
     ensures told { F.tells folder.new → F.tells folder.old }
+    ensures cause { IfErr result (IsCause (file_causes (F.tells folder.new) (F.has_failed folder.new)
+        (F.files folder.old)
+        (λ (n : List ℕ). IsJournal n × (F.tells folder.new → IsSome (F.files folder.old n)))
+        IsDamagedJournal)) }
 {
     'listings: for _ in 0..LISTINGS {
         let names = list(alloc, folder)?;

@@ -1,5 +1,6 @@
 //! Which names a folder has.
-ghost use Rattle.std.specs.Prelude.{◌≡◌, IfOk};
+ghost use Rattle.std.specs.Prelude.{◌≡◌, IfErr, IfOk};
+ghost use Rattle.store_reading.specs.Causes.{IsCause, list_causes};
 ghost use Rattle.store_reading.specs.Folders.{AreNamesOf};
 
 use crate::fault::ReadFault;
@@ -15,6 +16,7 @@ fn list_once<F: Folder>(alloc: Global, folder: &mut F) -> Result<Vec<FileName>, 
     ensures names { F.tells folder.new → IfOk result (λ v. AreNamesOf (F.files folder.old) v.items) }
     ensures same { F.tells folder.new → F.files folder.new ≡ F.files folder.old }
     ensures told { F.tells folder.new → F.tells folder.old }
+    ensures cause { IfErr result (IsCause (list_causes (F.has_failed folder.new))) }
 {
     match folder.names(alloc) {
         Ok(mut names) => {
@@ -46,6 +48,7 @@ pub fn list<F: Folder>(alloc: Global, folder: &mut F) -> Result<Vec<FileName>, R
     ensures names { F.tells folder.new → IfOk result (λ v. AreNamesOf (F.files folder.old) v.items) }
     ensures same { F.tells folder.new → F.files folder.new ≡ F.files folder.old }
     ensures told { F.tells folder.new → F.tells folder.old }
+    ensures cause { IfErr result (IsCause (list_causes (F.has_failed folder.new))) }
 {
     let mut names = list_once(alloc, folder)?;
     'listings: for _ in 0..LISTINGS {

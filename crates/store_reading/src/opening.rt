@@ -1,6 +1,8 @@
 //! The segments of a day are opened.
-ghost use Rattle.std.specs.Prelude.{◌≡◌, ◌↔◌, IfOk, IsTrue, OnOk, map};
+ghost use Rattle.std.specs.Prelude.{◌≡◌, ◌↔◌, IfErr, IfOk, IsTrue, List, ℕ, OnOk, map};
 ghost use Rattle.record_store.specs.Names.{IsSegment};
+ghost use Rattle.store_reading.specs.Causes.{IsCause, IsListedSegment, file_causes};
+ghost use Rattle.store_reading.specs.Damages.{IsDamagedSegment};
 ghost use Rattle.store_reading.specs.Folders.{AreNamesOf};
 ghost use Rattle.store_reading.specs.Segments.{AddsSegment, AreSegmentsOf};
 ghost use Rattle.store_reading.specs.Sources.{source_state};
@@ -42,6 +44,9 @@ fn open_named<F: Folder>(
         → IsWholeSegmentAt (F.files folder.old) day.now name.now) }
     ensures same { F.tells folder.new → F.files folder.new ≡ F.files folder.old }
     ensures told { F.tells folder.new → F.tells folder.old }
+    ensures cause { IfErr result (IsCause (file_causes (F.tells folder.new) (F.has_failed folder.new)
+        (F.files folder.old) (λ (n : List ℕ). (n ≡ name.now) × IsSegment day.now n)
+        (IsDamagedSegment day.now))) }
 {
     if !is_segment_of(name.as_octets(), day) {
         return Ok(());
@@ -68,6 +73,8 @@ pub fn open_segments<'a, F: Folder>(
         → NamedSegmentsAreWhole (F.files folder.old) names.now day.now) }
     ensures same { F.tells folder.new → F.files folder.new ≡ F.files folder.old }
     ensures told { F.tells folder.new → F.tells folder.old }
+    ensures cause { IfErr result (IsCause (file_causes (F.tells folder.new) (F.has_failed folder.new)
+        (F.files folder.old) (IsListedSegment names.now day.now) (IsDamagedSegment day.now))) }
 {
     let mut inputs = Vec::new(alloc);
     'names: for name in names {
@@ -92,6 +99,9 @@ pub(crate) fn open_day<'a, F: Folder>(
         → AreNamesOf (F.files folder.old) names.new.items }
     ensures same { F.tells folder.new → F.files folder.new ≡ F.files folder.old }
     ensures told { F.tells folder.new → F.tells folder.old }
+    ensures cause { IfErr result (IsCause (file_causes (F.tells folder.new) (F.has_failed folder.new)
+        (F.files folder.old) (IsListedSegment names.new.items day.now)
+        (IsDamagedSegment day.now))) }
 {
     'listings: for _ in 0..LISTINGS {
         match open_segments(alloc, folder, names, day) {

@@ -1,9 +1,11 @@
 //! The archive of what a folder holds is written.
-ghost use Rattle.std.specs.Prelude.{◌≡◌, IfOk, MatchResult, OnOk, map};
+ghost use Rattle.std.specs.Prelude.{◌≡◌, IfErr, IfOk, MatchResult, OnOk, map};
+ghost use Rattle.store_reading.specs.Causes.{IsCause, IsListedSegment, WriterFailures, file_causes, reading_causes};
+ghost use Rattle.store_reading.specs.Damages.{IsDamagedSegment};
 ghost use Rattle.store_reading.specs.Faults.{IsFaultOfInput, IsJoinFault};
 ghost use Rattle.store_reading.specs.Folders.{AreNamesOf};
 ghost use Rattle.store_reading.specs.Journals.{IsOfJournals};
-ghost use Rattle.store_reading.specs.Sets.{AreInputsOf, DayOutcome, WritesPart, WritesSet};
+ghost use Rattle.store_reading.specs.Sets.{AreInputsOf, DayOutcome, IsArchiveText, WritesPart, WritesSet};
 ghost use Rattle.store_reading.specs.Sources.{source_state};
 ghost use Rattle.store_reading.specs.Whole.{DaysAreWhole, IsWholeIn, MeetsRange, SegmentsAreWhole};
 
@@ -103,6 +105,9 @@ fn day_inputs<'a, F: Folder>(
         → AreNamesOf (F.files folder.old) names.new.items }
     ensures same { F.tells folder.new → F.files folder.new ≡ F.files folder.old }
     ensures told { F.tells folder.new → F.tells folder.old }
+    ensures cause { IfErr result (IsCause (file_causes (F.tells folder.new) (F.has_failed folder.new)
+        (F.files folder.old) (IsListedSegment names.new.items day.now)
+        (IsDamagedSegment day.now))) }
 {
     let mut inputs = open_day(alloc, folder, names, day)?;
     inputs.push(Source::Octets(FromRead::new(text)))?;
@@ -129,6 +134,11 @@ fn read_day<F: Folder, W: Output>(
         → AreNamesOf (F.files folder.old) names.new.items }
     ensures same { F.tells folder.new → F.files folder.new ≡ F.files folder.old }
     ensures told { F.tells folder.new → F.tells folder.old }
+    ensures cause { IfErr result (IsCause (reading_causes
+        (F.tells folder.new × AreNamesOf (F.files folder.old) names.old.items × IsArchiveText text.now)
+        (F.has_failed folder.new) (F.files folder.old) kept.now.range)) }
+    ensures writer { WriterFailures result (W.state writer.old).failures
+        (W.state writer.new).failures }
 {
     if is_outside(&kept.range, day) {
         return Ok(());
@@ -160,6 +170,12 @@ fn read_days<F: Folder, W: Output>(
         → DaysAreWhole (F.files folder.old) kept.now.range) }
     ensures same { F.tells folder.new → F.files folder.new ≡ F.files folder.old }
     ensures told { F.tells folder.new → F.tells folder.old }
+    ensures cause { IfErr result (IsCause (reading_causes
+        (F.tells folder.new × AreNamesOf (F.files folder.old) names.old.items
+        × IsOfJournals (F.files folder.old) text.now)
+        (F.has_failed folder.new) (F.files folder.old) kept.now.range)) }
+    ensures writer { WriterFailures result (W.state writer.old).failures
+        (W.state writer.new).failures }
 {
     let mut rest = text;
     let mut last: Option<Day> = None;
@@ -199,6 +215,15 @@ pub fn read<F: Folder, W: Output>(
 
     // no damaged file is passed over
     ensures whole { OnOk result (F.tells folder.new → IsWholeIn (F.files folder.old) range) }
+
+    // a fault is told only of a file that is read, and damage as it is; of the folder's fault, only
+    // where it failed
+    ensures cause { IfErr result (IsCause (reading_causes (F.tells folder.new)
+        (F.has_failed folder.new) (F.files folder.old) range)) }
+
+    // the writer's fault just where the writer failed
+    ensures writer { WriterFailures result (W.state writer.old).failures
+        (W.state writer.new).failures }
 
     ensures same { F.tells folder.new → F.files folder.new ≡ F.files folder.old }
     ensures told { F.tells folder.new → F.tells folder.old }

@@ -1,5 +1,9 @@
 //! A segment is read.
-ghost use Rattle.std.specs.Prelude.{◌≡◌, IfOk, OnOk};
+ghost use Rattle.std.specs.Prelude.{◌≡◌, IfErr, IfOk, List, ℕ, OnOk, length};
+ghost use Rattle.syslog_frame.specs.Frames.{framed};
+ghost use Rattle.syslog_frame.specs.declared.framing.Framing.TheVariants.{Counted};
+ghost use Rattle.store_reading.specs.Causes.{IsCause, file_causes, open_causes};
+ghost use Rattle.store_reading.specs.Damages.{IsDamagedSegment, OfLeft, Tells, position};
 ghost use Rattle.store_reading.specs.Folders.{IsUnused, Opens};
 ghost use Rattle.store_reading.specs.Segments.{IsSegmentInput, IsWholeOf};
 
@@ -13,7 +17,9 @@ use octet_devices::Input;
 use std::alloc::Global;
 
 // The number of octets of the text of an entry.
-fn text_len(octets: &[u8]) -> u64 {
+fn text_len(octets: &[u8]) -> u64
+    ensures { result ≡ position (length (framed Counted octets.now)) }
+{
     let count = Buffer::new().format(octets.len()).len() as u64;
     (octets.len() as u64).saturating_add(count.saturating_add(1))
 }
@@ -24,7 +30,9 @@ pub(crate) fn check_segment<R: Input>(
     day: &Day,
     reader: &mut R,
 ) -> Result<(), CheckFault>
-    ensures { OnOk result (IsWholeOf day.now (R.state reader.old) (R.state reader.new)) }
+    ensures whole { OnOk result (IsWholeOf day.now (R.state reader.old) (R.state reader.new)) }
+    ensures damaged { IfErr result (λ fault. OfLeft (R.state reader.old) (λ file.
+        Tells fault (IsDamagedSegment day.now file))) }
 {
     let mut entries = ArchiveEntries::new(alloc)?;
     let mut at: u64 = 0;
@@ -52,6 +60,7 @@ pub fn open_file<F: Folder>(
     ensures unused { IfOk result (λ file. IsUnused (F.File.state file)) }
     ensures same { F.tells folder.new → F.files folder.new ≡ F.files folder.old }
     ensures told { F.tells folder.new → F.tells folder.old }
+    ensures cause { IfErr result (IsCause (open_causes (F.has_failed folder.new) name.now)) }
 {
     match folder.open(alloc, name) {
         Ok(file) => Ok(file),
@@ -75,6 +84,8 @@ pub(crate) fn open_segment<F: Folder>(
         IsSegmentInput (F.files folder.old) name.now day.now (F.File.state file)) }
     ensures same { F.tells folder.new → F.files folder.new ≡ F.files folder.old }
     ensures told { F.tells folder.new → F.tells folder.old }
+    ensures cause { IfErr result (IsCause (file_causes (F.tells folder.new) (F.has_failed folder.new)
+        (F.files folder.old) (λ (n : List ℕ). n ≡ name.now) (IsDamagedSegment day.now))) }
 {
     let mut file = open_file(alloc, folder, name)?;
     match check_segment(alloc, day, &mut file) {

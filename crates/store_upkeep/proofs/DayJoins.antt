@@ -33,10 +33,11 @@ use Rattle.store_reading.specs.Folders.{IsUnused, Opens}
 use Rattle.store_reading.specs.Segments.{AreArchives, AreSegmentsOf, IsArchiveInput, IsSegmentInput, NamesHave}
 use Rattle.store_reading.proofs.Held.{day_held, no_name}
 use Rattle.store_reading.proofs.Joined.{rest_of, whole_rest}
+use Rattle.store_reading.specs.Damages.{OfLeft}
+use Rattle.store_reading.proofs.Damaged.{file_is}
 use Rattle.store_upkeep.specs.Compaction.{AreDayNames, AreListed, IsJoinOf, MayBePlaced, shown}
-use Rattle.store_upkeep.specs.Damages.{IsHashed, OfLeft}
+use Rattle.store_upkeep.specs.Damages.{IsHashed}
 use Rattle.store_upkeep.specs.Whole.{IsWholeAt, IsWholeSegment}
-use Rattle.store_upkeep.proofs.Hashed.{file_is}
 use Rattle.store_upkeep.proofs.Verdicts.{day_named}
 
 -- ---- names

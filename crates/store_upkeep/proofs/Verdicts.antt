@@ -11,8 +11,9 @@ use Rattle.record_store.specs.Names.{IsJournal, IsSegment}
 use Rattle.record_store.proofs.Named.{not_both}
 use Rattle.store_reading.specs.Days.{IsDayText}
 use Rattle.store_reading.specs.Folders.{AreNamesOf, Opens}
+use Rattle.store_reading.specs.Damages.{OfLeft}
 use Rattle.store_upkeep.specs.Damages.{AddsTo, AreAsTold, AreDamaged, IsDamageOf, IsFoundBy, IsJournalDamage}
-use Rattle.store_upkeep.specs.Damages.{IsSegmentDamage, IsToldAt, IsVerdict, IsWholeOrListed, OfLeft, Refutes, Tells}
+use Rattle.store_upkeep.specs.Damages.{IsSegmentDamage, IsToldAt, IsVerdict, IsWholeOrListed, Refutes, Tells}
 use Rattle.store_upkeep.specs.Damages.{names_of}
 use Rattle.store_upkeep.specs.Whole.{IsDamagedAt, IsWholeAt, IsWholeFile, IsWholeSegment}
 use Rattle.record_store.specs.Holdings.{IsWholeJournal}

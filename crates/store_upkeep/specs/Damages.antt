@@ -1,5 +1,5 @@
 -- What is wrong with files.
-use Rattle.std.specs.Prelude.{◌≡◌, ◌≢◌, ◌⊎◌, ℕ, ◌+◌, ◌-◌, ◌^◌, min, List, [], ◌∷◌, ◌++◌, Option, None, Some, IsNone}
+use Rattle.std.specs.Prelude.{◌≡◌, ◌≢◌, ◌⊎◌, ℕ, List, ◌++◌, Option, None, Some, IsNone}
 use Rattle.std.specs.Prelude.{IsSomeAnd, Contains, length, map}
 use Rattle.std.specs.List.{AllByRecursion}
 use Rattle.disk.specs.States.{Files}
@@ -8,20 +8,16 @@ use Rattle.sha2.specs.Hashers.{Holds256}
 use Rattle.sha2.specs.Sha256.{sha256}
 use Rattle.sha2.specs.declared.Sha256.{Sha256}
 use Rattle.octet_devices.specs.Device.{InputState}
-use Rattle.archive_text.specs.Entries.{Entry}
-use Rattle.archive_text.specs.Faults.{IsArchiveFault, IsFaultBefore}
-use Rattle.archive_text.specs.Positions.{later}
+use Rattle.archive_text.specs.Faults.{IsArchiveFault}
 use Rattle.archive_text.specs.Text.{text_of}
-use Rattle.archive_text.specs.declared.fault.ArchiveFault.{ArchiveFault}
 use Rattle.archive_text.specs.declared.limits.TheConstants.{ENTRY_MAX}
 use Rattle.archive_streams.specs.declared.entries.ArchiveEntries.{ArchiveEntries}
 use Rattle.archive_streams.specs.declared.fault.SideFault.{SideFault}
 use Rattle.archive_streams.specs.declared.fault.SideFault.TheVariants.{Archive as side_Archive, Input as side_Input}
-use Rattle.journal.specs.Batches.{IsBody, batches_text, open_batch}
-use Rattle.record_store.specs.Holdings.{IsBatch, IsReadable}
 use Rattle.record_store.specs.Names.{IsJournal, IsSegment}
 use Rattle.record_store.specs.Segments.{IsArchiveOfDay, segment_name}
-use Rattle.store_reading.specs.Days.{IsDayText, IsOf}
+use Rattle.store_reading.specs.Damages.{IsJournalFault, IsOtherDayAt, position}
+use Rattle.store_reading.specs.Days.{IsDayText}
 use Rattle.store_reading.specs.Folders.{Opens}
 use Rattle.store_reading.specs.Segments.{IsWholeOf, ReadsOf}
 use Rattle.store_reading.specs.declared.fault.FileFault.{FileFault}
@@ -55,20 +51,6 @@ Tells (Damaged damage) claim = claim damage
 Tells (Input fault) claim = Unit {0}
 Tells Memory claim = Unit {0}
 
--- a position in a file, kept at its largest value
-abbrev pub position : ℕ → ℕ
-position n = min n (2 ^ 64 - 1)
-
--- an entry of another day begins at a position of a segment, behind entries of the day
-pub record IsOtherDayAt (day file : List ℕ) (at : ℕ) : Type 0 where
-  pub before : List Entry
-  pub entry : Entry
-  pub behind : List ℕ
-  pub parts : file ≡ text_of (before ++ entry ∷ []) ++ behind
-  pub days : AllByRecursion (IsOf day) before
-  pub other : ¬ (IsOf day entry)
-  pub place : at ≡ position (length (text_of before))
-
 -- octets are not the archive of entries of a day: there is a fault in them, or an entry of another day
 abbrev pub IsArchiveDamage : List ℕ → List ℕ → Damage → Type 0
 IsArchiveDamage day file (Archive fault) = IsArchiveFault ENTRY_MAX file fault
@@ -81,28 +63,6 @@ IsSegmentDamage day name file (Archive fault) = IsArchiveDamage day file (Archiv
 IsSegmentDamage day name file (OtherDay at) = IsArchiveDamage day file (OtherDay at)
 IsSegmentDamage day name file Digest = IsArchiveOfDay day file × (name ≢ segment_name day file)
 
--- a batch, which begins at an offset of its file, is no sequence of entries: behind these ones comes a fault
-pub record IsBatchFault (body : List ℕ) (offset : ℕ) (told : ArchiveFault) : Type 0 where
-  pub entries : List Entry
-  pub rest : List ℕ
-  pub parts : body ≡ text_of entries ++ rest
-  pub before : IsBatch entries (text_of entries)
-  pub fault : ArchiveFault
-  pub is : IsFaultBefore ENTRY_MAX rest fault
-  pub place : told ≡ later (offset + length (text_of entries)) fault
-
--- the fault of the first batch of a journal that is no sequence of entries
-pub record IsJournalFault (file : List ℕ) (told : ArchiveFault) : Type 0 where
-  pub bodies : List (List ℕ)
-  pub readable : AllByRecursion IsReadable bodies
-  pub body : List ℕ
-  pub behind : List ℕ
-  pub fits : IsBody body
-  pub parts : file ≡ batches_text bodies ++ open_batch body ++ behind
-  pub offset : ℕ
-  pub begins : offset + length body + length behind ≡ length file
-  pub fault : IsBatchFault body offset told
-
 -- of a journal only a batch can be damaged
 abbrev pub IsJournalDamage : List ℕ → Damage → Type 0
 IsJournalDamage file (Archive fault) = IsJournalFault file fault
@@ -114,10 +74,6 @@ pub record IsDamageOf (name file : List ℕ) (damage : Damage) : Type 0 where
   pub not_whole : ¬ (IsWholeFile name file)
   pub journal : IsJournal name → IsJournalDamage file damage
   pub segment : (day : List ℕ) → IsDayText day → IsSegment day name → IsSegmentDamage day name file damage
-
--- what an input has left is so, or a fault of it is told
-abbrev pub OfLeft : InputState → (List ℕ → Type 0) → Type 0
-OfLeft d P = (file : List ℕ) → d.left ≡ Some file → P file
 
 -- entries of the day were read and hashed, up to a position
 pub record HashesOf (day : List ℕ) (s : ArchiveEntries) (hasher : Sha256) (at : ℕ) (d e : InputState) : Type 0 where

@@ -1,3 +1,4 @@
+pub mod Causes
 pub mod Compaction
 pub mod Damages
 pub mod Faults

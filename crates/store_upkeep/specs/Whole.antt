@@ -25,8 +25,3 @@ IsWholeAt files name = (file : List ℕ) → files name ≡ Some file → IsWhol
 -- there is one, and it is not whole
 abbrev pub IsDamagedAt : Files → List ℕ → Type 0
 IsDamagedAt files name = IsSomeAnd (files name) (λ file. ¬ (IsWholeFile name file))
-
--- the one is so exactly where the other is
-pub record IsAsGood (one other : Type 0) : Type 0 where
-  pub there : one → other
-  pub back : other → one

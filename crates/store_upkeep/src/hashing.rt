@@ -5,7 +5,7 @@ ghost use Rattle.sha2.specs.Hashers.{Holds256};
 ghost use Rattle.sha2.specs.Sha256.{sha256};
 ghost use Rattle.syslog_frame.specs.Frames.{framed};
 ghost use Rattle.syslog_frame.specs.declared.framing.Framing.TheVariants.{Counted};
-ghost use Rattle.store_upkeep.specs.Damages.{position};
+ghost use Rattle.store_reading.specs.Damages.{position};
 
 use itoa::Buffer;
 use sha2::{Digest, Sha256};

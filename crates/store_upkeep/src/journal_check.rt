@@ -1,6 +1,7 @@
 //! A journal is checked.
 ghost use Rattle.std.specs.Prelude.{◌+◌, ◌<◌, ◌^◌, IfErr, OnErr, OnOk, length};
-ghost use Rattle.store_upkeep.specs.Damages.{IsBatchFault, IsJournalDamage, IsJournalFault, OfLeft, Refutes, Tells};
+ghost use Rattle.store_reading.specs.Damages.{IsBatchFault, IsJournalFault, OfLeft};
+ghost use Rattle.store_upkeep.specs.Damages.{IsJournalDamage, Refutes, Tells};
 ghost use Rattle.record_store.specs.Holdings.{IsReadable, IsWholeJournal};
 
 use crate::damage::{CheckFault, Damage};

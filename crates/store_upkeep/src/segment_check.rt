@@ -2,7 +2,8 @@
 ghost use Rattle.std.specs.Prelude.{IfErr, IfOk, List, ℕ, OnOk};
 ghost use Rattle.archive_text.specs.Entries.{Entry};
 ghost use Rattle.record_store.specs.Segments.{IsArchiveOfDay, IsSegmentOf};
-ghost use Rattle.store_upkeep.specs.Damages.{IsArchiveDamage, IsHashed, IsSegmentDamage, OfLeft, Refutes, Tells};
+ghost use Rattle.store_reading.specs.Damages.{OfLeft};
+ghost use Rattle.store_upkeep.specs.Damages.{IsArchiveDamage, IsHashed, IsSegmentDamage, Refutes, Tells};
 ghost use Rattle.store_upkeep.specs.Whole.{IsWholeSegment};
 
 use crate::damage::{CheckFault, Damage};

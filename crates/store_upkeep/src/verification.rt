@@ -1,7 +1,9 @@
 //! All files of a store's folder are read.
-ghost use Rattle.std.specs.Prelude.{◌≡◌, Contains, IfOk, IsTrue, List, ℕ, OnOk};
+ghost use Rattle.std.specs.Prelude.{◌≡◌, Contains, IfErr, IfOk, IsTrue, List, ℕ, OnOk};
 ghost use Rattle.record_store.specs.Names.{IsJournal, IsSegment};
+ghost use Rattle.store_reading.specs.Causes.{IsCause, open_causes};
 ghost use Rattle.store_reading.specs.Days.{IsDayText};
+ghost use Rattle.store_upkeep.specs.Causes.{IsCounted, IsCountedFile, IsListedFile, check_causes};
 ghost use Rattle.store_upkeep.specs.Damages.{AddsTo, AreAsTold, AreDamaged, IsFoundBy, IsVerdict, IsWholeOrListed};
 ghost use Rattle.store_upkeep.specs.Damages.{OpensOrNone};
 
@@ -34,6 +36,7 @@ fn open_listed<F: Folder>(
         OpensOrNone F.File.state found (F.files folder.old) name.now) }
     ensures same { F.tells folder.new → F.files folder.new ≡ F.files folder.old }
     ensures told { F.tells folder.new → F.tells folder.old }
+    ensures cause { IfErr result (IsCause (open_causes (F.has_failed folder.new) name.now)) }
 {
     'openings: for _ in 0..OPENINGS {
         match open_file(alloc, folder, name) {
@@ -51,7 +54,8 @@ fn open_listed<F: Folder>(
 
 // What the check of a file found, or why the file was not read.
 fn found_by(alloc: Global, name: &FileName, fault: CheckFault) -> Result<Option<Damage>, ReadFault>
-    ensures { IfOk result (IsFoundBy fault) }
+    ensures found { IfOk result (IsFoundBy fault) }
+    ensures cause { IfErr result (IsCause (open_causes ⊥ name.now)) }
 {
     match fault {
         CheckFault::Damaged(damage) => Ok(Some(damage)),
@@ -74,6 +78,7 @@ fn check_segment_file<F: Folder>(
         IfOk result (λ found. IsVerdict found (F.files folder.old) name.now) }
     ensures same { F.tells folder.new → F.files folder.new ≡ F.files folder.old }
     ensures told { F.tells folder.new → F.tells folder.old }
+    ensures cause { IfErr result (IsCause (open_causes (F.has_failed folder.new) name.now)) }
 {
     let Some(mut file) = open_listed(alloc, folder, name)? else {
         return Ok(None);
@@ -94,6 +99,7 @@ fn check_journal_file<F: Folder>(
         IfOk result (λ found. IsVerdict found (F.files folder.old) name.now) }
     ensures same { F.tells folder.new → F.files folder.new ≡ F.files folder.old }
     ensures told { F.tells folder.new → F.tells folder.old }
+    ensures cause { IfErr result (IsCause (open_causes (F.has_failed folder.new) name.now)) }
 {
     let Some(mut file) = open_listed(alloc, folder, name)? else {
         return Ok(None);
@@ -114,6 +120,8 @@ fn check_file<F: Folder>(
         IfOk result (λ found. IsVerdict found (F.files folder.old) name.now) }
     ensures same { F.tells folder.new → F.files folder.new ≡ F.files folder.old }
     ensures told { F.tells folder.new → F.tells folder.old }
+    ensures cause { IfErr result (IsCause (check_causes (F.has_failed folder.new)
+        (λ (n : List ℕ). (n ≡ name.now) × IsCounted n))) }
 {
     if let Some(day) = segment_day(name.as_octets()) {
         return check_segment_file(alloc, folder, name, &day);
@@ -140,6 +148,8 @@ fn verify_file<F: Folder>(
     ensures added { AddsTo damaged.old.items damaged.new.items }
     ensures same { F.tells folder.new → F.files folder.new ≡ F.files folder.old }
     ensures told { F.tells folder.new → F.tells folder.old }
+    ensures cause { IfErr result (IsCause (check_causes (F.has_failed folder.new)
+        (λ (n : List ℕ). (n ≡ name.now) × IsCounted n))) }
 {
     let Some(damage) = check_file(alloc, folder, name)? else {
         return Ok(());
@@ -165,6 +175,8 @@ fn verify_files<F: Folder>(
     ensures added { AddsTo damaged.old.items damaged.new.items }
     ensures same { F.tells folder.new → F.files folder.new ≡ F.files folder.old }
     ensures told { F.tells folder.new → F.tells folder.old }
+    ensures cause { IfErr result (IsCause (check_causes (F.has_failed folder.new)
+        (IsListedFile names.now))) }
 {
     'names: for name in names {
         verify_file(alloc, folder, name, damaged)?;
@@ -200,6 +212,11 @@ pub fn verify<F: Folder>(
 
     // what was in the list stays, and what is added stands behind it
     ensures added { AddsTo damaged.old.items damaged.new.items }
+
+    // a fault is told only of a file that is read, the folder's only where it failed, and never
+    // damage
+    ensures cause { IfErr result (IsCause (check_causes (F.has_failed folder.new)
+        (IsCountedFile (F.tells folder.new) (F.files folder.old)))) }
 
     ensures same { F.tells folder.new → F.files folder.new ≡ F.files folder.old }
     ensures told { F.tells folder.new → F.tells folder.old }

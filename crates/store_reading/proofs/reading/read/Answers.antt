@@ -5,6 +5,7 @@ use Rattle.archive_sets.proofs.Stops.{failed_outcome}
 use Rattle.store_reading.specs.Folders.{AreNamesOf}
 use Rattle.store_reading.specs.Journals.{IsOfJournals}
 use Rattle.store_reading.specs.Sets.{WritesPart, WritesSet}
+use Rattle.store_reading.proofs.Causing.{reading_result}
 use Rattle.store_reading.proofs.DaysRead.{nothing_part}
 use Rattle.store_reading.specs.Whole.{DaysAreWhole}
 use Rattle.store_reading.proofs.Whole.{on_ok_more}
@@ -48,3 +49,28 @@ returns-clause-whole g c = on_ok_more c.read_days.result (λ whole t.
           (subst (λ (f : Files). AreNamesOf f c.in_ok-names.names.items) (sym (c.in_ok-names.ensures.same listing))
           (c.in_ok-names.ensures.names listing)));
     }) c.read_days.ensures.whole
+
+pub returns-clause-cause : goal.returns-clause-cause
+returns-clause-cause g c =
+    let files = g.F.Folder.files c.args.folder.now in
+    let mid = g.F.Folder.files c.list.new.folder in
+    let told = g.F.Folder.tells c.read_days.new.folder in
+    let failed = g.F.Folder.has_failed c.read_days.new.folder in
+    let names = c.in_ok-names.names.items in
+    let text = c.deref.result.now in
+    reading_result told (told × AreNamesOf mid names × IsOfJournals mid text) failed mid files c.args.range
+    c.read_days.result
+    (λ t.
+    let listing = c.read_days.ensures.told t in
+    let before = c.in_ok-names.ensures.told listing in
+    let same = c.in_ok-names.ensures.same listing ∙ c.in_ok-text.ensures.same before in (
+      t,
+      subst (λ (f : Files). AreNamesOf f names) (sym (c.in_ok-names.ensures.same listing))
+          (c.in_ok-names.ensures.names listing),
+      subst (IsOfJournals mid) (sym c.deref.ensures.value)
+          (subst (λ (f : Files). IsOfJournals f c.in_ok-text.text.items) (sym same) (c.in_ok-text.ensures.journals before)),
+    ))
+    (λ t.
+    let listing = c.read_days.ensures.told t in
+    let before = c.in_ok-names.ensures.told listing in
+    c.in_ok-names.ensures.same listing ∙ c.in_ok-text.ensures.same before) c.read_days.ensures.cause

@@ -2,10 +2,13 @@ use Rattle.std.proofs.Common.{List, ℕ, Option, refl, sym, subst, ◌∙◌}
 use Rattle.std.specs.Option.{option_map}
 use Rattle.disk.specs.States.{Files}
 use Rattle.archive_sets.proofs.Stops.{failed_outcome}
+use Rattle.store_reading.specs.Causes.{IsCause, reading_causes}
 use Rattle.store_reading.specs.Folders.{AreNamesOf}
+use Rattle.store_reading.specs.Journals.{IsOfJournals}
 use Rattle.store_reading.specs.Names.{IsNextDay}
-use Rattle.store_reading.specs.Sets.{WritesDay, WritesPartOfDay}
-use Rattle.store_reading.proofs.DaysRead.{begun, copied_is, read_all, read_cut, read_more, read_part}
+use Rattle.store_reading.specs.Sets.{IsArchiveText, WritesDay, WritesPartOfDay}
+use Rattle.store_reading.proofs.Causing.{at_err, reading_still, writer_on}
+use Rattle.store_reading.proofs.DaysRead.{begun, copied_is, part_archive, read_all, read_cut, read_more, read_part}
 use Rattle.store_reading.specs.Whole.{SegmentsAreWhole}
 use Rattle.store_reading.proofs.Whole.{days_more_whole, days_whole}
 use Rattle.store_reading.proofs.reading.read_days.Goals as goal
@@ -17,6 +20,7 @@ days-init g c = record {
   names = λ t listed. listed;
   read = λ t listed j. begun (g.F.Folder.files c.args.folder.now) c.args.kept.now.range c.args.text.now
       (g.W.Output.state c.args.writer.now).taken j;
+  writer = refl;
   whole = λ t listed day not. absurd (not tt);
 }
 
@@ -63,6 +67,7 @@ days-preserved g c =
           (λ xs up is of. subst (λ (f : Files). WritesDay f range c.in-Some.day xs mid new) (i.same before)
           (c.in_ok-read_day.ensures.outcome t (subst (λ (f : Files). AreNamesOf f names) (sym (i.same before))
           (i.names before listed)) xs up is of));
+      writer = c.in_ok-read_day.ensures.writer ∙ i.writer;
       whole = λ t listed. let before = c.read_day.ensures.told t in
           days_more_whole files range c.days.last names rest c.next_day.result next (i.names before listed)
           (i.whole before listed) c.in-Some.day c.in-Some.is
@@ -110,3 +115,34 @@ returns-in_default-clause-whole g c t listed =
     c.deref.ensures.value c.next_day.ensures) in
     days_whole (g.F.Folder.files c.args.folder.now) c.args.kept.now.range c.days.last names rest c.next_day.result next
     (i.names t listed) (i.whole t listed) c.in_default.is
+
+pub returns-in_err-read_day-clause-cause : goal.returns-in_err-read_day-clause-cause
+returns-in_err-read_day-clause-cause g c =
+    let i = c.days.invariant in
+    let files = g.F.Folder.files c.args.folder.now in
+    let mid = g.F.Folder.files c.days.folder in
+    let told = g.F.Folder.tells c.read_day.new.folder in
+    let failed = g.F.Folder.has_failed c.read_day.new.folder in
+    let range = c.args.kept.now.range in
+    let of_day = c.split_at.result.0.now in
+    at_err c.from_residual.result c.in_err-read_day.field-0.0
+    (IsCause (reading_causes
+    (told × AreNamesOf files c.args.names.now.items × IsOfJournals files c.args.text.now) failed files range))
+    c.from_residual.ensures.1
+    (reading_still (told × AreNamesOf files c.args.names.now.items × IsOfJournals files c.args.text.now)
+    (told × AreNamesOf mid c.days.names.items × IsArchiveText of_day) failed mid files range
+    (λ t.
+    let before = c.read_day.ensures.told t.0 in (
+      t.0,
+      subst (λ (f : Files). AreNamesOf f c.days.names.items) (sym (i.same before)) (i.names before t.1),
+      part_archive files range c.days.last c.days.rest.now (g.W.Output.state c.args.writer.now).taken
+          (g.W.Output.state c.days.writer).taken (i.read before t.1 t.2) c.in-Some.day c.day_len.result of_day
+          c.day_len.ensures.parts c.split_at.ensures.front,
+    ))
+    (λ t. i.same (c.read_day.ensures.told t.0)) c.in_err-read_day.field-0.0 c.in_err-read_day.ensures.cause)
+
+pub returns-in_err-read_day-clause-writer : goal.returns-in_err-read_day-clause-writer
+returns-in_err-read_day-clause-writer g c =
+    writer_on c.from_residual.result c.in_err-read_day.field-0.0 (g.W.Output.state c.args.writer.now).failures
+    (g.W.Output.state c.days.writer).failures (g.W.Output.state c.read_day.new.writer).failures
+    c.from_residual.ensures.1 c.days.invariant.writer c.in_err-read_day.ensures.writer

@@ -15,6 +15,7 @@ invariant-days g l = record {
       → IsOfJournals (g.F.Folder.files l.fn.folder) l.text
       → AreRead (g.F.Folder.files l.fn.folder) l.kept.range l.last l.rest
       (g.W.Output.state l.fn.writer).taken (g.W.Output.state l.writer).taken;
+  writer : (g.W.Output.state l.writer).failures ≡ (g.W.Output.state l.fn.writer).failures;
   whole : g.F.Folder.tells l.folder → AreNamesOf (g.F.Folder.files l.fn.folder) l.fn.names.items
       → EarlierAreWhole (g.F.Folder.files l.fn.folder) l.kept.range l.last;
 }

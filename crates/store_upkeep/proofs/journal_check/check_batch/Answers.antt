@@ -1,7 +1,7 @@
 use Rattle.std.proofs.Common.{◌<◌, arith, length, rules}
 use Rattle.record_store.specs.Holdings.{IsReadable}
-use Rattle.store_upkeep.proofs.Readable.{as_good, batch_fault, good_then, readable_first, reads_begin, reads_more}
-use Rattle.store_upkeep.proofs.Readable.{unreadable}
+use Rattle.store_reading.proofs.Readable.{as_good, batch_fault, good_then, readable_first, reads_begin, reads_more}
+use Rattle.store_reading.proofs.Readable.{unreadable}
 use Rattle.store_upkeep.proofs.journal_check.check_batch.Goals as goal
 
 pub entries-init : goal.entries-init

@@ -1,7 +1,6 @@
 use Rattle.std.proofs.Common.{length}
-use Rattle.store_upkeep.specs.Whole.{IsAsGood}
 use Rattle.record_store.specs.Holdings.{IsReadable}
-use Rattle.store_upkeep.proofs.Readable.{IsReadUpTo}
+use Rattle.store_reading.proofs.Readable.{IsAsGood, IsReadUpTo}
 use Rattle.store_upkeep.proofs.journal_check.check_batch.Given as goal
 
 abbrev pub invariant-entries : goal.invariant-entries

@@ -1,7 +1,7 @@
 use Rattle.std.proofs.Common.{arith}
 use Rattle.record_store.specs.Holdings.{IsWholeJournal}
-use Rattle.store_upkeep.proofs.Readable.{as_good, checks_begin, checks_more, good_then, journal_fault, whole_first}
-use Rattle.store_upkeep.proofs.Readable.{whole_parts}
+use Rattle.store_reading.proofs.Readable.{as_good, checks_begin, checks_more, good_then, journal_fault, whole_first}
+use Rattle.store_reading.proofs.Readable.{whole_parts}
 use Rattle.store_upkeep.proofs.journal_check.check_batches.Goals as goal
 
 pub batches-init : goal.batches-init

@@ -1,7 +1,6 @@
 use Rattle.std.proofs.Common.{length}
-use Rattle.store_upkeep.specs.Whole.{IsAsGood}
 use Rattle.record_store.specs.Holdings.{IsWholeJournal}
-use Rattle.store_upkeep.proofs.Readable.{IsCheckedUpTo}
+use Rattle.store_reading.proofs.Readable.{IsAsGood, IsCheckedUpTo}
 use Rattle.store_upkeep.proofs.journal_check.check_batches.Given as goal
 
 abbrev pub invariant-batches : goal.invariant-batches

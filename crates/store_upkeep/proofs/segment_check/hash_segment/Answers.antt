@@ -5,11 +5,13 @@ use Rattle.sha2.specs.Hashers.{Holds256}
 use Rattle.std.proofs.Common.{List, ℕ, ◌++◌, length, ◌∙◌}
 use Rattle.syslog_frame.specs.Frames.{framed}
 use Rattle.syslog_frame.specs.declared.framing.Framing.TheVariants.{Counted}
-use Rattle.store_upkeep.specs.Damages.{IsArchiveDamage, Refutes, Tells, position}
+use Rattle.store_reading.specs.Damages.{position}
+use Rattle.store_reading.proofs.Damaged.{other_day, other_day_at}
+use Rattle.store_upkeep.specs.Damages.{IsArchiveDamage, Refutes, Tells}
 use Rattle.record_store.specs.Segments.{IsArchiveOfDay}
 use Rattle.store_upkeep.specs.declared.damage.CheckFault.{CheckFault}
 use Rattle.store_reading.proofs.Segments.{of_found}
-use Rattle.store_upkeep.proofs.Hashed.{hashes_more, hashes_none, hashes_whole, other_day, other_day_at}
+use Rattle.store_upkeep.proofs.Hashed.{hashes_more, hashes_none, hashes_whole}
 use Rattle.store_upkeep.proofs.Hashed.{stopped, stopped_told}
 use Rattle.store_upkeep.proofs.segment_check.hash_segment.Goals as goal
 

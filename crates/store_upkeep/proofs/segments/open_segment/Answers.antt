@@ -1,5 +1,5 @@
 use Rattle.std.proofs.Common.{List, ℕ, subst, ◌∙◌}
-use Rattle.store_upkeep.specs.Damages.{OfLeft}
+use Rattle.store_reading.specs.Damages.{OfLeft}
 use Rattle.store_upkeep.specs.Whole.{IsWholeSegment}
 use Rattle.store_upkeep.specs.Compaction.{shown}
 use Rattle.store_upkeep.proofs.DayJoins.{input_result, on_ok}

@@ -1,5 +1,6 @@
 use Rattle.std.proofs.Common.{List, ℕ, subst}
-use Rattle.store_upkeep.specs.Damages.{IsSegmentDamage, OfLeft, Refutes, Tells}
+use Rattle.store_reading.specs.Damages.{OfLeft}
+use Rattle.store_upkeep.specs.Damages.{IsSegmentDamage, Refutes, Tells}
 use Rattle.store_upkeep.specs.Whole.{IsWholeSegment}
 use Rattle.store_upkeep.proofs.Verdicts.{segment_verdict, segment_whole_at}
 use Rattle.store_upkeep.proofs.verification.check_segment_file.Goals as goal
@@ -21,4 +22,4 @@ returns-clause-verdict g c tells text segment =
     c.as_octets.ensures.value c.in-Err.ensures.damaged)
     (subst (λ (n : List ℕ). OfLeft d (λ file. Tells c.in-Err.fault (IsSegmentDamage day n file)))
     c.as_octets.ensures.value c.in-Err.ensures.told)
-    c.found_by.ensures
+    c.found_by.ensures.found

@@ -1,8 +1,12 @@
-use Rattle.std.proofs.Common.{◌∷◌, ◌++◌, [], List, ℕ, ap, refl, subst, sym, take, ◌∙◌}
+use Rattle.std.proofs.Common.{◌≡◌, ◌∷◌, ◌++◌, [], List, ℕ, ap, refl, subst, sym, take, ◌∙◌}
 use Rattle.std.specs.Prelude.{Contains}
 use Rattle.std.proofs.lemmas.List.{take_all, take_more}
+use Rattle.std.proofs.lemmas.List.Elements.{Contains-get_or}
 use Rattle.disk.specs.States.{Files}
+use Rattle.store_reading.specs.Causes.{IsCause}
+use Rattle.store_reading.proofs.Causing.{at_err, cause_weaker}
 use Rattle.store_reading.proofs.Held.{no_name}
+use Rattle.store_upkeep.specs.Causes.{IsCounted, IsListedFile, check_causes}
 use Rattle.store_upkeep.specs.Damages.{AreAsTold, AreDamaged, IsWholeOrListed}
 use Rattle.store_upkeep.proofs.Verdicts.{adds_none, adds_stays, adds_then, listed_on, names_more}
 use Rattle.store_upkeep.proofs.verification.verify_files.Goals as goal
@@ -73,3 +77,17 @@ returns-clause-listed g c t name has =
     c.names.invariant.listed t name
     (subst (λ (l : List (List ℕ)). Contains l name) (sym (take_all c.names.name-index c.args.names.now c.names-test.false))
     has)
+
+pub returns-in_err-verify_file-clause-cause : goal.returns-in_err-verify_file-clause-cause
+returns-in_err-verify_file-clause-cause g c =
+    let failed = g.F.Folder.has_failed c.verify_file.new.folder in
+    let names = c.args.names.now in
+    let name = c.name-item.result in
+    let listed : Contains names name = subst (Contains names) (sym c.name-item.is)
+    (Contains-get_or names c.names.name-index name c.names-test.true) in
+    at_err c.from_residual.result c.in_err-verify_file.field-0.0 (IsCause (check_causes failed (IsListedFile names)))
+    c.from_residual.ensures.1
+    (cause_weaker (check_causes failed (λ (n : List ℕ). (n ≡ name) × IsCounted n))
+    (check_causes failed (IsListedFile names)) (λ same. same)
+    (λ n is. (subst (Contains names) (sym is.0) listed, is.1)) (λ n damage none. none) (λ none. none)
+    c.in_err-verify_file.field-0.0 c.in_err-verify_file.ensures.cause)

@@ -19,8 +19,12 @@ use Rattle.archive_text.proofs.Prefixes.{fault_excludes}
 use Rattle.archive_text.proofs.Members.{all_append}
 use Rattle.archive_text.proofs.Texts.{entry_carries, one_beginning, text_goes_on, text_some}
 use Rattle.record_store.specs.Holdings.{IsBatch, IsReadable, IsWholeJournal}
-use Rattle.store_upkeep.specs.Damages.{IsBatchFault, IsJournalFault}
-use Rattle.store_upkeep.specs.Whole.{IsAsGood}
+use Rattle.store_reading.specs.Damages.{IsBatchFault, IsJournalFault}
+
+-- the one is so exactly where the other is
+pub record IsAsGood (one other : Type 0) : Type 0 where
+  pub there : one → other
+  pub back : other → one
 
 pub as_good : (A : Type 0) → IsAsGood A A
 as_good A = record { there = λ a. a; back = λ a. a }

@@ -1,0 +1,106 @@
+-- What is wrong with the octets of files.
+use Rattle.std.specs.Prelude.{◌≡◌, ℕ, ◌+◌, ◌-◌, ◌<◌, ◌^◌, min, List, [], ◌∷◌, ◌++◌, Some, length}
+use Rattle.std.specs.List.{AllByRecursion}
+use Rattle.octet_devices.specs.Device.{InputState}
+use Rattle.archive_text.specs.Entries.{Entry}
+use Rattle.archive_text.specs.Faults.{IsArchiveFault, IsFaultBefore}
+use Rattle.archive_text.specs.Positions.{later, position_of}
+use Rattle.archive_text.specs.Text.{text_of}
+use Rattle.archive_text.specs.declared.fault.ArchiveFault.{ArchiveFault}
+use Rattle.archive_text.specs.declared.limits.TheConstants.{ENTRY_MAX}
+use Rattle.journal.specs.Batches.{IsBody, batches_text, open_batch}
+use Rattle.record_store.specs.Holdings.{IsBatch, IsReadable, IsWholeJournal}
+use Rattle.record_store.specs.Segments.{IsArchiveOfDay}
+use Rattle.store_reading.specs.Days.{IsOf}
+use Rattle.store_reading.specs.declared.fault.CheckFault.{CheckFault}
+use Rattle.store_reading.specs.declared.fault.CheckFault.TheVariants.{Damaged, Input, Memory}
+use Rattle.store_reading.specs.declared.fault.FileFault.{FileFault}
+use Rattle.store_reading.specs.declared.fault.FileFault.TheVariants.{Archive, OtherDay}
+
+-- what a fault says of the damage that it tells
+abbrev pub Tells : CheckFault → (FileFault → Type 0) → Type 0
+Tells (Damaged fault) claim = claim fault
+Tells (Input fault) claim = Unit {0}
+Tells Memory claim = Unit {0}
+
+-- what an input has left is so
+abbrev pub OfLeft : InputState → (List ℕ → Type 0) → Type 0
+OfLeft d P = (file : List ℕ) → d.left ≡ Some file → P file
+
+-- a position in a file, kept at its largest value
+abbrev pub position : ℕ → ℕ
+position n = min n (2 ^ 64 - 1)
+
+-- ---- segments
+
+-- an entry of another day begins at a position of a segment, behind entries of the day
+pub record IsOtherDayAt (day file : List ℕ) (at : ℕ) : Type 0 where
+  pub before : List Entry
+  pub entry : Entry
+  pub behind : List ℕ
+  pub parts : file ≡ text_of (before ++ entry ∷ []) ++ behind
+  pub days : AllByRecursion (IsOf day) before
+  pub other : ¬ (IsOf day entry)
+  pub place : at ≡ position (length (text_of before))
+
+-- octets are not the archive of entries of a day: there is a fault in them, or an entry of another day
+abbrev pub IsArchiveDamage : List ℕ → List ℕ → FileFault → Type 0
+IsArchiveDamage day file (Archive fault) = IsArchiveFault ENTRY_MAX file fault
+IsArchiveDamage day file (OtherDay at) = IsOtherDayAt day file at
+
+-- the octets of a segment of a day are damaged so
+pub record IsDamagedSegment (day file : List ℕ) (fault : FileFault) : Type 0 where
+  pub not_whole : ¬ (IsArchiveOfDay day file)
+  pub told : IsArchiveDamage day file fault
+
+-- ---- journals
+
+-- a text begins with no entry, and the fault is told so many octets later
+pub record IsFirstFault (text : List ℕ) (at : ℕ) (told : FileFault) : Type 0 where
+  pub fault : ArchiveFault
+  pub is : IsFaultBefore ENTRY_MAX text fault
+  pub later_fault : ArchiveFault
+  pub told_is : told ≡ Archive later_fault
+  pub place : at + position_of fault < 2 ^ 64 → later_fault ≡ later at fault
+
+-- a batch, which begins at an offset of its file, is no sequence of entries: behind these ones comes a fault
+pub record IsBatchFault (body : List ℕ) (offset : ℕ) (told : ArchiveFault) : Type 0 where
+  pub entries : List Entry
+  pub rest : List ℕ
+  pub parts : body ≡ text_of entries ++ rest
+  pub before : IsBatch entries (text_of entries)
+  pub fault : ArchiveFault
+  pub is : IsFaultBefore ENTRY_MAX rest fault
+  pub place : told ≡ later (offset + length (text_of entries)) fault
+
+-- the fault of the first batch of a journal that is no sequence of entries
+pub record IsJournalFault (file : List ℕ) (told : ArchiveFault) : Type 0 where
+  pub bodies : List (List ℕ)
+  pub readable : AllByRecursion IsReadable bodies
+  pub body : List ℕ
+  pub behind : List ℕ
+  pub fits : IsBody body
+  pub parts : file ≡ batches_text bodies ++ open_batch body ++ behind
+  pub offset : ℕ
+  pub begins : offset + length body + length behind ≡ length file
+  pub fault : IsBatchFault body offset told
+
+-- of a batch an entry can be damaged, and its day is no matter
+abbrev pub IsBatchDamage : List ℕ → ℕ → FileFault → Type 0
+IsBatchDamage body offset (Archive fault) = IsBatchFault body offset fault
+IsBatchDamage body offset (OtherDay at) = ⊥
+
+-- of a journal only a batch can be damaged
+abbrev pub IsJournalDamage : List ℕ → FileFault → Type 0
+IsJournalDamage file (Archive fault) = IsJournalFault file fault
+IsJournalDamage file (OtherDay at) = ⊥
+
+-- a batch, which begins at an offset of its file, is damaged so
+pub record IsDamagedBatch (body : List ℕ) (offset : ℕ) (fault : FileFault) : Type 0 where
+  pub not_readable : ¬ (IsReadable body)
+  pub told : offset + length body < 2 ^ 64 → IsBatchDamage body offset fault
+
+-- the octets of a journal are damaged so
+pub record IsDamagedJournal (file : List ℕ) (fault : FileFault) : Type 0 where
+  pub not_whole : ¬ (IsWholeJournal file)
+  pub told : IsJournalDamage file fault
