@@ -20,11 +20,9 @@ use Rattle.syslog_collect.specs.declared.outcome.Outcome.TheVariants.{BadCount}
 use Rattle.collect_engine.specs.Receiving.{HearsReceived, IfNotMemory, Logged, ReceivesAs}
 use Rattle.collect_engine.specs.declared.receiving.Received.{Received}
 use Rattle.collect_engine.specs.declared.receiving.Received.TheVariants as received
-use Rattle.serve_engine.specs.Keepings.{Kept}
-use Rattle.serve_engine.specs.Refusals.{KeepsEach, KeepsEvent, KeepsFrames, KeepsNext, KeepsNone, KeepsPiece}
-use Rattle.serve_engine.specs.Refusals.{KeepsRefused, KeepsStep, kept_in}
-use Rattle.serve_engine.specs.Serving.{Accepts, IsAccepted, Manner, manner_of}
-use Rattle.serve_engine.specs.declared.intake.Intake.{Intake}
+use Rattle.serve_engine.specs.Events.{IsAccepted, Manner}
+use Rattle.serve_engine.specs.Refusals.{KeepsEach, KeepsFrames, KeepsNext, KeepsNone, KeepsPiece}
+use Rattle.serve_engine.specs.Refusals.{kept_in}
 use Rattle.serve_engine.specs.declared.report.Report.{Report}
 use Rattle.serve_engine.specs.declared.turn.Turn.{Turn}
 
@@ -327,20 +325,3 @@ pub each_more : (octets : List ℕ) (os : List Outcome) (o : Outcome) (x y z : O
 each_more octets [] o x y z same next =
     (z, subst (λ (u : OutputState × ℕ). KeepsNext u o (Some octets) z) same next, refl)
 each_more octets (p ∷ ps) o x y z (mid, one, more) next = (mid, one, each_more octets ps o mid y z more next)
-
--- ---- events that have no frame
-
-pub kept_none : {S K : Type 0} (entries : S → List Entry) (stands : K → Kept → Type 0) (old new : Intake S K)
-    (e : AcceptedEvent) (lost : Bool) (t : Turn) (was now : OutputState × ℕ)
-    → ((way : Manner) (before here : List AcceptedEvent) (taken : IsAccepted way before e here lost t)
-    → KeepsEvent e taken was now)
-    → Accepts entries stands old new e lost t → KeepsRefused entries stands old new e t was now
-kept_none entries stands old new e lost t was now keeps accepts k first before at none =
-    let d = accepts k first before at none in
-    (lost, d.0, d.1, d.2, keeps (manner_of old.collector) before d.0 d.2)
-
-pub kept_step : {S K : Type 0} (entries : S → List Entry) (stands : K → Kept → Type 0) (old new : Intake S K)
-    (q : Option AcceptedEvent) (e : AcceptedEvent) (t : Turn) (was now : OutputState × ℕ) → q ≡ Some e
-    → KeepsRefused entries stands old new e t was now → KeepsStep entries stands old new q t was now
-kept_step entries stands old new q e t was now is kept =
-    subst (λ (o : Option AcceptedEvent). KeepsStep entries stands old new o t was now) (sym is) kept

@@ -1,22 +1,16 @@
 -- Frames that are refused, as they are kept.
 use Rattle.std.specs.Prelude.{◌≡◌, ◌⊎◌, ◌-◌, ◌^◌, ◌<◌, ◌≤◌, ℕ, List, [], ◌∷◌, ◌++◌, length, codes, decimal}
-use Rattle.std.specs.Prelude.{Bool, true, false, Option, Some, None}
+use Rattle.std.specs.Prelude.{Bool, Option, Some, None}
 use Rattle.std.specs.Io.KnownBytes.{Appends}
-use Rattle.archive_text.specs.Entries.{Entry}
 use Rattle.octet_devices.specs.Device.{OutputState}
 use Rattle.collect_engine.specs.Receiving.{HearsReceived, IfNotMemory}
 use Rattle.collect_engine.specs.declared.receiving.Received.TheVariants as received
-use Rattle.syslog_collect.specs.Collectors.{NoneWaits}
 use Rattle.syslog_collect.specs.History.{AcceptedEvent, Opened, Piece, Ended, Datagram, Stream, history_of, stream_of}
 use Rattle.syslog_collect.specs.Observers.{HearsPiece}
 use Rattle.syslog_collect.specs.declared.outcome.Outcome.{Outcome}
 use Rattle.syslog_collect.specs.declared.outcome.Outcome.TheVariants.{New, Held, Refused, RefusedLegacy, TooLong}
 use Rattle.syslog_collect.specs.declared.outcome.Outcome.TheVariants.{BadCount}
-use Rattle.socket_source.specs.Steps.{Given, SourceState}
-use Rattle.serve_engine.specs.Intakes.{StandsBy}
-use Rattle.serve_engine.specs.Keepings.{Kept}
-use Rattle.serve_engine.specs.Serving.{GivesStep, IsAccepted, Manner, event_of, manner_of}
-use Rattle.serve_engine.specs.declared.intake.Intake.{Intake}
+use Rattle.serve_engine.specs.Events.{IsAccepted, Manner}
 use Rattle.serve_engine.specs.declared.report.Report.{Report}
 use Rattle.serve_engine.specs.declared.turn.Turn.{Turn}
 use denote.Bor.{Bor}
@@ -91,25 +85,3 @@ KeepsEvent (Opened c k) taken old new = KeepsNone old new
 KeepsEvent (Piece c octets) taken old new = KeepsFrames taken old new
 KeepsEvent (Ended c) taken old new = KeepsNone old new
 KeepsEvent (Datagram octets) taken old new = KeepsEach octets taken.outcomes old new
-
--- wherever an intake stood, it stands behind what is accepted of an event, and what is refused of that was kept
-abbrev pub KeepsRefused : {S K : Type 0} → (S → List Entry) → (K → Kept → Type 0) → Intake S K → Intake S K
-    → AcceptedEvent → Turn → OutputState × ℕ → OutputState × ℕ → Type 0
-KeepsRefused entries stands old new e turn was now =
-    (k : Kept) (first : List Entry) (before : List AcceptedEvent) → StandsBy entries stands old k first before
-    → NoneWaits old.collector → (lost : Bool) × (here : List AcceptedEvent)
-    × StandsBy entries stands new k first (before ++ here)
-    × (taken : IsAccepted (manner_of old.collector) before e here lost turn) × KeepsEvent e taken was now
-
--- of the event of a step, if it has one
-abbrev pub KeepsStep : {S K : Type 0} → (S → List Entry) → (K → Kept → Type 0) → Intake S K → Intake S K
-    → Option AcceptedEvent → Turn → OutputState × ℕ → OutputState × ℕ → Type 0
-KeepsStep entries stands old new None turn was now = KeepsNone was now
-KeepsStep entries stands old new (Some e) turn was now = KeepsRefused entries stands old new e turn was now
-
--- of the step that a source gave, or, where the disk is full, of none
-abbrev pub KeepsTurn : {S K : Type 0} → (S → List Entry) → (K → Kept → Type 0) → Intake S K → Intake S K → SourceState
-    → SourceState → Bool → Turn → OutputState × ℕ → OutputState × ℕ → Type 0
-KeepsTurn entries stands old new source source_new true turn was now = KeepsNone was now
-KeepsTurn entries stands old new source source_new false turn was now = (g : Given) × (lost : Bool)
-    × GivesStep source source_new g lost × KeepsStep entries stands old new (event_of g.step g.octets) turn was now

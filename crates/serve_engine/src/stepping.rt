@@ -4,12 +4,12 @@ ghost use Rattle.archive_text.specs.Entries.{Entry};
 ghost use Rattle.socket_source.specs.Steps.{Closes};
 ghost use Rattle.syslog_collect.specs.Collectors.{NoneWaits};
 ghost use Rattle.syslog_collect.specs.History.{AcceptedEvent, Datagram, Ended, Opened, Piece};
+ghost use Rattle.serve_engine.specs.Events.{Receives, bad_last, ends_in_bad_count, manner_of, turn_of};
 ghost use Rattle.serve_engine.specs.Intakes.{StandsBy};
 ghost use Rattle.serve_engine.specs.Keepings.{Kept};
-ghost use Rattle.serve_engine.specs.Refusals.{KeepsNone, KeepsRefused, kept_in};
+ghost use Rattle.serve_engine.specs.Refusals.{KeepsNone, kept_in};
 ghost use Rattle.serve_engine.specs.Serving.{Accepts, ClosesLost, CommitsAll, EndsUnlessFull, FaultsAs, IfSettled};
-ghost use Rattle.serve_engine.specs.Serving.{IsCommitTurn, IsEventTurn, Receives, UnlessStopped, bad_last};
-ghost use Rattle.serve_engine.specs.Serving.{ends_in_bad_count, manner_of, turn_of};
+ghost use Rattle.serve_engine.specs.Serving.{IsCommitTurn, IsEventTurn, UnlessStopped};
 ghost use Rattle.serve_engine.specs.declared.serve_end.ServeEnd.TheVariants.{Disk, Memory};
 ghost use Rattle.serve_engine.specs.declared.turn.Turn.TheVariants.{End, On};
 
@@ -75,8 +75,8 @@ impl<S: Store + Drop, K: Keeping<S> + Drop, N: Output + Drop, R: Output + Drop> 
         peer: SocketAddr,
     ) -> Turn
         ensures served { (lost : Bool) × ClosesLost lost (Q.state source.old) (Q.state source.new) conn
-            × Accepts S.entries K.stands self.old.intake self.new.intake (Opened conn framing) lost result }
-        ensures kept { KeepsNone (kept_in R.state self.old.report) (kept_in R.state self.new.report) }
+            × Accepts S.entries K.stands self.old.intake self.new.intake (Opened conn framing) lost result
+            (kept_in R.state self.old.report) (kept_in R.state self.new.report) }
         ensures manner { manner_of self.new.intake.collector ≡ manner_of self.old.intake.collector }
         ensures full { self.new.full ≡ self.old.full }
         ensures turn { IsEventTurn result }
@@ -125,8 +125,7 @@ impl<S: Store + Drop, K: Keeping<S> + Drop, N: Output + Drop, R: Output + Drop> 
         octets: &[u8],
     ) -> Turn
         ensures served { (lost : Bool) × ClosesLost lost (Q.state source.old) (Q.state source.new) conn
-            × Accepts S.entries K.stands self.old.intake self.new.intake (Piece conn octets.now) lost result }
-        ensures kept { KeepsRefused S.entries K.stands self.old.intake self.new.intake (Piece conn octets.now) result
+            × Accepts S.entries K.stands self.old.intake self.new.intake (Piece conn octets.now) lost result
             (kept_in R.state self.old.report) (kept_in R.state self.new.report) }
         ensures manner { manner_of self.new.intake.collector ≡ manner_of self.old.intake.collector }
         ensures full { self.new.full ≡ self.old.full }
@@ -151,9 +150,8 @@ impl<S: Store + Drop, K: Keeping<S> + Drop, N: Output + Drop, R: Output + Drop> 
 
     // A connection has ended.
     pub(crate) fn ended(&mut self, alloc: Global, conn: u32, end: ConnectionEnd) -> Turn
-        ensures served { Accepts S.entries K.stands self.old.intake self.new.intake
-            (Ended conn) false result }
-        ensures kept { KeepsNone (kept_in R.state self.old.report) (kept_in R.state self.new.report) }
+        ensures served { Accepts S.entries K.stands self.old.intake self.new.intake (Ended conn) false result
+            (kept_in R.state self.old.report) (kept_in R.state self.new.report) }
         ensures manner { manner_of self.new.intake.collector ≡ manner_of self.old.intake.collector }
         ensures full { self.new.full ≡ self.old.full }
         ensures turn { IsEventTurn result }
@@ -172,9 +170,7 @@ impl<S: Store + Drop, K: Keeping<S> + Drop, N: Output + Drop, R: Output + Drop> 
         peer: Option<SocketAddr>,
         octets: &[u8],
     ) -> Turn
-        ensures served { Accepts S.entries K.stands self.old.intake self.new.intake
-            (Datagram octets.now) false result }
-        ensures kept { KeepsRefused S.entries K.stands self.old.intake self.new.intake (Datagram octets.now) result
+        ensures served { Accepts S.entries K.stands self.old.intake self.new.intake (Datagram octets.now) false result
             (kept_in R.state self.old.report) (kept_in R.state self.new.report) }
         ensures manner { manner_of self.new.intake.collector ≡ manner_of self.old.intake.collector }
         ensures full { self.new.full ≡ self.old.full }
