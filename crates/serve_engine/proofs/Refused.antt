@@ -20,9 +20,11 @@ use Rattle.syslog_collect.specs.declared.outcome.Outcome.TheVariants.{BadCount}
 use Rattle.collect_engine.specs.Receiving.{HearsReceived, IfNotMemory, Logged, ReceivesAs}
 use Rattle.collect_engine.specs.declared.receiving.Received.{Received}
 use Rattle.collect_engine.specs.declared.receiving.Received.TheVariants as received
+use Rattle.serve_engine.specs.Counts.{octets_counted}
 use Rattle.serve_engine.specs.Events.{IsAccepted, Manner}
 use Rattle.serve_engine.specs.Refusals.{KeepsEach, KeepsFrames, KeepsNext, KeepsNone, KeepsPiece}
-use Rattle.serve_engine.specs.Refusals.{kept_in}
+use Rattle.serve_engine.specs.Refusals.{come, kept_in}
+use Rattle.serve_engine.specs.declared.counts.ServeCounts.{ServeCounts}
 use Rattle.serve_engine.specs.declared.report.Report.{Report}
 use Rattle.serve_engine.specs.declared.turn.Turn.{Turn}
 
@@ -64,22 +66,23 @@ piece_part t m (Some s) octets waited waits log_old log_new x y (os, log, h) = (
 )
 
 pub hears_kept : {N R : Type 0} (state : R → OutputState) (q : Option Stream) (octets : List ℕ) (waited waits : ℕ)
-    (outcomes : List Outcome) (x y : Report N R) (old new : OutputState × ℕ) → kept_in state x ≡ old
+    (outcomes : List Outcome) (x y : Report N R) (old new : OutputState × ServeCounts) → kept_in state x ≡ old
     → kept_in state y ≡ new
     → HearsReceived (λ a p f b. KeepsNext (kept_in state a) p f (kept_in state b)) q octets waited waits outcomes x y
     → HearsReceived KeepsNext q octets waited waits outcomes old new
 hears_kept state q octets waited waits outcomes x y old new was now (n, os, h, same) = (
   n,
   os,
-  subst (λ (u : OutputState × ℕ). HearsPiece KeepsNext q (take n octets) waited waits [] os u new) was
-      (subst (λ (u : OutputState × ℕ). HearsPiece KeepsNext q (take n octets) waited waits [] os (kept_in state x) u)
+  subst (λ (u : OutputState × ServeCounts). HearsPiece KeepsNext q (take n octets) waited waits [] os u new) was
+      (subst (λ (u : OutputState × ServeCounts). HearsPiece KeepsNext q (take n octets) waited waits [] os (kept_in state x) u)
       now (piece_part KeepsNext (kept_in state) q (take n octets) waited waits [] os x y h)),
   same,
 )
 
-pub kept_at : {N R : Type 0} (state : R → OutputState) (x y : Report N R) → x.refused ≡ y.refused
-    → x.counts.dropped ≡ y.counts.dropped → kept_in state x ≡ kept_in state y
-kept_at state x y refused dropped = rw (refused, dropped) refl
+-- octets were counted
+pub kept_at : {N R : Type 0} (state : R → OutputState) (x y : Report N R) (octets : List ℕ) → x.refused ≡ y.refused
+    → x.counts ≡ octets_counted y.counts (length octets) → kept_in state x ≡ come octets (kept_in state y)
+kept_at state x y octets refused counts = rw (refused, counts) refl
 
 -- ---- the frames of a piece that was accepted whole
 
@@ -147,19 +150,19 @@ reported_count way a b fs (o ∷ os) (here, later, mid, is, one, more) = omega (
 )
 
 -- of no frame, nothing is kept
-one_silent : (x y : OutputState × ℕ) (fs : List (List ℕ)) (o : Outcome) → fs ≡ [] → IsTold KeepsNext x fs o y
+one_silent : (x y : OutputState × ServeCounts) (fs : List (List ℕ)) (o : Outcome) → fs ≡ [] → IsTold KeepsNext x fs o y
     → KeepsNone x y
-one_silent x y fs (BadCount at) none (is, kept) = kept
+one_silent x y fs (BadCount at) none (is, kept) = kept.0
 one_silent x y fs New none (f, is, told) = absurd (cc)
 one_silent x y fs Held none (f, is, told) = absurd (cc)
 one_silent x y fs (Refused fault) none (f, is, told) = absurd (cc)
 one_silent x y fs (RefusedLegacy offset) none (f, is, told) = absurd (cc)
 one_silent x y fs TooLong none (f, is, told) = absurd (cc)
 
-silent : (x y : OutputState × ℕ) (fs : List (List ℕ)) (os : List Outcome) → fs ≡ [] → AreTold KeepsNext x fs os y
+silent : (x y : OutputState × ServeCounts) (fs : List (List ℕ)) (os : List Outcome) → fs ≡ [] → AreTold KeepsNext x fs os y
     → KeepsNone x y
 silent x y fs [] none (is, same) =
-    (ap (λ (u : OutputState × ℕ). u.0) same, omega (arith, ap (λ (u : OutputState × ℕ). u.1) same))
+    (ap (λ (u : OutputState × ServeCounts). u.0) same, omega (arith, ap (λ (u : OutputState × ServeCounts). u.1.dropped) same))
 silent x y fs (o ∷ os) none (here, later, mid, is, one, more) =
     let left = first_empty here later (sym none ∙ is) in
     let right : later ≡ [] = first_empty later [] (sym none ∙ is ∙ ap (λ (u : List (List ℕ)). u ++ later) left
@@ -193,7 +196,7 @@ no_more logged fresh more is count = is ∙ ap (λ (u : List (List ℕ)). fresh 
 
 -- where no frame waited, and none waits, and all octets were taken
 kept_octets : (way : FrameReading) (s : Stream) (o : List ℕ) (n waited waits : ℕ) (a b : List Entry)
-    (os told : List Outcome) (x y : OutputState × ℕ) → waited ≡ 0 → LogsOctets way s o waited 0 a b os
+    (os told : List Outcome) (x y : OutputState × ServeCounts) → waited ≡ 0 → LogsOctets way s o waited 0 a b os
     → HearsOctets KeepsNext s (take n o) waited waits told x y → (os ≡ told) ⊎ (os ≡ [])
     → KeepsPiece (Some s) o os x y
 kept_octets way s o n waited waits a b os told x y none l h same =
@@ -211,7 +214,7 @@ kept_octets way s o n waited waits a b os told x y none l h same =
     by_outcomes before all first.0 first.1 same
   where
     piece : (fresh : List (List ℕ)) → l.logged ≡ fresh → l.waiting_before ≡ [] → (outs : List Outcome)
-        (z : OutputState × ℕ) → AreTold KeepsNext x fresh outs z
+        (z : OutputState × ServeCounts) → AreTold KeepsNext x fresh outs z
         → HearsPiece KeepsNext (Some s) o 0 0 [] outs x z
     piece fresh is before outs z kept = (
       outs,
@@ -248,7 +251,7 @@ kept_octets way s o n waited waits a b os told x y none l h same =
         )
 
 kept_whole : (way : FrameReading) (c : ℕ) (octets : List ℕ) (h : History) (w : ℕ → ℕ) (waits : ℕ) (os : List Outcome)
-    (x y : OutputState × ℕ) → w c ≡ 0 → Logged way h w (Piece c octets) os
+    (x y : OutputState × ServeCounts) → w c ≡ 0 → Logged way h w (Piece c octets) os
     → HearsReceived KeepsNext (stream_of c h.streams) octets (w c) waits os x y
     → KeepsPiece (stream_of c h.streams) octets os x y
 kept_whole way c octets h w waits os x y none (a, b, log) (n, told, heard, same) =
@@ -263,7 +266,7 @@ kept_whole way c octets h w waits os x y none (a, b, log) (n, told, heard, same)
 
 -- behind a bad count
 kept_behind : (c : ℕ) (octets : List ℕ) (h : History) (w : ℕ → ℕ) (waits : ℕ) (os : List Outcome)
-    (x y : OutputState × ℕ) → w c ≡ 0 → IsSomeAnd (stream_of c h.streams) HoldsBadCount
+    (x y : OutputState × ServeCounts) → w c ≡ 0 → IsSomeAnd (stream_of c h.streams) HoldsBadCount
     → HearsReceived KeepsNext (stream_of c h.streams) octets (w c) waits os x y → KeepsNone x y
 kept_behind c octets h w waits os x y none bad (n, told, heard, same) = at (stream_of c h.streams) bad heard
   where
@@ -287,7 +290,7 @@ kept_behind c octets h w waits os x y none bad (n, told, heard, same) = at (stre
 
 -- what was kept of a piece, by what was accepted of it
 pub kept_frames : {way : Manner} {before here : List AcceptedEvent} {c : ℕ} {octets : List ℕ} {lost : Bool}
-    {turn : Turn} (taken : IsAccepted way before (Piece c octets) here lost turn) (x y : OutputState × ℕ)
+    {turn : Turn} (taken : IsAccepted way before (Piece c octets) here lost turn) (x y : OutputState × ServeCounts)
     → HearsReceived KeepsNext (stream_of c (history_of before).streams) octets (taken.is.0 c) (taken.is.1 c)
     taken.outcomes x y → KeepsFrames taken x y
 kept_frames {way = way} {before = before} {c = c} {octets = octets} taken x y heard = record {
@@ -320,8 +323,8 @@ kept_frames {way = way} {before = before} {c = c} {octets = octets} taken x y he
 -- ---- a datagram
 
 -- with one outcome more
-pub each_more : (octets : List ℕ) (os : List Outcome) (o : Outcome) (x y z : OutputState × ℕ) → KeepsEach octets os x y
+pub each_more : (octets : List ℕ) (os : List Outcome) (o : Outcome) (x y z : OutputState × ServeCounts) → KeepsEach octets os x y
     → KeepsNext y o (Some octets) z → KeepsEach octets (os ++ o ∷ []) x z
 each_more octets [] o x y z same next =
-    (z, subst (λ (u : OutputState × ℕ). KeepsNext u o (Some octets) z) same next, refl)
+    (z, subst (λ (u : OutputState × ServeCounts). KeepsNext u o (Some octets) z) same next, refl)
 each_more octets (p ∷ ps) o x y z (mid, one, more) next = (mid, one, each_more octets ps o mid y z more next)

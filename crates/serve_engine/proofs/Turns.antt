@@ -21,6 +21,7 @@ use Rattle.serve_engine.specs.Keepings.{Kept}
 use Rattle.serve_engine.specs.Serving.{Accepts, CommitsAll, EndsUnlessFull, FaultsAs, HoldsReceived, IfSettled}
 use Rattle.serve_engine.specs.Serving.{IsCommitTurn, IsEventTurn, IsStepTurn, IsTryTurn, ServesEvent, ServesStep}
 use Rattle.serve_engine.specs.Serving.{UnlessMemory, UnlessStopped, asks_commit}
+use Rattle.serve_engine.specs.declared.counts.ServeCounts.{ServeCounts}
 use Rattle.serve_engine.specs.declared.intake.Intake.{Intake}
 use Rattle.serve_engine.specs.declared.keeping.KeepFault.{KeepFault}
 use Rattle.serve_engine.specs.declared.keeping.KeepFault.TheVariants as keep
@@ -47,7 +48,7 @@ accepted_own way before e r os own turn is kept on = record {
 }
 
 -- of a connection that was not opened
-pub accepted_none : (way : Manner) (before : List AcceptedEvent) (c : ℕ) (k : Framing) (r : Received)
+abbrev pub accepted_none : (way : Manner) (before : List AcceptedEvent) (c : ℕ) (k : Framing) (r : Received)
     (os : List Outcome) (own : List AcceptedEvent) (turn : Turn) → IsReceivedAs way before (Opened c k) r os own
     → loses_opening r ≡ true → turn ≡ turn_of r → IsAccepted way before (Opened c k) own true turn
 accepted_none way before c k r os own turn is lost on = record {
@@ -168,7 +169,7 @@ any_settled (End end) P h = settled_end end P h
 -- ---- a step
 
 pub serves_event : {S K : Type 0} (entries : S → List Entry) (stands : K → Kept → Type 0) (old new : Intake S K)
-    (s : ServerStep) (octets : List ℕ) (lost full : Bool) (t : Turn) (was now : OutputState × ℕ) (e : AcceptedEvent)
+    (s : ServerStep) (octets : List ℕ) (lost full : Bool) (t : Turn) (was now : OutputState × ServeCounts) (e : AcceptedEvent)
     → event_of s octets ≡ Some e → asks_commit s ≡ false → Accepts entries stands old new e lost t was now
     → ServesStep entries stands old new s octets lost full t was now
 serves_event entries stands old new s octets lost full t was now e is none_asked accepts k first before at none =
@@ -185,7 +186,7 @@ serves_event entries stands old new s octets lost full t was now e is none_asked
     )
 
 pub serves_commit : {S K : Type 0} (entries : S → List Entry) (stands : K → Kept → Type 0) (old new : Intake S K)
-    (s : ServerStep) (octets : List ℕ) (full : Bool) (t : Turn) (was now : OutputState × ℕ)
+    (s : ServerStep) (octets : List ℕ) (full : Bool) (t : Turn) (was now : OutputState × ServeCounts)
     → event_of s octets ≡ None → asks_commit s ≡ true → CommitsAll entries stands old new full t
     → (NoneWaits old.collector → NoneWaits new.collector)
     → ServesStep entries stands old new s octets false full t was now
@@ -203,7 +204,7 @@ serves_commit entries stands old new s octets full t was now is asked commits se
     )
 
 pub serves_nothing : {S K : Type 0} (entries : S → List Entry) (stands : K → Kept → Type 0) (old new : Intake S K)
-    (s : ServerStep) (octets : List ℕ) (full : Bool) (t : Turn) (was now : OutputState × ℕ)
+    (s : ServerStep) (octets : List ℕ) (full : Bool) (t : Turn) (was now : OutputState × ServeCounts)
     → event_of s octets ≡ None → asks_commit s ≡ false → new ≡ old → t ≡ On
     → ServesStep entries stands old new s octets false full t was now
 serves_nothing {S = S} {K = K} entries stands old new s octets full t was now is none_asked same on k first before at none = (

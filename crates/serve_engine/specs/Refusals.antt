@@ -10,7 +10,9 @@ use Rattle.syslog_collect.specs.Observers.{HearsPiece}
 use Rattle.syslog_collect.specs.declared.outcome.Outcome.{Outcome}
 use Rattle.syslog_collect.specs.declared.outcome.Outcome.TheVariants.{New, Held, Refused, RefusedLegacy, TooLong}
 use Rattle.syslog_collect.specs.declared.outcome.Outcome.TheVariants.{BadCount}
+use Rattle.serve_engine.specs.Counts.{CountsDropped, CountsEnd, CountsOpening, counted, octets_counted}
 use Rattle.serve_engine.specs.Events.{IsAccepted, Manner}
+use Rattle.serve_engine.specs.declared.counts.ServeCounts.{ServeCounts}
 use Rattle.serve_engine.specs.declared.report.Report.{Report}
 use Rattle.serve_engine.specs.declared.turn.Turn.{Turn}
 use denote.Bor.{Bor}
@@ -36,52 +38,63 @@ KeepsFrame old new frame dropped dropped_new =
     ⊎ ((dropped < dropped_new) ⊎ (dropped_new ≡ 2 ^ 64 - 1))
 
 -- nothing was, though lines may have been dropped
-abbrev pub KeepsNone : OutputState × ℕ → OutputState × ℕ → Type 0
-KeepsNone old new = (new.0 ≡ old.0) × (old.1 ≤ new.1)
+abbrev pub KeepsNothing : OutputState → OutputState → ℕ → ℕ → Type 0
+KeepsNothing old new dropped dropped_new = (new ≡ old) × (dropped ≤ dropped_new)
 
 -- by its outcome a frame was kept with its octets; where it is too long, a line was written; else nothing was
 abbrev pub KeepsOutcome : OutputState → OutputState → Outcome → Option (List ℕ) → ℕ → ℕ → Type 0
-KeepsOutcome old new New frame dropped dropped_new = KeepsNone (old, dropped) (new, dropped_new)
-KeepsOutcome old new Held frame dropped dropped_new = KeepsNone (old, dropped) (new, dropped_new)
+KeepsOutcome old new New frame dropped dropped_new = KeepsNothing old new dropped dropped_new
+KeepsOutcome old new Held frame dropped dropped_new = KeepsNothing old new dropped dropped_new
 KeepsOutcome old new (Refused fault) frame dropped dropped_new = KeepsFrame old new frame dropped dropped_new
 KeepsOutcome old new (RefusedLegacy offset) frame dropped dropped_new = KeepsFrame old new frame dropped dropped_new
 KeepsOutcome old new TooLong frame dropped dropped_new = KeepsFrame old new None dropped dropped_new
-KeepsOutcome old new (BadCount at) frame dropped dropped_new = KeepsNone (old, dropped) (new, dropped_new)
+KeepsOutcome old new (BadCount at) frame dropped dropped_new = KeepsNothing old new dropped dropped_new
 
--- where the frames go that are kept, and how many were dropped
-abbrev pub kept_in : {N R : Type 0} → (R → OutputState) → Report N R → OutputState × ℕ
-kept_in state report = (state report.refused, report.counts.dropped)
+-- where the frames go that are kept, and what was counted
+abbrev pub kept_in : {N R : Type 0} → (R → OutputState) → Report N R → OutputState × ServeCounts
+kept_in state report = (state report.refused, report.counts)
 
--- the frame of an outcome was kept there, if it is to be
-abbrev pub KeepsNext : OutputState × ℕ → Outcome → Option (List ℕ) → OutputState × ℕ → Type 0
-KeepsNext old outcome frame new = KeepsOutcome old.0 new.0 outcome frame old.1 new.1
+-- nothing was kept
+abbrev pub KeepsNone : OutputState × ServeCounts → OutputState × ServeCounts → Type 0
+KeepsNone old new = KeepsNothing old.0 new.0 old.1.dropped new.1.dropped
+
+-- the frame of an outcome was kept there, if it is to be, and the outcome was counted
+abbrev pub KeepsNext : OutputState × ServeCounts → Outcome → Option (List ℕ) → OutputState × ServeCounts → Type 0
+KeepsNext old outcome frame new = KeepsOutcome old.0 new.0 outcome frame old.1.dropped new.1.dropped
+    × CountsDropped (counted old.1 outcome) new.1
+
+-- octets came, and were counted
+abbrev pub come : List ℕ → OutputState × ServeCounts → OutputState × ServeCounts
+come octets old = (old.0, octets_counted old.1 (length octets))
 
 -- octets were, once for each outcome that asks for it
-abbrev pub KeepsEach : List ℕ → List Outcome → OutputState × ℕ → OutputState × ℕ → Type 0
+abbrev pub KeepsEach : List ℕ → List Outcome → OutputState × ServeCounts → OutputState × ServeCounts → Type 0
 KeepsEach octets [] old new = new ≡ old
 KeepsEach octets (o ∷ os) old new =
-    (between : OutputState × ℕ) × KeepsNext old o (Some octets) between × KeepsEach octets os between new
+    (between : OutputState × ServeCounts) × KeepsNext old o (Some octets) between × KeepsEach octets os between new
 
 -- where no frame waits, the frames were that a piece completes, outcome by outcome, and then no other
-abbrev pub KeepsPiece : Option Stream → List ℕ → List Outcome → OutputState × ℕ → OutputState × ℕ → Type 0
-KeepsPiece stream octets outcomes old new = (between : OutputState × ℕ)
+abbrev pub KeepsPiece : Option Stream → List ℕ → List Outcome → OutputState × ServeCounts → OutputState × ServeCounts
+    → Type 0
+KeepsPiece stream octets outcomes old new = (between : OutputState × ServeCounts)
     × HearsPiece KeepsNext stream octets 0 0 [] outcomes old between × KeepsNone between new
 
 -- of what was accepted of a piece, the frames were whose outcomes it has; where all of it was, these are its frames;
 -- where it was passed over, none was
 pub record KeepsFrames {way : Manner} {before : List AcceptedEvent} {c : ℕ} {octets : List ℕ}
     {here : List AcceptedEvent} {lost : Bool} {turn : Turn}
-    (taken : IsAccepted way before (Piece c octets) here lost turn) (old new : OutputState × ℕ) : Type 0 where
+    (taken : IsAccepted way before (Piece c octets) here lost turn) (old new : OutputState × ServeCounts) : Type 0 where
   pub told : HearsReceived KeepsNext (stream_of c (history_of before).streams) octets (taken.is.0 c) (taken.is.1 c)
       taken.outcomes old new
   pub whole : taken.own ≡ Piece c octets ∷ [] → IfNotMemory taken.received (KeepsPiece
       (stream_of c (history_of before).streams) octets taken.outcomes old new)
   pub passed : taken.own ≡ [] → taken.received ≡ received.Accepted → KeepsNone old new
 
--- of what was accepted of an event: of a datagram it is the whole; an opening and an end have no frame
+-- of what was accepted of an event: of a datagram it is the whole; an opening and an end have no frame, and are counted
 abbrev pub KeepsEvent : {way : Manner} {before here : List AcceptedEvent} {lost : Bool} {turn : Turn}
-    (e : AcceptedEvent) → IsAccepted way before e here lost turn → OutputState × ℕ → OutputState × ℕ → Type 0
-KeepsEvent (Opened c k) taken old new = KeepsNone old new
-KeepsEvent (Piece c octets) taken old new = KeepsFrames taken old new
-KeepsEvent (Ended c) taken old new = KeepsNone old new
-KeepsEvent (Datagram octets) taken old new = KeepsEach octets taken.outcomes old new
+    (e : AcceptedEvent) → IsAccepted way before e here lost turn → OutputState × ServeCounts
+    → OutputState × ServeCounts → Type 0
+KeepsEvent (Opened c k) taken old new = KeepsNone old new × CountsOpening taken.received old.1 new.1
+KeepsEvent (Piece c octets) taken old new = KeepsFrames taken (come octets old) new
+KeepsEvent (Ended c) taken old new = KeepsNone old new × CountsEnd taken.received old.1 new.1
+KeepsEvent (Datagram octets) taken old new = KeepsEach octets taken.outcomes (come octets old) new

@@ -1,5 +1,5 @@
 -- What a server does in a turn, and in a run.
-use Rattle.std.specs.Prelude.{◌≡◌, ◌⊎◌, ◌-◌, ◌<◌, ◌^◌, ℕ, Bool, true, false, List, [], ◌∷◌, ◌++◌, length}
+use Rattle.std.specs.Prelude.{◌≡◌, ◌⊎◌, ◌-◌, ◌<◌, ◌^◌, Bool, true, false, List, [], ◌∷◌, ◌++◌, length}
 use Rattle.std.specs.Prelude.{Option, IfNone, is_none}
 use Rattle.archive_text.specs.Entries.{Entry}
 use Rattle.octet_devices.specs.Device.{OutputState}
@@ -35,11 +35,11 @@ is_full server = server.full
 -- ---- places
 
 -- what is round an intake: its source, whether the disk was full at the last try, and the output for refused frames with
--- the count of what was dropped
+-- the counts
 pub record Around : Type 0 where
   pub source : SourceState
   pub full : Bool
-  pub refusals : OutputState × ℕ
+  pub refusals : OutputState × ServeCounts
 
 -- where a server is
 pub record Place (S K : Type 0) : Type 0 where

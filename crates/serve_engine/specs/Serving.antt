@@ -13,6 +13,7 @@ use Rattle.serve_engine.specs.Events.{IsAccepted, Manner, event_of, manner_of}
 use Rattle.serve_engine.specs.Intakes.{IsCommitted, StandsBy}
 use Rattle.serve_engine.specs.Keepings.{Kept, StaysCommitted}
 use Rattle.serve_engine.specs.Refusals.{KeepsEvent}
+use Rattle.serve_engine.specs.declared.counts.ServeCounts.{ServeCounts}
 use Rattle.serve_engine.specs.declared.intake.Intake.{Intake}
 use Rattle.serve_engine.specs.declared.keeping.KeepFault.{KeepFault}
 use Rattle.serve_engine.specs.declared.keeping.KeepFault.TheVariants as keep
@@ -38,7 +39,7 @@ asks_commit (step.Failed fault) = true
 -- of a step: what its event says, and what is refused of that is kept; where it has none, nothing, and unless a commit is
 -- asked for it goes on
 abbrev pub ServesEvent : Manner → List AcceptedEvent → ServerStep → Option AcceptedEvent → List AcceptedEvent
-    → Bool → Turn → OutputState × ℕ → OutputState × ℕ → Type 0
+    → Bool → Turn → OutputState × ServeCounts → OutputState × ServeCounts → Type 0
 ServesEvent way before s None here lost turn was now =
     (here ≡ []) × (lost ≡ false) × (asks_commit s ≡ false → turn ≡ On)
 ServesEvent way before s (Some e) here lost turn was now =
@@ -82,8 +83,8 @@ event_in None = None
 event_in (Some g) = event_of g.step g.octets
 
 -- the step was served behind other events; where there is none nothing came
-abbrev pub Served : Manner → List AcceptedEvent → Option Given → List AcceptedEvent → Bool → Turn → OutputState × ℕ
-    → OutputState × ℕ → Type 0
+abbrev pub Served : Manner → List AcceptedEvent → Option Given → List AcceptedEvent → Bool → Turn → OutputState × ServeCounts
+    → OutputState × ServeCounts → Type 0
 Served way before None here lost turn was now = (here ≡ []) × (lost ≡ false)
 Served way before (Some g) here lost turn was now =
     ServesEvent way before g.step (event_of g.step g.octets) here lost turn was now
@@ -154,7 +155,7 @@ IsCause (Some g) turn = IsStepTurn g.step turn
 
 -- wherever an intake stood, it stands behind what is accepted of an event, and what is refused of that was kept
 abbrev pub Accepts : {S K : Type 0} → (S → List Entry) → (K → Kept → Type 0) → Intake S K → Intake S K → AcceptedEvent
-    → Bool → Turn → OutputState × ℕ → OutputState × ℕ → Type 0
+    → Bool → Turn → OutputState × ServeCounts → OutputState × ServeCounts → Type 0
 Accepts entries stands old new e lost turn was now =
     (k : Kept) (first : List Entry) (before : List AcceptedEvent) → StandsBy entries stands old k first before
     → NoneWaits old.collector → (here : List AcceptedEvent) × StandsBy entries stands new k first (before ++ here)
@@ -194,7 +195,7 @@ StandsOn entries stands old new P =
 -- wherever an intake stood, it stands behind what is accepted of a step, and what is refused of that was kept; after some
 -- steps all is committed, and after any other what is held and committed is as before; what was committed still is
 abbrev pub ServesStep : {S K : Type 0} → (S → List Entry) → (K → Kept → Type 0) → Intake S K → Intake S K → ServerStep
-    → List ℕ → Bool → Bool → Turn → OutputState × ℕ → OutputState × ℕ → Type 0
+    → List ℕ → Bool → Bool → Turn → OutputState × ServeCounts → OutputState × ServeCounts → Type 0
 ServesStep entries stands old new step octets lost full turn was now =
     (k : Kept) (first : List Entry) (before : List AcceptedEvent) → StandsBy entries stands old k first before
     → NoneWaits old.collector → (j : Kept) × (here : List AcceptedEvent)

@@ -1,5 +1,7 @@
 //! What a server tells: lines, counts, and the frames that it refuses.
-ghost use Rattle.std.specs.Prelude.{◌≡◌, ◌≤◌, ◌+◌, ◌-◌, ◌^◌, min};
+ghost use Rattle.std.specs.Prelude.{◌≡◌, ◌≤◌, length};
+ghost use Rattle.serve_engine.specs.Counts.{CountsDropped, CountsEnd, connection_counted, count_up, counted};
+ghost use Rattle.serve_engine.specs.Counts.{octets_counted};
 ghost use Rattle.serve_engine.specs.Refusals.{KeepsEach, KeepsFrame, KeepsNext, KeepsNone, kept_in, octets_in};
 
 use crate::counts::ServeCounts;
@@ -71,6 +73,7 @@ impl<N: Output + Drop, R: Output + Drop> Report<N, R> {
     fn write_line(&mut self, made: Result<(), AllocError>)
         ensures refused { self.new.refused ≡ self.old.refused }
         ensures dropped { self.old.counts.dropped ≤ self.new.counts.dropped }
+        ensures counts { CountsDropped self.old.counts self.new.counts }
     {
         if made.is_err() || write_all(&mut self.notes, self.line.as_slice()).is_err() {
             self.counts.dropped = self.counts.dropped.saturating_add(1);
@@ -79,7 +82,8 @@ impl<N: Output + Drop, R: Output + Drop> Report<N, R> {
 
     /// Tells what happened to a connection.
     pub(crate) fn tell(&mut self, alloc: Global, way: Way, happening: Happening)
-        ensures { KeepsNone (kept_in R.state self.old) (kept_in R.state self.new) }
+        ensures kept { KeepsNone (kept_in R.state self.old) (kept_in R.state self.new) }
+        ensures counts { CountsDropped self.old.counts self.new.counts }
     {
         self.line.clear();
         let made = put_happening(alloc, &mut self.line, way, happening);
@@ -107,7 +111,7 @@ impl<N: Output + Drop, R: Output + Drop> Report<N, R> {
     // Counts an outcome.
     fn count(&mut self, outcome: Outcome)
         ensures refused { self.new.refused ≡ self.old.refused }
-        ensures dropped { self.new.counts.dropped ≡ self.old.counts.dropped }
+        ensures counts { self.new.counts ≡ counted self.old.counts outcome }
     {
         match outcome {
             Outcome::New => count_up(&mut self.counts.received, 1),
@@ -125,15 +129,17 @@ impl<N: Output + Drop, R: Output + Drop> Report<N, R> {
 
     // Counts a line or a frame that was dropped.
     fn drop_one(&mut self)
-        ensures dropped { self.new.counts.dropped ≡ min (self.old.counts.dropped + 1) (2 ^ 64 - 1) }
+        ensures dropped { self.new.counts.dropped ≡ count_up self.old.counts.dropped 1 }
+        ensures counts { CountsDropped self.old.counts self.new.counts }
     {
         count_up(&mut self.counts.dropped, 1);
     }
 
     // Keeps a frame that was refused, behind the line on it.
     fn keep_refused(&mut self, alloc: Global, frame: Option<&[u8]>)
-        ensures { KeepsFrame (R.state self.old.refused) (R.state self.new.refused) (octets_in frame.entry)
+        ensures kept { KeepsFrame (R.state self.old.refused) (R.state self.new.refused) (octets_in frame.entry)
             self.old.counts.dropped self.new.counts.dropped }
+        ensures counts { CountsDropped self.old.counts self.new.counts }
     {
         self.kept.clear();
         let line = without_lf(self.line.as_slice());
@@ -155,8 +161,9 @@ impl<N: Output + Drop, R: Output + Drop> Report<N, R> {
         outcome: Outcome,
         frame: Option<&[u8]>,
     )
-        ensures { KeepsFrame (R.state self.old.refused) (R.state self.new.refused) (octets_in frame.entry)
+        ensures kept { KeepsFrame (R.state self.old.refused) (R.state self.new.refused) (octets_in frame.entry)
             self.old.counts.dropped self.new.counts.dropped }
+        ensures counts { CountsDropped self.old.counts self.new.counts }
     {
         self.line.clear();
         let made = put_refused(alloc, &mut self.line, way, number, outcome);
@@ -206,20 +213,32 @@ impl<N: Output + Drop, R: Output + Drop> Report<N, R> {
     /// Counts octets of a piece, of whose frames it is told next.
     pub(crate) fn begin_piece(&mut self, way: Way, octets: usize)
         ensures refused { self.new.refused ≡ self.old.refused }
-        ensures dropped { self.new.counts.dropped ≡ self.old.counts.dropped }
+        ensures counts { self.new.counts ≡ octets_counted self.old.counts octets }
     {
         self.way = way;
         self.count_octets(octets);
     }
 
+    // Tells that a connection ended inside a frame, if it did.
+    fn unterminated(&mut self, alloc: Global, way: Way, received: Received)
+        ensures kept { KeepsNone (kept_in R.state self.old) (kept_in R.state self.new) }
+        ensures counts { CountsEnd received self.old.counts self.new.counts }
+    {
+        match received {
+            Received::Unterminated { start } => {
+                count_up(&mut self.counts.broken, 1);
+                self.tell(alloc, way, Happening::Unterminated(start));
+            }
+            Received::Accepted | Received::Refused | Received::Memory => {}
+        }
+    }
+
     /// Tells how a connection ended.
     pub(crate) fn ended(&mut self, alloc: Global, way: Way, received: Received, end: ConnectionEnd)
-        ensures { KeepsNone (kept_in R.state self.old) (kept_in R.state self.new) }
+        ensures kept { KeepsNone (kept_in R.state self.old) (kept_in R.state self.new) }
+        ensures counts { CountsEnd received self.old.counts self.new.counts }
     {
-        if let Received::Unterminated { start } = received {
-            count_up(&mut self.counts.broken, 1);
-            self.tell(alloc, way, Happening::Unterminated(start));
-        }
+        self.unterminated(alloc, way, received);
         match end {
             ConnectionEnd::Closed => {}
             ConnectionEnd::Reset => self.tell(alloc, way, Happening::Reset),
@@ -247,7 +266,8 @@ impl<N: Output + Drop, R: Output + Drop> Report<N, R> {
 
     /// Counts a connection.
     pub(crate) fn count_connection(&mut self)
-        ensures { KeepsNone (kept_in R.state self.old) (kept_in R.state self.new) }
+        ensures kept { KeepsNone (kept_in R.state self.old) (kept_in R.state self.new) }
+        ensures counts { self.new.counts ≡ connection_counted self.old.counts }
     {
         count_up(&mut self.counts.connections, 1);
     }
@@ -255,7 +275,7 @@ impl<N: Output + Drop, R: Output + Drop> Report<N, R> {
     /// Counts octets of a piece or a datagram.
     pub(crate) fn count_octets(&mut self, octets: usize)
         ensures refused { self.new.refused ≡ self.old.refused }
-        ensures dropped { self.new.counts.dropped ≡ self.old.counts.dropped }
+        ensures counts { self.new.counts ≡ octets_counted self.old.counts octets }
     {
         count_up(&mut self.counts.octets, octets as u64);
     }
@@ -290,7 +310,7 @@ impl<N: Output + Drop, R: Output + Drop> Observer for Report<N, R> {
 
 // Counts more, and stays at the largest value.
 fn count_up(count: &mut u64, more: u64)
-    ensures { count.new ≡ min (count.old + more) (2 ^ 64 - 1) }
+    ensures { count.new ≡ count_up count.old more }
 {
     *count = count.saturating_add(more);
 }
