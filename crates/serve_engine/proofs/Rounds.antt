@@ -11,7 +11,7 @@ use Rattle.socket_source.specs.declared.step.ServerStep.{ServerStep}
 use Rattle.serve_engine.specs.Events.{Manner, event_of, manner_of}
 use Rattle.serve_engine.specs.Intakes.{IsCommitted, StandsBy}
 use Rattle.serve_engine.specs.Keepings.{Kept, StaysCommitted}
-use Rattle.serve_engine.specs.Refusals.{KeepsNone}
+use Rattle.serve_engine.specs.Refusals.{KeepsSilent}
 use Rattle.serve_engine.specs.Servers.{AreTurns, Around, DoneRun, GoOn, IsGiven, IsTurn, Made, Place}
 use Rattle.serve_engine.specs.Servers.{RunsTo, ServesRun, ServesTurn, around_after, events_of, kept_after}
 use Rattle.serve_engine.specs.Serving.{CommitsAll, GivesStep, HoldsReceived, IfCommitted, IfSettled, IsCause, IsCommitTurn}
@@ -51,7 +51,7 @@ pub tried : {S K : Type 0} (entries : S → List Entry) (stands : K → Kept →
     → CommitsAll entries stands a.intake b.intake b.around.full t
     → (NoneWaits a.intake.collector → NoneWaits b.intake.collector)
     → manner_of b.intake.collector ≡ manner_of a.intake.collector → IsCommitTurn t
-    → KeepsNone a.around.refusals b.around.refusals → ServesTurn entries stands t a b
+    → KeepsSilent true a.around.refusals b.around.refusals → ServesTurn entries stands t a b
 tried entries stands a b t was_full still commits settled same turn kept = record {
   step = None;
   lost = false;
@@ -88,7 +88,7 @@ pub stepped : {S K : Type 0} (entries : S → List Entry) (stands : K → Kept �
     → ServesStep entries stands a.intake b.intake s (octets_of s buf) lost b.around.full t a.around.refusals
     b.around.refusals
     → GivesStep a.around.source b.around.source (given_of s buf) lost
-    → IfNone (event_of s (octets_of s buf)) (KeepsNone a.around.refusals b.around.refusals)
+    → IfNone (event_of s (octets_of s buf)) (KeepsSilent (asks_commit s) a.around.refusals b.around.refusals)
     → manner_of b.intake.collector ≡ manner_of a.intake.collector
     → (asks_commit s ≡ false → b.around.full ≡ a.around.full) → IsStepTurn s t → ServesTurn entries stands t a b
 stepped entries stands a b s buf lost t room serves gives silent same fills turn = record {

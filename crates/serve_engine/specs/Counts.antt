@@ -1,5 +1,5 @@
 -- What a server counts, and the exit status by how serving ended.
-use Rattle.std.specs.Prelude.{◌≡◌, ◌⊎◌, ◌<◌, ◌+◌, ◌-◌, ◌^◌, ℕ, min, Bool, if◌then◌else◌}
+use Rattle.std.specs.Prelude.{◌≡◌, ◌⊎◌, ◌<◌, ◌+◌, ◌-◌, ◌^◌, ℕ, min, Bool, true, false, if◌then◌else◌}
 use Rattle.collect_engine.specs.declared.receiving.Received.{Received}
 use Rattle.collect_engine.specs.declared.receiving.Received.TheVariants as received
 use Rattle.syslog_collect.specs.declared.outcome.Outcome.{Outcome}
@@ -40,6 +40,20 @@ broken_counted c = record c { broken = count_up c.broken 1 }
 -- no more is counted than lines and frames that were dropped
 abbrev pub CountsDropped : ServeCounts → ServeCounts → Type 0
 CountsDropped old new = new ≡ record old { dropped = new.dropped }
+
+-- nothing that came is counted, at a commit or a line
+pub record CountsNothing (old new : ServeCounts) : Type 0 where
+  pub received : new.received ≡ old.received
+  pub refused : new.refused ≡ old.refused
+  pub too_long : new.too_long ≡ old.too_long
+  pub connections : new.connections ≡ old.connections
+  pub octets : new.octets ≡ old.octets
+  pub broken : new.broken ≡ old.broken
+
+-- where a step has no event, nothing that came is; unless a commit is due, no more is than what was dropped
+abbrev pub CountsSilent : Bool → ServeCounts → ServeCounts → Type 0
+CountsSilent true old new = CountsNothing old new
+CountsSilent false old new = CountsDropped old new
 
 -- a connection that was opened is counted
 abbrev pub CountsOpening : Received → ServeCounts → ServeCounts → Type 0

@@ -10,7 +10,7 @@ use Rattle.syslog_collect.specs.Observers.{HearsPiece}
 use Rattle.syslog_collect.specs.declared.outcome.Outcome.{Outcome}
 use Rattle.syslog_collect.specs.declared.outcome.Outcome.TheVariants.{New, Held, Refused, RefusedLegacy, TooLong}
 use Rattle.syslog_collect.specs.declared.outcome.Outcome.TheVariants.{BadCount}
-use Rattle.serve_engine.specs.Counts.{CountsDropped, CountsEnd, CountsOpening, counted, octets_counted}
+use Rattle.serve_engine.specs.Counts.{CountsDropped, CountsEnd, CountsOpening, CountsSilent, counted, octets_counted}
 use Rattle.serve_engine.specs.Events.{IsAccepted, Manner}
 use Rattle.serve_engine.specs.declared.counts.ServeCounts.{ServeCounts}
 use Rattle.serve_engine.specs.declared.report.Report.{Report}
@@ -57,6 +57,10 @@ kept_in state report = (state report.refused, report.counts)
 -- nothing was kept
 abbrev pub KeepsNone : OutputState × ServeCounts → OutputState × ServeCounts → Type 0
 KeepsNone old new = KeepsNothing old.0 new.0 old.1.dropped new.1.dropped
+
+-- where a step has no event, nothing was, and nothing that came is counted
+abbrev pub KeepsSilent : Bool → OutputState × ServeCounts → OutputState × ServeCounts → Type 0
+KeepsSilent due old new = KeepsNone old new × CountsSilent due old.1 new.1
 
 -- the frame of an outcome was kept there, if it is to be, and the outcome was counted
 abbrev pub KeepsNext : OutputState × ServeCounts → Outcome → Option (List ℕ) → OutputState × ServeCounts → Type 0

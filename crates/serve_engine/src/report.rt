@@ -1,8 +1,9 @@
 //! What a server tells: lines, counts, and the frames that it refuses.
-ghost use Rattle.std.specs.Prelude.{◌≡◌, ◌≤◌, length};
+ghost use Rattle.std.specs.Prelude.{◌≡◌, ◌≤◌, true};
 ghost use Rattle.serve_engine.specs.Counts.{CountsDropped, CountsEnd, connection_counted, count_up, counted};
 ghost use Rattle.serve_engine.specs.Counts.{octets_counted};
-ghost use Rattle.serve_engine.specs.Refusals.{KeepsEach, KeepsFrame, KeepsNext, KeepsNone, kept_in, octets_in};
+ghost use Rattle.serve_engine.specs.Refusals.{KeepsEach, KeepsFrame, KeepsNext, KeepsNone, KeepsSilent, kept_in};
+ghost use Rattle.serve_engine.specs.Refusals.{octets_in};
 
 use crate::counts::ServeCounts;
 use crate::keeping::Taken;
@@ -92,7 +93,7 @@ impl<N: Output + Drop, R: Output + Drop> Report<N, R> {
 
     /// Tells a line whose text is known.
     pub(crate) fn tell_text(&mut self, text: &[u8])
-        ensures { KeepsNone (kept_in R.state self.old) (kept_in R.state self.new) }
+        ensures { KeepsSilent true (kept_in R.state self.old) (kept_in R.state self.new) }
     {
         self.line.clear();
         let made = self.line.extend_from_slice(text);
@@ -101,7 +102,7 @@ impl<N: Output + Drop, R: Output + Drop> Report<N, R> {
 
     /// Tells the counts.
     pub(crate) fn tell_counts(&mut self)
-        ensures { KeepsNone (kept_in R.state self.old) (kept_in R.state self.new) }
+        ensures { KeepsSilent true (kept_in R.state self.old) (kept_in R.state self.new) }
     {
         self.line.clear();
         let made = put_counts(&mut self.line, &self.counts);
@@ -248,7 +249,7 @@ impl<N: Output + Drop, R: Output + Drop> Report<N, R> {
 
     /// Tells that the disk is full, unless it was full before.
     pub(crate) fn tell_full(&mut self, before: bool)
-        ensures { KeepsNone (kept_in R.state self.old) (kept_in R.state self.new) }
+        ensures { KeepsSilent true (kept_in R.state self.old) (kept_in R.state self.new) }
     {
         if !before {
             self.tell_text(b"store full\n");
@@ -257,7 +258,7 @@ impl<N: Output + Drop, R: Output + Drop> Report<N, R> {
 
     /// Tells how serving ends.
     pub(crate) fn tell_end(&mut self, end: ServeEnd)
-        ensures { KeepsNone (kept_in R.state self.old) (kept_in R.state self.new) }
+        ensures { KeepsSilent true (kept_in R.state self.old) (kept_in R.state self.new) }
     {
         if let ServeEnd::Source(_) = end {
             self.tell_text(b"source fault\n");
@@ -282,7 +283,7 @@ impl<N: Output + Drop, R: Output + Drop> Report<N, R> {
 
     /// Counts what was handed over and committed.
     pub(crate) fn committed(&mut self, taken: Taken)
-        ensures { KeepsNone (kept_in R.state self.old) (kept_in R.state self.new) }
+        ensures { KeepsSilent true (kept_in R.state self.old) (kept_in R.state self.new) }
     {
         count_up(&mut self.counts.new, taken.new);
         count_up(&mut self.counts.held, taken.held);

@@ -2,7 +2,7 @@
 ghost use Rattle.std.specs.Prelude.{◌≡◌, Bool, IfNone, false, length};
 ghost use Rattle.socket_source.specs.Steps.{IsWithin, octets_of};
 ghost use Rattle.serve_engine.specs.Events.{event_of, manner_of};
-ghost use Rattle.serve_engine.specs.Refusals.{KeepsNone, kept_in};
+ghost use Rattle.serve_engine.specs.Refusals.{KeepsSilent, kept_in};
 ghost use Rattle.serve_engine.specs.Servers.{ServesRun, ServesTurn, intake_of, place_of};
 ghost use Rattle.serve_engine.specs.Serving.{ClosesOwn, IsStepTurn, ServesStep, asks_commit};
 
@@ -43,7 +43,8 @@ impl<S: Store + Drop, K: Keeping<S> + Drop, N: Output + Drop, R: Output + Drop> 
         ensures full { asks_commit step ≡ false → self.new.full ≡ self.old.full }
         ensures turn { IsStepTurn step result }
         ensures silent { IfNone (event_of step (octets_of step buf.now))
-            (KeepsNone (kept_in R.state self.old.report) (kept_in R.state self.new.report)) }
+            (KeepsSilent (asks_commit step) (kept_in R.state self.old.report)
+            (kept_in R.state self.new.report)) }
     {
         match step {
             ServerStep::Opened {
