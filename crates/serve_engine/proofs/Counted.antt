@@ -2,7 +2,7 @@
 use Rattle.std.proofs.Common.{◌≡◌, ℕ, ap, refl, sym, ◌∙◌}
 use Rattle.collect_engine.specs.declared.receiving.Received.{Received}
 use Rattle.collect_engine.specs.declared.receiving.Received.TheVariants as received
-use Rattle.serve_engine.specs.Counts.{CountsDropped, CountsEnd, CountsOpening, broken_counted}
+use Rattle.serve_engine.specs.Counts.{CountsBroken, CountsDropped, CountsEnd, CountsOpening, broken_counted}
 use Rattle.serve_engine.specs.declared.counts.ServeCounts.{ServeCounts}
 
 -- nothing was dropped
@@ -16,6 +16,15 @@ dropped_twice a b c one more = more ∙ ap (λ (x : ServeCounts). record x { dro
 -- behind what was counted
 pub dropped_behind : (a b c : ServeCounts) → b ≡ a → CountsDropped b c → CountsDropped a c
 dropped_behind a b c is more = more ∙ ap (λ (x : ServeCounts). record x { dropped = c.dropped }) is
+
+-- a bad count was counted
+pub broken_one : (c d : ServeCounts) → CountsDropped (broken_counted c) d → CountsBroken c d
+broken_one c d is = is ∙ ap (λ (n : ℕ). record c { broken = n; dropped = d.dropped })
+    (sym (ap (λ (x : ServeCounts). x.broken) is))
+
+pub broken_twice : (a b c : ServeCounts) → CountsBroken a b → CountsBroken b c → CountsBroken a c
+broken_twice a b c one more =
+    more ∙ ap (λ (x : ServeCounts). record x { broken = c.broken; dropped = c.dropped }) one
 
 -- a connection that was not opened is not counted
 pub none_opened : (r : Received) (old new : ServeCounts) → ¬ (r ≡ received.Accepted) → CountsDropped old new

@@ -20,13 +20,14 @@ use Rattle.syslog_collect.specs.declared.outcome.Outcome.TheVariants.{BadCount}
 use Rattle.collect_engine.specs.Receiving.{HearsReceived, IfNotMemory, Logged, ReceivesAs}
 use Rattle.collect_engine.specs.declared.receiving.Received.{Received}
 use Rattle.collect_engine.specs.declared.receiving.Received.TheVariants as received
-use Rattle.serve_engine.specs.Counts.{octets_counted}
+use Rattle.serve_engine.specs.Counts.{CountsBroken, octets_counted}
 use Rattle.serve_engine.specs.Events.{IsAccepted, Manner}
-use Rattle.serve_engine.specs.Refusals.{KeepsEach, KeepsFrames, KeepsNext, KeepsNone, KeepsPiece}
+use Rattle.serve_engine.specs.Refusals.{KeepsEach, KeepsFrames, KeepsNext, KeepsNoFrame, KeepsPiece}
 use Rattle.serve_engine.specs.Refusals.{come, kept_in}
 use Rattle.serve_engine.specs.declared.counts.ServeCounts.{ServeCounts}
 use Rattle.serve_engine.specs.declared.report.Report.{Report}
 use Rattle.serve_engine.specs.declared.turn.Turn.{Turn}
+use Rattle.serve_engine.proofs.Counted.{broken_one, broken_twice}
 
 -- what an observer is told is told of a part of it
 one_part : {O P : Type 0} (t : P → Outcome → Option (List ℕ) → P → Type 0) (m : O → P) (x y : O) (fs : List (List ℕ))
@@ -151,8 +152,8 @@ reported_count way a b fs (o ∷ os) (here, later, mid, is, one, more) = omega (
 
 -- of no frame, nothing is kept
 one_silent : (x y : OutputState × ServeCounts) (fs : List (List ℕ)) (o : Outcome) → fs ≡ [] → IsTold KeepsNext x fs o y
-    → KeepsNone x y
-one_silent x y fs (BadCount at) none (is, kept) = kept.0
+    → KeepsNoFrame x y
+one_silent x y fs (BadCount at) none (is, kept) = (kept.0, broken_one x.1 y.1 kept.1)
 one_silent x y fs New none (f, is, told) = absurd (cc)
 one_silent x y fs Held none (f, is, told) = absurd (cc)
 one_silent x y fs (Refused fault) none (f, is, told) = absurd (cc)
@@ -160,16 +161,21 @@ one_silent x y fs (RefusedLegacy offset) none (f, is, told) = absurd (cc)
 one_silent x y fs TooLong none (f, is, told) = absurd (cc)
 
 silent : (x y : OutputState × ServeCounts) (fs : List (List ℕ)) (os : List Outcome) → fs ≡ [] → AreTold KeepsNext x fs os y
-    → KeepsNone x y
-silent x y fs [] none (is, same) =
-    (ap (λ (u : OutputState × ServeCounts). u.0) same, omega (arith, ap (λ (u : OutputState × ServeCounts). u.1.dropped) same))
+    → KeepsNoFrame x y
+silent x y fs [] none (is, same) = (
+  (
+    ap (λ (u : OutputState × ServeCounts). u.0) same,
+    omega (arith, ap (λ (u : OutputState × ServeCounts). u.1.dropped) same),
+  ),
+  subst (λ (u : OutputState × ServeCounts). CountsBroken x.1 u.1) (sym same) refl,
+)
 silent x y fs (o ∷ os) none (here, later, mid, is, one, more) =
     let left = first_empty here later (sym none ∙ is) in
     let right : later ≡ [] = first_empty later [] (sym none ∙ is ∙ ap (λ (u : List (List ℕ)). u ++ later) left
     ∙ sym (append-nil later)) in
     let a = one_silent x mid here o left one in
     let b = silent mid y later os right more in
-    (b.0 ∙ a.0, omega (arith, a.1, b.1))
+    ((b.0.0 ∙ a.0.0, omega (arith, a.0.1, b.0.1)), broken_twice x.1 mid.1 y.1 a.1 b.1)
 
 -- the frames of which it was told are the first of those that were logged
 first_frames : (s : Stream) (o : List ℕ) (n : ℕ) (d e logged fresh left : List (List ℕ)) → IsFramesOf s d
@@ -240,7 +246,7 @@ kept_octets way s o n waited waits a b os told x y none l h same =
           y,
           piece h.fresh (no_more l.logged h.fresh more is count) before os y
               (subst (λ (u : List Outcome). AreTold KeepsNext x h.fresh u y) (sym eq) h.told),
-          (refl, omega arith),
+          ((refl, omega arith), refl),
         )
     by_outcomes before all more is (inr eq) =
         let nothing : l.logged ≡ [] =
@@ -267,11 +273,11 @@ kept_whole way c octets h w waits os x y none (a, b, log) (n, told, heard, same)
 -- behind a bad count
 kept_behind : (c : ℕ) (octets : List ℕ) (h : History) (w : ℕ → ℕ) (waits : ℕ) (os : List Outcome)
     (x y : OutputState × ServeCounts) → w c ≡ 0 → IsSomeAnd (stream_of c h.streams) HoldsBadCount
-    → HearsReceived KeepsNext (stream_of c h.streams) octets (w c) waits os x y → KeepsNone x y
+    → HearsReceived KeepsNext (stream_of c h.streams) octets (w c) waits os x y → KeepsNoFrame x y
 kept_behind c octets h w waits os x y none bad (n, told, heard, same) = at (stream_of c h.streams) bad heard
   where
     at : (q : Option Stream) → IsSomeAnd q HoldsBadCount
-        → HearsPiece KeepsNext q (take n octets) (w c) waits [] told x y → KeepsNone x y
+        → HearsPiece KeepsNext q (take n octets) (w c) waits [] told x y → KeepsNoFrame x y
     at None bad hears = absurd bad
     at (Some s) (frames, rest, place, bad) (outs, is, hears) =
         let before : hears.waiting_before ≡ [] = empty hears.waiting_before (hears.count_before ∙ none) in
@@ -312,7 +318,7 @@ kept_frames {way = way} {before = before} {c = c} {octets = octets} taken x y he
 
     behind : (r : Received) (own : List AcceptedEvent) → own ≡ [] → r ≡ received.Accepted
         → ReceivesAs way.reading (history_of before) taken.is.0 taken.is.1 (Piece c octets) r taken.outcomes own
-        → KeepsNone x y
+        → KeepsNoFrame x y
     behind received.Accepted own is accepted (inl (all, log, waits, whole)) = absurd (cc)
     behind received.Accepted own is accepted (inr (none, outcomes, waits, bad)) =
         kept_behind c octets (history_of before) taken.is.0 (taken.is.1 c) taken.outcomes x y (taken.is.2 c) bad heard

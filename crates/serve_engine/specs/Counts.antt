@@ -41,6 +41,10 @@ broken_counted c = record c { broken = count_up c.broken 1 }
 abbrev pub CountsDropped : ServeCounts → ServeCounts → Type 0
 CountsDropped old new = new ≡ record old { dropped = new.dropped }
 
+-- or than bad counts and that
+abbrev pub CountsBroken : ServeCounts → ServeCounts → Type 0
+CountsBroken old new = new ≡ record old { broken = new.broken; dropped = new.dropped }
+
 -- nothing that came is counted, at a commit or a line
 pub record CountsNothing (old new : ServeCounts) : Type 0 where
   pub received : new.received ≡ old.received

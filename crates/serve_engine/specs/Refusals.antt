@@ -10,7 +10,7 @@ use Rattle.syslog_collect.specs.Observers.{HearsPiece}
 use Rattle.syslog_collect.specs.declared.outcome.Outcome.{Outcome}
 use Rattle.syslog_collect.specs.declared.outcome.Outcome.TheVariants.{New, Held, Refused, RefusedLegacy, TooLong}
 use Rattle.syslog_collect.specs.declared.outcome.Outcome.TheVariants.{BadCount}
-use Rattle.serve_engine.specs.Counts.{CountsDropped, CountsEnd, CountsOpening, CountsSilent, counted, octets_counted}
+use Rattle.serve_engine.specs.Counts.{CountsBroken, CountsDropped, CountsEnd, CountsOpening, CountsSilent, counted, octets_counted}
 use Rattle.serve_engine.specs.Events.{IsAccepted, Manner}
 use Rattle.serve_engine.specs.declared.counts.ServeCounts.{ServeCounts}
 use Rattle.serve_engine.specs.declared.report.Report.{Report}
@@ -58,6 +58,10 @@ kept_in state report = (state report.refused, report.counts)
 abbrev pub KeepsNone : OutputState × ServeCounts → OutputState × ServeCounts → Type 0
 KeepsNone old new = KeepsNothing old.0 new.0 old.1.dropped new.1.dropped
 
+-- of no frame: nothing was, and no more is counted than bad counts
+abbrev pub KeepsNoFrame : OutputState × ServeCounts → OutputState × ServeCounts → Type 0
+KeepsNoFrame old new = KeepsNone old new × CountsBroken old.1 new.1
+
 -- where a step has no event, nothing was, and nothing that came is counted
 abbrev pub KeepsSilent : Bool → OutputState × ServeCounts → OutputState × ServeCounts → Type 0
 KeepsSilent due old new = KeepsNone old new × CountsSilent due old.1 new.1
@@ -81,7 +85,7 @@ KeepsEach octets (o ∷ os) old new =
 abbrev pub KeepsPiece : Option Stream → List ℕ → List Outcome → OutputState × ServeCounts → OutputState × ServeCounts
     → Type 0
 KeepsPiece stream octets outcomes old new = (between : OutputState × ServeCounts)
-    × HearsPiece KeepsNext stream octets 0 0 [] outcomes old between × KeepsNone between new
+    × HearsPiece KeepsNext stream octets 0 0 [] outcomes old between × KeepsNoFrame between new
 
 -- of what was accepted of a piece, the frames were whose outcomes it has; where all of it was, these are its frames;
 -- where it was passed over, none was
@@ -92,7 +96,7 @@ pub record KeepsFrames {way : Manner} {before : List AcceptedEvent} {c : ℕ} {o
       taken.outcomes old new
   pub whole : taken.own ≡ Piece c octets ∷ [] → IfNotMemory taken.received (KeepsPiece
       (stream_of c (history_of before).streams) octets taken.outcomes old new)
-  pub passed : taken.own ≡ [] → taken.received ≡ received.Accepted → KeepsNone old new
+  pub passed : taken.own ≡ [] → taken.received ≡ received.Accepted → KeepsNoFrame old new
 
 -- of what was accepted of an event: of a datagram it is the whole; an opening and an end have no frame, and are counted
 abbrev pub KeepsEvent : {way : Manner} {before here : List AcceptedEvent} {lost : Bool} {turn : Turn}
