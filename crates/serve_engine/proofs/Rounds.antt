@@ -15,7 +15,7 @@ use Rattle.serve_engine.specs.Refusals.{KeepsSilent}
 use Rattle.serve_engine.specs.Servers.{AreTurns, Around, DoneRun, GoOn, IsGiven, IsTurn, Made, Place}
 use Rattle.serve_engine.specs.Servers.{RunsTo, ServesRun, ServesTurn, around_after, events_of, kept_after}
 use Rattle.serve_engine.specs.Serving.{CommitsAll, GivesStep, HoldsReceived, IfCommitted, IfSettled, IsCause, IsCommitTurn}
-use Rattle.serve_engine.specs.Serving.{IsStepTurn, ServesStep, UnlessStopped, asks_commit, is_due}
+use Rattle.serve_engine.specs.Serving.{IsStepTurn, ServesStep, UnlessStopped, asks_commit, is_due, is_last}
 use Rattle.serve_engine.specs.declared.intake.Intake.{Intake}
 use Rattle.serve_engine.specs.declared.serve_end.ServeEnd.{ServeEnd}
 use Rattle.serve_engine.specs.declared.serve_end.ServeEnd.TheVariants.{Finished, Source, Disk, Memory, Endless}
@@ -74,6 +74,7 @@ tried entries stands a b t was_full still commits settled same turn kept = recor
           rests = λ none_due. absurd (cc);
           fills = λ none_due. absurd (cc);
           cause = commit_try t turn;
+          ends = λ over. absurd (cc);
         };
         settled = quiet;
       };
@@ -90,8 +91,9 @@ pub stepped : {S K : Type 0} (entries : S → List Entry) (stands : K → Kept �
     → GivesStep a.around.source b.around.source (given_of s buf) lost
     → IfNone (event_of s (octets_of s buf)) (KeepsSilent (asks_commit s) a.around.refusals b.around.refusals)
     → manner_of b.intake.collector ≡ manner_of a.intake.collector
-    → (asks_commit s ≡ false → b.around.full ≡ a.around.full) → IsStepTurn s t → ServesTurn entries stands t a b
-stepped entries stands a b s buf lost t room serves gives silent same fills turn = record {
+    → (asks_commit s ≡ false → b.around.full ≡ a.around.full) → IsStepTurn s t
+    → (is_last s ≡ true → t ≡ On → b.around.full ≡ true) → ServesTurn entries stands t a b
+stepped entries stands a b s buf lost t room serves gives silent same fills turn last = record {
   step = Some (given_of s buf);
   lost = lost;
   given = given;
@@ -110,6 +112,7 @@ stepped entries stands a b s buf lost t room serves gives silent same fills turn
           rests = d.7;
           fills = fills;
           cause = turn;
+          ends = last;
         };
         settled = d.5;
       };

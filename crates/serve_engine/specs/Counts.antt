@@ -13,6 +13,21 @@ use Rattle.serve_engine.specs.declared.serve_end.ServeEnd.TheVariants.{Finished,
 abbrev pub HasRefused : ServeCounts → Type 0
 HasRefused counts = (0 < counts.refused) ⊎ ((0 < counts.too_long) ⊎ (0 < counts.broken))
 
+-- nothing is counted yet
+abbrev pub no_counts : ServeCounts
+no_counts = record {
+  received = 0;
+  new = 0;
+  held = 0;
+  refused = 0;
+  too_long = 0;
+  connections = 0;
+  batches = 0;
+  octets = 0;
+  broken = 0;
+  dropped = 0;
+}
+
 -- a count with so many more, which stays at the largest value
 abbrev pub count_up : ℕ → ℕ → ℕ
 count_up count more = min (count + more) (2 ^ 64 - 1)

@@ -1,5 +1,5 @@
 -- Frames that are refused, as they are kept.
-use Rattle.std.specs.Prelude.{◌≡◌, ◌⊎◌, ◌-◌, ◌^◌, ◌<◌, ◌≤◌, ℕ, List, [], ◌∷◌, ◌++◌, length, codes, decimal}
+use Rattle.std.specs.Prelude.{◌≡◌, ◌⊎◌, ◌-◌, ◌^◌, ◌<◌, ◌≤◌, ℕ, List, [], ◌∷◌, ◌++◌, length, codes, decimal, take}
 use Rattle.std.specs.Prelude.{Bool, Option, Some, None}
 use Rattle.std.specs.Io.KnownBytes.{Appends}
 use Rattle.octet_devices.specs.Device.{OutputState}
@@ -31,11 +31,16 @@ abbrev pub refusal_text : List ℕ → Option (List ℕ) → List ℕ
 refusal_text line None = line
 refusal_text line (Some frame) = line ++ (codes "\n" ++ frame)
 
--- a frame was written behind a line; or it was dropped, and counted
+-- of a text the first octets were written, or none; the rest was dropped, and counted
+abbrev pub DropsRest : OutputState → OutputState → List ℕ → ℕ → ℕ → Type 0
+DropsRest old new text dropped dropped_new = ((sent : ℕ) × Appends old.taken new.taken (take sent text))
+    × ((dropped < dropped_new) ⊎ (dropped_new ≡ 2 ^ 64 - 1))
+
+-- a frame was written behind a line; or the rest of that was dropped
 abbrev pub KeepsFrame : OutputState → OutputState → Option (List ℕ) → ℕ → ℕ → Type 0
-KeepsFrame old new frame dropped dropped_new =
-    ((line : List ℕ) × Appends old.taken new.taken (counted_text (refusal_text line frame)))
-    ⊎ ((dropped < dropped_new) ⊎ (dropped_new ≡ 2 ^ 64 - 1))
+KeepsFrame old new frame dropped dropped_new = (line : List ℕ)
+    × (Appends old.taken new.taken (counted_text (refusal_text line frame))
+    ⊎ DropsRest old new (counted_text (refusal_text line frame)) dropped dropped_new)
 
 -- nothing was, though lines may have been dropped
 abbrev pub KeepsNothing : OutputState → OutputState → ℕ → ℕ → Type 0
@@ -49,6 +54,10 @@ KeepsOutcome old new (Refused fault) frame dropped dropped_new = KeepsFrame old 
 KeepsOutcome old new (RefusedLegacy offset) frame dropped dropped_new = KeepsFrame old new frame dropped dropped_new
 KeepsOutcome old new TooLong frame dropped dropped_new = KeepsFrame old new None dropped dropped_new
 KeepsOutcome old new (BadCount at) frame dropped dropped_new = KeepsNothing old new dropped dropped_new
+
+-- where lines go, and the frames that are kept
+abbrev pub outputs_in : {N R : Type 0} → Report N R → N × R
+outputs_in report = (report.notes, report.refused)
 
 -- where the frames go that are kept, and what was counted
 abbrev pub kept_in : {N R : Type 0} → (R → OutputState) → Report N R → OutputState × ServeCounts

@@ -9,9 +9,9 @@ use Rattle.socket_source.specs.Steps.{Given, SourceState}
 use Rattle.serve_engine.specs.Events.{Manner, manner_of}
 use Rattle.serve_engine.specs.Intakes.{StandsBy}
 use Rattle.serve_engine.specs.Keepings.{Kept, StaysCommitted}
-use Rattle.serve_engine.specs.Refusals.{KeepsSilent, kept_in}
+use Rattle.serve_engine.specs.Refusals.{outputs_in, KeepsSilent, kept_in}
 use Rattle.serve_engine.specs.Serving.{Gave, HoldsReceived, IfCommitted, IfSettled, IsCause, Served, UnlessMemory}
-use Rattle.serve_engine.specs.Serving.{UnlessStopped, event_in, is_due}
+use Rattle.serve_engine.specs.Serving.{UnlessStopped, event_in, is_due, is_over}
 use Rattle.serve_engine.specs.declared.counts.ServeCounts.{ServeCounts}
 use Rattle.serve_engine.specs.declared.intake.Intake.{Intake}
 use Rattle.serve_engine.specs.declared.serve_end.ServeEnd.{ServeEnd}
@@ -27,6 +27,10 @@ intake_of server = server.intake
 -- what it has counted
 abbrev pub counts_of : {S K N R : Type 0} → Server S K N R → ServeCounts
 counts_of server = server.report.counts
+
+-- where it writes its lines, and the frames that it refuses
+abbrev pub outputs_of : {S K N R : Type 0} → Server S K N R → N × R
+outputs_of server = outputs_in server.report
 
 -- its disk was full at the last try
 abbrev pub is_full : {S K N R : Type 0} → Server S K N R → Bool
@@ -74,7 +78,7 @@ pub record IsGiven (a b : Around) (step : Option Given) (lost : Bool) : Type 0 w
 -- A turn over first entries, behind what was kept and events before it. Its step was served, and what was refused of that
 -- is kept. What was committed still is; where a commit is due, what is committed is all that was received, unless the disk
 -- is full or it ends; where none is, what is held and committed is as before, and so is whether the disk is full. Where it
--- ends, the step says why.
+-- ends, the step says why; and where the source has finished or failed, it ends, unless the disk is full.
 pub record IsTurn (way : Manner) (first : List Entry) (k : Kept) (before : List AcceptedEvent) (a : Around)
     (made : Made) : Type 0 where
   pub given : IsGiven a made.around made.step made.lost
@@ -85,6 +89,7 @@ pub record IsTurn (way : Manner) (first : List Entry) (k : Kept) (before : List 
   pub rests : is_due made.step ≡ false → made.kept ≡ k
   pub fills : is_due made.step ≡ false → made.around.full ≡ a.full
   pub cause : IsCause made.step made.turn
+  pub ends : is_over made.step ≡ true → made.turn ≡ On → made.around.full ≡ true
 
 -- an intake stood at first entries and events, where no frame waited; after a turn of this step it stands behind what
 -- was accepted in it

@@ -128,6 +128,23 @@ IfCommitted Disk P = Unit {0}
 IfCommitted Memory P = Unit {0}
 IfCommitted Endless P = Unit {0}
 
+-- a step is the last one that a source gives: it has finished or failed
+abbrev pub is_last : ServerStep → Bool
+is_last (step.Opened conn listener framing peer) = false
+is_last (step.Piece conn len) = false
+is_last (step.Ended conn end) = false
+is_last (step.Datagram listener peer len) = false
+is_last (step.TurnedAway listener framing peer) = false
+is_last step.Tick = false
+is_last step.InputEnded = false
+is_last step.Finished = true
+is_last (step.Failed fault) = true
+
+-- so is that of a turn
+abbrev pub is_over : Option Given → Bool
+is_over None = false
+is_over (Some g) = is_last g.step
+
 -- why a step ends a run: it says so; or the disk failed at a commit; or memory ran out
 abbrev pub IsStepTurn : ServerStep → Turn → Type 0
 IsStepTurn s On = Unit {0}

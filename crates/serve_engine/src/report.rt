@@ -1,9 +1,9 @@
 //! What a server tells: lines, counts, and the frames that it refuses.
 ghost use Rattle.std.specs.Prelude.{◌≡◌, ◌≤◌, true};
-ghost use Rattle.serve_engine.specs.Counts.{CountsDropped, CountsEnd, connection_counted, count_up, counted};
+ghost use Rattle.serve_engine.specs.Counts.{CountsDropped, CountsEnd, connection_counted, count_up, counted, no_counts};
 ghost use Rattle.serve_engine.specs.Counts.{octets_counted};
 ghost use Rattle.serve_engine.specs.Refusals.{KeepsEach, KeepsFrame, KeepsNext, KeepsNone, KeepsSilent, kept_in};
-ghost use Rattle.serve_engine.specs.Refusals.{octets_in};
+ghost use Rattle.serve_engine.specs.Refusals.{octets_in, outputs_in};
 
 use crate::counts::ServeCounts;
 use crate::keeping::Taken;
@@ -33,7 +33,10 @@ pub(crate) struct Report<N, R> {
 }
 
 impl<N: Output + Drop, R: Output + Drop> Report<N, R> {
-    pub(crate) fn new(alloc: Global, notes: N, refused: R) -> Report<N, R> {
+    pub(crate) fn new(alloc: Global, notes: N, refused: R) -> Report<N, R>
+        ensures counts { result.counts ≡ no_counts }
+        ensures outputs { outputs_in result ≡ (notes, refused) }
+    {
         Report {
             notes,
             refused,
@@ -57,7 +60,9 @@ impl<N: Output + Drop, R: Output + Drop> Report<N, R> {
     }
 
     /// The outputs, with all that they took.
-    pub(crate) fn into_outputs(self) -> (N, R) {
+    pub(crate) fn into_outputs(self) -> (N, R)
+        ensures { result ≡ outputs_in self }
+    {
         let Report {
             notes,
             refused,
@@ -130,6 +135,7 @@ impl<N: Output + Drop, R: Output + Drop> Report<N, R> {
 
     // Counts a line or a frame that was dropped.
     fn drop_one(&mut self)
+        ensures refused { self.new.refused ≡ self.old.refused }
         ensures dropped { self.new.counts.dropped ≡ count_up self.old.counts.dropped 1 }
         ensures counts { CountsDropped self.old.counts self.new.counts }
     {

@@ -1,10 +1,11 @@
 //! The loop of a server.
-ghost use Rattle.std.specs.Prelude.{◌≡◌, Bool, IfNone, false, length};
+ghost use Rattle.std.specs.Prelude.{◌≡◌, Bool, IfNone, false, length, true};
+ghost use Rattle.serve_engine.specs.declared.turn.Turn.TheVariants.{On};
 ghost use Rattle.socket_source.specs.Steps.{IsWithin, octets_of};
 ghost use Rattle.serve_engine.specs.Events.{event_of, manner_of};
 ghost use Rattle.serve_engine.specs.Refusals.{KeepsSilent, kept_in};
 ghost use Rattle.serve_engine.specs.Servers.{ServesRun, ServesTurn, intake_of, place_of};
-ghost use Rattle.serve_engine.specs.Serving.{ClosesOwn, IsStepTurn, ServesStep, asks_commit};
+ghost use Rattle.serve_engine.specs.Serving.{ClosesOwn, IsStepTurn, ServesStep, asks_commit, is_last};
 
 use crate::keeping::{Keeping, Pause};
 use crate::serve_end::ServeEnd;
@@ -42,6 +43,7 @@ impl<S: Store + Drop, K: Keeping<S> + Drop, N: Output + Drop, R: Output + Drop> 
         ensures manner { manner_of self.new.intake.collector ≡ manner_of self.old.intake.collector }
         ensures full { asks_commit step ≡ false → self.new.full ≡ self.old.full }
         ensures turn { IsStepTurn step result }
+        ensures last { is_last step ≡ true → result ≡ On → self.new.full ≡ true }
         ensures silent { IfNone (event_of step (octets_of step buf.now))
             (KeepsSilent (asks_commit step) (kept_in R.state self.old.report)
             (kept_in R.state self.new.report)) }

@@ -303,6 +303,7 @@ impl<S: Store + Drop, K: Keeping<S> + Drop, N: Output + Drop, R: Output + Drop> 
         ensures settled { NoneWaits self.old.intake.collector → NoneWaits self.new.intake.collector }
         ensures manner { manner_of self.new.intake.collector ≡ manner_of self.old.intake.collector }
         ensures turn { IsCommitTurn result ⊎ (result ≡ End end) }
+        ensures last { result ≡ On → self.new.full ≡ true }
         ensures kept { KeepsSilent true (kept_in R.state self.old.report) (kept_in R.state self.new.report) }
     {
         match self.commit(alloc) {

@@ -16,3 +16,4 @@ returns-clause-served g c =
       given = refl;
       closes = c.step.ensures.served.1;
     }) c.step.ensures.silent c.step.ensures.manner c.step.ensures.full c.step.ensures.turn
+    c.step.ensures.last
