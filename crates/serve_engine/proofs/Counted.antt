@@ -1,8 +1,8 @@
 -- Counts of what was dropped.
-use Rattle.std.proofs.Common.{◌≡◌, ℕ, ap, refl, sym, ◌∙◌}
+use Rattle.std.proofs.Common.{◌≡◌, ℕ, ap, inl, inr, refl, sym, ◌∙◌}
 use Rattle.collect_engine.specs.declared.receiving.Received.{Received}
 use Rattle.collect_engine.specs.declared.receiving.Received.TheVariants as received
-use Rattle.serve_engine.specs.Counts.{CountsBroken, CountsDropped, CountsEnd, CountsOpening, broken_counted}
+use Rattle.serve_engine.specs.Counts.{CountsBroken, CountsCommit, CountsDropped, CountsEnd, CountsOpening, broken_counted, commit_counted}
 use Rattle.serve_engine.specs.declared.counts.ServeCounts.{ServeCounts}
 
 -- nothing was dropped
@@ -16,6 +16,11 @@ dropped_twice a b c one more = more ∙ ap (λ (x : ServeCounts). record x { dro
 -- behind what was counted
 pub dropped_behind : (a b c : ServeCounts) → b ≡ a → CountsDropped b c → CountsDropped a c
 dropped_behind a b c is more = more ∙ ap (λ (x : ServeCounts). record x { dropped = c.dropped }) is
+
+-- behind a commit
+pub commit_behind : (a b c : ServeCounts) → CountsCommit a b → CountsDropped b c → CountsCommit a c
+commit_behind a b c (inl none) more = inl (dropped_twice a b c none more)
+commit_behind a b c (inr (taken, one)) more = inr (taken, dropped_twice (commit_counted a taken) b c one more)
 
 -- a bad count was counted
 pub broken_one : (c d : ServeCounts) → CountsDropped (broken_counted c) d → CountsBroken c d

@@ -20,16 +20,33 @@ dropped_more m n is = by (cases_lt m (2 ^ 64 - 1))
 -- nothing of a frame was written
 pub kept_none : (a b : OutputState) (frame : Option (List ℕ)) (m n : ℕ) → b ≡ a → n ≡ count_up m 1
     → KeepsFrame a b frame m n
-kept_none a b frame m n same is = ([], inr ((0, subst (λ (o : OutputState). Appends a.taken o.taken []) (sym same)
-    (Appends-nil a.taken)), dropped_more m n is))
+kept_none a b frame m n same is = (
+  [],
+  inr (
+    (
+      0,
+      subst (λ (o : OutputState). Appends a.taken o.taken []) (sym same)
+          (Appends-nil a.taken),
+    ),
+    dropped_more m n is,
+  ),
+)
 
 -- its first octets were
 pub kept_part : (a mid b : OutputState) (frame : Option (List ℕ)) (m n : ℕ) (line front text : List ℕ) (sent : ℕ)
     → b ≡ mid → front ≡ [] → text ≡ front ++ counted_text (refusal_text line frame)
     → Appends a.taken mid.taken (take sent text) → n ≡ count_up m 1 → KeepsFrame a b frame m n
-kept_part a mid b frame m n line front text sent same none is part counts = (line, inr ((sent,
-    subst (λ (o : OutputState). Appends a.taken o.taken (take sent (counted_text (refusal_text line frame)))) (sym same)
-    (subst (λ (t : List ℕ). Appends a.taken mid.taken (take sent t)) whole part)), dropped_more m n counts))
+kept_part a mid b frame m n line front text sent same none is part counts = (
+  line,
+  inr (
+    (
+      sent,
+      subst (λ (o : OutputState). Appends a.taken o.taken (take sent (counted_text (refusal_text line frame)))) (sym same)
+          (subst (λ (t : List ℕ). Appends a.taken mid.taken (take sent t)) whole part),
+    ),
+    dropped_more m n counts,
+  ),
+)
   where
     whole : text ≡ counted_text (refusal_text line frame)
     whole = is ∙ ap (λ (x : List ℕ). x ++ counted_text (refusal_text line frame)) none

@@ -6,6 +6,7 @@ use Rattle.syslog_collect.specs.declared.outcome.Outcome.{Outcome}
 use Rattle.syslog_collect.specs.declared.outcome.Outcome.TheVariants.{New, Held, Refused, RefusedLegacy, TooLong}
 use Rattle.syslog_collect.specs.declared.outcome.Outcome.TheVariants.{BadCount}
 use Rattle.serve_engine.specs.declared.counts.ServeCounts.{ServeCounts}
+use Rattle.serve_engine.specs.declared.keeping.Taken.{Taken}
 use Rattle.serve_engine.specs.declared.serve_end.ServeEnd.{ServeEnd}
 use Rattle.serve_engine.specs.declared.serve_end.ServeEnd.TheVariants.{Finished, Source, Disk, Memory, Endless}
 
@@ -60,18 +61,21 @@ CountsDropped old new = new ≡ record old { dropped = new.dropped }
 abbrev pub CountsBroken : ServeCounts → ServeCounts → Type 0
 CountsBroken old new = new ≡ record old { broken = new.broken; dropped = new.dropped }
 
--- nothing that came is counted, at a commit or a line
-pub record CountsNothing (old new : ServeCounts) : Type 0 where
-  pub received : new.received ≡ old.received
-  pub refused : new.refused ≡ old.refused
-  pub too_long : new.too_long ≡ old.too_long
-  pub connections : new.connections ≡ old.connections
-  pub octets : new.octets ≡ old.octets
-  pub broken : new.broken ≡ old.broken
+-- with a commit, and what was handed over at it
+abbrev pub commit_counted : ServeCounts → Taken → ServeCounts
+commit_counted c taken = record c {
+  new = count_up c.new taken.new;
+  held = count_up c.held taken.held;
+  batches = count_up c.batches 1;
+}
 
--- where a step has no event, nothing that came is; unless a commit is due, no more is than what was dropped
+-- a commit is counted, or none is
+abbrev pub CountsCommit : ServeCounts → ServeCounts → Type 0
+CountsCommit old new = CountsDropped old new ⊎ ((taken : Taken) × CountsDropped (commit_counted old taken) new)
+
+-- where a step has no event, nothing that came is counted; where a commit is due, that may be
 abbrev pub CountsSilent : Bool → ServeCounts → ServeCounts → Type 0
-CountsSilent true old new = CountsNothing old new
+CountsSilent true old new = CountsCommit old new
 CountsSilent false old new = CountsDropped old new
 
 -- a connection that was opened is counted

@@ -1,7 +1,7 @@
 //! What a server tells: lines, counts, and the frames that it refuses.
-ghost use Rattle.std.specs.Prelude.{◌≡◌, ◌≤◌, true};
+ghost use Rattle.std.specs.Prelude.{◌≡◌, ◌≤◌, false};
 ghost use Rattle.serve_engine.specs.Counts.{CountsDropped, CountsEnd, connection_counted, count_up, counted, no_counts};
-ghost use Rattle.serve_engine.specs.Counts.{octets_counted};
+ghost use Rattle.serve_engine.specs.Counts.{commit_counted, octets_counted};
 ghost use Rattle.serve_engine.specs.Refusals.{KeepsEach, KeepsFrame, KeepsNext, KeepsNone, KeepsSilent, kept_in};
 ghost use Rattle.serve_engine.specs.Refusals.{octets_in, outputs_in};
 
@@ -98,7 +98,7 @@ impl<N: Output + Drop, R: Output + Drop> Report<N, R> {
 
     /// Tells a line whose text is known.
     pub(crate) fn tell_text(&mut self, text: &[u8])
-        ensures { KeepsSilent true (kept_in R.state self.old) (kept_in R.state self.new) }
+        ensures { KeepsSilent false (kept_in R.state self.old) (kept_in R.state self.new) }
     {
         self.line.clear();
         let made = self.line.extend_from_slice(text);
@@ -107,7 +107,7 @@ impl<N: Output + Drop, R: Output + Drop> Report<N, R> {
 
     /// Tells the counts.
     pub(crate) fn tell_counts(&mut self)
-        ensures { KeepsSilent true (kept_in R.state self.old) (kept_in R.state self.new) }
+        ensures { KeepsSilent false (kept_in R.state self.old) (kept_in R.state self.new) }
     {
         self.line.clear();
         let made = put_counts(&mut self.line, &self.counts);
@@ -255,7 +255,7 @@ impl<N: Output + Drop, R: Output + Drop> Report<N, R> {
 
     /// Tells that the disk is full, unless it was full before.
     pub(crate) fn tell_full(&mut self, before: bool)
-        ensures { KeepsSilent true (kept_in R.state self.old) (kept_in R.state self.new) }
+        ensures { KeepsSilent false (kept_in R.state self.old) (kept_in R.state self.new) }
     {
         if !before {
             self.tell_text(b"store full\n");
@@ -264,7 +264,7 @@ impl<N: Output + Drop, R: Output + Drop> Report<N, R> {
 
     /// Tells how serving ends.
     pub(crate) fn tell_end(&mut self, end: ServeEnd)
-        ensures { KeepsSilent true (kept_in R.state self.old) (kept_in R.state self.new) }
+        ensures { KeepsSilent false (kept_in R.state self.old) (kept_in R.state self.new) }
     {
         if let ServeEnd::Source(_) = end {
             self.tell_text(b"source fault\n");
@@ -289,7 +289,8 @@ impl<N: Output + Drop, R: Output + Drop> Report<N, R> {
 
     /// Counts what was handed over and committed.
     pub(crate) fn committed(&mut self, taken: Taken)
-        ensures { KeepsSilent true (kept_in R.state self.old) (kept_in R.state self.new) }
+        ensures refused { self.new.refused ≡ self.old.refused }
+        ensures counts { self.new.counts ≡ commit_counted self.old.counts taken }
     {
         count_up(&mut self.counts.new, taken.new);
         count_up(&mut self.counts.held, taken.held);

@@ -77,8 +77,9 @@ impl<S: Store + Drop, K: Keeping<S> + Drop, N: Output + Drop, R: Output + Drop> 
     /// A turn: a step of the source; or if the disk is full, another try after a while in which
     /// nothing is read. The slice should have room for `PIECE_MAX` octets.
     ///
-    /// What came is committed at each tick, unless the disk is full, and when the run ends. What is
-    /// refused of the step is kept, frame by frame.
+    /// What came is committed at each tick, and once the source has finished or failed, unless the
+    /// disk is full or fails, or memory runs out. What is refused of the step is kept, frame by
+    /// frame.
     pub fn turn<Q: ServerSource, P: Pause>(
         &mut self,
         alloc: Global,

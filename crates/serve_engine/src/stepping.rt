@@ -200,7 +200,7 @@ impl<S: Store + Drop, K: Keeping<S> + Drop, N: Output + Drop, R: Output + Drop> 
     fn fault(&mut self, fault: KeepFault) -> Turn
         ensures same { self.new.intake ≡ self.old.intake }
         ensures turn { FaultsAs fault self.new.full result }
-        ensures kept { KeepsSilent true (kept_in R.state self.old.report) (kept_in R.state self.new.report) }
+        ensures kept { KeepsSilent false (kept_in R.state self.old.report) (kept_in R.state self.new.report) }
     {
         match fault {
             KeepFault::Full => {
@@ -242,7 +242,7 @@ impl<S: Store + Drop, K: Keeping<S> + Drop, N: Output + Drop, R: Output + Drop> 
         ensures collector { self.new.intake.collector ≡ self.old.intake.collector }
         ensures full { UnlessStopped result self.new.full (self.old.full ≡ false) }
         ensures turn { IsCommitTurn result }
-        ensures kept { KeepsSilent true (kept_in R.state self.old.report) (kept_in R.state self.new.report) }
+        ensures kept { KeepsSilent false (kept_in R.state self.old.report) (kept_in R.state self.new.report) }
     {
         if self.full || self.intake.keeper.journal_len() <= checkpoint_len {
             return Turn::On;
@@ -257,7 +257,7 @@ impl<S: Store + Drop, K: Keeping<S> + Drop, N: Output + Drop, R: Output + Drop> 
     fn count_tick(&mut self, count_ticks: u64)
         ensures same { self.new.intake ≡ self.old.intake }
         ensures full { self.new.full ≡ self.old.full }
-        ensures kept { KeepsSilent true (kept_in R.state self.old.report) (kept_in R.state self.new.report) }
+        ensures kept { KeepsSilent false (kept_in R.state self.old.report) (kept_in R.state self.new.report) }
     {
         self.ticks = self.ticks.saturating_add(1);
         if count_ticks != 0 && self.ticks >= count_ticks {
@@ -288,7 +288,7 @@ impl<S: Store + Drop, K: Keeping<S> + Drop, N: Output + Drop, R: Output + Drop> 
         ensures same { self.new.intake ≡ self.old.intake }
         ensures full { self.new.full ≡ self.old.full }
         ensures turn { EndsUnlessFull self.old.full end result }
-        ensures kept { KeepsSilent true (kept_in R.state self.old.report) (kept_in R.state self.new.report) }
+        ensures kept { KeepsSilent false (kept_in R.state self.old.report) (kept_in R.state self.new.report) }
     {
         if self.full {
             return Turn::On;
