@@ -1,3 +1,5 @@
+pub mod Counted
+pub mod Kept
 pub mod Refused
 pub mod Turns
 pub mod Rounds

@@ -20,13 +20,14 @@ use Rattle.syslog_collect.specs.declared.outcome.Outcome.TheVariants.{BadCount}
 use Rattle.collect_engine.specs.Receiving.{HearsReceived, IfNotMemory, Logged, ReceivesAs}
 use Rattle.collect_engine.specs.declared.receiving.Received.{Received}
 use Rattle.collect_engine.specs.declared.receiving.Received.TheVariants as received
-use Rattle.serve_engine.specs.Keepings.{Kept}
-use Rattle.serve_engine.specs.Refusals.{KeepsEach, KeepsEvent, KeepsFrames, KeepsNext, KeepsNone, KeepsPiece}
-use Rattle.serve_engine.specs.Refusals.{KeepsRefused, KeepsStep, kept_in}
-use Rattle.serve_engine.specs.Serving.{Accepts, IsAccepted, Manner, manner_of}
-use Rattle.serve_engine.specs.declared.intake.Intake.{Intake}
+use Rattle.serve_engine.specs.Counts.{CountsBroken, octets_counted}
+use Rattle.serve_engine.specs.Events.{IsAccepted, Manner}
+use Rattle.serve_engine.specs.Refusals.{KeepsEach, KeepsFrames, KeepsNext, KeepsNoFrame, KeepsPiece}
+use Rattle.serve_engine.specs.Refusals.{come, kept_in}
+use Rattle.serve_engine.specs.declared.counts.ServeCounts.{ServeCounts}
 use Rattle.serve_engine.specs.declared.report.Report.{Report}
 use Rattle.serve_engine.specs.declared.turn.Turn.{Turn}
+use Rattle.serve_engine.proofs.Counted.{broken_one, broken_twice}
 
 -- what an observer is told is told of a part of it
 one_part : {O P : Type 0} (t : P → Outcome → Option (List ℕ) → P → Type 0) (m : O → P) (x y : O) (fs : List (List ℕ))
@@ -66,22 +67,23 @@ piece_part t m (Some s) octets waited waits log_old log_new x y (os, log, h) = (
 )
 
 pub hears_kept : {N R : Type 0} (state : R → OutputState) (q : Option Stream) (octets : List ℕ) (waited waits : ℕ)
-    (outcomes : List Outcome) (x y : Report N R) (old new : OutputState × ℕ) → kept_in state x ≡ old
+    (outcomes : List Outcome) (x y : Report N R) (old new : OutputState × ServeCounts) → kept_in state x ≡ old
     → kept_in state y ≡ new
     → HearsReceived (λ a p f b. KeepsNext (kept_in state a) p f (kept_in state b)) q octets waited waits outcomes x y
     → HearsReceived KeepsNext q octets waited waits outcomes old new
 hears_kept state q octets waited waits outcomes x y old new was now (n, os, h, same) = (
   n,
   os,
-  subst (λ (u : OutputState × ℕ). HearsPiece KeepsNext q (take n octets) waited waits [] os u new) was
-      (subst (λ (u : OutputState × ℕ). HearsPiece KeepsNext q (take n octets) waited waits [] os (kept_in state x) u)
+  subst (λ (u : OutputState × ServeCounts). HearsPiece KeepsNext q (take n octets) waited waits [] os u new) was
+      (subst (λ (u : OutputState × ServeCounts). HearsPiece KeepsNext q (take n octets) waited waits [] os (kept_in state x) u)
       now (piece_part KeepsNext (kept_in state) q (take n octets) waited waits [] os x y h)),
   same,
 )
 
-pub kept_at : {N R : Type 0} (state : R → OutputState) (x y : Report N R) → x.refused ≡ y.refused
-    → x.counts.dropped ≡ y.counts.dropped → kept_in state x ≡ kept_in state y
-kept_at state x y refused dropped = rw (refused, dropped) refl
+-- octets were counted
+pub kept_at : {N R : Type 0} (state : R → OutputState) (x y : Report N R) (octets : List ℕ) → x.refused ≡ y.refused
+    → x.counts ≡ octets_counted y.counts (length octets) → kept_in state x ≡ come octets (kept_in state y)
+kept_at state x y octets refused counts = rw (refused, counts) refl
 
 -- ---- the frames of a piece that was accepted whole
 
@@ -149,26 +151,31 @@ reported_count way a b fs (o ∷ os) (here, later, mid, is, one, more) = omega (
 )
 
 -- of no frame, nothing is kept
-one_silent : (x y : OutputState × ℕ) (fs : List (List ℕ)) (o : Outcome) → fs ≡ [] → IsTold KeepsNext x fs o y
-    → KeepsNone x y
-one_silent x y fs (BadCount at) none (is, kept) = kept
+one_silent : (x y : OutputState × ServeCounts) (fs : List (List ℕ)) (o : Outcome) → fs ≡ [] → IsTold KeepsNext x fs o y
+    → KeepsNoFrame x y
+one_silent x y fs (BadCount at) none (is, kept) = (kept.0, broken_one x.1 y.1 kept.1)
 one_silent x y fs New none (f, is, told) = absurd (cc)
 one_silent x y fs Held none (f, is, told) = absurd (cc)
 one_silent x y fs (Refused fault) none (f, is, told) = absurd (cc)
 one_silent x y fs (RefusedLegacy offset) none (f, is, told) = absurd (cc)
 one_silent x y fs TooLong none (f, is, told) = absurd (cc)
 
-silent : (x y : OutputState × ℕ) (fs : List (List ℕ)) (os : List Outcome) → fs ≡ [] → AreTold KeepsNext x fs os y
-    → KeepsNone x y
-silent x y fs [] none (is, same) =
-    (ap (λ (u : OutputState × ℕ). u.0) same, omega (arith, ap (λ (u : OutputState × ℕ). u.1) same))
+silent : (x y : OutputState × ServeCounts) (fs : List (List ℕ)) (os : List Outcome) → fs ≡ [] → AreTold KeepsNext x fs os y
+    → KeepsNoFrame x y
+silent x y fs [] none (is, same) = (
+  (
+    ap (λ (u : OutputState × ServeCounts). u.0) same,
+    omega (arith, ap (λ (u : OutputState × ServeCounts). u.1.dropped) same),
+  ),
+  subst (λ (u : OutputState × ServeCounts). CountsBroken x.1 u.1) (sym same) refl,
+)
 silent x y fs (o ∷ os) none (here, later, mid, is, one, more) =
     let left = first_empty here later (sym none ∙ is) in
     let right : later ≡ [] = first_empty later [] (sym none ∙ is ∙ ap (λ (u : List (List ℕ)). u ++ later) left
     ∙ sym (append-nil later)) in
     let a = one_silent x mid here o left one in
     let b = silent mid y later os right more in
-    (b.0 ∙ a.0, omega (arith, a.1, b.1))
+    ((b.0.0 ∙ a.0.0, omega (arith, a.0.1, b.0.1)), broken_twice x.1 mid.1 y.1 a.1 b.1)
 
 -- the frames of which it was told are the first of those that were logged
 first_frames : (s : Stream) (o : List ℕ) (n : ℕ) (d e logged fresh left : List (List ℕ)) → IsFramesOf s d
@@ -195,7 +202,7 @@ no_more logged fresh more is count = is ∙ ap (λ (u : List (List ℕ)). fresh 
 
 -- where no frame waited, and none waits, and all octets were taken
 kept_octets : (way : FrameReading) (s : Stream) (o : List ℕ) (n waited waits : ℕ) (a b : List Entry)
-    (os told : List Outcome) (x y : OutputState × ℕ) → waited ≡ 0 → LogsOctets way s o waited 0 a b os
+    (os told : List Outcome) (x y : OutputState × ServeCounts) → waited ≡ 0 → LogsOctets way s o waited 0 a b os
     → HearsOctets KeepsNext s (take n o) waited waits told x y → (os ≡ told) ⊎ (os ≡ [])
     → KeepsPiece (Some s) o os x y
 kept_octets way s o n waited waits a b os told x y none l h same =
@@ -213,7 +220,7 @@ kept_octets way s o n waited waits a b os told x y none l h same =
     by_outcomes before all first.0 first.1 same
   where
     piece : (fresh : List (List ℕ)) → l.logged ≡ fresh → l.waiting_before ≡ [] → (outs : List Outcome)
-        (z : OutputState × ℕ) → AreTold KeepsNext x fresh outs z
+        (z : OutputState × ServeCounts) → AreTold KeepsNext x fresh outs z
         → HearsPiece KeepsNext (Some s) o 0 0 [] outs x z
     piece fresh is before outs z kept = (
       outs,
@@ -239,7 +246,7 @@ kept_octets way s o n waited waits a b os told x y none l h same =
           y,
           piece h.fresh (no_more l.logged h.fresh more is count) before os y
               (subst (λ (u : List Outcome). AreTold KeepsNext x h.fresh u y) (sym eq) h.told),
-          (refl, omega arith),
+          ((refl, omega arith), refl),
         )
     by_outcomes before all more is (inr eq) =
         let nothing : l.logged ≡ [] =
@@ -250,7 +257,7 @@ kept_octets way s o n waited waits a b os told x y none l h same =
         )
 
 kept_whole : (way : FrameReading) (c : ℕ) (octets : List ℕ) (h : History) (w : ℕ → ℕ) (waits : ℕ) (os : List Outcome)
-    (x y : OutputState × ℕ) → w c ≡ 0 → Logged way h w (Piece c octets) os
+    (x y : OutputState × ServeCounts) → w c ≡ 0 → Logged way h w (Piece c octets) os
     → HearsReceived KeepsNext (stream_of c h.streams) octets (w c) waits os x y
     → KeepsPiece (stream_of c h.streams) octets os x y
 kept_whole way c octets h w waits os x y none (a, b, log) (n, told, heard, same) =
@@ -265,12 +272,12 @@ kept_whole way c octets h w waits os x y none (a, b, log) (n, told, heard, same)
 
 -- behind a bad count
 kept_behind : (c : ℕ) (octets : List ℕ) (h : History) (w : ℕ → ℕ) (waits : ℕ) (os : List Outcome)
-    (x y : OutputState × ℕ) → w c ≡ 0 → IsSomeAnd (stream_of c h.streams) HoldsBadCount
-    → HearsReceived KeepsNext (stream_of c h.streams) octets (w c) waits os x y → KeepsNone x y
+    (x y : OutputState × ServeCounts) → w c ≡ 0 → IsSomeAnd (stream_of c h.streams) HoldsBadCount
+    → HearsReceived KeepsNext (stream_of c h.streams) octets (w c) waits os x y → KeepsNoFrame x y
 kept_behind c octets h w waits os x y none bad (n, told, heard, same) = at (stream_of c h.streams) bad heard
   where
     at : (q : Option Stream) → IsSomeAnd q HoldsBadCount
-        → HearsPiece KeepsNext q (take n octets) (w c) waits [] told x y → KeepsNone x y
+        → HearsPiece KeepsNext q (take n octets) (w c) waits [] told x y → KeepsNoFrame x y
     at None bad hears = absurd bad
     at (Some s) (frames, rest, place, bad) (outs, is, hears) =
         let before : hears.waiting_before ≡ [] = empty hears.waiting_before (hears.count_before ∙ none) in
@@ -289,7 +296,7 @@ kept_behind c octets h w waits os x y none bad (n, told, heard, same) = at (stre
 
 -- what was kept of a piece, by what was accepted of it
 pub kept_frames : {way : Manner} {before here : List AcceptedEvent} {c : ℕ} {octets : List ℕ} {lost : Bool}
-    {turn : Turn} (taken : IsAccepted way before (Piece c octets) here lost turn) (x y : OutputState × ℕ)
+    {turn : Turn} (taken : IsAccepted way before (Piece c octets) here lost turn) (x y : OutputState × ServeCounts)
     → HearsReceived KeepsNext (stream_of c (history_of before).streams) octets (taken.is.0 c) (taken.is.1 c)
     taken.outcomes x y → KeepsFrames taken x y
 kept_frames {way = way} {before = before} {c = c} {octets = octets} taken x y heard = record {
@@ -311,7 +318,7 @@ kept_frames {way = way} {before = before} {c = c} {octets = octets} taken x y he
 
     behind : (r : Received) (own : List AcceptedEvent) → own ≡ [] → r ≡ received.Accepted
         → ReceivesAs way.reading (history_of before) taken.is.0 taken.is.1 (Piece c octets) r taken.outcomes own
-        → KeepsNone x y
+        → KeepsNoFrame x y
     behind received.Accepted own is accepted (inl (all, log, waits, whole)) = absurd (cc)
     behind received.Accepted own is accepted (inr (none, outcomes, waits, bad)) =
         kept_behind c octets (history_of before) taken.is.0 (taken.is.1 c) taken.outcomes x y (taken.is.2 c) bad heard
@@ -322,25 +329,8 @@ kept_frames {way = way} {before = before} {c = c} {octets = octets} taken x y he
 -- ---- a datagram
 
 -- with one outcome more
-pub each_more : (octets : List ℕ) (os : List Outcome) (o : Outcome) (x y z : OutputState × ℕ) → KeepsEach octets os x y
+pub each_more : (octets : List ℕ) (os : List Outcome) (o : Outcome) (x y z : OutputState × ServeCounts) → KeepsEach octets os x y
     → KeepsNext y o (Some octets) z → KeepsEach octets (os ++ o ∷ []) x z
 each_more octets [] o x y z same next =
-    (z, subst (λ (u : OutputState × ℕ). KeepsNext u o (Some octets) z) same next, refl)
+    (z, subst (λ (u : OutputState × ServeCounts). KeepsNext u o (Some octets) z) same next, refl)
 each_more octets (p ∷ ps) o x y z (mid, one, more) next = (mid, one, each_more octets ps o mid y z more next)
-
--- ---- events that have no frame
-
-pub kept_none : {S K : Type 0} (entries : S → List Entry) (stands : K → Kept → Type 0) (old new : Intake S K)
-    (e : AcceptedEvent) (lost : Bool) (t : Turn) (was now : OutputState × ℕ)
-    → ((way : Manner) (before here : List AcceptedEvent) (taken : IsAccepted way before e here lost t)
-    → KeepsEvent e taken was now)
-    → Accepts entries stands old new e lost t → KeepsRefused entries stands old new e t was now
-kept_none entries stands old new e lost t was now keeps accepts k first before at none =
-    let d = accepts k first before at none in
-    (lost, d.0, d.1, d.2, keeps (manner_of old.collector) before d.0 d.2)
-
-pub kept_step : {S K : Type 0} (entries : S → List Entry) (stands : K → Kept → Type 0) (old new : Intake S K)
-    (q : Option AcceptedEvent) (e : AcceptedEvent) (t : Turn) (was now : OutputState × ℕ) → q ≡ Some e
-    → KeepsRefused entries stands old new e t was now → KeepsStep entries stands old new q t was now
-kept_step entries stands old new q e t was now is kept =
-    subst (λ (o : Option AcceptedEvent). KeepsStep entries stands old new o t was now) (sym is) kept

@@ -1,19 +1,21 @@
 -- Turns, one after the other.
 use Rattle.std.proofs.Common.{◌≡◌, ℕ, ◌+◌, true, false, List, [], ◌∷◌, ◌++◌, length, inl, inr, refl, sym, subst, arith}
 use Rattle.std.proofs.Common.{append_assoc}
-use Rattle.std.specs.Prelude.{◌-◌, ◌^◌, ◌<◌, Bool, Option, Some, None}
+use Rattle.std.specs.Prelude.{◌-◌, ◌^◌, ◌<◌, Bool, IfNone, Option, Some, None}
 use Rattle.std.proofs.lemmas.List.{append-nil}
 use Rattle.archive_text.specs.Entries.{Entry}
 use Rattle.syslog_collect.specs.Collectors.{NoneWaits, reading_of}
 use Rattle.syslog_collect.specs.History.{AcceptedEvent}
-use Rattle.socket_source.specs.Steps.{Given, SourceState, given_of, octets_of}
+use Rattle.socket_source.specs.Steps.{Given, given_of, octets_of}
 use Rattle.socket_source.specs.declared.step.ServerStep.{ServerStep}
+use Rattle.serve_engine.specs.Events.{Manner, event_of, manner_of}
 use Rattle.serve_engine.specs.Intakes.{IsCommitted, StandsBy}
 use Rattle.serve_engine.specs.Keepings.{Kept, StaysCommitted}
-use Rattle.serve_engine.specs.Servers.{AreTurns, DoneRun, GoOn, IsTurn, Made, RunsTo, ServesTurn, events_of}
-use Rattle.serve_engine.specs.Servers.{full_after, kept_after}
+use Rattle.serve_engine.specs.Refusals.{KeepsSilent}
+use Rattle.serve_engine.specs.Servers.{AreTurns, Around, DoneRun, GoOn, IsGiven, IsTurn, Made, Place}
+use Rattle.serve_engine.specs.Servers.{RunsTo, ServesRun, ServesTurn, around_after, events_of, kept_after}
 use Rattle.serve_engine.specs.Serving.{CommitsAll, GivesStep, HoldsReceived, IfCommitted, IfSettled, IsCause, IsCommitTurn}
-use Rattle.serve_engine.specs.Serving.{IsStepTurn, Manner, ServesStep, UnlessStopped, asks_commit, is_due, manner_of}
+use Rattle.serve_engine.specs.Serving.{IsStepTurn, ServesStep, UnlessStopped, asks_commit, is_due, is_last}
 use Rattle.serve_engine.specs.declared.intake.Intake.{Intake}
 use Rattle.serve_engine.specs.declared.serve_end.ServeEnd.{ServeEnd}
 use Rattle.serve_engine.specs.declared.serve_end.ServeEnd.TheVariants.{Finished, Source, Disk, Memory, Endless}
@@ -44,117 +46,144 @@ holds_all entries stands way i full t j first es same at settled commits =
     (committed_all entries stands i j first es at none done))
 
 -- the disk was full, and was tried again
-pub tried : {S K : Type 0} (entries : S → List Entry) (stands : K → Kept → Type 0) (old new : Intake S K)
-    (a : SourceState) (full full_new : Bool) (t : Turn) → full ≡ true → CommitsAll entries stands old new full_new t
-    → (NoneWaits old.collector → NoneWaits new.collector) → manner_of new.collector ≡ manner_of old.collector
-    → IsCommitTurn t → ServesTurn entries stands old new a a full full_new t
-tried entries stands old new a full full_new t was_full commits settled same turn k first before at none =
-    let d = commits k first before at in
-    let quiet = any_settled t (NoneWaits new.collector) (settled none) in
-    let stands_on = subst (λ (es : List AcceptedEvent). StandsBy entries stands new d.0 first es)
-    (sym (append-nil before)) d.1 in
-    record {
-      step = None;
-      events = [];
-      kept = d.0;
-      stands_by = stands_on;
-      is = record {
-        asked = sym was_full;
-        served = (refl, refl);
-        stays = d.2;
-        commits = λ due. holds_all entries stands (manner_of old.collector) new full_new t d.0 first (before ++ []) same
-            stands_on quiet d.3;
-        fills = λ due. absurd (cc);
-        cause = commit_try t turn;
+pub tried : {S K : Type 0} (entries : S → List Entry) (stands : K → Kept → Type 0) (a b : Place S K) (t : Turn)
+    → a.around.full ≡ true → b.around.source ≡ a.around.source
+    → CommitsAll entries stands a.intake b.intake b.around.full t
+    → (NoneWaits a.intake.collector → NoneWaits b.intake.collector)
+    → manner_of b.intake.collector ≡ manner_of a.intake.collector → IsCommitTurn t
+    → KeepsSilent true a.around.refusals b.around.refusals → ServesTurn entries stands t a b
+tried entries stands a b t was_full still commits settled same turn kept = record {
+  step = None;
+  lost = false;
+  given = given;
+  done = λ k first before at none.
+      let d = commits k first before at in
+      let quiet = any_settled t (NoneWaits b.intake.collector) (settled none) in
+      let stands_on = subst (λ (es : List AcceptedEvent). StandsBy entries stands b.intake d.0 first es)
+      (sym (append-nil before)) d.1 in
+      record {
+        events = [];
+        kept = d.0;
+        stands_by = stands_on;
+        is = record {
+          given = given;
+          served = (refl, refl);
+          stays = d.2;
+          commits = λ due. holds_all entries stands (manner_of a.intake.collector) b.intake b.around.full t d.0 first
+              (before ++ []) same stands_on quiet d.3;
+          rests = λ none_due. absurd (cc);
+          fills = λ none_due. absurd (cc);
+          cause = commit_try t turn;
+          ends = λ over. absurd (cc);
+        };
+        settled = quiet;
       };
-      settled = quiet;
-    }
+}
+  where
+    given : IsGiven a.around b.around None false
+    given = record { asked = sym was_full; gave = still; silent = kept }
 
 -- a step was served
-pub stepped : {S K : Type 0} (entries : S → List Entry) (stands : K → Kept → Type 0) (old new : Intake S K)
-    (a b : SourceState) (s : ServerStep) (buf : List ℕ) (lost full full_new : Bool) (t : Turn) → full ≡ false
-    → ServesStep entries stands old new s (octets_of s buf) lost full_new t → GivesStep a b (given_of s buf) lost
-    → manner_of new.collector ≡ manner_of old.collector → (asks_commit s ≡ false → full_new ≡ full) → IsStepTurn s t
-    → ServesTurn entries stands old new a b full full_new t
-stepped entries stands old new a b s buf lost full full_new t room serves gives same fills turn k first before at none =
-    let d = serves k first before at none in
-    record {
-      step = Some (given_of s buf);
-      events = d.1;
-      kept = d.0;
-      stands_by = d.2;
-      is = record {
-        asked = sym room;
-        served = (lost, gives, d.4);
-        stays = d.3;
-        commits = λ asks. holds_all entries stands (manner_of old.collector) new full_new t d.0 first (before ++ d.1) same
-            d.2 d.5 (d.6 asks);
-        fills = fills;
-        cause = turn;
+pub stepped : {S K : Type 0} (entries : S → List Entry) (stands : K → Kept → Type 0) (a b : Place S K)
+    (s : ServerStep) (buf : List ℕ) (lost : Bool) (t : Turn) → a.around.full ≡ false
+    → ServesStep entries stands a.intake b.intake s (octets_of s buf) lost b.around.full t a.around.refusals
+    b.around.refusals
+    → GivesStep a.around.source b.around.source (given_of s buf) lost
+    → IfNone (event_of s (octets_of s buf)) (KeepsSilent (asks_commit s) a.around.refusals b.around.refusals)
+    → manner_of b.intake.collector ≡ manner_of a.intake.collector
+    → (asks_commit s ≡ false → b.around.full ≡ a.around.full) → IsStepTurn s t
+    → (is_last s ≡ true → t ≡ On → b.around.full ≡ true) → ServesTurn entries stands t a b
+stepped entries stands a b s buf lost t room serves gives silent same fills turn last = record {
+  step = Some (given_of s buf);
+  lost = lost;
+  given = given;
+  done = λ k first before at none.
+      let d = serves k first before at none in
+      record {
+        events = d.1;
+        kept = d.0;
+        stands_by = d.2;
+        is = record {
+          given = given;
+          served = d.4;
+          stays = d.3;
+          commits = λ asks. holds_all entries stands (manner_of a.intake.collector) b.intake b.around.full t d.0 first
+              (before ++ d.1) same d.2 d.5 (d.6 asks);
+          rests = d.7;
+          fills = fills;
+          cause = turn;
+          ends = last;
+        };
+        settled = d.5;
       };
-      settled = d.5;
-    }
+}
+  where
+    given : IsGiven a.around b.around (Some (given_of s buf)) lost
+    given = record { asked = sym room; gave = gives; silent = silent }
 
 -- ---- a run
 
 -- after so many turns that went on
-pub record SoFar {S K : Type 0} (entries : S → List Entry) (stands : K → Kept → Type 0) (old new : Intake S K)
-    (a b : SourceState) (full full_new : Bool) (n : ℕ) (k : Kept) (first : List Entry) (before : List AcceptedEvent) : Type
-    0 where
+pub record SoFar {S K : Type 0} (entries : S → List Entry) (stands : K → Kept → Type 0) (a b : Place S K) (n : ℕ)
+    (k : Kept) (first : List Entry) (before : List AcceptedEvent) : Type 0 where
   pub made : List Made
-  pub stands_by : StandsBy entries stands new (kept_after k made) first (before ++ events_of made)
-  pub turns : AreTurns (manner_of old.collector) first k full before a made b
+  pub stands_by : StandsBy entries stands b.intake (kept_after k made) first (before ++ events_of made)
+  pub turns : AreTurns (manner_of a.intake.collector) first k before a.around made
+  pub left : b.around ≡ around_after a.around made
   pub stays : StaysCommitted k (kept_after k made)
-  pub settled : NoneWaits new.collector
-  pub now_full : full_after full made ≡ full_new
+  pub settled : NoneWaits b.intake.collector
   pub on : GoOn made
   pub count : length made ≡ n
 
-pub start : {S K : Type 0} (entries : S → List Entry) (stands : K → Kept → Type 0) (old : Intake S K) (a : SourceState)
-    (full : Bool) (k : Kept) (first : List Entry) (before : List AcceptedEvent)
-    → StandsBy entries stands old k first before → NoneWaits old.collector
-    → SoFar entries stands old old a a full full 0 k first before
-start entries stands old a full k first before at none = record {
+pub start : {S K : Type 0} (entries : S → List Entry) (stands : K → Kept → Type 0) (a : Place S K) (k : Kept)
+    (first : List Entry) (before : List AcceptedEvent) → StandsBy entries stands a.intake k first before
+    → NoneWaits a.intake.collector → SoFar entries stands a a 0 k first before
+start entries stands a k first before at none = record {
   made = [];
-  stands_by = subst (λ (es : List AcceptedEvent). StandsBy entries stands old k first es) (sym (append-nil before)) at;
-  turns = refl;
+  stands_by = subst (λ (es : List AcceptedEvent). StandsBy entries stands a.intake k first es)
+      (sym (append-nil before)) at;
+  turns = tt;
+  left = refl;
   stays = λ x had. had;
   settled = none;
-  now_full = refl;
   on = tt;
   count = refl;
 }
 
--- a turn is one of a run that reads frames alike, and whose disk was so full before it
-turn_of_run : (way : Manner) (first : List Entry) (k : Kept) (full : Bool) (before : List AcceptedEvent)
-    (a b : SourceState) (m : Made) (mid_way : Manner) (mid_full : Bool) → mid_way ≡ way → full ≡ mid_full
-    → IsTurn mid_way first k mid_full before a b m → IsTurn way first k full before a b m
-turn_of_run way first k full before a b m mid_way mid_full same now is =
-    subst (λ (w : Manner). IsTurn w first k full before a b m) same
-    (subst (λ (f : Bool). IsTurn mid_way first k f before a b m) (sym now) is)
+-- a turn is one of a run that reads frames alike, with what was left round the intake before it
+turn_of_run : (way : Manner) (first : List Entry) (k : Kept) (before : List AcceptedEvent) (a : Around) (m : Made)
+    (mid_way : Manner) (mid : Around) → mid_way ≡ way → mid ≡ a → IsTurn mid_way first k before mid m
+    → IsTurn way first k before a m
+turn_of_run way first k before a m mid_way mid same left is =
+    subst (λ (w : Manner). IsTurn w first k before a m) same
+    (subst (λ (r : Around). IsTurn mid_way first k before r m) left is)
 
-pub next : {S K : Type 0} (entries : S → List Entry) (stands : K → Kept → Type 0) (old mid new : Intake S K)
-    (a b c : SourceState) (full full_mid full_new : Bool) (n : ℕ) (k : Kept) (first : List Entry)
-    (before : List AcceptedEvent) → manner_of mid.collector ≡ manner_of old.collector
-    → SoFar entries stands old mid a b full full_mid n k first before
-    → ServesTurn entries stands mid new b c full_mid full_new On
-    → SoFar entries stands old new a c full full_new (n + 1) k first before
-next entries stands old mid new a b c full full_mid full_new n k first before same was serves =
-    let d = serves (kept_after k was.made) first (before ++ events_of was.made) was.stands_by was.settled in
-    let m : Made = record { step = d.step; events = d.events; kept = d.kept; full = full_new; turn = On } in
+pub next : {S K : Type 0} (entries : S → List Entry) (stands : K → Kept → Type 0) (a mid b : Place S K) (n : ℕ)
+    (k : Kept) (first : List Entry) (before : List AcceptedEvent)
+    → manner_of mid.intake.collector ≡ manner_of a.intake.collector → SoFar entries stands a mid n k first before
+    → ServesTurn entries stands On mid b → SoFar entries stands a b (n + 1) k first before
+next entries stands a mid b n k first before same was serves =
+    let d = serves.done (kept_after k was.made) first (before ++ events_of was.made) was.stands_by was.settled in
+    let m : Made = record {
+      step = serves.step;
+      lost = serves.lost;
+      events = d.events;
+      kept = d.kept;
+      around = b.around;
+      turn = On;
+    } in
     record {
       made = m ∷ was.made;
-      stands_by = subst (λ (es : List AcceptedEvent). StandsBy entries stands new d.kept first es)
+      stands_by = subst (λ (es : List AcceptedEvent). StandsBy entries stands b.intake d.kept first es)
           (append_assoc before (events_of was.made) d.events) d.stands_by;
       turns = (
-        b,
         was.turns,
-        turn_of_run (manner_of old.collector) first (kept_after k was.made) (full_after full was.made)
-            (before ++ events_of was.made) b c m (manner_of mid.collector) full_mid same was.now_full d.is,
+        turn_of_run (manner_of a.intake.collector) first (kept_after k was.made) (before ++ events_of was.made)
+            (around_after a.around was.made) m (manner_of mid.intake.collector) mid.around same was.left d.is,
       );
+      left = refl;
       stays = λ x had. d.is.stays x (was.stays x had);
       settled = d.settled;
-      now_full = refl;
       on = (refl, was.on);
       count = omega (arith, was.count);
     }
@@ -181,44 +210,51 @@ runs_to Disk m ms is cause on = (is, on)
 runs_to Memory m ms is cause on = inl (is, on)
 runs_to Endless m ms is cause on = absurd (never_endless m.step cause)
 
-pub ends : {S K : Type 0} (entries : S → List Entry) (stands : K → Kept → Type 0) (old mid new : Intake S K)
-    (a b c : SourceState) (full full_mid full_new : Bool) (n : ℕ) (end : ServeEnd) (k : Kept) (first : List Entry)
-    (before : List AcceptedEvent) → n + 1 < 2 ^ 64 → manner_of mid.collector ≡ manner_of old.collector
-    → SoFar entries stands old mid a b full full_mid n k first before
-    → ServesTurn entries stands mid new b c full_mid full_new (End end)
-    → DoneRun entries stands old new a c full end k first before
-ends entries stands old mid new a b c full full_mid full_new n end k first before less same was serves =
-    let d = serves (kept_after k was.made) first (before ++ events_of was.made) was.stands_by was.settled in
-    let m : Made = record { step = d.step; events = d.events; kept = d.kept; full = full_new; turn = End end } in
+pub ends : {S K : Type 0} (entries : S → List Entry) (stands : K → Kept → Type 0) (a mid b : Place S K) (n : ℕ)
+    (end : ServeEnd) (k : Kept) (first : List Entry) (before : List AcceptedEvent) → n + 1 < 2 ^ 64
+    → manner_of mid.intake.collector ≡ manner_of a.intake.collector → SoFar entries stands a mid n k first before
+    → ServesTurn entries stands (End end) mid b → DoneRun entries stands end a b k first before
+ends entries stands a mid b n end k first before less same was serves =
+    let d = serves.done (kept_after k was.made) first (before ++ events_of was.made) was.stands_by was.settled in
+    let m : Made = record {
+      step = serves.step;
+      lost = serves.lost;
+      events = d.events;
+      kept = d.kept;
+      around = b.around;
+      turn = End end;
+    } in
     let joined = append_assoc before (events_of was.made) d.events in
     record {
       made = m ∷ was.made;
-      stands_by = subst (λ (es : List AcceptedEvent). StandsBy entries stands new d.kept first es) joined d.stands_by;
+      stands_by = subst (λ (es : List AcceptedEvent). StandsBy entries stands b.intake d.kept first es) joined
+          d.stands_by;
       turns = (
-        b,
         was.turns,
-        turn_of_run (manner_of old.collector) first (kept_after k was.made) (full_after full was.made)
-            (before ++ events_of was.made) b c m (manner_of mid.collector) full_mid same was.now_full d.is,
+        turn_of_run (manner_of a.intake.collector) first (kept_after k was.made) (before ++ events_of was.made)
+            (around_after a.around was.made) m (manner_of mid.intake.collector) mid.around same was.left d.is,
       );
+      left = refl;
       stays = λ x had. d.is.stays x (was.stays x had);
       settled = d.settled;
       committed = subst (λ (w : Manner). IfCommitted end (HoldsReceived w.reading d.kept.committed first
           (before ++ (events_of was.made ++ d.events)))) same
-          (subst (λ (es : List AcceptedEvent). IfCommitted end (HoldsReceived (reading_of mid.collector) d.kept.committed
-          first es)) joined (end_committed end d.step full_new _ d.is.cause d.is.commits));
+          (subst (λ (es : List AcceptedEvent). IfCommitted end (HoldsReceived (reading_of mid.intake.collector)
+          d.kept.committed first es)) joined
+          (end_committed end serves.step b.around.full _ d.is.cause d.is.commits));
       ends = runs_to end m was.made refl d.is.cause was.on;
       few = omega (arith, was.count, less);
     }
 
 -- there were as many turns as there may be
-pub endless : {S K : Type 0} (entries : S → List Entry) (stands : K → Kept → Type 0) (old new : Intake S K)
-    (a b : SourceState) (full full_new : Bool) (n : ℕ) (k : Kept) (first : List Entry) (before : List AcceptedEvent)
-    → n ≡ 2 ^ 64 - 1 → SoFar entries stands old new a b full full_new n k first before
-    → DoneRun entries stands old new a b full Endless k first before
-endless entries stands old new a b full full_new n k first before all was = record {
+pub endless : {S K : Type 0} (entries : S → List Entry) (stands : K → Kept → Type 0) (a b : Place S K) (n : ℕ)
+    (k : Kept) (first : List Entry) (before : List AcceptedEvent) → n ≡ 2 ^ 64 - 1
+    → SoFar entries stands a b n k first before → DoneRun entries stands Endless a b k first before
+endless entries stands a b n k first before all was = record {
   made = was.made;
   stands_by = was.stands_by;
   turns = was.turns;
+  left = was.left;
   stays = was.stays;
   settled = was.settled;
   committed = tt;
@@ -227,16 +263,20 @@ endless entries stands old new a b full full_new n k first before all was = reco
 }
 
 -- there was no memory for the first
-pub none_served : {S K : Type 0} (entries : S → List Entry) (stands : K → Kept → Type 0) (old : Intake S K)
-    (a : SourceState) (full : Bool) (k : Kept) (first : List Entry) (before : List AcceptedEvent)
-    → StandsBy entries stands old k first before → DoneRun entries stands old old a a full Memory k first before
-none_served entries stands old a full k first before at = record {
-  made = [];
-  stands_by = subst (λ (es : List AcceptedEvent). StandsBy entries stands old k first es) (sym (append-nil before)) at;
-  turns = refl;
-  stays = λ x had. had;
-  settled = tt;
-  committed = tt;
-  ends = inr refl;
-  few = omega arith;
+pub none_served : {S K : Type 0} (entries : S → List Entry) (stands : K → Kept → Type 0) (a : Place S K)
+    → ServesRun entries stands Memory a a
+none_served entries stands a = record {
+  leads = (a, ([], refl), inl refl);
+  done = λ k first before at none. record {
+    made = [];
+    stands_by = subst (λ (es : List AcceptedEvent). StandsBy entries stands a.intake k first es)
+        (sym (append-nil before)) at;
+    turns = tt;
+    left = refl;
+    stays = λ x had. had;
+    settled = tt;
+    committed = tt;
+    ends = inr refl;
+    few = omega arith;
+  };
 }

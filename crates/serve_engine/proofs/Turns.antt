@@ -3,6 +3,7 @@ use Rattle.std.proofs.Common.{◌≡◌, ℕ, true, false, List, [], ◌++◌, i
 use Rattle.std.specs.Prelude.{◌⊎◌, ◌↔◌, Bool, Option, Some, None}
 use Rattle.std.proofs.lemmas.List.{append-nil}
 use Rattle.archive_text.specs.Entries.{Entry, Has}
+use Rattle.octet_devices.specs.Device.{OutputState}
 use Rattle.collect_engine.specs.Receiving.{IfNotMemory}
 use Rattle.collect_engine.specs.declared.receiving.Received.{Received}
 use Rattle.collect_engine.specs.declared.receiving.Received.TheVariants as received
@@ -13,12 +14,14 @@ use Rattle.syslog_collect.specs.History.{AcceptedEvent, Ended, Opened, Piece}
 use Rattle.syslog_collect.specs.declared.outcome.Outcome.{Outcome}
 use Rattle.syslog_collect.proofs.Headline.{holds_received}
 use Rattle.socket_source.specs.declared.step.ServerStep.{ServerStep}
+use Rattle.serve_engine.specs.Events.{IsAccepted, IsReceivedAs, Manner, Receives, ends_in_bad_count, event_of, loses}
+use Rattle.serve_engine.specs.Events.{loses_opening, loses_piece, manner_of, turn_of}
 use Rattle.serve_engine.specs.Intakes.{IsCommitted, StandsBy}
 use Rattle.serve_engine.specs.Keepings.{Kept}
 use Rattle.serve_engine.specs.Serving.{Accepts, CommitsAll, EndsUnlessFull, FaultsAs, HoldsReceived, IfSettled}
-use Rattle.serve_engine.specs.Serving.{IsAccepted, IsCommitTurn, IsEventTurn, IsReceivedAs, IsStepTurn, IsTryTurn, Manner}
-use Rattle.serve_engine.specs.Serving.{Receives, ServesEvent, ServesStep, UnlessMemory, UnlessStopped, asks_commit}
-use Rattle.serve_engine.specs.Serving.{ends_in_bad_count, event_of, loses, loses_opening, loses_piece, manner_of, turn_of}
+use Rattle.serve_engine.specs.Serving.{IsCommitTurn, IsEventTurn, IsStepTurn, IsTryTurn, ServesEvent, ServesStep}
+use Rattle.serve_engine.specs.Serving.{UnlessMemory, UnlessStopped, asks_commit}
+use Rattle.serve_engine.specs.declared.counts.ServeCounts.{ServeCounts}
 use Rattle.serve_engine.specs.declared.intake.Intake.{Intake}
 use Rattle.serve_engine.specs.declared.keeping.KeepFault.{KeepFault}
 use Rattle.serve_engine.specs.declared.keeping.KeepFault.TheVariants as keep
@@ -45,7 +48,7 @@ accepted_own way before e r os own turn is kept on = record {
 }
 
 -- of a connection that was not opened
-pub accepted_none : (way : Manner) (before : List AcceptedEvent) (c : ℕ) (k : Framing) (r : Received)
+abbrev pub accepted_none : (way : Manner) (before : List AcceptedEvent) (c : ℕ) (k : Framing) (r : Received)
     (os : List Outcome) (own : List AcceptedEvent) (turn : Turn) → IsReceivedAs way before (Opened c k) r os own
     → loses_opening r ≡ true → turn ≡ turn_of r → IsAccepted way before (Opened c k) own true turn
 accepted_none way before c k r os own turn is lost on = record {
@@ -166,49 +169,55 @@ any_settled (End end) P h = settled_end end P h
 -- ---- a step
 
 pub serves_event : {S K : Type 0} (entries : S → List Entry) (stands : K → Kept → Type 0) (old new : Intake S K)
-    (s : ServerStep) (octets : List ℕ) (lost full : Bool) (t : Turn) (e : AcceptedEvent) → event_of s octets ≡ Some e
-    → asks_commit s ≡ false → Accepts entries stands old new e lost t
-    → ServesStep entries stands old new s octets lost full t
-serves_event entries stands old new s octets lost full t e is none_asked accepts k first before at none =
+    (s : ServerStep) (octets : List ℕ) (lost full : Bool) (t : Turn) (was now : OutputState × ServeCounts) (e : AcceptedEvent)
+    → event_of s octets ≡ Some e → asks_commit s ≡ false → Accepts entries stands old new e lost t was now
+    → ServesStep entries stands old new s octets lost full t was now
+serves_event entries stands old new s octets lost full t was now e is none_asked accepts k first before at none =
     let d = accepts k first before at none in (
       k,
       d.0,
       d.1,
       λ x had. had,
-      subst (λ (o : Option AcceptedEvent). ServesEvent (manner_of old.collector) before s o d.0 lost t) (sym is) d.2,
-      d.3,
+      subst (λ (o : Option AcceptedEvent). ServesEvent (manner_of old.collector) before s o d.0 lost t was now) (sym is)
+          (d.2, d.3),
+      d.4,
       λ asks. absurd (cc),
+      λ rests. refl,
     )
 
 pub serves_commit : {S K : Type 0} (entries : S → List Entry) (stands : K → Kept → Type 0) (old new : Intake S K)
-    (s : ServerStep) (octets : List ℕ) (full : Bool) (t : Turn) → event_of s octets ≡ None → asks_commit s ≡ true
-    → CommitsAll entries stands old new full t → (NoneWaits old.collector → NoneWaits new.collector)
-    → ServesStep entries stands old new s octets false full t
-serves_commit entries stands old new s octets full t is asked commits settled k first before at none =
+    (s : ServerStep) (octets : List ℕ) (full : Bool) (t : Turn) (was now : OutputState × ServeCounts)
+    → event_of s octets ≡ None → asks_commit s ≡ true → CommitsAll entries stands old new full t
+    → (NoneWaits old.collector → NoneWaits new.collector)
+    → ServesStep entries stands old new s octets false full t was now
+serves_commit entries stands old new s octets full t was now is asked commits settled k first before at none =
     let d = commits k first before at in (
       d.0,
       [],
       subst (λ (es : List AcceptedEvent). StandsBy entries stands new d.0 first es) (sym (append-nil before)) d.1,
       d.2,
-      subst (λ (o : Option AcceptedEvent). ServesEvent (manner_of old.collector) before s o [] false t) (sym is)
+      subst (λ (o : Option AcceptedEvent). ServesEvent (manner_of old.collector) before s o [] false t was now) (sym is)
           (refl, refl, λ asks. absurd (cc)),
       any_settled t (NoneWaits new.collector) (settled none),
       λ asks. d.3,
+      λ rests. absurd (cc),
     )
 
 pub serves_nothing : {S K : Type 0} (entries : S → List Entry) (stands : K → Kept → Type 0) (old new : Intake S K)
-    (s : ServerStep) (octets : List ℕ) (full : Bool) (t : Turn) → event_of s octets ≡ None → asks_commit s ≡ false
-    → new ≡ old → t ≡ On → ServesStep entries stands old new s octets false full t
-serves_nothing {S = S} {K = K} entries stands old new s octets full t is none_asked same on k first before at none = (
+    (s : ServerStep) (octets : List ℕ) (full : Bool) (t : Turn) (was now : OutputState × ServeCounts)
+    → event_of s octets ≡ None → asks_commit s ≡ false → new ≡ old → t ≡ On
+    → ServesStep entries stands old new s octets false full t was now
+serves_nothing {S = S} {K = K} entries stands old new s octets full t was now is none_asked same on k first before at none = (
   k,
   [],
   subst (λ (i : Intake S K). StandsBy entries stands i k first (before ++ [])) (sym same)
       (subst (λ (es : List AcceptedEvent). StandsBy entries stands old k first es) (sym (append-nil before)) at),
   λ x had. had,
-  subst (λ (o : Option AcceptedEvent). ServesEvent (manner_of old.collector) before s o [] false t) (sym is)
+  subst (λ (o : Option AcceptedEvent). ServesEvent (manner_of old.collector) before s o [] false t was now) (sym is)
       (refl, refl, λ none. on),
   any_settled t (NoneWaits new.collector) (subst (λ (i : Intake S K). NoneWaits i.collector) (sym same) none),
   λ asks. absurd (cc),
+  λ rests. refl,
 )
 
 pub event_step : (s : ServerStep) (t : Turn) → IsEventTurn t → IsStepTurn s t

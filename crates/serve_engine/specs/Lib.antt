@@ -1,5 +1,6 @@
 pub mod Keepings
 pub mod Lines
+pub mod Events
 pub mod Refusals
 pub mod Counts
 pub mod Intakes

@@ -1,21 +1,19 @@
 -- What a server does with the steps of a source.
-use Rattle.std.specs.Prelude.{◌≡◌, ◌⊎◌, ◌↔◌, ◌-◌, ℕ, Bool, true, false, List, [], ◌++◌, length, slice_get, Option, Some, None}
+use Rattle.std.specs.Prelude.{◌≡◌, ◌⊎◌, ◌↔◌, ℕ, Bool, true, false, List, [], ◌++◌, Option, Some, None}
 use Rattle.archive_text.specs.Entries.{Entry, Has}
-use Rattle.collect_engine.specs.Receiving.{IfNotMemory, IfRefused, MayNotOpen, ReceivesAs}
-use Rattle.collect_engine.specs.declared.receiving.Received.{Received}
-use Rattle.collect_engine.specs.declared.receiving.Received.TheVariants as received
+use Rattle.octet_devices.specs.Device.{OutputState}
 use Rattle.syslog_legacy.specs.declared.frame_reading.FrameReading.{FrameReading}
-use Rattle.syslog_collect.specs.Collectors.{NoneWaits, limit_of, reading_of}
+use Rattle.syslog_collect.specs.Collectors.{NoneWaits}
 use Rattle.syslog_collect.specs.Frames.{IsReceived}
-use Rattle.syslog_collect.specs.History.{AcceptedEvent, Opened, Piece, Ended, Datagram, history_of}
-use Rattle.syslog_collect.specs.declared.collector.Collector.{Collector}
-use Rattle.syslog_collect.specs.declared.outcome.Outcome.{Outcome}
+use Rattle.syslog_collect.specs.History.{AcceptedEvent}
 use Rattle.socket_source.specs.Steps.{Closes, GaveStep, Given, SourceState, given_of}
 use Rattle.socket_source.specs.declared.step.ServerStep.{ServerStep}
 use Rattle.socket_source.specs.declared.step.ServerStep.TheVariants as step
+use Rattle.serve_engine.specs.Events.{IsAccepted, Manner, event_of, manner_of}
 use Rattle.serve_engine.specs.Intakes.{IsCommitted, StandsBy}
 use Rattle.serve_engine.specs.Keepings.{Kept, StaysCommitted}
-use Rattle.serve_engine.specs.Lines.{is_bad_count}
+use Rattle.serve_engine.specs.Refusals.{KeepsEvent}
+use Rattle.serve_engine.specs.declared.counts.ServeCounts.{ServeCounts}
 use Rattle.serve_engine.specs.declared.intake.Intake.{Intake}
 use Rattle.serve_engine.specs.declared.keeping.KeepFault.{KeepFault}
 use Rattle.serve_engine.specs.declared.keeping.KeepFault.TheVariants as keep
@@ -24,102 +22,7 @@ use Rattle.serve_engine.specs.declared.serve_end.ServeEnd.TheVariants.{Finished,
 use Rattle.serve_engine.specs.declared.turn.Turn.{Turn}
 use Rattle.serve_engine.specs.declared.turn.Turn.TheVariants.{On, End}
 
--- how a collector reads frames, and how many connections it may have open
-pub record Manner : Type 0 where
-  pub reading : FrameReading
-  pub limit : ℕ
-
-abbrev pub manner_of : {S : Type 0} → Collector S → Manner
-manner_of c = record { reading = reading_of c; limit = limit_of c }
-
--- ---- events
-
--- the event of a step, with its connection's number
-abbrev pub event_of : ServerStep → List ℕ → Option AcceptedEvent
-event_of (step.Opened conn listener framing peer) octets = Some (Opened conn framing)
-event_of (step.Piece conn len) octets = Some (Piece conn octets)
-event_of (step.Ended conn end) octets = Some (Ended conn)
-event_of (step.Datagram listener peer len) octets = Some (Datagram octets)
-event_of (step.TurnedAway listener framing peer) octets = None
-event_of step.Tick octets = None
-event_of step.InputEnded octets = None
-event_of step.Finished octets = None
-event_of (step.Failed fault) octets = None
-
--- no frame waits, of any number
-abbrev pub NoneOf : (ℕ → ℕ) → Type 0
-NoneOf w = (d : ℕ) → w d ≡ 0
-
--- a collector in which no frame waits makes this of an event that comes after others; unless memory ran out, none waits
--- then; an opening is refused only where its number is open, or as many are as may be
-abbrev pub IsReceivedAs : Manner → List AcceptedEvent → AcceptedEvent → Received → List Outcome
-    → List AcceptedEvent → Type 0
-IsReceivedAs way before e r os own = (w : ℕ → ℕ) × (v : ℕ → ℕ) × NoneOf w × IfNotMemory r (NoneOf v)
-    × ReceivesAs way.reading (history_of before) w v e r os own
-    × IfRefused r (MayNotOpen way.limit (history_of before) e)
-
--- how it goes on after an event
-abbrev pub turn_of : Received → Turn
-turn_of received.Accepted = On
-turn_of (received.Unterminated start) = On
-turn_of received.Refused = On
-turn_of received.Memory = End Memory
-
--- a collector makes this of an event that comes after others, and so it goes on
-abbrev pub Receives : Manner → List AcceptedEvent → AcceptedEvent → List AcceptedEvent → Turn → Type 0
-Receives way before e own turn = (r : Received) × (os : List Outcome) × IsReceivedAs way before e r os own
-    × (turn ≡ turn_of r)
-
--- the last of outcomes is a bad count
-abbrev pub bad_last : Option Outcome → Bool
-bad_last None = false
-bad_last (Some o) = is_bad_count o
-
-abbrev pub ends_in_bad_count : List Outcome → Bool
-ends_in_bad_count os = bad_last (slice_get os (length os - 1))
-
--- a connection is lost: it was not opened
-abbrev pub loses_opening : Received → Bool
-loses_opening received.Accepted = false
-loses_opening (received.Unterminated start) = true
-loses_opening received.Refused = true
-loses_opening received.Memory = true
-
--- or its piece was refused, or ends in a bad count
-abbrev pub loses_piece : Received → List Outcome → Bool
-loses_piece received.Accepted os = ends_in_bad_count os
-loses_piece (received.Unterminated start) os = ends_in_bad_count os
-loses_piece received.Refused os = true
-loses_piece received.Memory os = false
-
--- an event loses its connection
-abbrev pub loses : AcceptedEvent → Received → List Outcome → Bool
-loses (Opened c k) r os = loses_opening r
-loses (Piece c o) r os = loses_piece r os
-loses (Ended c) r os = false
-loses (Datagram o) r os = false
-
--- behind a piece whose connection is lost, that one ends; behind any other event nothing comes
-abbrev pub EndsLost : Bool → Manner → List AcceptedEvent → AcceptedEvent → Received → List AcceptedEvent → Turn
-    → Type 0
-EndsLost false way events e r closing turn = (closing ≡ []) × (turn ≡ turn_of r)
-EndsLost true way events (Opened c k) r closing turn = (closing ≡ []) × (turn ≡ turn_of r)
-EndsLost true way events (Piece c o) r closing turn = Receives way events (Ended c) closing turn
-EndsLost true way events (Ended c) r closing turn = ⊥
-EndsLost true way events (Datagram o) r closing turn = ⊥
-
--- of an event that comes after others this is accepted: what a collector makes of it, and the end of a connection that
--- is lost
-pub record IsAccepted (way : Manner) (before : List AcceptedEvent) (e : AcceptedEvent) (here : List AcceptedEvent)
-    (lost : Bool) (turn : Turn) : Type 0 where
-  pub received : Received
-  pub outcomes : List Outcome
-  pub own : List AcceptedEvent
-  pub closing : List AcceptedEvent
-  pub is : IsReceivedAs way before e received outcomes own
-  pub all : here ≡ own ++ closing
-  pub lost_as : lost ≡ loses e received outcomes
-  pub ends : EndsLost lost way (before ++ own) e received closing turn
+-- ---- steps
 
 -- after a step all is committed
 abbrev pub asks_commit : ServerStep → Bool
@@ -133,13 +36,14 @@ asks_commit step.InputEnded = false
 asks_commit step.Finished = true
 asks_commit (step.Failed fault) = true
 
--- of a step: what its event says; where it has none, nothing, and unless a commit is asked for it goes on
+-- of a step: what its event says, and what is refused of that is kept; where it has none, nothing, and unless a commit is
+-- asked for it goes on
 abbrev pub ServesEvent : Manner → List AcceptedEvent → ServerStep → Option AcceptedEvent → List AcceptedEvent
-    → Bool → Turn → Type 0
-ServesEvent way before s None here lost turn = (here ≡ []) × (lost ≡ false) × (asks_commit s ≡ false → turn ≡ On)
-ServesEvent way before s (Some e) here lost turn = IsAccepted way before e here lost turn
-
--- ---- steps
+    → Bool → Turn → OutputState × ServeCounts → OutputState × ServeCounts → Type 0
+ServesEvent way before s None here lost turn was now =
+    (here ≡ []) × (lost ≡ false) × (asks_commit s ≡ false → turn ≡ On)
+ServesEvent way before s (Some e) here lost turn was now =
+    (taken : IsAccepted way before e here lost turn) × KeepsEvent e taken was now
 
 -- a connection was closed where it is lost
 abbrev pub ClosesLost : Bool → SourceState → SourceState → ℕ → Type 0
@@ -166,19 +70,24 @@ pub record GivesStep (old new : SourceState) (g : Given) (lost : Bool) : Type 0 
   pub given : g ≡ given_of g.step buf
   pub closes : ClosesOwn lost between new g.step
 
--- the step of a turn was given, and served behind other events; with none nothing came
-abbrev pub Served : Manner → SourceState → List AcceptedEvent → Option Given → List AcceptedEvent → Turn
-    → SourceState → Type 0
-Served way a before None here turn b = (here ≡ []) × (b ≡ a)
-Served way a before (Some g) here turn b = (lost : Bool) × GivesStep a b g lost
-    × ServesEvent way before g.step (event_of g.step g.octets) here lost turn
-
--- a source was asked for a step, or, where the disk is full, for none
-abbrev pub Asked : Bool → SourceState → SourceState → Type 0
-Asked true old new = new ≡ old
-Asked false old new = (g : Given) × (lost : Bool) × GivesStep old new g lost
-
 -- ---- turns
+
+-- a source gave the step of a turn; where it has none, the source was asked for none
+abbrev pub Gave : SourceState → SourceState → Option Given → Bool → Type 0
+Gave old new None lost = new ≡ old
+Gave old new (Some g) lost = GivesStep old new g lost
+
+-- the event of that step, if there is one
+abbrev pub event_in : Option Given → Option AcceptedEvent
+event_in None = None
+event_in (Some g) = event_of g.step g.octets
+
+-- the step was served behind other events; where there is none nothing came
+abbrev pub Served : Manner → List AcceptedEvent → Option Given → List AcceptedEvent → Bool → Turn → OutputState × ServeCounts
+    → OutputState × ServeCounts → Type 0
+Served way before None here lost turn was now = (here ≡ []) × (lost ≡ false)
+Served way before (Some g) here lost turn was now =
+    ServesEvent way before g.step (event_of g.step g.octets) here lost turn was now
 
 -- unless memory ran out
 abbrev pub UnlessMemory : ServeEnd → Type 0 → Type 0
@@ -219,6 +128,23 @@ IfCommitted Disk P = Unit {0}
 IfCommitted Memory P = Unit {0}
 IfCommitted Endless P = Unit {0}
 
+-- a step is the last one that a source gives: it has finished or failed
+abbrev pub is_last : ServerStep → Bool
+is_last (step.Opened conn listener framing peer) = false
+is_last (step.Piece conn len) = false
+is_last (step.Ended conn end) = false
+is_last (step.Datagram listener peer len) = false
+is_last (step.TurnedAway listener framing peer) = false
+is_last step.Tick = false
+is_last step.InputEnded = false
+is_last step.Finished = true
+is_last (step.Failed fault) = true
+
+-- so is that of a turn
+abbrev pub is_over : Option Given → Bool
+is_over None = false
+is_over (Some g) = is_last g.step
+
 -- why a step ends a run: it says so; or the disk failed at a commit; or memory ran out
 abbrev pub IsStepTurn : ServerStep → Turn → Type 0
 IsStepTurn s On = Unit {0}
@@ -244,13 +170,14 @@ IsCause (Some g) turn = IsStepTurn g.step turn
 
 -- ---- an intake
 
--- wherever an intake stood, it stands behind what is accepted of an event
+-- wherever an intake stood, it stands behind what is accepted of an event, and what is refused of that was kept
 abbrev pub Accepts : {S K : Type 0} → (S → List Entry) → (K → Kept → Type 0) → Intake S K → Intake S K → AcceptedEvent
-    → Bool → Turn → Type 0
-Accepts entries stands old new e lost turn =
+    → Bool → Turn → OutputState × ServeCounts → OutputState × ServeCounts → Type 0
+Accepts entries stands old new e lost turn was now =
     (k : Kept) (first : List Entry) (before : List AcceptedEvent) → StandsBy entries stands old k first before
     → NoneWaits old.collector → (here : List AcceptedEvent) × StandsBy entries stands new k first (before ++ here)
-    × IsAccepted (manner_of old.collector) before e here lost turn × IfSettled turn (NoneWaits new.collector)
+    × (taken : IsAccepted (manner_of old.collector) before e here lost turn) × KeepsEvent e taken was now
+    × IfSettled turn (NoneWaits new.collector)
 
 -- a commit ends a run only where the disk failed or memory ran out
 abbrev pub IsCommitTurn : Turn → Type 0
@@ -282,16 +209,17 @@ StandsOn entries stands old new P =
     (k : Kept) (first : List Entry) (before : List AcceptedEvent) → StandsBy entries stands old k first before
     → (j : Kept) × StandsBy entries stands new j first before × StaysCommitted k j × P j
 
--- wherever an intake stood, it stands behind what is accepted of a step; after some steps all is committed; what was
--- committed still is
+-- wherever an intake stood, it stands behind what is accepted of a step, and what is refused of that was kept; after some
+-- steps all is committed, and after any other what is held and committed is as before; what was committed still is
 abbrev pub ServesStep : {S K : Type 0} → (S → List Entry) → (K → Kept → Type 0) → Intake S K → Intake S K → ServerStep
-    → List ℕ → Bool → Bool → Turn → Type 0
-ServesStep entries stands old new step octets lost full turn =
+    → List ℕ → Bool → Bool → Turn → OutputState × ServeCounts → OutputState × ServeCounts → Type 0
+ServesStep entries stands old new step octets lost full turn was now =
     (k : Kept) (first : List Entry) (before : List AcceptedEvent) → StandsBy entries stands old k first before
     → NoneWaits old.collector → (j : Kept) × (here : List AcceptedEvent)
     × StandsBy entries stands new j first (before ++ here) × StaysCommitted k j
-    × ServesEvent (manner_of old.collector) before step (event_of step octets) here lost turn
+    × ServesEvent (manner_of old.collector) before step (event_of step octets) here lost turn was now
     × IfSettled turn (NoneWaits new.collector) × (asks_commit step ≡ true → UnlessStopped turn full (IsCommitted entries new j))
+    × (asks_commit step ≡ false → j ≡ k)
 
 -- these are the first entries and the received set
 abbrev pub HoldsReceived : FrameReading → List Entry → List Entry → List AcceptedEvent → Type 0

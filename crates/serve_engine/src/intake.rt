@@ -5,9 +5,10 @@ ghost use Rattle.collect_engine.specs.Receiving.{HearsReceived, IfNotMemory, IfR
 ghost use Rattle.syslog_collect.specs.Collectors.{NoneWaits, limit_of, reading_of, store_of, waits_of};
 ghost use Rattle.syslog_collect.specs.History.{AcceptedEvent, Piece, history_of, stream_of};
 ghost use Rattle.syslog_collect.specs.Runs.{accepted_event};
+ghost use Rattle.serve_engine.specs.Events.{manner_of};
 ghost use Rattle.serve_engine.specs.Intakes.{IsCommitted, StandsBy};
 ghost use Rattle.serve_engine.specs.Keepings.{Kept};
-ghost use Rattle.serve_engine.specs.Serving.{StandsOn, manner_of};
+ghost use Rattle.serve_engine.specs.Serving.{StandsOn};
 
 use crate::keeping::{KeepFault, Keeping, Taken};
 use archive_text::Store;

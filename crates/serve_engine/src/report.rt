@@ -1,6 +1,9 @@
 //! What a server tells: lines, counts, and the frames that it refuses.
-ghost use Rattle.std.specs.Prelude.{◌≡◌, ◌≤◌, ◌+◌, ◌-◌, ◌^◌, min};
-ghost use Rattle.serve_engine.specs.Refusals.{KeepsEach, KeepsFrame, KeepsNext, KeepsNone, kept_in, octets_in};
+ghost use Rattle.std.specs.Prelude.{◌≡◌, ◌≤◌, false};
+ghost use Rattle.serve_engine.specs.Counts.{CountsDropped, CountsEnd, connection_counted, count_up, counted, no_counts};
+ghost use Rattle.serve_engine.specs.Counts.{commit_counted, octets_counted};
+ghost use Rattle.serve_engine.specs.Refusals.{KeepsEach, KeepsFrame, KeepsNext, KeepsNone, KeepsSilent, kept_in};
+ghost use Rattle.serve_engine.specs.Refusals.{octets_in, outputs_in};
 
 use crate::counts::ServeCounts;
 use crate::keeping::Taken;
@@ -30,7 +33,10 @@ pub(crate) struct Report<N, R> {
 }
 
 impl<N: Output + Drop, R: Output + Drop> Report<N, R> {
-    pub(crate) fn new(alloc: Global, notes: N, refused: R) -> Report<N, R> {
+    pub(crate) fn new(alloc: Global, notes: N, refused: R) -> Report<N, R>
+        ensures counts { result.counts ≡ no_counts }
+        ensures outputs { outputs_in result ≡ (notes, refused) }
+    {
         Report {
             notes,
             refused,
@@ -54,7 +60,9 @@ impl<N: Output + Drop, R: Output + Drop> Report<N, R> {
     }
 
     /// The outputs, with all that they took.
-    pub(crate) fn into_outputs(self) -> (N, R) {
+    pub(crate) fn into_outputs(self) -> (N, R)
+        ensures { result ≡ outputs_in self }
+    {
         let Report {
             notes,
             refused,
@@ -71,6 +79,7 @@ impl<N: Output + Drop, R: Output + Drop> Report<N, R> {
     fn write_line(&mut self, made: Result<(), AllocError>)
         ensures refused { self.new.refused ≡ self.old.refused }
         ensures dropped { self.old.counts.dropped ≤ self.new.counts.dropped }
+        ensures counts { CountsDropped self.old.counts self.new.counts }
     {
         if made.is_err() || write_all(&mut self.notes, self.line.as_slice()).is_err() {
             self.counts.dropped = self.counts.dropped.saturating_add(1);
@@ -79,7 +88,8 @@ impl<N: Output + Drop, R: Output + Drop> Report<N, R> {
 
     /// Tells what happened to a connection.
     pub(crate) fn tell(&mut self, alloc: Global, way: Way, happening: Happening)
-        ensures { KeepsNone (kept_in R.state self.old) (kept_in R.state self.new) }
+        ensures kept { KeepsNone (kept_in R.state self.old) (kept_in R.state self.new) }
+        ensures counts { CountsDropped self.old.counts self.new.counts }
     {
         self.line.clear();
         let made = put_happening(alloc, &mut self.line, way, happening);
@@ -88,7 +98,7 @@ impl<N: Output + Drop, R: Output + Drop> Report<N, R> {
 
     /// Tells a line whose text is known.
     pub(crate) fn tell_text(&mut self, text: &[u8])
-        ensures { KeepsNone (kept_in R.state self.old) (kept_in R.state self.new) }
+        ensures { KeepsSilent false (kept_in R.state self.old) (kept_in R.state self.new) }
     {
         self.line.clear();
         let made = self.line.extend_from_slice(text);
@@ -97,7 +107,7 @@ impl<N: Output + Drop, R: Output + Drop> Report<N, R> {
 
     /// Tells the counts.
     pub(crate) fn tell_counts(&mut self)
-        ensures { KeepsNone (kept_in R.state self.old) (kept_in R.state self.new) }
+        ensures { KeepsSilent false (kept_in R.state self.old) (kept_in R.state self.new) }
     {
         self.line.clear();
         let made = put_counts(&mut self.line, &self.counts);
@@ -107,7 +117,7 @@ impl<N: Output + Drop, R: Output + Drop> Report<N, R> {
     // Counts an outcome.
     fn count(&mut self, outcome: Outcome)
         ensures refused { self.new.refused ≡ self.old.refused }
-        ensures dropped { self.new.counts.dropped ≡ self.old.counts.dropped }
+        ensures counts { self.new.counts ≡ counted self.old.counts outcome }
     {
         match outcome {
             Outcome::New => count_up(&mut self.counts.received, 1),
@@ -125,15 +135,18 @@ impl<N: Output + Drop, R: Output + Drop> Report<N, R> {
 
     // Counts a line or a frame that was dropped.
     fn drop_one(&mut self)
-        ensures dropped { self.new.counts.dropped ≡ min (self.old.counts.dropped + 1) (2 ^ 64 - 1) }
+        ensures refused { self.new.refused ≡ self.old.refused }
+        ensures dropped { self.new.counts.dropped ≡ count_up self.old.counts.dropped 1 }
+        ensures counts { CountsDropped self.old.counts self.new.counts }
     {
         count_up(&mut self.counts.dropped, 1);
     }
 
     // Keeps a frame that was refused, behind the line on it.
     fn keep_refused(&mut self, alloc: Global, frame: Option<&[u8]>)
-        ensures { KeepsFrame (R.state self.old.refused) (R.state self.new.refused) (octets_in frame.entry)
+        ensures kept { KeepsFrame (R.state self.old.refused) (R.state self.new.refused) (octets_in frame.entry)
             self.old.counts.dropped self.new.counts.dropped }
+        ensures counts { CountsDropped self.old.counts self.new.counts }
     {
         self.kept.clear();
         let line = without_lf(self.line.as_slice());
@@ -155,8 +168,9 @@ impl<N: Output + Drop, R: Output + Drop> Report<N, R> {
         outcome: Outcome,
         frame: Option<&[u8]>,
     )
-        ensures { KeepsFrame (R.state self.old.refused) (R.state self.new.refused) (octets_in frame.entry)
+        ensures kept { KeepsFrame (R.state self.old.refused) (R.state self.new.refused) (octets_in frame.entry)
             self.old.counts.dropped self.new.counts.dropped }
+        ensures counts { CountsDropped self.old.counts self.new.counts }
     {
         self.line.clear();
         let made = put_refused(alloc, &mut self.line, way, number, outcome);
@@ -206,20 +220,32 @@ impl<N: Output + Drop, R: Output + Drop> Report<N, R> {
     /// Counts octets of a piece, of whose frames it is told next.
     pub(crate) fn begin_piece(&mut self, way: Way, octets: usize)
         ensures refused { self.new.refused ≡ self.old.refused }
-        ensures dropped { self.new.counts.dropped ≡ self.old.counts.dropped }
+        ensures counts { self.new.counts ≡ octets_counted self.old.counts octets }
     {
         self.way = way;
         self.count_octets(octets);
     }
 
+    // Tells that a connection ended inside a frame, if it did.
+    fn unterminated(&mut self, alloc: Global, way: Way, received: Received)
+        ensures kept { KeepsNone (kept_in R.state self.old) (kept_in R.state self.new) }
+        ensures counts { CountsEnd received self.old.counts self.new.counts }
+    {
+        match received {
+            Received::Unterminated { start } => {
+                count_up(&mut self.counts.broken, 1);
+                self.tell(alloc, way, Happening::Unterminated(start));
+            }
+            Received::Accepted | Received::Refused | Received::Memory => {}
+        }
+    }
+
     /// Tells how a connection ended.
     pub(crate) fn ended(&mut self, alloc: Global, way: Way, received: Received, end: ConnectionEnd)
-        ensures { KeepsNone (kept_in R.state self.old) (kept_in R.state self.new) }
+        ensures kept { KeepsNone (kept_in R.state self.old) (kept_in R.state self.new) }
+        ensures counts { CountsEnd received self.old.counts self.new.counts }
     {
-        if let Received::Unterminated { start } = received {
-            count_up(&mut self.counts.broken, 1);
-            self.tell(alloc, way, Happening::Unterminated(start));
-        }
+        self.unterminated(alloc, way, received);
         match end {
             ConnectionEnd::Closed => {}
             ConnectionEnd::Reset => self.tell(alloc, way, Happening::Reset),
@@ -229,7 +255,7 @@ impl<N: Output + Drop, R: Output + Drop> Report<N, R> {
 
     /// Tells that the disk is full, unless it was full before.
     pub(crate) fn tell_full(&mut self, before: bool)
-        ensures { KeepsNone (kept_in R.state self.old) (kept_in R.state self.new) }
+        ensures { KeepsSilent false (kept_in R.state self.old) (kept_in R.state self.new) }
     {
         if !before {
             self.tell_text(b"store full\n");
@@ -238,7 +264,7 @@ impl<N: Output + Drop, R: Output + Drop> Report<N, R> {
 
     /// Tells how serving ends.
     pub(crate) fn tell_end(&mut self, end: ServeEnd)
-        ensures { KeepsNone (kept_in R.state self.old) (kept_in R.state self.new) }
+        ensures { KeepsSilent false (kept_in R.state self.old) (kept_in R.state self.new) }
     {
         if let ServeEnd::Source(_) = end {
             self.tell_text(b"source fault\n");
@@ -247,7 +273,8 @@ impl<N: Output + Drop, R: Output + Drop> Report<N, R> {
 
     /// Counts a connection.
     pub(crate) fn count_connection(&mut self)
-        ensures { KeepsNone (kept_in R.state self.old) (kept_in R.state self.new) }
+        ensures kept { KeepsNone (kept_in R.state self.old) (kept_in R.state self.new) }
+        ensures counts { self.new.counts ≡ connection_counted self.old.counts }
     {
         count_up(&mut self.counts.connections, 1);
     }
@@ -255,14 +282,15 @@ impl<N: Output + Drop, R: Output + Drop> Report<N, R> {
     /// Counts octets of a piece or a datagram.
     pub(crate) fn count_octets(&mut self, octets: usize)
         ensures refused { self.new.refused ≡ self.old.refused }
-        ensures dropped { self.new.counts.dropped ≡ self.old.counts.dropped }
+        ensures counts { self.new.counts ≡ octets_counted self.old.counts octets }
     {
         count_up(&mut self.counts.octets, octets as u64);
     }
 
     /// Counts what was handed over and committed.
     pub(crate) fn committed(&mut self, taken: Taken)
-        ensures { KeepsNone (kept_in R.state self.old) (kept_in R.state self.new) }
+        ensures refused { self.new.refused ≡ self.old.refused }
+        ensures counts { self.new.counts ≡ commit_counted self.old.counts taken }
     {
         count_up(&mut self.counts.new, taken.new);
         count_up(&mut self.counts.held, taken.held);
@@ -290,7 +318,7 @@ impl<N: Output + Drop, R: Output + Drop> Observer for Report<N, R> {
 
 // Counts more, and stays at the largest value.
 fn count_up(count: &mut u64, more: u64)
-    ensures { count.new ≡ min (count.old + more) (2 ^ 64 - 1) }
+    ensures { count.new ≡ count_up count.old more }
 {
     *count = count.saturating_add(more);
 }

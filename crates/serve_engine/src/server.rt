@@ -1,6 +1,7 @@
 //! A server: where events go, what it tells, and who is connected.
 ghost use Rattle.std.specs.Prelude.{◌≡◌, false, IfOk};
-ghost use Rattle.serve_engine.specs.Servers.{counts_of, intake_of, is_full};
+ghost use Rattle.serve_engine.specs.Servers.{counts_of, intake_of, is_full, outputs_of};
+ghost use Rattle.serve_engine.specs.Counts.{no_counts};
 
 use crate::counts::ServeCounts;
 use crate::intake::Intake;
@@ -38,6 +39,8 @@ impl<S: Store + Drop, K: Keeping<S> + Drop, N: Output + Drop, R: Output + Drop> 
         ensures collector { IfOk result (λ server. (intake_of server).collector ≡ collector) }
         ensures keeper { IfOk result (λ server. (intake_of server).keeper ≡ keeper) }
         ensures room { IfOk result (λ server. is_full server ≡ false) }
+        ensures counts { IfOk result (λ server. counts_of server ≡ no_counts) }
+        ensures outputs { IfOk result (λ server. outputs_of server ≡ (notes, refused)) }
     {
         Ok(Server {
             intake: Intake {
@@ -54,7 +57,8 @@ impl<S: Store + Drop, K: Keeping<S> + Drop, N: Output + Drop, R: Output + Drop> 
 
     /// What keeps its records, and where it told.
     pub fn into_parts(self) -> (K, N, R)
-        ensures { result.0 ≡ (intake_of self).keeper }
+        ensures keeper { result.0 ≡ (intake_of self).keeper }
+        ensures outputs { (result.1, result.2) ≡ outputs_of self }
     {
         let Server {
             intake,

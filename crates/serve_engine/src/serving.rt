@@ -1,11 +1,11 @@
 //! The loop of a server.
-ghost use Rattle.std.specs.Prelude.{◌≡◌, Bool, false, length};
+ghost use Rattle.std.specs.Prelude.{◌≡◌, Bool, IfNone, false, length, true};
+ghost use Rattle.serve_engine.specs.declared.turn.Turn.TheVariants.{On};
 ghost use Rattle.socket_source.specs.Steps.{IsWithin, octets_of};
-ghost use Rattle.serve_engine.specs.Refusals.{KeepsStep, KeepsTurn, kept_in};
-ghost use Rattle.serve_engine.specs.Servers.{LeadsTo, ServesRun, ServesTurn, intake_of, is_full, place_of};
-ghost use Rattle.serve_engine.specs.Servers.{refusals_of};
-ghost use Rattle.serve_engine.specs.Serving.{Asked, ClosesOwn, IsStepTurn, ServesStep, asks_commit};
-ghost use Rattle.serve_engine.specs.Serving.{event_of, manner_of};
+ghost use Rattle.serve_engine.specs.Events.{event_of, manner_of};
+ghost use Rattle.serve_engine.specs.Refusals.{KeepsSilent, kept_in};
+ghost use Rattle.serve_engine.specs.Servers.{ServesRun, ServesTurn, intake_of, place_of};
+ghost use Rattle.serve_engine.specs.Serving.{ClosesOwn, IsStepTurn, ServesStep, asks_commit, is_last};
 
 use crate::keeping::{Keeping, Pause};
 use crate::serve_end::ServeEnd;
@@ -38,13 +38,15 @@ impl<S: Store + Drop, K: Keeping<S> + Drop, N: Output + Drop, R: Output + Drop> 
         requires within { IsWithin (length buf.now) step }
         ensures served { (lost : Bool) × ClosesOwn lost (Q.state source.old) (Q.state source.new) step
             × ServesStep S.entries K.stands self.old.intake self.new.intake
-            step (octets_of step buf.now) lost self.new.full result }
+            step (octets_of step buf.now) lost self.new.full result
+            (kept_in R.state self.old.report) (kept_in R.state self.new.report) }
         ensures manner { manner_of self.new.intake.collector ≡ manner_of self.old.intake.collector }
         ensures full { asks_commit step ≡ false → self.new.full ≡ self.old.full }
         ensures turn { IsStepTurn step result }
-        ensures kept { KeepsStep S.entries K.stands self.old.intake self.new.intake
-            (event_of step (octets_of step buf.now)) result (kept_in R.state self.old.report)
-            (kept_in R.state self.new.report) }
+        ensures last { is_last step ≡ true → result ≡ On → self.new.full ≡ true }
+        ensures silent { IfNone (event_of step (octets_of step buf.now))
+            (KeepsSilent (asks_commit step) (kept_in R.state self.old.report)
+            (kept_in R.state self.new.report)) }
     {
         match step {
             ServerStep::Opened {
@@ -75,7 +77,9 @@ impl<S: Store + Drop, K: Keeping<S> + Drop, N: Output + Drop, R: Output + Drop> 
     /// A turn: a step of the source; or if the disk is full, another try after a while in which
     /// nothing is read. The slice should have room for `PIECE_MAX` octets.
     ///
-    /// What came is committed at each tick, unless the disk is full, and when the run ends.
+    /// What came is committed at each tick, and once the source has finished or failed, unless the
+    /// disk is full or fails, or memory runs out. What is refused of the step is kept, frame by
+    /// frame.
     pub fn turn<Q: ServerSource, P: Pause>(
         &mut self,
         alloc: Global,
@@ -84,13 +88,8 @@ impl<S: Store + Drop, K: Keeping<S> + Drop, N: Output + Drop, R: Output + Drop> 
         buf: &mut [u8],
         options: &ServeOptions,
     ) -> Turn
-        ensures served { ServesTurn S.entries K.stands (intake_of self.old) (intake_of self.new)
-            (Q.state source.old) (Q.state source.new) (is_full self.old) (is_full self.new) result }
-        ensures asked { Asked (is_full self.old) (Q.state source.old) (Q.state source.new) }
-        // What was kept of frames that were refused.
-        ensures kept { KeepsTurn S.entries K.stands (intake_of self.old) (intake_of self.new)
-            (Q.state source.old) (Q.state source.new) (is_full self.old) result
-            (refusals_of R.state self.old) (refusals_of R.state self.new) }
+        ensures served { ServesTurn S.entries K.stands result (place_of R.state self.old (Q.state source.old))
+            (place_of R.state self.new (Q.state source.new)) }
         ensures manner { manner_of (intake_of self.new).collector
             ≡ manner_of (intake_of self.old).collector }
     {
@@ -110,10 +109,7 @@ impl<S: Store + Drop, K: Keeping<S> + Drop, N: Output + Drop, R: Output + Drop> 
         pause: &mut P,
         options: &ServeOptions,
     ) -> ServeEnd
-        ensures served { ServesRun S.entries K.stands (intake_of self.old) (intake_of self.new)
-            (Q.state source.old) (Q.state source.new) (is_full self.old) result }
-        // What was kept, turn by turn, of frames that were refused.
-        ensures kept { LeadsTo S.entries K.stands result (place_of R.state self.old (Q.state source.old))
+        ensures served { ServesRun S.entries K.stands result (place_of R.state self.old (Q.state source.old))
             (place_of R.state self.new (Q.state source.new)) }
         ensures manner { manner_of (intake_of self.new).collector
             ≡ manner_of (intake_of self.old).collector }

@@ -1,15 +1,15 @@
 //! What a server does with a step.
-ghost use Rattle.std.specs.Prelude.{◌≡◌, ◌⊎◌, ◌++◌, Bool, List, false};
+ghost use Rattle.std.specs.Prelude.{◌≡◌, ◌⊎◌, ◌++◌, Bool, List, false, true};
 ghost use Rattle.archive_text.specs.Entries.{Entry};
 ghost use Rattle.socket_source.specs.Steps.{Closes};
 ghost use Rattle.syslog_collect.specs.Collectors.{NoneWaits};
 ghost use Rattle.syslog_collect.specs.History.{AcceptedEvent, Datagram, Ended, Opened, Piece};
+ghost use Rattle.serve_engine.specs.Events.{Receives, bad_last, ends_in_bad_count, manner_of, turn_of};
 ghost use Rattle.serve_engine.specs.Intakes.{StandsBy};
 ghost use Rattle.serve_engine.specs.Keepings.{Kept};
-ghost use Rattle.serve_engine.specs.Refusals.{KeepsNone, KeepsRefused, kept_in};
+ghost use Rattle.serve_engine.specs.Refusals.{KeepsSilent, kept_in};
 ghost use Rattle.serve_engine.specs.Serving.{Accepts, ClosesLost, CommitsAll, EndsUnlessFull, FaultsAs, IfSettled};
-ghost use Rattle.serve_engine.specs.Serving.{IsCommitTurn, IsEventTurn, Receives, UnlessStopped, bad_last};
-ghost use Rattle.serve_engine.specs.Serving.{ends_in_bad_count, manner_of, turn_of};
+ghost use Rattle.serve_engine.specs.Serving.{IsCommitTurn, IsEventTurn, UnlessStopped};
 ghost use Rattle.serve_engine.specs.declared.serve_end.ServeEnd.TheVariants.{Disk, Memory};
 ghost use Rattle.serve_engine.specs.declared.turn.Turn.TheVariants.{End, On};
 
@@ -75,8 +75,8 @@ impl<S: Store + Drop, K: Keeping<S> + Drop, N: Output + Drop, R: Output + Drop> 
         peer: SocketAddr,
     ) -> Turn
         ensures served { (lost : Bool) × ClosesLost lost (Q.state source.old) (Q.state source.new) conn
-            × Accepts S.entries K.stands self.old.intake self.new.intake (Opened conn framing) lost result }
-        ensures kept { KeepsNone (kept_in R.state self.old.report) (kept_in R.state self.new.report) }
+            × Accepts S.entries K.stands self.old.intake self.new.intake (Opened conn framing) lost result
+            (kept_in R.state self.old.report) (kept_in R.state self.new.report) }
         ensures manner { manner_of self.new.intake.collector ≡ manner_of self.old.intake.collector }
         ensures full { self.new.full ≡ self.old.full }
         ensures turn { IsEventTurn result }
@@ -125,8 +125,7 @@ impl<S: Store + Drop, K: Keeping<S> + Drop, N: Output + Drop, R: Output + Drop> 
         octets: &[u8],
     ) -> Turn
         ensures served { (lost : Bool) × ClosesLost lost (Q.state source.old) (Q.state source.new) conn
-            × Accepts S.entries K.stands self.old.intake self.new.intake (Piece conn octets.now) lost result }
-        ensures kept { KeepsRefused S.entries K.stands self.old.intake self.new.intake (Piece conn octets.now) result
+            × Accepts S.entries K.stands self.old.intake self.new.intake (Piece conn octets.now) lost result
             (kept_in R.state self.old.report) (kept_in R.state self.new.report) }
         ensures manner { manner_of self.new.intake.collector ≡ manner_of self.old.intake.collector }
         ensures full { self.new.full ≡ self.old.full }
@@ -151,9 +150,8 @@ impl<S: Store + Drop, K: Keeping<S> + Drop, N: Output + Drop, R: Output + Drop> 
 
     // A connection has ended.
     pub(crate) fn ended(&mut self, alloc: Global, conn: u32, end: ConnectionEnd) -> Turn
-        ensures served { Accepts S.entries K.stands self.old.intake self.new.intake
-            (Ended conn) false result }
-        ensures kept { KeepsNone (kept_in R.state self.old.report) (kept_in R.state self.new.report) }
+        ensures served { Accepts S.entries K.stands self.old.intake self.new.intake (Ended conn) false result
+            (kept_in R.state self.old.report) (kept_in R.state self.new.report) }
         ensures manner { manner_of self.new.intake.collector ≡ manner_of self.old.intake.collector }
         ensures full { self.new.full ≡ self.old.full }
         ensures turn { IsEventTurn result }
@@ -172,9 +170,7 @@ impl<S: Store + Drop, K: Keeping<S> + Drop, N: Output + Drop, R: Output + Drop> 
         peer: Option<SocketAddr>,
         octets: &[u8],
     ) -> Turn
-        ensures served { Accepts S.entries K.stands self.old.intake self.new.intake
-            (Datagram octets.now) false result }
-        ensures kept { KeepsRefused S.entries K.stands self.old.intake self.new.intake (Datagram octets.now) result
+        ensures served { Accepts S.entries K.stands self.old.intake self.new.intake (Datagram octets.now) false result
             (kept_in R.state self.old.report) (kept_in R.state self.new.report) }
         ensures manner { manner_of self.new.intake.collector ≡ manner_of self.old.intake.collector }
         ensures full { self.new.full ≡ self.old.full }
@@ -193,7 +189,7 @@ impl<S: Store + Drop, K: Keeping<S> + Drop, N: Output + Drop, R: Output + Drop> 
         ensures same { self.new.intake ≡ self.old.intake }
         ensures full { self.new.full ≡ self.old.full }
         ensures turn { result ≡ On }
-        ensures kept { KeepsNone (kept_in R.state self.old.report) (kept_in R.state self.new.report) }
+        ensures kept { KeepsSilent false (kept_in R.state self.old.report) (kept_in R.state self.new.report) }
     {
         let way = Way::Stream(framing, peer);
         self.report.tell(alloc, way, Happening::TurnedAway);
@@ -204,7 +200,7 @@ impl<S: Store + Drop, K: Keeping<S> + Drop, N: Output + Drop, R: Output + Drop> 
     fn fault(&mut self, fault: KeepFault) -> Turn
         ensures same { self.new.intake ≡ self.old.intake }
         ensures turn { FaultsAs fault self.new.full result }
-        ensures kept { KeepsNone (kept_in R.state self.old.report) (kept_in R.state self.new.report) }
+        ensures kept { KeepsSilent false (kept_in R.state self.old.report) (kept_in R.state self.new.report) }
     {
         match fault {
             KeepFault::Full => {
@@ -226,7 +222,7 @@ impl<S: Store + Drop, K: Keeping<S> + Drop, N: Output + Drop, R: Output + Drop> 
         ensures settled { NoneWaits self.old.intake.collector → NoneWaits self.new.intake.collector }
         ensures manner { manner_of self.new.intake.collector ≡ manner_of self.old.intake.collector }
         ensures turn { IsCommitTurn result }
-        ensures kept { KeepsNone (kept_in R.state self.old.report) (kept_in R.state self.new.report) }
+        ensures kept { KeepsSilent true (kept_in R.state self.old.report) (kept_in R.state self.new.report) }
     {
         match self.intake.commit(alloc) {
             Ok(taken) => {
@@ -246,7 +242,7 @@ impl<S: Store + Drop, K: Keeping<S> + Drop, N: Output + Drop, R: Output + Drop> 
         ensures collector { self.new.intake.collector ≡ self.old.intake.collector }
         ensures full { UnlessStopped result self.new.full (self.old.full ≡ false) }
         ensures turn { IsCommitTurn result }
-        ensures kept { KeepsNone (kept_in R.state self.old.report) (kept_in R.state self.new.report) }
+        ensures kept { KeepsSilent false (kept_in R.state self.old.report) (kept_in R.state self.new.report) }
     {
         if self.full || self.intake.keeper.journal_len() <= checkpoint_len {
             return Turn::On;
@@ -261,7 +257,7 @@ impl<S: Store + Drop, K: Keeping<S> + Drop, N: Output + Drop, R: Output + Drop> 
     fn count_tick(&mut self, count_ticks: u64)
         ensures same { self.new.intake ≡ self.old.intake }
         ensures full { self.new.full ≡ self.old.full }
-        ensures kept { KeepsNone (kept_in R.state self.old.report) (kept_in R.state self.new.report) }
+        ensures kept { KeepsSilent false (kept_in R.state self.old.report) (kept_in R.state self.new.report) }
     {
         self.ticks = self.ticks.saturating_add(1);
         if count_ticks != 0 && self.ticks >= count_ticks {
@@ -276,7 +272,7 @@ impl<S: Store + Drop, K: Keeping<S> + Drop, N: Output + Drop, R: Output + Drop> 
         ensures settled { NoneWaits self.old.intake.collector → NoneWaits self.new.intake.collector }
         ensures manner { manner_of self.new.intake.collector ≡ manner_of self.old.intake.collector }
         ensures turn { IsCommitTurn result }
-        ensures kept { KeepsNone (kept_in R.state self.old.report) (kept_in R.state self.new.report) }
+        ensures kept { KeepsSilent true (kept_in R.state self.old.report) (kept_in R.state self.new.report) }
     {
         match self.commit(alloc) {
             Turn::On => {
@@ -292,7 +288,7 @@ impl<S: Store + Drop, K: Keeping<S> + Drop, N: Output + Drop, R: Output + Drop> 
         ensures same { self.new.intake ≡ self.old.intake }
         ensures full { self.new.full ≡ self.old.full }
         ensures turn { EndsUnlessFull self.old.full end result }
-        ensures kept { KeepsNone (kept_in R.state self.old.report) (kept_in R.state self.new.report) }
+        ensures kept { KeepsSilent false (kept_in R.state self.old.report) (kept_in R.state self.new.report) }
     {
         if self.full {
             return Turn::On;
@@ -307,7 +303,8 @@ impl<S: Store + Drop, K: Keeping<S> + Drop, N: Output + Drop, R: Output + Drop> 
         ensures settled { NoneWaits self.old.intake.collector → NoneWaits self.new.intake.collector }
         ensures manner { manner_of self.new.intake.collector ≡ manner_of self.old.intake.collector }
         ensures turn { IsCommitTurn result ⊎ (result ≡ End end) }
-        ensures kept { KeepsNone (kept_in R.state self.old.report) (kept_in R.state self.new.report) }
+        ensures last { result ≡ On → self.new.full ≡ true }
+        ensures kept { KeepsSilent true (kept_in R.state self.old.report) (kept_in R.state self.new.report) }
     {
         match self.commit(alloc) {
             Turn::On => self.end_with(end),
@@ -321,7 +318,7 @@ impl<S: Store + Drop, K: Keeping<S> + Drop, N: Output + Drop, R: Output + Drop> 
         ensures settled { NoneWaits self.old.intake.collector → NoneWaits self.new.intake.collector }
         ensures manner { manner_of self.new.intake.collector ≡ manner_of self.old.intake.collector }
         ensures turn { IsCommitTurn result }
-        ensures kept { KeepsNone (kept_in R.state self.old.report) (kept_in R.state self.new.report) }
+        ensures kept { KeepsSilent true (kept_in R.state self.old.report) (kept_in R.state self.new.report) }
     {
         match self.intake.reopen(alloc) {
             Ok(()) => self.commit(alloc),

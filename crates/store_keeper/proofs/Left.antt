@@ -1,6 +1,6 @@
 -- What a run of a server leaves.
 use Rattle.std.proofs.Common.{◌≡◌, List, [], ◌∷◌, ◌++◌, inl, inr, sym, subst}
-use Rattle.std.specs.Prelude.{◌⊎◌, Bool}
+use Rattle.std.specs.Prelude.{◌⊎◌}
 use Rattle.std.proofs.lemmas.List.{append-nil}
 use Rattle.disk.specs.declared.calls.Disk.{Ghosts}
 use Rattle.archive_pages.specs.Paged.{entries_in}
@@ -15,14 +15,14 @@ use Rattle.syslog_collect.specs.Standing.{Stands}
 use Rattle.syslog_collect.specs.declared.collector.Collector.{Collector}
 use Rattle.syslog_collect.specs.declared.connections.Connections.{Connections}
 use Rattle.syslog_collect.proofs.Gains.{gains_behind}
+use Rattle.serve_engine.specs.Events.{Manner, manner_of}
 use Rattle.serve_engine.specs.Intakes.{StandsBy}
 use Rattle.serve_engine.specs.Keepings.{Kept}
-use Rattle.serve_engine.specs.Servers.{AreTurns, DoneRun, Made, events_of, intake_of, is_full, kept_after}
-use Rattle.serve_engine.specs.Serving.{HoldsReceived, IfCommitted, Manner, manner_of}
+use Rattle.serve_engine.specs.Servers.{AreTurns, Around, DoneRun, Made, Place, events_of, intake_of, kept_after}
+use Rattle.serve_engine.specs.Serving.{HoldsReceived, IfCommitted}
 use Rattle.serve_engine.specs.declared.serve_end.ServeEnd.{ServeEnd}
 use Rattle.serve_engine.specs.declared.server.Server.{Server}
 use Rattle.serve_engine.specs.declared.serve_end.ServeEnd.TheVariants.{Finished, Source, Disk, Memory, Endless}
-use Rattle.socket_source.specs.Steps.{SourceState}
 use Rattle.store_keeper.specs.Keepers.{KeepsOn, store_of as durable_of}
 use Rattle.store_keeper.specs.Keeping.{kept_whole}
 use Rattle.store_keeper.specs.Runs.{LeavesCommitted, LeavesNoOther, LeavesReceived, RunLeaves, WasCommitted, server_disk}
@@ -83,58 +83,56 @@ if_committed Memory P Q h f = tt
 if_committed Endless P Q h f = tt
 
 -- nothing is in the folder but what was there first and was received
-only : {D N R : Type 0} {row : Ghosts D} (new : Server PagedArchive (DiskKeeper D row) N R) (way : FrameReading)
-    (k : Kept) (first : List Entry) (events : List AcceptedEvent) → reading_of (intake_of new).collector ≡ way
-    → StandsBy entries_in KeepsOn (intake_of new) k first events → row.tells (server_disk new)
+only : {D : Type 0} {row : Ghosts D} (new : Place PagedArchive (DiskKeeper D row)) (way : FrameReading) (k : Kept)
+    (first : List Entry) (events : List AcceptedEvent) → reading_of new.intake.collector ≡ way
+    → StandsBy entries_in KeepsOn new.intake k first events → row.tells (server_disk new)
     → LeavesNoOther (row.state (server_disk new)) way first events
 only {row = row} new way k first events same at tells files may e h =
-    let collector = (intake_of new).collector in
+    let collector = new.intake.collector in
     let fresh = entries_in (store_of collector) in
-    let keeps = kept_keeps (durable_of (intake_of new).keeper) (row.state (server_disk new)) k (at.keeper tells) in
+    let keeps = kept_keeps (durable_of new.intake.keeper) (row.state (server_disk new)) k (at.keeper tells) in
     subst (λ (w : FrameReading). Has first e ⊎ IsReceived w events e) same
     (nothing_else collector.reading collector.connections (k.held ++ fresh) first events at.collector e
     (has_left k.held fresh e (keeps.nothing_forged files may e h)))
 
 -- all of that is there
-whole : {D N R : Type 0} {row : Ghosts D} (new : Server PagedArchive (DiskKeeper D row) N R) (way : FrameReading)
-    (k : Kept) (first : List Entry) (events : List AcceptedEvent) → HoldsReceived way k.committed first events
-    → reading_of (intake_of new).collector ≡ way → StandsBy entries_in KeepsOn (intake_of new) k first events
+whole : {D : Type 0} {row : Ghosts D} (new : Place PagedArchive (DiskKeeper D row)) (way : FrameReading) (k : Kept)
+    (first : List Entry) (events : List AcceptedEvent) → HoldsReceived way k.committed first events
+    → reading_of new.intake.collector ≡ way → StandsBy entries_in KeepsOn new.intake k first events
     → row.tells (server_disk new) → LeavesReceived (row.state (server_disk new)) way first events
 whole {row = row} new way k first events committed same at tells files may e =
-    let keeps = kept_keeps (durable_of (intake_of new).keeper) (row.state (server_disk new)) k (at.keeper tells) in (
+    let keeps = kept_keeps (durable_of new.intake.keeper) (row.state (server_disk new)) k (at.keeper tells) in (
       λ h. only new way k first events same at tells files may e h,
       λ h. keeps.nothing_lost files may e ((committed e).1 h),
     )
 
 -- what was committed after a turn still is
-still : (way : Manner) (first : List Entry) (k : Kept) (full : Bool) (before : List AcceptedEvent)
-    (a b : SourceState) (made : List Made) → AreTurns way first k full before a made b
-    → (x : Entry) → Has k.committed x ⊎ WasCommitted made x → Has (kept_after k made).committed x
-still way first k full before a b [] turns x (inl had) = had
-still way first k full before a b [] turns x (inr none) = absurd none
-still way first k full before a b (m ∷ ms) (between, turns, is) x (inl had) =
-    is.stays x (still way first k full before a between ms turns x (inl had))
-still way first k full before a b (m ∷ ms) (between, turns, is) x (inr (inl now)) = now
-still way first k full before a b (m ∷ ms) (between, turns, is) x (inr (inr had)) =
-    is.stays x (still way first k full before a between ms turns x (inr had))
+still : (way : Manner) (first : List Entry) (k : Kept) (before : List AcceptedEvent) (a : Around) (made : List Made)
+    → AreTurns way first k before a made → (x : Entry) → Has k.committed x ⊎ WasCommitted made x
+    → Has (kept_after k made).committed x
+still way first k before a [] turns x (inl had) = had
+still way first k before a [] turns x (inr none) = absurd none
+still way first k before a (m ∷ ms) (turns, is) x (inl had) =
+    is.stays x (still way first k before a ms turns x (inl had))
+still way first k before a (m ∷ ms) (turns, is) x (inr (inl now)) = now
+still way first k before a (m ∷ ms) (turns, is) x (inr (inr had)) =
+    is.stays x (still way first k before a ms turns x (inr had))
 
 -- so that a crash leaves it
-left : {D N R : Type 0} {row : Ghosts D} (new : Server PagedArchive (DiskKeeper D row) N R) (way : Manner)
-    (k : Kept) (full : Bool) (first : List Entry) (before events : List AcceptedEvent) (a b : SourceState)
-    (made : List Made) → AreTurns way first k full before a made b
-    → StandsBy entries_in KeepsOn (intake_of new) (kept_after k made) first events → row.tells (server_disk new)
-    → LeavesCommitted (row.state (server_disk new)) k made
-left {row = row} new way k full first before events a b made turns at tells files may e had =
-    (kept_keeps (durable_of (intake_of new).keeper) (row.state (server_disk new)) (kept_after k made)
-    (at.keeper tells)).nothing_lost files may e (still way first k full before a b made turns e had)
+left : {D : Type 0} {row : Ghosts D} (new : Place PagedArchive (DiskKeeper D row)) (way : Manner) (k : Kept)
+    (first : List Entry) (before events : List AcceptedEvent) (a : Around) (made : List Made)
+    → AreTurns way first k before a made → StandsBy entries_in KeepsOn new.intake (kept_after k made) first events
+    → row.tells (server_disk new) → LeavesCommitted (row.state (server_disk new)) k made
+left {row = row} new way k first before events a made turns at tells files may e had =
+    (kept_keeps (durable_of new.intake.keeper) (row.state (server_disk new)) (kept_after k made)
+    (at.keeper tells)).nothing_lost files may e (still way first k before a made turns e had)
 
-pub run_leaves : {D N R : Type 0} {row : Ghosts D} (old new : Server PagedArchive (DiskKeeper D row) N R)
-    (a b : SourceState) (end : ServeEnd) (k : Kept) (first : List Entry) (before : List AcceptedEvent)
-    → reading_of (intake_of new).collector ≡ reading_of (intake_of old).collector
-    → DoneRun entries_in KeepsOn (intake_of old) (intake_of new) a b (is_full old) end k first before
-    → RunLeaves old new a b end k first before
-run_leaves {row = row} old new a b end k first before same run =
-    let way = reading_of (intake_of old).collector in
+pub run_leaves : {D : Type 0} {row : Ghosts D} (end : ServeEnd) (old new : Place PagedArchive (DiskKeeper D row))
+    (k : Kept) (first : List Entry) (before : List AcceptedEvent)
+    → reading_of new.intake.collector ≡ reading_of old.intake.collector
+    → DoneRun entries_in KeepsOn end old new k first before → RunLeaves end old new k first before
+run_leaves {row = row} end old new k first before same run =
+    let way = reading_of old.intake.collector in
     let events = before ++ events_of run.made in
     let kept = kept_after k run.made in
     record {
@@ -142,7 +140,7 @@ run_leaves {row = row} old new a b end k first before same run =
       received = λ tells. if_committed end (HoldsReceived way kept.committed first events)
           (LeavesReceived (row.state (server_disk new)) way first events) run.committed
           (λ committed. whole new way kept first events committed same run.stands_by tells);
-      committed = λ tells. left new (manner_of (intake_of old).collector) k (is_full old) first before events a b run.made
-          run.turns run.stands_by tells;
+      committed = λ tells. left new (manner_of old.intake.collector) k first before events old.around run.made run.turns
+          run.stands_by tells;
       no_other = λ tells. only new way kept first events same run.stands_by tells;
     }

@@ -9,20 +9,18 @@ use Rattle.syslog_legacy.specs.declared.frame_reading.FrameReading.{FrameReading
 use Rattle.syslog_collect.specs.Collectors.{reading_of}
 use Rattle.syslog_collect.specs.Frames.{IsReceived}
 use Rattle.syslog_collect.specs.History.{AcceptedEvent}
-use Rattle.socket_source.specs.Steps.{SourceState}
 use Rattle.record_store.specs.Crashes.{MayLeaveCounted}
 use Rattle.record_store.specs.Holdings.{Held}
 use Rattle.serve_engine.specs.Keepings.{Kept}
-use Rattle.serve_engine.specs.Servers.{DoneRun, Made, events_of, intake_of, is_full}
+use Rattle.serve_engine.specs.Servers.{DoneRun, Made, Place, events_of}
 use Rattle.serve_engine.specs.Serving.{IfCommitted}
 use Rattle.serve_engine.specs.declared.serve_end.ServeEnd.{ServeEnd}
-use Rattle.serve_engine.specs.declared.server.Server.{Server}
 use Rattle.store_keeper.specs.Keepers.{KeepsOn, disk_of}
 use Rattle.store_keeper.specs.declared.keeper.DiskKeeper.{DiskKeeper}
 
--- the disk that a server's store is on
-abbrev pub server_disk : {D N R : Type 0} {row : Ghosts D} → Server PagedArchive (DiskKeeper D row) N R → D
-server_disk server = disk_of (intake_of server).keeper
+-- the disk that the store of a server is on
+abbrev pub server_disk : {D : Type 0} {row : Ghosts D} → Place PagedArchive (DiskKeeper D row) → D
+server_disk place = disk_of place.intake.keeper
 
 -- whatever a crash leaves of a folder holds what was there first and what was received, and nothing else
 abbrev pub LeavesReceived : State → FrameReading → List Entry → List AcceptedEvent → Type 0
@@ -47,14 +45,13 @@ LeavesCommitted state k made = (files : Files) → MayLeaveCounted state files �
 -- The run is what the engine says of it. On a disk that tells, a crash leaves then all that was received, where the run
 -- ends with all of it committed; however it ends, all that was committed at any time of it, and nothing that was not
 -- received.
-pub record RunLeaves {D N R : Type 0} {row : Ghosts D} (old new : Server PagedArchive (DiskKeeper D row) N R)
-    (source source_new : SourceState) (end : ServeEnd) (k : Kept) (first : List Entry) (before : List AcceptedEvent) : Type 0
-  where
-    pub run : DoneRun entries_in KeepsOn (intake_of old) (intake_of new) source source_new (is_full old) end k first before
-    pub received : row.tells (server_disk new) → IfCommitted end
-        (LeavesReceived (row.state (server_disk new)) (reading_of (intake_of old).collector) first
-        (before ++ events_of run.made))
-    pub committed : row.tells (server_disk new) → LeavesCommitted (row.state (server_disk new)) k run.made
-    pub no_other : row.tells (server_disk new)
-        → LeavesNoOther (row.state (server_disk new)) (reading_of (intake_of old).collector) first
-        (before ++ events_of run.made)
+pub record RunLeaves {D : Type 0} {row : Ghosts D} (end : ServeEnd) (old new : Place PagedArchive (DiskKeeper D row))
+    (k : Kept) (first : List Entry) (before : List AcceptedEvent) : Type 0 where
+  pub run : DoneRun entries_in KeepsOn end old new k first before
+  pub received : row.tells (server_disk new) → IfCommitted end
+      (LeavesReceived (row.state (server_disk new)) (reading_of old.intake.collector) first
+      (before ++ events_of run.made))
+  pub committed : row.tells (server_disk new) → LeavesCommitted (row.state (server_disk new)) k run.made
+  pub no_other : row.tells (server_disk new)
+      → LeavesNoOther (row.state (server_disk new)) (reading_of old.intake.collector) first
+      (before ++ events_of run.made)

@@ -61,9 +61,9 @@ pub fn serve<D: Disk + Drop, N: Output + Drop, R: Output + Drop, Q: ServerSource
     ensures leaves { (k : Kept) (first : List Entry) (before : List AcceptedEvent)
         → StandsBy entries_in KeepsOn (intake_of server.old) k first before
         → NoneWaits (intake_of server.old).collector
-        → RunLeaves server.old server.new (Q.state source.old) (Q.state source.new) result k first before }
-    // What was kept, turn by turn, of frames that were refused.
-    ensures kept { LeadsTo entries_in KeepsOn result (place_of R.state server.old (Q.state source.old))
+        → RunLeaves result (place_of R.state server.old (Q.state source.old))
+        (place_of R.state server.new (Q.state source.new)) k first before }
+    ensures leads { LeadsTo entries_in KeepsOn result (place_of R.state server.old (Q.state source.old))
         (place_of R.state server.new (Q.state source.new)) }
 {
     server.serve(alloc, source, pause, options)

@@ -1,6 +1,7 @@
-use Rattle.std.proofs.Common.{subst, sym}
+use Rattle.std.proofs.Common.{arith, inl, inr, subst, sym, ap}
 use Rattle.serve_engine.specs.Intakes.{StandsBy}
 use Rattle.serve_engine.proofs.Turns.{fault_turn, stopped_fault}
+use Rattle.serve_engine.proofs.Counted.{dropped_none}
 use Rattle.serve_engine.proofs.server.Server.commit.Goals as goal
 
 pub returns-in-Ok-clause-served : goal.returns-in-Ok-clause-served
@@ -18,3 +19,15 @@ returns-in-Err-clause-served g c k first before at =
 
 pub returns-in-Err-clause-turn : goal.returns-in-Err-clause-turn
 returns-in-Err-clause-turn g c = fault_turn _ _ _ c.fault.ensures.turn
+
+pub returns-in-Ok-clause-kept : goal.returns-in-Ok-clause-kept
+returns-in-Ok-clause-kept g c = (
+  (
+    ap (g.R.Output.state) c.committed.ensures.refused,
+    omega (arith, ap (λ x. x.dropped) c.committed.ensures.counts),
+  ),
+  inr (c.in-Ok.taken, dropped_none _ _ c.committed.ensures.counts),
+)
+
+pub returns-in-Err-clause-kept : goal.returns-in-Err-clause-kept
+returns-in-Err-clause-kept g c = (c.fault.ensures.kept.0, inl c.fault.ensures.kept.1)

@@ -1,6 +1,7 @@
-use Rattle.std.proofs.Common.{subst, sym}
+use Rattle.std.proofs.Common.{◌∙◌, arith, subst, sym}
 use Rattle.serve_engine.specs.Intakes.{IsCommitted, StandsBy}
 use Rattle.serve_engine.proofs.Turns.{ended_committed}
+use Rattle.serve_engine.proofs.Counted.{commit_behind}
 use Rattle.serve_engine.proofs.server.Server.finish.Goals as goal
 
 pub returns-in-On-clause-served : goal.returns-in-On-clause-served
@@ -16,3 +17,16 @@ returns-in-On-clause-served g c k first before at =
 
 pub returns-in_default-clause-served : goal.returns-in_default-clause-served
 returns-in_default-clause-served g c = c.commit.ensures.served
+
+pub returns-in-On-clause-kept : goal.returns-in-On-clause-kept
+returns-in-On-clause-kept g c = (
+  (
+    c.end_with.ensures.kept.0.0 ∙ c.commit.ensures.kept.0.0,
+    omega (arith, c.end_with.ensures.kept.0.1, c.commit.ensures.kept.0.1),
+  ),
+  commit_behind c.args.self.now.report.counts c.commit.new.self.report.counts c.end_with.new.self.report.counts
+      c.commit.ensures.kept.1 c.end_with.ensures.kept.1,
+)
+
+pub returns-in_default-clause-kept : goal.returns-in_default-clause-kept
+returns-in_default-clause-kept g c = c.commit.ensures.kept

@@ -1,8 +1,8 @@
 use Rattle.std.proofs.Common.{◌++◌, true, false, List, refl, subst, sym, ap, append_assoc, ◌∙◌}
 use Rattle.syslog_collect.specs.History.{AcceptedEvent, Ended, Piece}
+use Rattle.serve_engine.specs.Events.{Manner, Receives, ends_in_bad_count, loses_piece, manner_of, turn_of}
 use Rattle.serve_engine.specs.Intakes.{StandsBy}
 use Rattle.serve_engine.specs.Refusals.{kept_in}
-use Rattle.serve_engine.specs.Serving.{Manner, Receives, ends_in_bad_count, loses_piece, manner_of, turn_of}
 use Rattle.serve_engine.proofs.Refused.{hears_kept, kept_at, kept_frames}
 use Rattle.serve_engine.proofs.Turns.{accepted_closing, accepted_own, lost_taken, still_settled, taken_on}
 use Rattle.serve_engine.proofs.server.Server.piece.Goals as goal
@@ -14,13 +14,19 @@ returns-in-Memory-clause-served g c = (
   λ k first before at none.
       let made = c.receive_piece-received.ensures.received k first before at in
       let quiet = c.receive_piece-received.ensures.settled k first before at none in
-      let os = c.receive_piece-received.new.self.outcomes.items in (
+      let os = c.receive_piece-received.new.self.outcomes.items in
+      let taken = accepted_own (manner_of c.args.self.now.intake.collector) before (Piece c.args.conn c.args.octets.now)
+      c.receive_piece-received.result os made.0 _
+      (_, _, none, quiet, made.2, c.receive_piece-received.ensures.room k first before at)
+      (ap (λ r. loses_piece r os) c.in-Memory.is) (sym (ap turn_of c.in-Memory.is)) in (
         made.0,
         made.1,
-        accepted_own (manner_of c.args.self.now.intake.collector) before (Piece c.args.conn c.args.octets.now)
-            c.receive_piece-received.result os made.0 _
-            (_, _, none, quiet, made.2, c.receive_piece-received.ensures.room k first before at)
-            (ap (λ r. loses_piece r os) c.in-Memory.is) (sym (ap turn_of c.in-Memory.is)),
+        taken,
+        kept_frames taken _ _
+            (hears_kept (g.R.Output.state) _ c.args.octets.now _ _ _ c.begin_piece.new.self
+            c.receive_piece-received.new.observer _ _ (kept_at (g.R.Output.state) c.begin_piece.new.self
+            c.args.self.now.report c.args.octets.now c.begin_piece.ensures.refused c.begin_piece.ensures.counts) refl
+            (c.receive_piece-received.ensures.hears k first before at)),
         tt,
       ),
 )
@@ -34,15 +40,21 @@ returns-in-Refused-clause-served g c = (
       let settled = c.receive_piece-received.ensures.settled k first before at none in
       let quiet = rw c.in-Refused.is at settled in
       let os = c.receive_piece-received.new.self.outcomes.items in
-      let lost = c.lose.ensures.served k first (before ++ made.0) made.1 quiet in (
+      let lost = c.lose.ensures.served k first (before ++ made.0) made.1 quiet in
+      let taken = accepted_closing (manner_of c.args.self.now.intake.collector) before c.args.conn c.args.octets.now
+      c.receive_piece-received.result os made.0 lost.0 _
+      (_, _, none, settled, made.2, c.receive_piece-received.ensures.room k first before at)
+      (ap (λ r. loses_piece r os) c.in-Refused.is) (subst (λ (w : Manner). Receives w (before ++ made.0)
+      (Ended c.args.conn) lost.0 c.lose.result) c.receive_piece-received.ensures.manner lost.2) in (
         made.0 ++ lost.0,
         subst (λ (es : List AcceptedEvent). StandsBy (g.S.Store.entries) (g.K.Keeping.stands) c.lose.new.self.intake k
             first es) (append_assoc before made.0 lost.0) lost.1,
-        accepted_closing (manner_of c.args.self.now.intake.collector) before c.args.conn c.args.octets.now
-            c.receive_piece-received.result os made.0 lost.0 _
-            (_, _, none, settled, made.2, c.receive_piece-received.ensures.room k first before at)
-            (ap (λ r. loses_piece r os) c.in-Refused.is) (subst (λ (w : Manner). Receives w (before ++ made.0)
-            (Ended c.args.conn) lost.0 c.lose.result) c.receive_piece-received.ensures.manner lost.2),
+        taken,
+        kept_frames taken _ _
+            (hears_kept (g.R.Output.state) _ c.args.octets.now _ _ _ c.begin_piece.new.self
+            c.receive_piece-received.new.observer _ _ (kept_at (g.R.Output.state) c.begin_piece.new.self
+            c.args.self.now.report c.args.octets.now c.begin_piece.ensures.refused c.begin_piece.ensures.counts) (ap (λ r. kept_in (g.R.Output.state) r) (sym c.lose.ensures.report))
+            (c.receive_piece-received.ensures.hears k first before at)),
         lost.3,
       ),
 )
@@ -56,18 +68,24 @@ returns-then-ends_in_bad_count-clause-served g c = (
       let settled = c.receive_piece-received.ensures.settled k first before at none in
       let quiet = still_settled _ _ c.in-Accepted.is settled in
       let os = c.receive_piece-received.new.self.outcomes.items in
-      let lost = c.lose-then-ends_in_bad_count.ensures.served k first (before ++ made.0) made.1 quiet in (
+      let lost = c.lose-then-ends_in_bad_count.ensures.served k first (before ++ made.0) made.1 quiet in
+      let taken = accepted_closing (manner_of c.args.self.now.intake.collector) before c.args.conn c.args.octets.now
+      c.receive_piece-received.result os made.0 lost.0 _
+      (_, _, none, settled, made.2, c.receive_piece-received.ensures.room k first before at)
+      (lost_taken c.receive_piece-received.result os true c.in-Accepted.is
+      (ap ends_in_bad_count (sym c.as_slice.ensures.value) ∙ sym c.ends_in_bad_count.ensures
+      ∙ c.if-ends_in_bad_count.true)) (subst (λ (w : Manner). Receives w (before ++ made.0)
+      (Ended c.args.conn) lost.0 c.lose-then-ends_in_bad_count.result)
+      c.receive_piece-received.ensures.manner lost.2) in (
         made.0 ++ lost.0,
         subst (λ (es : List AcceptedEvent). StandsBy (g.S.Store.entries) (g.K.Keeping.stands)
             c.lose-then-ends_in_bad_count.new.self.intake k first es) (append_assoc before made.0 lost.0) lost.1,
-        accepted_closing (manner_of c.args.self.now.intake.collector) before c.args.conn c.args.octets.now
-            c.receive_piece-received.result os made.0 lost.0 _
-            (_, _, none, settled, made.2, c.receive_piece-received.ensures.room k first before at)
-            (lost_taken c.receive_piece-received.result os true c.in-Accepted.is
-            (ap ends_in_bad_count (sym c.as_slice.ensures.value) ∙ sym c.ends_in_bad_count.ensures
-            ∙ c.if-ends_in_bad_count.true)) (subst (λ (w : Manner). Receives w (before ++ made.0)
-            (Ended c.args.conn) lost.0 c.lose-then-ends_in_bad_count.result)
-            c.receive_piece-received.ensures.manner lost.2),
+        taken,
+        kept_frames taken _ _
+            (hears_kept (g.R.Output.state) _ c.args.octets.now _ _ _ c.begin_piece.new.self
+            c.receive_piece-received.new.observer _ _ (kept_at (g.R.Output.state) c.begin_piece.new.self
+            c.args.self.now.report c.args.octets.now c.begin_piece.ensures.refused c.begin_piece.ensures.counts) (ap (λ r. kept_in (g.R.Output.state) r) (sym c.lose-then-ends_in_bad_count.ensures.report))
+            (c.receive_piece-received.ensures.hears k first before at)),
         lost.3,
       ),
 )
@@ -79,110 +97,21 @@ returns-else-ends_in_bad_count-clause-served g c = (
   λ k first before at none.
       let made = c.receive_piece-received.ensures.received k first before at in
       let settled = c.receive_piece-received.ensures.settled k first before at none in
-      let os = c.receive_piece-received.new.self.outcomes.items in (
+      let os = c.receive_piece-received.new.self.outcomes.items in
+      let taken = accepted_own (manner_of c.args.self.now.intake.collector) before (Piece c.args.conn c.args.octets.now)
+      c.receive_piece-received.result os made.0 _
+      (_, _, none, settled, made.2, c.receive_piece-received.ensures.room k first before at)
+      (lost_taken c.receive_piece-received.result os false c.in-Accepted.is
+      (ap ends_in_bad_count (sym c.as_slice.ensures.value) ∙ sym c.ends_in_bad_count.ensures
+      ∙ c.if-ends_in_bad_count.false)) (taken_on c.receive_piece-received.result c.in-Accepted.is) in (
         made.0,
         made.1,
-        accepted_own (manner_of c.args.self.now.intake.collector) before (Piece c.args.conn c.args.octets.now)
-            c.receive_piece-received.result os made.0 _
-            (_, _, none, settled, made.2, c.receive_piece-received.ensures.room k first before at)
-            (lost_taken c.receive_piece-received.result os false c.in-Accepted.is
-            (ap ends_in_bad_count (sym c.as_slice.ensures.value) ∙ sym c.ends_in_bad_count.ensures
-            ∙ c.if-ends_in_bad_count.false)) (taken_on c.receive_piece-received.result c.in-Accepted.is),
+        taken,
+        kept_frames taken _ _
+            (hears_kept (g.R.Output.state) _ c.args.octets.now _ _ _ c.begin_piece.new.self
+            c.receive_piece-received.new.observer _ _ (kept_at (g.R.Output.state) c.begin_piece.new.self
+            c.args.self.now.report c.args.octets.now c.begin_piece.ensures.refused c.begin_piece.ensures.counts) refl
+            (c.receive_piece-received.ensures.hears k first before at)),
         still_settled _ _ c.in-Accepted.is settled,
       ),
 )
-
-pub returns-in-Memory-clause-kept : goal.returns-in-Memory-clause-kept
-returns-in-Memory-clause-kept g c k first before at none =
-    let made = c.receive_piece-received.ensures.received k first before at in
-    let settled = c.receive_piece-received.ensures.settled k first before at none in
-    let os = c.receive_piece-received.new.self.outcomes.items in
-    let taken = accepted_own (manner_of c.args.self.now.intake.collector) before (Piece c.args.conn c.args.octets.now)
-    c.receive_piece-received.result os made.0 _
-    (_, _, none, settled, made.2, c.receive_piece-received.ensures.room k first before at)
-    (ap (λ r. loses_piece r os) c.in-Memory.is) (sym (ap turn_of c.in-Memory.is)) in (
-      false,
-      made.0,
-      made.1,
-      taken,
-      kept_frames taken _ _
-          (hears_kept (g.R.Output.state) _ c.args.octets.now _ _ _ c.begin_piece.new.self
-          c.receive_piece-received.new.observer _ _ (kept_at (g.R.Output.state) c.begin_piece.new.self
-          c.args.self.now.report c.begin_piece.ensures.refused c.begin_piece.ensures.dropped) refl
-          (c.receive_piece-received.ensures.hears k first before at)),
-    )
-
-pub returns-in-Refused-clause-kept : goal.returns-in-Refused-clause-kept
-returns-in-Refused-clause-kept g c k first before at none =
-    let made = c.receive_piece-received.ensures.received k first before at in
-    let settled = c.receive_piece-received.ensures.settled k first before at none in
-    let quiet = rw c.in-Refused.is at settled in
-    let os = c.receive_piece-received.new.self.outcomes.items in
-    let lost = c.lose.ensures.served k first (before ++ made.0) made.1 quiet in
-    let taken = accepted_closing (manner_of c.args.self.now.intake.collector) before c.args.conn c.args.octets.now
-    c.receive_piece-received.result os made.0 lost.0 _
-    (_, _, none, settled, made.2, c.receive_piece-received.ensures.room k first before at)
-    (ap (λ r. loses_piece r os) c.in-Refused.is) (subst (λ (w : Manner). Receives w (before ++ made.0)
-    (Ended c.args.conn) lost.0 c.lose.result) c.receive_piece-received.ensures.manner lost.2) in (
-      true,
-      made.0 ++ lost.0,
-      subst (λ (es : List AcceptedEvent). StandsBy (g.S.Store.entries) (g.K.Keeping.stands) c.lose.new.self.intake k
-          first es) (append_assoc before made.0 lost.0) lost.1,
-      taken,
-      kept_frames taken _ _
-          (hears_kept (g.R.Output.state) _ c.args.octets.now _ _ _ c.begin_piece.new.self
-          c.receive_piece-received.new.observer _ _ (kept_at (g.R.Output.state) c.begin_piece.new.self
-          c.args.self.now.report c.begin_piece.ensures.refused c.begin_piece.ensures.dropped)
-          (ap (λ r. kept_in (g.R.Output.state) r) (sym c.lose.ensures.report))
-          (c.receive_piece-received.ensures.hears k first before at)),
-    )
-
-pub returns-then-ends_in_bad_count-clause-kept : goal.returns-then-ends_in_bad_count-clause-kept
-returns-then-ends_in_bad_count-clause-kept g c k first before at none =
-    let made = c.receive_piece-received.ensures.received k first before at in
-    let settled = c.receive_piece-received.ensures.settled k first before at none in
-    let quiet = still_settled _ _ c.in-Accepted.is settled in
-    let os = c.receive_piece-received.new.self.outcomes.items in
-    let lost = c.lose-then-ends_in_bad_count.ensures.served k first (before ++ made.0) made.1 quiet in
-    let taken = accepted_closing (manner_of c.args.self.now.intake.collector) before c.args.conn c.args.octets.now
-    c.receive_piece-received.result os made.0 lost.0 _
-    (_, _, none, settled, made.2, c.receive_piece-received.ensures.room k first before at)
-    (lost_taken c.receive_piece-received.result os true c.in-Accepted.is
-    (ap ends_in_bad_count (sym c.as_slice.ensures.value) ∙ sym c.ends_in_bad_count.ensures
-    ∙ c.if-ends_in_bad_count.true)) (subst (λ (w : Manner). Receives w (before ++ made.0)
-    (Ended c.args.conn) lost.0 c.lose-then-ends_in_bad_count.result)
-    c.receive_piece-received.ensures.manner lost.2) in (
-      true,
-      made.0 ++ lost.0,
-      subst (λ (es : List AcceptedEvent). StandsBy (g.S.Store.entries) (g.K.Keeping.stands)
-          c.lose-then-ends_in_bad_count.new.self.intake k first es) (append_assoc before made.0 lost.0) lost.1,
-      taken,
-      kept_frames taken _ _
-          (hears_kept (g.R.Output.state) _ c.args.octets.now _ _ _ c.begin_piece.new.self
-          c.receive_piece-received.new.observer _ _ (kept_at (g.R.Output.state) c.begin_piece.new.self
-          c.args.self.now.report c.begin_piece.ensures.refused c.begin_piece.ensures.dropped)
-          (ap (λ r. kept_in (g.R.Output.state) r) (sym c.lose-then-ends_in_bad_count.ensures.report))
-          (c.receive_piece-received.ensures.hears k first before at)),
-    )
-
-pub returns-else-ends_in_bad_count-clause-kept : goal.returns-else-ends_in_bad_count-clause-kept
-returns-else-ends_in_bad_count-clause-kept g c k first before at none =
-    let made = c.receive_piece-received.ensures.received k first before at in
-    let settled = c.receive_piece-received.ensures.settled k first before at none in
-    let os = c.receive_piece-received.new.self.outcomes.items in
-    let taken = accepted_own (manner_of c.args.self.now.intake.collector) before (Piece c.args.conn c.args.octets.now)
-    c.receive_piece-received.result os made.0 _
-    (_, _, none, settled, made.2, c.receive_piece-received.ensures.room k first before at)
-    (lost_taken c.receive_piece-received.result os false c.in-Accepted.is
-    (ap ends_in_bad_count (sym c.as_slice.ensures.value) ∙ sym c.ends_in_bad_count.ensures
-    ∙ c.if-ends_in_bad_count.false)) (taken_on c.receive_piece-received.result c.in-Accepted.is) in (
-      false,
-      made.0,
-      made.1,
-      taken,
-      kept_frames taken _ _
-          (hears_kept (g.R.Output.state) _ c.args.octets.now _ _ _ c.begin_piece.new.self
-          c.receive_piece-received.new.observer _ _ (kept_at (g.R.Output.state) c.begin_piece.new.self
-          c.args.self.now.report c.begin_piece.ensures.refused c.begin_piece.ensures.dropped) refl
-          (c.receive_piece-received.ensures.hears k first before at)),
-    )

@@ -2,22 +2,22 @@ use Rattle.std.proofs.Common.{◌≡◌, List}
 use Rattle.archive_text.specs.Entries.{Entry}
 use Rattle.syslog_collect.specs.Collectors.{NoneWaits}
 use Rattle.syslog_collect.specs.History.{AcceptedEvent}
+use Rattle.serve_engine.specs.Events.{manner_of}
 use Rattle.serve_engine.specs.Intakes.{StandsBy}
 use Rattle.serve_engine.specs.Keepings.{Kept}
 use Rattle.serve_engine.specs.Servers.{LeadsFrom, place_of}
-use Rattle.serve_engine.specs.Serving.{manner_of}
 use Rattle.serve_engine.proofs.Rounds.{SoFar}
 use Rattle.serve_engine.proofs.server.Server.serve.Given as goal
 
 -- so far the steps that came were served, and the run has not ended
 abbrev pub invariant-loop-turn : goal.invariant-loop-turn
 invariant-loop-turn g l = record {
-  served : (k : Kept) (first : List Entry) (before : List AcceptedEvent) →
+  done : (k : Kept) (first : List Entry) (before : List AcceptedEvent) →
       StandsBy (g.S.Store.entries) (g.K.Keeping.stands) l.fn.self.intake k first before →
       NoneWaits l.fn.self.intake.collector →
-      SoFar (g.S.Store.entries) (g.K.Keeping.stands) l.fn.self.intake l.self.intake
-      (g.Q.ServerSource.state l.fn.source) (g.Q.ServerSource.state l.source) l.fn.self.full l.self.full l._turn k first
-      before;
+      SoFar (g.S.Store.entries) (g.K.Keeping.stands)
+      (place_of (g.R.Output.state) l.fn.self (g.Q.ServerSource.state l.fn.source))
+      (place_of (g.R.Output.state) l.self (g.Q.ServerSource.state l.source)) l._turn k first before;
   manner : manner_of l.self.intake.collector ≡ manner_of l.fn.self.intake.collector;
   leads : LeadsFrom (g.S.Store.entries) (g.K.Keeping.stands)
       (place_of (g.R.Output.state) l.fn.self (g.Q.ServerSource.state l.fn.source))

@@ -1,6 +1,4 @@
 use Rattle.std.proofs.Common.{false, refl}
-use Rattle.syslog_collect.specs.History.{Ended, Opened}
-use Rattle.serve_engine.proofs.Refused.{kept_none, kept_step}
 use Rattle.serve_engine.proofs.Turns.{serves_commit, serves_event, serves_nothing}
 use Rattle.serve_engine.proofs.server.Server.step.Goals as goal
 
@@ -8,49 +6,49 @@ pub returns-in-Opened-clause-served : goal.returns-in-Opened-clause-served
 returns-in-Opened-clause-served g c = (
   c.opened.ensures.served.0,
   rw c.in-Opened.is c.opened.ensures.served.1,
-  serves_event _ _ _ _ c.args.step _ _ _ _ _ (rw c.in-Opened.is refl) (rw c.in-Opened.is refl) c.opened.ensures.served.2,
+  serves_event _ _ _ _ c.args.step _ _ _ _ _ _ _ (rw c.in-Opened.is refl) (rw c.in-Opened.is refl) c.opened.ensures.served.2,
 )
 
 pub returns-in-Piece-clause-served : goal.returns-in-Piece-clause-served
 returns-in-Piece-clause-served g c = (
   c.piece.ensures.served.0,
   rw c.in-Piece.is c.piece.ensures.served.1,
-  serves_event _ _ _ _ c.args.step _ _ _ _ _ (rw c.in-Piece.is refl) (rw c.in-Piece.is refl) c.piece.ensures.served.2,
+  serves_event _ _ _ _ c.args.step _ _ _ _ _ _ _ (rw c.in-Piece.is refl) (rw c.in-Piece.is refl) c.piece.ensures.served.2,
 )
 
 pub returns-in-Ended-clause-served : goal.returns-in-Ended-clause-served
 returns-in-Ended-clause-served g c = (
   false,
   rw c.in-Ended.is refl,
-  serves_event _ _ _ _ c.args.step _ _ _ _ _ (rw c.in-Ended.is refl) (rw c.in-Ended.is refl) c.ended.ensures.served,
+  serves_event _ _ _ _ c.args.step _ _ _ _ _ _ _ (rw c.in-Ended.is refl) (rw c.in-Ended.is refl) c.ended.ensures.served,
 )
 
 pub returns-in-Datagram-clause-served : goal.returns-in-Datagram-clause-served
 returns-in-Datagram-clause-served g c = (
   false,
   rw c.in-Datagram.is refl,
-  serves_event _ _ _ _ c.args.step _ _ _ _ _ (rw c.in-Datagram.is refl) (rw c.in-Datagram.is refl) c.datagram.ensures.served,
+  serves_event _ _ _ _ c.args.step _ _ _ _ _ _ _ (rw c.in-Datagram.is refl) (rw c.in-Datagram.is refl) c.datagram.ensures.served,
 )
 
 pub returns-in-TurnedAway-clause-served : goal.returns-in-TurnedAway-clause-served
 returns-in-TurnedAway-clause-served g c = (
   false,
   rw c.in-TurnedAway.is refl,
-  serves_nothing _ _ _ _ c.args.step _ _ _ (rw c.in-TurnedAway.is refl) (rw c.in-TurnedAway.is refl) c.turned_away.ensures.same c.turned_away.ensures.turn,
+  serves_nothing _ _ _ _ c.args.step _ _ _ _ _ (rw c.in-TurnedAway.is refl) (rw c.in-TurnedAway.is refl) c.turned_away.ensures.same c.turned_away.ensures.turn,
 )
 
 pub returns-in-InputEnded-clause-served : goal.returns-in-InputEnded-clause-served
 returns-in-InputEnded-clause-served g c = (
   false,
   rw c.in-InputEnded.is refl,
-  serves_nothing _ _ _ _ c.args.step _ _ _ (rw c.in-InputEnded.is refl) (rw c.in-InputEnded.is refl) refl refl,
+  serves_nothing _ _ _ _ c.args.step _ _ _ _ _ (rw c.in-InputEnded.is refl) (rw c.in-InputEnded.is refl) refl refl,
 )
 
 pub returns-in-Tick-clause-served : goal.returns-in-Tick-clause-served
 returns-in-Tick-clause-served g c = (
   false,
   rw c.in-Tick.is refl,
-  serves_commit _ _ _ _ c.args.step _ _ _ (rw c.in-Tick.is refl) (rw c.in-Tick.is refl) c.tick.ensures.served
+  serves_commit _ _ _ _ c.args.step _ _ _ _ _ (rw c.in-Tick.is refl) (rw c.in-Tick.is refl) c.tick.ensures.served
       c.tick.ensures.settled,
 )
 
@@ -58,7 +56,7 @@ pub returns-in-Finished-clause-served : goal.returns-in-Finished-clause-served
 returns-in-Finished-clause-served g c = (
   false,
   rw c.in-Finished.is refl,
-  serves_commit _ _ _ _ c.args.step _ _ _ (rw c.in-Finished.is refl) (rw c.in-Finished.is refl) c.finish.ensures.served
+  serves_commit _ _ _ _ c.args.step _ _ _ _ _ (rw c.in-Finished.is refl) (rw c.in-Finished.is refl) c.finish.ensures.served
       c.finish.ensures.settled,
 )
 
@@ -66,23 +64,6 @@ pub returns-in-Failed-clause-served : goal.returns-in-Failed-clause-served
 returns-in-Failed-clause-served g c = (
   false,
   rw c.in-Failed.is refl,
-  serves_commit _ _ _ _ c.args.step _ _ _ (rw c.in-Failed.is refl) (rw c.in-Failed.is refl) c.finish-in-Failed.ensures.served
+  serves_commit _ _ _ _ c.args.step _ _ _ _ _ (rw c.in-Failed.is refl) (rw c.in-Failed.is refl) c.finish-in-Failed.ensures.served
       c.finish-in-Failed.ensures.settled,
 )
-
-pub returns-in-Opened-clause-kept : goal.returns-in-Opened-clause-kept
-returns-in-Opened-clause-kept g c =
-    kept_step _ _ _ _ _ (Opened c.in-Opened.conn c.in-Opened.framing) _ _ _ (rw c.in-Opened.is refl)
-    (kept_none _ _ _ _ (Opened c.in-Opened.conn c.in-Opened.framing) _ _ _ _
-    (λ way before here taken. c.opened.ensures.kept) c.opened.ensures.served.2)
-
-pub returns-in-Ended-clause-kept : goal.returns-in-Ended-clause-kept
-returns-in-Ended-clause-kept g c = kept_step _ _ _ _ _ (Ended c.in-Ended.conn) _ _ _ (rw c.in-Ended.is refl)
-    (kept_none _ _ _ _ (Ended c.in-Ended.conn) _ _ _ _ (λ way before here taken. c.ended.ensures.kept)
-    c.ended.ensures.served)
-
-pub returns-in-Piece-clause-kept : goal.returns-in-Piece-clause-kept
-returns-in-Piece-clause-kept g c = kept_step _ _ _ _ _ _ _ _ _ (rw c.in-Piece.is refl) c.piece.ensures.kept
-
-pub returns-in-Datagram-clause-kept : goal.returns-in-Datagram-clause-kept
-returns-in-Datagram-clause-kept g c = kept_step _ _ _ _ _ _ _ _ _ (rw c.in-Datagram.is refl) c.datagram.ensures.kept

@@ -1,7 +1,8 @@
-use Rattle.std.proofs.Common.{◌≡◌, false, ap, subst, sym, ◌∙◌}
+use Rattle.std.proofs.Common.{◌≡◌, arith, false, ap, subst, sym, ◌∙◌}
 use Rattle.syslog_collect.specs.Collectors.{store_of}
 use Rattle.serve_engine.specs.Intakes.{IsCommitted, StandsBy}
 use Rattle.serve_engine.proofs.Turns.{unless_map}
+use Rattle.serve_engine.proofs.Counted.{commit_behind, dropped_twice}
 use Rattle.serve_engine.proofs.server.Server.tick.Goals as goal
 
 pub returns-in-On-clause-served : goal.returns-in-On-clause-served
@@ -24,3 +25,18 @@ returns-in-On-clause-served g c k first before at =
 
 pub returns-in_default-clause-served : goal.returns-in_default-clause-served
 returns-in_default-clause-served g c = c.commit.ensures.served
+
+pub returns-in-On-clause-kept : goal.returns-in-On-clause-kept
+returns-in-On-clause-kept g c = (
+  (
+    c.checkpoint.ensures.kept.0.0 ∙ c.count_tick.ensures.kept.0.0 ∙ c.commit.ensures.kept.0.0,
+    omega (arith, c.checkpoint.ensures.kept.0.1, c.count_tick.ensures.kept.0.1, c.commit.ensures.kept.0.1),
+  ),
+  commit_behind c.args.self.now.report.counts c.commit.new.self.report.counts c.checkpoint.new.self.report.counts
+      c.commit.ensures.kept.1
+      (dropped_twice c.commit.new.self.report.counts c.count_tick.new.self.report.counts
+      c.checkpoint.new.self.report.counts c.count_tick.ensures.kept.1 c.checkpoint.ensures.kept.1),
+)
+
+pub returns-in_default-clause-kept : goal.returns-in_default-clause-kept
+returns-in_default-clause-kept g c = c.commit.ensures.kept

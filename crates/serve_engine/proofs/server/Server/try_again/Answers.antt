@@ -1,4 +1,4 @@
-use Rattle.std.proofs.Common.{subst, sym}
+use Rattle.std.proofs.Common.{inl, subst, sym}
 use Rattle.serve_engine.specs.Intakes.{StandsBy}
 use Rattle.serve_engine.proofs.Turns.{fault_turn, stopped_fault}
 use Rattle.serve_engine.proofs.server.Server.try_again.Goals as goal
@@ -18,3 +18,9 @@ returns-in-Err-clause-served g c k first before at = (
 
 pub returns-in-Err-clause-turn : goal.returns-in-Err-clause-turn
 returns-in-Err-clause-turn g c = fault_turn _ _ _ c.fault.ensures.turn
+
+pub returns-in-Ok-clause-kept : goal.returns-in-Ok-clause-kept
+returns-in-Ok-clause-kept g c = c.commit.ensures.kept
+
+pub returns-in-Err-clause-kept : goal.returns-in-Err-clause-kept
+returns-in-Err-clause-kept g c = (c.fault.ensures.kept.0, inl c.fault.ensures.kept.1)

@@ -1,52 +1,19 @@
 use Rattle.std.proofs.Common.{refl}
-use Rattle.socket_source.specs.Steps.{given_of}
 use Rattle.serve_engine.proofs.Rounds.{stepped, tried}
 use Rattle.serve_engine.proofs.server.Server.turn.Goals as goal
 
 pub returns-then-self-clause-served : goal.returns-then-self-clause-served
 returns-then-self-clause-served g c =
-    tried _ _ _ _ _ _ _ _ c.if-self.true c.try_again.ensures.served c.try_again.ensures.settled
-    c.try_again.ensures.manner c.try_again.ensures.turn
-
-pub returns-then-self-clause-asked : goal.returns-then-self-clause-asked
-returns-then-self-clause-asked g c = rw c.if-self.true refl
+    tried _ _ _ _ _ c.if-self.true refl c.try_again.ensures.served c.try_again.ensures.settled
+    c.try_again.ensures.manner c.try_again.ensures.turn c.try_again.ensures.kept
 
 pub returns-clause-served : goal.returns-clause-served
 returns-clause-served g c =
-    stepped _ _ _ _ _ _ c.next-step.result c.next-step.new.buf _ _ _ _ c.if-self.false c.step.ensures.served.2 (record {
+    stepped _ _ _ _ c.next-step.result c.next-step.new.buf _ _ c.if-self.false c.step.ensures.served.2 (record {
       between = _;
       buf = c.next-step.new.buf;
       gave = c.next-step.ensures;
       given = refl;
       closes = c.step.ensures.served.1;
-    }) c.step.ensures.manner c.step.ensures.full c.step.ensures.turn
-
-pub returns-clause-asked : goal.returns-clause-asked
-returns-clause-asked g c = rw c.if-self.false (
-  given_of c.next-step.result c.next-step.new.buf,
-  c.step.ensures.served.0,
-  record {
-    between = _;
-    buf = c.next-step.new.buf;
-    gave = c.next-step.ensures;
-    given = refl;
-    closes = c.step.ensures.served.1;
-  },
-)
-
-pub returns-then-self-clause-kept : goal.returns-then-self-clause-kept
-returns-then-self-clause-kept g c = rw c.if-self.true c.try_again.ensures.kept
-
-pub returns-clause-kept : goal.returns-clause-kept
-returns-clause-kept g c = rw c.if-self.false (
-  given_of c.next-step.result c.next-step.new.buf,
-  c.step.ensures.served.0,
-  record {
-    between = _;
-    buf = c.next-step.new.buf;
-    gave = c.next-step.ensures;
-    given = refl;
-    closes = c.step.ensures.served.1;
-  },
-  c.step.ensures.kept,
-)
+    }) c.step.ensures.silent c.step.ensures.manner c.step.ensures.full c.step.ensures.turn
+    c.step.ensures.last

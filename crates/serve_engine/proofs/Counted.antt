@@ -1,0 +1,47 @@
+-- Counts of what was dropped.
+use Rattle.std.proofs.Common.{◌≡◌, ℕ, ap, inl, inr, refl, sym, ◌∙◌}
+use Rattle.collect_engine.specs.declared.receiving.Received.{Received}
+use Rattle.collect_engine.specs.declared.receiving.Received.TheVariants as received
+use Rattle.serve_engine.specs.Counts.{CountsBroken, CountsCommit, CountsDropped, CountsEnd, CountsOpening, broken_counted, commit_counted}
+use Rattle.serve_engine.specs.declared.counts.ServeCounts.{ServeCounts}
+
+-- nothing was dropped
+pub dropped_none : (c d : ServeCounts) → d ≡ c → CountsDropped c d
+dropped_none c d is = is ∙ ap (λ (n : ℕ). record c { dropped = n }) (sym (ap (λ (x : ServeCounts). x.dropped) is))
+
+-- and then more was
+pub dropped_twice : (a b c : ServeCounts) → CountsDropped a b → CountsDropped b c → CountsDropped a c
+dropped_twice a b c one more = more ∙ ap (λ (x : ServeCounts). record x { dropped = c.dropped }) one
+
+-- behind what was counted
+pub dropped_behind : (a b c : ServeCounts) → b ≡ a → CountsDropped b c → CountsDropped a c
+dropped_behind a b c is more = more ∙ ap (λ (x : ServeCounts). record x { dropped = c.dropped }) is
+
+-- behind a commit
+pub commit_behind : (a b c : ServeCounts) → CountsCommit a b → CountsDropped b c → CountsCommit a c
+commit_behind a b c (inl none) more = inl (dropped_twice a b c none more)
+commit_behind a b c (inr (taken, one)) more = inr (taken, dropped_twice (commit_counted a taken) b c one more)
+
+-- a bad count was counted
+pub broken_one : (c d : ServeCounts) → CountsDropped (broken_counted c) d → CountsBroken c d
+broken_one c d is = is ∙ ap (λ (n : ℕ). record c { broken = n; dropped = d.dropped })
+    (sym (ap (λ (x : ServeCounts). x.broken) is))
+
+pub broken_twice : (a b c : ServeCounts) → CountsBroken a b → CountsBroken b c → CountsBroken a c
+broken_twice a b c one more =
+    more ∙ ap (λ (x : ServeCounts). record x { broken = c.broken; dropped = c.dropped }) one
+
+-- a connection that was not opened is not counted
+pub none_opened : (r : Received) (old new : ServeCounts) → ¬ (r ≡ received.Accepted) → CountsDropped old new
+    → CountsOpening r old new
+none_opened received.Accepted old new other kept = absurd (other refl)
+none_opened (received.Unterminated start) old new other kept = kept
+none_opened received.Refused old new other kept = kept
+none_opened received.Memory old new other kept = kept
+
+-- how a connection ended is told behind what was counted
+pub ended_behind : (r : Received) (a b c : ServeCounts) → CountsEnd r a b → CountsDropped b c → CountsEnd r a c
+ended_behind received.Accepted a b c one more = dropped_twice a b c one more
+ended_behind (received.Unterminated start) a b c one more = dropped_twice (broken_counted a) b c one more
+ended_behind received.Refused a b c one more = dropped_twice a b c one more
+ended_behind received.Memory a b c one more = dropped_twice a b c one more
