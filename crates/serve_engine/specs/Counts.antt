@@ -73,7 +73,7 @@ commit_counted c taken = record c {
 abbrev pub CountsCommit : ServeCounts → ServeCounts → Type 0
 CountsCommit old new = CountsDropped old new ⊎ ((taken : Taken) × CountsDropped (commit_counted old taken) new)
 
--- where a step has no event, nothing that came is counted; where a commit is due, that may be
+-- where a step has no event, nothing that came is counted; a commit may be, where one is due
 abbrev pub CountsSilent : Bool → ServeCounts → ServeCounts → Type 0
 CountsSilent true old new = CountsCommit old new
 CountsSilent false old new = CountsDropped old new
