@@ -20,7 +20,7 @@ pub record Causes : Type 1 where
   pub damaged : List ℕ → FileFault → Type 0
   pub writes : Type 0
 
--- want of memory needs no cause
+-- the folder has failed; of a file that is missing or in the way, and of want of memory, nothing is said
 abbrev pub IsFolderCause : Type 0 → DiskFault → Type 0
 IsFolderCause failed Missing = Unit {0}
 IsFolderCause failed Exists = Unit {0}
@@ -28,7 +28,7 @@ IsFolderCause failed Full = failed
 IsFolderCause failed Failed = failed
 IsFolderCause failed Memory = Unit {0}
 
--- a file that is missing is told as one that is gone
+-- the same of a file, but that one which is missing is told as gone
 abbrev pub IsOpenCause : Type 0 → DiskFault → Type 0
 IsOpenCause failed Missing = ⊥
 IsOpenCause failed Exists = Unit {0}
@@ -36,7 +36,7 @@ IsOpenCause failed Full = failed
 IsOpenCause failed Failed = failed
 IsOpenCause failed Memory = Unit {0}
 
--- nor do files that come and go
+-- want of memory needs no cause, nor do files that come and go
 abbrev pub IsCause : Causes → ReadFault → Type 0
 IsCause causes (Folder fault) = IsFolderCause causes.failed fault
 IsCause causes (Open name fault) = causes.read name × IsOpenCause causes.failed fault
