@@ -49,6 +49,17 @@ def tables(program, results):
         row(program, results, f"a prefix of {length} octets", ["check"], EXAMPLE[:length], 1, line, b"")
 
 
+def usages(program, results):
+    """The usage of each command begins with what is typed: the program's name and the command's."""
+    listed = program.run(["--help"], b"")[2].decode()
+    names = re.findall(r"^  ([a-z]+) ", listed.split("Commands:")[1].split("\n\n")[0], re.MULTILINE)
+    results.check("--help lists the commands", {"check", "serve"} <= set(names), listed)
+    for name in sorted({*names} - {"help"}):
+        for words in [[name, "--help"], ["help", name], [name, "--no-such-option"]]:
+            text = program.run(words, b"")[2].decode()
+            results.check(f"{' '.join(words)}: the usage", f"\nUsage: syslogbox {name} " in text, text)
+
+
 def unescaped(text):
     """The lines of a literal block of a manual page as they are shown."""
     return text.replace("\\-", "-").replace("\\(aq", "'").replace("\\e", "\\").replace("\\&", "")
@@ -159,6 +170,7 @@ def live(program, results):
 
 def commands(program, results):
     tables(program, results)
+    usages(program, results)
     results.check("there are manual pages", len(PAGES) > 1, str(PAGES))
     for page in PAGES:
         manual(program, results, page)
