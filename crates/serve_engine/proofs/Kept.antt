@@ -1,5 +1,5 @@
 -- Frames that are kept, or dropped behind their first octets.
-use Rattle.std.proofs.Common.{◌≡◌, ◌∙◌, ◌⊎◌, inl, inr, ℕ, ◌+◌, ◌-◌, ◌^◌, ◌<◌, ◌≤◌, List, [], ◌++◌, take, ap, arith, subst, sym}
+use Rattle.std.proofs.Common.{◌≡◌, ◌∙◌, ◌⊎◌, inl, inr, ℕ, ◌-◌, ◌^◌, ◌<◌, ◌≤◌, List, [], ◌++◌, take, ap, arith, subst, sym}
 use Rattle.std.specs.Prelude.{Option}
 use Rattle.std.specs.Io.KnownBytes.{Appends}
 use Rattle.std.proofs.KnownBytes.{Appends-nil}
@@ -7,7 +7,7 @@ use Rattle.std.proofs.lemmas.Bool.{cases_lt}
 use Rattle.std.proofs.Math.Nat.{min-eq_left, min-eq_right}
 use Rattle.octet_devices.specs.Device.{OutputState}
 use Rattle.serve_engine.specs.Counts.{count_up}
-use Rattle.serve_engine.specs.Refusals.{DropsRest, KeepsFrame, counted_text, refusal_text}
+use Rattle.serve_engine.specs.Refusals.{KeepsFrame, counted_text, refusal_text}
 
 -- a count goes up, or stays at the largest value
 dropped_more : (m n : ℕ) → n ≡ count_up m 1 → (m < n) ⊎ (n ≡ 2 ^ 64 - 1)
