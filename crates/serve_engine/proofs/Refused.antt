@@ -167,7 +167,7 @@ silent x y fs [] none (is, same) = (
     ap (λ (u : OutputState × ServeCounts). u.0) same,
     omega (arith, ap (λ (u : OutputState × ServeCounts). u.1.dropped) same),
   ),
-  subst (λ (u : OutputState × ServeCounts). CountsBroken x.1 u.1) (sym same) refl,
+  subst (λ (u : OutputState × ServeCounts). CountsBroken x.1 u.1) (sym same) (inl refl, refl),
 )
 silent x y fs (o ∷ os) none (here, later, mid, is, one, more) =
     let left = first_empty here later (sym none ∙ is) in
@@ -246,7 +246,7 @@ kept_octets way s o n waited waits a b os told x y none l h same =
           y,
           piece h.fresh (no_more l.logged h.fresh more is count) before os y
               (subst (λ (u : List Outcome). AreTold KeepsNext x h.fresh u y) (sym eq) h.told),
-          ((refl, omega arith), refl),
+          ((refl, omega arith), (inl refl, refl)),
         )
     by_outcomes before all more is (inr eq) =
         let nothing : l.logged ≡ [] =

@@ -57,9 +57,14 @@ broken_counted c = record c { broken = count_up c.broken 1 }
 abbrev pub CountsDropped : ServeCounts → ServeCounts → Type 0
 CountsDropped old new = new ≡ record old { dropped = new.dropped }
 
--- or than bad counts and that
+-- a count stays, or goes up
+abbrev pub GoesUp : ℕ → ℕ → Type 0
+GoesUp old new = (new ≡ old) ⊎ ((more : ℕ) × (new ≡ count_up old more))
+
+-- or than bad counts, which go up, and that
 abbrev pub CountsBroken : ServeCounts → ServeCounts → Type 0
-CountsBroken old new = new ≡ record old { broken = new.broken; dropped = new.dropped }
+CountsBroken old new =
+    GoesUp old.broken new.broken × (new ≡ record old { broken = new.broken; dropped = new.dropped })
 
 -- with a commit, and what was handed over at it
 abbrev pub commit_counted : ServeCounts → Taken → ServeCounts

@@ -53,7 +53,8 @@ returns-in-Refused-clause-served g c = (
         kept_frames taken _ _
             (hears_kept (g.R.Output.state) _ c.args.octets.now _ _ _ c.begin_piece.new.self
             c.receive_piece-received.new.observer _ _ (kept_at (g.R.Output.state) c.begin_piece.new.self
-            c.args.self.now.report c.args.octets.now c.begin_piece.ensures.refused c.begin_piece.ensures.counts) (ap (λ r. kept_in (g.R.Output.state) r) (sym c.lose.ensures.report))
+            c.args.self.now.report c.args.octets.now c.begin_piece.ensures.refused c.begin_piece.ensures.counts)
+            (ap (λ r. kept_in (g.R.Output.state) r) (sym c.lose.ensures.report))
             (c.receive_piece-received.ensures.hears k first before at)),
         lost.3,
       ),
@@ -84,7 +85,8 @@ returns-then-ends_in_bad_count-clause-served g c = (
         kept_frames taken _ _
             (hears_kept (g.R.Output.state) _ c.args.octets.now _ _ _ c.begin_piece.new.self
             c.receive_piece-received.new.observer _ _ (kept_at (g.R.Output.state) c.begin_piece.new.self
-            c.args.self.now.report c.args.octets.now c.begin_piece.ensures.refused c.begin_piece.ensures.counts) (ap (λ r. kept_in (g.R.Output.state) r) (sym c.lose-then-ends_in_bad_count.ensures.report))
+            c.args.self.now.report c.args.octets.now c.begin_piece.ensures.refused c.begin_piece.ensures.counts)
+            (ap (λ r. kept_in (g.R.Output.state) r) (sym c.lose-then-ends_in_bad_count.ensures.report))
             (c.receive_piece-received.ensures.hears k first before at)),
         lost.3,
       ),
