@@ -4,9 +4,10 @@
 usage: scripts/prove.py [--costs FOLDER] CRATE
 
 One rt at a time works in a crate's folder and those below it, so each library is proved in a copy of what it stands on,
-in TMPDIR, best on the repository's own disk. What is built comes into the out/ folders of the crates. Prints how far each crate
-is, and all that rt says of one that is not proved. With --costs each crate has one job, and FOLDER/CRATE.costs has what rt says
-of it with the seconds, for scripts/costs.py. The status is 0 exactly where the crate is built.
+in TMPDIR, best on the repository's own disk. It begins with what earlier checks kept of the crate, and what is built and kept
+comes into the out/ folders of the crates. Prints how far each crate is, and all that rt says of one that is not proved. With
+--costs each library is proved from scratch and each crate has one job, and FOLDER/CRATE.costs has what rt says of it with the
+seconds, for scripts/costs.py. The status is 0 exactly where the crate is built.
 """
 import argparse
 import functools
@@ -66,7 +67,7 @@ class Proof:
         return set(own).union(*(self.below(name) for name in own))
 
     def copy(self, crate, to):
-        """Copies the crate and those below it, whose libraries are built."""
+        """Copies the crate, with what checks kept of it, and those below it, whose libraries are built."""
         names = [crate, *self.below(crate)]
         lines = [f"{name}: {' '.join(self.words[name])}\n" for name in names]
         (to / "crates.txt").write_text("".join(lines))
@@ -78,6 +79,9 @@ class Proof:
             if name != crate:
                 made = f"crates/{name}/out/rlib"
                 shutil.copytree(ROOT / made, to / made, copy_function=link)
+        kept = f"crates/{crate}/out/incremental"
+        if not self.costs and (ROOT / kept).is_dir():
+            shutil.copytree(ROOT / kept, to / kept, copy_function=link_or_copy)
 
     def run(self, crate, folder, *words):
         """Runs rt in a crate's folder, tells how far it is, and gives what it says, or None where it fails."""
@@ -178,6 +182,11 @@ def link(one, other):
         os.link(one, other)
     except OSError:
         shutil.copyfile(one, other)
+
+
+def link_or_copy(one, other):
+    """Gives a file that a check replaces and never writes into a second name, and copies any other."""
+    (link if one.endswith(".oantt") else shutil.copy2)(one, other)
 
 
 def main():

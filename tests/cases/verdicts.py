@@ -1,5 +1,5 @@
 """What `make mutants` tells of mutants, by canned answers of the toolchain (tests/lib/canned/rt): a refusal for a goal of meaning
-is told from one for a name alone, and a run that was stopped goes on where it was."""
+is told from one for a name alone, mutants of two functions are tried together, and a run that was stopped goes on where it was."""
 import os
 import re
 import signal
@@ -11,7 +11,7 @@ from pathlib import Path
 
 from lib.program import HERE, ROOT
 
-SOURCE = "fn f(x: u8) -> u8 {\n    x // kept\n}\n"
+SOURCE = "fn f(x: u8) -> u8 {\n    x // kept\n}\n\nfn g(x: u8) -> u8\n    ensures { result ≡ x }\n{\n    x // left\n}\n"
 ANSWERS = """use Rattle.low.proofs.f.Goals as goal
 
 pub returns-then-clause-value : goal.returns-then-clause-value
@@ -22,6 +22,14 @@ returns-else-clause-value c = refl c
 """
 PLAIN, BRANCH = "    x + 1 // case {}", "    if x == 0 {{ 1 }} else {{ x }} // case {}"
 OLD = "    x // kept"
+
+# mutants of g, each tried in one check with one of f: with `answer`, `body` and `elsewhere`
+OTHER = "    x // left"
+OTHERS = {
+    "beside": "refused: returns-clause-same of low::g (proofs/g/Answers.antt)",
+    "clear": "refused: returns-clause-same of low::g (src/lib.rt:8:5)",
+    "dim": "FAILED bad edit",
+}
 
 # a mutant: its new text, and how its verdict begins
 MUTANTS = {
@@ -40,7 +48,8 @@ MUTANTS = {
     "weak": (BRANCH, "FAILED still proved: the crate is proved with it, without 1 answers"),
     "wrapped": (PLAIN, "FAILED a name alone"),
 }
-TOLD = "5 refused for a goal, 5 for a name alone, 2 let through, 3 unreadable"
+RIGHT = {**{name: right for name, (_, right) in MUTANTS.items()}, **OTHERS}
+TOLD = "7 refused for a goal, 5 for a name alone, 2 let through, 4 unreadable"
 
 
 class Repository:
@@ -50,7 +59,7 @@ class Repository:
         self.root = Path(folder)
         self.log = self.root / "log"
         crate = self.root / "crates/low"
-        for path, text in {"crates.txt": "low:\n", "HANDLES": "Handles allowed: none.\n"}.items():
+        for path, text in {"crates.txt": "low staticlib:\n", "HANDLES": "Handles allowed: none.\n"}.items():
             (self.root / path).write_text(text)
         for path, text in {"src/lib.rt": SOURCE, "proofs/f/Answers.antt": ANSWERS}.items():
             (crate / path).parent.mkdir(parents=True, exist_ok=True)
@@ -58,6 +67,8 @@ class Repository:
         (self.root / "mutants/low").mkdir(parents=True)
         for name, (new, _) in MUTANTS.items():
             self.mutant(name, OLD, new.format(name))
+        for name in OTHERS:
+            self.mutant(name, OTHER, PLAIN.format(name))
         self.mutant("absent", "    y // kept", "    x")
 
     def mutant(self, name, old, new):
@@ -70,9 +81,13 @@ class Repository:
         return subprocess.Popen(words, env={**os.environ, "PATH": path, "CANNED_LOG": str(self.log), **environment},
                                 stdout=subprocess.PIPE, stderr=subprocess.STDOUT, text=True)
 
+    def checks(self):
+        """The cases of each check that was begun."""
+        return [line.partition(" check")[0] for line in self.log.read_text().splitlines()]
+
     def checked(self):
-        """The cases whose checks were begun."""
-        return [line.split()[0] for line in self.log.read_text().splitlines()]
+        """The first case of each check that was begun."""
+        return [line.split()[0] for line in self.checks()]
 
     def until(self, case):
         begun = time.monotonic()
@@ -96,8 +111,11 @@ def stopped(repository, results):
     status, lines, last = ended(one)
     results.check("mutants: a run that is stopped ends at once", time.monotonic() - begun < 20, str(lines))
     results.check("mutants: it says that it was stopped", any("the run was stopped" in line for line in lines), str(lines))
-    known = re.match(r"4 refused for a goal, 4 for a name alone, 1 let through, 6 unreadable", last)
+    known = re.match(r"6 refused for a goal, 4 for a name alone, 1 let through, 7 unreadable", last)
     results.check("mutants: what is known is its last line", status == 1 and known, last)
+    begun = ["none", "answer beside", "body clear", "elsewhere dim", "body", "body", "dim", "elsewhere"]
+    results.check("mutants: those of two functions are tried together, then the rest alone", repository.checks()[:8] == begun,
+                  str(repository.checks()))
 
 
 def taken_up(repository, results):
@@ -107,7 +125,7 @@ def taken_up(repository, results):
     results.check("mutants: what was known is not tried again", again == set(), str(again))
     results.check("mutants: the rest is", {"slow", "unread", "weak", "wrapped"} <= set(repository.checked()), str(repository.checked()))
     results.check("mutants: the last line", (status, last) == (1, TOLD), f"{status} {last}")
-    for name, (_, right) in MUTANTS.items():
+    for name, right in RIGHT.items():
         label = f"mutants/low/{name}.edit: "
         seen = [line.removeprefix("FAILED ").removeprefix(label) for line in lines if f"low/{name}.edit" in line]
         failed = [line.startswith("FAILED ") for line in lines if f"low/{name}.edit" in line]
@@ -120,12 +138,12 @@ def taken_up(repository, results):
 def changed(repository, results):
     """What changes is tried again: one mutant by its text, all by the crate's sources. Only where all are refused for a goal
     is the status 0, and the crate must be proved as it stands."""
-    for name, (_, right) in {**MUTANTS, "absent": ("", "FAILED")}.items():
+    for name, right in {**RIGHT, "absent": "FAILED"}.items():
         if right.startswith("FAILED"):
             (repository.root / f"mutants/low/{name}.edit").unlink()
     repository.mutant("goal", OLD, "    x + 2 // case goal")
     status, _, last = ended(repository.start())
-    right = (0, "5 refused for a goal, 0 for a name alone, 0 let through, 0 unreadable")
+    right = (0, "7 refused for a goal, 0 for a name alone, 0 let through, 0 unreadable")
     results.check("mutants: all are refused for a goal", (status, last) == right, f"{status} {last}")
     results.check("mutants: a mutant that changed is tried again", repository.checked() == ["none", "goal"], str(repository.checked()))
     (repository.root / "crates/low/src/lib.rt").write_text(SOURCE + "// more\n")
@@ -137,7 +155,7 @@ def changed(repository, results):
     results.check("mutants: of other sources all are tried again", (status, last) == right and tried, f"{status} {last}")
     (repository.root / "crates/low/src/lib.rt").write_text(SOURCE + "const MORE: u8 = 1; // case goal\n")
     status, _, last = ended(repository.start())
-    right = (1, "0 refused for a goal, 0 for a name alone, 0 let through, 5 unreadable")
+    right = (1, "0 refused for a goal, 0 for a name alone, 0 let through, 7 unreadable")
     results.check("mutants: a crate that is not proved as it stands", (status, last) == right, f"{status} {last}")
 
 

@@ -2,8 +2,10 @@
 
 The merge gate tries the strongest, in crates/CRATE/must-fail; this tries the others, in mutants/CRATE, of the crates that are
 named or of all. It works on copies of the repository, so that nothing in it changes. A mutant passes where the prover refuses a
-goal of meaning; it fails where it is refused for a name alone, is still proved, or cannot be judged. Where answers name what the
-edit took away, as a goal that has another name now, their functions are checked once more without these answers.
+goal of meaning; it fails where it is refused for a name alone, is still proved, or cannot be judged. Each function is proved by
+the contracts of the others, so wrong bodies of several are tried in one check, and a goal of a function tells of the mutant that
+changes it; one of which none tells is tried alone. Where answers name what the edit took away, as a goal that has another name
+now, their functions are checked once more without these answers.
 
 What is known of a mutant is kept in build/mutants.jsonl, by the mutant's text, the crate's sources without comments, those of the
 crates below, the kit and these scripts, so a run that was stopped goes on where it was. The last line is `N refused for a goal, M
@@ -27,18 +29,20 @@ from lib.program import ROOT
 from mutants.answers import Lessened
 from mutants.journal import Journal, checksum, sources
 from mutants.mutant import Mutant, Unfit
-from mutants.verdict import BAD, NAME, PROVED, REFUSED, UNKNOWN, function_of, judged, missing
+from mutants.verdict import BAD, NAME, PROVED, REFUSED, UNKNOWN, function_of, judged, missing, refused_together
 
 GOAL = re.compile(r"^pub (\S+)\s*:", re.MULTILINE)
 AGAIN = 3  # so often answers are dropped, each time those that name what is not there
+TOGETHER = 10  # so many mutants, of other functions each, are tried in one check at most
 
 
 def below(root):
     """The crates that each crate stands on, by name, the repository's own alone."""
     direct = {}
     for line in (root / "crates.txt").read_text().splitlines():
-        name, _, used = line.partition(":")
-        direct[name] = used.split()
+        head, _, used = line.partition(":")
+        if head and not head.startswith("#"):
+            direct[head.split()[0]] = used.split()
 
     def all_of(name):
         found = {one for used in direct[name] if used in direct for one in (used, *all_of(used))}
@@ -52,6 +56,22 @@ def linked(one, other):
     if one.endswith(".oantt"):
         return os.link(one, other)
     return shutil.copy2(one, other)
+
+
+def parted(mutants, folder):
+    """Groups of mutants that change the bodies of other functions each, with these, for one check; the rest is in none."""
+    groups = []
+    for mutant in mutants:
+        functions = mutant.functions(folder)
+        if not functions:
+            continue
+        fitting = (group for group in groups if len(group) < TOGETHER and not any(functions & others for others in group.values()))
+        group = next(fitting, None)
+        if group is None:
+            groups.append({mutant: functions})
+        else:
+            group[mutant] = functions
+    return [group for group in groups if len(group) > 1]
 
 
 class Stopped(Exception):
@@ -99,10 +119,13 @@ class Room:
             else:
                 (self.crate / path).write_text(text)
 
-    def tried(self, mutant, answers=None, functions=()):
-        """The status and the output of a check with the mutant's texts and, by their paths, those of files of answers: of the
+    def tried(self, mutants, answers=None, functions=()):
+        """The status and the output of a check with the mutants' texts and, by their paths, those of files of answers: of the
         whole crate, or of these functions alone."""
-        texts = {**mutant.applied(self.crate), **(answers or {})}
+        texts = {}
+        for mutant in mutants:
+            texts = mutant.applied(self.crate, texts)
+        texts.update(answers or {})
         own = {path: (self.crate / path).read_text() for path in texts}
         self.begin()
         self.write(texts)
@@ -201,11 +224,30 @@ class Trials:
                 with self.alone:
                     print(f"FAILED {crate} is not proved as it stands: {output[-600:]}", flush=True)
                 return
+            for group in parted(left, room.crate):
+                for mutant, goal in self.together(room, stand, group).items():
+                    left.remove(mutant)
+                    self.keep(stand, mutant, REFUSED, str(goal))
             for mutant in left:
-                verdict, cause = self.one(room, stand, mutant)
-                if verdict != UNKNOWN:
-                    self.journal.keep(checksum(stand, mutant.text), [verdict, cause])
-                self.tell(mutant, verdict, cause)
+                self.keep(stand, mutant, *self.one(room, stand, mutant))
+
+    def keep(self, stand, mutant, verdict, cause):
+        """Keeps and tells a verdict."""
+        if verdict != UNKNOWN:
+            self.journal.keep(checksum(stand, mutant.text), [verdict, cause])
+        self.tell(mutant, verdict, cause)
+
+    def together(self, room, stand, group):
+        """Those of a group's mutants of which one check tells a goal of meaning that it refuses, each with this goal."""
+        def base(function):
+            return self.goals(room, stand, function)
+
+        try:
+            _, output = room.tried(group)
+            goals = {mutant: refused_together(mutant, functions, output, base) for mutant, functions in group.items()}
+        except (Unfit, Unknown):
+            return {}
+        return {mutant: goal for mutant, goal in goals.items() if goal}
 
     def one(self, room, stand, mutant):
         """The verdict on a mutant, and its cause."""
@@ -213,7 +255,7 @@ class Trials:
             return self.goals(room, stand, function)
 
         try:
-            status, output = room.tried(mutant)
+            status, output = room.tried([mutant])
             verdict, cause = judged(mutant, status, output, base)
             without = verdict_without(room, mutant, output, base) if verdict == NAME else None
         except Unfit as unfit:
@@ -241,10 +283,10 @@ def verdict_without(room, mutant, output, base):
         if not lessened.drop(missing(output)):
             return None
         dropped = {function_of(mutant.crate, path): names for path, names in lessened.dropped.items()}
-        status, output = room.tried(mutant, lessened.texts, sorted(dropped))
+        status, output = room.tried([mutant], lessened.texts, sorted(dropped))
         if status == 0:
             # these functions are proved: the others decide
-            status, output = room.tried(mutant, lessened.texts)
+            status, output = room.tried([mutant], lessened.texts)
         verdict, cause = judged(mutant, status, output, base, dropped)
         if verdict in (REFUSED, PROVED):
             count = sum(map(len, dropped.values()))
@@ -284,7 +326,8 @@ def main(words):
         signal.signal(signalled, runs.stop)
     trials, stopped = Trials(runs, root), False
     with ThreadPoolExecutor(given.jobs) as pool:
-        tasks = [pool.submit(trials.crate, crate, found) for crate, found in mutants.items()]
+        longest = sorted(mutants.items(), key=lambda one: len(one[1]), reverse=True)
+        tasks = [pool.submit(trials.crate, crate, found) for crate, found in longest]
     for task in tasks:
         try:
             task.result()

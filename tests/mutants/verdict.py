@@ -23,7 +23,7 @@ MISSING = re.compile(r"has no (?:field )?`|is not in scope|is no name")
 # what is said of them, and of what hangs on them
 NAMES = re.compile(MISSING.pattern + r"|that depends? on `|was not admitted")
 # an answer whose goal is gone
-GONE = re.compile(r"Goals` has no `([^`]*)`")
+GONE = re.compile(r"(?:\./)?(\S+?):\d+:\d+: .*Goals` has no `([^`]*)`")
 UNREAD = re.compile(r"is not in scope|has no field|is no name|operand is missing|expected the end|cannot continue")
 STALE = re.compile(r"module .Rattle-\w+-.*Run the lower steps again")
 LIMITS = re.compile(r"antt ran out of|outgrew the memory limit|stopped at the step limit")
@@ -91,14 +91,16 @@ def numberless(name):
     return re.sub(r"-\d+", "", name)
 
 
-def told_goal(mutant, lines, base, dropped):
-    """The goal of meaning that the check refuses, or None; and one that is open, if any."""
+def told_goal(mutant, lines, base, dropped, is_own=lambda function: True):
+    """The goal of meaning that the check refuses, or None; and one that is open, if any; of functions of its own alone."""
+    own = (goal for goal in goals(mutant.crate, lines) if is_own(goal.function))
+    found = [goal for goal in own if goal.name not in dropped.get(goal.function, ())]
+    gone = [name for line in lines for path, name in GONE.findall(line) if is_own(function_of(mutant.crate, path))]
+    if found and not mutant.branches() and not gone and not dropped:
+        return found[0], None
     answered, known, new = [], [], []
-    for goal in goals(mutant.crate, lines):
-        if goal.name in dropped.get(goal.function, ()):
-            continue
+    for goal in found:
         (answered if goal.answered else known if goal.name in base(goal.function) else new).append(goal)
-    gone = [name for line in lines for name in GONE.findall(line)]
     if not mutant.branches():
         told = known or answered or ([] if gone or dropped else new)
     else:
@@ -110,7 +112,7 @@ def told_goal(mutant, lines, base, dropped):
 def judged(mutant, status, output, base, dropped=None):
     """The verdict on a mutant, and what it stands on. `base` gives the names of a function's goals with its right body,
     `dropped` has those whose answers were dropped, by function."""
-    lines = messages(output)
+    lines = [line for line in messages(output) if not line.startswith("rt: warning: ")]
     if status == 0:
         return PROVED, "the crate is proved with it"
     if STALE.search(output):
@@ -121,13 +123,33 @@ def judged(mutant, status, output, base, dropped=None):
     if status == 3 and any(LIMITS.search(line) for line in lines):
         return LIMIT, next(line for line in lines if LIMITS.search(line))
     if not any(line.startswith(("logic=not-proved", "only=")) for line in lines):
-        compiled = any(re.search(r"\berror\[[\w-]+\]", line) for line in lines)
-        return BAD if status == 1 and compiled else UNKNOWN, " ".join(lines[:4])
+        refused = next((line for line in lines if re.search(r"\berror\[[\w-]+\]", line)), None)
+        return (BAD, refused) if status == 1 and refused else (UNKNOWN, " ".join(lines[:4]))
     told, left = told_goal(mutant, lines, base, dropped or {})
     if told:
         return REFUSED, str(told)
     cause = next((line for line in lines if error_of(line)), None) or (str(left) if left else lines[0])
     return NAME, cause
+
+
+def refused_together(mutant, functions, output, base):
+    """The goal of meaning, of the functions that a mutant changes, that a check of it with mutants of other functions refuses;
+    None where there is none, or the check does not tell."""
+    lines = messages(output)
+    told = any(line.startswith("logic=not-proved") for line in lines) and not STALE.search(output)
+    if not told or any(is_unread(line) for line in lines):
+        return None
+
+    def is_own(function):
+        return any(is_of(mutant.crate, function, path, name) for path, name in functions)
+
+    return told_goal(mutant, lines, base, {}, is_own)[0]
+
+
+def is_of(crate, function, path, name):
+    """Whether a function, by its whole name, is one of this name in a file of src."""
+    parts = [part for part in path.removeprefix("src/").removesuffix(".rt").split("/") if part not in ("lib", "main", "mod")]
+    return function.startswith("::".join([crate, *parts, ""])) and function.split("::")[-1] == name
 
 
 def is_unread(line):
