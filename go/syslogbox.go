@@ -230,7 +230,8 @@ func element(record []byte, n int) (Element, error) {
 	return e, nil
 }
 
-// View returns the parts of the record, its elements in the order of the octets.
+// View returns the parts of the record, its elements in the order of the octets. It reads the record once more for each
+// element and each parameter, so its time grows with the square of their number.
 func View(record []byte) (*Record, error) {
 	var p C.struct_syslogbox_parts
 	var fault C.struct_syslogbox_fault

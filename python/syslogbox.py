@@ -194,6 +194,11 @@ _union = _call("union", ctypes.c_int64, _OCTETS, _SIZE, _OCTETS, _SIZE, _POINTER
 _legacy = _call("legacy", ctypes.c_int64, ctypes.c_int, ctypes.c_int, _OCTETS, _SIZE, _POINTER, _SIZE, _POINTER)
 
 
+def _no_octets(value: object) -> TypeError:
+    """What a call raises for an argument that is not octets."""
+    return TypeError(f"octets have to be bytes, not {type(value).__name__}")
+
+
 def _raise(error: Type[SyslogError], fault: _Fault) -> None:
     if fault.kind == Kind.NO_MEMORY:
         raise MemoryError("libsyslogbox is out of memory")
@@ -204,7 +209,10 @@ def _text(error: Type[SyslogError], call: Callable[..., int], room: int, *argume
     """What a call writes, into so much room."""
     # an array of ctypes would need a type of its own for each length
     out, fault = bytearray(max(room, 1)), _Fault()
-    written = call(*arguments, ctypes.byref(ctypes.c_char.from_buffer(out)), room, ctypes.byref(fault))
+    try:
+        written = call(*arguments, ctypes.byref(ctypes.c_char.from_buffer(out)), room, ctypes.byref(fault))
+    except ctypes.ArgumentError:
+        raise _no_octets(next(x for x in arguments if not isinstance(x, (bytes, int)))) from None
     if written < 0:
         _raise(error, fault)
     return bytes(memoryview(out)[:written])
@@ -215,7 +223,10 @@ def _text(error: Type[SyslogError], call: Callable[..., int], room: int, *argume
 def is_record(record: bytes) -> bool:
     """Whether the octets are a record of RFC 5424."""
     size = len(record)
-    return (_check_short if size < _SHORT else _check)(record, size, None) == 1
+    try:
+        return (_check_short if size < _SHORT else _check)(record, size, None) == 1
+    except ctypes.ArgumentError:
+        raise _no_octets(record) from None
 
 
 def check(record: bytes) -> None:
@@ -225,7 +236,11 @@ def check(record: bytes) -> None:
     faster.
     """
     size = len(record)
-    if not (_check_short if size < _SHORT else _check)(record, size, None):
+    try:
+        answer = (_check_short if size < _SHORT else _check)(record, size, None)
+    except ctypes.ArgumentError:
+        raise _no_octets(record) from None
+    if not answer:
         raise _refusal(record)
 
 
@@ -317,9 +332,17 @@ def _element_at(record: bytes, n: int) -> Element:
 
 
 def view(record: bytes) -> Record:
-    """The parts of the record, its elements in the order of the octets. Raises RecordError."""
+    """The parts of the record, its elements in the order of the octets. Raises RecordError.
+
+    The record is read once more for each element and each parameter, so the time grows with the square of their number:
+    12,000 parameters take some seconds. `check` and `canonical` read it once.
+    """
     parts, fault = _Parts(), _Fault()
-    if not _view(record, len(record), ctypes.byref(parts), ctypes.byref(fault)):
+    try:
+        shown = _view(record, len(record), ctypes.byref(parts), ctypes.byref(fault))
+    except ctypes.ArgumentError:
+        raise _no_octets(record) from None
+    if not shown:
         _raise(RecordError, fault)
     return Record(
         facility=parts.facility, severity=parts.severity, micros=parts.time if parts.has_time else None,

@@ -2,7 +2,6 @@
 rows and random octets, with rooms that are an octet too small, and with null pointers."""
 import ast
 import contextlib
-import ctypes
 import doctest
 import importlib
 import io
@@ -206,11 +205,12 @@ def all_checked(results, module, frames, answers):
         results.check(f"Python: many are checked, {name}", seen == right, f"{len(seen)} for {len(right)}")
     results.check("Python: none are checked", list(module.check_all([])) == [])
     for call in (module.check, module.is_record, module.canonical, module.view):
-        try:
-            call("<0>1 - - - - - -")
-            results.check(f"Python: {call.__name__} refuses a str", False)
-        except (TypeError, ctypes.ArgumentError):
-            results.check(f"Python: {call.__name__} refuses a str", True)
+        for wrong in ("<0>1 - - - - - -", bytearray(b"<0>1 - - - - - -")):
+            try:
+                call(wrong)
+                results.check(f"Python: {call.__name__} refuses a {type(wrong).__name__}", False)
+            except TypeError as told:
+                results.check(f"Python: {call.__name__} refuses a {type(wrong).__name__}", type(wrong).__name__ in str(told), str(told))
 
 
 def python_checks(results, module, frames, answers):
