@@ -3,6 +3,7 @@
 # PREFIX is where the folder will be when it is used; the units call the program there.
 set -eu
 umask 022
+unset CDPATH
 cd "$(dirname "$0")/.."
 program=$1 to=$2 prefix=$3 zsh=${4:-site-functions}
 install -D -m 755 "$program" "$to/bin/syslogbox"

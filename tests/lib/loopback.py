@@ -1,23 +1,43 @@
 """`collect` and other receivers over the loopback."""
+import itertools
 import os
 import select
 import socket
 import subprocess
 import time
 from pathlib import Path
+from random import randrange
 
 HERE = "127.0.0.1"
 NEVER = 30  # seconds, after which a run is given up
+# below those that the system chooses from, so that no other socket has one by chance
+PORTS = range(12_000, 32_000)
 
 
 def kind_of(transport):
     return socket.SOCK_DGRAM if transport == "udp" else socket.SOCK_STREAM
 
 
+def ports():
+    """The ports of this process, over and over: of parts that run side by side each has some of its own."""
+    first, count = map(int, os.environ.get("TESTS_PORTS", f"{PORTS[0]} {len(PORTS)}").split())
+    begin = randrange(count)
+    return itertools.cycle([first + (begin + n) % count for n in range(count)])
+
+
+OWN = ports()
+
+
 def free_port(kind):
-    with socket.socket(socket.AF_INET, kind) as one:
-        one.bind((HERE, 0))
-        return one.getsockname()[1]
+    """A port that no socket has."""
+    while True:
+        port = next(OWN)
+        with socket.socket(socket.AF_INET, kind) as one:
+            try:
+                one.bind(("", port))
+            except OSError:
+                continue
+            return port
 
 
 def sockets(kind, port, state):
