@@ -1,9 +1,9 @@
 //! Steps of a list are served, over what keeps records in memory.
 
-use crate::{KeepFault, Keeping, Pause, ServeCounts, ServeEnd, ServeOptions, Server, Taken};
 use archive_pages::PagedArchive;
 use archive_text::Store;
 use octet_devices::{Fuse, ToWrite};
+use serve_engine::{KeepFault, Keeping, Pause, ServeCounts, ServeEnd, ServeOptions, Server, Taken};
 use socket_source::{ConnectionEnd, MemorySource, ServerStep, SourceFault};
 use std::alloc::Global;
 use std::net::SocketAddr;

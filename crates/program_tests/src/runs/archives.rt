@@ -1,7 +1,7 @@
 //! Archives that are made, joined and migrated.
 
 use super::{run_over, run_with};
-use crate::memory::MemoryFile;
+use commands::MemoryFile;
 use driver::{DONE, FAULT, REFUSED};
 use std::test::Fail;
 

@@ -1,7 +1,7 @@
 //! Rows of what `send` writes.
 
-use crate::{SendOptions, send_text};
 use octet_devices::ToWrite;
+use send_engine::{SendOptions, send_text};
 use std::test::Fail;
 
 // the options as they are by default

@@ -1,4 +1,4 @@
-use crate::{Disk, DiskFault, FileName, Fuse, MemoryDisk};
+use disk::{Disk, DiskFault, FileName, Fuse, MemoryDisk};
 use std::alloc::Global;
 use std::test::Fail;
 

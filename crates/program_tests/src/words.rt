@@ -1,9 +1,9 @@
 //! Rows of words: numbers and zones, and what `collect` takes.
 
-use crate::{FileRequest, FrameCommand, Request, WordsFault, collect_words, read_words};
 use archive_digest::Period;
 use archive_sets::{AskedWord, Conditions, InRange, Times};
 use collect_engine::{CollectWords, Transport};
+use command_line::{FileRequest, FrameCommand, Request, WordsFault, collect_words, read_words};
 use server_words::{InheritedKind, ListenerWords, ServeOptions};
 use std::net::SocketAddr;
 use std::str::FromStr;

@@ -1,5 +1,5 @@
-use crate::{FolderDisk, FolderLock, LockFault, LockFile};
 use disk::{Disk, DiskFault, FileName};
+use folder_disk::{FolderDisk, FolderLock, LockFault, LockFile};
 use std::alloc::Global;
 use std::io::{self, ErrorKind};
 use std::os::unix::fs::{MetadataExt, PermissionsExt, symlink};

@@ -1,13 +1,13 @@
 //! Folders in memory are compacted.
 
 use super::{DAY, LATE, entry, put, put_segment, segment_name, stored, view_of};
-use crate::{CompactFault, Damage, SEGMENTS_MAX, WholeFiles, compact, verify};
 use archive_sets::InRange;
 use disk::{Disk, FileName, Fuse, MemoryDisk};
 use octet_devices::ToWrite;
 use std::alloc::Global;
 use std::test::Fail;
 use store_reading::read;
+use store_upkeep::{CompactFault, Damage, SEGMENTS_MAX, WholeFiles, compact, verify};
 
 // more than a file of these tests has
 const FILE_MAX: usize = 4096;

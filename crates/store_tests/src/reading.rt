@@ -1,4 +1,3 @@
-use crate::{FileFault, Folder, ReadFault, read};
 use archive_sets::InRange;
 use archive_text::{ENTRY_MAX, read_entry};
 use disk::{Disk, DiskFault, FileName, MemoryDisk};
@@ -6,6 +5,7 @@ use octet_devices::{FromRead, Fuse, ToWrite};
 use std::alloc::Global;
 use std::io::Cursor;
 use std::test::Fail;
+use store_reading::{FileFault, Folder, ReadFault, read};
 use syslog_value::Instant;
 
 // names of segments

@@ -1,5 +1,5 @@
-use crate::{Journal, batch_len, open, settle};
 use disk::{Disk, FileName, Fuse, MemoryDisk};
+use journal::{Journal, batch_len, open, settle};
 use std::alloc::Global;
 use std::test::Fail;
 

@@ -1,5 +1,5 @@
-use crate::{AppendFault, RecordStore, SegmentDraft, SegmentFault, StoreFault, open};
 use disk::{Disk, FileName, Fuse, MemoryDisk};
+use record_store::{AppendFault, RecordStore, SegmentDraft, SegmentFault, StoreFault, open};
 use std::alloc::Global;
 use std::test::Fail;
 

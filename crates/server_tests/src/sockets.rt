@@ -1,11 +1,10 @@
 //! Steps of a list, and of real sockets over the loopback, in one process.
 
-use crate::unix_path::send_to_path;
-use crate::{
+use libc::{STDIN_FILENO, net as c};
+use socket_source::{
     ConnectionEnd, Listener, MemorySource, OpenFault, PIECE_MAX, ServerSource, ServerStep,
     SocketSource, SourceFault, SourceOptions,
 };
-use libc::{STDIN_FILENO, net as c};
 use std::alloc::Global;
 use std::io::{self, ErrorKind, Read, Write};
 use std::net::{Shutdown, SocketAddr, TcpStream, UdpSocket};
@@ -61,6 +60,22 @@ fn is_closed(mut client: &TcpStream) -> Result<bool, Fail> {
     client.set_read_timeout(Some(Duration::from_secs(5)))?;
     let mut buf = [0u8; 1];
     Ok(client.read(&mut buf)? == 0)
+}
+
+// Sends a datagram to the socket at a path.
+fn send_to_path(rt: &impl Abort, path: &str, octets: &[u8]) -> Result<(), Fail> {
+    let mut address = [0u8; c::_SS_SIZE];
+    address[..2].copy_from_slice(&(c::AF_UNIX as u16).to_ne_bytes());
+    let room = address.get_mut(2..2 + path.len()).ok_or("a long path")?;
+    room.copy_from_slice(path.as_bytes());
+    let client = unsafe { c::socket(c::AF_UNIX, c::SOCK_DGRAM, 0) };
+    assert_eq!(rt;
+        unsafe { c::connect(client, &address, path.len() as u32 + 3) },
+        0
+    );
+    assert_eq!(rt; libc::write(client, octets), octets.len() as isize);
+    let _ = libc::close(client);
+    Ok(())
 }
 
 // Sends a reset in place of an end.
@@ -181,7 +196,7 @@ fn datagrams_come_whole_and_in_order(rt: HostRuntime) -> Result<(), Fail> {
         };
         expect_next(&rt, &mut source, step, octets)?;
     }
-    send_to_path(path.as_str(), b"path")?;
+    send_to_path(&rt, path.as_str(), b"path")?;
     let step = ServerStep::Datagram {
         listener: 1,
         peer: None,

@@ -1,11 +1,11 @@
 //! Sources that are served: lists, and sockets of this process.
 
-use crate::source::Source;
-use crate::{
-    CollectWords, ListSource, ServeEnd, Step, TcpSource, Transport, UdpSource, run_collect, serve,
-};
 use archive_pages::PagedArchive;
 use archive_text::Store;
+use collect_engine::{
+    CollectWords, ListSource, ServeEnd, Source, Step, TcpSource, Transport, UdpSource, run_collect,
+    serve,
+};
 use octet_devices::ToWrite;
 use std::alloc::Global;
 use std::io::Write;

@@ -1,8 +1,7 @@
 //! Devices that fail, each at some offset.
 
 use super::{HELLO, Ran};
-use crate::memory::{MemoryFile, MemoryFiles};
-use crate::running::run;
+use commands::{MemoryFile, MemoryFiles, run};
 use driver::{DONE, FAULT};
 use octet_devices::{FromRead, Fuse, ToWrite};
 use std::test::Fail;

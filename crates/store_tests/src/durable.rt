@@ -1,6 +1,6 @@
-use crate::{DurableStore, OpenFault};
 use archive_text::{AddFault, Added, Store};
 use disk::{Disk, FileName, Fuse, MemoryDisk};
+use durable_store::{DurableStore, OpenFault};
 use octet_devices::ToWrite;
 use record_store::StoreFault;
 use std::alloc::Global;

@@ -1,4 +1,3 @@
-use crate::{NoStore, SystemFolder, read_store, report_no_store};
 use archive_sets::InRange;
 use disk::{Disk, DiskFault, FileName, MemoryDisk};
 use octet_devices::{FromRead, Fuse, ToWrite};
@@ -6,6 +5,7 @@ use std::alloc::Global;
 use std::io::{self, Cursor};
 use std::test::Fail;
 use std::{env, fs, process};
+use store_engine::{NoStore, SystemFolder, read_store, report_no_store};
 use store_reading::Folder;
 
 // the names and the octets of segments

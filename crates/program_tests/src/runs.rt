@@ -8,8 +8,7 @@ mod sending;
 mod streams;
 mod trimmed;
 
-use super::memory::{MemoryFile, MemoryFiles};
-use super::running::run;
+use commands::{MemoryFile, MemoryFiles, run};
 use driver::{DONE, FAULT, NO_MEMORY, REFUSED};
 use octet_devices::{FromRead, ToWrite};
 use std::test::Fail;

@@ -2,7 +2,6 @@
 
 mod compacting;
 
-use crate::{Damage, DamagedFile, verify};
 use archive_text::ArchiveFault;
 use disk::{Disk, DiskFault, FileName, MemoryDisk};
 use octet_devices::FromRead;
@@ -11,6 +10,7 @@ use std::alloc::{AllocError, Global};
 use std::io::Cursor;
 use std::test::Fail;
 use store_reading::{Folder, ReadFault};
+use store_upkeep::{Damage, DamagedFile, verify};
 
 // entries, in their order
 const UNDATED: &[u8] = b"19 <13>1 - h a - - - x";
