@@ -1,11 +1,11 @@
 //! What senders write, by their public calls.
 
-use crate::{SendFault, Sender};
 use octet_devices::{Fuse, ToWrite};
 use std::alloc::Global;
 use std::test::Fail;
 use syslog_frame::{FRAME_MAX, Framing, Ready, Scanner};
 use syslog_grammar::view;
+use syslog_sender::{SendFault, Sender};
 use syslog_value::{Facility, Instant, Mask, Message, Priority, Severity, StructuredData, Word};
 
 /// A sender without words.

@@ -1,4 +1,4 @@
-use crate::{DigestFault, Period, digest_stream};
+use archive_digest::{DigestFault, Period, digest_stream};
 use archive_text::ArchiveFault;
 use octet_devices::{FromRead, Fuse, ToWrite};
 use std::test::Fail;

@@ -1,4 +1,4 @@
-use crate::{Common, Diff, JoinFault, Kept, Minus, Union, join_streams};
+use archive_join::{Common, Diff, JoinFault, Kept, Minus, Union, join_streams};
 use archive_text::ArchiveFault;
 use octet_devices::{FromRead, Fuse, ToWrite};
 use std::test::Fail;

@@ -1,4 +1,4 @@
-use crate::{
+use archive_sets::{
     AsSevereAs, AskedWord, Both, Condition, Conditions, HasElement, HasWord, InRange, OfFacility,
     OnlyUndated, SelectFault, Times, WordField, select_stream,
 };

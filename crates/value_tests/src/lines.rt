@@ -1,4 +1,4 @@
-use crate::{LentParts, put_json_line, put_lent_line};
+use record_json::{LentParts, put_json_line, put_lent_line};
 use std::test::Fail;
 use syslog_grammar::fields::{HeaderValues, MessageView};
 use syslog_grammar::view;

@@ -1,4 +1,4 @@
-use crate::archive_or_fault;
+use archive_laws::archive_or_fault;
 use archive_text::ArchiveFault;
 
 #[test]

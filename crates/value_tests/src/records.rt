@@ -1,7 +1,7 @@
 //! Records, made and compared.
-use super::*;
-use crate::{Facility, Severity};
+use std::alloc::Global;
 use std::test::Fail;
+use syslog_value::{Facility, Instant, Message, Priority, Record, Severity, StructuredData, Word};
 
 #[test]
 fn a_record_of_a_priority_and_a_message_has_nil_fields(rt: HostRuntime) -> Result<(), Fail> {

@@ -1,8 +1,8 @@
-use crate::{
+use std::test::Fail;
+use syslog_frame::{
     EndFault, FRAME_MAX, Framing, MsgLen, PiecesFault, PutFault, Ready, ScanFault, Scanner,
     StartFault, StreamEnd, frames_of_pieces, msg_len, put_frame, trimmed,
 };
-use std::test::Fail;
 
 const RECORD: &[u8] = b"<0>1 - - - - - -";
 

@@ -1,8 +1,8 @@
-use crate::{
+use archive_pages::PagedArchive;
+use archive_spill::{
     FolderSpill, JOINED_MAX, JOINED_ROOM, MemorySpill, Spill, SpillCall, SpillFault,
     SpilledArchive, joined_at_once,
 };
-use archive_pages::PagedArchive;
 use archive_text::Store;
 use octet_devices::{DeviceFault, FromRead, Fuse, ToWrite};
 use std::alloc::Global;

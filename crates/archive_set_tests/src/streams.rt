@@ -1,4 +1,4 @@
-use crate::{MergeFault, Side, merge_streams};
+use archive_streams::{MergeFault, Side, merge_streams};
 use archive_text::ArchiveFault;
 use octet_devices::{FromRead, Fuse, ToWrite};
 use std::io::Read;

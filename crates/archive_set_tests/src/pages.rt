@@ -1,4 +1,4 @@
-use crate::PagedArchive;
+use archive_pages::PagedArchive;
 use archive_text::{AddFault, Added, Store};
 use octet_devices::ToWrite;
 use std::alloc::Global;

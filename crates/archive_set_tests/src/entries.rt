@@ -1,4 +1,4 @@
-use crate::{ArchiveFault, ENTRY_MAX, compare, entry_of_octets, read_entry};
+use archive_text::{ArchiveFault, ENTRY_MAX, compare, entry_of_octets, read_entry};
 use std::cmp::Ordering;
 use std::test::Fail;
 use syslog_grammar::{Fault, Field};
