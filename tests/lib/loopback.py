@@ -91,11 +91,13 @@ class Collect:
         while not is_taken(self.kind, self.port) and self.process.poll() is None and time.monotonic() - begun < NEVER:
             time.sleep(0.002)
 
-    def connection(self, *pieces):
-        """A connection that sends the pieces and ends."""
+    def connection(self, *pieces, apart=False):
+        """A connection that sends the pieces and ends; `apart` sends each once the program has taken what came before."""
         with self.open() as one:
             try:
-                for piece in pieces:
+                for n, piece in enumerate(pieces):
+                    if apart and n:
+                        self.until_taken()
                     one.sendall(piece)
             except OSError:
                 pass
@@ -124,12 +126,12 @@ class Collect:
         return self.process.returncode, output, notes
 
 
-def collected(program, transport, sent, words=(), environment=None, **others):
-    """The answer after these datagrams, or connections one after the other, each with its pieces."""
+def collected(program, transport, sent, words=(), environment=None, apart=False, **others):
+    """The answer after these datagrams, or connections one after the other, each with its pieces, as `connection` sends them."""
     run = Collect(program, transport, len(sent), words, environment, **others)
     if transport == "udp":
         run.datagrams(*sent)
     else:
         for pieces in sent:
-            run.connection(*([pieces] if isinstance(pieces, bytes) else pieces))
+            run.connection(*([pieces] if isinstance(pieces, bytes) else pieces), apart=apart)
     return run.answer()
