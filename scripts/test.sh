@@ -11,6 +11,8 @@ for name in gcc python3; do
         exit 2
     fi
 done
+# a library whose name has a space or a colon cannot be preloaded
+case ${TMPDIR-} in *[[:space:]:]*) unset TMPDIR ;; esac
 . scripts/parts.sh
 
 sh scripts/link.sh syslogbox fault_injection store_trial || exit 1
