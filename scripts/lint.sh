@@ -34,8 +34,11 @@ files() {
     find . \( -name .git -o -name build -o -name out -o -name __pycache__ \) -prune -o -type f \( "$@" \) -print0
 }
 
+# pyflakes under the name that it has with Debian, or else with pip
+pyflakes=$(command -v pyflakes3 || echo pyflakes)
+
 python() {
-    files -name '*.py' | xargs -0 python3 -m pyflakes
+    files -name '*.py' | xargs -0 "$pyflakes"
 }
 
 shells() {
@@ -57,7 +60,7 @@ go_code() {
     (cd go && go vet ./...)
 }
 
-if here pyflakes python3 -m pyflakes --version; then lint pyflakes python; fi
+if here pyflakes "$pyflakes" --version; then lint pyflakes python; fi
 if here shellcheck shellcheck --version; then lint shellcheck shells; fi
 lint "gcc -Wall -Wextra -pedantic" c
 if here go go version; then lint "go vet" go_code; fi
