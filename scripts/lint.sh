@@ -37,12 +37,12 @@ files() {
 # pyflakes under the name that it has with Debian, or else with pip
 pyflakes=$(command -v pyflakes3 || echo pyflakes)
 
+# A script has a name that ends so, or is called and says in its first line what it is.
 python() {
-    files -name '*.py' | xargs -0 "$pyflakes"
+    files -name '*.py' -o -perm -u+x ! -name '*.*' -exec grep -aqE '^#!.*[ /]python3$' {} \; | xargs -0 "$pyflakes"
 }
 
 shells() {
-    # a script has a name that ends so, or is called and says in its first line what it is
     files -name '*.sh' -o -perm -u+x ! -name '*.*' -exec grep -aqE '^#!.*[ /](ba)?sh$' {} \; |
         xargs -0 shellcheck -x -P SCRIPTDIR/..
 }
