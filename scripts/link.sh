@@ -6,7 +6,7 @@ unset CDPATH
 cd "$(dirname "$0")/.."
 sources=$(sh scripts/sources.sh)
 
-linked=""
+linked=false
 for name in "${@:-syslogbox}"; do
     if [ -x "build/$name" ] && [ "$(cat "build/$name.sources" 2> /dev/null)" = "$sources" ]; then
         echo "build/$name was built from the sources as they are ($sources)"
@@ -18,14 +18,15 @@ for name in "${@:-syslogbox}"; do
         echo "release/ lacks the object of $name, so that build/$name is not there."
         continue
     fi
-    [ -n "$linked" ] || sh scripts/unpack.sh
+    $linked || sh scripts/unpack.sh
     (cd build/release && gcc -Wl,-z,relro,-z,now -o "../$name" "$name.o" libos_c.a liblibc_c.a)
     cp release/SOURCES "build/$name.sources"
-    linked="$linked${linked:+, }build/$name"
+    linked=true
+    echo "build/$name is linked from release/"
 done
-[ -n "$linked" ] || exit 0
-echo "$linked is linked from release/: proved by $(cat release/KIT),"
-echo "and built from the sources $(cat release/SOURCES)"
+$linked || exit 0
+echo "release/ was proved by $(cat release/KIT), and built from the sources"
+cat release/SOURCES
 if [ "$(cat release/SOURCES)" != "$sources" ]; then
     echo "These sources ($sources) are different: 'make proved' proves and builds them."
 fi
