@@ -39,7 +39,7 @@ fault-injection:
 
 # Proves every crate from nothing, runs every test, compares release/ with what was built, and does what `make test` does.
 check:
-	@bash .ci/run
+	@sh .ci/run
 
 # Writes release/ from what `make check` or `make proved` has built of these sources.
 release:
