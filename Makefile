@@ -1,9 +1,12 @@
-# Builds, checks, packs and installs syslogbox. `make` needs gcc alone; what proves needs the toolchain, its command `rt`.
+# Builds, tests, checks, packs and installs syslogbox. `make` needs gcc alone, `make test` python3 too; what proves needs the
+# toolchain, its command `rt`.
 
 PREFIX = /usr/local
 DESTDIR =
+# a folder of another place is never meant
+unexport CDPATH
 
-.PHONY: all lib proved fault-injection check release dist mutants bench soak install uninstall clean
+.PHONY: all lib test proved fault-injection check release dist mutants bench soak install uninstall clean
 
 # Links build/syslogbox from the object in release/, and says of which sources that is.
 all:
@@ -13,11 +16,17 @@ all:
 lib:
 	@sh scripts/library.sh
 
-# Proves the program and the library for C, and the crates below them side by side, builds them, and compares their
-# objects with a release of their sources.
+# Tries the program from release/, or the one that was built from these sources: all tests that need no toolchain.
+test:
+	@sh scripts/test.sh
+
+# Proves the program, the library for C and the two programs of the tests, and the crates below them side by side, builds them,
+# and compares their objects with a release of their sources.
 proved:
 	python3 scripts/prove.py syslogbox
 	python3 scripts/prove.py c_library
+	python3 scripts/prove.py fault_injection
+	python3 scripts/prove.py store_trial
 	sh scripts/keep.sh
 	sh scripts/compare.sh || [ $$? -eq 2 ]
 
@@ -26,10 +35,11 @@ fault-injection:
 	@mkdir -p build
 	cd crates/fault_injection && rt run > ../../build/first-trial
 	@cmp -s crates/fault_injection/out/fault_injection build/fault_injection || cp crates/fault_injection/out/fault_injection build/fault_injection
+	@sh scripts/sources.sh > build/fault_injection.sources
 
-# Proves every crate from nothing, runs every test and the real program, and compares release/ with what was built.
+# Proves every crate from nothing, runs every test, compares release/ with what was built, and does what `make test` does.
 check:
-	bash .ci/run
+	@sh .ci/run
 
 # Writes release/ from what `make check` or `make proved` has built of these sources.
 release:

@@ -3,8 +3,8 @@
 # is 0 exactly where nothing failed, and 2 where release/ was built from other sources. Under another toolchain than
 # release/ names nothing is compared.
 set -eu
+unset CDPATH
 cd "$(dirname "$0")/.."
-built=crates/syslogbox/out/syslogbox
 kit=$(dirname "$(rt doc)")
 
 end() {
@@ -19,18 +19,24 @@ fi
 if [ "$(cat release/KIT)" != "$(rt version)" ]; then
     end "not compared: it was proved by $(cat release/KIT), and this is $(rt version)" 0 0
 fi
+for name in syslogbox libsyslogbox fault_injection store_trial; do
+    [ -f "release/$name.o.gz" ] || end "FAILED: it lacks the object of $name" 0 1
+done
 sh scripts/unpack.sh || end "FAILED: its files are not those of its checksums" 0 1
 cd build/release
 for archive in libos_c.a liblibc_c.a; do
     cmp "$archive" "$kit/c/$archive" || end "FAILED: $archive is not the toolchain's" 0 1
 done
-# the program, as rt links it, is there also where the object is not
-"$kit/bin/rattle-link" --target x86_64-unknown-linux-gnu --toolchain "$kit/toolchain" \
-    -o syslogbox syslogbox.o libos_c.a liblibc_c.a || end "FAILED: its object does not link" 0 1
-cmp syslogbox "../../$built" || end "FAILED: its program is not the one that these sources give" 0 1
-if [ -f "../../$built.o" ]; then
-    cmp syslogbox.o "../../$built.o" || end "FAILED: its object is not the one that these sources give" 0 1
-fi
+for name in syslogbox fault_injection store_trial; do
+    built=../../crates/$name/out/$name
+    # the program, as rt links it, is there also where the object is not
+    "$kit/bin/rattle-link" --target x86_64-unknown-linux-gnu --toolchain "$kit/toolchain" \
+        -o "$name" "$name.o" libos_c.a liblibc_c.a || end "FAILED: its object of $name does not link" 0 1
+    cmp "$name" "$built" || end "FAILED: its program $name is not the one that these sources give" 0 1
+    if [ -f "$built.o" ]; then
+        cmp "$name.o" "$built.o" || end "FAILED: its object of $name is not the one that these sources give" 0 1
+    fi
+done
 library=../../crates/c_library/out/libc_library.a
 if [ -f $library ]; then
     ar p $library | cmp libsyslogbox.o - || end "FAILED: its library is not the one that these sources give" 0 1

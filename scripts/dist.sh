@@ -5,6 +5,7 @@
 set -eu
 umask 022
 export LC_ALL=C TZ=UTC
+unset CDPATH
 cd "$(dirname "$0")/.."
 
 die() {
@@ -29,7 +30,7 @@ dist=$PWD/build/dist
 link() {
     to=$1
     shift
-    if ! (cd build/release && gcc -s "$@" -o "$to" syslogbox.o libos_c.a liblibc_c.a) 2> "$to.log"; then
+    if ! (cd build/release && gcc -s -Wl,-z,relro,-z,now "$@" -o "$to" syslogbox.o libos_c.a liblibc_c.a) 2> "$to.log"; then
         cat "$to.log" >&2
         die "$to does not link."
     fi
@@ -71,6 +72,7 @@ tarball() {
     name=syslogbox-$version tree=$dist/syslogbox-$version
     link "$dist/static" -static
     sh scripts/install.sh "$dist/static" "$tree" /usr/local
+    # shellcheck disable=SC2016  # pkg-config itself puts a folder there
     library "$tree" '${pcfiledir}/../..' lib
     files "$tree" README.md CHANGELOG.md docs/*.md docs/pictures/*.svg contrib/*.conf examples/*
     recipes "$tree"
@@ -152,7 +154,7 @@ documents() {
 
 debian() {
     package=syslogbox root=$dist/debian
-    link "$dist/dynamic" -pie -Wl,-z,relro,-z,now
+    link "$dist/dynamic" -pie
     sh scripts/install.sh "$dist/dynamic" "$root/usr" /usr vendor-completions
     gzip -9n "$root"/usr/share/man/man[1-8]/*
     documents "$root/usr/share/doc/$package"

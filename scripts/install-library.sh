@@ -3,6 +3,7 @@
 # PREFIX is where the folder will be when it is used, as the pkg-config file says.
 set -eu
 umask 022
+unset CDPATH
 cd "$(dirname "$0")/.."
 to=$1 prefix=$2 lib=${3-lib}
 install -D -m 644 include/syslogbox.h "$to/include/syslogbox.h"

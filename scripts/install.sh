@@ -3,6 +3,7 @@
 # PREFIX is where the folder will be when it is used; the units call the program there.
 set -eu
 umask 022
+unset CDPATH
 cd "$(dirname "$0")/.."
 program=$1 to=$2 prefix=$3 zsh=${4:-site-functions}
 install -D -m 755 "$program" "$to/bin/syslogbox"
@@ -12,7 +13,9 @@ done
 install -D -m 644 completions/syslogbox.bash "$to/share/bash-completion/completions/syslogbox"
 install -D -m 644 completions/_syslogbox "$to/share/zsh/$zsh/_syslogbox"
 install -D -m 644 completions/syslogbox.fish "$to/share/fish/vendor_completions.d/syslogbox.fish"
-called=$(printf '%s\n' "$prefix/bin/syslogbox" | sed 's/[\\&|]/\\&/g')
+# systemd splits a line at spaces, and reads quotes, %, $ and \ as its own; then come the signs of sed
+called=$(printf '%s\n' "$prefix/bin/syslogbox" |
+    sed 's/\\/\\x5c/g; s/ /\\x20/g; s/'"'"'/\\x27/g; s/"/\\x22/g; s/%/%%/g; s/\$/$$/g' | sed 's/[\\&|]/\\&/g')
 for unit in contrib/*.service contrib/*.socket contrib/*.timer; do
     [ -f "$unit" ] || continue
     sed "s|/usr/bin/syslogbox|$called|" "$unit" | install -D -m 644 /dev/stdin "$to/lib/systemd/system/${unit##*/}"

@@ -9,7 +9,7 @@ if [ "$(id -u)" -eq 0 ] && ldconfig; then
 fi
 ldconfig -p | sed -n 's/.*libsyslogbox\.so\.0 .*=> //p' | {
     while IFS= read -r found; do
-        [ ! "$found" -ef "$library" ] || exit 0
+        [ "$(realpath "$found")" != "$(realpath "$library")" ] || exit 0
     done
     echo "The system does not find $library yet."
     echo "$todo, or call programs with LD_LIBRARY_PATH=$1."

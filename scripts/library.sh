@@ -2,6 +2,7 @@
 # Links build/libsyslogbox.a and build/libsyslogbox.so.0 from the object in release/, and writes build/syslogbox.pc, by
 # which programs are built with them where they are.
 set -eu
+unset CDPATH
 cd "$(dirname "$0")/.."
 sh scripts/unpack.sh
 cd build/release

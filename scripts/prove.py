@@ -87,7 +87,7 @@ class Proof:
         """Runs rt in a crate's folder, tells how far it is, and gives what it says, or None where it fails."""
         said, told = [], time.monotonic()
         begun, stamped = told, []
-        given = folder / "stdin" if words[0] == "run" else os.devnull
+        given = folder / "stdin" if words[0] == "run" and (folder / "stdin").exists() else os.devnull
         how = {"stdout": subprocess.PIPE, "stderr": subprocess.STDOUT, "text": True, "errors": "replace"}
         with open(given) as stdin, subprocess.Popen(["rt", *words], cwd=folder, stdin=stdin, **how) as rt:
             for line in rt.stdout:
@@ -152,7 +152,8 @@ class Proof:
         """Proves the program, builds it and runs it as its crate says, and gives whether all passed; a library is built."""
         folder = ROOT / "crates" / self.program
         args = folder / "args"
-        words = ["run", "--", *args.read_text().splitlines()] if args.exists() else ["lib"]
+        given = ["--", *args.read_text().splitlines()] if args.exists() else []
+        words = ["run", *given] if (folder / "src/main.rt").exists() else ["lib"]
         said = self.run(self.program, folder, "check", *(["--jobs", "1"] if self.costs else []))
         if said is None or self.run(self.program, folder, *words) is None:
             return False

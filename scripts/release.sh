@@ -1,19 +1,26 @@
 #!/bin/sh
 # Writes release/ from the objects that 'make check' or 'make proved' has built of the sources as they are.
 set -eu
+unset CDPATH
 cd "$(dirname "$0")/.."
 made=build/proved
 kit=$(dirname "$(rt doc)")
 sources=$(sh scripts/sources.sh)
-if [ "$(cat $made/SOURCES $made/LIBRARY_SOURCES $made/KIT 2> /dev/null)" != "$(echo "$sources" && echo "$sources" && rt version)" ]; then
-    echo "Nothing is built of these sources by this toolchain: 'make check' or 'make proved' does." >&2
-    exit 1
-fi
-cp "$kit/c/libos_c.a" "$kit/c/liblibc_c.a" $made/
-mkdir -p release
-for object in syslogbox.o libsyslogbox.o; do
-    gzip -9nc $made/$object > release/$object.gz
+names="syslogbox libsyslogbox fault_injection store_trial"
+for name in $names; do
+    if [ "$(cat "$made/$name.of" 2> /dev/null)" != "$sources $(rt version)" ]; then
+        echo "No object of $name is built of these sources by this toolchain: 'make check' or 'make proved' does." >&2
+        exit 1
+    fi
 done
-cp $made/libos_c.a $made/liblibc_c.a $made/SOURCES $made/KIT release/
-(cd $made && sha256sum syslogbox.o libsyslogbox.o libos_c.a liblibc_c.a) > release/SHA256SUMS
+mkdir -p release
+rm -f release/*.o.gz
+cp "$kit/c/libos_c.a" "$kit/c/liblibc_c.a" release/
+for name in $names; do
+    gzip -9nc "$made/$name.o" > "release/$name.o.gz"
+    (cd "$made" && sha256sum "$name.o")
+done > release/SHA256SUMS
+(cd release && sha256sum libos_c.a liblibc_c.a) >> release/SHA256SUMS
+echo "$sources" > release/SOURCES
+rt version > release/KIT
 sh scripts/compare.sh

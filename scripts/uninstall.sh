@@ -2,6 +2,7 @@
 # Removes what install.sh and install-library.sh put below a folder, and nothing else: uninstall.sh FOLDER PREFIX.
 # Folders stay, as others have files there too.
 set -eu
+unset CDPATH
 cd "$(dirname "$0")/.."
 from=$1 prefix=$2
 staged=$(mktemp -d)

@@ -1,6 +1,7 @@
 #!/bin/sh
 # Lays the objects of release/, and the C archives that they are linked with, into build/release, by their checksums.
 set -eu
+unset CDPATH
 cd "$(dirname "$0")/.."
 machine=$(uname -sm)
 if [ "$machine" != "Linux x86_64" ]; then
@@ -8,8 +9,9 @@ if [ "$machine" != "Linux x86_64" ]; then
     exit 1
 fi
 mkdir -p build/release
-for object in syslogbox.o libsyslogbox.o; do
-    gzip -dc release/$object.gz > build/release/$object
+for packed in release/*.o.gz; do
+    object=${packed#release/}
+    gzip -dc "$packed" > "build/release/${object%.gz}"
 done
 cp release/libos_c.a release/liblibc_c.a build/release/
 cd build/release

@@ -1,5 +1,6 @@
 #!/bin/sh
 # Prints the version, as `syslogbox --version` tells it.
 set -eu
+unset CDPATH
 cd "$(dirname "$0")/.."
 sed -n 's/^const VERSION: &str = "\(.*\)";$/\1/p' crates/command_line/src/words.rt

@@ -14,45 +14,54 @@ usage: tests/run.py PROGRAM INJECTION TRIAL [PART..]
        tests/run.py serve-soak PROGRAM [--seconds N] [--rate N] [--connections N] [--folder FOLDER]
        tests/run.py serve-load PROGRAM [--tools FOLDER] [--records N] [--rounds N] [--folder FOLDER]
 
-PROGRAM is syslogbox, INJECTION the program `fault_injection` of the libraries, TRIAL the program `store_trial` of stores. The first
-form runs them on tables of inputs, with devices that fail and with allocations that fail: all parts, or those that are named.
-The others tell about themselves with --help.
+PROGRAM is syslogbox, INJECTION the program `fault_injection` of the libraries, TRIAL the program `store_trial` of stores; `-` is
+one that is not there, and the part that needs it is skipped, and told. The first form runs them on tables of inputs, with devices
+that fail and with allocations that fail: all parts, or those that are named. As many parts run side by side as there are cores,
+each in a process, a folder and ports of its own, and a line tells of each what it counted and its seconds. One part that is named
+alone runs in this very process. The others tell about themselves with --help.
 Each prints what fails, and last `N passed, M failed`; `mutants` prints how many were refused for a goal, for a name alone, let
 through or unreadable. The status is 0 exactly where nothing failed.
 """
 import sys
 import tempfile
 from importlib import import_module
+from pathlib import Path
 
 sys.dont_write_bytecode = True
-from cases.algebra import algebra
-from cases.archives import archives
-from cases.auditing import auditing
-from cases.bindings import bindings
-from cases.collect import collect
-from cases.commands import commands
-from cases.costs import costs
-from cases.descriptors import descriptors
-from cases.documents import documents
-from cases.legacy import legacy
-from cases.libraries import libraries
-from cases.mutated import mutated
-from cases.sending import sending
-from cases.serving import serving
-from cases.sockets import sockets
-from cases.spilling import spilling
-from cases.stores import stores
-from cases.verdicts import verdicts
-from hostile.soak import soak
 from lib.program import Folder, Program
 from lib.results import Results
+from lib.side_by_side import Parts, cores, python
 
-PARTS = {part.__name__: part for part in
-         (commands, mutated, sending, legacy, collect, sockets, descriptors, archives, algebra, auditing, documents, bindings,
-          verdicts, costs, libraries, spilling, stores, serving, soak)}
+CASES = Path(__file__).resolve().parent / "cases"
+# the parts that run side by side, those that take longest first; each is a module of cases/ with a function of its name
+SIDE_BY_SIDE = ["stores", "libraries", "algebra", "mutated", "serving", "legacy", "bindings", "commands", "verdicts", "archives",
+                "sending", "collect", "spilling", "documents", "sockets", "descriptors", "costs", "auditing"]
+# those of which the files are not all there yet
+SIDE_BY_SIDE += ["colliding_ids", "notes_pace", "full_pipes", "unsafe_folders", "many_days", "damaged_segments"]
+# these run after the others, one after the other: `soak` takes all cores itself, and `noisy_senders` measures
+AT_THE_END = ["soak", "noisy_senders"]
+MODULES = {"soak": "hostile.soak"}
+PARTS = [name for name in SIDE_BY_SIDE + AT_THE_END if name in MODULES or (CASES / f"{name}.py").exists()]
 ALONE = {"soak": "hostile.soak", "algebra": "hostile.archives", "stores": "hostile.stores", "clients": "hostile.clients",
          "mutants": "mutants.run", "senders": "peers.senders", "load": "peers.load", "cluster": "peers.cluster",
          "serve-clients": "peers.serve_clients", "serve-soak": "peers.serve_soak", "serve-load": "peers.serve_load"}
+
+
+def try_part(name, words, results):
+    """Tries one part in this process."""
+    part = getattr(import_module(MODULES.get(name, f"cases.{name}")), name)
+    with tempfile.TemporaryDirectory() as path:
+        program, injection, trial = (Program(word, Folder(path)) for word in words)
+        part(*{"libraries": [injection], "stores": [program, trial]}.get(name, [program]), results)
+
+
+def there(names, words):
+    """Those of the parts whose programs are there; the others are told."""
+    lacking = {"libraries": words[1] == "-", "stores": words[2] == "-"}
+    for name in names:
+        if lacking.get(name):
+            print(f"SKIPPED {name}: its program is not there", flush=True)
+    return [name for name in names if not lacking.get(name)]
 
 
 def main(words):
@@ -61,13 +70,14 @@ def main(words):
     if len(words) < 3 or not set(words[3:]) <= set(PARTS):
         print(__doc__, f"\nThe parts are {', '.join(PARTS)}.", file=sys.stderr)
         return 2
-    results = Results()
-    with tempfile.TemporaryDirectory() as path:
-        program, injection, trial = (Program(word, Folder(path)) for word in words[:3])
-        others = {libraries: [injection], stores: [program, trial]}
-        for name, part in PARTS.items():
-            if name in (words[3:] or PARTS):
-                part(*others.get(part, [program]), results)
+    results, words, names = Results(), words[:3], words[3:] or PARTS
+    names = there(names, words)
+    if len(names) == 1:
+        try_part(names[0], words, results)
+    else:
+        parts = Parts([*python(__file__), *words], results)
+        parts.side_by_side([name for name in names if name not in AT_THE_END], cores())
+        parts.side_by_side([name for name in names if name in AT_THE_END], 1)
     return results.end()
 
 

@@ -6,6 +6,7 @@
 # id.
 # The program is proved and built in a copy of the crates.
 set -eu
+unset CDPATH
 top=$(cd "$(dirname "$0")/../.." && pwd)
 copy=$(mktemp -d)
 trap 'rm -rf "$copy"' EXIT

@@ -148,14 +148,15 @@ def calls(program, results):
         name = f"collect {transport}"
 
         def refused(**chosen):
-            return collected(program, transport, sent, environment=program.failing(**chosen))
+            return collected(program, transport, sent, environment=program.failing(**chosen), apart=True)
 
         def stopped(seen):
             """Whether a socket's fault was told, after some of the frames."""
             return seen[0] == 2 and seen[2].endswith(b"socket fault\n") and (seen[1], seen[2].removesuffix(b"socket fault\n")) in some
 
         environment, counts = program.counting()
-        results.same(f"{name}: ample", collected(program, transport, sent, environment=environment), whole)
+        # so that a run makes the same calls each time
+        results.same(f"{name}: ample", collected(program, transport, sent, environment=environment, apart=True), whole)
         made = counts()
         right = made.bind >= 2 and made.receive >= 4 and (made.accept == 2) == (transport != "udp")
         results.check(f"{name}: calls are counted", right, str(made))

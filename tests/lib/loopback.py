@@ -1,23 +1,43 @@
 """`collect` and other receivers over the loopback."""
+import itertools
 import os
 import select
 import socket
 import subprocess
 import time
 from pathlib import Path
+from random import randrange
 
 HERE = "127.0.0.1"
 NEVER = 30  # seconds, after which a run is given up
+# below those that the system chooses from, so that no other socket has one by chance
+PORTS = range(12_000, 32_000)
 
 
 def kind_of(transport):
     return socket.SOCK_DGRAM if transport == "udp" else socket.SOCK_STREAM
 
 
+def ports():
+    """The ports of this process, over and over: of parts that run side by side each has some of its own."""
+    first, count = map(int, os.environ.get("TESTS_PORTS", f"{PORTS[0]} {len(PORTS)}").split())
+    begin = randrange(count)
+    return itertools.cycle([first + (begin + n) % count for n in range(count)])
+
+
+OWN = ports()
+
+
 def free_port(kind):
-    with socket.socket(socket.AF_INET, kind) as one:
-        one.bind((HERE, 0))
-        return one.getsockname()[1]
+    """A port that no socket has."""
+    while True:
+        port = next(OWN)
+        with socket.socket(socket.AF_INET, kind) as one:
+            try:
+                one.bind(("", port))
+            except OSError:
+                continue
+            return port
 
 
 def sockets(kind, port, state):
@@ -71,11 +91,13 @@ class Collect:
         while not is_taken(self.kind, self.port) and self.process.poll() is None and time.monotonic() - begun < NEVER:
             time.sleep(0.002)
 
-    def connection(self, *pieces):
-        """A connection that sends the pieces and ends."""
+    def connection(self, *pieces, apart=False):
+        """A connection that sends the pieces and ends; `apart` sends each once the program has taken what came before."""
         with self.open() as one:
             try:
-                for piece in pieces:
+                for n, piece in enumerate(pieces):
+                    if apart and n:
+                        self.until_taken()
                     one.sendall(piece)
             except OSError:
                 pass
@@ -104,12 +126,12 @@ class Collect:
         return self.process.returncode, output, notes
 
 
-def collected(program, transport, sent, words=(), environment=None, **others):
-    """The answer after these datagrams, or connections one after the other, each with its pieces."""
+def collected(program, transport, sent, words=(), environment=None, apart=False, **others):
+    """The answer after these datagrams, or connections one after the other, each with its pieces, as `connection` sends them."""
     run = Collect(program, transport, len(sent), words, environment, **others)
     if transport == "udp":
         run.datagrams(*sent)
     else:
         for pieces in sent:
-            run.connection(*([pieces] if isinstance(pieces, bytes) else pieces))
+            run.connection(*([pieces] if isinstance(pieces, bytes) else pieces), apart=apart)
     return run.answer()

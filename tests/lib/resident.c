@@ -55,7 +55,9 @@ typedef void hook(void);
 typedef int starting(entry *, int, char **, hook *, hook *, hook *, void *);
 
 int __libc_start_main(entry *main, int argc, char **argv, hook *init, hook *fini, hook *unload, void *stack) {
-  starting *next = (starting *)dlsym(RTLD_NEXT, "__libc_start_main");
+  void *object = dlsym(RTLD_NEXT, "__libc_start_main");
+  starting *next;
+  memcpy(&next, &object, sizeof next); /* ISO C has no other way from one to the other */
   first = main;
   return next(again, argc, argv, init, fini, unload, stack);
 }

@@ -55,10 +55,14 @@ static int counted(int fd) {
   return !text || atoi(text) == fd;
 }
 
-static void *next_of(const char *name) {
+typedef void function(void);
+
+static function *next_of(const char *name) {
   quiet++;
-  void *next = dlsym(RTLD_NEXT, name);
+  void *object = dlsym(RTLD_NEXT, name);
   quiet--;
+  function *next;
+  memcpy(&next, &object, sizeof next); /* ISO C has no other way from one to the other */
   return next;
 }
 
@@ -127,7 +131,8 @@ int socket(int domain, int type, int protocol) {
   return stopped(++binds, "SHIM_BIND", EACCES, NULL) ? -1 : next(domain, type, protocol);
 }
 
-int bind(int fd, const struct sockaddr *address, socklen_t length) {
+/* the headers of glibc have unions in the place of these addresses */
+__extension__ int bind(int fd, const struct sockaddr *address, socklen_t length) {
   static int (*next)(int, const struct sockaddr *, socklen_t);
   if (!next) next = (int (*)(int, const struct sockaddr *, socklen_t))next_of("bind");
   return stopped(++binds, "SHIM_BIND", EACCES, NULL) ? -1 : next(fd, address, length);
@@ -141,13 +146,13 @@ int listen(int fd, int waiting) {
 
 static int not_accepted(void) { return stopped(++accepts, "SHIM_ACCEPT", ECONNABORTED, "SHIM_ACCEPT_AGAIN"); }
 
-int accept(int fd, struct sockaddr *address, socklen_t *length) {
+__extension__ int accept(int fd, struct sockaddr *address, socklen_t *length) {
   static int (*next)(int, struct sockaddr *, socklen_t *);
   if (!next) next = (int (*)(int, struct sockaddr *, socklen_t *))next_of("accept");
   return not_accepted() ? -1 : next(fd, address, length);
 }
 
-int accept4(int fd, struct sockaddr *address, socklen_t *length, int flags) {
+__extension__ int accept4(int fd, struct sockaddr *address, socklen_t *length, int flags) {
   static int (*next)(int, struct sockaddr *, socklen_t *, int);
   if (!next) next = (int (*)(int, struct sockaddr *, socklen_t *, int))next_of("accept4");
   return not_accepted() ? -1 : next(fd, address, length, flags);
@@ -188,7 +193,7 @@ ssize_t recv(int fd, void *room, size_t size, int flags) {
   return misread(fd, is_passed(fd, n) ? next(fd, room, size, flags) : n);
 }
 
-ssize_t recvfrom(int fd, void *room, size_t size, int flags, struct sockaddr *address, socklen_t *length) {
+__extension__ ssize_t recvfrom(int fd, void *room, size_t size, int flags, struct sockaddr *address, socklen_t *length) {
   static ssize_t (*next)(int, void *, size_t, int, struct sockaddr *, socklen_t *);
   if (!next) next = (ssize_t (*)(int, void *, size_t, int, struct sockaddr *, socklen_t *))next_of("recvfrom");
   if (not_received(fd, &size)) return -1;
@@ -254,7 +259,7 @@ __attribute__((destructor)) static void report(void) {
   char text[192];
   int n = snprintf(text, sizeof text, "%lu %lu %lu %lu %lu %lu %lu\n", allocations, reads, writes, opens, binds, accepts,
                    receives);
-  ssize_t (*next)(int, const void *, size_t) = (ssize_t (*)(int, const void *, size_t))dlsym(RTLD_NEXT, "write");
+  ssize_t (*next)(int, const void *, size_t) = (ssize_t (*)(int, const void *, size_t))next_of("write");
   if (next(fd, text, (size_t)n) != n) _exit(99);
   close(fd);
 }

@@ -39,7 +39,14 @@ static unsigned long made[KINDS], all, written;
 enum { FILES = 4096 };
 static char *names[FILES]; /* of each descriptor of a file of the folder, its name */
 
-static void *next_of(const char *name) { return dlsym(RTLD_NEXT, name); }
+typedef void function(void);
+
+static function *next_of(const char *name) {
+  void *object = dlsym(RTLD_NEXT, name);
+  function *next;
+  memcpy(&next, &object, sizeof next); /* ISO C has no other way from one to the other */
+  return next;
+}
 
 static int log_of(void) {
   static int fd = -1;

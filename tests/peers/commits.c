@@ -19,7 +19,14 @@ static char marks[MARKS][DIGITS];
 static size_t count;
 static int is_open; /* one octet was written behind the marks */
 
-static void *next_of(const char *name) { return dlsym(RTLD_NEXT, name); }
+typedef void function(void);
+
+static function *next_of(const char *name) {
+  void *object = dlsym(RTLD_NEXT, name);
+  function *next;
+  memcpy(&next, &object, sizeof next); /* ISO C has no other way from one to the other */
+  return next;
+}
 
 /* A write of one octet opens a batch, another may have marks. */
 static void look(const char *octets, ssize_t size) {

@@ -1,11 +1,13 @@
 """What the gate says of release/ and of the program that it has built."""
 import gzip
+import shutil
 import subprocess
 from pathlib import Path
 
 from results import clone, lacking, name_sources, run
 
 OUT = "crates/syslogbox/out"
+OF_TESTS = ["fault_injection", "store_trial"]
 
 
 def compare(folder):
@@ -21,7 +23,7 @@ def with_octet(octets, at):
 def write_sums(folder):
     """Makes the checksums those of the object as it is."""
     release = folder / "release"
-    objects = ["syslogbox.o", "libsyslogbox.o"]
+    objects = sorted(packed.name.removesuffix(".gz") for packed in release.glob("*.o.gz"))
     for name in objects:
         (folder / name).write_bytes(gzip.decompress((release / f"{name}.gz").read_bytes()))
     of_object = run(["sha256sum", *objects], cwd=folder)[1]
@@ -37,7 +39,34 @@ def built_by_rt(folder):
     made.write_bytes(gzip.decompress((folder / "release/syslogbox.o.gz").read_bytes()))
     words = ["--target", "x86_64-unknown-linux-gnu", "--toolchain", kit / "toolchain", "-o", made.with_suffix(""), made]
     subprocess.run([kit / "bin/rattle-link", *words, kit / "c/libos_c.a", kit / "c/liblibc_c.a"], check=True, capture_output=True)
+    for name in OF_TESTS:
+        built_alike(folder, name, made)
     return made
+
+
+def built_alike(folder, name, made):
+    """Has the release and rt have the program of the tests as well: the octets of another."""
+    shutil.copy(folder / "release/syslogbox.o.gz", folder / f"release/{name}.o.gz")
+    other = folder / f"crates/{name}/out"
+    other.mkdir()
+    shutil.copy(made, other / f"{name}.o")
+    shutil.copy(made.with_suffix(""), other / name)
+    write_sums(folder)
+
+
+def programs_of_tests(folder, results):
+    """Each program of the tests is compared, and has to be in the release."""
+    for name in OF_TESTS:
+        for file, text in [(folder / f"crates/{name}/out/{name}.o", "object of"), (folder / f"crates/{name}/out/{name}", "program"),
+                           (folder / f"release/{name}.o.gz", "lacks the object of")]:
+            octets = file.read_bytes()
+            if text.startswith("lacks"):
+                file.unlink()
+            else:
+                file.write_bytes(with_octet(octets, len(octets) // 2))
+            status, _, said = compare(folder)
+            results.check(f"a release is compared: {text} {name}", status == 1 and f"{text} {name}" in said, said)
+            file.write_bytes(octets)
 
 
 def library(folder, results):
@@ -73,7 +102,7 @@ def comparing(room, results):
     results.check("an octet that is changed fails by its checksum", status == 1 and "checksums" in said, said)
     write_sums(folder)
     status, last, said = compare(folder)
-    results.check("an octet that is changed fails by the program", status == 1 and "program is not the one" in said, said)
+    results.check("an octet that is changed fails by the program", status == 1 and "program syslogbox is not the one" in said, said)
     # an octet of the section names' table, which no program has
     changed = with_octet(whole, whole.index(b".comment\0"))
     (release / "syslogbox.o.gz").write_bytes(gzip.compress(changed, mtime=0))
@@ -86,6 +115,7 @@ def comparing(room, results):
     status, last, said = compare(folder)
     results.check("without the object, its program is compared", (status, last) == (0, "1 passed, 0 failed"), said)
     library(folder, results)
+    programs_of_tests(folder, results)
     (release / "KIT").write_text("another kit\n")
     status, last, said = compare(folder)
     results.check("under another toolchain nothing is compared", (status, last) == (0, "0 passed, 0 failed") and "not compared" in said, said)

@@ -46,6 +46,10 @@ def first(room, results):
     results.check("the first record is converted", (done.returncode, done.stdout) == (0, RECORD), str(done))
     results.check("within five seconds", took < 5, f"{took:.1f} s")
     print(f"make and the first record took {took:.2f} s without a toolchain")
+    if not lacking("readelf"):
+        said = run(["readelf", "-d", folder / "build/syslogbox"])[1]
+        results.check("its calls are bound before it starts", "BIND_NOW" in said, said)
+    wanting(folder, only, results)
     name_sources(folder)
     shutil.rmtree(folder / "build")
     status, said = run(["make"], cwd=folder, env=only)
@@ -57,6 +61,21 @@ def first(room, results):
     status, said = run(["make"], cwd=folder, env=only)
     results.check("make says that the sources are different", status == 0 and "'make proved' proves and builds them" in said, said)
     other_machine(folder, only, results)
+
+
+def files_of(folder):
+    return {path: path.read_bytes() for path in folder.rglob("*") if path.is_file()}
+
+
+def wanting(folder, only, results):
+    """What needs more than there is says so, and leaves what was built."""
+    before = files_of(folder / "build")
+    status, said = run(["make", "check"], cwd=folder, env=only)
+    right = status == 2 and "needs rt" in said and "'make test'" in said
+    results.check("make check says that it needs rt, and what needs less", right, f"{status} {said}")
+    status, said = run(["make", "test"], cwd=folder, env=only)
+    results.check("make test says that it needs python3", status == 2 and "need python3" in said, f"{status} {said}")
+    results.check("both leave what was built", files_of(folder / "build") == before)
 
 
 def other_machine(folder, only, results):

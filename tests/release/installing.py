@@ -125,7 +125,7 @@ def installing(room, results):
     if missing:
         results.skip("make install", f"there is no {missing}")
         return
-    folder = with_units(clone(room / "a clone & more"))
+    folder = with_units(clone(room / "a clone's & more"))
     name_sources(folder)
     status, said = run(["make", "-s", "lib"], cwd=folder)
     results.check("make lib", status == 0, said)

@@ -42,12 +42,12 @@ def packages(room, results):
     if missing:
         results.skip("the packages", f"there is no {missing}")
         return
-    folder, another = with_units(clone(room / "one")), with_units(clone(room / "another, in a longer path"))
+    folder, another = with_units(clone(room / "one")), with_units(clone(room / "another's, in a longer path"))
     for it in [folder, another]:
         name_sources(it)
     subprocess.run(["chmod", "-R", "go=", str(another)], check=True)
     files, said = made(folder)
-    other, _ = made(another, TZ="Asia/Tokyo", LC_ALL="C.UTF-8")
+    other, _ = made(another, TZ="Asia/Tokyo", LC_ALL="C.UTF-8", CDPATH="/:/usr")
     results.check("make dist makes its packages", any(name.endswith(".tar.gz") for name in files), said)
     results.check("twice the same packages", list(files) == list(other), f"{list(files)} {list(other)}")
     for name in files.keys() & other.keys():

@@ -14,8 +14,6 @@ mod name;
 mod period;
 mod sum;
 mod tally;
-#[cfg(test)]
-mod tests;
 
 pub use archive_sets::SelectFault as DigestFault;
 pub use digest::digest_stream;

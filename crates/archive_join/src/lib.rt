@@ -16,8 +16,6 @@ mod kept;
 mod laws;
 mod minus;
 mod shown;
-#[cfg(test)]
-mod tests;
 mod union;
 
 pub use common::Common;

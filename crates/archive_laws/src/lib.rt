@@ -21,5 +21,3 @@ pub use sets::{
 pub use stores::same_records_have_one_text;
 pub use validation::archive_or_fault;
 
-#[cfg(test)]
-mod tests;

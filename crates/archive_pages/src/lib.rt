@@ -16,5 +16,3 @@ mod writing;
 pub use paged::PagedArchive;
 pub use reading::Place;
 
-#[cfg(test)]
-mod tests;

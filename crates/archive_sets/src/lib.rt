@@ -14,8 +14,6 @@ mod laws;
 mod range;
 mod select;
 mod selection;
-#[cfg(test)]
-mod tests;
 mod word_field;
 
 pub use condition::{Both, Condition, OnlyUndated};

@@ -12,8 +12,6 @@ mod memory;
 mod room;
 mod spill;
 mod spilled;
-#[cfg(test)]
-mod tests;
 
 pub use fault::SpillFault;
 pub use folder::{FolderSpill, Uninterrupted};

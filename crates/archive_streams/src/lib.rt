@@ -14,8 +14,6 @@ mod pieces;
 mod progress;
 mod reading;
 mod side;
-#[cfg(test)]
-mod tests;
 mod validation;
 
 pub use entries::ArchiveEntries;

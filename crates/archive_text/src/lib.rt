@@ -19,5 +19,3 @@ pub use store::{AddFault, Added, Store};
 pub use validation::{entry_of_octets, read_entry};
 pub use writing::put_entry;
 
-#[cfg(test)]
-mod tests;

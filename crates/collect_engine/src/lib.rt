@@ -17,8 +17,6 @@ mod serving;
 mod source;
 mod step;
 mod tcp_source;
-#[cfg(test)]
-mod tests;
 mod udp_source;
 
 pub use collect_words::{CollectWords, Transport};

@@ -13,8 +13,6 @@ mod send_words;
 mod serving;
 mod set_words;
 mod store_words;
-#[cfg(test)]
-mod tests;
 mod usage;
 mod words;
 

@@ -8,8 +8,6 @@ mod files;
 mod joining;
 mod memory;
 mod running;
-#[cfg(test)]
-mod tests;
 
 pub use files::Files;
 pub use memory::{MemoryFile, MemoryFiles};

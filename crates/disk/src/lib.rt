@@ -20,8 +20,6 @@ mod fuse;
 mod memory;
 mod memory_file;
 mod name;
-#[cfg(test)]
-mod tests;
 
 pub use calls::Disk;
 pub use fault::DiskFault;

@@ -15,8 +15,6 @@ mod fault;
 mod recovery;
 mod segments;
 mod store;
-#[cfg(test)]
-mod tests;
 
 pub use fault::{CheckpointFault, OpenFault};
 pub use store::DurableStore;

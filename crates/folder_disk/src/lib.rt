@@ -10,8 +10,6 @@ mod fault;
 mod folder;
 mod lock;
 mod open_files;
-#[cfg(test)]
-mod tests;
 mod transfers;
 
 pub use fault::FileError;

@@ -16,8 +16,6 @@ mod journal;
 mod law;
 mod opening;
 mod reading;
-#[cfg(test)]
-mod tests;
 
 pub use fault::JournalFault;
 pub use journal::{BODY_MAX, Journal, LENGTH_MAX};

@@ -7,8 +7,6 @@ mod escapes;
 mod law;
 mod line;
 mod stops;
-#[cfg(test)]
-mod tests;
 mod view_line;
 
 pub use law::{a_line_has_one_line_feed, a_line_is_its_object, lines_are_injective};

@@ -20,8 +20,6 @@ mod opening;
 mod putting;
 mod segment;
 mod store;
-#[cfg(test)]
-mod tests;
 mod turning;
 
 pub use fault::{AppendFault, StoreFault};

@@ -4,8 +4,6 @@
 
 mod options;
 mod send;
-#[cfg(test)]
-mod tests;
 mod values;
 
 pub use options::SendOptions;

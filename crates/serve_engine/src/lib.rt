@@ -17,8 +17,6 @@ mod serve_end;
 mod server;
 mod serving;
 mod stepping;
-#[cfg(test)]
-mod tests;
 mod turn;
 
 pub use counts::ServeCounts;

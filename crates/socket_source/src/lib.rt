@@ -23,8 +23,6 @@ mod sockets;
 mod source;
 mod step;
 mod system;
-#[cfg(test)]
-mod tests;
 mod unix_path;
 
 pub use limits::{CONNECTIONS_MAX, PIECE_MAX};

@@ -69,16 +69,6 @@ fn remove_stale(rt: &impl Files, path: &str) -> io::Result<()> {
     Ok(())
 }
 
-/// Sends a datagram to the socket at a path.
-#[cfg(test)]
-pub(crate) fn send_to_path(path: &str, octets: &[u8]) -> io::Result<()> {
-    let (address, len) = encode(path)?;
-    let socket = datagram_socket()?;
-    check(unsafe { c::connect(socket.as_raw_fd(), &address, len) })?;
-    let _ = libc::write(socket.as_raw_fd(), octets);
-    Ok(())
-}
-
 /// A socket for datagrams to a path, whose calls do not wait. If a socket is there that nobody has
 /// open, it is removed first. Everybody on the machine may send to it, as to /dev/log.
 pub(crate) fn bind_path(rt: &impl Files, path: &str) -> io::Result<OwnedFd> {

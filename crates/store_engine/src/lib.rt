@@ -6,8 +6,6 @@ mod lines;
 mod read;
 mod system;
 mod system_disk;
-#[cfg(test)]
-mod tests;
 
 pub use lines::{NoStore, report_no_store};
 pub use read::{read_store, report_read_fault};

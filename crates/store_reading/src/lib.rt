@@ -17,8 +17,6 @@ mod opening;
 mod reading;
 mod segment;
 mod source;
-#[cfg(test)]
-mod tests;
 
 pub use day::Day;
 pub use days::next_segment_day;

@@ -10,8 +10,6 @@ mod journal_check;
 mod segment_check;
 mod segments;
 mod stream_disk;
-#[cfg(test)]
-mod tests;
 mod verification;
 mod whole_files;
 

@@ -35,5 +35,3 @@ pub use ready::Ready;
 pub use scanner::Scanner;
 pub use trim::{one_end_is_trimmed, trimmed};
 
-#[cfg(test)]
-mod tests;

@@ -214,6 +214,3 @@ fn copy_word<const N: usize>(
         None => Ok(None),
     }
 }
-
-#[cfg(test)]
-mod tests;

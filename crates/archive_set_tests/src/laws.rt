@@ -1,0 +1,17 @@
+use archive_laws::archive_or_fault;
+use archive_text::ArchiveFault;
+
+#[test]
+fn a_text_is_an_archive_or_has_a_fault(rt: HostRuntime) {
+    let sorted =
+        b"19 <13>1 - h a - - - x45 <12>1 2024-02-29T23:00:00.000000Z h a - - - z45 <14>1 2024-02-29T23:30:00.000000Z h a - - - y";
+    let reversed = b"45 <14>1 2024-02-29T23:30:00.000000Z h a - - - y19 <13>1 - h a - - - x";
+    let repeated = b"19 <13>1 - h a - - - x19 <13>1 - h a - - - x";
+    assert!(rt; archive_or_fault(b"").is_none());
+    assert!(rt; archive_or_fault(sorted).is_none());
+    assert!(rt; archive_or_fault(reversed) == Some(ArchiveFault::NotAscending { at: 48 }));
+    assert!(rt; archive_or_fault(repeated) == Some(ArchiveFault::NotAscending { at: 22 }));
+    assert!(rt;
+        archive_or_fault(b"19 <13>1 - h a - - - xx") == Some(ArchiveFault::BadFrame { at: 22 })
+    );
+}

@@ -1,0 +1,9 @@
+//! Tests of a server and of `collect` through their public calls. There is nothing to call here.
+#![tactic(auto)]
+
+#[cfg(test)]
+mod collecting;
+#[cfg(test)]
+mod serving;
+#[cfg(test)]
+mod sockets;

@@ -1,0 +1,315 @@
+//! Steps of a list are served, over what keeps records in memory.
+
+use archive_pages::PagedArchive;
+use archive_text::Store;
+use octet_devices::{Fuse, ToWrite};
+use serve_engine::{KeepFault, Keeping, Pause, ServeCounts, ServeEnd, ServeOptions, Server, Taken};
+use socket_source::{ConnectionEnd, MemorySource, ServerStep, SourceFault};
+use std::alloc::Global;
+use std::net::SocketAddr;
+use std::test::Fail;
+use syslog_collect::Collector;
+use syslog_frame::Framing;
+
+const A: &[u8] = b"<13>1 - h a - - - x";
+
+const B: &[u8] = b"<14>1 2024-02-29T23:30:00.000000Z h a - - - y";
+
+// Counts what it is handed. Its disk is full at some commits, and fails at one.
+#[derive(Drop)]
+struct CountKeeper {
+    held: u64,
+    committed: u64,
+    commits: u64,
+    full_from: u64,
+    full_until: u64,
+    fails_at: u64,
+    checkpoints: u64,
+}
+
+impl Keeping<PagedArchive> for CountKeeper {
+    ghost stands = { λ _ _. ⊥ };
+
+    fn take(&mut self, alloc: Global, fresh: &mut PagedArchive) -> Result<Taken, KeepFault> {
+        let new = fresh.len() as u64;
+        self.held = self.held.saturating_add(new);
+        *fresh = PagedArchive::new(alloc);
+        Ok(Taken { new, held: 0 })
+    }
+
+    fn commit(&mut self, _alloc: Global) -> Result<(), KeepFault> {
+        self.commits = self.commits.saturating_add(1);
+        if self.commits == self.fails_at {
+            return Err(KeepFault::Failed);
+        }
+        if self.full_from <= self.commits && self.commits < self.full_until {
+            return Err(KeepFault::Full);
+        }
+        self.committed = self.held;
+        Ok(())
+    }
+
+    fn reopen(&mut self, _alloc: Global) -> Result<(), KeepFault> {
+        Ok(())
+    }
+
+    fn checkpoint(&mut self, _alloc: Global) -> Result<(), KeepFault> {
+        self.checkpoints = self.checkpoints.saturating_add(1);
+        Ok(())
+    }
+
+    fn journal_len(&self) -> u64 {
+        self.committed
+    }
+}
+
+#[derive(Drop)]
+struct CountPause(u64);
+
+impl Pause for CountPause {
+    fn pause(&mut self) {
+        self.0 = self.0.saturating_add(1);
+    }
+}
+
+fn keeper() -> CountKeeper {
+    CountKeeper {
+        held: 0,
+        committed: 0,
+        commits: 0,
+        full_from: 0,
+        full_until: 0,
+        fails_at: 0,
+        checkpoints: 0,
+    }
+}
+
+// What serving these steps comes to.
+#[derive(Drop)]
+struct Service {
+    end: ServeEnd,
+    counts: ServeCounts,
+    committed: u64,
+    checkpoints: u64,
+    pauses: u64,
+    notes: Vec<u8>,
+    refused: Vec<u8>,
+}
+
+fn served(
+    alloc: Global,
+    keeper: CountKeeper,
+    steps: &[(ServerStep, &[u8])],
+) -> Result<Service, Fail> {
+    let mut list = Vec::new(alloc);
+    for (step, octets) in steps {
+        list.push((*step, octets.to_vec(alloc)?))?;
+    }
+    let mut source = MemorySource::new(alloc, 4, 3, list)?;
+    let Ok(collector) = Collector::new(alloc, PagedArchive::new(alloc), None) else {
+        return Err(Fail::from("no collector"));
+    };
+    let notes = ToWrite::new(Vec::new(alloc));
+    let refused = ToWrite::new(Vec::new(alloc));
+    let mut server = Server::new(alloc, collector, keeper, notes, refused)?;
+    let mut pause = CountPause(0);
+    let options = ServeOptions {
+        checkpoint_len: 1,
+        count_ticks: 2,
+    };
+    let end = server.serve(alloc, &mut source, &mut pause, &options);
+    let counts = server.counts();
+    let (keeper, notes, refused) = server.into_parts();
+    Ok(Service {
+        end,
+        counts,
+        committed: keeper.committed,
+        checkpoints: keeper.checkpoints,
+        pauses: pause.0,
+        notes: notes.into_inner(),
+        refused: refused.into_inner(),
+    })
+}
+
+fn opened(conn: u32, framing: Framing, peer: &str) -> Result<ServerStep, Fail> {
+    Ok(ServerStep::Opened {
+        conn,
+        listener: 1,
+        framing,
+        peer: peer.parse::<SocketAddr>()?,
+    })
+}
+
+fn piece(conn: u32) -> ServerStep {
+    ServerStep::Piece { conn, len: 0 }
+}
+
+fn ended(conn: u32, end: ConnectionEnd) -> ServerStep {
+    ServerStep::Ended { conn, end }
+}
+
+fn datagram(peer: Option<&str>) -> Result<ServerStep, Fail> {
+    let peer = match peer {
+        Some(text) => Some(text.parse::<SocketAddr>()?),
+        None => None,
+    };
+    Ok(ServerStep::Datagram {
+        listener: 0,
+        peer,
+        len: 0,
+    })
+}
+
+#[test]
+fn steps_are_served_and_told(rt: HostRuntime) -> Result<(), Fail> {
+    let steps = [
+        (datagram(Some("192.0.2.1:514"))?, A),
+        (datagram(Some("192.0.2.1:514"))?, b"<13>1 x".as_slice()),
+        (datagram(None)?, b"<13>x"),
+        (opened(0, Framing::Counted, "[2001:db8::1]:4711")?, b""),
+        (opened(1, Framing::Lf, "192.0.2.2:99")?, b""),
+        (piece(0), b"19 <13>1 - h a"),
+        (piece(1), b"<13>1 - h a - - - z\n<1"),
+        (piece(0), b" - - - x1x"),
+        (piece(0), b"lost"),
+        (ServerStep::Tick, b""),
+        (ended(1, ConnectionEnd::Reset), b""),
+        (opened(0, Framing::Lf, "192.0.2.3:7")?, b""),
+        (piece(0), B),
+        (piece(0), b"\n"),
+        (ended(0, ConnectionEnd::Idle), b""),
+        (
+            ServerStep::TurnedAway {
+                listener: 1,
+                framing: Framing::Lf,
+                peer: "192.0.2.4:8".parse::<SocketAddr>()?,
+            },
+            b"",
+        ),
+        (ServerStep::Tick, b""),
+        (ServerStep::InputEnded, b""),
+    ];
+    let done = served(rt.alloc(), keeper(), &steps)?;
+    assert_eq!(rt; done.end, ServeEnd::Finished);
+    assert_eq!(rt; done.committed, 3);
+    assert_eq!(rt; done.checkpoints, 2);
+    let notes = b"udp 192.0.2.1:514 2 syntax timestamp 6\n\
+        unix - 3 syntax version 4\n\
+        counted [2001:db8::1]:4711 bad-count 23\n\
+        lf 192.0.2.2:99 unterminated 20\n\
+        192.0.2.2:99 reset\n\
+        192.0.2.3:7 idle\n\
+        192.0.2.4:8 closed: too many connections\n\
+        received 4 new 3 held 1 refused 2 too-long 0 connections 3 batches 2 octets 123\n";
+    assert_eq!(rt; done.notes.as_slice(), notes.as_slice());
+    let refused = b"46 udp 192.0.2.1:514 2 syntax timestamp 6\n<13>1 x\
+        31 unix - 3 syntax version 4\n<13>x";
+    assert_eq!(rt; done.refused.as_slice(), refused.as_slice());
+    Ok(())
+}
+
+#[test]
+fn refused_frames_of_streams_are_kept(rt: HostRuntime) -> Result<(), Fail> {
+    let steps = [
+        (
+            opened(0, Framing::Counted, "192.0.2.1:4711")?,
+            b"".as_slice(),
+        ),
+        (opened(1, Framing::Lf, "192.0.2.2:99")?, b""),
+        (piece(0), b"6 <13>1"),
+        (piece(1), b"<13>1 - h a - - - z\nx"),
+        (piece(0), b" 4 <1\nx19 <13>1 - h a - - - x3 <9"),
+        (piece(1), b"y"),
+        (piece(0), b">"),
+        (piece(1), b"z\r\n\n"),
+        (ended(0, ConnectionEnd::Closed), b""),
+        (ended(1, ConnectionEnd::Closed), b""),
+    ];
+    let done = served(rt.alloc(), keeper(), &steps)?;
+    assert_eq!(rt; done.end, ServeEnd::Finished);
+    assert_eq!(rt; done.committed, 2);
+    let refused = b"50 counted 192.0.2.1:4711 2 syntax timestamp 6\n<13>1 \
+        47 counted 192.0.2.1:4711 3 syntax priority 2\n<1\nx\
+        45 counted 192.0.2.1:4711 5 syntax version 3\n<9>\
+        40 lf 192.0.2.2:99 6 syntax priority 0\nxyz\r\
+        36 lf 192.0.2.2:99 7 syntax priority 0\n";
+    assert_eq!(rt; done.refused.as_slice(), refused.as_slice());
+    Ok(())
+}
+
+#[test]
+fn a_full_disk_stops_reading(rt: HostRuntime) -> Result<(), Fail> {
+    let steps = [
+        (datagram(None)?, A),
+        (ServerStep::Tick, b"".as_slice()),
+        (datagram(None)?, B),
+        (ServerStep::Tick, b"".as_slice()),
+    ];
+    let mut keeper = keeper();
+    keeper.full_from = 1;
+    keeper.full_until = 4;
+    let done = served(rt.alloc(), keeper, &steps)?;
+    assert_eq!(rt; done.end, ServeEnd::Finished);
+    assert_eq!(rt; done.committed, 2);
+    assert_eq!(rt; done.pauses, 3);
+    assert_eq!(rt; done.counts.batches, 3);
+    let notes = b"store full\n\
+        received 2 new 1 held 0 refused 0 too-long 0 connections 0 batches 2 octets 64\n";
+    assert_eq!(rt; done.notes.as_slice(), notes.as_slice());
+    Ok(())
+}
+
+#[test]
+fn a_disk_that_fails_ends_the_run(rt: HostRuntime) -> Result<(), Fail> {
+    let steps = [
+        (datagram(None)?, A),
+        (ServerStep::Tick, b"".as_slice()),
+        (datagram(None)?, B),
+    ];
+    let mut keeper = keeper();
+    keeper.fails_at = 1;
+    let done = served(rt.alloc(), keeper, &steps)?;
+    assert_eq!(rt; done.end, ServeEnd::Disk);
+    assert_eq!(rt; done.end.status(false), 2);
+    assert_eq!(rt; done.committed, 0);
+    assert_eq!(rt; done.counts.received, 1);
+    assert_eq!(rt; done.notes.as_slice(), b"store fault\n".as_slice());
+    Ok(())
+}
+
+#[test]
+fn a_source_that_fails_is_committed(rt: HostRuntime) -> Result<(), Fail> {
+    let steps = [
+        (datagram(None)?, A),
+        (ServerStep::Failed(SourceFault::Clock), b"".as_slice()),
+    ];
+    let done = served(rt.alloc(), keeper(), &steps)?;
+    assert_eq!(rt; done.end, ServeEnd::Source(SourceFault::Clock));
+    assert_eq!(rt; done.committed, 1);
+    assert_eq!(rt; done.notes.as_slice(), b"source fault\n".as_slice());
+    Ok(())
+}
+
+#[test]
+fn lines_that_cannot_be_written_are_dropped(rt: HostRuntime) -> Result<(), Fail> {
+    let alloc = rt.alloc();
+    let mut steps = Vec::new(alloc);
+    steps.push((datagram(None)?, b"no record".to_vec(alloc)?))?;
+    steps.push((datagram(None)?, A.to_vec(alloc)?))?;
+    let mut source = MemorySource::new(alloc, 4, 3, steps)?;
+    let Ok(collector) = Collector::new(alloc, PagedArchive::new(alloc), None) else {
+        return Err(Fail::from("no collector"));
+    };
+    let notes = Fuse::new(ToWrite::new(Vec::new(alloc)), 0, 0);
+    let refused = ToWrite::new(Vec::new(alloc));
+    let mut server = Server::new(alloc, collector, keeper(), notes, refused)?;
+    let options = ServeOptions {
+        checkpoint_len: 1,
+        count_ticks: 0,
+    };
+    let end = server.serve(alloc, &mut source, &mut CountPause(0), &options);
+    assert_eq!(rt; end, ServeEnd::Finished);
+    assert_eq!(rt; server.counts().dropped, 1);
+    assert_eq!(rt; server.counts().new, 1);
+    Ok(())
+}

@@ -1,0 +1,210 @@
+use archive_text::{AddFault, Added, Store};
+use disk::{Disk, FileName, Fuse, MemoryDisk};
+use durable_store::{DurableStore, OpenFault};
+use octet_devices::ToWrite;
+use record_store::StoreFault;
+use std::alloc::Global;
+use std::test::Fail;
+use syslog_grammar::view;
+
+const FIRST: &[u8] = b"<0>1 - - - - - -";
+
+const SECOND: &[u8] = b"<14>1 2024-02-29T23:30:00.000000Z h a - - - y";
+
+const THIRD: &[u8] = b"<14>1 2024-03-01T00:30:00.000000Z h a - - - z";
+
+const FOURTH: &[u8] = b"<14>1 2024-03-01T00:31:00.000000Z h a - - - w";
+
+// adds the record of these octets
+fn add(alloc: Global, store: &mut DurableStore, octets: &[u8]) -> Result<Added, Fail> {
+    let shown = view(octets).ok().ok_or("no record")?;
+    match store.add_view(alloc, &shown) {
+        Ok(added) => Ok(added),
+        Err(_) => Err("refused")?,
+    }
+}
+
+// whether octets are somewhere in a text
+fn has(text: &[u8], octets: &[u8]) -> bool {
+    for at in 0..text.len() {
+        if text[at..].starts_with(octets) {
+            return true;
+        }
+    }
+    false
+}
+
+// the archive of what is in memory
+fn text(alloc: Global, store: &DurableStore) -> Result<Vec<u8>, Fail> {
+    let mut text = ToWrite::new(Vec::new(alloc));
+    store.write(&mut text).ok().ok_or("no text")?;
+    Ok(text.into_inner())
+}
+
+// the octets of all files that count, one behind the other
+fn all_files(alloc: Global, disk: &mut MemoryDisk) -> Result<Vec<u8>, Fail> {
+    let mut all = Vec::new(alloc);
+    for name in disk.names(alloc)? {
+        if name.as_octets() != b"new.archive".as_slice() {
+            let mut piece = [0u8; 4096];
+            let n = disk.read(&name, 0, &mut piece)?;
+            if n <= piece.len() {
+                all.extend_from_slice(&piece[..n])?;
+            }
+        }
+    }
+    Ok(all)
+}
+
+// how many files have a name that ends so
+fn count_of(alloc: Global, disk: &mut MemoryDisk, end: &[u8]) -> Result<usize, Fail> {
+    let names = disk.names(alloc)?;
+    Ok(
+        names
+            .iter()
+            .filter(|name| name.as_octets().ends_with(end))
+            .count(),
+    )
+}
+
+// a folder with two records that are committed and one that waits
+fn begun(alloc: Global) -> Result<(MemoryDisk, DurableStore), Fail> {
+    let mut disk = MemoryDisk::new(alloc);
+    let mut store = DurableStore::open(alloc, &mut disk)?;
+    add(alloc, &mut store, THIRD)?;
+    add(alloc, &mut store, FIRST)?;
+    store.commit(alloc, &mut disk)?;
+    add(alloc, &mut store, SECOND)?;
+    Ok((disk, store))
+}
+
+#[test]
+fn a_record_is_added_once(rt: HostRuntime) -> Result<(), Fail> {
+    let alloc = rt.alloc();
+    let (mut disk, mut store) = begun(alloc)?;
+    let waiting = store.waiting();
+    assert!(rt; add(alloc, &mut store, FIRST)? == Added::Held);
+    assert_eq!(rt; store.waiting(), waiting);
+    assert_eq!(rt; store.len(), 3);
+    store.commit(alloc, &mut disk)?;
+    assert_eq!(rt; store.waiting(), 0);
+    let journal_len = store.journal_len();
+    store.commit(alloc, &mut disk)?;
+    assert_eq!(rt; store.journal_len(), journal_len);
+    let record = view(FOURTH)
+        .ok()
+        .ok_or("no record")?
+        .to_record(alloc)
+        .ok()
+        .ok_or("memory")?;
+    assert!(rt; store.add(alloc, &record) == Ok(Added::New));
+    assert!(rt; store.add(alloc, &record) == Ok(Added::Held));
+    assert!(rt; store.holds(alloc, &record)?);
+    Ok(())
+}
+
+#[test]
+fn a_store_is_opened_with_what_came_since_the_last_checkpoint(rt: HostRuntime) -> Result<(), Fail> {
+    let alloc = rt.alloc();
+    let (mut disk, mut store) = begun(alloc)?;
+    store.commit(alloc, &mut disk)?;
+    let mut opened = DurableStore::open(alloc, &mut disk)?;
+    assert!(rt; text(alloc, &opened)? == text(alloc, &store)?);
+    opened.checkpoint(alloc, &mut disk)?;
+    assert_eq!(rt; opened.len(), 0);
+    assert_eq!(rt; opened.journal_len(), 0);
+    assert_eq!(rt; count_of(alloc, &mut disk, b".archive")?, 3);
+    let mut again = DurableStore::open(alloc, &mut disk)?;
+    assert_eq!(rt; again.len(), 0);
+    add(alloc, &mut again, FOURTH)?;
+    again.checkpoint(alloc, &mut disk)?;
+    assert_eq!(rt; count_of(alloc, &mut disk, b".archive")?, 4);
+    let all = all_files(alloc, &mut disk)?;
+    for octets in [FIRST, SECOND, THIRD, FOURTH] {
+        assert!(rt; has(&all, octets));
+    }
+    Ok(())
+}
+
+// A checkpoint that is stopped at each of its calls, with a crash whatever it leaves: what was
+// committed is in a file that counts, and what is read was received.
+#[test]
+fn a_checkpoint_may_stop_at_any_call(rt: HostRuntime) -> Result<(), Fail> {
+    let alloc = rt.alloc();
+    for calls in 0..40 {
+        for octet in [None, Some(0), Some(1)] {
+            let (disk, mut store) = begun(alloc)?;
+            let mut fuse = Fuse::new(disk, calls);
+            let done = store.checkpoint(alloc, &mut fuse).is_ok();
+            assert_eq!(rt; store.len(), if done { 0 } else { 3 }, "at {calls}");
+            let mut disk = fuse
+                .into_inner()
+                .crash((calls % 3) as usize, octet, calls % 2 == 0)?;
+            let mut opened = DurableStore::open(alloc, &mut disk)?;
+            let all = all_files(alloc, &mut disk)?;
+            assert!(rt; has(&all, FIRST), "at {calls}, {octet:?}");
+            assert!(rt; has(&all, THIRD), "at {calls}, {octet:?}");
+            assert!(rt; has(&all, SECOND) || !done, "at {calls}, {octet:?}");
+            assert!(rt; done || opened.len() > 0 || has(&all, SECOND), "at {calls}");
+            opened.checkpoint(alloc, &mut disk)?;
+            let all = all_files(alloc, &mut disk)?;
+            assert!(rt; has(&all, FIRST), "at {calls}, {octet:?}");
+            assert!(rt; has(&all, THIRD), "at {calls}, {octet:?}");
+        }
+    }
+    Ok(())
+}
+
+// The disk has room again: the store is opened again, and the next checkpoint goes on beside the
+// segments that are there.
+#[test]
+fn a_checkpoint_is_made_again(rt: HostRuntime) -> Result<(), Fail> {
+    let alloc = rt.alloc();
+    for calls in 0..40 {
+        let (disk, mut store) = begun(alloc)?;
+        let mut fuse = Fuse::new(disk, calls);
+        let done = store.checkpoint(alloc, &mut fuse).is_ok();
+        let mut disk = fuse.into_inner();
+        if !done {
+            assert_eq!(rt; store.commit(alloc, &mut disk), Err(StoreFault::Broken));
+            add(alloc, &mut store, FOURTH)?;
+            store.reopen(alloc, &mut disk)?;
+            store.checkpoint(alloc, &mut disk)?;
+        }
+        assert_eq!(rt; store.len(), 0);
+        let mut disk = disk.crash(1, Some(1), true)?;
+        let all = all_files(alloc, &mut disk)?;
+        for octets in [FIRST, SECOND, THIRD] {
+            assert!(rt; has(&all, octets), "at {calls}");
+        }
+        assert!(rt; done || has(&all, FOURTH), "at {calls}");
+    }
+    Ok(())
+}
+
+// A commit that is stopped at each of its calls, with a crash whatever it leaves, and then the opening
+// is stopped too.
+#[test]
+fn a_second_crash_may_come_in_the_recovery(rt: HostRuntime) -> Result<(), Fail> {
+    let alloc = rt.alloc();
+    for calls in 0..6 {
+        for more in 0..8 {
+            for octet in [None, Some(0), Some(1)] {
+                let (disk, mut store) = begun(alloc)?;
+                let mut fuse = Fuse::new(disk, calls);
+                let done = store.commit(alloc, &mut fuse).is_ok();
+                let disk = fuse.into_inner().crash(3, octet, true)?;
+                let mut fuse = Fuse::new(disk, more);
+                let _stopped = DurableStore::open(alloc, &mut fuse);
+                let mut disk = fuse.into_inner().crash(1, octet, false)?;
+                let opened = DurableStore::open(alloc, &mut disk)?;
+                let all = text(alloc, &opened)?;
+                assert!(rt; has(&all, FIRST), "at {calls}, {more}");
+                assert!(rt; has(&all, THIRD), "at {calls}, {more}");
+                assert!(rt; has(&all, SECOND) || !done, "at {calls}, {more}");
+                assert!(rt; opened.len() <= 3, "at {calls}, {more}");
+            }
+        }
+    }
+    Ok(())
+}

@@ -1,0 +1,20 @@
+//! Tests of a store through its public calls: disks, journals, what is kept on them and read. There
+//! is nothing to call here.
+#![tactic(auto)]
+
+#[cfg(test)]
+mod disks;
+#[cfg(test)]
+mod durable;
+#[cfg(test)]
+mod engine;
+#[cfg(test)]
+mod folders;
+#[cfg(test)]
+mod journals;
+#[cfg(test)]
+mod reading;
+#[cfg(test)]
+mod records;
+#[cfg(test)]
+mod upkeep;

@@ -1,0 +1,68 @@
+#!/bin/sh
+# Linters for what is not Rattle: pyflakes, shellcheck, warnings of gcc, go vet. What is not here is skipped, and told. Prints
+# what each finds, and last 'N passed, M failed'; the status is 0 exactly where none found anything.
+set -u
+unset CDPATH
+cd "$(dirname "$0")/.." || exit 1
+passed=0
+failed=0
+
+# Runs a linter: lint NAME COMMAND..
+lint() {
+    name=$1
+    shift
+    if "$@" 2>&1; then
+        passed=$((passed + 1))
+    else
+        failed=$((failed + 1))
+        echo "FAILED $name"
+    fi
+}
+
+# Whether a linter is here, by a command that says so; where it is not, that is told: here NAME COMMAND..
+here() {
+    name=$1
+    shift
+    "$@" > /dev/null 2>&1 || {
+        echo "SKIPPED $name: it is not here"
+        false
+    }
+}
+
+# The files of the repository, without those that were built: files TEST.., as find takes them
+files() {
+    find . \( -name .git -o -name build -o -name out -o -name __pycache__ \) -prune -o -type f \( "$@" \) -print0
+}
+
+# pyflakes under the name that it has with Debian, or else with pip
+pyflakes=$(command -v pyflakes3 || echo pyflakes)
+
+# A script has a name that ends so, or is called and says in its first line what it is.
+python() {
+    files -name '*.py' -o -perm -u+x ! -name '*.*' -exec grep -aqE '^#!.*[ /]python3$' {} \; | xargs -0 "$pyflakes"
+}
+
+shells() {
+    files -name '*.sh' -o -perm -u+x ! -name '*.*' -exec grep -aqE '^#!.*[ /](ba)?sh$' {} \; |
+        xargs -0 shellcheck -x -P SCRIPTDIR/..
+}
+
+# Programs are compiled and not linked; what one wants beside POSIX it says itself.
+c() {
+    found=0
+    for file in c/*.c examples/*.c tests/*/*.c; do
+        gcc -O1 -Wall -Wextra -pedantic -Werror -Iinclude -c -o /dev/null "$file" || found=1
+    done
+    return $found
+}
+
+go_code() {
+    (cd go && go vet ./...)
+}
+
+if here pyflakes "$pyflakes" --version; then lint pyflakes python; fi
+if here shellcheck shellcheck --version; then lint shellcheck shells; fi
+lint "gcc -Wall -Wextra -pedantic" c
+if here go go version; then lint "go vet" go_code; fi
+echo "$passed passed, $failed failed"
+[ "$failed" -eq 0 ]
