@@ -96,8 +96,9 @@ TAKES = {
     "--facility": "kern, user, mail, daemon, auth, syslog, lpr, news, uucp, cron, authpriv, ftp, ntp, audit, alert, clock or "
                   "local0 to local7",
     "--by": "month, day or hour", "--udp": ADDRESS, "--counted": ADDRESS, "--lf": ADDRESS, "--inherited": "udp, counted or lf",
-    "--connections": "a number from 1 to 16384", "--idle": "a number from 1 to 31536000",
-    "--commit": "a number from 0 to 3600000", "--checkpoint": "a number from 1 to 1048576",
+    "--connections": "a number from 1 to 16384", "--per-peer": "a number from 1 to 16384",
+    "--idle": "a number from 1 to 31536000", "--commit": "a number from 0 to 3600000",
+    "--checkpoint": "a number from 1 to 2048",
 }
 TIME = "a time of RFC 5424 in the years 0 to 9999 of UTC, such as 2026-11-25T10:00:00Z"
 

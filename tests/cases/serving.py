@@ -259,7 +259,9 @@ def cut_over(runs):
     store = runs.store()
     store.mkdir(mode=0o700)
     (store / "refused.1").write_bytes(b"old")
+    head = b"%d " % (REFUSED_MAX - 10)  # of an entry that ends an octet before
     with open(store / "refused", "wb") as one:
+        one.write(head)
         one.truncate(REFUSED_MAX - 1)
     with runs.until_eof(*any_port("lf"), *SOON, store=store) as server:
         name = spelled(server.send("lf", b"first\n", b"second\n", b"third\n"))
@@ -269,7 +271,7 @@ def cut_over(runs):
     right = list(zip(lines[1:], (b"second", b"third")))
     runs.results.check("a new file of refused frames", kept == right, str(kept)[:300])
     older = (store / "refused.1").read_bytes()
-    right = older == bytes(REFUSED_MAX - 1) + framed("counted", lines[0] + b"\nfirst")
+    right = older == head + bytes(REFUSED_MAX - 10) + framed("counted", lines[0] + b"\nfirst")
     runs.results.check("the older one", right, f"{len(older)} {older[-99:]}")
 
 

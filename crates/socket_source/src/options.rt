@@ -9,6 +9,8 @@ pub struct SourceOptions {
     /// [`CONNECTIONS_MAX`](crate::CONNECTIONS_MAX); a number outside is taken for the nearest of
     /// these.
     pub connections: usize,
+    /// Connections of one address at once, at least 1.
+    pub per_peer: usize,
     /// How long a connection may give nothing before it is closed, to within a period; None means
     /// for ever.
     pub idle: Option<Duration>,

@@ -4,17 +4,23 @@
 mod collect;
 mod descriptors;
 mod disk_files;
+mod entries;
+mod flushing;
+mod notes;
+mod outputs;
 mod refused;
 mod serve;
 mod spill;
 mod stores;
+mod telling;
 
-use command_line::{Request, read_words};
+use command_line::{FileRequest, Request, read_words};
 use commands::{report_words_fault, run_request};
 use descriptors::{can_be_written, occupy_closed_descriptors};
 use disk_files::DiskFiles;
 use driver::{FAULT, NO_MEMORY, report};
 use octet_devices::{FromRead, ToWrite};
+use std::io::{Stderr, Stdout};
 use std::process::ExitCode;
 use std::{env, io};
 
@@ -29,6 +35,40 @@ fn program_args(rt: &HostRuntime) -> Result<Vec<String>, u8> {
         Ok(args) => Ok(args),
         Err(_) => Err(NO_MEMORY),
     }
+}
+
+// Whether a request is one of the commands on archives whose lines may have another behind them.
+fn may_tell_more(request: &Request<'_>) -> bool {
+    match request {
+        Request::Files(FileRequest::Merge { .. }) => false,
+        Request::Files(_) => true,
+        _ => false,
+    }
+}
+
+// Runs a request on standard input and files, and tells where a file was not opened because too many
+// others are open. Returns the exit status.
+fn on_files(
+    rt: &HostRuntime,
+    request: Request<'_>,
+    output: &mut ToWrite<Stdout>,
+    diagnostics: &mut ToWrite<Stderr>,
+) -> u8 {
+    let tells_more = may_tell_more(&request);
+    let mut input = FromRead::new(rt.stdin());
+    let mut files = DiskFiles::new(rt);
+    let status = run_request(
+        rt.alloc(),
+        request,
+        &mut input,
+        output,
+        diagnostics,
+        &mut files,
+    );
+    if tells_more && files.are_too_many() {
+        return report(diagnostics, b"too many open files\n", status);
+    }
+    status
 }
 
 fn main(rt: HostRuntime) -> ExitCode {
@@ -74,18 +114,7 @@ fn main(rt: HostRuntime) -> ExitCode {
             let room = spill::Room { dir, memory_mib };
             spill::archive(&rt, rt.alloc(), input_framing, reading, &room)
         }
-        Ok(request) => {
-            let mut input = FromRead::new(rt.stdin());
-            let mut files = DiskFiles::new(&rt);
-            run_request(
-                rt.alloc(),
-                request,
-                &mut input,
-                &mut output,
-                &mut diagnostics,
-                &mut files,
-            )
-        }
+        Ok(request) => on_files(&rt, request, &mut output, &mut diagnostics),
         Err(fault) => report_words_fault(&fault, &mut diagnostics),
     };
     ExitCode::from(status)

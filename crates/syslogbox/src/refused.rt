@@ -1,69 +1,293 @@
 //! The file of the frames that were refused.
 
+use crate::entries::Entries;
 use std::alloc::AllocError;
-use std::fs::{self, File, OpenOptions};
-use std::io::{self, Write};
-use std::os::unix::fs::OpenOptionsExt;
-use std::rt::Files;
+use std::fs::{self, File, Metadata, OpenOptions};
+use std::io::{self, ErrorKind, Read, Seek, SeekFrom, Write};
+use std::mem::replace;
+use std::os::unix::fs::{MetadataExt, OpenOptionsExt};
+use std::time::{Duration, Instant};
 
-// The most octets of the file: at the first frame behind them it gets another name, and a new one begins.
+// The most octets of the file: at the first entry behind them it gets another name, and a new one begins.
 const REFUSED_MAX: u64 = 64 << 20;
 
-/// The file `refused` of a store. Each write is a frame and what is told of it, and is not synced.
+// How many octets of entries are written together at most, and read at once.
+const HELD_MAX: usize = 65_536;
+
+// Linux's error where a folder stands in place of a file.
+const EISDIR: i32 = 21;
+
+// How many seconds are between two lines on entries that were not kept.
+const TOLD_SECONDS: u64 = 60;
+
+/// The file `refused` of a store, which has whole entries alone. Each write is an entry: a frame and
+/// what is told of it. Entries wait until they are flushed, and are not synced. Those that cannot be
+/// kept are counted.
 #[derive(Drop)]
 pub struct RefusedFile<'a> {
     rt: &'a HostRuntime,
-    path: String,
-    older: String,
+    names: Names,
     file: File,
+    // the octets of the file, as far as this knows
     len: u64,
+    // where the file is to be cut before anything more is written
+    torn: Option<u64>,
+    held: Vec<u8>,
+    held_entries: u64,
+    lost: Lost,
+    cut: u64,
 }
 
-fn open(rt: &HostRuntime, path: &str) -> io::Result<File> {
-    OpenOptions::new()
-        .append(true)
-        .create(true)
-        .mode(0o600)
-        .open(rt, path)
+// The paths of the file, of the one before it, and of the one to come.
+#[derive(Drop)]
+struct Names {
+    path: String,
+    older: String,
+    newer: String,
+}
+
+// The entries that were not kept since that was last told, why not, and when that was.
+#[derive(Drop)]
+struct Lost {
+    entries: u64,
+    error: Option<io::Error>,
+    told: Option<Instant>,
+}
+
+fn options() -> OpenOptions {
+    let mut options = OpenOptions::new();
+    options.read(true).append(true).mode(0o600);
+    options
+}
+
+// A new file, where no other has its name.
+fn create(rt: &HostRuntime, path: &str) -> io::Result<File> {
+    options().create_new(true).open(rt, path)
+}
+
+fn is_same(one: &Metadata, other: &Metadata) -> bool {
+    one.dev() == other.dev() && one.ino() == other.ino()
+}
+
+// An error where a file is no regular one.
+fn check_regular(found: &Metadata) -> io::Result<()> {
+    if found.is_dir() {
+        return Err(io::Error::from_raw_os_error(EISDIR));
+    }
+    if !found.is_file() {
+        return Err(io::Error::new(ErrorKind::InvalidInput, "not a regular file"));
+    }
+    Ok(())
+}
+
+// Opens a file that has a name already. No link is followed, and nothing but a regular file is opened.
+fn open_found(rt: &HostRuntime, path: &str, found: &Metadata) -> io::Result<File> {
+    check_regular(found)?;
+    let file = options().open(rt, path)?;
+    if !is_same(&file.metadata()?, found) {
+        return Err(io::Error::new(ErrorKind::InvalidInput, "the file was exchanged"));
+    }
+    Ok(file)
+}
+
+// Opens a regular file, or makes one where there is none.
+fn open_regular(rt: &HostRuntime, path: &str) -> io::Result<File> {
+    match fs::symlink_metadata(rt, path) {
+        Ok(found) => open_found(rt, path, &found),
+        Err(error) if error.kind() == ErrorKind::NotFound => create(rt, path),
+        Err(error) => Err(error),
+    }
+}
+
+// Where the last whole entry of a file ends.
+fn whole_len(file: &mut File, buf: &mut [u8]) -> io::Result<u64> {
+    let mut entries = Entries::new();
+    file.seek(SeekFrom::Start(0))?;
+    for _piece in 0..u64::MAX {
+        let count = file.read(buf)?;
+        let piece = buf.get(..count).unwrap_or(&[]);
+        if piece.is_empty() || !entries.add(piece) {
+            break;
+        }
+    }
+    Ok(entries.whole_len())
+}
+
+// Cuts off what follows the last whole entry of a file. Returns how many octets that were.
+fn cut_torn(file: &mut File, buf: &mut [u8]) -> io::Result<u64> {
+    let len = file.metadata()?.len();
+    let whole = whole_len(file, buf)?;
+    if whole < len {
+        file.set_len(whole)?;
+    }
+    Ok(len.saturating_sub(whole))
+}
+
+impl Lost {
+    fn count(&mut self, entries: u64, error: io::Error) {
+        self.entries = self.entries.saturating_add(entries);
+        self.error = Some(error);
+    }
+
+    // Whether a line is due.
+    fn is_due(&self, now: Instant) -> bool {
+        match self.told {
+            _ if self.entries == 0 => false,
+            Some(told) => {
+                now.saturating_duration_since(told) >= Duration::from_secs(TOLD_SECONDS)
+            }
+            None => true,
+        }
+    }
+
+    // The line, which begins anew.
+    fn line(&mut self, rt: &HostRuntime, now: Option<Instant>) -> Result<String, AllocError> {
+        let count = self.entries;
+        let line = match &self.error {
+            Some(error) => format!(in rt.alloc(); "refused: {count} entries not kept: {error}\n")?,
+            None => format!(in rt.alloc(); "refused: {count} entries not kept\n")?,
+        };
+        self.entries = 0;
+        self.told = now;
+        Ok(line)
+    }
 }
 
 impl<'a> RefusedFile<'a> {
-    /// The file in a store's folder. It is made if it is missing. It fails if the system does not
-    /// open it.
+    /// The file in a store's folder, without what follows its last whole entry. It is made if it is
+    /// missing. It fails if it is no regular file, or if the system does not open it.
     pub fn open(rt: &'a HostRuntime, dir: &str) -> io::Result<RefusedFile<'a>> {
-        let path = format!(in rt.alloc(); "{dir}/refused")?;
-        let older = format!(in rt.alloc(); "{dir}/refused.1")?;
-        let file = open(rt, path.as_str())?;
+        let names = Names {
+            path: format!(in rt.alloc(); "{dir}/refused")?,
+            older: format!(in rt.alloc(); "{dir}/refused.1")?,
+            newer: format!(in rt.alloc(); "{dir}/refused.new")?,
+        };
+        let mut file = open_regular(rt, names.path.as_str())?;
+        let mut held = vec![in rt.alloc(); 0u8; HELD_MAX]?;
+        let cut = cut_torn(&mut file, &mut held)?;
+        held.clear();
         let len = file.metadata()?.len();
         Ok(RefusedFile {
             rt,
-            path,
-            older,
+            names,
             file,
             len,
+            torn: None,
+            held,
+            held_entries: 0,
+            lost: Lost {
+                entries: 0,
+                error: None,
+                told: None,
+            },
+            cut,
         })
+    }
+
+    /// How many octets were cut off when it was opened.
+    pub fn cut_octets(&self) -> u64 {
+        self.cut
+    }
+
+    // Cuts off what a write that failed has left, and returns the length.
+    fn mend(&mut self) -> io::Result<u64> {
+        let len = self.file.metadata()?.len();
+        match self.torn {
+            Some(torn) if torn < len => self.file.set_len(torn)?,
+            _ => {}
+        }
+        let whole = self.torn.unwrap_or(len).min(len);
+        self.torn = None;
+        Ok(whole)
     }
 
     // Gives the file another name, in place of the one that had it, and begins a new one.
     fn turn(&mut self) -> io::Result<()> {
-        fs::rename(self.rt, self.path.as_str(), self.older.as_str())?;
-        self.file = open(self.rt, self.path.as_str())?;
-        self.len = 0;
+        let names = &self.names;
+        let _missing = fs::remove_file(self.rt, names.newer.as_str());
+        let newer = create(self.rt, names.newer.as_str())?;
+        fs::rename(self.rt, names.path.as_str(), names.older.as_str())?;
+        if let Err(error) = fs::rename(self.rt, names.newer.as_str(), names.path.as_str()) {
+            let _back = fs::rename(self.rt, names.older.as_str(), names.path.as_str());
+            return Err(error);
+        }
+        self.file = newer;
         Ok(())
+    }
+
+    // Writes whole entries, or none of them.
+    fn try_append(&mut self, entries: &[u8]) -> io::Result<()> {
+        let mut begun = self.mend()?;
+        if begun >= REFUSED_MAX && self.turn().is_ok() {
+            begun = 0;
+        }
+        let written = self.file.write_all(entries);
+        self.len = begun;
+        if written.is_err() {
+            self.torn = Some(begun);
+            let _later = self.mend();
+        } else {
+            self.len = begun.saturating_add(entries.len() as u64);
+        }
+        written
+    }
+
+    fn append(&mut self, entries: &[u8], count: u64) {
+        if let Err(error) = self.try_append(entries) {
+            self.lost.count(count, error);
+        }
+    }
+
+    /// Writes the entries that wait.
+    pub fn save(&mut self) {
+        if self.held.is_empty() {
+            return;
+        }
+        let held = replace(&mut self.held, Vec::new(self.rt.alloc()));
+        self.append(held.as_slice(), self.held_entries);
+        self.held = held;
+        self.held.clear();
+        self.held_entries = 0;
+    }
+
+    /// The line on entries that were not kept, where there are any and it is a minute since the last one.
+    pub fn lost_line(&mut self) -> Option<String> {
+        if self.lost.entries == 0 {
+            return None;
+        }
+        let now = Instant::now(self.rt).ok()?;
+        if !self.lost.is_due(now) {
+            return None;
+        }
+        self.lost.line(self.rt, Some(now)).ok()
+    }
+
+    /// The line on entries that were not kept and have not been told, at the end.
+    pub fn last_line(&mut self) -> Option<String> {
+        if self.lost.entries == 0 {
+            return None;
+        }
+        self.lost.line(self.rt, None).ok()
     }
 }
 
 impl<'a> Write for RefusedFile<'a> {
     fn write(&mut self, buf: &[u8]) -> io::Result<usize> {
-        if self.len >= REFUSED_MAX {
-            self.turn()?;
+        let held = self.held.len();
+        let is_long = self.len.saturating_add(held as u64) >= REFUSED_MAX;
+        if is_long || buf.len() > HELD_MAX.saturating_sub(held) {
+            self.save();
         }
-        self.file.write_all(buf)?;
-        self.len = self.len.saturating_add(buf.len() as u64);
+        if buf.len() <= HELD_MAX && self.held.extend_from_slice(buf).is_ok() {
+            self.held_entries = self.held_entries.saturating_add(1);
+        } else {
+            self.append(buf, 1);
+        }
         Ok(buf.len())
     }
 
     fn flush(&mut self) -> io::Result<()> {
+        self.save();
         Ok(())
     }
 }

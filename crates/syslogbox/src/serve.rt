@@ -1,17 +1,25 @@
 //! `serve`, over the sockets of the system and a store in a folder.
 
+use crate::flushing::Flushing;
+use crate::notes::Notes;
+use crate::outputs::{Outputs, SharedNotes, SharedRefused};
 use crate::refused::RefusedFile;
+use crate::telling::Teller;
 use archive_pages::PagedArchive;
-use driver::{FAULT, NO_MEMORY, report};
+use disk::DiskFault;
+use driver::{NO_MEMORY, report};
 use durable_store::OpenFault;
-use folder_disk::{FileError, FolderDisk, FolderLock, LockFault, LockFile};
+use folder_disk::{FolderDisk, FolderLock, LockFault, LockFile};
+use journal::JournalFault;
 use libc::net::poll;
 use octet_devices::ToWrite;
+use record_store::StoreFault;
 use serve_engine::{Pause, ServeEnd, ServeOptions, Server};
 use server_words::{InheritedKind, ListenerWords, ServeWords};
 use socket_source::{Inherited, Listener, OpenFault as SocketFault, SocketSource, SourceOptions};
 use std::alloc::{AllocError, Global};
-use std::fmt::Display;
+use std::cell::RefCell;
+use std::io;
 use std::time::Duration;
 use store_keeper::{DiskKeeper, SoundDisk, server_on};
 
@@ -24,64 +32,29 @@ const COUNT_MILLIS: u64 = 60_000;
 // Milliseconds between two tries on a full disk.
 const FULL_MILLIS: i32 = 1_000;
 
-// Waits for a second.
+// Waits for a second. What was told is written before.
 #[derive(Drop)]
-struct Second;
+struct Second<'n, 'f, 'r> {
+    outputs: Outputs<'n, 'f, 'r>,
+}
 
-impl Pause for Second {
+impl<'n, 'f, 'r> Pause for Second<'n, 'f, 'r> {
     fn pause(&mut self) {
+        self.outputs.flush();
         let _ = poll(&mut [], FULL_MILLIS);
     }
 }
 
 type Fault = u8;
 
-type Stores<'a> = Server<
+type Keeper = DiskKeeper<FolderDisk<HostRuntime>>;
+
+type Stores<'n, 'f, 'r> = Server<
     PagedArchive,
-    DiskKeeper<FolderDisk<HostRuntime>>,
-    ToWrite<std::io::Stderr>,
-    ToWrite<RefusedFile<'a>>,
+    Keeper,
+    ToWrite<SharedNotes<'n>>,
+    ToWrite<SharedRefused<'f, 'r>>,
 >;
-
-// Tells the error by which the disk last failed, or else what the store says, and gives the status.
-fn refuse_disk(
-    rt: &HostRuntime,
-    dir: &str,
-    disk: &FolderDisk<HostRuntime>,
-    fault: impl Display + Drop,
-) -> u8 {
-    let Some(FileError { name, error }) = disk.last_error() else {
-        return refuse(rt, dir, fault);
-    };
-    let path = match name {
-        Some(name) => match str::from_utf8(name.as_octets()) {
-            Ok(name) => format!(in rt.alloc(); "{dir}/{name}"),
-            Err(_) => String::from_str(rt.alloc(), dir),
-        },
-        None => String::from_str(rt.alloc(), dir),
-    };
-    match path {
-        Ok(path) => refuse(rt, path.as_str(), error),
-        Err(_) => out_of_memory(rt),
-    }
-}
-
-// Tells why serving does not begin, and gives the status.
-fn refuse(rt: &HostRuntime, what: &str, why: impl Display + Drop) -> u8 {
-    let mut diagnostics = ToWrite::new(rt.stderr());
-    match format!(in rt.alloc(); "{what}: {why}\n") {
-        Ok(line) => report(&mut diagnostics, line.as_bytes(), FAULT),
-        Err(_) => report(&mut diagnostics, b"want of memory\n", NO_MEMORY),
-    }
-}
-
-fn out_of_memory(rt: &HostRuntime) -> u8 {
-    report(
-        &mut ToWrite::new(rt.stderr()),
-        b"want of memory\n",
-        NO_MEMORY,
-    )
-}
 
 fn listener<'a>(words: &ListenerWords<'a>) -> Listener<'a> {
     match *words {
@@ -134,6 +107,7 @@ fn periods_a_minute(words: &ServeWords<'_>) -> u64 {
 fn source_options(words: &ServeWords<'_>) -> SourceOptions {
     SourceOptions {
         connections: words.options.connections as usize,
+        per_peer: words.options.per_peer as usize,
         idle: match words.options.idle_seconds {
             Some(seconds) => Some(Duration::from_secs(u64::from(seconds))),
             None => None,
@@ -146,134 +120,217 @@ fn source_options(words: &ServeWords<'_>) -> SourceOptions {
 
 // Opens the sockets.
 fn open_sockets<'a>(
-    rt: &'a HostRuntime,
+    teller: Teller<'a, '_>,
     words: &ServeWords<'_>,
 ) -> Result<SocketSource<'a, HostRuntime>, Fault> {
+    let rt = teller.rt;
     let Ok(listeners) = listeners(rt.alloc(), words) else {
-        return Err(out_of_memory(rt));
+        return Err(teller.out_of_memory());
     };
     match SocketSource::open(rt, rt.alloc(), &listeners, source_options(words)) {
         Ok(source) => Ok(source),
         Err(SocketFault::Listener { listener, cause }) => match words.listeners.get(listener) {
             Some(one) => match place_of(rt.alloc(), one) {
-                Ok(place) => Err(refuse(rt, place.as_str(), cause)),
-                Err(_) => Err(out_of_memory(rt)),
+                Ok(place) => Err(teller.refuse(place.as_str(), cause)),
+                Err(_) => Err(teller.out_of_memory()),
             },
-            None => Err(refuse(rt, "sockets", cause)),
+            None => Err(teller.refuse("sockets", cause)),
         },
-        Err(SocketFault::Memory) => Err(out_of_memory(rt)),
-        Err(fault) => Err(refuse(rt, "sockets", fault)),
+        Err(SocketFault::Memory) => Err(teller.out_of_memory()),
+        Err(fault) => Err(teller.refuse("sockets", fault)),
+    }
+}
+
+// Whether memory ran out while a store was opened.
+fn wants_memory(fault: &OpenFault) -> bool {
+    match fault {
+        OpenFault::Memory | OpenFault::Store(StoreFault::Memory) => true,
+        OpenFault::Store(StoreFault::Folder { fault }) => *fault == DiskFault::Memory,
+        OpenFault::Store(StoreFault::Journal { number: _, fault }) => {
+            *fault == JournalFault::Disk(DiskFault::Memory)
+        }
+        _ => false,
     }
 }
 
 // Why the store was not opened.
 fn refuse_store(
-    rt: &HostRuntime,
+    teller: Teller<'_, '_>,
     dir: &str,
     fault: OpenFault,
     disk: &FolderDisk<HostRuntime>,
 ) -> u8 {
-    if fault == OpenFault::Memory {
-        return out_of_memory(rt);
+    if wants_memory(&fault) {
+        return teller.out_of_memory();
     }
-    refuse_disk(rt, dir, disk, fault)
+    teller.refuse_disk(dir, disk, fault)
+}
+
+// Tells an error of the system on a file or a folder. Want of memory is told as that.
+fn refuse_io(teller: Teller<'_, '_>, path: &str, error: io::Error) -> u8 {
+    if error.kind() == io::ErrorKind::OutOfMemory {
+        return teller.out_of_memory();
+    }
+    teller.refuse(path, error)
+}
+
+// Tells an error of the system on a file of the store.
+fn refuse_file(teller: Teller<'_, '_>, dir: &str, name: &str, error: io::Error) -> u8 {
+    match format!(in teller.rt.alloc(); "{dir}/{name}") {
+        Ok(path) => refuse_io(teller, path.as_str(), error),
+        Err(_) => teller.out_of_memory(),
+    }
 }
 
 // Opens the store in a folder, which is made where it is missing.
-fn open_store(
-    rt: &HostRuntime,
-    dir: &str,
-) -> Result<(FolderLock, DiskKeeper<FolderDisk<HostRuntime>>), Fault> {
+fn open_store(teller: Teller<'_, '_>, dir: &str) -> Result<(FolderLock, Keeper), Fault> {
+    let rt = teller.rt;
     let disk = match FolderDisk::create(rt, dir) {
         Ok(disk) => disk,
-        Err(error) => return Err(refuse(rt, dir, error)),
+        Err(error) => return Err(refuse_io(teller, dir, error)),
     };
     let lock = match FolderLock::take(rt, dir, LockFile::Writing) {
         Ok(lock) => lock,
-        Err(LockFault::Held) => return Err(refuse(rt, dir, "another server has the store")),
-        Err(LockFault::Failed(error)) => return Err(refuse(rt, dir, error)),
+        Err(LockFault::Held) => return Err(teller.refuse(dir, "another server has the store")),
+        Err(LockFault::Failed(error)) => {
+            return Err(refuse_file(teller, dir, LockFile::Writing.name(), error));
+        }
     };
     match DiskKeeper::open(rt.alloc(), SoundDisk { disk }) {
         Ok(keeper) => Ok((lock, keeper)),
-        Err((fault, disk)) => Err(refuse_store(rt, dir, fault, &disk)),
+        Err((fault, disk)) => Err(refuse_store(teller, dir, fault, &disk)),
     }
+}
+
+// Opens the file of what is refused, and tells where the end of it was cut off.
+fn open_refused<'a>(teller: Teller<'a, '_>, dir: &str) -> Result<RefusedFile<'a>, Fault> {
+    let file = match RefusedFile::open(teller.rt, dir) {
+        Ok(file) => file,
+        Err(error) => return Err(refuse_file(teller, dir, "refused", error)),
+    };
+    let cut = file.cut_octets();
+    if cut > 0 {
+        match format!(in teller.rt.alloc();
+            "refused: {cut} octets behind the last whole entry cut off\n"
+        ) {
+            Ok(line) => teller.tell(line.as_str()),
+            Err(_) => return Err(teller.out_of_memory()),
+        }
+    }
+    Ok(file)
 }
 
 // Tells where each listener listens.
 fn tell_listeners(
-    rt: &HostRuntime,
+    teller: Teller<'_, '_>,
     words: &ServeWords<'_>,
     source: &SocketSource<'_, HostRuntime>,
 ) -> Result<(), AllocError> {
-    let mut diagnostics = ToWrite::new(rt.stderr());
+    let alloc = teller.rt.alloc();
     for (n, one) in words.listeners.iter().enumerate() {
         let kind = kind_of(one);
         let place = match source.local_addr(n) {
-            Some(addr) => format!(in rt.alloc(); "{addr}")?,
-            None => place_of(rt.alloc(), one)?,
+            Some(addr) => format!(in alloc; "{addr}")?,
+            None => place_of(alloc, one)?,
         };
-        let line = format!(in rt.alloc(); "listening {kind} {place}\n")?;
-        let _told = report(&mut diagnostics, line.as_bytes(), FAULT);
+        let line = format!(in alloc; "listening {kind} {place}\n")?;
+        teller.tell(line.as_str());
     }
     Ok(())
 }
 
 // Makes the server.
-fn make_server<'a>(
-    rt: &'a HostRuntime,
+fn make_server<'n, 'f, 'r>(
+    teller: Teller<'_, '_>,
     words: &ServeWords<'_>,
-    keeper: DiskKeeper<FolderDisk<HostRuntime>>,
-) -> Result<Stores<'a>, Fault> {
-    let refused = match RefusedFile::open(rt, words.dir) {
-        Ok(file) => ToWrite::new(file),
-        Err(error) => return Err(refuse(rt, words.dir, error)),
-    };
-    let connections = words.options.connections as usize;
-    let reading = words.options.reading;
-    match server_on(
-        rt.alloc(),
+    keeper: Keeper,
+    outputs: Outputs<'n, 'f, 'r>,
+) -> Result<Stores<'n, 'f, 'r>, Fault> {
+    let made = server_on(
+        teller.rt.alloc(),
         keeper,
-        reading,
-        connections,
-        ToWrite::new(rt.stderr()),
-        refused,
-    ) {
+        words.options.reading,
+        words.options.connections as usize,
+        ToWrite::new(outputs.notes),
+        ToWrite::new(outputs.refused),
+    );
+    match made {
         Ok(server) => Ok(server),
-        Err(_) => Err(out_of_memory(rt)),
+        Err(_) => Err(teller.out_of_memory()),
+    }
+}
+
+fn serve_options(words: &ServeWords<'_>) -> ServeOptions {
+    ServeOptions {
+        checkpoint_len: u64::from(words.options.checkpoint_mib) << 20,
+        count_ticks: periods_a_minute(words),
+    }
+}
+
+// Tells why serving ended, where it did not finish.
+fn tell_end(teller: Teller<'_, '_>, dir: &str, end: ServeEnd, disk: &FolderDisk<HostRuntime>) {
+    match end {
+        ServeEnd::Disk => {
+            let _status = teller.refuse_disk(dir, disk, "the disk failed");
+        }
+        ServeEnd::Memory => {
+            let _status = teller.out_of_memory();
+        }
+        ServeEnd::Finished | ServeEnd::Source(_) | ServeEnd::Endless => {}
     }
 }
 
 // Collects until the source ends.
-fn run(rt: &HostRuntime, words: &ServeWords<'_>) -> Result<u8, Fault> {
-    let mut source = open_sockets(rt, words)?;
-    let (_lock, keeper) = open_store(rt, words.dir)?;
-    let mut server = make_server(rt, words, keeper)?;
-    if tell_listeners(rt, words, &source).is_err() {
-        return Err(out_of_memory(rt));
+fn collect(
+    teller: Teller<'_, '_>,
+    words: &ServeWords<'_>,
+    source: SocketSource<'_, HostRuntime>,
+    keeper: Keeper,
+    outputs: Outputs<'_, '_, '_>,
+) -> Result<u8, Fault> {
+    let mut server = make_server(teller, words, keeper, outputs)?;
+    if tell_listeners(teller, words, &source).is_err() {
+        return Err(teller.out_of_memory());
     }
-    let options = ServeOptions {
-        checkpoint_len: u64::from(words.options.checkpoint_mib) << 20,
-        count_ticks: periods_a_minute(words),
-    };
-    let end = store_keeper::serve(rt.alloc(), &mut server, &mut source, &mut Second, &options);
+    let mut source = Flushing { source, outputs };
+    let mut second = Second { outputs };
+    let options = serve_options(words);
+    let alloc = teller.rt.alloc();
+    let end = store_keeper::serve(alloc, &mut server, &mut source, &mut second, &options);
     let status = end.status(server.counts().has_refused());
+    outputs.save_last();
     let (keeper, _notes, _refused) = server.into_parts();
-    match end {
-        ServeEnd::Disk => {
-            let _status = refuse_disk(rt, words.dir, keeper.disk(), "the disk failed");
-        }
-        ServeEnd::Memory => {
-            let _status = out_of_memory(rt);
-        }
-        ServeEnd::Finished | ServeEnd::Source(_) | ServeEnd::Endless => {}
-    }
+    tell_end(teller, words.dir, end, keeper.disk());
     Ok(status)
+}
+
+// Opens what is asked for, and collects.
+fn run(teller: Teller<'_, '_>, words: &ServeWords<'_>) -> Result<u8, Fault> {
+    let source = open_sockets(teller, words)?;
+    let (_lock, keeper) = open_store(teller, words.dir)?;
+    let file = RefCell::new(open_refused(teller, words.dir)?);
+    let notes = teller.notes;
+    let refused = SharedRefused { file: &file };
+    let outputs = Outputs { notes, refused };
+    collect(teller, words, source, keeper, outputs)
 }
 
 /// Collects from sockets into a store until it is stopped, or until standard input ends if that is
 /// asked for. Returns the exit status.
 pub fn serve(rt: &HostRuntime, words: &ServeWords<'_>) -> u8 {
-    match run(rt, words) {
+    let Ok(notes) = Notes::new(rt.alloc(), rt.stderr()) else {
+        return report(
+            &mut ToWrite::new(rt.stderr()),
+            b"want of memory\n",
+            NO_MEMORY,
+        );
+    };
+    let notes = RefCell::new(notes);
+    let shared = SharedNotes { notes: &notes };
+    let teller = Teller { rt, notes: shared };
+    let ended = run(teller, words);
+    shared.finish();
+    match ended {
         Ok(status) | Err(status) => status,
     }
 }

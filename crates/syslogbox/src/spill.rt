@@ -2,7 +2,7 @@
 
 use archive_engine::archive_spilled_input;
 use archive_spill::{FolderSpill, SpilledArchive};
-use driver::{FAULT, report};
+use driver::{NO_MEMORY, report};
 use frame_engine::InputFraming;
 use octet_devices::{FromRead, ToWrite};
 use std::alloc::Global;
@@ -27,7 +27,7 @@ pub fn archive(
 ) -> u8 {
     let mut diagnostics = ToWrite::new(rt.stderr());
     let Ok(spill) = FolderSpill::new(rt, room.dir) else {
-        return report(&mut diagnostics, b"spill fault\n", FAULT);
+        return report(&mut diagnostics, b"want of memory\n", NO_MEMORY);
     };
     let octets = (room.memory_mib as usize).saturating_mul(1 << 20);
     archive_spilled_input(

@@ -1,0 +1,84 @@
+//! What a server tells of why it does not begin, or why it ends.
+
+use crate::outputs::SharedNotes;
+use driver::{FAULT, NO_MEMORY, report};
+use folder_disk::{FileError, FolderDisk};
+use octet_devices::ToWrite;
+use std::alloc::{AllocError, Global};
+use std::fmt::Display;
+
+/// The system, and where a server tells.
+#[derive(Clone, Copy)]
+pub struct Teller<'r, 'n> {
+    pub rt: &'r HostRuntime,
+    pub notes: SharedNotes<'n>,
+}
+
+// A text as it is printed: octets from 32 to 126, except quote and backslash, as themselves, and
+// every other octet as `\x` and two hexadecimal digits.
+fn shown(alloc: Global, text: &str) -> Result<String, AllocError> {
+    let mut shown = String::new(alloc);
+    for octet in text.as_bytes() {
+        match *octet {
+            b'"' | b'\\' | 0..=31 | 127..=255 => {
+                let escaped = format!(in alloc; "\\x{octet:02x}")?;
+                shown.push_str(escaped.as_str())?;
+            }
+            plain => shown.push(char::from(plain))?,
+        }
+    }
+    Ok(shown)
+}
+
+fn line(alloc: Global, what: &str, why: impl Display + Drop) -> Result<String, AllocError> {
+    let what = shown(alloc, what)?;
+    format!(in alloc; "{what}: {why}\n")
+}
+
+impl<'r, 'n> Teller<'r, 'n> {
+    /// Tells why serving does not begin, or ends, and gives the status.
+    pub fn refuse(&self, what: &str, why: impl Display + Drop) -> u8 {
+        match line(self.rt.alloc(), what, why) {
+            Ok(line) => report(&mut ToWrite::new(self.notes), line.as_bytes(), FAULT),
+            Err(_) => self.out_of_memory(),
+        }
+    }
+
+    /// Tells that memory ran out, and gives the status.
+    pub fn out_of_memory(&self) -> u8 {
+        report(
+            &mut ToWrite::new(self.notes),
+            b"want of memory\n",
+            NO_MEMORY,
+        )
+    }
+
+    /// Tells a line.
+    pub fn tell(&self, line: &str) {
+        let _status = report(&mut ToWrite::new(self.notes), line.as_bytes(), FAULT);
+    }
+
+    /// Tells the error by which the disk last failed, or else what the store says, and gives the status.
+    pub fn refuse_disk(
+        &self,
+        dir: &str,
+        disk: &FolderDisk<HostRuntime>,
+        fault: impl Display + Drop,
+    ) -> u8 {
+        let Some(FileError { name, error }) = disk.last_error() else {
+            return self.refuse(dir, fault);
+        };
+        let alloc = self.rt.alloc();
+        let path = match name {
+            Some(name) => match str::from_utf8(name.as_octets()) {
+                Ok(name) => format!(in alloc; "{dir}/{name}"),
+                Err(_) => String::from_str(alloc, dir),
+            },
+            None => String::from_str(alloc, dir),
+        };
+        match path {
+            Ok(path) => self.refuse(path.as_str(), error),
+            Err(_) => self.out_of_memory(),
+        }
+    }
+}
