@@ -10,6 +10,8 @@ mod fault;
 mod folder;
 mod lock;
 mod open_files;
+mod path;
+mod regular;
 #[cfg(test)]
 mod tests;
 mod transfers;
@@ -17,3 +19,5 @@ mod transfers;
 pub use fault::FileError;
 pub use folder::FolderDisk;
 pub use lock::{FolderLock, LockFault, LockFile};
+pub use path::FolderPath;
+pub use regular::{Access, RegularFile, create_regular, open_regular, remove_regular};

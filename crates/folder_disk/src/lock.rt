@@ -2,10 +2,10 @@
 ghost use Rattle.std.specs.Prelude.{◌≡◌};
 ghost use Rattle.folder_disk.specs.Locks.{lock_name};
 
-use crate::open_files::with_slash;
-use std::fs::{File, OpenOptions, TryLockError};
+use crate::path::FolderPath;
+use crate::regular::open_or_create;
+use std::fs::{File, TryLockError};
 use std::io::{self, ErrorKind};
-use std::os::unix::fs::OpenOptionsExt;
 use std::rt::Files;
 use thiserror::Error;
 
@@ -52,13 +52,10 @@ fn open_lock<R: Files + AllocGlobal>(rt: &R, folder: &str, lock: LockFile) -> io
     if folder.is_empty() {
         return Err(ErrorKind::NotFound.into()); // the name of no folder, as it is to `FolderDisk`
     }
-    let mut path = with_slash(rt.alloc(), folder)?;
+    let folder = FolderPath::new(rt.alloc(), folder)?;
+    let mut path = String::from_str(rt.alloc(), folder.as_str())?;
     path.push_str(lock.name())?;
-    OpenOptions::new()
-        .write(true)
-        .create(true)
-        .mode(0o600)
-        .open(rt, path.as_str())
+    Ok(open_or_create(rt, path.as_str())?.file)
 }
 
 impl FolderLock {
