@@ -1,6 +1,7 @@
 //! The files of a folder, of which those that were used stay open.
 ghost use Rattle.std.specs.Prelude.{◌<◌, ◌≤◌, IfOk, IfSome, length, vec_len};
 
+use crate::owner::{FolderFault, check_owner};
 use crate::path::FolderPath;
 use crate::regular::{Access, RegularFile, create_regular, open_regular, remove_regular};
 use crate::transfers::{cut_to, read_from, write_at_end, write_over};
@@ -32,9 +33,10 @@ pub(crate) struct OpenFiles<R: Files> {
 }
 
 impl<R: Files + AllocGlobal + Clone + Drop> OpenFiles<R> {
-    /// The files of a folder that exists and may be read.
-    pub(crate) fn new(rt: &R, path: &str) -> io::Result<OpenFiles<R>> {
+    /// The files of a folder that exists, that may be read, and in which the caller may keep a store.
+    pub(crate) fn new(rt: &R, path: &str) -> Result<OpenFiles<R>, FolderFault> {
         let path = FolderPath::new(rt.alloc(), path)?;
+        check_owner(rt, &path)?;
         drop(fs::open(rt, path.as_str())?);
         Ok(OpenFiles {
             rt: rt.clone()?,

@@ -18,6 +18,8 @@ pub enum Access {
     Read,
     /// To be read and written.
     Write,
+    /// To be written at its end, wherever that is.
+    Append,
 }
 
 /// A regular file that is open, by what it says of itself.
@@ -63,8 +65,9 @@ fn open_once<R: Files>(
     let named = fs::symlink_metadata(rt, path)?;
     require_regular(&named)?;
     let opened = OpenOptions::new()
-        .read(true)
+        .read(access != Access::Append)
         .write(access == Access::Write)
+        .append(access == Access::Append)
         .open(rt, path)?;
     let opened = checked(opened)?;
     if are_same(&named, &opened.found) {
@@ -108,16 +111,21 @@ pub fn remove_regular<R: Files>(rt: &R, path: &str) -> io::Result<()> {
     fs::remove_file(rt, path)
 }
 
-/// Opens a regular file to be read and written, which is made if it is missing.
-pub(crate) fn open_or_create<R: Files>(rt: &R, path: &str) -> io::Result<RegularFile<R::File>> {
+/// Opens a regular file, which is made if it is missing.
+pub fn open_or_create<R: Files>(
+    rt: &R,
+    path: &str,
+    access: Access,
+) -> io::Result<RegularFile<R::File>> {
     for _ in 0..TRIES {
-        match create_regular(rt, path) {
-            Err(error) if error.kind() == ErrorKind::AlreadyExists => {}
-            answer => return answer,
-        }
-        match open_regular(rt, path, Access::Write) {
+        match open_regular(rt, path, access) {
             Err(error) if error.kind() == ErrorKind::NotFound => {}
             answer => return answer,
+        }
+        match create_regular(rt, path) {
+            Ok(made) => drop(made),
+            Err(error) if error.kind() == ErrorKind::AlreadyExists => {}
+            Err(error) => return Err(error),
         }
     }
     Err(ErrorKind::NotFound.into())
