@@ -4,9 +4,9 @@ ghost use Rattle.disk.specs.Calls.{HasCause};
 ghost use Rattle.folder_disk.specs.Faults.{IsTold};
 ghost use Rattle.folder_disk.specs.Folders.{untold, last_error_of};
 
-use crate::FileError;
 use crate::fault::{Target, fault_of};
 use crate::open_files::OpenFiles;
+use crate::{FileError, FolderFault};
 use disk::{Disk, DiskFault, FileName};
 use std::alloc::Global;
 use std::fs::OpenFile;
@@ -28,8 +28,25 @@ pub struct FolderDisk<R: Files> {
     last_error: Option<FileError>,
 }
 
-// Brings the name of a folder to the disk.
-fn sync_parent<R: Files>(rt: &R, path: &str) -> io::Result<()> {
+// Makes a folder for its owner alone; whether it was missing.
+fn make_folder<R: Files>(rt: &R, path: &str) -> Result<bool, FolderFault> {
+    match fs::DirBuilder::new().mode(0o700).create(rt, path) {
+        Ok(()) => Ok(true),
+        Err(error) if error.kind() == io::ErrorKind::AlreadyExists => Ok(false),
+        Err(error) => Err(FolderFault::System(error)),
+    }
+}
+
+fn parent_fault(alloc: Global, parent: &str, error: io::Error) -> FolderFault {
+    match String::from_str(alloc, parent) {
+        Ok(parent) => FolderFault::Parent { parent, error },
+        Err(error) => FolderFault::System(error.into()),
+    }
+}
+
+// Brings the name of a folder to the disk. One that was there before may have a parent that the caller
+// may pass and not read: who made it has seen to its name.
+fn sync_name<R: Files + AllocGlobal>(rt: &R, path: &str, is_new: bool) -> Result<(), FolderFault> {
     let Some(parent) = Path::new(path).parent() else {
         return Ok(());
     };
@@ -37,12 +54,21 @@ fn sync_parent<R: Files>(rt: &R, path: &str) -> io::Result<()> {
         "" => ".",
         text => text,
     };
-    fs::open(rt, parent)?.sync_all()
+    let synced = match fs::open(rt, parent) {
+        Ok(folder) => folder.sync_all(),
+        Err(error) if !is_new && error.kind() == io::ErrorKind::PermissionDenied => Ok(()),
+        Err(error) => Err(error),
+    };
+    match synced {
+        Ok(()) => Ok(()),
+        Err(error) => Err(parent_fault(rt.alloc(), parent, error)),
+    }
 }
 
 impl<R: Files + AllocGlobal + Clone + Drop> FolderDisk<R> {
-    /// The disk of a folder that exists. It fails if the system does not open the folder.
-    pub fn open(rt: &R, path: &str) -> io::Result<FolderDisk<R>>
+    /// The disk of a folder that exists. It fails if the system does not open the folder, or if the
+    /// caller may keep no store in it, as [`FolderFault`] says.
+    pub fn open(rt: &R, path: &str) -> Result<FolderDisk<R>, FolderFault>
         ensures { IfOk result (λ disk. IsNone (last_error_of disk)) }
     {
         Ok(FolderDisk {
@@ -52,17 +78,20 @@ impl<R: Files + AllocGlobal + Clone + Drop> FolderDisk<R> {
     }
 
     /// The disk of a folder, which is made if it is missing, for its owner alone; its parent is not
-    /// made. The parent is synced, so that the folder's name is on the disk. It fails if the system
-    /// refuses one of these calls.
-    pub fn create(rt: &R, path: &str) -> io::Result<FolderDisk<R>>
+    /// made. The parent is synced, so that the folder's name is on the disk; only if the folder was
+    /// there, the parent need not be one that the caller may read. It fails if the system refuses one
+    /// of these calls, or if the caller may keep no store in the folder, of which nothing is changed
+    /// then.
+    pub fn create(rt: &R, path: &str) -> Result<FolderDisk<R>, FolderFault>
         ensures { IfOk result (λ disk. IsNone (last_error_of disk)) }
     {
-        match fs::DirBuilder::new().mode(0o700).create(rt, path) {
-            Ok(()) => {}
-            Err(error) if error.kind() == io::ErrorKind::AlreadyExists => {}
-            Err(error) => return Err(error),
+        let is_new = make_folder(rt, path)?;
+        if let Err(fault) = sync_name(rt, path, is_new) {
+            if is_new {
+                let _ = fs::remove_dir(rt, path);
+            }
+            return Err(fault);
         }
-        sync_parent(rt, path)?;
         FolderDisk::open(rt, path)
     }
 

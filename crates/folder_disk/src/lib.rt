@@ -10,8 +10,16 @@ mod fault;
 mod folder;
 mod lock;
 mod open_files;
+mod owner;
+mod path;
+mod regular;
 mod transfers;
 
 pub use fault::FileError;
 pub use folder::FolderDisk;
-pub use lock::{FolderLock, LockFault, LockFile};
+pub use lock::{FolderLock, LockError, LockFault, LockFile};
+pub use owner::FolderFault;
+pub use path::FolderPath;
+pub use regular::{
+    Access, RegularFile, create_regular, open_or_create, open_regular, remove_regular,
+};

@@ -1,11 +1,12 @@
 //! Locks on a folder.
 ghost use Rattle.std.specs.Prelude.{◌≡◌};
+ghost use Rattle.std.specs.IoError.{error_kind};
 ghost use Rattle.folder_disk.specs.Locks.{lock_name};
 
-use crate::open_files::with_slash;
-use std::fs::{File, OpenOptions, TryLockError};
+use crate::path::FolderPath;
+use crate::regular::{Access, open_or_create};
+use std::fs::{File, TryLockError};
 use std::io::{self, ErrorKind};
-use std::os::unix::fs::OpenOptionsExt;
 use std::rt::Files;
 use thiserror::Error;
 
@@ -30,6 +31,25 @@ impl LockFile {
     }
 }
 
+/// An error that the system reported of a lock's file.
+#[derive(Debug, Drop, Error)]
+#[error("{}: {error}", .lock.name())]
+pub struct LockError {
+    /// Which file.
+    pub lock: LockFile,
+    /// What the system reported.
+    pub error: io::Error,
+}
+
+impl LockError {
+    /// The kind of the error.
+    pub fn kind(&self) -> ErrorKind
+        ensures { result ≡ error_kind self.now.error }
+    {
+        self.error.kind()
+    }
+}
+
 /// Why a lock was not taken.
 #[derive(Debug, Drop, Error)]
 pub enum LockFault {
@@ -38,7 +58,7 @@ pub enum LockFault {
     Held,
     /// The file could not be opened, made or locked.
     #[error("{0}")]
-    Failed(io::Error),
+    Failed(LockError),
 }
 
 /// A lock on a folder, held until the value is dropped or the process ends. It keeps out only those
@@ -52,13 +72,10 @@ fn open_lock<R: Files + AllocGlobal>(rt: &R, folder: &str, lock: LockFile) -> io
     if folder.is_empty() {
         return Err(ErrorKind::NotFound.into()); // the name of no folder, as it is to `FolderDisk`
     }
-    let mut path = with_slash(rt.alloc(), folder)?;
+    let folder = FolderPath::new(rt.alloc(), folder)?;
+    let mut path = String::from_str(rt.alloc(), folder.as_str())?;
     path.push_str(lock.name())?;
-    OpenOptions::new()
-        .write(true)
-        .create(true)
-        .mode(0o600)
-        .open(rt, path.as_str())
+    Ok(open_or_create(rt, path.as_str(), Access::Write)?.file)
 }
 
 impl FolderLock {
@@ -69,11 +86,14 @@ impl FolderLock {
         folder: &str,
         lock: LockFile,
     ) -> Result<FolderLock, LockFault> {
-        let file = open_lock(rt, folder, lock).map_err(LockFault::Failed)?;
+        let file = match open_lock(rt, folder, lock) {
+            Ok(file) => file,
+            Err(error) => return Err(LockFault::Failed(LockError { lock, error })),
+        };
         match file.try_lock() {
             Ok(()) => Ok(FolderLock { _file: file }),
             Err(TryLockError::WouldBlock) => Err(LockFault::Held),
-            Err(TryLockError::Error(error)) => Err(LockFault::Failed(error)),
+            Err(TryLockError::Error(error)) => Err(LockFault::Failed(LockError { lock, error })),
         }
     }
 }

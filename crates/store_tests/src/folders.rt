@@ -128,13 +128,12 @@ fn a_failure_is_told_with_the_file_and_the_cause(rt: HostRuntime) -> Result<(), 
     let alloc = rt.alloc();
     let path = unused_path(&rt, "failures")?;
     let mut disk = FolderDisk::create(&rt, path.as_str())?;
-    let full = named(alloc, b"full")?;
-    let within = format!(in alloc; "{path}/full")?;
+    let link = named(alloc, b"link")?;
+    let within = format!(in alloc; "{path}/link")?;
     symlink(&rt, "/dev/full", within.as_str())?;
-    assert_eq!(rt; disk.append(&full, b"abc"), Err(DiskFault::Full));
-    assert!(rt; is_told(&disk, &full, ErrorKind::StorageFull));
-    assert_eq!(rt; disk.sync(&full), Err(DiskFault::Failed));
-    assert!(rt; is_told(&disk, &full, ErrorKind::InvalidInput));
+    assert_eq!(rt; disk.create(&link), Err(DiskFault::Exists));
+    assert_eq!(rt; disk.append(&link, b"abc"), Err(DiskFault::Failed));
+    assert!(rt; is_told(&disk, &link, ErrorKind::InvalidInput));
     let folder = named(alloc, b"folder")?;
     let within = format!(in alloc; "{path}/folder")?;
     fs::create_dir(&rt, within.as_str())?;
