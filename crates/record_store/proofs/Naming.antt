@@ -1,16 +1,20 @@
 -- The names of a store's files are names.
-use Rattle.std.proofs.Common.{◌≡◌, inl, inr, ⊎_elim, zero, suc, ℕ, ◌+◌, ◌<◌, ◌≤◌, ◌^◌, ◌/◌, ◌%◌, List, [], ◌∷◌, ◌++◌, length}
+use Rattle.std.proofs.Common.{◌≡◌, ◌≢◌, inl, inr, ⊎_elim, zero, suc, ℕ, ◌+◌, ◌<◌, ◌≤◌, ◌^◌, ◌/◌, ◌%◌, List, [], ◌∷◌, ◌++◌, length}
 use Rattle.std.proofs.Common.{ap, arith, length-append}
 use Rattle.std.specs.Prelude.{All, codes, decimal, slice_index}
 use Rattle.std.specs.List.{AllByRecursion}
 use Rattle.std.proofs.lemmas.List.Elements.{All-append, All-cons, All-get_or, All-nil, All-weaker}
 use Rattle.hex.specs.Hex.{IsBytes, encode_lower, encode_with, lower_digits}
+use Rattle.hex.proofs.HexLemmas.{length-encode_with}
+use Rattle.sha2.proofs.Facts256.{length-sha256}
+use Rattle.sha2.specs.Sha256.{sha256}
 use Rattle.octet_language.specs.Digits.{IsDigit}
 use Rattle.octet_language.proofs.Decimal.{digits_decimal}
 use Rattle.octet_language.proofs.Lists.{AllByRecursion-append}
 use Rattle.disk.specs.Names.{IsFileName, IsNameOctet}
 use Rattle.archive_text.proofs.Members.{all_weaker}
-use Rattle.record_store.specs.Names.{IsDayName, IsHexadecimal, journal_name}
+use Rattle.record_store.specs.Names.{IsDayName, IsHexadecimal, draft_name, journal_name}
+use Rattle.record_store.specs.Segments.{segment_name}
 use Rattle.record_store.proofs.Named.{journal_length}
 
 all_of : (P : ℕ → Type 0) (xs : List ℕ) → AllByRecursion P xs → All P xs
@@ -125,3 +129,16 @@ segment_is_name day hex long are is =
           (All-append IsNameOctet day (46 ∷ hex) is.each (All-cons IsNameOctet 46 hex dot (digits_are hex are)))
           (all_of IsNameOctet (codes ".archive") ending_octets);
     }
+
+-- a segment is not called as a draft is
+pub segment_no_draft : (period text : List ℕ) → segment_name period text ≢ draft_name
+segment_no_draft period text same =
+    let hex = encode_lower (sha256 text) in
+    omega (
+      arith,
+      ap length same,
+      length-append (period ++ 46 ∷ hex) (codes ".archive"),
+      length-append period (46 ∷ hex),
+      length-encode_with lower_digits (sha256 text),
+      length-sha256 text,
+    )

@@ -1,5 +1,6 @@
--- Segments that a read shows stay.
-use Rattle.std.proofs.Common.{◌≡◌, ◌≢◌, ◌⊎◌, inl, inr, ⊎_elim, ℕ, ◌<◌, ◌^◌, List, sym, ap, subst, ◌∙◌}
+-- Segments that a read shows stay, and few come.
+use Rattle.std.proofs.Common.{◌≡◌, ◌≢◌, ◌⊎◌, inl, inr, ⊎_elim, ℕ, ◌+◌, ◌<◌, ◌≤◌, ◌^◌, List, [], ◌∷◌, ◌++◌, sym, ap, subst}
+use Rattle.std.proofs.Common.{◌∙◌, arith, length-append}
 use Rattle.std.specs.Prelude.{Err, Ok, Option, Result, Some}
 use Rattle.std.specs.Option.{option_map}
 use Rattle.disk.specs.Calls.{FailsAt, IsUnchanged, RemovesFile, RenamesFile, SyncsNames}
@@ -7,11 +8,12 @@ use Rattle.disk.specs.Files.{File, settled}
 use Rattle.disk.specs.Memory.{shown_now}
 use Rattle.disk.specs.States.{State}
 use Rattle.disk.specs.declared.fault.DiskFault.{DiskFault}
+use Rattle.archive_text.proofs.Members.{all_left, all_right}
 use Rattle.journal.specs.Journals.{KeepsOrSettlesOthers, Shows}
 use Rattle.record_store.specs.Keeping.{Brings}
 use Rattle.record_store.specs.Names.{Counts, IsSegment, journal_name}
 use Rattle.record_store.specs.Puts.{ShowsOldOr}
-use Rattle.record_store.specs.Segments.{SegmentsStay}
+use Rattle.record_store.specs.Segments.{SegmentsGrow, SegmentsStay}
 use Rattle.record_store.proofs.Named.{not_both, same_or_apart}
 use Rattle.record_store.proofs.Placed.{settled_either}
 
@@ -44,13 +46,54 @@ module _ (zero one two : State) (draft name text : List ℕ)
   put_shows three result renames syncs =
       inr (synced_shows two three name result syncs ∙ renamed_shows one two draft name text whole renames)
 
+-- ---- segments that come
+
+pub grow_then : (most more : ℕ) (a b c : State) → SegmentsGrow most a b → SegmentsGrow more b c
+    → SegmentsGrow (most + more) a c
+grow_then most more a b c one other = record {
+  stay = λ period name octets segment shown.
+      other.stay period name octets segment (one.stay period name octets segment shown);
+  names = one.names ++ other.names;
+  few = omega (arith, length-append one.names other.names, one.few, other.few);
+  others = λ period name segment apart.
+      other.others period name segment (all_right (λ (n : List ℕ). name ≢ n) one.names other.names apart)
+      ∙ one.others period name segment (all_left (λ (n : List ℕ). name ≢ n) one.names other.names apart);
+}
+
+pub grow_less : (most more : ℕ) (a b : State) → most ≤ more → SegmentsGrow most a b → SegmentsGrow more a b
+grow_less most more a b less grow = record {
+  stay = grow.stay;
+  names = grow.names;
+  few = omega (arith, less, grow.few);
+  others = grow.others;
+}
+
+-- a read shows the same under each name of a segment
+pub none_grow : (a b : State) → ((period name : List ℕ) → IsSegment period name
+    → shown_now (b.entries name) ≡ shown_now (a.entries name)) → SegmentsGrow 0 a b
+none_grow a b same = record {
+  stay = λ period name octets segment shown. same period name segment ∙ shown;
+  names = [];
+  few = omega arith;
+  others = λ period name segment apart. same period name segment;
+}
+
 -- ---- beside a segment that is brought, and beside journals
 
-pub brought_stay : (old new : State) (draft name text : List ℕ) → ¬ (Counts draft) → Brings old new draft name text
+-- every name but those of the draft and of the segment
+brought_others : (old new : State) (draft name text : List ℕ) → ¬ (Counts draft) → Brings old new draft name text
+    → (period n : List ℕ) → IsSegment period n → n ≢ name
+    → shown_now (new.entries n) ≡ shown_now (old.entries n)
+brought_others old new draft name text apart (inl same) period n segment other = ap shown_now (same.entries n)
+brought_others old new draft name text apart (inr puts) period n segment other =
+    ⊎_elim (λ same. ap shown_now same) (λ on_disk. ap shown_now on_disk)
+    (puts.others n (λ is. apart (subst Counts is (inr (period, segment)))) other)
+
+brought_stay : (old new : State) (draft name text : List ℕ) → ¬ (Counts draft) → Brings old new draft name text
     → SegmentsStay old new
-brought_stay old new draft name text apart (inl same) day n octets segment shown =
+brought_stay old new draft name text apart (inl same) period n octets segment shown =
     ap shown_now (same.entries n) ∙ shown
-brought_stay old new draft name text apart (inr puts) day n octets segment shown =
+brought_stay old new draft name text apart (inr puts) period n octets segment shown =
     ⊎_elim
     (λ (here : n ≡ name).
     let at : shown_now (old.entries name) ≡ Some octets =
@@ -59,27 +102,33 @@ brought_stay old new draft name text apart (inr puts) day n octets segment shown
     ⊎_elim (λ none. absurd (cc (none, at))) (λ some. sym some ∙ at) puts.shown in
     ap (λ (m : List ℕ). shown_now (new.entries m)) here
     ∙ ⊎_elim (λ before. before ∙ at) (λ whole. whole ∙ text_is) puts.shows)
-    (λ (other : n ≢ name).
-    ⊎_elim (λ same. ap shown_now same ∙ shown) (λ on_disk. ap shown_now on_disk ∙ shown)
-    (puts.others n (λ is. apart (subst Counts is (inr (day, segment)))) other))
+    (λ (other : n ≢ name). brought_others old new draft name text apart (inr puts) period n segment other ∙ shown)
     (same_or_apart n name)
 
-pub stay_then : (a b c : State) → SegmentsStay a b → SegmentsStay b c → SegmentsStay a c
-stay_then a b c one other day name octets segment shown =
-    other day name octets segment (one day name octets segment shown)
+pub brought_grow : (old new : State) (draft name text : List ℕ) → ¬ (Counts draft) → Brings old new draft name text
+    → SegmentsGrow 1 old new
+brought_grow old new draft name text apart brings = record {
+  stay = brought_stay old new draft name text apart brings;
+  names = name ∷ [];
+  few = omega arith;
+  others = λ period n segment other. brought_others old new draft name text apart brings period n segment other.0;
+}
 
-no_journal : (day name : List ℕ) (number : ℕ) → number < 2 ^ 64 → name ≡ journal_name number → ¬ (IsSegment day name)
-no_journal day name number small is segment =
-    not_both day name (record { number = number; small = small; name_is = is }) segment
+no_journal : (period name : List ℕ) (number : ℕ) → number < 2 ^ 64 → name ≡ journal_name number
+    → ¬ (IsSegment period name)
+no_journal period name number small is segment =
+    not_both period name (record { number = number; small = small; name_is = is }) segment
 
-pub made_stay : (old new : State) (number : ℕ) → number < 2 ^ 64
-    → KeepsOrSettlesOthers old new (journal_name number) → SegmentsStay old new
-made_stay old new number small others day name octets segment shown =
-    ⊎_elim (λ same. ap shown_now same ∙ shown) (λ on_disk. ap shown_now on_disk ∙ shown)
-    (others name (λ is. no_journal day name number small is segment))
+pub made_grow : (old new : State) (number : ℕ) → number < 2 ^ 64
+    → KeepsOrSettlesOthers old new (journal_name number) → SegmentsGrow 0 old new
+made_grow old new number small others =
+    none_grow old new (λ period name segment.
+    ⊎_elim (λ same. ap shown_now same) (λ on_disk. ap shown_now on_disk)
+    (others name (λ is. no_journal period name number small is segment)))
 
-pub removed_stay : (old new : State) (number : ℕ) → number < 2 ^ 64
-    → IsUnchanged old new ⊎ RemovesFile old new (journal_name number) → SegmentsStay old new
-removed_stay old new number small (inl same) day name octets segment shown = ap shown_now (same.entries name) ∙ shown
-removed_stay old new number small (inr removes) day name octets segment shown =
-    ap shown_now (removes.entry.others name (λ is. no_journal day name number small is segment)) ∙ shown
+pub removed_grow : (old new : State) (number : ℕ) → number < 2 ^ 64
+    → IsUnchanged old new ⊎ RemovesFile old new (journal_name number) → SegmentsGrow 0 old new
+removed_grow old new number small (inl same) = none_grow old new (λ period name segment. ap shown_now (same.entries name))
+removed_grow old new number small (inr removes) =
+    none_grow old new (λ period name segment.
+    ap shown_now (removes.entry.others name (λ is. no_journal period name number small is segment)))

@@ -1,5 +1,5 @@
 -- What a folder holds.
-use Rattle.std.specs.Prelude.{◌≡◌, ◌⊎◌, ℕ, ◌≤◌, List, [], ◌∷◌, Option, None, Some, length}
+use Rattle.std.specs.Prelude.{◌≡◌, ◌⊎◌, ℕ, ◌≤◌, List, [], ◌∷◌, Option, None, Some, codes, length}
 use Rattle.std.specs.List.{AllByRecursion}
 use Rattle.disk.specs.States.{Files}
 use Rattle.journal.specs.Batches.{HasBatches}
@@ -43,12 +43,17 @@ pub record JournalHas (file : List ℕ) (e : Entry) : Type 0 where
   pub batches : HasBatches file bodies
   pub has : BatchesHave bodies e
 
--- a segment's file is an archive of entries of its day, and this is one of them
-pub record SegmentHas (day file : List ℕ) (e : Entry) : Type 0 where
+-- the entry may be in a segment whose name begins so: it is of that day (or has no time, in `undated`); in `mixed` any
+-- may be
+abbrev pub IsOfPeriod : List ℕ → Entry → Type 0
+IsOfPeriod period e = IsIn Day period e ⊎ (period ≡ codes "mixed")
+
+-- a segment's file is an archive of entries of its period, and this is one of them
+pub record SegmentHas (period file : List ℕ) (e : Entry) : Type 0 where
   pub entries : List Entry
   pub archive : IsArchive ENTRY_MAX entries
   pub text_is : file ≡ text_of entries
-  pub days : AllByRecursion (IsIn Day day) entries
+  pub days : AllByRecursion (IsOfPeriod period) entries
   pub has : Has entries e
 
 -- the file under a name has the entry, as a journal or as a segment

@@ -1,5 +1,5 @@
 -- Segments, as they are written.
-use Rattle.std.specs.Prelude.{◌≡◌, ◌⊎◌, ℕ, ◌^◌, ◌<◌, List, ◌∷◌, ◌++◌, Option, Some, codes, false}
+use Rattle.std.specs.Prelude.{◌≡◌, ◌≢◌, ◌⊎◌, ℕ, ◌^◌, ◌<◌, ◌≤◌, List, ◌∷◌, ◌++◌, Option, Some, codes, false, length}
 use Rattle.std.specs.List.{AllByRecursion}
 use Rattle.disk.specs.Memory.{shown_now}
 use Rattle.disk.specs.States.{NameMayLeave, State, kept}
@@ -9,10 +9,8 @@ use Rattle.sha2.specs.Sha256.{sha256}
 use Rattle.archive_text.specs.Entries.{Entry, Has}
 use Rattle.archive_text.specs.Text.{IsArchive, text_of}
 use Rattle.archive_text.specs.declared.limits.TheConstants.{ENTRY_MAX}
-use Rattle.archive_digest.specs.Periods.{IsIn}
-use Rattle.archive_digest.specs.declared.period.Period.TheVariants.{Day}
 use Rattle.record_store.specs.Causes.{IsDraftCause}
-use Rattle.record_store.specs.Holdings.{HeldAt}
+use Rattle.record_store.specs.Holdings.{HeldAt, IsOfPeriod}
 use Rattle.record_store.specs.Names.{Counts, IsDayName, IsSegment, journal_name}
 use Rattle.record_store.specs.Stores.{AreAmong}
 use Rattle.record_store.specs.declared.segment.SegmentDraft.{SegmentDraft}
@@ -33,11 +31,11 @@ pub record Drafts (draft : SegmentDraft) (state : State) (text : List ℕ) : Typ
   pub sound : state.lost ≡ false
   pub hashed : Holds256 draft.hasher text
 
--- a text is the archive of these entries of a day
-pub record IsSegmentOf (day text : List ℕ) (es : List Entry) : Type 0 where
+-- a text is the archive of these entries of a period
+pub record IsSegmentOf (period text : List ℕ) (es : List Entry) : Type 0 where
   pub archive : IsArchive ENTRY_MAX es
   pub text_is : text ≡ text_of es
-  pub days : AllByRecursion (IsIn Day day) es
+  pub days : AllByRecursion (IsOfPeriod period) es
 
 -- a text is the archive of some entries of a day
 abbrev pub IsArchiveOfDay : List ℕ → List ℕ → Type 0
@@ -77,3 +75,11 @@ IsSegmentCause tells failed state draft day No_day = ¬ (IsDayName day)
 abbrev pub SegmentsStay : State → State → Type 0
 SegmentsStay old new = (day name octets : List ℕ) → IsSegment day name
     → shown_now (old.entries name) ≡ Some octets → shown_now (new.entries name) ≡ Some octets
+
+-- a read shows each segment that it showed, with the same octets, and beside these at most so many others
+pub record SegmentsGrow (most : ℕ) (old new : State) : Type 0 where
+  pub stay : SegmentsStay old new
+  pub names : List (List ℕ)
+  pub few : length names ≤ most
+  pub others : (period name : List ℕ) → IsSegment period name → AllByRecursion (λ n. name ≢ n) names
+      → shown_now (new.entries name) ≡ shown_now (old.entries name)

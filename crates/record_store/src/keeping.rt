@@ -184,7 +184,7 @@ impl SegmentDraft {
     ghost use Rattle.record_store.specs.Crashes.{Keeps};
     ghost use Rattle.record_store.specs.Keeping.{IsDraftOf, IsKeepCause, IsTaken};
     ghost use Rattle.record_store.specs.Names.{Counts, journal_name};
-    ghost use Rattle.record_store.specs.Segments.{Drafts, JournalsSettle, SegmentsStay, draft_of};
+    ghost use Rattle.record_store.specs.Segments.{Drafts, JournalsSettle, SegmentsGrow, draft_of};
     ghost use Rattle.record_store.specs.Segments.{segment_name};
     ghost use Rattle.record_store.specs.Turns.{HeldApart};
 
@@ -214,7 +214,7 @@ impl SegmentDraft {
             → HeldApart (D.state disk.new) name others }
 
         ensures segments { D.tells disk.new → (text : List ℕ) → Drafts self (D.state disk.old) text
-            → ¬ (Counts (draft_of self)) → SegmentsStay (D.state disk.old) (D.state disk.new) }
+            → ¬ (Counts (draft_of self)) → SegmentsGrow 1 (D.state disk.old) (D.state disk.new) }
 
         // a file of other octets stays as it is
         ensures stays { D.tells disk.new → IsTaken self (D.state disk.old) day.now
@@ -242,7 +242,7 @@ impl RecordStore {
     ghost use Rattle.archive_text.specs.Entries.{Entry};
     ghost use Rattle.record_store.specs.Keeping.{IsDraftOf, IsKeepCause, IsTaken};
     ghost use Rattle.record_store.specs.Names.{Counts, journal_name};
-    ghost use Rattle.record_store.specs.Segments.{Drafts, SegmentsStay, draft_of};
+    ghost use Rattle.record_store.specs.Segments.{Drafts, SegmentsGrow, draft_of};
     ghost use Rattle.record_store.specs.Stores.{IsBroken, IsSameButBroken, Sets, Stands};
     ghost use Rattle.record_store.specs.Turns.{HeldApart};
 
@@ -275,7 +275,7 @@ impl RecordStore {
             → HeldApart (D.state disk.new) name others }
 
         ensures segments { D.tells disk.new → (text : List ℕ) → Drafts draft (D.state disk.old) text
-            → ¬ (Counts (draft_of draft)) → SegmentsStay (D.state disk.old) (D.state disk.new) }
+            → ¬ (Counts (draft_of draft)) → SegmentsGrow 1 (D.state disk.old) (D.state disk.new) }
 
         // a file of other octets stays as it is
         ensures stays { D.tells disk.new → IsTaken draft (D.state disk.old) day.now

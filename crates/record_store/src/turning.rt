@@ -8,7 +8,7 @@ ghost use Rattle.archive_text.specs.Entries.{Entry};
 ghost use Rattle.record_store.specs.Causes.{IsCause};
 ghost use Rattle.record_store.specs.Crashes.{Keeps};
 ghost use Rattle.record_store.specs.Names.{journal_name};
-ghost use Rattle.record_store.specs.Segments.{SegmentsStay};
+ghost use Rattle.record_store.specs.Segments.{SegmentsGrow};
 ghost use Rattle.record_store.specs.Shown.{ShowsWithin, journal_shown};
 ghost use Rattle.record_store.specs.Stores.{IsBroken, IsReady, IsWhole, Sets, Stands};
 ghost use Rattle.record_store.specs.Stores.{journal_of, number_of};
@@ -97,7 +97,7 @@ fn succeed<D: Disk>(alloc: Global, disk: &mut D, number: u64) -> Result<Journal,
     ensures shows { D.tells disk.new → (store : RecordStore) (since : List Entry)
         → IsReady store (D.state disk.old) since → number_of store ≡ number
         → ShowsWithin (D.state disk.new) since }
-    ensures segments { D.tells disk.new → SegmentsStay (D.state disk.old) (D.state disk.new) }
+    ensures segments { D.tells disk.new → SegmentsGrow 0 (D.state disk.old) (D.state disk.new) }
 
     ensures fits { OnOk result (number + 1 < 2 ^ 64) }
     ensures removed { OnOk result (D.tells disk.new
@@ -134,7 +134,7 @@ impl RecordStore {
             → Stands self.new (D.state disk.new) sets) }
 
         // whatever the result is: so at every moment
-        ensures segments { D.tells disk.new → SegmentsStay (D.state disk.old) (D.state disk.new) }
+        ensures segments { D.tells disk.new → SegmentsGrow 0 (D.state disk.old) (D.state disk.new) }
 
         ensures number { OnOk result (number_of self.new ≡ number_of self.old + 1) }
         ensures removed { OnOk result (D.tells disk.new

@@ -2,7 +2,7 @@
 use Rattle.std.proofs.Common.{◌≡◌, ◌⊎◌, ℕ, ◌<◌, ◌≤◌, List, [], ◌∷◌, ◌++◌, Option, None, Some, length, take, drop}
 use Rattle.std.proofs.Common.{inl, inr}
 use Rattle.std.proofs.Common.{refl, sym, ap, subst, ◌∙◌, append_assoc, arith, length-append}
-use Rattle.std.specs.Prelude.{◌↔◌, Err, IfOk, IfSome, IsErrOf, IsSomeAnd, Ok, Result, Vec, ℤ}
+use Rattle.std.specs.Prelude.{◌↔◌, Err, IfOk, IfSome, IsErrOf, IsSomeAnd, Ok, Result, Vec, ℤ, codes}
 use Rattle.std.specs.Int.{to_le_bytes, w32}
 use Rattle.std.specs.List.{AllByRecursion}
 use Rattle.std.proofs.lemmas.List.{append-nil, length-take, take_all, take_at, drop_at}
@@ -25,10 +25,12 @@ use Rattle.archive_text.specs.declared.store.Added.{Added}
 use Rattle.archive_text.proofs.Members.{all_append, has_either, has_left, has_right}
 use Rattle.archive_text.proofs.Places.{adds_has}
 use Rattle.archive_text.proofs.Texts.{one_entry_of, text_goes_on}
-use Rattle.record_store.specs.Holdings.{BatchHas, BatchesHave, IsBatch, IsReadable, JournalHas}
+use Rattle.archive_sets.specs.declared.range.InRange.{InRange}
+use Rattle.record_store.specs.Holdings.{BatchHas, BatchesHave, IsBatch, IsReadable, JournalHas, SegmentHas}
 use Rattle.record_store.specs.Names.{IsJournal}
 use Rattle.record_store.proofs.Batches.{batch_has, journal_has, push_has, pushed_either, pushed_has}
-use Rattle.store_reading.specs.Journals.{Adds, AddsJournal, HasAsJournal, IsOfJournals, JournalsHave, NamedJournalsHave}
+use Rattle.store_reading.specs.Journals.{Adds, AddsJournal, HasAsJournal, HasInMemory, IsOfMemory, MemoryHas}
+use Rattle.store_reading.specs.Journals.{NamedMemoryHas}
 use Rattle.store_reading.specs.Folders.{AreNamesOf}
 use Rattle.store_reading.proofs.Held.{listed_name, no_name, some_before, some_either, some_last}
 
@@ -104,7 +106,7 @@ batch_begun old body = record {
   adds = adds_none old (Has []) (λ e h. h);
 }
 
-has_push : (es : List Entry) (e x : Entry) → Has (es ++ e ∷ []) x ↔ (Has es x ⊎ (e ≡ x))
+pub has_push : (es : List Entry) (e x : Entry) → Has (es ++ e ∷ []) x ↔ (Has es x ⊎ (e ≡ x))
 has_push es e x = (there, back)
   where
     there : Has (es ++ e ∷ []) x → Has es x ⊎ (e ≡ x)
@@ -244,56 +246,61 @@ file_added None left old new opens adds = absurd opens
 file_added (Some f) left old new opens adds =
     subst (λ (l : Option (List ℕ)). IfSome l (λ (input : List ℕ). Adds old new (JournalHas input))) opens adds
 
--- ---- the journals of names
+-- ---- the files of names
 
 pub no_journal : (files : Files) (name : List ℕ) (old : List Entry) → ¬ (IsJournal name)
     → Adds old old (HasAsJournal files name)
 no_journal files name old not = adds_none old (HasAsJournal files name) (λ e h. not h.0)
 
-pub names_none : (files : Files) (old : List Entry) → Adds old old (NamedJournalsHave files [])
-names_none files old =
-    adds_none old (NamedJournalsHave files []) (λ e h. no_name (λ (n : List ℕ). HasAsJournal files n e) h)
+pub names_none : (files : Files) (range : InRange) (old : List Entry) → Adds old old (NamedMemoryHas files range [])
+names_none files range old =
+    adds_none old (NamedMemoryHas files range []) (λ e h. no_name (λ (n : List ℕ). HasInMemory files range n e) h)
 
-pub names_more : (files : Files) (names : List (List ℕ)) (name : List ℕ) (old mid new : List Entry)
-    → Adds old mid (NamedJournalsHave files names) → Adds mid new (HasAsJournal files name)
-    → Adds old new (NamedJournalsHave files (names ++ name ∷ []))
-names_more files names name old mid new a b =
-    adds_then old mid new (NamedJournalsHave files names) (HasAsJournal files name)
-    (NamedJournalsHave files (names ++ name ∷ [])) a b
+pub names_more : (files : Files) (range : InRange) (names : List (List ℕ)) (name : List ℕ) (old mid new : List Entry)
+    → Adds old mid (NamedMemoryHas files range names) → Adds mid new (HasInMemory files range name)
+    → Adds old new (NamedMemoryHas files range (names ++ name ∷ []))
+names_more files range names name old mid new a b =
+    adds_then old mid new (NamedMemoryHas files range names) (HasInMemory files range name)
+    (NamedMemoryHas files range (names ++ name ∷ [])) a b
     (λ e. (
-      λ h. some_either names name (λ (n : List ℕ). HasAsJournal files n e) h,
+      λ h. some_either names name (λ (n : List ℕ). HasInMemory files range n e) h,
       λ h. elim h [
-        | inl k ↦ some_before names name (λ (n : List ℕ). HasAsJournal files n e) k
-        | inr k ↦ some_last names name (λ (n : List ℕ). HasAsJournal files n e) k
+        | inl k ↦ some_before names name (λ (n : List ℕ). HasInMemory files range n e) k
+        | inr k ↦ some_last names name (λ (n : List ℕ). HasInMemory files range n e) k
       ],
     ))
 
-pub of_journals : (files : Files) (names : List (List ℕ)) (old new : List Entry) (text : List ℕ)
+of_memory : (files : Files) (range : InRange) (names : List (List ℕ)) (old new : List Entry) (text : List ℕ)
     → AreNamesOf files names
-    → old ≡ [] → Adds old new (NamedJournalsHave files names) → IsArchive ENTRY_MAX new → text ≡ text_of new
-    → IsOfJournals files text
-of_journals files names old new text listed none adds archive is = record {
+    → old ≡ [] → Adds old new (NamedMemoryHas files range names) → IsArchive ENTRY_MAX new → text ≡ text_of new
+    → IsOfMemory files range text
+of_memory files range names old new text listed none adds archive is = record {
   entries = new;
   archive = archive;
   text_is = is;
   have = λ e. (λ h. there e ((adds e).0 h), λ h. (adds e).1 (inr (back e h)));
 }
   where
-    there : (e : Entry) → Has old e ⊎ NamedJournalsHave files names e → JournalsHave files e
+    there : (e : Entry) → Has old e ⊎ NamedMemoryHas files range names e → MemoryHas files range e
     there e (inl h) = absurd (subst (λ (l : List Entry). Has l e) none h)
-    there e (inr (name, has, journal)) = (name, journal)
+    there e (inr (name, has, in_memory)) = (name, in_memory)
 
-    back : (e : Entry) → JournalsHave files e → NamedJournalsHave files names e
-    back e (name, (journal, some)) =
-        (name, listed_name files names name (λ file. JournalHas file e) listed some, (journal, some))
+    back : (e : Entry) → MemoryHas files range e → NamedMemoryHas files range names e
+    back e (name, inl (journal, some)) =
+        (name, listed_name files names name (λ file. JournalHas file e) listed some, inl (journal, some))
+    back e (name, inr ((segment, some), inside)) = (
+      name,
+      listed_name files names name (λ file. SegmentHas (codes "mixed") file e) listed some,
+      inr ((segment, some), inside),
+    )
 
-pub text_of_journals : {Z E : Type 0} (files : Files) (names : List (List ℕ)) (old new : List Entry)
+pub text_of_memory : {Z E : Type 0} (files : Files) (range : InRange) (names : List (List ℕ)) (old new : List Entry)
     (r : Result (Vec ℕ Z) E)
-    → AreNamesOf files names → old ≡ [] → Adds old new (NamedJournalsHave files names) → IsArchive ENTRY_MAX new
-    → IfOk r (λ v. v.items ≡ text_of new) → IfOk r (λ v. IsOfJournals files v.items)
-text_of_journals files names old new (Err e) listed none adds archive is = tt
-text_of_journals files names old new (Ok v) listed none adds archive is =
-    of_journals files names old new v.items listed none adds archive is
+    → AreNamesOf files names → old ≡ [] → Adds old new (NamedMemoryHas files range names) → IsArchive ENTRY_MAX new
+    → IfOk r (λ v. v.items ≡ text_of new) → IfOk r (λ v. IsOfMemory files range v.items)
+text_of_memory files range names old new (Err e) listed none adds archive is = tt
+text_of_memory files range names old new (Ok v) listed none adds archive is =
+    of_memory files range names old new v.items listed none adds archive is
 
 pub named_added : (files : Files) (name : List ℕ) (d : InputState) (old new : List Entry) → IsJournal name
     → IsSomeAnd (files name) (λ octets. d.left ≡ Some octets) → AddsJournal d old new

@@ -22,11 +22,10 @@ use Rattle.archive_join.specs.Joined.{IsCauseIn}
 use Rattle.archive_join.specs.declared.fault.JoinFault.{JoinFault}
 use Rattle.archive_join.specs.declared.fault.JoinFault.TheVariants.{Archive, Read as join_Read, Endless}
 use Rattle.archive_join.specs.declared.fault.JoinFault.TheVariants.{Write as join_Write, Memory as join_Memory}
-use Rattle.record_store.specs.Names.{IsJournal}
-use Rattle.store_reading.specs.Causes.{Causes, IsCause, IsDamagedIn, IsDamagedOf, IsFolderCause}
-use Rattle.store_reading.specs.Causes.{IsListedSegment, IsOpenCause, IsReadOf, WriterFailures, file_causes}
+use Rattle.store_reading.specs.Causes.{Causes, IsCause, IsDamagedIn, IsDamagedInMemory, IsDamagedOf, IsFolderCause}
+use Rattle.store_reading.specs.Causes.{IsListedSegment, IsOfMemoryName, IsOpenCause, IsReadOf, WriterFailures, file_causes}
 use Rattle.store_reading.specs.Causes.{list_causes, open_causes, reading_causes}
-use Rattle.store_reading.specs.Damages.{IsDamagedJournal, IsDamagedSegment, OfLeft, Tells}
+use Rattle.store_reading.specs.Damages.{IsDamagedSegment, OfLeft, Tells}
 use Rattle.store_reading.specs.Faults.{IsFaultAt, IsFaultOfInput, IsInputNamed, IsJoinFault}
 use Rattle.store_reading.specs.Folders.{AreNamesOf, Opens}
 use Rattle.store_reading.specs.Ranges.{MayMeet}
@@ -124,15 +123,15 @@ some_where None left P opened of = absurd opened
 some_where (Some file) left P opened of = of file opened
 
 pub checked_cause : (tells failed : Type 0) (files : Files) (IsRead : List ℕ → Type 0)
-    (IsDamaged : List ℕ → FileFault → Type 0) (name copy : List ℕ) (d : InputState) (fault : CheckFault)
+    (IsDamaged : List ℕ → List ℕ → FileFault → Type 0) (name copy : List ℕ) (d : InputState) (fault : CheckFault)
     (found : ReadFault) → IsRead name → (tells → Opens files name d)
-    → OfLeft d (λ file. Tells fault (IsDamaged file)) → copy ≡ name → IsFaultAt copy fault found
+    → OfLeft d (λ file. Tells fault (IsDamaged name file)) → copy ≡ name → IsFaultAt copy fault found
     → IsCause (file_causes tells failed files IsRead IsDamaged) found
 checked_cause tells failed files IsRead IsDamaged name copy d (check_Damaged fault) found read opened told same is =
     subst (IsCause (file_causes tells failed files IsRead IsDamaged)) (sym is)
-    (subst (λ (n : List ℕ). IsRead n × (tells → IsSomeAnd (files n) (λ file. IsDamaged file fault))) (sym same) (
+    (subst (λ (n : List ℕ). IsRead n × (tells → IsSomeAnd (files n) (λ file. IsDamaged n file fault))) (sym same) (
       read,
-      λ t. some_where (files name) d.left (λ (file : List ℕ). IsDamaged file fault) (opened t) told,
+      λ t. some_where (files name) d.left (λ (file : List ℕ). IsDamaged name file fault) (opened t) told,
     ))
 checked_cause tells failed files IsRead IsDamaged name copy d (Input fault) found read opened told same is =
     subst (IsCause (file_causes tells failed files IsRead IsDamaged)) (sym is) (subst IsRead (sym same) read)
@@ -143,7 +142,7 @@ checked_cause tells failed files IsRead IsDamaged name copy d check_Memory found
 
 -- the files that are read are among others, and what is so of the files before is so of those since
 module _ (tells failed now : Type 0) (one two : Files) (IsRead IsOther : List ℕ → Type 0)
-    (IsDamaged : List ℕ → FileFault → Type 0) (still : failed → now) (same : tells → one ≡ two)
+    (IsDamaged : List ℕ → List ℕ → FileFault → Type 0) (still : failed → now) (same : tells → one ≡ two)
     (among : (name : List ℕ) → IsRead name → IsOther name) where
   pub file_cause : (fault : ReadFault) → IsCause (file_causes tells failed one IsRead IsDamaged) fault
       → IsCause (file_causes tells now two IsOther IsDamaged) fault
@@ -152,7 +151,7 @@ module _ (tells failed now : Type 0) (one two : Files) (IsRead IsOther : List �
       among
       (λ name damage told. (
         among name told.0,
-        λ t. subst (λ (f : Files). IsSomeAnd (f name) (λ file. IsDamaged file damage)) (same t) (told.1 t),
+        λ t. subst (λ (f : Files). IsSomeAnd (f name) (λ file. IsDamaged name file damage)) (same t) (told.1 t),
       )) (λ none. none) fault is
 
   pub file_result : {T : Type 0} (r : Result T ReadFault)
@@ -161,12 +160,36 @@ module _ (tells failed now : Type 0) (one two : Files) (IsRead IsOther : List �
   file_result (Ok x) is = tt
   file_result (Err fault) is = file_cause fault is
 
--- ---- a range
-
 some_more : (o : Option (List ℕ)) (P Q : List ℕ → Type 0) → ((file : List ℕ) → P file → Q file) → IsSomeAnd o (λ file. P file)
     → IsSomeAnd o (λ file. Q file)
 some_more None P Q more some = some
 some_more (Some file) P Q more some = more file some
+
+-- and so is what is told as their damage
+module _ (tells failed now : Type 0) (one two : Files) (IsRead IsOther : List ℕ → Type 0)
+    (IsDamaged IsMore : List ℕ → List ℕ → FileFault → Type 0) (still : failed → now) (same : tells → one ≡ two)
+    (among : (name : List ℕ) → IsRead name → IsOther name)
+    (damaged : (name file : List ℕ) (fault : FileFault) → IsRead name → IsDamaged name file fault → IsMore name file fault)
+    where
+  pub wider_cause : (fault : ReadFault) → IsCause (file_causes tells failed one IsRead IsDamaged) fault
+      → IsCause (file_causes tells now two IsOther IsMore) fault
+  wider_cause fault is =
+      cause_weaker (file_causes tells failed one IsRead IsDamaged) (file_causes tells now two IsOther IsMore) still
+      among
+      (λ name damage told. (
+        among name told.0,
+        λ t. subst (λ (f : Files). IsSomeAnd (f name) (λ file. IsMore name file damage)) (same t)
+            (some_more (one name) (λ file. IsDamaged name file damage) (λ file. IsMore name file damage)
+            (λ file so. damaged name file damage told.0 so) (told.1 t)),
+      )) (λ none. none) fault is
+
+  pub wider_result : {T : Type 0} (r : Result T ReadFault)
+      → IfErr r (IsCause (file_causes tells failed one IsRead IsDamaged))
+      → IfErr r (IsCause (file_causes tells now two IsOther IsMore))
+  wider_result (Ok x) is = tt
+  wider_result (Err fault) is = wider_cause fault is
+
+-- ---- a range
 
 -- the files stayed the same
 pub reading_still : (tells before failed : Type 0) (one two : Files) (range : InRange) → (tells → before)
@@ -186,17 +209,17 @@ reading_result tells before failed one two range (Ok x) told same is = tt
 reading_result tells before failed one two range (Err fault) told same is =
     reading_still tells before failed one two range told same fault is
 
-pub journals_cause : (tells failed : Type 0) (files : Files) (range : InRange) (fault : ReadFault)
-    → IsCause (file_causes tells failed files (λ (n : List ℕ). IsJournal n × (tells → IsSome (files n)))
-    IsDamagedJournal) fault → IsCause (reading_causes tells failed files range) fault
-journals_cause tells failed files range fault is =
+pub memory_cause : (tells failed : Type 0) (files : Files) (range : InRange) (fault : ReadFault)
+    → IsCause (file_causes tells failed files (λ (n : List ℕ). IsOfMemoryName n × (tells → IsSome (files n)))
+    IsDamagedInMemory) fault → IsCause (reading_causes tells failed files range) fault
+memory_cause tells failed files range fault is =
     cause_weaker
-    (file_causes tells failed files (λ (n : List ℕ). IsJournal n × (tells → IsSome (files n))) IsDamagedJournal)
+    (file_causes tells failed files (λ (n : List ℕ). IsOfMemoryName n × (tells → IsSome (files n))) IsDamagedInMemory)
     (reading_causes tells failed files range) (λ same. same)
     (λ name read. record { counts = inl read.0; there = read.1 })
-    (λ name damage told t. some_more (files name) (λ file. IsDamagedJournal file damage)
-    (λ file. (IsJournal name × IsDamagedJournal file damage) ⊎ IsDamagedIn range name file damage)
-    (λ file damaged. inl (told.0.0, damaged)) (told.1 t)) (λ none. absurd none) fault is
+    (λ name damage told t. some_more (files name) (λ file. IsDamagedInMemory name file damage)
+    (λ file. IsDamagedInMemory name file damage ⊎ IsDamagedIn range name file damage)
+    (λ file damaged. inl damaged) (told.1 t)) (λ none. absurd none) fault is
 
 -- a name that is listed has a file
 module _ (tells failed : Type 0) (files : Files) (range : InRange) (day : List ℕ) (names : List (List ℕ))
@@ -208,13 +231,13 @@ module _ (tells failed : Type 0) (files : Files) (range : InRange) (day : List �
   }
 
   pub day_cause : (before : Type 0) → (tells → before) → (fault : ReadFault)
-      → IsCause (file_causes before failed files (IsListedSegment names day) (IsDamagedSegment day)) fault
+      → IsCause (file_causes before failed files (IsListedSegment names day) (λ n. IsDamagedSegment day)) fault
       → IsCause (reading_causes tells failed files range) fault
   day_cause before told fault is =
-      cause_weaker (file_causes before failed files (IsListedSegment names day) (IsDamagedSegment day))
+      cause_weaker (file_causes before failed files (IsListedSegment names day) (λ n. IsDamagedSegment day))
       (reading_causes tells failed files range) (λ same. same) segment_read
       (λ name damage so t. some_more (files name) (λ file. IsDamagedSegment day file damage)
-      (λ file. (IsJournal name × IsDamagedJournal file damage) ⊎ IsDamagedIn range name file damage)
+      (λ file. IsDamagedInMemory name file damage ⊎ IsDamagedIn range name file damage)
       (λ file damaged. inr (record {
         segment = record { day = day; meets = meets; named = so.0.1 };
         damaged = damaged;

@@ -1,5 +1,5 @@
 -- Files that are damaged.
-use Rattle.std.proofs.Common.{◌≡◌, ◌≢◌, ℕ, ◌+◌, ◌-◌, ◌<◌, ◌≤◌, ◌^◌, List, [], ◌∷◌, ◌++◌, Some, inl, inr}
+use Rattle.std.proofs.Common.{◌≡◌, ℕ, ◌+◌, ◌-◌, ◌<◌, ◌≤◌, ◌^◌, List, [], ◌∷◌, ◌++◌, Some, inl, inr}
 use Rattle.std.proofs.Common.{length, min, refl, sym, ap, subst, ◌∙◌, append_assoc, append-nil, length-append, arith}
 use Rattle.std.specs.Int.{to_le_bytes, w32}
 use Rattle.std.specs.List.{AllByRecursion}
@@ -27,11 +27,8 @@ use Rattle.archive_streams.specs.declared.fault.SideFault.{SideFault}
 use Rattle.archive_streams.specs.declared.fault.SideFault.TheVariants.{Archive as side_Archive, Input as side_Input}
 use Rattle.archive_streams.proofs.Counting.{bad_count}
 use Rattle.archive_streams.proofs.EntrySteps.{begun}
-use Rattle.archive_digest.specs.Periods.{IsIn}
-use Rattle.archive_digest.specs.declared.period.Period.TheVariants.{Day}
-use Rattle.record_store.specs.Holdings.{IsReadable, IsWholeJournal}
+use Rattle.record_store.specs.Holdings.{IsOfPeriod, IsReadable, IsWholeJournal}
 use Rattle.record_store.specs.Segments.{IsArchiveOfDay}
-use Rattle.store_reading.specs.Days.{IsOf}
 use Rattle.store_reading.specs.Damages.{IsBatchDamage, IsDamagedBatch, IsDamagedJournal}
 use Rattle.store_reading.specs.Damages.{IsDamagedSegment, IsFirstFault, IsJournalDamage, IsOtherDayAt, OfLeft, Tells}
 use Rattle.store_reading.specs.Damages.{position}
@@ -42,7 +39,6 @@ use Rattle.store_reading.specs.declared.fault.CheckFault.TheVariants.{Damaged, I
 use Rattle.store_reading.specs.declared.fault.FileFault.{FileFault}
 use Rattle.store_reading.specs.declared.fault.FileFault.TheVariants.{Archive, OtherDay}
 use Rattle.store_reading.proofs.Batched.{BatchAdded, JournalAdded}
-use Rattle.store_reading.proofs.DayOrders.{one_day}
 use Rattle.store_reading.proofs.Joined.{rest_of, whole_rest}
 use Rattle.store_reading.proofs.Readable.{IsReadUpTo, batch_fault, journal_fault, readable_first, unreadable}
 use Rattle.store_reading.proofs.Readable.{whole_parts}
@@ -60,9 +56,9 @@ file_is day d e file w left =
 -- ---- an entry of another day
 
 module _ (day : List ℕ) (d e : InputState) (file : List ℕ) (left : d.left ≡ Some file) where
-  pub other_day : (s : ArchiveEntries) (es : List Entry) (found : List ℕ) → Reads s d e (es ++ current s ∷ [])
-      → IsOf found (current s) → found ≢ day → ¬ (IsArchiveOfDay day file)
-  other_day s es found reads of differs (fs, is) =
+  pub other_day : (s : ArchiveEntries) (es : List Entry) → Reads s d e (es ++ current s ∷ [])
+      → ¬ (IsOfPeriod day (current s)) → ¬ (IsArchiveOfDay day file)
+  other_day s es reads differs (fs, is) =
       let b = begun s d e (es ++ current s ∷ []) reads in
       let r = rest_of d.left e.left b.given file b.consumed left in
       let both : text_of (es ++ current s ∷ []) ++ (b.rest ++ r.0) ≡ text_of fs ++ [] =
@@ -71,22 +67,22 @@ module _ (day : List ℕ) (d e : InputState) (file : List ℕ) (left : d.left �
       elim (one_begins ENTRY_MAX ENTRY_MAX (es ++ current s ∷ []) fs (b.rest ++ r.0) [] (omega arith) (omega arith)
       b.archive is.archive both) [
         | inl (gs, same, more) ↦
-            let all = subst (AllByRecursion (IsIn Day day)) same is.days in
-            let last = all_right (IsIn Day day) es (current s ∷ [])
-            (all_left (IsIn Day day) (es ++ current s ∷ []) gs all) in
-            differs (one_day found day (current s) of last.0)
+            let all = subst (AllByRecursion (IsOfPeriod day)) same is.days in
+            let last = all_right (IsOfPeriod day) es (current s ∷ [])
+            (all_left (IsOfPeriod day) (es ++ current s ∷ []) gs all) in
+            differs last.0
         | inr (gs, same, more) ↦
             let none : gs ≡ [] = no_text gs (b.rest ++ r.0) more in
-            let all = subst (λ (l : List Entry). AllByRecursion (IsIn Day day) l)
+            let all = subst (λ (l : List Entry). AllByRecursion (IsOfPeriod day) l)
             (sym (same ∙ ap (λ (l : List Entry). fs ++ l) none ∙ append-nil fs)) is.days in
-            let last = all_right (IsIn Day day) es (current s ∷ []) all in
-            differs (one_day found day (current s) of last.0)
+            let last = all_right (IsOfPeriod day) es (current s ∷ []) all in
+            differs last.0
       ]
 
-  pub other_day_at : (s : ArchiveEntries) (es : List Entry) (found : List ℕ) (at : ℕ)
-      → Reads s d e (es ++ current s ∷ []) → AllByRecursion (IsOf day) es → at ≡ position (length (text_of es))
-      → IsOf found (current s) → found ≢ day → IsOtherDayAt day file at
-  other_day_at s es found at reads days place of differs =
+  pub other_day_at : (s : ArchiveEntries) (es : List Entry) (at : ℕ)
+      → Reads s d e (es ++ current s ∷ []) → AllByRecursion (IsOfPeriod day) es → at ≡ position (length (text_of es))
+      → ¬ (IsOfPeriod day (current s)) → IsOtherDayAt day file at
+  other_day_at s es at reads days place differs =
       let b = begun s d e (es ++ current s ∷ []) reads in
       let r = rest_of d.left e.left b.given file b.consumed left in
       record {
@@ -96,7 +92,7 @@ module _ (day : List ℕ) (d e : InputState) (file : List ℕ) (left : d.left �
         parts = r.2 ∙ ap (λ (t : List ℕ). t ++ r.0) b.parts
             ∙ append_assoc (text_of (es ++ current s ∷ [])) b.rest r.0;
         days = days;
-        other = λ mine. differs (one_day found day (current s) of mine);
+        other = differs;
         place = place;
       }
 
@@ -191,13 +187,13 @@ pub up_to_none : (day : List ℕ) (s : ArchiveEntries) (d : InputState) → Read
 up_to_none day s d none = record { segment = record { entries = []; reads = none; days = tt }; place = refl }
 
 pub up_to_more : (day : List ℕ) (s t : ArchiveEntries) (at n later : ℕ) (d e f : InputState) → ReadsUpTo day s at d e
-    → ReadsOne s t e f → IsOf day (current t) → n ≡ position (length (entry_text (current t)))
+    → ReadsOne s t e f → IsOfPeriod day (current t) → n ≡ position (length (entry_text (current t)))
     → later ≡ position (at + n) → ReadsUpTo day t later d f
 up_to_more day s t at n later d e f r one of size sum = record {
   segment = record {
     entries = r.segment.entries ++ current t ∷ [];
     reads = one.reads d r.segment.entries r.segment.reads;
-    days = all_append (IsOf day) r.segment.entries (current t ∷ []) r.segment.days (of, tt);
+    days = all_append (IsOfPeriod day) r.segment.entries (current t ∷ []) r.segment.days (of, tt);
   };
   place = place_more (2 ^ 64 - 1) (length (text_of r.segment.entries)) (length (entry_text (current t))) at n later
       r.place size sum
@@ -206,14 +202,13 @@ up_to_more day s t at n later d e f r one of size sum = record {
 }
 
 -- the next entry is of another day
-pub other_told : (day found : List ℕ) (s t : ArchiveEntries) (at : ℕ) (d e f : InputState) → ReadsUpTo day s at d e
-    → ReadsOne s t e f → IsOf found (current t) → found ≢ day
-    → OfLeft d (λ file. IsDamagedSegment day file (OtherDay at))
-other_told day found s t at d e f r one of differs file left =
+pub other_told : (day : List ℕ) (s t : ArchiveEntries) (at : ℕ) (d e f : InputState) → ReadsUpTo day s at d e
+    → ReadsOne s t e f → ¬ (IsOfPeriod day (current t)) → OfLeft d (λ file. IsDamagedSegment day file (OtherDay at))
+other_told day s t at d e f r one differs file left =
     let reads = one.reads d r.segment.entries r.segment.reads in
     record {
-      not_whole = other_day day d f file left t r.segment.entries found reads of differs;
-      told = other_day_at day d f file left t r.segment.entries found at reads r.segment.days r.place of differs;
+      not_whole = other_day day d f file left t r.segment.entries reads differs;
+      told = other_day_at day d f file left t r.segment.entries at reads r.segment.days r.place differs;
     }
 
 -- ---- a batch

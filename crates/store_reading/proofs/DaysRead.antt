@@ -15,7 +15,7 @@ use Rattle.archive_text.proofs.Ascending.{archive_left, archive_right}
 use Rattle.archive_sets.specs.declared.range.InRange.{InRange}
 use Rattle.store_reading.specs.Days.{IsAfter, IsDayBelow, IsOf}
 use Rattle.store_reading.specs.Folders.{AreNamesOf}
-use Rattle.store_reading.specs.Journals.{IsOfJournals, JournalsHave}
+use Rattle.store_reading.specs.Journals.{IsOfMemory, MemoryHas}
 use Rattle.store_reading.specs.Names.{IsFirstDay, IsNextDay}
 use Rattle.store_reading.specs.Parts.{IsParted, PartsAt}
 use Rattle.store_reading.specs.Sets.{IsArchiveText, WritesDay, WritesDays, WritesPart, WritesPartOfDay, WritesSet}
@@ -29,7 +29,7 @@ pub record AreRead (files : Files) (range : InRange) (last : Option (List ℕ)) 
   pub js : List Entry
   pub more : List Entry
   pub archive : IsArchive ENTRY_MAX (js ++ more)
-  pub have : (e : Entry) → Has (js ++ more) e ↔ JournalsHave files e
+  pub have : (e : Entry) → Has (js ++ more) e ↔ MemoryHas files range e
   pub rest_is : rest ≡ text_of more
   pub head : HeadAfter last more
   pub writes : WritesDays files range last js old new
@@ -38,7 +38,7 @@ head_first : (es : List Entry) → HeadAfter None es
 head_first [] = tt
 head_first (e ∷ es) = λ day of. tt
 
-pub begun : (files : Files) (range : InRange) (text : List ℕ) (old : Option (List ℕ)) → IsOfJournals files text
+pub begun : (files : Files) (range : InRange) (text : List ℕ) (old : Option (List ℕ)) → IsOfMemory files range text
     → AreRead files range None text old old
 begun files range text old j = record {
   js = [];
@@ -82,7 +82,7 @@ module _ (files : Files) (range : InRange) (last : Option (List ℕ)) (names : L
       let whole : r.js ++ r.more ≡ r.js =
       ap (λ (l : List Entry). r.js ++ l) (no_more r.more refl none) ∙ append-nil r.js in
       all_written files range last names r.js old mid r.writes
-      (λ e. subst (λ (l : List Entry). Has l e ↔ JournalsHave files e) whole (r.have e)) listed
+      (λ e. subst (λ (l : List Entry). Has l e ↔ MemoryHas files range e) whole (r.have e)) listed
       (λ d text have behind. subst (λ (o : Option (List ℕ)). IsSomeAnd o (λ (x : List ℕ). ¬ (IsDayBelow d x))) none
       (n.none_before d text (inl have) behind))
 
@@ -102,8 +102,8 @@ module _ (files : Files) (range : InRange) (last : Option (List ℕ)) (names : L
     archive : IsArchive ENTRY_MAX (r.js ++ (p.front ++ p.back))
     archive = subst (IsArchive ENTRY_MAX) whole r.archive
 
-    have : (e : Entry) → Has (r.js ++ (p.front ++ p.back)) e ↔ JournalsHave files e
-    have e = subst (λ (l : List Entry). Has l e ↔ JournalsHave files e) whole (r.have e)
+    have : (e : Entry) → Has (r.js ++ (p.front ++ p.back)) e ↔ MemoryHas files range e
+    have e = subst (λ (l : List Entry). Has l e ↔ MemoryHas files range e) whole (r.have e)
 
     not_first : (d : List ℕ) → IsFirstDay rest d → IsAfter last d → ¬ (IsDayBelow d day)
     not_first d (e, es, up, is, of) behind =
@@ -129,7 +129,7 @@ module _ (files : Files) (range : InRange) (last : Option (List ℕ)) (names : L
           js = r.js ++ p.front;
           more = p.back;
           archive = subst (IsArchive ENTRY_MAX) joined archive;
-          have = λ e. subst (λ (l : List Entry). Has l e ↔ JournalsHave files e) joined (have e);
+          have = λ e. subst (λ (l : List Entry). Has l e ↔ MemoryHas files range e) joined (have e);
           rest_is = behind_is ∙ p.rest;
           head = head;
           writes = day_written files range last names day r.js p.front old mid r.writes p.days after none_before

@@ -1,17 +1,19 @@
 -- What a folder holds is what its journals and the segments of its days have.
-use Rattle.std.proofs.Common.{◌≡◌, ◌⊎◌, ℕ, List, [], ◌∷◌, ◌++◌, Option, None, Some, inl, inr, refl, sym, subst, arith}
-use Rattle.std.specs.Prelude.{Contains, IsSome, IsSomeAnd}
+use Rattle.std.proofs.Common.{◌≡◌, ◌⊎◌, ℕ, List, [], ◌∷◌, ◌++◌, Option, None, Some, inl, inr, refl, sym, ap, subst, arith, length}
+use Rattle.std.specs.Prelude.{Contains, IsSome, IsSomeAnd, codes}
 use Rattle.std.proofs.lemmas.List.Elements.{Contains-append_left, Contains-push, Contains-push_cases}
 use Rattle.disk.specs.States.{Files}
 use Rattle.archive_text.specs.Entries.{Entry}
 use Rattle.archive_text.proofs.Members.{of_member}
-use Rattle.record_store.specs.Holdings.{Held, HeldAt, JournalHas, SegmentHas}
+use Rattle.archive_sets.specs.declared.range.InRange.{InRange}
+use Rattle.archive_join.specs.Ranges.{IsOfRange}
+use Rattle.record_store.specs.Holdings.{Held, HeldAt, IsOfPeriod, JournalHas, SegmentHas}
 use Rattle.record_store.specs.Names.{IsJournal, IsSegment}
-use Rattle.store_reading.specs.Days.{IsOf}
+use Rattle.store_reading.specs.Days.{IsDayText, IsOf}
 use Rattle.store_reading.specs.Folders.{AreNamesOf}
-use Rattle.store_reading.specs.Journals.{JournalsHave}
+use Rattle.store_reading.specs.Journals.{MemoryHas}
 use Rattle.store_reading.specs.Names.{HaveSegment, SomeName}
-use Rattle.store_reading.specs.Segments.{DayHas}
+use Rattle.store_reading.specs.Segments.{DayHas, HasAsSegment}
 
 -- ---- names
 
@@ -44,32 +46,52 @@ listed_name files names name P listed some = (listed name).1 (some_is (files nam
 
 pub have_segment : (files : Files) (names : List (List ℕ)) (day : List ℕ) (e : Entry) → AreNamesOf files names
     → DayHas files day e → HaveSegment names day
-have_segment files names day e listed (name, (segment, some)) =
+have_segment files names day e listed (of, (name, (segment, some))) =
     (name, listed_name files names name (λ file. SegmentHas day file e) listed some, segment)
 
 -- ---- entries
 
-segment_day : (o : Option (List ℕ)) (day : List ℕ) (e : Entry) → IsSomeAnd o (λ file. SegmentHas day file e)
-    → IsOf day e
-segment_day None day e h = absurd h
-segment_day (Some file) day e h = of_member (IsOf day) h.entries e h.days h.has
+-- no day is called `mixed`
+pub day_apart : (day : List ℕ) → IsDayText day → ¬ (day ≡ codes "mixed")
+day_apart day (inl undated) is = omega (arith, ap length undated, ap length is)
+day_apart day (inr long) is = omega (arith, long, ap length is)
 
--- an entry of a segment is of its day
+-- an entry of a segment of a day is of the day
+pub entry_day : (o : Option (List ℕ)) (day : List ℕ) (e : Entry) → IsDayText day
+    → IsSomeAnd o (λ file. SegmentHas day file e) → IsOf day e
+entry_day None day e text h = absurd h
+entry_day (Some file) day e text h =
+    elim (of_member (IsOfPeriod day) h.entries e h.days h.has) [
+      | inl of ↦ of
+      | inr mixed ↦ absurd (day_apart day text mixed)
+    ]
+
 pub day_of : (files : Files) (day : List ℕ) (e : Entry) → DayHas files day e → IsOf day e
-day_of files day e (name, (segment, some)) = segment_day (files name) day e some
+day_of files day e h = h.0
 
--- the folder holds it in a journal, or in a segment of some day
-held_at : (files : Files) (name : List ℕ) (e : Entry) (o : Option (List ℕ)) → o ≡ files name → HeldAt name o e
-    → JournalsHave files e ⊎ ((day : List ℕ) × DayHas files day e)
-held_at files name e None is h = absurd h
-held_at files name e (Some file) is (inl (journal, has)) =
-    inl (name, (journal, subst (λ (o : Option (List ℕ)). IsSomeAnd o (λ f. JournalHas f e)) is has))
-held_at files name e (Some file) is (inr (day, segment, has)) =
-    inr (day, (name, (segment, subst (λ (o : Option (List ℕ)). IsSomeAnd o (λ f. SegmentHas day f e)) is has)))
+-- of a range the folder holds it in what is read into memory, or in a segment of some day
+held_at : (files : Files) (range : InRange) (name : List ℕ) (e : Entry) (o : Option (List ℕ)) → o ≡ files name
+    → HeldAt name o e → IsOfRange range e → MemoryHas files range e ⊎ ((day : List ℕ) × DayHas files day e)
+held_at files range name e None is h inside = absurd h
+held_at files range name e (Some file) is (inl (journal, has)) inside =
+    inl (name, inl (journal, subst (λ (o : Option (List ℕ)). IsSomeAnd o (λ f. JournalHas f e)) is has))
+held_at files range name e (Some file) is (inr (day, segment, has)) inside =
+    go (of_member (IsOfPeriod day) has.entries e has.days has.has)
+  where
+    here : IsSomeAnd (files name) (λ f. SegmentHas day f e)
+    here = subst (λ (o : Option (List ℕ)). IsSomeAnd o (λ f. SegmentHas day f e)) is has
 
-pub held_parts : (files : Files) (e : Entry) → Held files e
-    → JournalsHave files e ⊎ ((day : List ℕ) × DayHas files day e)
-held_parts files e h = held_at files h.name e (files h.name) refl h.at
+    go : IsOfPeriod day e → MemoryHas files range e ⊎ ((d : List ℕ) × DayHas files d e)
+    go (inl of) = inr (day, (of, (name, (segment, here))))
+    go (inr mixed) =
+        inl (
+          name,
+          inr (subst (λ (d : List ℕ). HasAsSegment files d name e) mixed (segment, here), inside),
+        )
+
+pub held_parts : (files : Files) (range : InRange) (e : Entry) → Held files e → IsOfRange range e
+    → MemoryHas files range e ⊎ ((day : List ℕ) × DayHas files day e)
+held_parts files range e h inside = held_at files range h.name e (files h.name) refl h.at inside
 
 at_journal : (name : List ℕ) (o : Option (List ℕ)) (e : Entry) → IsJournal name → IsSomeAnd o (λ f. JournalHas f e)
     → HeldAt name o e
@@ -81,10 +103,12 @@ at_segment : (day name : List ℕ) (o : Option (List ℕ)) (e : Entry) → IsSeg
 at_segment day name None e segment has = absurd has
 at_segment day name (Some file) e segment has = inr (day, segment, has)
 
-pub journals_held : (files : Files) (e : Entry) → JournalsHave files e → Held files e
-journals_held files e (name, (journal, has)) =
+pub memory_held : (files : Files) (range : InRange) (e : Entry) → MemoryHas files range e → Held files e
+memory_held files range e (name, inl (journal, has)) =
     record { name = name; at = at_journal name (files name) e journal has }
+memory_held files range e (name, inr ((segment, has), inside)) =
+    record { name = name; at = at_segment (codes "mixed") name (files name) e segment has }
 
 pub day_held : (files : Files) (day : List ℕ) (e : Entry) → DayHas files day e → Held files e
-day_held files day e (name, (segment, has)) =
+day_held files day e (of, (name, (segment, has))) =
     record { name = name; at = at_segment day name (files name) e segment has }

@@ -20,11 +20,12 @@ use Rattle.archive_join.specs.Joined.{IsWrittenAt, Joined, Stopped}
 use Rattle.archive_join.specs.Ranges.{IsOfRange}
 use Rattle.archive_join.specs.declared.fault.JoinFault.{JoinFault}
 use Rattle.archive_join.specs.declared.fault.JoinFault.TheVariants.{Archive, Read, Endless, Write, Memory}
+use Rattle.store_reading.specs.Days.{IsDayText}
 use Rattle.store_reading.specs.Folders.{AreNamesOf}
 use Rattle.store_reading.specs.Ranges.{text_in}
 use Rattle.store_reading.specs.Segments.{AreArchives, AreSegmentsOf, IsArchiveInput}
 use Rattle.store_reading.specs.Sets.{AreOfDay, IsAbove, IsInDay, WritesDay, WritesPartOfDay}
-use Rattle.store_reading.proofs.Held.{listed_name}
+use Rattle.store_reading.proofs.Held.{entry_day, listed_name}
 use Rattle.store_reading.proofs.Ranged.{of_range, range_ascending, range_members, range_text}
 use Rattle.record_store.specs.Holdings.{SegmentHas}
 
@@ -57,21 +58,21 @@ held_push xss xs e = (there xss, back xss)
 
 pub of_day : (files : Files) (names : List (List ℕ)) (day : List ℕ) (xs : List Entry) (ds : List InputState)
     (d : InputState)
-    → AreNamesOf files names → AreSegmentsOf files names day ds → IsArchiveInput d xs
+    → IsDayText day → AreNamesOf files names → AreSegmentsOf files names day ds → IsArchiveInput d xs
     → AreOfDay files day xs (ds ++ d ∷ [])
-of_day files names day xs ds d listed s i = record {
+of_day files names day xs ds d text listed s i = record {
   entries = s.entries ++ xs ∷ [];
   inputs = archives_push ds s.entries d xs s.inputs i;
   have = λ e. (λ h. there e ((held_push s.entries xs e).0 h), λ h. (held_push s.entries xs e).1 (back e h));
 }
   where
     there : (e : Entry) → IsHeld s.entries e ⊎ Has xs e → IsInDay files day xs e
-    there e (inl h) = let n = (s.have e).0 h in inr (n.0, n.2)
+    there e (inl h) = let n = (s.have e).0 h in inr (entry_day (files n.0) day e text n.2.1, (n.0, n.2))
     there e (inr h) = inl h
 
     back : (e : Entry) → IsInDay files day xs e → IsHeld s.entries e ⊎ Has xs e
     back e (inl h) = inr h
-    back e (inr (name, (segment, some))) =
+    back e (inr (of, (name, (segment, some)))) =
         inl ((s.have e).1 (
           name,
           listed_name files names name (λ file. SegmentHas day file e) listed some,

@@ -6,6 +6,8 @@ pub mod DaysRead
 pub mod Faulted
 pub mod Held
 pub mod Joined
+pub mod Mixed
+pub mod NameOrders
 pub mod Nearest
 pub mod NextDays
 pub mod Parted

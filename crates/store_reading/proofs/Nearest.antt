@@ -1,11 +1,9 @@
 -- The next of some days.
 use Rattle.std.proofs.Common.{◌≡◌, ◌⊎◌, ℕ, List, [], ◌∷◌, ◌++◌, Option, None, Some, inl, inr, refl, sym, subst}
 use Rattle.std.specs.Prelude.{IfSome, IsSomeAnd}
-use Rattle.record_store.specs.Names.{IsSegment}
 use Rattle.store_reading.specs.Days.{IsAfter, IsDayBelow, IsDayText}
 use Rattle.store_reading.specs.Names.{AddsDay, HaveSegment, IsFirstDay, IsNextDay, IsNextSegment}
 use Rattle.store_reading.proofs.DayOrders.{day_irreflexive, day_transitive}
-use Rattle.store_reading.proofs.Held.{no_name, some_before, some_either, some_last}
 
 -- ---- one day more
 
@@ -31,54 +29,6 @@ pub farther_day : (last : Option (List ℕ)) (day next : List ℕ) → ¬ (IsDay
     → AddsDay last day (Some next) (Some next)
 farther_day last day next not =
     record { behind = λ h. h; day_found = λ h. not; still = λ other h. h; one = inl refl }
-
--- ---- the segments of names
-
-pub next_none : (last : Option (List ℕ)) → IsNextSegment last [] None
-next_none last =
-    record { segment = tt; behind = tt; none_before = λ day text have after. absurd (no_name (IsSegment day) have) }
-
-still_segment : (names : List (List ℕ)) (name : List ℕ) (next : Option (List ℕ)) → IfSome next (HaveSegment names)
-    → IfSome next (HaveSegment (names ++ name ∷ []))
-still_segment names name None have = tt
-still_segment names name (Some day) have = some_before names name (IsSegment day) have
-
-pub next_more : (last : Option (List ℕ)) (names : List (List ℕ)) (name day : List ℕ) (next found : Option (List ℕ))
-    → IsNextSegment last names next → IsSegment day name
-    → ((d : List ℕ) → IsDayText d → IsSegment d name → Some day ≡ Some d)
-    → AddsDay last day next found → IsNextSegment last (names ++ name ∷ []) found
-next_more last names name day next found n is only a = record {
-  segment = elim a.one [
-    | inl same ↦ subst (λ (o : Option (List ℕ)). IfSome o (HaveSegment (names ++ name ∷ []))) (sym same)
-        (still_segment names name next n.segment)
-    | inr same ↦ subst (λ (o : Option (List ℕ)). IfSome o (HaveSegment (names ++ name ∷ []))) (sym same)
-        (some_last names name (IsSegment day) is)
-  ];
-  behind = a.behind n.behind;
-  none_before = λ d text have after. go d text after (some_either names name (IsSegment d) have);
-}
-  where
-    go : (d : List ℕ) → IsDayText d → IsAfter last d → HaveSegment names d ⊎ IsSegment d name
-        → IsSomeAnd found (λ (x : List ℕ). ¬ (IsDayBelow d x))
-    go d text after (inl have) = a.still d (n.none_before d text have after)
-    go d text after (inr segment) =
-        let same : day ≡ d = cc (only d text segment) in
-        subst (λ (y : List ℕ). IsSomeAnd found (λ (x : List ℕ). ¬ (IsDayBelow y x))) same
-        (a.day_found (subst (IsAfter last) (sym same) after))
-
-pub next_other : (last : Option (List ℕ)) (names : List (List ℕ)) (name : List ℕ) (next found : Option (List ℕ))
-    → IsNextSegment last names next → found ≡ None → ((d : List ℕ) → IsDayText d → IsSegment d name → found ≡ Some d)
-    → IsNextSegment last (names ++ name ∷ []) next
-next_other last names name next found n none only = record {
-  segment = still_segment names name next n.segment;
-  behind = n.behind;
-  none_before = λ d text have after. go d text after (some_either names name (IsSegment d) have);
-}
-  where
-    go : (d : List ℕ) → IsDayText d → IsAfter last d → HaveSegment names d ⊎ IsSegment d name
-        → IsSomeAnd next (λ (x : List ℕ). ¬ (IsDayBelow d x))
-    go d text after (inl have) = n.none_before d text have after
-    go d text after (inr segment) = absurd (cc (only d text segment, none))
 
 -- ---- and the first entry of a text
 

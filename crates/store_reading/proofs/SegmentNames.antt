@@ -9,7 +9,6 @@ use Rattle.std.proofs.lemmas.Bool.Decides.{Decides-eqb}
 use Rattle.std.proofs.lemmas.Slice.Eq.{strip_suffix_is}
 use Rattle.std.proofs.lemmas.List.{append_cancel_right, drop_at, take_at}
 use Rattle.record_store.specs.Names.{IsSegment}
-use Rattle.store_reading.specs.Days.{IsDayText}
 use Rattle.store_reading.specs.Names.{IsDottedDigest}
 
 -- a day, a dot, a digest and the ending
@@ -55,13 +54,13 @@ parts_of name front day dotted d at s name_is at_is day_is dotted_is =
       },
     )
 
-pub segment_named : (found : Option (List ℕ)) (name front day dotted : List ℕ) (at : ℕ)
+pub segment_named : (IsText : List ℕ → Type 0) (found : Option (List ℕ)) (name front day dotted : List ℕ) (at : ℕ)
     → name ≡ front ++ codes ".archive"
     → day ≡ take at front → dotted ≡ drop at front → IsDottedDigest dotted
-    → IfSome found (λ (d : List ℕ). IsDayText d × (d ≡ day))
-    → IfSome found (λ (d : List ℕ). IsDayText d × IsSegment d name)
-segment_named None name front day dotted at name_is day_is dotted_is d h = tt
-segment_named (Some x) name front day dotted at name_is day_is dotted_is d h = (
+    → IfSome found (λ (d : List ℕ). IsText d × (d ≡ day))
+    → IfSome found (λ (d : List ℕ). IsText d × IsSegment d name)
+segment_named IsText None name front day dotted at name_is day_is dotted_is d h = tt
+segment_named IsText (Some x) name front day dotted at name_is day_is dotted_is d h = (
   h.0,
   subst (λ (y : List ℕ). IsSegment y name) (sym h.1)
       (is_segment name front day dotted at name_is day_is dotted_is d),

@@ -2,7 +2,7 @@
 use Rattle.std.proofs.Common.{◌≡◌, ◌⊎◌, ℕ, List, [], ◌∷◌, ◌++◌, Option, None, Some, inl, inr, refl, sym, ap}
 use Rattle.std.proofs.Common.{subst, ◌∙◌}
 use Rattle.std.proofs.Common.{append-nil, arith}
-use Rattle.std.specs.Prelude.{ℤ, IsSomeAnd}
+use Rattle.std.specs.Prelude.{ℤ, Contains, IsSomeAnd}
 use Rattle.disk.specs.States.{Files}
 use Rattle.octet_devices.specs.Device.{InputState}
 use Rattle.archive_text.specs.Entries.{Entry, Has}
@@ -12,12 +12,10 @@ use Rattle.archive_text.proofs.Members.{all_append}
 use Rattle.archive_text.proofs.Texts.{same_text}
 use Rattle.archive_streams.specs.Entries.{current, Ends, Reads, ReadsOne}
 use Rattle.archive_streams.specs.declared.entries.ArchiveEntries.{ArchiveEntries}
-use Rattle.archive_digest.specs.Periods.{IsPeriodOf}
-use Rattle.archive_digest.specs.declared.period.Period.TheVariants.{Day}
 use Rattle.archive_join.specs.Holders.{IsHeld}
-use Rattle.record_store.specs.Holdings.{SegmentHas}
+use Rattle.record_store.specs.Holdings.{IsOfPeriod, SegmentHas}
 use Rattle.record_store.specs.Names.{IsSegment}
-use Rattle.store_reading.specs.Days.{IsOf}
+use Rattle.store_reading.specs.Days.{MayHave}
 use Rattle.store_reading.specs.Folders.{IsUnused, Opens}
 use Rattle.store_reading.specs.Segments.{AreSegmentsOf, HasAsSegment, IsSegmentInput, IsWholeOf, NamesHave, ReadsOf}
 use Rattle.store_reading.proofs.Held.{no_name, some_before, some_either, some_last}
@@ -28,18 +26,20 @@ use Rattle.store_reading.proofs.Joined.{archives_push, held_push, rest_of, whole
 pub reads_none : (day : List ℕ) (s : ArchiveEntries) (d : InputState) → Reads s d d [] → ReadsOf day s d d
 reads_none day s d none = record { entries = []; reads = none; days = tt }
 
--- the day of an entry's instant is the day
-pub of_found : (day found : List ℕ) (i : Option ℤ) (e : Entry) → IsPeriodOf Day i found → found ≡ day
-    → i ≡ e.instant → IsOf day e
-of_found day found i e lies is same =
-    subst (λ (j : Option ℤ). IsPeriodOf Day j day) same (subst (IsPeriodOf Day i) is lies)
+-- the instant is that of an entry
+pub of_instant : (period : List ℕ) (i : Option ℤ) (e : Entry) → i ≡ e.instant → MayHave period i → IsOfPeriod period e
+of_instant period i e same may = subst (MayHave period) same may
+
+pub not_of_instant : (period : List ℕ) (i : Option ℤ) (e : Entry) → i ≡ e.instant → ¬ (MayHave period i)
+    → ¬ (IsOfPeriod period e)
+not_of_instant period i e same not of = not (subst (MayHave period) (sym same) of)
 
 pub reads_more : (day : List ℕ) (s t : ArchiveEntries) (d e f : InputState) → ReadsOf day s d e → ReadsOne s t e f
-    → IsOf day (current t) → ReadsOf day t d f
+    → IsOfPeriod day (current t) → ReadsOf day t d f
 reads_more day s t d e f r one of = record {
   entries = r.entries ++ current t ∷ [];
   reads = one.reads d r.entries r.reads;
-  days = all_append (IsOf day) r.entries (current t ∷ []) r.days (of, tt);
+  days = all_append (IsOfPeriod day) r.entries (current t ∷ []) r.days (of, tt);
 }
 
 pub whole_of : (day : List ℕ) (s t : ArchiveEntries) (d e f : InputState) → ReadsOf day s d e → Ends s t e f
@@ -92,7 +92,7 @@ segments_other files names name day ds s not = record {
   );
 }
 
-has_is : (day : List ℕ) (xs : List Entry) (e : Entry) → IsArchive ENTRY_MAX xs → SegmentHas day (text_of xs) e
+pub has_is : (day : List ℕ) (xs : List Entry) (e : Entry) → IsArchive ENTRY_MAX xs → SegmentHas day (text_of xs) e
     → Has xs e
 has_is day xs e archive h =
     subst (λ (l : List Entry). Has l e) (same_text ENTRY_MAX ENTRY_MAX h.entries xs (omega arith) (omega arith)
@@ -133,3 +133,17 @@ segments_more files names name day ds d s segment i = record {
           | inr last ↦ inr (has_is day i.entries e i.input.archive
               (subst (λ (o : Option (List ℕ)). IsSomeAnd o (λ file. SegmentHas day file e)) i.file last.1))
         ]
+
+-- the segments that are among some names are all of the day that are among others
+pub segments_among : (files : Files) (names some : List (List ℕ)) (day : List ℕ) (ds : List InputState)
+    → ((name : List ℕ) → Contains some name → Contains names name)
+    → ((name : List ℕ) → Contains names name → IsSegment day name → Contains some name)
+    → AreSegmentsOf files some day ds → AreSegmentsOf files names day ds
+segments_among files names some day ds within all s = record {
+  entries = s.entries;
+  inputs = s.inputs;
+  have = λ e. (
+    λ h. let n = (s.have e).0 h in (n.0, within n.0 n.1, n.2),
+    λ n. (s.have e).1 (n.0, all n.0 n.1 n.2.0, n.2),
+  );
+}

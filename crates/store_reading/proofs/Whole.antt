@@ -1,7 +1,7 @@
 -- What was read is whole.
 use Rattle.std.proofs.Common.{◌≡◌, ◌⊎◌, ℕ, List, [], ◌∷◌, ◌++◌, Option, None, Some, inl, inr, refl, sym, ap, subst, ◌∙◌}
 use Rattle.std.proofs.Common.{append-nil}
-use Rattle.std.specs.Prelude.{Contains, Err, IfSome, IsSome, IsSomeAnd, Ok, OnOk, Result}
+use Rattle.std.specs.Prelude.{Contains, Err, IfOk, IfSome, IsSome, IsSomeAnd, Ok, OnOk, Result, codes}
 use Rattle.std.proofs.lemmas.List.Elements.{Contains-push_cases}
 use Rattle.disk.specs.States.{Files}
 use Rattle.octet_devices.specs.Device.{InputState}
@@ -17,7 +17,7 @@ use Rattle.store_reading.specs.Whole.{DaysAreWhole, EarlierAreWhole}
 use Rattle.record_store.specs.Segments.{IsArchiveOfDay}
 use Rattle.record_store.specs.Holdings.{IsReadable, IsWholeJournal}
 use Rattle.store_reading.specs.Whole.{IsWholeJournalAt, IsWholeSegmentAt, JournalsAreWhole, MeetsRange}
-use Rattle.store_reading.specs.Whole.{NamedJournalsAreWhole, NamedSegmentsAreWhole, SegmentsAreWhole}
+use Rattle.store_reading.specs.Whole.{NamedMemoryIsWhole, NamedSegmentsAreWhole, SegmentsAreWhole}
 use Rattle.store_reading.proofs.Batched.{BatchAdded, JournalAdded}
 use Rattle.store_reading.proofs.DayOrders.{day_text, day_total}
 use Rattle.store_reading.proofs.DaysRead.{some_not}
@@ -31,6 +31,10 @@ on_ok (Err e) p = tt
 pub on_ok_more : {T E P Q : Type 0} (r : Result T E) → (P → Q) → OnOk r P → OnOk r Q
 on_ok_more (Ok x) from p = from p
 on_ok_more (Err e) from p = tt
+
+pub if_ok_more : {T E : Type 0} (r : Result T E) (P Q : T → Type 0) → ((x : T) → P x → Q x) → IfOk r P → IfOk r Q
+if_ok_more (Ok x) P Q from p = from x p
+if_ok_more (Err e) P Q from p = tt
 
 -- ---- a journal
 
@@ -59,15 +63,21 @@ pub left_whole : (left : Option (List ℕ)) (octets : List ℕ) → IfSome left 
 left_whole None octets is whole = tt
 left_whole (Some input) octets is whole = subst IsWholeJournal is whole
 
-file_whole : (file left : Option (List ℕ)) → IsSomeAnd file (λ octets. left ≡ Some octets) → IfSome left IsWholeJournal
-    → IfSome file IsWholeJournal
-file_whole None left opens whole = tt
-file_whole (Some f) left opens whole = subst (λ (l : Option (List ℕ)). IfSome l IsWholeJournal) opens whole
+file_whole : (P : List ℕ → Type 0) (file left : Option (List ℕ)) → IsSomeAnd file (λ octets. left ≡ Some octets)
+    → IfSome left P → IfSome file P
+file_whole P None left opens whole = tt
+file_whole P (Some f) left opens whole = subst (λ (l : Option (List ℕ)). IfSome l P) opens whole
 
 -- the journal that was opened
 pub opened_whole : (files : Files) (name : List ℕ) (d : InputState) → Opens files name d → IfSome d.left IsWholeJournal
     → IsWholeJournalAt files name
-opened_whole files name d opens whole = λ journal. file_whole (files name) d.left opens whole
+opened_whole files name d opens whole = λ journal. file_whole IsWholeJournal (files name) d.left opens whole
+
+-- the mixed segment that was opened
+pub opened_mixed : (files : Files) (name : List ℕ) (d : InputState) → Opens files name d
+    → IfSome d.left (IsArchiveOfDay (codes "mixed")) → IsWholeSegmentAt files (codes "mixed") name
+opened_mixed files name d opens whole =
+    λ segment. file_whole (IsArchiveOfDay (codes "mixed")) (files name) d.left opens whole
 
 -- ---- names
 
@@ -87,10 +97,16 @@ listed_whole P files names name (Some file) is listed whole =
     ap_some : Some file ≡ files name → IsSome (files name)
     ap_some same = subst (λ (o : Option (List ℕ)). IsSome o) same refl
 
-pub all_whole : (files : Files) (names : List (List ℕ)) → AreNamesOf files names → NamedJournalsAreWhole files names
+pub journals_whole : (files : Files) (names : List (List ℕ)) → AreNamesOf files names → NamedMemoryIsWhole files names
     → JournalsAreWhole files
-all_whole files names listed whole name journal =
-    listed_whole IsWholeJournal files names name (files name) refl listed (λ has. whole name has journal)
+journals_whole files names listed whole name journal =
+    listed_whole IsWholeJournal files names name (files name) refl listed (λ has. (whole name has).journal journal)
+
+pub mixed_whole : (files : Files) (names : List (List ℕ)) → AreNamesOf files names → NamedMemoryIsWhole files names
+    → SegmentsAreWhole files (codes "mixed")
+mixed_whole files names listed whole name segment =
+    listed_whole (IsArchiveOfDay (codes "mixed")) files names name (files name) refl listed
+    (λ has. (whole name has).mixed segment)
 
 pub day_whole : (files : Files) (names : List (List ℕ)) (day : List ℕ) → AreNamesOf files names
     → NamedSegmentsAreWhole files names day → SegmentsAreWhole files day

@@ -19,14 +19,14 @@ use Rattle.archive_join.specs.Ranges.{IsOfRange}
 use Rattle.record_store.specs.Holdings.{Held}
 use Rattle.store_reading.specs.Days.{IsAfter, IsDayBelow, IsDayText, IsOf}
 use Rattle.store_reading.specs.Folders.{AreNamesOf}
-use Rattle.store_reading.specs.Journals.{JournalsHave}
+use Rattle.store_reading.specs.Journals.{MemoryHas}
 use Rattle.store_reading.specs.Names.{HaveSegment}
 use Rattle.store_reading.specs.Segments.{DayHas}
 use Rattle.store_reading.specs.Sets.{EarlierHas, IsAbove, IsInDay, IsSetOf, WritesDay, WritesDays, WritesPart}
 use Rattle.store_reading.specs.Sets.{WritesPartOfDay, WritesSet}
 use Rattle.store_reading.proofs.DayOrders.{day_irreflexive, day_text, day_total, day_transitive, entry_order}
 use Rattle.store_reading.proofs.DayOrders.{some_day}
-use Rattle.store_reading.proofs.Held.{day_held, day_of, have_segment, held_parts, journals_held}
+use Rattle.store_reading.proofs.Held.{day_held, day_of, have_segment, held_parts, memory_held}
 use Rattle.store_reading.proofs.NextDays.{HeadAfter, after_or_not, still_up_to, up_to}
 
 -- no day of a segment lies between the last one and this
@@ -145,16 +145,16 @@ module _ (files : Files) (range : InRange) (last : Option (List ℕ)) (names : L
     }
 
   module _ (ys : List Entry) (archive : IsArchive ENTRY_MAX (js ++ (xs ++ ys)))
-      (have : (e : Entry) → Has (js ++ (xs ++ ys)) e ↔ JournalsHave files e) (head : HeadAfter (Some day) ys)
+      (have : (e : Entry) → Has (js ++ (xs ++ ys)) e ↔ MemoryHas files range e) (head : HeadAfter (Some day) ys)
       (new : Option (List ℕ)) (p : WritesPartOfDay files range day xs mid new) where
     part_held : (e : Entry) → Has (w.entries ++ p.entries) e → Held files e × IsOfRange range e
     part_held e h = go (has_either w.entries p.entries e h)
       where
         journal : (e : Entry) → Has js e → Held files e
-        journal e k = journals_held files e ((have e).0 (has_left js (xs ++ ys) e k))
+        journal e k = memory_held files range e ((have e).0 (has_left js (xs ++ ys) e k))
 
         mine : (e : Entry) → Has xs e → Held files e
-        mine e k = journals_held files e ((have e).0 (has_right js (xs ++ ys) e (has_left xs ys e k)))
+        mine e k = memory_held files range e ((have e).0 (has_right js (xs ++ ys) e (has_left xs ys e k)))
 
         before : Has js e ⊎ EarlierHas files last e → Held files e
         before (inl k) = journal e k
@@ -217,7 +217,7 @@ module _ (files : Files) (range : InRange) (last : Option (List ℕ)) (names : L
 
     held_place : (e : Entry) → Held files e → IsOfRange range e
         → Has (w.entries ++ p.entries) e ⊎ IsAbove (w.entries ++ p.entries) e
-    held_place e held in_range = go (held_parts files e held)
+    held_place e held in_range = go (held_parts files range e held in_range)
       where
         earlier : Has js e ⊎ EarlierHas files last e → Has (w.entries ++ p.entries) e
         earlier k = has_left w.entries p.entries e ((w.members e).1 (k, in_range))
@@ -241,7 +241,7 @@ module _ (files : Files) (range : InRange) (last : Option (List ℕ)) (names : L
               | inr k ↦ of_day e (inr k) in_range
             ]
 
-        go : JournalsHave files e ⊎ ((x : List ℕ) × DayHas files x e)
+        go : MemoryHas files range e ⊎ ((x : List ℕ) × DayHas files x e)
             → Has (w.entries ++ p.entries) e ⊎ IsAbove (w.entries ++ p.entries) e
         go (inl k) = of_journal (has_either js (xs ++ ys) e ((have e).1 k))
         go (inr (x, has)) = of_segment x has (day_total day x)
@@ -276,7 +276,7 @@ module _ (files : Files) (range : InRange) (last : Option (List ℕ)) (names : L
 
 pub all_written : (files : Files) (range : InRange) (last : Option (List ℕ)) (names : List (List ℕ)) (js : List Entry)
     (old new : Option (List ℕ)) → WritesDays files range last js old new
-    → ((e : Entry) → Has js e ↔ JournalsHave files e) → AreNamesOf files names
+    → ((e : Entry) → Has js e ↔ MemoryHas files range e) → AreNamesOf files names
     → ((d : List ℕ) → IsDayText d → HaveSegment names d → ¬ (IsAfter last d)) → WritesSet files range old new
 all_written files range last names js old new w have listed none = record {
   entries = w.entries;
@@ -288,13 +288,13 @@ all_written files range last names js old new w have listed none = record {
     there e h = go ((w.members e).0 h)
       where
         go : (Has js e ⊎ EarlierHas files last e) × IsOfRange range e → Held files e × IsOfRange range e
-        go (inl k, in_range) = (journals_held files e ((have e).0 k), in_range)
+        go (inl k, in_range) = (memory_held files range e ((have e).0 k), in_range)
         go (inr (d, not, has), in_range) = (day_held files d e has, in_range)
 
     back : (e : Entry) → Held files e × IsOfRange range e → Has w.entries e
-    back e (held, in_range) = go (held_parts files e held)
+    back e (held, in_range) = go (held_parts files range e held in_range)
       where
-        go : JournalsHave files e ⊎ ((d : List ℕ) × DayHas files d e) → Has w.entries e
+        go : MemoryHas files range e ⊎ ((d : List ℕ) × DayHas files d e) → Has w.entries e
         go (inl k) = (w.members e).1 (inl ((have e).1 k), in_range)
         go (inr (d, has)) =
             (w.members e).1 (
@@ -312,7 +312,7 @@ all_written files range last names js old new w have listed none = record {
 pub days_cut : (files : Files) (range : InRange) (last : Option (List ℕ)) (js ys : List Entry)
     (old new : Option (List ℕ))
     → WritesDays files range last js old new → IsArchive ENTRY_MAX (js ++ ys)
-    → ((e : Entry) → Has (js ++ ys) e ↔ JournalsHave files e) → HeadAfter last ys → WritesPart files range old new
+    → ((e : Entry) → Has (js ++ ys) e ↔ MemoryHas files range e) → HeadAfter last ys → WritesPart files range old new
 days_cut files range last js ys old new w archive have head = record {
   part = text_of w.entries;
   written = w.written;
@@ -351,14 +351,14 @@ days_cut files range last js ys old new w archive have head = record {
         go (inr more) = λ f k. below_transitive f z e (first f k) (of_member (IsBelow z) zs e ascending.0 more)
 
     place : (e : Entry) → Held files e → IsOfRange range e → Has w.entries e ⊎ IsAbove w.entries e
-    place e held in_range = go (held_parts files e held)
+    place e held in_range = go (held_parts files range e held in_range)
       where
         of_segment : (x : List ℕ) → DayHas files x e → IsAfter last x ⊎ ¬ (IsAfter last x)
             → Has w.entries e ⊎ IsAbove w.entries e
         of_segment x has (inl late) = inr (above e x (day_of files x e has) late)
         of_segment x has (inr early) = inl ((w.members e).1 (inr (x, early, has), in_range))
 
-        go : JournalsHave files e ⊎ ((x : List ℕ) × DayHas files x e) → Has w.entries e ⊎ IsAbove w.entries e
+        go : MemoryHas files range e ⊎ ((x : List ℕ) × DayHas files x e) → Has w.entries e ⊎ IsAbove w.entries e
         go (inl k) =
             elim (has_either js ys e ((have e).1 k)) [
               | inl mine ↦ inl ((w.members e).1 (inl mine, in_range))
@@ -370,7 +370,7 @@ days_cut files range last js ys old new w archive have head = record {
     part_held e h = go ((w.members e).0 h)
       where
         go : (Has js e ⊎ EarlierHas files last e) × IsOfRange range e → Held files e × IsOfRange range e
-        go (inl k, in_range) = (journals_held files e ((have e).0 (has_left js ys e k)), in_range)
+        go (inl k, in_range) = (memory_held files range e ((have e).0 (has_left js ys e k)), in_range)
         go (inr (d, not, has), in_range) = (day_held files d e has, in_range)
 
     begins : (es : List Entry) → IsSetOf files range es → (more : List ℕ) × (text_of es ≡ text_of w.entries ++ more)

@@ -1,5 +1,5 @@
 -- Why a folder is not read.
-use Rattle.std.specs.Prelude.{◌≡◌, ◌⊎◌, ℕ, ◌<◌, ◌^◌, List, Contains, IsSome, IsSomeAnd, Result, Err}
+use Rattle.std.specs.Prelude.{◌≡◌, ◌⊎◌, ℕ, ◌<◌, ◌^◌, List, Contains, IsSome, IsSomeAnd, Result, Err, codes}
 use Rattle.disk.specs.States.{Files}
 use Rattle.disk.specs.declared.fault.DiskFault.{DiskFault}
 use Rattle.disk.specs.declared.fault.DiskFault.TheVariants.{Missing, Exists, Full, Failed, Memory}
@@ -61,21 +61,31 @@ open_causes failed name = record {
 }
 
 -- of the reading of files of these names, whose octets may be damaged so
-abbrev pub file_causes : Type 0 → Type 0 → Files → (List ℕ → Type 0) → (List ℕ → FileFault → Type 0) → Causes
+abbrev pub file_causes : Type 0 → Type 0 → Files → (List ℕ → Type 0) → (List ℕ → List ℕ → FileFault → Type 0) → Causes
 file_causes tells failed files IsRead IsDamaged = record {
   failed = failed;
   read = IsRead;
-  damaged = λ name fault. IsRead name × (tells → IsSomeAnd (files name) (λ file. IsDamaged file fault));
+  damaged = λ name fault. IsRead name × (tells → IsSomeAnd (files name) (λ file. IsDamaged name file fault));
   writes = ⊥;
 }
 
--- a name that is listed, of a journal
-abbrev pub IsListedJournal : List (List ℕ) → List ℕ → Type 0
-IsListedJournal names name = Contains names name × IsJournal name
+-- a file that is read into memory: a journal or a mixed segment
+abbrev pub IsOfMemoryName : List ℕ → Type 0
+IsOfMemoryName name = IsJournal name ⊎ IsSegment (codes "mixed") name
 
--- a name that is listed, of a segment of the day
+-- it is damaged so
+abbrev pub IsDamagedInMemory : List ℕ → List ℕ → FileFault → Type 0
+IsDamagedInMemory name file fault =
+    (IsJournal name × IsDamagedJournal file fault)
+    ⊎ (IsSegment (codes "mixed") name × IsDamagedSegment (codes "mixed") file fault)
+
+-- one that is listed
+abbrev pub IsListedInMemory : List (List ℕ) → List ℕ → Type 0
+IsListedInMemory names name = Contains names name × IsOfMemoryName name
+
+-- a name that is listed, of a segment of the period
 abbrev pub IsListedSegment : List (List ℕ) → List ℕ → List ℕ → Type 0
-IsListedSegment names day name = Contains names name × IsSegment day name
+IsListedSegment names period name = Contains names name × IsSegment period name
 
 -- the name is that of a segment of a day that may have a record in the range
 pub record IsSegmentIn (range : InRange) (name : List ℕ) : Type 0 where
@@ -83,9 +93,9 @@ pub record IsSegmentIn (range : InRange) (name : List ℕ) : Type 0 where
   pub meets : MayMeet range day
   pub named : IsSegment day name
 
--- a file is read of a range: a journal, or a segment of a day that may have a record in it
+-- a file is read of a range: a journal, a mixed segment, or a segment of a day that may have a record in it
 pub record IsReadOf (tells : Type 0) (files : Files) (range : InRange) (name : List ℕ) : Type 0 where
-  pub counts : IsJournal name ⊎ IsSegmentIn range name
+  pub counts : IsOfMemoryName name ⊎ IsSegmentIn range name
   pub there : tells → IsSome (files name)
 
 -- the octets of a segment of a day that may have a record in the range are damaged so
@@ -96,7 +106,7 @@ pub record IsDamagedIn (range : InRange) (name file : List ℕ) (fault : FileFau
 -- a file that is read of a range is damaged so, as a journal or as a segment
 abbrev pub IsDamagedOf : Files → InRange → List ℕ → FileFault → Type 0
 IsDamagedOf files range name fault = IsSomeAnd (files name) (λ file.
-    (IsJournal name × IsDamagedJournal file fault) ⊎ IsDamagedIn range name file fault)
+    IsDamagedInMemory name file fault ⊎ IsDamagedIn range name file fault)
 
 -- of the reading of a range
 abbrev pub reading_causes : Type 0 → Type 0 → Files → InRange → Causes

@@ -9,9 +9,8 @@ use Rattle.archive_text.specs.Text.{text_of}
 use Rattle.archive_text.specs.declared.fault.ArchiveFault.{ArchiveFault}
 use Rattle.archive_text.specs.declared.limits.TheConstants.{ENTRY_MAX}
 use Rattle.journal.specs.Batches.{IsBody, batches_text, open_batch}
-use Rattle.record_store.specs.Holdings.{IsBatch, IsReadable, IsWholeJournal}
+use Rattle.record_store.specs.Holdings.{IsBatch, IsOfPeriod, IsReadable, IsWholeJournal}
 use Rattle.record_store.specs.Segments.{IsArchiveOfDay}
-use Rattle.store_reading.specs.Days.{IsOf}
 use Rattle.store_reading.specs.declared.fault.CheckFault.{CheckFault}
 use Rattle.store_reading.specs.declared.fault.CheckFault.TheVariants.{Damaged, Input, Memory}
 use Rattle.store_reading.specs.declared.fault.FileFault.{FileFault}
@@ -33,25 +32,25 @@ position n = min n (2 ^ 64 - 1)
 
 -- ---- segments
 
--- an entry of another day begins at a position of a segment, behind entries of the day
-pub record IsOtherDayAt (day file : List ℕ) (at : ℕ) : Type 0 where
+-- an entry of another day begins at a position of a segment, behind entries of the period
+pub record IsOtherDayAt (period file : List ℕ) (at : ℕ) : Type 0 where
   pub before : List Entry
   pub entry : Entry
   pub behind : List ℕ
   pub parts : file ≡ text_of (before ++ entry ∷ []) ++ behind
-  pub days : AllByRecursion (IsOf day) before
-  pub other : ¬ (IsOf day entry)
+  pub days : AllByRecursion (IsOfPeriod period) before
+  pub other : ¬ (IsOfPeriod period entry)
   pub place : at ≡ position (length (text_of before))
 
--- octets are not the archive of entries of a day: there is a fault in them, or an entry of another day
+-- octets are not the archive of entries of a period: there is a fault in them, or an entry of another day
 abbrev pub IsArchiveDamage : List ℕ → List ℕ → FileFault → Type 0
-IsArchiveDamage day file (Archive fault) = IsArchiveFault ENTRY_MAX file fault
-IsArchiveDamage day file (OtherDay at) = IsOtherDayAt day file at
+IsArchiveDamage period file (Archive fault) = IsArchiveFault ENTRY_MAX file fault
+IsArchiveDamage period file (OtherDay at) = IsOtherDayAt period file at
 
--- the octets of a segment of a day are damaged so
-pub record IsDamagedSegment (day file : List ℕ) (fault : FileFault) : Type 0 where
-  pub not_whole : ¬ (IsArchiveOfDay day file)
-  pub told : IsArchiveDamage day file fault
+-- the octets of a segment of a period are damaged so
+pub record IsDamagedSegment (period file : List ℕ) (fault : FileFault) : Type 0 where
+  pub not_whole : ¬ (IsArchiveOfDay period file)
+  pub told : IsArchiveDamage period file fault
 
 -- ---- journals
 

@@ -9,6 +9,18 @@ use Rattle.archive_digest.specs.declared.period.Period.TheVariants.{Day}
 abbrev pub IsDayText : List ℕ → Type 0
 IsDayText day = (day ≡ codes "undated") ⊎ (length day ≡ 10)
 
+-- the name of a period of segments: a day, or `mixed`, whose segments have records of any days
+abbrev pub IsPeriodText : List ℕ → Type 0
+IsPeriodText period = IsDayText period ⊎ (period ≡ codes "mixed")
+
+abbrev pub period_text : Option (List ℕ) → List ℕ
+period_text None = codes "mixed"
+period_text (Some day) = day
+
+-- records of an instant, or of none, may be in segments of the period
+abbrev pub MayHave : List ℕ → Option ℤ → Type 0
+MayHave period instant = IsPeriodOf Day instant period ⊎ (period ≡ codes "mixed")
+
 -- the entry is of the day
 abbrev pub IsOf : List ℕ → Entry → Type 0
 IsOf day e = IsIn Day day e

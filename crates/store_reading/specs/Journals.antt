@@ -1,25 +1,36 @@
--- What journals have.
-use Rattle.std.specs.Prelude.{◌≡◌, ◌↔◌, ◌⊎◌, ℕ, List, IfSome, IsSomeAnd}
+-- What is read into memory: what journals have, and mixed segments.
+use Rattle.std.specs.Prelude.{◌≡◌, ◌↔◌, ◌⊎◌, ℕ, List, IfSome, IsSomeAnd, codes}
 use Rattle.disk.specs.States.{Files}
 use Rattle.octet_devices.specs.Device.{InputState}
 use Rattle.archive_text.specs.Entries.{Entry, Has}
 use Rattle.archive_text.specs.Text.{BeginsWithEntry, IsArchive, text_of}
 use Rattle.archive_text.specs.declared.limits.TheConstants.{ENTRY_MAX}
-use Rattle.record_store.specs.Holdings.{JournalHas}
+use Rattle.archive_sets.specs.declared.range.InRange.{InRange}
+use Rattle.archive_join.specs.Ranges.{IsOfRange}
+use Rattle.record_store.specs.Holdings.{JournalHas, SegmentHas}
 use Rattle.record_store.specs.Names.{IsJournal}
 use Rattle.store_reading.specs.Names.{SomeName}
+use Rattle.store_reading.specs.Segments.{HasAsSegment}
 
 -- the file under a name has the entry, as a journal
 abbrev pub HasAsJournal : Files → List ℕ → Entry → Type 0
 HasAsJournal files name e = IsJournal name × IsSomeAnd (files name) (λ file. JournalHas file e)
 
--- a journal has it
-abbrev pub JournalsHave : Files → Entry → Type 0
-JournalsHave files e = (name : List ℕ) × HasAsJournal files name e
+-- the file under a name has it as a mixed segment, and it is of the range
+abbrev pub HasAsMixed : Files → InRange → List ℕ → Entry → Type 0
+HasAsMixed files range name e = HasAsSegment files (codes "mixed") name e × IsOfRange range e
 
--- one of the names has it
-abbrev pub NamedJournalsHave : Files → List (List ℕ) → Entry → Type 0
-NamedJournalsHave files names e = SomeName names (λ (name : List ℕ). HasAsJournal files name e)
+-- as one or the other
+abbrev pub HasInMemory : Files → InRange → List ℕ → Entry → Type 0
+HasInMemory files range name e = HasAsJournal files name e ⊎ HasAsMixed files range name e
+
+-- some file has it so
+abbrev pub MemoryHas : Files → InRange → Entry → Type 0
+MemoryHas files range e = (name : List ℕ) × HasInMemory files range name e
+
+-- one of the names has it so
+abbrev pub NamedMemoryHas : Files → InRange → List (List ℕ) → Entry → Type 0
+NamedMemoryHas files range names e = SomeName names (λ (name : List ℕ). HasInMemory files range name e)
 
 -- entries are added
 abbrev pub Adds : List Entry → List Entry → (Entry → Type 0) → Type 0
@@ -29,12 +40,12 @@ Adds old new given = (e : Entry) → Has new e ↔ (Has old e ⊎ given e)
 abbrev pub AddsFirst : List ℕ → List ℕ → List Entry → List Entry → Type 0
 AddsFirst text behind old new = (e : Entry) × BeginsWithEntry ENTRY_MAX text e behind × Adds old new (λ x. e ≡ x)
 
--- the archive of the entries that journals have
-pub record IsOfJournals (files : Files) (text : List ℕ) : Type 0 where
+-- the archive of the entries that journals have, and those of the range that mixed segments have
+pub record IsOfMemory (files : Files) (range : InRange) (text : List ℕ) : Type 0 where
   pub entries : List Entry
   pub archive : IsArchive ENTRY_MAX entries
   pub text_is : text ≡ text_of entries
-  pub have : (e : Entry) → Has entries e ↔ JournalsHave files e
+  pub have : (e : Entry) → Has entries e ↔ MemoryHas files range e
 
 -- an input gave all that it had
 abbrev pub GivesAll : InputState → InputState → List ℕ → Type 0
@@ -43,3 +54,8 @@ GivesAll d e octets = IfSome d.left (λ (input : List ℕ). octets ≡ input)
 -- the entries of the journal that an input has left are added
 abbrev pub AddsJournal : InputState → List Entry → List Entry → Type 0
 AddsJournal d old new = IfSome d.left (λ (input : List ℕ). Adds old new (JournalHas input))
+
+-- the entries of the range that a mixed segment has are added, which an input has left
+abbrev pub AddsMixed : InRange → InputState → List Entry → List Entry → Type 0
+AddsMixed range d old new =
+    IfSome d.left (λ (input : List ℕ). Adds old new (λ e. SegmentHas (codes "mixed") input e × IsOfRange range e))

@@ -4,6 +4,7 @@ pub mod Days
 pub mod Faults
 pub mod Folders
 pub mod Names
+pub mod Order
 pub mod Ranges
 pub mod Segments
 pub mod Journals

@@ -37,11 +37,6 @@ pub record IsNextSegment (last : Option (List ℕ)) (names : List (List ℕ)) (f
   pub none_before : (day : List ℕ) → IsDayText day → HaveSegment names day → IsAfter last day
       → IsSomeAnd found (λ (next : List ℕ). ¬ (IsDayBelow day next))
 
--- with one name more, whatever the names before it
-abbrev pub AddsName : Option (List ℕ) → List ℕ → Option (List ℕ) → Option (List ℕ) → Type 0
-AddsName last name next found =
-    (names : List (List ℕ)) → IsNextSegment last names next → IsNextSegment last (names ++ name ∷ []) found
-
 -- the day of the first entry of an archive's text
 abbrev pub IsFirstDay : List ℕ → List ℕ → Type 0
 IsFirstDay text day = (e : Entry) × (es : List Entry) × IsArchive ENTRY_MAX (e ∷ es) × (text ≡ text_of (e ∷ es)) ×

@@ -9,23 +9,23 @@ use Rattle.archive_text.specs.declared.limits.TheConstants.{ENTRY_MAX}
 use Rattle.archive_streams.specs.Entries.{IsWhole, Reads}
 use Rattle.archive_streams.specs.declared.entries.ArchiveEntries.{ArchiveEntries}
 use Rattle.archive_join.specs.Holders.{IsHeld}
-use Rattle.record_store.specs.Holdings.{SegmentHas}
+use Rattle.record_store.specs.Holdings.{IsOfPeriod, SegmentHas}
 use Rattle.record_store.specs.Names.{IsSegment}
 use Rattle.store_reading.specs.Days.{IsOf}
 use Rattle.store_reading.specs.Folders.{IsUnused}
 use Rattle.store_reading.specs.Names.{SomeName}
 
--- an input was read to its end, and is an archive of entries of the day
-pub record IsWholeOf (day : List ℕ) (d e : InputState) : Type 0 where
+-- an input was read to its end, and is an archive of entries of the period
+pub record IsWholeOf (period : List ℕ) (d e : InputState) : Type 0 where
   pub entries : List Entry
   pub whole : IsWhole d e entries
-  pub days : AllByRecursion (IsOf day) entries
+  pub days : AllByRecursion (IsOfPeriod period) entries
 
--- the entries that were read of an input are of the day
-pub record ReadsOf (day : List ℕ) (s : ArchiveEntries) (d e : InputState) : Type 0 where
+-- the entries that were read of an input are of the period
+pub record ReadsOf (period : List ℕ) (s : ArchiveEntries) (d e : InputState) : Type 0 where
   pub entries : List Entry
   pub reads : Reads s d e entries
-  pub days : AllByRecursion (IsOf day) entries
+  pub days : AllByRecursion (IsOfPeriod period) entries
 
 -- an input that was not called yet, of an archive of these entries
 pub record IsArchiveInput (d : InputState) (xs : List Entry) : Type 0 where
@@ -39,30 +39,30 @@ AreArchives [] [] = Unit {0}
 AreArchives (d ∷ ds) (xs ∷ xss) = IsArchiveInput d xs × AreArchives ds xss
 AreArchives ds xss = ⊥
 
--- the input of a segment of the day, which the folder has under the name
-pub record IsSegmentInput (files : Files) (name day : List ℕ) (d : InputState) : Type 0 where
+-- the input of a segment of the period, which the folder has under the name
+pub record IsSegmentInput (files : Files) (name period : List ℕ) (d : InputState) : Type 0 where
   pub entries : List Entry
   pub input : IsArchiveInput d entries
   pub file : files name ≡ Some (text_of entries)
-  pub days : AllByRecursion (IsOf day) entries
+  pub days : AllByRecursion (IsOfPeriod period) entries
 
--- the file under a name has the entry, as a segment of the day
+-- the file under a name has the entry, as a segment of the period
 abbrev pub HasAsSegment : Files → List ℕ → List ℕ → Entry → Type 0
-HasAsSegment files day name e = IsSegment day name × IsSomeAnd (files name) (λ file. SegmentHas day file e)
+HasAsSegment files period name e = IsSegment period name × IsSomeAnd (files name) (λ file. SegmentHas period file e)
 
--- a segment of the day has the entry
+-- a segment of the day has the entry, which is of the day
 abbrev pub DayHas : Files → List ℕ → Entry → Type 0
-DayHas files day e = (name : List ℕ) × HasAsSegment files day name e
+DayHas files day e = IsOf day e × ((name : List ℕ) × HasAsSegment files day name e)
 
 -- one of the names has it
 abbrev pub NamesHave : Files → List (List ℕ) → List ℕ → Entry → Type 0
-NamesHave files names day e = SomeName names (λ (name : List ℕ). HasAsSegment files day name e)
+NamesHave files names period e = SomeName names (λ (name : List ℕ). HasAsSegment files period name e)
 
--- the inputs of the day's segments that are among these names
-pub record AreSegmentsOf (files : Files) (names : List (List ℕ)) (day : List ℕ) (ds : List InputState) : Type 0 where
+-- the inputs of the period's segments that are among these names
+pub record AreSegmentsOf (files : Files) (names : List (List ℕ)) (period : List ℕ) (ds : List InputState) : Type 0 where
   pub entries : List (List Entry)
   pub inputs : AreArchives ds entries
-  pub have : (e : Entry) → IsHeld entries e ↔ NamesHave files names day e
+  pub have : (e : Entry) → IsHeld entries e ↔ NamesHave files names period e
 
 -- the inputs of the segments that are among some names become those of one name more
 abbrev pub AddsSegment : Files → List ℕ → List ℕ → List InputState → List InputState → Type 0

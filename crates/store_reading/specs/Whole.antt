@@ -1,5 +1,5 @@
 -- Files that are whole.
-use Rattle.std.specs.Prelude.{ℕ, List, Option, Contains, IfSome}
+use Rattle.std.specs.Prelude.{ℕ, List, Option, Contains, IfSome, codes}
 use Rattle.disk.specs.States.{Files}
 use Rattle.archive_text.specs.Entries.{Entry}
 use Rattle.archive_sets.specs.declared.range.InRange.{InRange}
@@ -13,17 +13,22 @@ use Rattle.store_reading.specs.Days.{IsAfter, IsOf}
 abbrev pub IsWholeJournalAt : Files → List ℕ → Type 0
 IsWholeJournalAt files name = IsJournal name → IfSome (files name) IsWholeJournal
 
--- so it is under each of these names
-abbrev pub NamedJournalsAreWhole : Files → List (List ℕ) → Type 0
-NamedJournalsAreWhole files names = (name : List ℕ) → Contains names name → IsWholeJournalAt files name
-
 -- so it is under each name of the folder
 abbrev pub JournalsAreWhole : Files → Type 0
 JournalsAreWhole files = (name : List ℕ) → IsWholeJournalAt files name
 
--- the file under a name, if there is one, is an archive of the day where the name is that of a segment of the day
+-- the file under a name, if there is one, is an archive of the period where the name is that of a segment of the period
 abbrev pub IsWholeSegmentAt : Files → List ℕ → List ℕ → Type 0
-IsWholeSegmentAt files day name = IsSegment day name → IfSome (files name) (IsArchiveOfDay day)
+IsWholeSegmentAt files period name = IsSegment period name → IfSome (files name) (IsArchiveOfDay period)
+
+-- it is whole where it is read into memory, as a journal or as a mixed segment
+pub record IsWholeInMemory (files : Files) (name : List ℕ) : Type 0 where
+  pub journal : IsWholeJournalAt files name
+  pub mixed : IsWholeSegmentAt files (codes "mixed") name
+
+-- so it is under each of these names
+abbrev pub NamedMemoryIsWhole : Files → List (List ℕ) → Type 0
+NamedMemoryIsWhole files names = (name : List ℕ) → Contains names name → IsWholeInMemory files name
 
 -- so it is under each of these names
 abbrev pub NamedSegmentsAreWhole : Files → List (List ℕ) → List ℕ → Type 0
@@ -46,7 +51,8 @@ abbrev pub EarlierAreWhole : Files → InRange → Option (List ℕ) → Type 0
 EarlierAreWhole files range last =
     (day : List ℕ) → ¬ (IsAfter last day) → MeetsRange range day → SegmentsAreWhole files day
 
--- what is read of a range is whole: each journal, and the segments of each day of the range
+-- what is read of a range is whole: each journal, each mixed segment, and the segments of each day of the range
 pub record IsWholeIn (files : Files) (range : InRange) : Type 0 where
   pub journals : JournalsAreWhole files
+  pub mixed : SegmentsAreWhole files (codes "mixed")
   pub segments : DaysAreWhole files range

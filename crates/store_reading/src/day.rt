@@ -121,7 +121,8 @@ impl Day {
 
     /// The same day.
     pub fn copy(&self) -> Day
-        ensures { result ≡ self.now }
+        ensures same { result ≡ self.now }
+        ensures day { IsDayText self.now }
     {
         Day {
             text: self.text,

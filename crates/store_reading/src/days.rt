@@ -2,12 +2,14 @@
 ghost use Rattle.std.specs.Prelude.{◌≡◌, ◌≤◌, ◌↔◌, ℕ, ℤ, List, false, IfNone, IfSome, IsSomeAnd, IsTrue, length, option_map};
 ghost use Rattle.archive_text.specs.Entries.{Entry};
 ghost use Rattle.archive_join.specs.Ranges.{IsOfRange};
-ghost use Rattle.store_reading.specs.Days.{HasInstant, IsAfter, IsFrom, IsOf};
-ghost use Rattle.store_reading.specs.Names.{AddsDay, AddsName, IsFirstDay, IsNextDay, IsNextSegment};
+ghost use Rattle.store_reading.specs.Days.{HasInstant, IsAfter, IsDayBelow, IsDayText, IsFrom, IsOf};
+ghost use Rattle.store_reading.specs.Names.{AddsDay, HaveSegment, IsFirstDay, IsNextDay, IsNextSegment};
+ghost use Rattle.store_reading.specs.Order.{AreInOrder};
 ghost use Rattle.store_reading.specs.Parts.{BeginsApart, BeginsWithDay, PartsAt};
 ghost use Rattle.store_reading.specs.Ranges.{MayMeet};
 
 use crate::day::Day;
+use crate::name_order::Names;
 use crate::names::segment_day;
 use archive_sets::{Condition, InRange};
 use archive_text::{ENTRY_MAX, EntryView, read_entry};
@@ -80,31 +82,44 @@ fn nearer(last: Option<&Day>, next: Option<Day>, day: Day) -> Option<Day>
     }
 }
 
-// Of the next day so far and the day of the segment that has a name, which of both comes next.
-fn with_name(name: &[u8], last: Option<&Day>, next: Option<Day>) -> Option<Day>
-    ensures { AddsName (option_map (λ d. d.now) last.entry) name.now next result }
+// The octets of the last day, behind which a day comes; none where there is no last one.
+fn last_octets(last: Option<&Day>) -> &[u8]
+    ensures { (day : List ℕ) → IsDayText day
+        → IsAfter (option_map (λ d. d.now) last.entry) day ↔ IsDayBelow result.now day }
 {
-    match segment_day(name) {
-        None => next,
-        Some(day) => nearer(last, next, day),
+    match last {
+        Some(last) => last.as_octets(),
+        None => b"".as_slice(),
     }
+}
+
+// The day of the first segment among names in their order.
+fn first_segment_day(names: &[FileName]) -> Option<Day>
+    requires { AreInOrder names.now }
+    ensures segment { IfSome result (λ day. IsDayText day × HaveSegment names.now day) }
+    ensures first { (day : List ℕ) → IsDayText day → HaveSegment names.now day
+        → IsSomeAnd result (λ (next : List ℕ). ¬ (IsDayBelow day next)) }
+{
+    'names: for name in names {
+        match segment_day(name.as_octets()) {
+            Some(day) => return Some(day),
+            None => {}
+        }
+    }
+    None
 }
 
 /// The next day behind the last one among the segments with these names, or the first if there is
 /// no last one.
-pub fn next_segment_day(names: &[FileName], last: Option<&Day>) -> Option<Day>
+pub fn next_segment_day(names: &Names, last: Option<&Day>) -> Option<Day>
     ensures { IsNextSegment (option_map (λ d. d.now) last.entry) names.now result }
 {
-    let mut next = None;
-    'names: for name in names {
-        next = with_name(name.as_octets(), last, next);
-    }
-    next
+    first_segment_day(names.behind(last_octets(last)))
 }
 
 /// The next day behind the last one, among those of segments and that of the first entry of an
 /// archive's text.
-pub(crate) fn next_day(names: &[FileName], text: &[u8], last: Option<&Day>) -> Option<Day>
+pub(crate) fn next_day(names: &Names, text: &[u8], last: Option<&Day>) -> Option<Day>
     ensures { IsNextDay (option_map (λ d. d.now) last.entry) names.now text.now result }
 {
     let next = next_segment_day(names, last);

@@ -1,23 +1,18 @@
 //! The entries of journals.
-ghost use Rattle.std.specs.Prelude.{◌≡◌, ◌≤◌, ◌++◌, IfErr, IfNone, IfOk, IfSome, IsSome, List, ℕ, OnOk, length};
+ghost use Rattle.std.specs.Prelude.{◌≡◌, ◌≤◌, ◌++◌, IfErr, IfNone, IfOk, IfSome, List, ℕ, OnOk, length};
 ghost use Rattle.journal.specs.Batches.{IsBody, IsClosed, open_batch};
 ghost use Rattle.archive_text.specs.Entries.{IsEntry};
 ghost use Rattle.archive_text.specs.EntryViews.{entry_of};
-ghost use Rattle.archive_text.specs.Text.{IsArchive, text_of};
 ghost use Rattle.record_store.specs.Holdings.{BatchHas, IsReadable, IsWholeJournal, JournalHas};
 ghost use Rattle.record_store.specs.Names.{IsJournal};
-ghost use Rattle.store_reading.specs.Causes.{IsCause, IsListedJournal, file_causes};
+ghost use Rattle.store_reading.specs.Causes.{IsCause, file_causes};
 ghost use Rattle.store_reading.specs.Damages.{IsDamagedBatch, IsDamagedJournal, IsFirstFault, OfLeft, Tells};
-ghost use Rattle.store_reading.specs.Folders.{AreNamesOf};
-ghost use Rattle.store_reading.specs.Journals.{Adds, AddsFirst, AddsJournal, GivesAll, HasAsJournal, IsOfJournals};
-ghost use Rattle.store_reading.specs.Journals.{NamedJournalsHave};
+ghost use Rattle.store_reading.specs.Journals.{Adds, AddsFirst, AddsJournal, GivesAll, HasAsJournal};
 ghost use Rattle.store_reading.specs.Sources.{set_entries};
-ghost use Rattle.store_reading.specs.Whole.{IsWholeJournalAt, JournalsAreWhole};
-ghost use Rattle.store_reading.specs.Whole.{NamedJournalsAreWhole};
+ghost use Rattle.store_reading.specs.Whole.{IsWholeJournalAt};
 
 use crate::fault::{CheckFault, FileFault, ReadFault};
 use crate::folder::Folder;
-use crate::listing::{LISTINGS, list};
 use crate::names::is_journal;
 use crate::segment::open_file;
 use archive_pages::PagedArchive;
@@ -25,7 +20,7 @@ use archive_streams::InputFault;
 use archive_text::{AddFault, ArchiveFault, ENTRY_MAX, EntryView, Store, read_entry};
 use disk::FileName;
 use journal::batch_len;
-use octet_devices::{Input, ReadAllFault, ToWrite, read_all};
+use octet_devices::{Input, ReadAllFault, read_all};
 use std::alloc::Global;
 use syslog_grammar::view;
 
@@ -35,8 +30,8 @@ const JOURNAL_MAX: usize = 1 << 40;
 // the octets before those of a batch
 const HEAD: usize = 5;
 
-// Adds an entry to a set.
-fn add_entry(alloc: Global, set: &mut PagedArchive, entry: &EntryView<'_>) -> Result<(), CheckFault>
+/// Adds an entry to a set.
+pub(crate) fn add_entry(alloc: Global, set: &mut PagedArchive, entry: &EntryView<'_>) -> Result<(), CheckFault>
     requires entry { IsEntry (entry_of entry.now) }
     requires fits { length entry.now.octets.now ≤ ENTRY_MAX }
     ensures adds { OnOk result (Adds (set_entries set.old)
@@ -157,8 +152,8 @@ fn add_octets<R: Input>(
     add_batches(alloc, set, &octets)
 }
 
-// Adds the entries of the file of a name, where that is a journal.
-fn add_journal<F: Folder>(
+/// Adds the entries of the file of a name, where that is a journal.
+pub(crate) fn add_journal<F: Folder>(
     alloc: Global,
     folder: &mut F,
     name: &FileName,
@@ -171,7 +166,7 @@ fn add_journal<F: Folder>(
     ensures same { F.tells folder.new → F.files folder.new ≡ F.files folder.old }
     ensures told { F.tells folder.new → F.tells folder.old }
     ensures cause { IfErr result (IsCause (file_causes (F.tells folder.new) (F.has_failed folder.new)
-        (F.files folder.old) (λ (n : List ℕ). (n ≡ name.now) × IsJournal n) IsDamagedJournal)) }
+        (F.files folder.old) (λ (n : List ℕ). (n ≡ name.now) × IsJournal n) (λ _. IsDamagedJournal))) }
 {
     if !is_journal(name.as_octets()) {
         return Ok(());
@@ -181,64 +176,4 @@ fn add_journal<F: Folder>(
         Ok(()) => Ok(()),
         Err(fault) => Err(fault.of(name.copy(alloc)?)),
     }
-}
-
-// Adds the entries of all journals that are among these names.
-fn add_journals<F: Folder>(
-    alloc: Global,
-    folder: &mut F,
-    names: &[FileName],
-    set: &mut PagedArchive,
-) -> Result<(), ReadFault>
-    ensures adds { OnOk result (F.tells folder.new
-        → Adds (set_entries set.old)
-        (set_entries set.new) (NamedJournalsHave (F.files folder.old) names.now)) }
-    ensures whole { OnOk result (F.tells folder.new
-        → NamedJournalsAreWhole (F.files folder.old) names.now) }
-    ensures same { F.tells folder.new → F.files folder.new ≡ F.files folder.old }
-    ensures told { F.tells folder.new → F.tells folder.old }
-    ensures cause { IfErr result (IsCause (file_causes (F.tells folder.new) (F.has_failed folder.new)
-        (F.files folder.old) (IsListedJournal names.now) IsDamagedJournal)) }
-{
-    'names: for name in names {
-        add_journal(alloc, folder, name, set)?;
-    }
-    Ok(())
-}
-
-// The text of a set.
-fn set_text(alloc: Global, set: &PagedArchive) -> Result<Vec<u8>, ReadFault>
-    ensures text { IfOk result (λ v. v.items ≡ text_of (set_entries set.now)) }
-    ensures archive { IsArchive ENTRY_MAX (set_entries set.now) }
-    ensures memory { IfErr result (λ fault. fault ≡ ReadFault.Memory) }
-{
-    let mut text = ToWrite::new(Vec::new(alloc));
-    match set.write(&mut text) {
-        Ok(()) => Ok(text.into_inner()),
-        Err(_) => Err(ReadFault::Memory),
-    }
-}
-
-/// The archive of the entries in a folder's journals. If one is gone that was listed, the names are
-/// listed again: a checkpoint has made segments of it.
-pub(crate) fn read_journals<F: Folder>(alloc: Global, folder: &mut F) -> Result<Vec<u8>, ReadFault>
-    ensures journals { F.tells folder.new → IfOk result (λ v. IsOfJournals (F.files folder.old) v.items) }
-    ensures whole { OnOk result (F.tells folder.new → JournalsAreWhole (F.files folder.old)) }
-    ensures same { F.tells folder.new → F.files folder.new ≡ F.files folder.old }
-    ensures told { F.tells folder.new → F.tells folder.old }
-    ensures cause { IfErr result (IsCause (file_causes (F.tells folder.new) (F.has_failed folder.new)
-        (F.files folder.old)
-        (λ (n : List ℕ). IsJournal n × (F.tells folder.new → IsSome (F.files folder.old n)))
-        IsDamagedJournal)) }
-{
-    'listings: for _ in 0..LISTINGS {
-        let names = list(alloc, folder)?;
-        let mut set = PagedArchive::new(alloc);
-        match add_journals(alloc, folder, &names, &mut set) {
-            Ok(()) => return set_text(alloc, &set),
-            Err(ReadFault::Gone) => {}
-            Err(fault) => return Err(fault),
-        }
-    }
-    Err(ReadFault::Gone)
 }

@@ -5,6 +5,7 @@ ghost use Rattle.store_reading.specs.Folders.{AreNamesOf};
 
 use crate::fault::ReadFault;
 use crate::folder::Folder;
+use crate::name_order::Names;
 use disk::FileName;
 use std::alloc::Global;
 
@@ -59,4 +60,17 @@ pub fn list<F: Folder>(alloc: Global, folder: &mut F) -> Result<Vec<FileName>, R
         names = again;
     }
     Err(ReadFault::Gone)
+}
+
+/// The names of a folder's files, listed in the same way, those of the segments of a day side by
+/// side.
+pub(crate) fn list_in_order<F: Folder>(alloc: Global, folder: &mut F) -> Result<Names, ReadFault>
+    ensures names { F.tells folder.new → IfOk result (λ names. AreNamesOf (F.files folder.old) names) }
+    ensures same { F.tells folder.new → F.files folder.new ≡ F.files folder.old }
+    ensures told { F.tells folder.new → F.tells folder.old }
+    ensures cause { IfErr result (IsCause (list_causes (F.has_failed folder.new))) }
+{
+    let names = list(alloc, folder)?;
+    let ordered = Names::new(names)?;
+    Ok(ordered)
 }

@@ -1,10 +1,11 @@
 //! What files are called.
-ghost use Rattle.std.specs.Prelude.{◌≡◌, ◌↔◌, ◌<◌, ◌^◌, All, IfNone, IfSome, IsTrue, List, ℕ, Some};
+ghost use Rattle.std.specs.Prelude.{◌≡◌, ◌↔◌, ◌<◌, ◌^◌, All, IfNone, IfSome, IsTrue, List, ℕ, Some, codes};
 ghost use Rattle.record_store.specs.Names.{IsHexadecimal, IsJournal, IsSegment, journal_name};
-ghost use Rattle.store_reading.specs.Days.{IsDayText};
+ghost use Rattle.store_reading.specs.Days.{IsDayText, IsPeriodText};
 ghost use Rattle.store_reading.specs.Names.{IsDottedDigest};
 
 use crate::day::Day;
+use crate::period::Period;
 use itoa::Buffer;
 
 // a dot and the digest of a segment
@@ -38,20 +39,56 @@ fn named_day(name: &[u8]) -> Option<Day>
     Day::dated(name)
 }
 
-/// The day of the segment with this name, if it is one of a segment.
-pub fn segment_day(name: &[u8]) -> Option<Day>
-    ensures some { IfSome result (λ day. IsDayText day × IsSegment day name.now) }
-    ensures only { (day : List ℕ) → IsDayText day → IsSegment day name.now → result ≡ Some day }
+// The period of this name.
+fn named_period(name: &[u8]) -> Option<Period>
+    ensures some { IfSome result (λ period. IsPeriodText period × (period ≡ name.now)) }
+    ensures all { IsPeriodText name.now → result ≡ Some name.now }
+{
+    if name == b"mixed".as_slice() {
+        return Some(Period::mixed());
+    }
+    match named_day(name) {
+        None => None,
+        Some(day) => Some(Period::of(&day)),
+    }
+}
+
+/// The period of the segment with this name, if it is one of a segment.
+pub fn segment_period(name: &[u8]) -> Option<Period>
+    ensures some { IfSome result (λ period. IsPeriodText period × IsSegment period name.now) }
+    ensures only { (period : List ℕ) → IsPeriodText period → IsSegment period name.now
+        → result ≡ Some period }
 {
     let front = name.strip_suffix(b".archive".as_slice())?;
     if front.len() < DIGEST_LEN {
         return None;
     }
-    let (day, digest) = front.split_at(front.len() - DIGEST_LEN);
+    let (period, digest) = front.split_at(front.len() - DIGEST_LEN);
     if !is_dotted_digest(digest) {
         return None;
     }
-    named_day(day)
+    named_period(period)
+}
+
+/// The day of the segment with this name, if it is one of a segment of a day.
+pub fn segment_day(name: &[u8]) -> Option<Day>
+    ensures some { IfSome result (λ day. IsDayText day × IsSegment day name.now) }
+    ensures only { (day : List ℕ) → IsDayText day → IsSegment day name.now → result ≡ Some day }
+{
+    match segment_period(name) {
+        None => None,
+        Some(period) => period.day(),
+    }
+}
+
+/// Whether this is the name of a segment with records of any days.
+pub fn is_mixed(name: &[u8]) -> bool
+    ensures { IsTrue result ↔ IsSegment (codes "mixed") name.now }
+{
+    match segment_period(name) {
+        None => false,
+        Some(period) => period.is_mixed(),
+    }
 }
 
 // The number of the journal that has this name.

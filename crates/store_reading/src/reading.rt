@@ -4,7 +4,7 @@ ghost use Rattle.store_reading.specs.Causes.{IsCause, IsListedSegment, WriterFai
 ghost use Rattle.store_reading.specs.Damages.{IsDamagedSegment};
 ghost use Rattle.store_reading.specs.Faults.{IsFaultOfInput, IsJoinFault};
 ghost use Rattle.store_reading.specs.Folders.{AreNamesOf};
-ghost use Rattle.store_reading.specs.Journals.{IsOfJournals};
+ghost use Rattle.store_reading.specs.Journals.{IsOfMemory};
 ghost use Rattle.store_reading.specs.Sets.{AreInputsOf, DayOutcome, IsArchiveText, WritesPart, WritesSet};
 ghost use Rattle.store_reading.specs.Sources.{source_state};
 ghost use Rattle.store_reading.specs.Whole.{DaysAreWhole, IsWholeIn, MeetsRange, SegmentsAreWhole};
@@ -13,10 +13,12 @@ use crate::day::Day;
 use crate::days::{day_len, is_outside, next_day};
 use crate::fault::{CheckFault, FileFault, ReadFault};
 use crate::folder::Folder;
-use crate::journals::read_journals;
-use crate::listing::list;
+use crate::listing::list_in_order;
+use crate::memory::read_memory;
+use crate::name_order::Names;
 use crate::of_range::OfRange;
-use crate::opening::{is_segment_of, open_day};
+use crate::opening::{is_segment_of, open_period};
+use crate::period::Period;
 use crate::source::Source;
 use archive_join::{JoinFault, join_streams};
 use archive_sets::InRange;
@@ -28,19 +30,19 @@ use std::alloc::Global;
 /// The most days of a folder that is read: more than those of the years 0 to 9999.
 pub const DAYS_MAX: usize = 4_000_000;
 
-// The fault of the input of this number, which is that of a segment of the day.
+// The fault of the input of this number, which is that of a segment of the period.
 fn fault_at(
     alloc: Global,
     names: &[FileName],
-    day: &Day,
+    period: &Period,
     input: usize,
     fault: CheckFault,
 ) -> ReadFault
-    ensures { IsFaultOfInput day.now names.now input fault result }
+    ensures { IsFaultOfInput period.now names.now input fault result }
 {
     let mut at: usize = 0;
     'names: for name in names {
-        if is_segment_of(name.as_octets(), day) {
+        if is_segment_of(name.as_octets(), period) {
             if at == input {
                 return match name.copy(alloc) {
                     Ok(name) => fault.of(name),
@@ -53,15 +55,20 @@ fn fault_at(
     ReadFault::Gone
 }
 
-/// Why the segments of a day among these names were not joined, from the fault of joining them.
-pub fn join_fault(alloc: Global, names: &[FileName], day: &Day, fault: JoinFault) -> ReadFault
-    ensures { IsJoinFault day.now names.now fault result }
+/// Why the segments of a period among these names were not joined, from the fault of joining them.
+pub fn join_fault(
+    alloc: Global,
+    names: &[FileName],
+    period: &Period,
+    fault: JoinFault,
+) -> ReadFault
+    ensures { IsJoinFault period.now names.now fault result }
 {
     match fault {
         JoinFault::Archive { input, fault } => fault_at(
             alloc,
             names,
-            day,
+            period,
             input,
             CheckFault::Damaged(FileFault::Archive(fault)),
         ),
@@ -69,7 +76,7 @@ pub fn join_fault(alloc: Global, names: &[FileName], day: &Day, fault: JoinFault
             fault_at(
                 alloc,
                 names,
-                day,
+                period,
                 input,
                 CheckFault::Input(InputFault::Device),
             )
@@ -78,7 +85,7 @@ pub fn join_fault(alloc: Global, names: &[FileName], day: &Day, fault: JoinFault
             fault_at(
                 alloc,
                 names,
-                day,
+                period,
                 input,
                 CheckFault::Input(InputFault::Endless),
             )
@@ -88,54 +95,54 @@ pub fn join_fault(alloc: Global, names: &[FileName], day: &Day, fault: JoinFault
     }
 }
 
-// The inputs of a day: its segments, and its entries of the journals, of which this is the text.
+// The inputs of a day: its segments, and its entries in memory, of which this is the text.
 fn day_inputs<'a, F: Folder>(
     alloc: Global,
     folder: &mut F,
-    names: &mut Vec<FileName>,
+    names: &mut Names,
     day: &Day,
     text: &'a [u8],
 ) -> Result<Vec<Source<'a, F::File>>, ReadFault>
     ensures inputs { IfOk result (λ v. F.tells folder.new
-        → AreNamesOf (F.files folder.old) names.old.items
+        → AreNamesOf (F.files folder.old) names.old
         → AreInputsOf (F.files folder.old) day.now text.now (map (source_state F.File.state) v.items)) }
-    ensures whole { OnOk result (F.tells folder.new → AreNamesOf (F.files folder.old) names.old.items
+    ensures whole { OnOk result (F.tells folder.new → AreNamesOf (F.files folder.old) names.old
         → SegmentsAreWhole (F.files folder.old) day.now) }
-    ensures names { F.tells folder.new → AreNamesOf (F.files folder.old) names.old.items
-        → AreNamesOf (F.files folder.old) names.new.items }
+    ensures names { F.tells folder.new → AreNamesOf (F.files folder.old) names.old
+        → AreNamesOf (F.files folder.old) names.new }
     ensures same { F.tells folder.new → F.files folder.new ≡ F.files folder.old }
     ensures told { F.tells folder.new → F.tells folder.old }
     ensures cause { IfErr result (IsCause (file_causes (F.tells folder.new) (F.has_failed folder.new)
-        (F.files folder.old) (IsListedSegment names.new.items day.now)
-        (IsDamagedSegment day.now))) }
+        (F.files folder.old) (IsListedSegment names.new day.now)
+        (λ _. IsDamagedSegment day.now))) }
 {
-    let mut inputs = open_day(alloc, folder, names, day)?;
+    let mut inputs = open_period(alloc, folder, names, &Period::of(day))?;
     inputs.push(Source::Octets(FromRead::new(text)))?;
     Ok(inputs)
 }
 
-// Writes what a day has in the range: what its segments have, and its entries of the journals, of
-// which this is the text.
+// Writes what a day has in the range: what its segments have, and its entries in memory, of which
+// this is the text.
 fn read_day<F: Folder, W: Output>(
     alloc: Global,
     folder: &mut F,
-    names: &mut Vec<FileName>,
+    names: &mut Names,
     day: &Day,
     text: &[u8],
     kept: &OfRange,
     writer: &mut W,
 ) -> Result<(), ReadFault>
-    ensures outcome { F.tells folder.new → AreNamesOf (F.files folder.old) names.old.items
+    ensures outcome { F.tells folder.new → AreNamesOf (F.files folder.old) names.old
         → DayOutcome result (F.files folder.old) kept.now.range day.now text.now
         (W.state writer.old).taken (W.state writer.new).taken }
-    ensures whole { OnOk result (F.tells folder.new → AreNamesOf (F.files folder.old) names.old.items
+    ensures whole { OnOk result (F.tells folder.new → AreNamesOf (F.files folder.old) names.old
         → MeetsRange kept.now.range day.now → SegmentsAreWhole (F.files folder.old) day.now) }
-    ensures names { F.tells folder.new → AreNamesOf (F.files folder.old) names.old.items
-        → AreNamesOf (F.files folder.old) names.new.items }
+    ensures names { F.tells folder.new → AreNamesOf (F.files folder.old) names.old
+        → AreNamesOf (F.files folder.old) names.new }
     ensures same { F.tells folder.new → F.files folder.new ≡ F.files folder.old }
     ensures told { F.tells folder.new → F.tells folder.old }
     ensures cause { IfErr result (IsCause (reading_causes
-        (F.tells folder.new × AreNamesOf (F.files folder.old) names.old.items × IsArchiveText text.now)
+        (F.tells folder.new × AreNamesOf (F.files folder.old) names.old × IsArchiveText text.now)
         (F.has_failed folder.new) (F.files folder.old) kept.now.range)) }
     ensures writer { WriterFailures result (W.state writer.old).failures
         (W.state writer.new).failures }
@@ -146,33 +153,38 @@ fn read_day<F: Folder, W: Output>(
     let mut inputs = day_inputs(alloc, folder, names, day, text)?;
     match join_streams(alloc, kept, inputs.as_mut_slice(), writer) {
         Ok(_) => Ok(()),
-        Err(fault) => Err(join_fault(alloc, names, day, fault)),
+        Err(fault) => Err(join_fault(
+            alloc,
+            names.as_slice(),
+            &Period::of(day),
+            fault,
+        )),
     }
 }
 
-// Writes all days, with the journals' entries, of which this is the text.
+// Writes all days, with the entries in memory, of which this is the text.
 fn read_days<F: Folder, W: Output>(
     alloc: Global,
     folder: &mut F,
-    names: &mut Vec<FileName>,
+    names: &mut Names,
     text: &[u8],
     kept: &OfRange,
     writer: &mut W,
 ) -> Result<(), ReadFault>
-    ensures outcome { F.tells folder.new → AreNamesOf (F.files folder.old) names.old.items
-        → IsOfJournals (F.files folder.old) text.now
+    ensures outcome { F.tells folder.new → AreNamesOf (F.files folder.old) names.old
+        → IsOfMemory (F.files folder.old) kept.now.range text.now
         → MatchResult result
         (λ _. WritesSet (F.files folder.old) kept.now.range (W.state writer.old).taken
         (W.state writer.new).taken)
         (λ _. WritesPart (F.files folder.old) kept.now.range (W.state writer.old).taken
         (W.state writer.new).taken) }
-    ensures whole { OnOk result (F.tells folder.new → AreNamesOf (F.files folder.old) names.old.items
+    ensures whole { OnOk result (F.tells folder.new → AreNamesOf (F.files folder.old) names.old
         → DaysAreWhole (F.files folder.old) kept.now.range) }
     ensures same { F.tells folder.new → F.files folder.new ≡ F.files folder.old }
     ensures told { F.tells folder.new → F.tells folder.old }
     ensures cause { IfErr result (IsCause (reading_causes
-        (F.tells folder.new × AreNamesOf (F.files folder.old) names.old.items
-        × IsOfJournals (F.files folder.old) text.now)
+        (F.tells folder.new × AreNamesOf (F.files folder.old) names.old
+        × IsOfMemory (F.files folder.old) kept.now.range text.now)
         (F.has_failed folder.new) (F.files folder.old) kept.now.range)) }
     ensures writer { WriterFailures result (W.state writer.old).failures
         (W.state writer.new).failures }
@@ -193,9 +205,10 @@ fn read_days<F: Folder, W: Output>(
 
 /// Writes the archive of the records in a range of time that a folder holds.
 ///
-/// The journals are read first, into memory; then the segments, day by day, each once to see that
-/// it is an archive of entries of its day, and once as it is joined. Days that have no instant in
-/// the range are not opened. If a file is gone that was listed, the names are listed again.
+/// The journals are read first, into memory, and of the mixed segments what is in the range; then
+/// the segments of days, day by day, each once to see that it is an archive of entries of its day,
+/// and once as it is joined. Days that have no instant in the range are not opened. If a file is
+/// gone that was listed, the names are listed again.
 ///
 /// # Errors
 /// The first fault that is met, and for which file. What was written by then is a prefix of the
@@ -228,7 +241,7 @@ pub fn read<F: Folder, W: Output>(
     ensures same { F.tells folder.new → F.files folder.new ≡ F.files folder.old }
     ensures told { F.tells folder.new → F.tells folder.old }
 {
-    let text = read_journals(alloc, folder)?;
-    let mut names = list(alloc, folder)?;
+    let text = read_memory(alloc, folder, &range)?;
+    let mut names = list_in_order(alloc, folder)?;
     read_days(alloc, folder, &mut names, &text, &OfRange { range }, writer)
 }

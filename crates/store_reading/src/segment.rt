@@ -7,9 +7,9 @@ ghost use Rattle.store_reading.specs.Damages.{IsDamagedSegment, OfLeft, Tells, p
 ghost use Rattle.store_reading.specs.Folders.{IsUnused, Opens};
 ghost use Rattle.store_reading.specs.Segments.{IsSegmentInput, IsWholeOf};
 
-use crate::day::Day;
 use crate::fault::{CheckFault, FileFault, ReadFault};
 use crate::folder::Folder;
+use crate::period::Period;
 use archive_streams::ArchiveEntries;
 use disk::{DiskFault, FileName};
 use itoa::Buffer;
@@ -24,21 +24,21 @@ fn text_len(octets: &[u8]) -> u64
     (octets.len() as u64).saturating_add(count.saturating_add(1))
 }
 
-/// Reads a segment to its end: it must be an archive whose entries are all of this day.
+/// Reads a segment to its end: it must be an archive whose entries are all of this period.
 pub(crate) fn check_segment<R: Input>(
     alloc: Global,
-    day: &Day,
+    period: &Period,
     reader: &mut R,
 ) -> Result<(), CheckFault>
-    ensures whole { OnOk result (IsWholeOf day.now (R.state reader.old) (R.state reader.new)) }
+    ensures whole { OnOk result (IsWholeOf period.now (R.state reader.old) (R.state reader.new)) }
     ensures damaged { IfErr result (λ fault. OfLeft (R.state reader.old) (λ file.
-        Tells fault (IsDamagedSegment day.now file))) }
+        Tells fault (IsDamagedSegment period.now file))) }
 {
     let mut entries = ArchiveEntries::new(alloc)?;
     let mut at: u64 = 0;
     'entries: while entries.next(reader)? {
         let entry = entries.entry();
-        if !Day::of(entry.instant).is(day) {
+        if !period.may_have(entry.instant) {
             return Err(CheckFault::Damaged(FileFault::OtherDay { at }));
         }
         at = at.saturating_add(text_len(entry.octets));
@@ -72,23 +72,23 @@ pub fn open_file<F: Folder>(
     }
 }
 
-/// Opens a segment of a day, once it has been read to its end: it is an archive of entries of the
-/// day.
+/// Opens a segment of a period, once it has been read to its end: it is an archive of entries of the
+/// period.
 pub(crate) fn open_segment<F: Folder>(
     alloc: Global,
     folder: &mut F,
     name: &FileName,
-    day: &Day,
+    period: &Period,
 ) -> Result<F::File, ReadFault>
     ensures input { F.tells folder.new → IfOk result (λ file.
-        IsSegmentInput (F.files folder.old) name.now day.now (F.File.state file)) }
+        IsSegmentInput (F.files folder.old) name.now period.now (F.File.state file)) }
     ensures same { F.tells folder.new → F.files folder.new ≡ F.files folder.old }
     ensures told { F.tells folder.new → F.tells folder.old }
     ensures cause { IfErr result (IsCause (file_causes (F.tells folder.new) (F.has_failed folder.new)
-        (F.files folder.old) (λ (n : List ℕ). n ≡ name.now) (IsDamagedSegment day.now))) }
+        (F.files folder.old) (λ (n : List ℕ). n ≡ name.now) (λ _. IsDamagedSegment period.now))) }
 {
     let mut file = open_file(alloc, folder, name)?;
-    match check_segment(alloc, day, &mut file) {
+    match check_segment(alloc, period, &mut file) {
         Ok(()) => open_file(alloc, folder, name),
         Err(fault) => Err(fault.of(name.copy(alloc)?)),
     }

@@ -6,7 +6,7 @@ use Rattle.journal.specs.Journals.{Stands as JournalStands}
 use Rattle.record_store.specs.Causes.{IsCause}
 use Rattle.record_store.specs.Turns.{making_causes, removing_causes, turn_causes}
 use Rattle.record_store.proofs.Causing.{cause_weaker}
-use Rattle.record_store.proofs.Remaining.{made_stay, removed_stay, stay_then}
+use Rattle.record_store.proofs.Remaining.{grow_then, made_grow, removed_grow}
 use Rattle.record_store.proofs.Showing.{ready_shows}
 use Rattle.journal.specs.declared.journal.Journal.{Journal}
 use Rattle.record_store.specs.declared.store.RecordStore.{RecordStore}
@@ -188,7 +188,7 @@ pub returns-in_err-journal-clause-segments : goal.returns-in_err-journal-clause-
 returns-in_err-journal-clause-segments g c tells =
     let number = c.args.number in
     let fits : number + 1 < 2 ^ 64 = omega arith in
-    made_stay (g.D.Disk.state c.args.disk.now) (g.D.Disk.state c.make_journal.new.disk) (number + 1) fits
+    made_grow (g.D.Disk.state c.args.disk.now) (g.D.Disk.state c.make_journal.new.disk) (number + 1) fits
     (c.make_journal.ensures.others tells)
 
 pub returns-in_err-remove_journal-clause-segments : goal.returns-in_err-remove_journal-clause-segments
@@ -199,9 +199,9 @@ returns-in_err-remove_journal-clause-segments g c tells =
     let number = c.args.number in
     let fits : number + 1 < 2 ^ 64 = omega arith in
     let small : number < 2 ^ 64 = omega (arith, fits) in
-    stay_then zero one two
-    (made_stay zero one (number + 1) fits (c.make_journal.ensures.others (c.remove_journal.ensures.told tells)))
-    (removed_stay one two number small (c.remove_journal.ensures.done tells))
+    grow_then 0 0 zero one two
+    (made_grow zero one (number + 1) fits (c.make_journal.ensures.others (c.remove_journal.ensures.told tells)))
+    (removed_grow one two number small (c.remove_journal.ensures.done tells))
 
 pub returns-clause-segments : goal.returns-clause-segments
 returns-clause-segments g c tells =
@@ -211,6 +211,6 @@ returns-clause-segments g c tells =
     let number = c.args.number in
     let fits : number + 1 < 2 ^ 64 = omega arith in
     let small : number < 2 ^ 64 = omega (arith, fits) in
-    stay_then zero one two
-    (made_stay zero one (number + 1) fits (c.make_journal.ensures.others (c.remove_journal.ensures.told tells)))
-    (removed_stay one two number small (c.remove_journal.ensures.done tells))
+    grow_then 0 0 zero one two
+    (made_grow zero one (number + 1) fits (c.make_journal.ensures.others (c.remove_journal.ensures.told tells)))
+    (removed_grow one two number small (c.remove_journal.ensures.done tells))

@@ -12,17 +12,17 @@ use Rattle.store_reading.proofs.opening.open_named.Goals as goal
 
 pub returns-then-not-is_segment_of-clause-opened : goal.returns-then-not-is_segment_of-clause-opened
 returns-then-not-is_segment_of-clause-opened g c t names s =
-    segments_other (g.F.Folder.files c.args.folder.now) names c.args.name.now c.args.day.now _ s
+    segments_other (g.F.Folder.files c.args.folder.now) names c.args.name.now c.args.period.now _ s
     (λ segment. let off : c.is_segment_of.result ≡ false = search rules in
     false≢true (sym off
-    ∙ c.is_segment_of.ensures.1 (subst (IsSegment c.args.day.now) (sym c.as_octets.ensures.value) segment)))
+    ∙ c.is_segment_of.ensures.1 (subst (IsSegment c.args.period.now) (sym c.as_octets.ensures.value) segment)))
 
 pub returns-clause-opened : goal.returns-clause-opened
 returns-clause-opened g c t names s =
     let state = source_state g.F.File.Input.state in
     let files = g.F.Folder.files c.args.folder.now in
     let name = c.args.name.now in
-    let day = c.args.day.now in
+    let day = c.args.period.now in
     let segment = subst (IsSegment day) c.as_octets.ensures.value (c.is_segment_of.ensures.0 (search rules)) in
     subst (λ (ds : List InputState). AreSegmentsOf files (names ++ name ∷ []) day ds)
     (sym (ap (map state) c.in_ok-push.ensures.items
@@ -33,11 +33,11 @@ returns-clause-opened g c t names s =
 
 pub returns-clause-whole : goal.returns-clause-whole
 returns-clause-whole g c t =
-    segment_whole (g.F.Folder.files c.args.folder.now) c.args.name.now c.args.day.now
+    segment_whole (g.F.Folder.files c.args.folder.now) c.args.name.now c.args.period.now
     (g.F.File.Input.state c.in_ok-file.file) (c.in_ok-file.ensures.input t)
 
 pub returns-then-not-is_segment_of-clause-whole : goal.returns-then-not-is_segment_of-clause-whole
 returns-then-not-is_segment_of-clause-whole g c t segment =
     let off : c.is_segment_of.result ≡ false = search rules in
     absurd (false≢true (sym off
-    ∙ c.is_segment_of.ensures.1 (subst (IsSegment c.args.day.now) (sym c.as_octets.ensures.value) segment)))
+    ∙ c.is_segment_of.ensures.1 (subst (IsSegment c.args.period.now) (sym c.as_octets.ensures.value) segment)))

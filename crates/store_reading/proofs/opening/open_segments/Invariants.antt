@@ -8,8 +8,8 @@ abbrev pub invariant-names : goal.invariant-names
 invariant-names g l = record {
   told : g.F.Folder.tells l.folder → g.F.Folder.tells l.fn.folder;
   same : g.F.Folder.tells l.folder → g.F.Folder.files l.folder ≡ g.F.Folder.files l.fn.folder;
-  opened : g.F.Folder.tells l.folder → AreSegmentsOf (g.F.Folder.files l.fn.folder) (take l.name-index l.names) l.day
+  opened : g.F.Folder.tells l.folder → AreSegmentsOf (g.F.Folder.files l.fn.folder) (take l.name-index l.names) l.period
       (map (source_state g.F.File.Input.state) l.inputs.items);
   whole : g.F.Folder.tells l.folder
-      → NamedSegmentsAreWhole (g.F.Folder.files l.fn.folder) (take l.name-index l.names) l.day;
+      → NamedSegmentsAreWhole (g.F.Folder.files l.fn.folder) (take l.name-index l.names) l.period;
 }

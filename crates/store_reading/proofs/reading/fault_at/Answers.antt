@@ -12,14 +12,14 @@ returns-in-Ok c =
     let first = take c.names.name-index c.args.names.now in
     let more = take_more c.args.names.now c.names.name-index c.name-item.result c.names-test.true
     ∙ ap (λ (n : List ℕ). first ++ n ∷ []) (sym c.name-item.is) in
-    let segment = subst (IsSegment c.args.day.now) c.as_octets.ensures.value (c.is_segment_of.ensures.0 (search rules)) in
-    told_at c.args.day.now c.args.names.now c.args.input c.name-item.result c.in-Ok.name c.args.fault c.of.result
-    (input_named c.args.day.now c.args.names.now c.names.name-index c.args.input c.names.at c.name-item.result more
+    let segment = subst (IsSegment c.args.period.now) c.as_octets.ensures.value (c.is_segment_of.ensures.0 (search rules)) in
+    told_at c.args.period.now c.args.names.now c.args.input c.name-item.result c.in-Ok.name c.args.fault c.of.result
+    (input_named c.args.period.now c.args.names.now c.names.name-index c.args.input c.names.at c.name-item.result more
     c.names.invariant.counted (search rules) segment) c.in-Ok.ensures c.of.ensures
 
 pub names-preserved : goal.names-preserved
 names-preserved c =
-    let day = c.args.day.now in
+    let day = c.args.period.now in
     let names = c.args.names.now in
     let first = take c.names.name-index names in
     let more = take_more names c.names.name-index c.name-item.result c.names-test.true
@@ -53,8 +53,8 @@ pub returns : goal.returns
 returns c =
     inl (inl (
       refl,
-      no_input c.args.day.now c.args.names.now c.args.input c.names.at
-          (subst (λ (l : List (List ℕ)). HasSegments c.args.day.now l c.names.at)
+      no_input c.args.period.now c.args.names.now c.args.input c.names.at
+          (subst (λ (l : List (List ℕ)). HasSegments c.args.period.now l c.names.at)
           (take_all c.names.name-index c.args.names.now c.names-test.false) c.names.invariant.counted)
           c.names.invariant.before,
     ))

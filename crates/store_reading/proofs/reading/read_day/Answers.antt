@@ -2,6 +2,7 @@ use Rattle.std.proofs.Common.{List, ℕ, ap, map, rules, subst, sym}
 use Rattle.std.proofs.KnownBytes.{Appends-nil}
 use Rattle.archive_sets.proofs.Stops.{failed_outcome}
 use Rattle.store_reading.specs.Causes.{IsCause, reading_causes}
+use Rattle.store_reading.specs.Faults.{IsJoinFault}
 use Rattle.store_reading.specs.Folders.{AreNamesOf}
 use Rattle.store_reading.specs.Sets.{AreOfDay, IsArchiveText}
 use Rattle.store_reading.specs.Sources.{source_state}
@@ -43,10 +44,10 @@ returns-in_err-inputs-clause-cause g c =
     let failed = g.F.Folder.has_failed c.day_inputs.new.folder in
     let range = c.args.kept.now.range in
     at_err c.from_residual.result c.in_err-inputs.field-0.0
-    (IsCause (reading_causes (told × AreNamesOf files c.args.names.now.items × IsArchiveText c.args.text.now) failed files
+    (IsCause (reading_causes (told × AreNamesOf files c.args.names.now × IsArchiveText c.args.text.now) failed files
     range)) c.from_residual.ensures.1
-    (day_cause (told × AreNamesOf files c.args.names.now.items × IsArchiveText c.args.text.now) failed files range
-    c.args.day.now c.day_inputs.new.names.items (c.is_outside.ensures.inside c.if-is_outside.false)
+    (day_cause (told × AreNamesOf files c.args.names.now × IsArchiveText c.args.text.now) failed files range
+    c.args.day.now c.day_inputs.new.names (c.is_outside.ensures.inside c.if-is_outside.false)
     (λ t. c.day_inputs.ensures.names t.0 t.1) told (λ t. t.0) c.in_err-inputs.field-0.0 c.in_err-inputs.ensures.cause)
 
 pub returns-clause-cause : goal.returns-clause-cause
@@ -55,11 +56,13 @@ returns-clause-cause g c =
     let told = g.F.Folder.tells c.day_inputs.new.folder in
     let failed = g.F.Folder.has_failed c.day_inputs.new.folder in
     let day = c.args.day.now in
-    join_cause (told × AreNamesOf files c.args.names.now.items × IsArchiveText c.args.text.now) failed files
-    c.args.kept.now.range day c.deref.result.now (c.is_outside.ensures.inside c.if-is_outside.false)
-    (λ t. subst (λ (l : List (List ℕ)). AreNamesOf files l) (sym c.deref.ensures.value)
+    join_cause (told × AreNamesOf files c.args.names.now × IsArchiveText c.args.text.now) failed files
+    c.args.kept.now.range day c.as_slice.result.now (c.is_outside.ensures.inside c.if-is_outside.false)
+    (λ t. subst (λ (l : List (List ℕ)). AreNamesOf files l) (sym c.as_slice.ensures.names)
     (c.day_inputs.ensures.names t.0 t.1)) c.in-Err.fault c.join_fault.result _ _ _
     (λ t.
     let a = subst (AreOfDay files day t.2.0) (sym (ap (map (source_state g.F.File.Input.state)) c.as_mut_slice.ensures.value))
     (c.in_ok-inputs.ensures.inputs t.0 t.1 t.2.0 t.2.1 t.2.2) in
-    (a.entries, a.inputs)) c.in-Err.ensures.outcome.cause c.join_fault.ensures
+    (a.entries, a.inputs)) c.in-Err.ensures.outcome.cause
+    (subst (λ (p : List ℕ). IsJoinFault p c.as_slice.result.now c.in-Err.fault c.join_fault.result) c.of.ensures.same
+    c.join_fault.ensures)

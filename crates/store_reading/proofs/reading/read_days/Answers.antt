@@ -4,7 +4,7 @@ use Rattle.disk.specs.States.{Files}
 use Rattle.archive_sets.proofs.Stops.{failed_outcome}
 use Rattle.store_reading.specs.Causes.{IsCause, reading_causes}
 use Rattle.store_reading.specs.Folders.{AreNamesOf}
-use Rattle.store_reading.specs.Journals.{IsOfJournals}
+use Rattle.store_reading.specs.Journals.{IsOfMemory}
 use Rattle.store_reading.specs.Names.{IsNextDay}
 use Rattle.store_reading.specs.Sets.{IsArchiveText, WritesDay, WritesPartOfDay}
 use Rattle.store_reading.proofs.Causing.{at_err, reading_still, writer_on}
@@ -27,12 +27,11 @@ days-init g c = record {
 pub returns-in_default-clause-outcome : goal.returns-in_default-clause-outcome
 returns-in_default-clause-outcome g c t listed j =
     let i = c.days.invariant in
-    let names = c.days.names.items in
+    let names = c.days.names in
     let rest = c.days.rest.now in
     let next = subst (λ (l : Option (List ℕ)). IsNextDay l names rest c.next_day.result)
     (copied_is c.as_ref.result ∙ c.as_ref.ensures.value)
-    (subst (λ (ns : List (List ℕ)). IsNextDay (option_map (λ d. d.now) c.as_ref.result) ns rest c.next_day.result)
-    c.deref.ensures.value c.next_day.ensures) in
+    c.next_day.ensures in
     read_all (g.F.Folder.files c.args.folder.now) c.args.kept.now.range c.days.last names rest
     (g.W.Output.state c.args.writer.now).taken (g.W.Output.state c.days.writer).taken (i.read t listed j)
     (i.names t listed)
@@ -41,7 +40,7 @@ returns-in_default-clause-outcome g c t listed j =
 pub days-preserved : goal.days-preserved
 days-preserved g c =
     let i = c.days.invariant in
-    let names = c.days.names.items in
+    let names = c.days.names in
     let rest = c.days.rest.now in
     let files = g.F.Folder.files c.args.folder.now in
     let range = c.args.kept.now.range in
@@ -49,13 +48,12 @@ days-preserved g c =
     let new = (g.W.Output.state c.read_day.new.writer).taken in
     let next = subst (λ (l : Option (List ℕ)). IsNextDay l names rest c.next_day.result)
     (copied_is c.as_ref.result ∙ c.as_ref.ensures.value)
-    (subst (λ (ns : List (List ℕ)). IsNextDay (option_map (λ d. d.now) c.as_ref.result) ns rest c.next_day.result)
-    c.deref.ensures.value c.next_day.ensures) in
+    c.next_day.ensures in
     record {
       told = λ t. i.told (c.read_day.ensures.told t);
       same = λ t. c.read_day.ensures.same t ∙ i.same (c.read_day.ensures.told t);
       names = λ t listed. let before = c.read_day.ensures.told t in
-          subst (λ (f : Files). AreNamesOf f c.read_day.new.names.items) (i.same before)
+          subst (λ (f : Files). AreNamesOf f c.read_day.new.names) (i.same before)
           (c.read_day.ensures.names t (subst (λ (f : Files). AreNamesOf f names) (sym (i.same before))
           (i.names before listed)));
       read = λ t listed j. let before = c.read_day.ensures.told t in
@@ -79,7 +77,7 @@ days-preserved g c =
 pub returns-in_err-read_day-clause-outcome : goal.returns-in_err-read_day-clause-outcome
 returns-in_err-read_day-clause-outcome g c t listed j =
     let i = c.days.invariant in
-    let names = c.days.names.items in
+    let names = c.days.names in
     let rest = c.days.rest.now in
     let files = g.F.Folder.files c.args.folder.now in
     let range = c.args.kept.now.range in
@@ -88,8 +86,7 @@ returns-in_err-read_day-clause-outcome g c t listed j =
     let before = c.read_day.ensures.told t in
     let next = subst (λ (l : Option (List ℕ)). IsNextDay l names rest c.next_day.result)
     (copied_is c.as_ref.result ∙ c.as_ref.ensures.value)
-    (subst (λ (ns : List (List ℕ)). IsNextDay (option_map (λ d. d.now) c.as_ref.result) ns rest c.next_day.result)
-    c.deref.ensures.value c.next_day.ensures) in
+    c.next_day.ensures in
     failed_outcome c.from_residual.result c.in_err-read_day.field-0.0 _ _ c.from_residual.ensures.1
     (read_part files range c.days.last names rest (g.W.Output.state c.args.writer.now).taken mid
     (i.read before listed j)
@@ -107,12 +104,11 @@ returns-clause-outcome g c t listed j =
 pub returns-in_default-clause-whole : goal.returns-in_default-clause-whole
 returns-in_default-clause-whole g c t listed =
     let i = c.days.invariant in
-    let names = c.days.names.items in
+    let names = c.days.names in
     let rest = c.days.rest.now in
     let next = subst (λ (l : Option (List ℕ)). IsNextDay l names rest c.next_day.result)
     (copied_is c.as_ref.result ∙ c.as_ref.ensures.value)
-    (subst (λ (ns : List (List ℕ)). IsNextDay (option_map (λ d. d.now) c.as_ref.result) ns rest c.next_day.result)
-    c.deref.ensures.value c.next_day.ensures) in
+    c.next_day.ensures in
     days_whole (g.F.Folder.files c.args.folder.now) c.args.kept.now.range c.days.last names rest c.next_day.result next
     (i.names t listed) (i.whole t listed) c.in_default.is
 
@@ -127,14 +123,14 @@ returns-in_err-read_day-clause-cause g c =
     let of_day = c.split_at.result.0.now in
     at_err c.from_residual.result c.in_err-read_day.field-0.0
     (IsCause (reading_causes
-    (told × AreNamesOf files c.args.names.now.items × IsOfJournals files c.args.text.now) failed files range))
+    (told × AreNamesOf files c.args.names.now × IsOfMemory files range c.args.text.now) failed files range))
     c.from_residual.ensures.1
-    (reading_still (told × AreNamesOf files c.args.names.now.items × IsOfJournals files c.args.text.now)
-    (told × AreNamesOf mid c.days.names.items × IsArchiveText of_day) failed mid files range
+    (reading_still (told × AreNamesOf files c.args.names.now × IsOfMemory files range c.args.text.now)
+    (told × AreNamesOf mid c.days.names × IsArchiveText of_day) failed mid files range
     (λ t.
     let before = c.read_day.ensures.told t.0 in (
       t.0,
-      subst (λ (f : Files). AreNamesOf f c.days.names.items) (sym (i.same before)) (i.names before t.1),
+      subst (λ (f : Files). AreNamesOf f c.days.names) (sym (i.same before)) (i.names before t.1),
       part_archive files range c.days.last c.days.rest.now (g.W.Output.state c.args.writer.now).taken
           (g.W.Output.state c.days.writer).taken (i.read before t.1 t.2) c.in-Some.day c.day_len.result of_day
           c.day_len.ensures.parts c.split_at.ensures.front,

@@ -1,4 +1,4 @@
-use Rattle.std.proofs.Common.{List, ℕ, ap, refl, rules, IsTrue, length, ◌∙◌}
+use Rattle.std.proofs.Common.{List, ℕ, ap, rules, IsTrue, length, ◌∙◌}
 use Rattle.syslog_frame.specs.Frames.{framed}
 use Rattle.syslog_frame.specs.declared.framing.Framing.TheVariants.{Counted}
 use Rattle.archive_text.specs.Entries.{Entry}
@@ -8,7 +8,7 @@ use Rattle.store_reading.specs.Faults.{check_fault_of}
 use Rattle.store_reading.specs.declared.fault.CheckFault.{CheckFault}
 use Rattle.store_reading.proofs.Causing.{at_err}
 use Rattle.store_reading.proofs.Damaged.{other_told, stopped_told, up_to_more, up_to_none}
-use Rattle.store_reading.proofs.Segments.{of_found}
+use Rattle.store_reading.proofs.Segments.{not_of_instant, of_instant}
 use Rattle.store_reading.proofs.segment.check_segment.Goals as goal
 
 pub entries-init : goal.entries-init
@@ -16,7 +16,7 @@ entries-init g c =
     let d = g.R.Input.state c.args.reader.now in
     record {
       unclosed = c.in_ok-entries.ensures.open;
-      reads = up_to_none c.args.day.now c.in_ok-entries.entries d (c.in_ok-entries.ensures.none d);
+      reads = up_to_none c.args.period.now c.in_ok-entries.entries d (c.in_ok-entries.ensures.none d);
     }
 
 pub entries-preserved : goal.entries-preserved
@@ -26,11 +26,11 @@ entries-preserved g c =
     let octets = ap (λ (e : Entry). e.octets) c.entry-entry.ensures in
     record {
       unclosed = one.open_after;
-      reads = up_to_more c.args.day.now c.entries.entries c.next.new.self c.entries.at c.text_len.result
+      reads = up_to_more c.args.period.now c.entries.entries c.next.new.self c.entries.at c.text_len.result
           c.saturating_add-at.result (g.R.Input.state c.args.reader.now) (g.R.Input.state c.entries.reader)
           (g.R.Input.state c.next.new.reader) c.entries.invariant.reads one
-          (of_found c.args.day.now c.of.result c.entry-entry.result.instant (current c.next.new.self) c.of.ensures
-          (c.is.ensures.0 (search rules)) (ap (λ (e : Entry). e.instant) c.entry-entry.ensures))
+          (of_instant c.args.period.now c.entry-entry.result.instant (current c.next.new.self)
+          (ap (λ (e : Entry). e.instant) c.entry-entry.ensures) (c.may_have.ensures.0 (search rules)))
           (c.text_len.ensures ∙ ap (λ (o : List ℕ). position (length (framed Counted o))) octets)
           c.saturating_add-at.ensures;
     }
@@ -40,17 +40,17 @@ returns-in_err-next-clause-damaged g c =
     let d = g.R.Input.state c.args.reader.now in
     let fault = c.in_err-next.field-0.0 in
     at_err c.from_residual-in_err-next.result (check_fault_of fault)
-    (λ (f : CheckFault). OfLeft d (λ file. Tells f (IsDamagedSegment c.args.day.now file)))
+    (λ (f : CheckFault). OfLeft d (λ file. Tells f (IsDamagedSegment c.args.period.now file)))
     c.from_residual-in_err-next.ensures.1
-    (stopped_told c.args.day.now fault c.entries.entries c.next.new.self d (g.R.Input.state c.entries.reader)
+    (stopped_told c.args.period.now fault c.entries.entries c.next.new.self d (g.R.Input.state c.entries.reader)
     (g.R.Input.state c.next.new.reader) c.entries.invariant.reads.segment c.in_err-next.ensures.fault)
 
-pub returns-then-not-is-clause-damaged : goal.returns-then-not-is-clause-damaged
-returns-then-not-is-clause-damaged g c =
+pub returns-then-not-may_have-clause-damaged : goal.returns-then-not-may_have-clause-damaged
+returns-then-not-may_have-clause-damaged g c =
     let on : IsTrue c.in_ok-next.field-0 = search rules in
-    other_told c.args.day.now c.of.result c.entries.entries c.next.new.self c.entries.at
+    other_told c.args.period.now c.entries.entries c.next.new.self c.entries.at
     (g.R.Input.state c.args.reader.now) (g.R.Input.state c.entries.reader) (g.R.Input.state c.next.new.reader)
     c.entries.invariant.reads (c.in_ok-next.ensures.entry on)
-    (of_found c.of.result c.of.result c.entry-entry.result.instant (current c.next.new.self) c.of.ensures refl
-    (ap (λ (e : Entry). e.instant) c.entry-entry.ensures))
-    (λ same. let yes = c.is.ensures.1 same in absurd (cc (c.if-not-is.true, yes)))
+    (not_of_instant c.args.period.now c.entry-entry.result.instant (current c.next.new.self)
+    (ap (λ (e : Entry). e.instant) c.entry-entry.ensures)
+    (λ may. let yes = c.may_have.ensures.1 may in absurd (cc (c.if-not-may_have.true, yes))))

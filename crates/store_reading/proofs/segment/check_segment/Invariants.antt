@@ -5,7 +5,7 @@ use Rattle.store_reading.proofs.segment.check_segment.Given as goal
 abbrev pub invariant-entries : goal.invariant-entries
 invariant-entries g l = record {
   unclosed : IsOpen l.entries;
-  reads : ReadsUpTo l.day l.entries l.at (g.R.Input.state l.fn.reader) (g.R.Input.state l.reader);
+  reads : ReadsUpTo l.period l.entries l.at (g.R.Input.state l.fn.reader) (g.R.Input.state l.reader);
 }
 
 abbrev pub decreases-entries : goal.decreases-entries

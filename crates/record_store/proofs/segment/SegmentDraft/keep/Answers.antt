@@ -7,7 +7,7 @@ use Rattle.record_store.specs.Segments.{segment_name}
 use Rattle.record_store.proofs.Compared.{brought_journals, brought_keeps, brought_still}
 use Rattle.record_store.proofs.Differing.{taken_stays}
 use Rattle.record_store.proofs.Drafted.{name_apart, segment_held, shows_of}
-use Rattle.record_store.proofs.Remaining.{brought_stay}
+use Rattle.record_store.proofs.Remaining.{brought_grow}
 use Rattle.record_store.proofs.segment.SegmentDraft.keep.Goals as goal
 
 pub returns-in_err-bring-clause-any_moment : goal.returns-in_err-bring-clause-any_moment
@@ -174,7 +174,7 @@ returns-in_err-bring-clause-segments g c tells text drafts apart =
     let differs = name_apart c.args.self.name c.args.day.now c.in-Some.name segment apart in
     let brings = subst (λ (t : List ℕ). Brings zero new c.args.self.name c.in-Some.name t) file.2
     (c.bring.ensures.any_moment tells file.0 file.1 differs) in
-    brought_stay zero new c.args.self.name c.in-Some.name text apart brings
+    brought_grow zero new c.args.self.name c.in-Some.name text apart brings
 
 pub returns-then-branch-clause-segments : goal.returns-then-branch-clause-segments
 returns-then-branch-clause-segments g c tells text drafts apart =
@@ -185,7 +185,7 @@ returns-then-branch-clause-segments g c tells text drafts apart =
     let differs = name_apart c.args.self.name c.args.day.now c.in-Some.name segment apart in
     let brings = subst (λ (t : List ℕ). Brings zero new c.args.self.name c.in-Some.name t) file.2
     (c.bring.ensures.any_moment tells file.0 file.1 differs) in
-    brought_stay zero new c.args.self.name c.in-Some.name text apart brings
+    brought_grow zero new c.args.self.name c.in-Some.name text apart brings
 
 pub returns-clause-segments : goal.returns-clause-segments
 returns-clause-segments g c tells text drafts apart =
@@ -196,4 +196,4 @@ returns-clause-segments g c tells text drafts apart =
     let differs = name_apart c.args.self.name c.args.day.now c.in-Some.name segment apart in
     let brings = subst (λ (t : List ℕ). Brings zero new c.args.self.name c.in-Some.name t) file.2
     (c.bring.ensures.any_moment tells file.0 file.1 differs) in
-    brought_stay zero new c.args.self.name c.in-Some.name text apart brings
+    brought_grow zero new c.args.self.name c.in-Some.name text apart brings

@@ -1,11 +1,8 @@
 use Rattle.std.proofs.Common.{◌≡◌}
-use Rattle.store_reading.specs.Folders.{AreNamesOf}
-use Rattle.store_reading.proofs.opening.open_day.Given as goal
+use Rattle.store_reading.proofs.memory.read_memory.Given as goal
 
 abbrev pub invariant-listings : goal.invariant-listings
 invariant-listings g l = record {
   told : g.F.Folder.tells l.folder → g.F.Folder.tells l.fn.folder;
   same : g.F.Folder.tells l.folder → g.F.Folder.files l.folder ≡ g.F.Folder.files l.fn.folder;
-  names : g.F.Folder.tells l.folder → AreNamesOf (g.F.Folder.files l.fn.folder) l.fn.names.items
-      → AreNamesOf (g.F.Folder.files l.fn.folder) l.names.items;
 }
