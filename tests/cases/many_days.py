@@ -1,5 +1,5 @@
-"""Checkpoints: at most 65 segments whatever times the records have, and what reads the store goes on at its pace; no draft where
-the disk is full."""
+"""Checkpoints: at most 65 segments whatever times the records have, and what reads the store goes on at its pace; no
+draft where the disk is full."""
 import os
 import subprocess
 import tempfile
@@ -45,8 +45,8 @@ def periods_of(files):
 
 
 def kept(runs, name, sent):
-    """The periods of the segments of a store that was sent these records, and how many checkpoints were made. What is read
-    is the archive of the records, also once it is compacted."""
+    """The periods of the segments of a store that was sent these records, and how many checkpoints were made. What is
+    read is the archive of the records, also once it is compacted."""
     right = (0, archive_text(sent), b"")
     results = runs.results
     with runs.until_eof(*any_port("counted"), *SOON, "--checkpoint", 1) as server:
@@ -57,12 +57,15 @@ def kept(runs, name, sent):
     files = files_of(store)
     periods, checkpoints = periods_of(files)
     results.check(f"{name}: checkpoints", checkpoints > 0, str(sorted(files))[:500])
-    results.check(f"{name}: segments", len(periods) <= SEGMENTS * checkpoints, f"{len(periods)} of {checkpoints} checkpoints")
+    few = len(periods) <= SEGMENTS * checkpoints
+    results.check(f"{name}: segments", few, f"{len(periods)} of {checkpoints} checkpoints")
     names = [one for one in files if SEGMENT.fullmatch(one)]
     results.check(f"{name}: their names are right", all(is_named_right(one, files[one]) for one in names))
     results.check(f"{name}: what the files hold", held(files) == set(sent))
-    results.same(f"{name}: read", timed(results, f"{name}: read", lambda: runs.program.run(["read", str(store)])), right)
-    results.same(f"{name}: verify", timed(results, f"{name}: verify", lambda: runs.verify(store)), (0, b"", b""))
+    answer = timed(results, f"{name}: read", lambda: runs.program.run(["read", str(store)]))
+    results.same(f"{name}: what is read", answer, right)
+    answer = timed(results, f"{name}: verify", lambda: runs.verify(store))
+    results.same(f"{name}: what verify tells", answer, (0, b"", b""))
     status = timed(results, f"{name}: compact", lambda: runs.program.run(["compact", str(store)]))[0]
     results.check(f"{name}: compact ends", status == 0, str(status))
     results.same(f"{name}: read, compacted", runs.program.run(["read", str(store)]), right)
@@ -83,7 +86,8 @@ def some_large(runs, days):
     padding = [of_day(0, 19_000 + number) for number in range(60)]
     sent = [*large, *small, *padding]
     periods, checkpoints = kept(runs, "some large days", sent)
-    runs.results.check("some large days: segments of their own", b"mixed" in periods and len(set(periods)) > 2, str(periods))
+    both = b"mixed" in periods and len(set(periods)) > 2
+    runs.results.check("some large days: segments of their own", both, str(periods))
 
 
 def undated(runs):
@@ -98,14 +102,16 @@ def without_room(runs):
     """A checkpoint that finds the disk full, where one may be mounted, leaves no draft, which would hold the room."""
     disk = runs.path / "disk"
     disk.mkdir()
-    if subprocess.run(["mount", "-t", "tmpfs", "-o", "size=1600k", "none", str(disk)], capture_output=True).returncode != 0:
+    words = ["mount", "-t", "tmpfs", "-o", "size=1600k", "none", str(disk)]
+    if subprocess.run(words, capture_output=True).returncode != 0:
         return
     try:
         sent = [of_day(0, 2_000) + b"%d" % number for number in range(700)]
         with runs.until_eof(*any_port("counted"), *SOON, "--checkpoint", 1, store=disk / "store") as server:
             sender = threading.Thread(target=server.send, args=("counted", counted(sent)))
             sender.start()
-            runs.results.check("a checkpoint without room is told", server.until_told(b"store full"), str(server.lines()))
+            told = server.until_told(b"store full")
+            runs.results.check("a checkpoint without room is told", told, str(server.lines()))
             seen = [has_draft(server.store) for _ in range(20)]
             runs.results.check("a checkpoint without room leaves no draft", seen.count(True) <= 5, str(seen))
             subprocess.run(["mount", "-o", "remount,size=16m", str(disk)], check=True)
