@@ -1,5 +1,5 @@
 """A second reader of a store's files, for tests only and independent of the program: the batches of a journal, the segments
-of days, and the set of records that a folder holds."""
+of days and those that several share, and the set of records that a folder holds."""
 import hashlib
 import re
 from functools import lru_cache
@@ -8,7 +8,7 @@ from pathlib import Path
 from lib.reference import archive_read, canonical, counted_frames, entry_fault, framed
 
 JOURNAL = re.compile(rb"journal\.(0|[1-9]\d*)")
-SEGMENT = re.compile(rb"(undated|\d{4}-\d\d-\d\d)\.([0-9a-f]{64})\.archive")
+SEGMENT = re.compile(rb"(mixed|undated|\d{4}-\d\d-\d\d)\.([0-9a-f]{64})\.archive")
 OPEN, CLOSED, HEAD = 1, 0, 5
 
 
@@ -40,11 +40,16 @@ def day_of(record):
     return b"undated" if time == b"-" else time[:10]
 
 
+def is_of(period, record):
+    """Whether a record may be in a segment whose name begins so."""
+    return period in (b"mixed", day_of(record))
+
+
 @lru_cache(maxsize=65_536)
-def of_segment(day, octets):
-    """The records of a segment, None where it is no archive of records of its day."""
+def of_segment(period, octets):
+    """The records of a segment, None where it is no archive of records of its period."""
     records, fault = archive_read(octets)
-    return None if fault or any(day_of(one) != day for one in records) else frozenset(records)
+    return None if fault or not all(is_of(period, one) for one in records) else frozenset(records)
 
 
 def is_number(digits):
@@ -67,8 +72,8 @@ def held(files):
     return found
 
 
-def segment_name(day, octets):
-    return b"%b.%b.archive" % (day, hashlib.sha256(octets).hexdigest().encode())
+def segment_name(period, octets):
+    return b"%b.%b.archive" % (period, hashlib.sha256(octets).hexdigest().encode())
 
 
 def is_named_right(name, octets):
@@ -78,10 +83,10 @@ def is_named_right(name, octets):
 
 def damage(name, octets):
     """What is wrong with a segment of this name first, in the words of `verify`; None of one that is whole."""
-    day, at = SEGMENT.fullmatch(name).group(1), 0
+    period, at = SEGMENT.fullmatch(name).group(1), 0
     records, fault = archive_read(octets)
     for one in records:
-        if day_of(one) != day:
+        if not is_of(period, one):
             return f"day {at}"
         at += len(framed("counted", one))
     return fault or (None if is_named_right(name, octets) else "digest")

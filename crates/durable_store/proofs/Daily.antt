@@ -1,11 +1,13 @@
 -- The segments of a checkpoint, day by day.
-use Rattle.std.proofs.Common.{◌≡◌, ⊎_elim, ℕ, ◌<◌, ◌^◌, List, [], ◌∷◌, ◌++◌, length, refl, sym, ap, subst, ◌∙◌}
-use Rattle.std.proofs.Common.{append_assoc, arith, length-append}
-use Rattle.std.specs.Prelude.{◌↔◌, Bool, Err, IsTrue, Ok, OnErr, Result, false, true}
+use Rattle.std.proofs.Common.{◌≡◌, ◌⊎◌, inl, inr, ⊎_elim, ℕ, ◌+◌, ◌<◌, ◌^◌, List, [], ◌∷◌, ◌++◌, length, refl, sym, ap}
+use Rattle.std.proofs.Common.{append_assoc, arith, length-append, subst, ◌∙◌}
+use Rattle.std.specs.Prelude.{◌↔◌, Bool, Err, IfErr, IfOk, IsTrue, Ok, OnErr, OnOk, Result, false, true}
 use Rattle.std.proofs.lemmas.Bool.{cases_Bool}
 use Rattle.std.proofs.lemmas.List.{append-nil}
 use Rattle.std.specs.List.{AllByRecursion}
+use Rattle.disk.specs.Calls.{Removes}
 use Rattle.disk.specs.States.{Entry as DiskEntry, NameMayLeave, State}
+use Rattle.disk.specs.declared.fault.DiskFault.{DiskFault}
 use Rattle.journal.specs.Journals.{IsSound}
 use Rattle.archive_digest.specs.Periods.{IsIn}
 use Rattle.archive_digest.specs.declared.period.Period.TheVariants.{Day}
@@ -13,17 +15,24 @@ use Rattle.archive_text.specs.Entries.{Entry, Has}
 use Rattle.archive_text.specs.Text.{IsArchive, entry_text, text_of}
 use Rattle.archive_text.specs.declared.limits.TheConstants.{ENTRY_MAX}
 use Rattle.archive_text.proofs.Ascending.{archive_left, archive_right}
-use Rattle.archive_text.proofs.Members.{all_append, has_either, has_left, has_right}
-use Rattle.archive_text.proofs.Texts.{text_push}
+use Rattle.archive_text.proofs.Members.{all_append, all_weaker, has_either, has_left, has_right}
+use Rattle.archive_text.proofs.Texts.{text_length, text_push, text_some}
+use Rattle.record_store.specs.Holdings.{IsOfPeriod}
 use Rattle.record_store.specs.Keeping.{IsDraftOf}
 use Rattle.record_store.specs.Names.{Counts, journal_name}
-use Rattle.record_store.specs.Segments.{Drafts}
+use Rattle.record_store.specs.Segments.{Drafts, SegmentsGrow}
 use Rattle.record_store.specs.Stores.{AreAmong, IsBroken, IsWhole, Sets, Stands as JournalStands}
 use Rattle.record_store.specs.Turns.{HeldApart}
 use Rattle.record_store.specs.declared.segment.SegmentDraft.{SegmentDraft}
 use Rattle.record_store.specs.declared.store.RecordStore.{RecordStore}
 use Rattle.record_store.proofs.Drafted.{aside_stands}
-use Rattle.durable_store.specs.Segments.{IsWritten, KeepsAside, PutsDay, WritesDay}
+use Rattle.record_store.proofs.Remaining.{grow_then}
+use Rattle.durable_store.specs.Causes.{StandsWith}
+use Rattle.durable_store.specs.Segments.{HoldsApart, IsWritten, KeepsAside, Mixes, MixesDay, Puts, PutsDay, PutsEntries}
+use Rattle.durable_store.specs.Segments.{StillHolds, WritesDay, WritesDays, WritesMixed, WritesShare}
+use Rattle.durable_store.specs.Shares.{AreDays, CountsDay, GrowsBy, HasShare, IsDay, IsShare, Leaves}
+use Rattle.durable_store.proofs.Growth.{aside_grow, grows_less, grows_one, grows_then, nothing_grows, share_part, share_whole}
+use Rattle.durable_store.proofs.Runs.{counted_day, day_cut_once, days_once, days_push}
 
 -- ---- beside a draft
 
@@ -48,176 +57,233 @@ pub aside_on : (old new : State) (draft : List ℕ) (store : RecordStore) (sets 
 aside_on old new draft store sets aside apart stands =
     aside_stands old new draft aside.others apart aside.lost store sets stands
 
+-- a draft is removed, or not
+pub removed_aside : {T : Type 0} (old new : State) (name : List ℕ) (result : Result T DiskFault)
+    → Removes old new name result → KeepsAside old new name
+removed_aside old new name (Ok done) removes = record { others = removes.entry.others; lost = removes.entry.lost }
+removed_aside old new name (Err fault) fails = ⊎_elim
+    (λ same. record { others = λ n apart. same.entries n; lost = same.lost })
+    (λ removes. record { others = removes.entry.others; lost = removes.entry.lost })
+    fails.done
+
 -- ---- a day is drafted
 
 -- so far
-pub record DayPut (tells : Type 0) (before : SegmentDraft) (old : State) (after : SegmentDraft) (new : State)
-    (held day : List ℕ) (first : Entry) (behind rest : List Entry) : Type 0 where
+pub record EntriesPut (tells : Type 0) (before : SegmentDraft) (old : State) (held : List ℕ) (after : SegmentDraft)
+    (new : State) (held_then day : List ℕ) (first : Entry) (behind rest : List Entry) : Type 0 where
   pub front : List Entry
   pub parts : behind ≡ front ++ rest
   pub days : AllByRecursion (IsIn Day day) front
-  pub written : tells → Drafts before old [] → IsWritten after new held (text_of (first ∷ front))
+  pub puts : Puts tells before old held after new held_then (text_of (first ∷ front))
 
 -- the first entry
-pub day_first : (tells : Type 0) (before : SegmentDraft) (old : State) (none : List ℕ) (after : SegmentDraft)
-    (new : State) (held day : List ℕ) (first : Entry) (behind : List Entry) → none ≡ []
-    → (tells → (text : List ℕ) → IsWritten before old none text → IsWritten after new held (text ++ entry_text first))
-    → DayPut tells before old after new held day first behind behind
-day_first tells before old none after new held day first behind empty put = record {
+pub entries_first : (tells : Type 0) (before : SegmentDraft) (old : State) (held : List ℕ) (after : SegmentDraft)
+    (new : State) (held_then day : List ℕ) (first : Entry) (behind : List Entry)
+    → Puts tells before old held after new held_then (entry_text first)
+    → EntriesPut tells before old held after new held_then day first behind behind
+entries_first tells before old held after new held_then day first behind put = record {
   front = [];
   parts = refl;
   days = tt;
-  written = λ tell drafts.
-      subst (IsWritten after new held) (sym (append-nil (entry_text first)))
-      (put tell [] (record { front = []; drafts = drafts; text_is = sym empty }));
+  puts = λ tell text written.
+      subst (λ (t : List ℕ). IsWritten after new held_then (text ++ t)) (sym (append-nil (entry_text first)))
+      (put tell text written);
 }
 
-pub day_more : (tells told : Type 0) (before : SegmentDraft) (old : State) (mid : SegmentDraft) (state : State)
-    (held : List ℕ) (after : SegmentDraft) (new : State) (held_then day : List ℕ) (first : Entry)
+pub entries_more : (tells told : Type 0) (before : SegmentDraft) (old : State) (held : List ℕ) (mid : SegmentDraft)
+    (state : State) (then : List ℕ) (after : SegmentDraft) (new : State) (last day : List ℕ) (first : Entry)
     (behind rest next : List Entry) (e : Entry) → (tells → told)
-    → DayPut told before old mid state held day first behind rest → (rest ≡ e ∷ next) × IsIn Day day e
-    → (tells → (text : List ℕ) → IsWritten mid state held text → IsWritten after new held_then (text ++ entry_text e))
-    → DayPut tells before old after new held_then day first behind next
-day_more tells told before old mid state held after new held_then day first behind rest next e back put (is, of) more =
-    record {
+    → EntriesPut told before old held mid state then day first behind rest → (rest ≡ e ∷ next) × IsIn Day day e
+    → Puts tells mid state then after new last (entry_text e)
+    → EntriesPut tells before old held after new last day first behind next
+entries_more tells told before old held mid state then after new last day first behind rest next e back put (is, of)
+    more = record {
       front = put.front ++ e ∷ [];
       parts = put.parts ∙ ap (λ (l : List Entry). put.front ++ l) is ∙ sym (append_assoc put.front (e ∷ []) next);
       days = all_append (IsIn Day day) put.front (e ∷ []) put.days (of, tt);
-      written = λ tells drafts.
-          subst (IsWritten after new held_then) (sym (text_push (first ∷ put.front) e))
-          (more tells (text_of (first ∷ put.front)) (put.written (back tells) drafts));
+      puts = λ tells text written.
+          subst (IsWritten after new last)
+          (append_assoc text (text_of (first ∷ put.front)) (entry_text e)
+          ∙ ap (λ (t : List ℕ). text ++ t) (sym (text_push (first ∷ put.front) e)))
+          (more tells (text ++ text_of (first ∷ put.front)) (put.puts (back tells) text written));
     }
 
--- the rest is pushed
-pub day_whole : (tells told : Type 0) (before : SegmentDraft) (old : State) (mid : SegmentDraft) (state : State)
-    (held piece : List ℕ) (after : SegmentDraft) (new : State) (day : List ℕ) (first : Entry)
-    (behind rest : List Entry) → (tells → told) → piece ≡ held
-    → DayPut told before old mid state held day first behind rest
-    → (tells → (text : List ℕ) → Drafts mid state text → Drafts after new (text ++ piece))
-    → PutsDay tells before old after new day first behind rest
-day_whole tells told before old mid state held piece after new day first behind rest back same put pushed = record {
+-- all of them
+pub entries_all : (tells : Type 0) (before : SegmentDraft) (old : State) (held : List ℕ) (after : SegmentDraft)
+    (new : State) (held_then day : List ℕ) (first : Entry) (behind rest : List Entry)
+    → EntriesPut tells before old held after new held_then day first behind rest → Leaves day rest
+    → PutsEntries tells before old held after new held_then day first behind rest
+entries_all tells before old held after new held_then day first behind rest put ends = record {
   front = put.front;
   parts = put.parts;
   days = put.days;
-  drafts = λ tells drafts.
-      let w = put.written (back tells) drafts in
-      subst (Drafts after new) (ap (λ (l : List ℕ). w.front ++ l) same ∙ sym w.text_is) (pushed tells w.front w.drafts);
+  ends = ends;
+  puts = put.puts;
 }
+
+-- what a draft has where something is held back
+pub written_drafts : (tells : Type 0) (before : SegmentDraft) (old : State) (held : List ℕ) (after : SegmentDraft)
+    (new : State) (held_then more : List ℕ) → Puts tells before old held after new held_then more → tells
+    → (text : List ℕ) × Drafts before old text → (text : List ℕ) × Drafts after new text
+written_drafts tells before old held after new held_then more puts tell (text, drafts) =
+    let written = puts tell (text ++ held) (record { front = text; drafts = drafts; text_is = refl }) in
+    (written.front, written.drafts)
+
+-- the rest is pushed
+pub all_pushed : (tells told : Type 0) (before : SegmentDraft) (old : State) (none : List ℕ) (mid : SegmentDraft)
+    (state : State) (held piece : List ℕ) (after : SegmentDraft) (new : State) (more : List ℕ) → (tells → told)
+    → none ≡ [] → piece ≡ held → Puts told before old none mid state held more
+    → (tells → (text : List ℕ) → Drafts mid state text → Drafts after new (text ++ piece))
+    → tells → Drafts before old [] → Drafts after new more
+all_pushed tells told before old none mid state held piece after new more back empty same puts pushed tell drafts =
+    let w = puts (back tell) [] (record { front = []; drafts = drafts; text_is = sym empty }) in
+    subst (Drafts after new) (ap (λ (l : List ℕ). w.front ++ l) same ∙ sym w.text_is) (pushed tell w.front w.drafts)
+
+pub day_pushed : (tells told : Type 0) (before : SegmentDraft) (old : State) (none : List ℕ) (mid : SegmentDraft)
+    (state : State) (held piece : List ℕ) (after : SegmentDraft) (new : State) (day : List ℕ) (first : Entry)
+    (behind rest : List Entry) → (tells → told) → none ≡ [] → piece ≡ held
+    → PutsEntries told before old none mid state held day first behind rest
+    → (tells → (text : List ℕ) → Drafts mid state text → Drafts after new (text ++ piece))
+    → PutsDay tells before old after new day first behind rest
+day_pushed tells told before old none mid state held piece after new day first behind rest back empty same put pushed =
+    record {
+      front = put.front;
+      parts = put.parts;
+      days = put.days;
+      ends = put.ends;
+      drafts = all_pushed tells told before old none mid state held piece after new (text_of (first ∷ put.front)) back
+          empty same put.puts pushed;
+    }
 
 -- ---- and kept
 
-pub front_among : (first : Entry) (front rest behind : List Entry) (received : List Entry) → behind ≡ front ++ rest
-    → AreAmong (first ∷ behind) received → AreAmong (first ∷ front) received
-front_among first front rest behind received parts among e has =
-    among e (subst (λ (l : List Entry). Has (first ∷ l) e) (sym parts) (has_left (first ∷ front) rest e has))
+-- entries of these are drafted, and no other file has changed
+pub record Drafted (zero two : State) (tells : Type 0) (draft : SegmentDraft) (period : List ℕ)
+    (es these : List Entry) : Type 0 where
+  pub apart : ¬ (Counts draft.name)
+  pub across : tells → KeepsAside zero two draft.name
+  pub drafts : tells → IsSound zero → Drafts draft two (text_of es)
+  pub is : tells → IsSound zero → (received : List Entry) → IsArchive ENTRY_MAX these → AreAmong these received
+      → IsDraftOf draft two period es received
 
-pub front_archive : (first : Entry) (front rest behind : List Entry) → behind ≡ front ++ rest
-    → IsArchive ENTRY_MAX (first ∷ behind) → IsArchive ENTRY_MAX (first ∷ front)
-front_archive first front rest behind parts archive =
-    archive_left ENTRY_MAX (first ∷ front) rest
-    (subst (λ (l : List Entry). IsArchive ENTRY_MAX (first ∷ l)) parts archive)
+pub drafted_as : (zero one two : State) (tells : Type 0) (begun draft : SegmentDraft) (name period : List ℕ)
+    (es these : List Entry) → ¬ (Counts name) → AllByRecursion (IsOfPeriod period) es
+    → (IsArchive ENTRY_MAX these → IsArchive ENTRY_MAX es)
+    → ((received : List Entry) → AreAmong these received → AreAmong es received)
+    → (tells → IsSound zero → Drafts begun one []) → (tells → KeepsAside zero one name)
+    → (tells → KeepsAside one two begun.name) → (tells → Drafts begun one [] → Drafts draft two (text_of es))
+    → begun.name ≡ name → draft.name ≡ begun.name → Drafted zero two tells draft period es these
+drafted_as zero one two tells begun draft name period es these apart of archive_of among_of begins aside more put named
+    kept =
+    let outside : ¬ (Counts draft.name) = subst (λ (n : List ℕ). ¬ (Counts n)) (sym (kept ∙ named)) apart in
+    record {
+      apart = outside;
+      across = λ tell.
+          subst (KeepsAside zero two) (sym kept)
+          (aside_then zero one two begun.name (subst (KeepsAside zero one) (sym named) (aside tell)) (more tell));
+      drafts = λ tell sound. put tell (begins tell sound);
+      is = λ tell sound received archive among. record {
+        text = text_of es;
+        drafts = put tell (begins tell sound);
+        is = record { archive = archive_of archive; text_is = refl; days = of };
+        apart = outside;
+        among = among_of received among;
+      };
+    }
 
-pub day_draft : (tells : Type 0) (before : SegmentDraft) (old : State) (after : SegmentDraft) (new : State)
-    (day : List ℕ) (first : Entry) (behind rest received : List Entry)
-    (put : PutsDay tells before old after new day first behind rest) → tells → Drafts before old []
-    → IsIn Day day first → IsArchive ENTRY_MAX (first ∷ behind) → AreAmong (first ∷ behind) received
-    → ¬ (Counts after.name) → IsDraftOf after new day (first ∷ put.front) received
-day_draft tells before old after new day first behind rest received put tell drafts of archive among apart = record {
-  text = text_of (first ∷ put.front);
-  drafts = put.drafts tell drafts;
-  is = record {
-    archive = front_archive first put.front rest behind put.parts archive;
-    text_is = refl;
-    days = (of, put.days);
-  };
-  apart = apart;
-  among = front_among first put.front rest behind received put.parts among;
+module _ (zero two three : State) (tells : Type 0) (store after : RecordStore) (draft : SegmentDraft)
+    (period : List ℕ) (es these : List Entry) (drafted : Drafted zero two tells draft period es these) where
+  pub drafted_stands : tells → (sets : Sets) → JournalStands store zero sets → JournalStands store two sets
+  drafted_stands tell sets stands = aside_on zero two draft.name store sets (drafted.across tell) drafted.apart stands
+
+  pub kept_stands : ((es : List Entry) (sets : Sets) → IsDraftOf draft two period es sets.received
+      → JournalStands store two sets → JournalStands after three sets) → tells → IsSound zero → (sets : Sets)
+      → JournalStands store zero sets → IsArchive ENTRY_MAX these → AreAmong these sets.received
+      → JournalStands after three sets
+  kept_stands keeps tell sound sets stands archive among =
+      keeps es sets (drafted.is tell sound sets.received archive among) (drafted_stands tell sets stands)
+
+  pub kept_held : (tells → (es received : List Entry) → IsDraftOf draft two period es received → (number : ℕ)
+      → number < 2 ^ 64 → HeldApart three (journal_name number) es) → HoldsApart tells zero three these es
+  kept_held held tell sound received archive among number small =
+      held tell es received (drafted.is tell sound received archive among) number small
+
+  pub kept_still : (tells → (es received : List Entry) → IsDraftOf draft two period es received → (n : List ℕ)
+      (others : List Entry) → HeldApart two n others → HeldApart three n others) → StillHolds tells zero three these
+  kept_still still tell sound received archive among n others before =
+      still tell es received (drafted.is tell sound received archive among) n others
+      (aside_apart zero two draft.name n others (drafted.across tell) drafted.apart before)
+
+  pub drafted_grow : tells → SegmentsGrow 0 zero two
+  drafted_grow tell = aside_grow zero two draft.name (drafted.across tell) drafted.apart
+
+  pub kept_grow : (tells → (text : List ℕ) → Drafts draft two text → ¬ (Counts draft.name) → SegmentsGrow 1 two three)
+      → tells → IsSound zero → SegmentsGrow 1 zero three
+  kept_grow grows tell sound =
+      grow_then 0 1 zero two three (drafted_grow tell)
+      (grows tell (text_of es) (drafted.drafts tell sound) drafted.apart)
+
+-- ---- a day
+
+-- the day of a first entry
+pub put_day_is : (tells : Type 0) (before : SegmentDraft) (old : State) (after : SegmentDraft) (new : State)
+    (day : List ℕ) (first : Entry) (behind rest : List Entry) → IsIn Day day first
+    → (put : PutsDay tells before old after new day first behind rest)
+    → IsDay (first ∷ behind) (first ∷ put.front) rest
+put_day_is tells before old after new day first behind rest of put = record {
+  day = day;
+  parts = ap (λ (l : List Entry). first ∷ l) put.parts;
+  some = omega arith;
+  days = (of, put.days);
+  ends = put.ends;
 }
+
+pub run_archive : (these run rest : List Entry) → these ≡ run ++ rest → IsArchive ENTRY_MAX these
+    → IsArchive ENTRY_MAX run
+run_archive these run rest parts archive = archive_left ENTRY_MAX run rest (subst (IsArchive ENTRY_MAX) parts archive)
+
+pub run_among : (these run rest : List Entry) → these ≡ run ++ rest → (received : List Entry)
+    → AreAmong these received → AreAmong run received
+run_among these run rest parts received among e has =
+    among e (subst (λ (l : List Entry). Has l e) (sym parts) (has_left run rest e has))
+
+pub day_drafted : (zero one two : State) (tells told : Type 0) (begun draft : SegmentDraft) (name day : List ℕ)
+    (first : Entry) (behind rest : List Entry) → (tells → told) → IsIn Day day first → ¬ (Counts name)
+    → (told → IsSound zero → Drafts begun one []) → (told → KeepsAside zero one name)
+    → (told → KeepsAside one two begun.name) → (put : PutsDay told begun one draft two day first behind rest)
+    → begun.name ≡ name → draft.name ≡ begun.name
+    → Drafted zero two tells draft day (first ∷ put.front) (first ∷ behind)
+day_drafted zero one two tells told begun draft name day first behind rest back of apart begins aside more put named
+    kept =
+    let run = first ∷ put.front in
+    let parts = ap (λ (l : List Entry). first ∷ l) put.parts in
+    drafted_as zero one two tells begun draft name day run (first ∷ behind) apart
+    (all_weaker (IsIn Day day) (IsOfPeriod day) (λ e is. inl is) run (of, put.days))
+    (run_archive (first ∷ behind) run rest parts) (run_among (first ∷ behind) run rest parts)
+    (λ tell. begins (back tell)) (λ tell. aside (back tell)) (λ tell. more (back tell)) (λ tell. put.drafts (back tell))
+    named kept
 
 -- ---- all days
 
--- so far: the entries before the rest are held, and the store stands
-pub record DaysWritten (tells : Type 0) (before : RecordStore) (old : State) (after : RecordStore) (new : State)
-    (all rest : List Entry) : Type 0 where
-  pub done : List Entry
-  pub parts : all ≡ done ++ rest
-  pub stands : tells → (sets : Sets) → IsWhole before → JournalStands before old sets → AreAmong all sets.received
-      → JournalStands after new sets
-  pub held : tells → (sets : Sets) → IsWhole before → JournalStands before old sets → AreAmong all sets.received
-      → (number : ℕ) → number < 2 ^ 64 → HeldApart new (journal_name number) done
-
-pub none_written : (tells : Type 0) (store : RecordStore) (state : State) (all : List Entry)
-    → DaysWritten tells store state store state all all
-none_written tells store state all = record {
-  done = [];
-  parts = refl;
-  stands = λ tell sets whole stands among. stands;
-  held = λ tell sets whole stands among number small files may e has. absurd has;
-}
+held_none : (state : State) (name : List ℕ) → HeldApart state name []
+held_none state name files may e has = absurd has
 
 held_both : (state : State) (name : List ℕ) (a b : List Entry) → HeldApart state name a → HeldApart state name b
     → HeldApart state name (a ++ b)
 held_both state name a b one other files may e has =
     ⊎_elim (λ left. one files may e left) (λ right. other files may e right) (has_either a b e has)
 
+-- where each day is held all are
+days_held : (state : State) (name : List ℕ) (these : List Entry) (runs : List (List Entry)) → AreDays these runs []
+    → AllByRecursion (λ run. HeldApart state name run) runs → HeldApart state name these
+days_held state name these [] is all = subst (λ (l : List Entry). HeldApart state name l) (sym is) (held_none state name)
+days_held state name these (run ∷ runs) (behind, day, more) all =
+    subst (λ (l : List Entry). HeldApart state name l) (sym day.parts)
+    (held_both state name run behind all.0 (days_held state name behind runs more all.1))
+
 rest_among : (all done rest received : List Entry) → all ≡ done ++ rest → AreAmong all received → AreAmong rest received
 rest_among all done rest received parts among e has =
     among e (subst (λ (l : List Entry). Has l e) (sym parts) (has_right done rest e has))
-
-module _ (tells told : Type 0) (before : RecordStore) (old : State) (mid : RecordStore) (state : State)
-    (after : RecordStore) (new : State) (all rest behind next : List Entry) (first : Entry) (back : tells → told)
-    (written : DaysWritten told before old mid state all rest) (is : rest ≡ first ∷ behind)
-    (archive : IsArchive ENTRY_MAX all) (whole_still : IsWhole before → IsWhole mid)
-    (stands_then : tells → IsSound state → (sets : Sets) → JournalStands mid state sets
-    → IsArchive ENTRY_MAX (first ∷ behind) → AreAmong (first ∷ behind) sets.received → JournalStands after new sets) where
-  these : all ≡ written.done ++ (first ∷ behind)
-  these = written.parts ∙ ap (λ (l : List Entry). written.done ++ l) is
-
-  last : IsArchive ENTRY_MAX (first ∷ behind)
-  last = archive_right ENTRY_MAX written.done (first ∷ behind) (subst (IsArchive ENTRY_MAX) these archive)
-
-  sound : told → (sets : Sets) → IsWhole before → JournalStands before old sets → AreAmong all sets.received
-      → IsSound state
-  sound tell sets whole stands among =
-      ((written.stands tell sets whole stands among).ready (whole_still whole)).stands.sound
-
-  pub days_stand : tells → (sets : Sets) → IsWhole before → JournalStands before old sets → AreAmong all sets.received
-      → JournalStands after new sets
-  days_stand tell sets whole stands among =
-      stands_then tell (sound (back tell) sets whole stands among) sets
-      (written.stands (back tell) sets whole stands among) last
-      (rest_among all written.done (first ∷ behind) sets.received these among)
-
-  pub days_more : WritesDay tells state new first behind next → DaysWritten tells before old after new all next
-  days_more day = record {
-    done = written.done ++ (first ∷ day.front);
-    parts = these ∙ ap (λ (l : List Entry). written.done ++ (first ∷ l)) day.parts
-        ∙ sym (append_assoc written.done (first ∷ day.front) next);
-    stands = days_stand;
-    held = λ tell sets whole stands among number small.
-        let sound_then = sound (back tell) sets whole stands among in
-        let among_then = rest_among all written.done (first ∷ behind) sets.received these among in
-        held_both new (journal_name number) written.done (first ∷ day.front)
-        (day.still tell sound_then sets.received last among_then (journal_name number) written.done
-        (written.held (back tell) sets whole stands among number small))
-        (day.held tell sound_then sets.received last among_then number small);
-  }
-
-pub days_shorter : (tells : Type 0) (old new : State) (first : Entry) (rest behind next : List Entry)
-    → rest ≡ first ∷ behind → WritesDay tells old new first behind next → length next < length rest
-days_shorter tells old new first rest behind next is day =
-    omega (arith, ap length is, ap length day.parts, length-append day.front next)
-
--- the rest is empty
-pub all_held : (tells : Type 0) (before : RecordStore) (old : State) (after : RecordStore) (new : State)
-    (all rest : List Entry) → DaysWritten tells before old after new all rest → rest ≡ [] → tells → (sets : Sets)
-    → IsWhole before → JournalStands before old sets → AreAmong all sets.received → (number : ℕ) → number < 2 ^ 64
-    → HeldApart new (journal_name number) all
-all_held tells before old after new all rest written none tell sets whole stands among number small =
-    let same : all ≡ written.done =
-    written.parts ∙ ap (λ (l : List Entry). written.done ++ l) none ∙ append-nil written.done in
-    subst (λ (l : List Entry). HeldApart new (journal_name number) l) (sym same)
-    (written.held tell sets whole stands among number small)
 
 pub still_whole : (before after : RecordStore) → (IsBroken after → IsBroken before) → IsWhole before → IsWhole after
 still_whole before after goes_on whole = ⊎_elim
@@ -225,60 +291,289 @@ still_whole before after goes_on whole = ⊎_elim
     (λ sound. sound)
     (cases_Bool after.broken)
 
--- ---- a day is written
+-- so far: the store stands, each day that has its share is held, and few segments came
+pub record DaysWritten (tells : Type 0) (total : ℕ) (before : RecordStore) (old : State) (after : RecordStore)
+    (new : State) (skipped : Bool) (all rest : List Entry) : Type 0 where
+  pub done : List Entry
+  pub parts : all ≡ done ++ rest
+  pub stands : tells → (sets : Sets) → IsWhole before → JournalStands before old sets → AreAmong all sets.received
+      → JournalStands after new sets
+  pub writes : WritesDays tells total before old new skipped all rest
+  pub grows : tells → IsWhole before → StandsWith before old all → GrowsBy total (length (text_of done)) old new
 
--- what is told later was told before
-pub puts_before : (tells told : Type 0) (before : SegmentDraft) (old : State) (after : SegmentDraft) (new : State)
-    (day : List ℕ) (first : Entry) (behind rest : List Entry) → (tells → told)
-    → PutsDay told before old after new day first behind rest → PutsDay tells before old after new day first behind rest
-puts_before tells told before old after new day first behind rest back put = record {
-  front = put.front;
-  parts = put.parts;
-  days = put.days;
-  drafts = λ tell drafts. put.drafts (back tell) drafts;
+pub none_written : (tells : Type 0) (total : ℕ) (store : RecordStore) (state : State) (all : List Entry)
+    → DaysWritten tells total store state store state false all all
+none_written tells total store state all = record {
+  done = [];
+  parts = refl;
+  stands = λ tell sets whole stands among. stands;
+  writes = record {
+    runs = [];
+    are = refl;
+    shares = inr tt;
+    held = λ tell sets whole stands among number small. tt;
+  };
+  grows = λ tell whole stands. nothing_grows total 0 state;
 }
 
-module _ (zero one two three : State) (tells : Type 0) (store after : RecordStore) (begun draft : SegmentDraft)
-    (name day kept : List ℕ) (first : Entry) (behind rest : List Entry) (apart : ¬ (Counts name))
-    (of : IsIn Day day first) (same : kept ≡ day) (begins : tells → IsSound zero → Drafts begun one [])
-    (aside : tells → KeepsAside zero one name) (more : tells → KeepsAside one two name)
-    (put : PutsDay tells begun one draft two day first behind rest) (named : draft.name ≡ name) where
-  across : tells → KeepsAside zero two name
-  across tell = aside_then zero one two name (aside tell) (more tell)
+-- one day more
+module _ (tells told : Type 0) (total : ℕ) (before : RecordStore) (old : State) (mid : RecordStore) (state : State)
+    (after : RecordStore) (new : State) (skipped : Bool) (all rest behind : List Entry) (first : Entry)
+    (back : tells → told) (written : DaysWritten told total before old mid state skipped all rest)
+    (is : rest ≡ first ∷ behind) (archive : IsArchive ENTRY_MAX all) (whole_still : IsWhole before → IsWhole mid) where
+  these : all ≡ written.done ++ (first ∷ behind)
+  these = written.parts ∙ ap (λ (l : List Entry). written.done ++ l) is
 
-  pub drafted : tells → IsSound zero → (received : List Entry) → IsArchive ENTRY_MAX (first ∷ behind)
-      → AreAmong (first ∷ behind) received → IsDraftOf draft two kept (first ∷ put.front) received
-  drafted tell sound received archive among =
-      subst (λ (d : List ℕ). IsDraftOf draft two d (first ∷ put.front) received) (sym same)
-      (day_draft tells begun one draft two day first behind rest received put tell (begins tell sound) of archive among
-      (subst (λ (n : List ℕ). ¬ (Counts n)) (sym named) apart))
+  last : IsArchive ENTRY_MAX (first ∷ behind)
+  last = archive_right ENTRY_MAX written.done (first ∷ behind) (subst (IsArchive ENTRY_MAX) these archive)
 
-  pub drafted_stands : tells → (sets : Sets) → JournalStands store zero sets → JournalStands store two sets
-  drafted_stands tell sets stands = aside_on zero two name store sets (across tell) apart stands
+  pub days_sound : told → (sets : Sets) → IsWhole before → JournalStands before old sets → AreAmong all sets.received
+      → IsSound state
+  days_sound tell sets whole stands among =
+      ((written.stands tell sets whole stands among).ready (whole_still whole)).stands.sound
 
-  pub kept_stands : tells → IsSound zero → (sets : Sets) → JournalStands store zero sets
-      → IsArchive ENTRY_MAX (first ∷ behind) → AreAmong (first ∷ behind) sets.received
-      → ((es : List Entry) (sets : Sets) → IsDraftOf draft two kept es sets.received → JournalStands store two sets
-      → JournalStands after three sets) → JournalStands after three sets
-  kept_stands tell sound sets stands archive among keeps =
-      keeps (first ∷ put.front) sets (drafted tell sound sets.received archive among) (drafted_stands tell sets stands)
+  pub days_stand : (tells → IsSound state → (sets : Sets) → JournalStands mid state sets
+      → IsArchive ENTRY_MAX (first ∷ behind) → AreAmong (first ∷ behind) sets.received → JournalStands after new sets)
+      → tells → (sets : Sets) → IsWhole before → JournalStands before old sets → AreAmong all sets.received
+      → JournalStands after new sets
+  days_stand stands_then tell sets whole stands among =
+      stands_then tell (days_sound (back tell) sets whole stands among) sets
+      (written.stands (back tell) sets whole stands among) last
+      (rest_among all written.done (first ∷ behind) sets.received these among)
 
-  pub day_written : (tells → (es received : List Entry) → IsDraftOf draft two kept es received → (number : ℕ)
-      → number < 2 ^ 64 → HeldApart three (journal_name number) es)
-      → (tells → (es received : List Entry) → IsDraftOf draft two kept es received → (n : List ℕ)
-      (others : List Entry) → HeldApart two n others → HeldApart three n others)
-      → WritesDay tells zero three first behind rest
-  day_written held still = record {
-    front = put.front;
-    parts = put.parts;
-    held = λ tell sound received archive among number small.
-        held tell (first ∷ put.front) received (drafted tell sound received archive among) number small;
-    still = λ tell sound received archive among n others before.
-        still tell (first ∷ put.front) received (drafted tell sound received archive among) n others
-        (aside_apart zero two name n others (across tell) apart before);
-  }
+  pub days_grow : (tells → IsSound state → GrowsBy total (length (text_of (first ∷ behind))) state new)
+      → tells → IsWhole before → StandsWith before old all → GrowsBy total (length (text_of all)) old new
+  days_grow grows tell whole with =
+      grows_less total (length (text_of written.done) + length (text_of (first ∷ behind))) (length (text_of all)) old new
+      (omega (arith, ap (λ (l : List Entry). length (text_of l)) these, text_length written.done (first ∷ behind)))
+      (grows_then total (length (text_of written.done)) (length (text_of (first ∷ behind))) old state new
+      (written.grows (back tell) whole with)
+      (grows tell (days_sound (back tell) with.0 whole with.1 with.2)))
+
+  module _ (wrote : Bool) (next : List Entry) (share : WritesShare tells total state new wrote (first ∷ behind) next) where
+    pub days_left : all ≡ (written.done ++ share.run) ++ next
+    days_left = these ∙ ap (λ (l : List Entry). written.done ++ l) share.is.parts
+        ∙ sym (append_assoc written.done share.run next)
+
+    pub share_grows : tells → IsWhole before → StandsWith before old all
+        → GrowsBy total (length (text_of (written.done ++ share.run))) old new
+    share_grows tell whole with =
+        subst (λ (n : ℕ). GrowsBy total n old new) (sym (text_length written.done share.run))
+        (grows_then total (length (text_of written.done)) (length (text_of share.run)) old state new
+        (written.grows (back tell) whole with)
+        (share.grows tell (days_sound (back tell) with.0 whole with.1 with.2)))
+
+    still_held : tells → (sets : Sets) → IsWhole before → JournalStands before old sets → AreAmong all sets.received
+        → (number : ℕ) → number < 2 ^ 64
+        → AllByRecursion (λ run. HasShare total run → HeldApart new (journal_name number) run)
+        (written.writes.runs ++ share.run ∷ [])
+    still_held tell sets whole stands among number small =
+        let sound = days_sound (back tell) sets whole stands among in
+        let among_then = rest_among all written.done (first ∷ behind) sets.received these among in
+        all_append (λ run. HasShare total run → HeldApart new (journal_name number) run) written.writes.runs
+        (share.run ∷ [])
+        (all_weaker (λ run. HasShare total run → HeldApart state (journal_name number) run)
+        (λ run. HasShare total run → HeldApart new (journal_name number) run)
+        (λ run held has. share.still tell sound sets.received last among_then (journal_name number) run (held has))
+        written.writes.runs (written.writes.held (back tell) sets whole stands among number small))
+        ((λ has. share.held has tell sound sets.received last among_then number small), tt)
+
+    pub share_writes : (skips : Bool) → (IsTrue skipped → IsTrue skips) → (wrote ≡ false → IsTrue skips)
+        → WritesDays tells total before old new skips all next
+    share_writes skips from none = record {
+      runs = written.writes.runs ++ share.run ∷ [];
+      are = days_push all written.writes.runs share.run rest next written.writes.are
+          (subst (λ (l : List Entry). IsDay l share.run next) (sym is) share.is);
+      shares = ⊎_elim (λ yes. inl (from yes))
+          (λ all_have. ⊎_elim
+          (λ has. inr (all_append (HasShare total) written.writes.runs (share.run ∷ []) all_have (has, tt)))
+          (λ not. inl (none not)) share.share) written.writes.shares;
+      held = still_held;
+    }
+
+    pub days_more : (skips : Bool) → (IsTrue skipped → IsTrue skips) → (wrote ≡ false → IsTrue skips)
+        → (tells → IsSound state → (sets : Sets) → JournalStands mid state sets → IsArchive ENTRY_MAX (first ∷ behind)
+        → AreAmong (first ∷ behind) sets.received → JournalStands after new sets)
+        → DaysWritten tells total before old after new skips all next
+    days_more skips from none stands_then = record {
+      done = written.done ++ share.run;
+      parts = days_left;
+      stands = days_stand stands_then;
+      writes = share_writes skips from none;
+      grows = share_grows;
+    }
+
+pub days_shorter : (first : Entry) (rest behind run next : List Entry) → rest ≡ first ∷ behind
+    → IsDay (first ∷ behind) run next → length next < length rest
+days_shorter first rest behind run next is day =
+    omega (arith, ap length is, ap length day.parts, length-append run next, day.some)
+
+-- no day is left
+pub days_grown : (tells : Type 0) (total : ℕ) (before : RecordStore) (old : State) (after : RecordStore) (new : State)
+    (skipped : Bool) (all rest : List Entry) → DaysWritten tells total before old after new skipped all rest
+    → rest ≡ [] → tells → IsWhole before → StandsWith before old all → GrowsBy total (length (text_of all)) old new
+days_grown tells total before old after new skipped all rest written none tell whole with =
+    let same : written.done ≡ all =
+    sym (written.parts ∙ ap (λ (l : List Entry). written.done ++ l) none ∙ append-nil written.done) in
+    subst (λ (l : List Entry). GrowsBy total (length (text_of l)) old new) same (written.grows tell whole with)
+
+pub days_written : (tells : Type 0) (total : ℕ) (before : RecordStore) (old : State) (after : RecordStore) (new : State)
+    (skipped : Bool) (all rest : List Entry) → DaysWritten tells total before old after new skipped all rest
+    → rest ≡ [] → WritesDays tells total before old new skipped all []
+days_written tells total before old after new skipped all rest written none =
+    subst (λ (l : List Entry). WritesDays tells total before old new skipped all l) none written.writes
+
+-- ---- a day that has its share
+
+run_some : (run : List Entry) → 0 < length run → 0 < length (text_of run)
+run_some [] some = some
+run_some (e ∷ es) some = omega (arith, text_some e, length-append (entry_text e) (text_of es))
+
+pub share_of : (total len : ℕ) (day : List ℕ) (first : Entry) (behind rest run left : List Entry) → IsIn Day day first
+    → CountsDay len day first behind rest → IsShare total len → IsDay (first ∷ behind) run left → HasShare total run
+share_of total len day first behind rest run left of counts share is =
+    let same = day_cut_once (first ∷ behind) (first ∷ counts.front) rest run left
+    (counted_day len day first behind rest of counts) is in
+    subst (HasShare total) same.0
+    (share_whole total (length (text_of (first ∷ counts.front))) (subst (IsShare total) counts.len_is share))
+
+-- all that is left has one too
+share_of_all : (total len : ℕ) (day : List ℕ) (first : Entry) (behind rest : List Entry)
+    → CountsDay len day first behind rest → IsShare total len → HasShare total (first ∷ behind)
+share_of_all total len day first behind rest counts share =
+    omega (
+      arith,
+      share_whole total (length (text_of (first ∷ counts.front))) (subst (IsShare total) counts.len_is share),
+      text_length (first ∷ counts.front) rest,
+      ap (λ (l : List Entry). length (text_of (first ∷ l))) counts.parts,
+    )
+
+pub share_grows_all : (total len : ℕ) (day : List ℕ) (first : Entry) (behind rest : List Entry) (old new : State)
+    → CountsDay len day first behind rest → IsShare total len → SegmentsGrow 1 old new
+    → GrowsBy total (length (text_of (first ∷ behind))) old new
+share_grows_all total len day first behind rest old new counts share grow =
+    grows_one total (length (text_of (first ∷ behind))) old new grow
+    (share_of_all total len day first behind rest counts share) (run_some (first ∷ behind) (omega arith))
+
+pub share_kept : (tells : Type 0) (total : ℕ) (old new : State) (these rest : List Entry)
+    (writes : WritesDay tells old new these rest) → HasShare total writes.run
+    → (tells → IsSound old → SegmentsGrow 1 old new) → WritesShare tells total old new true these rest
+share_kept tells total old new these rest writes has grow = record {
+  run = writes.run;
+  is = writes.is;
+  share = inl has;
+  held = λ share. writes.held;
+  still = writes.still;
+  grows = λ tell sound.
+      grows_one total (length (text_of writes.run)) old new (grow tell sound) has (run_some writes.run writes.is.some);
+}
+
+pub share_skipped : (tells : Type 0) (total len : ℕ) (state : State) (day : List ℕ) (first : Entry)
+    (behind rest : List Entry) → total < 2 ^ 64 → IsIn Day day first → CountsDay len day first behind rest
+    → ¬ (IsShare total len) → WritesShare tells total state state false (first ∷ behind) rest
+share_skipped tells total len state day first behind rest small of counts none = record {
+  run = first ∷ counts.front;
+  is = counted_day len day first behind rest of counts;
+  share = inr refl;
+  held = λ has. absurd (none (subst (IsShare total) (sym counts.len_is)
+      (share_part total (length (text_of (first ∷ counts.front))) small has)));
+  still = λ tell sound received archive among name others held. held;
+  grows = λ tell sound. nothing_grows total (length (text_of (first ∷ counts.front))) state;
+}
+
+-- ---- a day that has none
+
+pub share_left_out : (tells : Type 0) (total len : ℕ) (draft : SegmentDraft) (state : State) (held day : List ℕ)
+    (first : Entry) (behind rest : List Entry) → IsIn Day day first → CountsDay len day first behind rest
+    → IsShare total len → MixesDay tells total draft state held draft state held (first ∷ behind) rest
+share_left_out tells total len draft state held day first behind rest of counts share =
+    let is = counted_day len day first behind rest of counts in
+    record {
+      run = first ∷ counts.front;
+      is = is;
+      mixed = [];
+      which = inl (share_of total len day first behind rest (first ∷ counts.front) rest of counts share is, refl);
+      puts = λ tell text written. subst (IsWritten draft state held) (sym (append-nil text)) written;
+    }
+
+pub day_mixed : (tells : Type 0) (total : ℕ) (before : SegmentDraft) (old : State) (held : List ℕ)
+    (after : SegmentDraft) (new : State) (held_then day : List ℕ) (first : Entry) (behind rest : List Entry)
+    → IsIn Day day first → PutsEntries tells before old held after new held_then day first behind rest
+    → MixesDay tells total before old held after new held_then (first ∷ behind) rest
+day_mixed tells total before old held after new held_then day first behind rest of put = record {
+  run = first ∷ put.front;
+  is = record {
+    day = day;
+    parts = ap (λ (l : List Entry). first ∷ l) put.parts;
+    some = omega arith;
+    days = (of, put.days);
+    ends = put.ends;
+  };
+  mixed = first ∷ put.front;
+  which = inr refl;
+  puts = put.puts;
+}
+
+-- no sync has failed once the days are written
+pub days_then_sound : (tells : Type 0) (before : RecordStore) (old : State) (after : RecordStore) (new : State)
+    (all : List Entry) → (IsBroken after → IsBroken before)
+    → (tells → (sets : Sets) → IsWhole before → JournalStands before old sets → AreAmong all sets.received
+    → JournalStands after new sets) → tells → (sets : Sets) → IsWhole before → JournalStands before old sets
+    → AreAmong all sets.received → IsSound new
+days_then_sound tells before old after new all goes_on stands_then tell sets whole stands among =
+    ((stands_then tell sets whole stands among).ready (still_whole before after goes_on whole)).stands.sound
+
+-- ---- with the other days
+
+-- two things that are so of each
+all_with : {X : Type 0} (P Q R : X → Type 0) → ((x : X) → P x → Q x → R x) → (xs : List X) → AllByRecursion P xs
+    → AllByRecursion Q xs → AllByRecursion R xs
+all_with P Q R both [] ps qs = tt
+all_with P Q R both (x ∷ xs) ps qs = (both x ps.0 qs.0, all_with P Q R both xs ps.1 qs.1)
+
+module _ (tells told : Type 0) (total : ℕ) (before : RecordStore) (old : State) (mid : RecordStore) (state new : State)
+    (skipped : Bool) (all : List Entry) (archive : IsArchive ENTRY_MAX all) (back : tells → told)
+    (writes : WritesDays told total before old state skipped all []) where
+  -- where no day was skipped
+  pub all_held : skipped ≡ false → told → (sets : Sets) → IsWhole before → JournalStands before old sets
+      → AreAmong all sets.received → (number : ℕ) → number < 2 ^ 64 → HeldApart state (journal_name number) all
+  all_held none tell sets whole stands among number small =
+      days_held state (journal_name number) all writes.runs writes.are
+      (all_with (HasShare total) (λ run. HasShare total run → HeldApart state (journal_name number) run)
+      (λ run. HeldApart state (journal_name number) run) (λ run has held. held has) writes.runs
+      (⊎_elim (λ yes. absurd (cc (yes, none))) (λ have. have) writes.shares)
+      (writes.held tell sets whole stands among number small))
+
+  pub both_held : WritesMixed tells total state new all → (told → (sets : Sets) → IsWhole before
+      → JournalStands before old sets → AreAmong all sets.received → IsSound state) → tells → (sets : Sets)
+      → IsWhole before → JournalStands before old sets → AreAmong all sets.received → (number : ℕ) → number < 2 ^ 64
+      → HeldApart new (journal_name number) all
+  both_held others sounds tell sets whole stands among number small =
+      let sound = sounds (back tell) sets whole stands among in
+      let same = days_once all others.runs writes.runs others.are writes.are in
+      let mixed = others.held tell sound sets.received archive among number small in
+      days_held new (journal_name number) all writes.runs writes.are
+      (all_with (λ run. HasShare total run → HeldApart state (journal_name number) run)
+      (λ run. HasShare total run ⊎ AreAmong run others.mixed) (λ run. HeldApart new (journal_name number) run)
+      (λ run held either. ⊎_elim
+      (λ has. others.still tell sound sets.received archive among (journal_name number) run (held has))
+      (λ (these : AreAmong run others.mixed) files may e has. mixed files may e (these e has)) either)
+      writes.runs (writes.held (back tell) sets whole stands among number small)
+      (subst (λ (runs : List (List Entry)). Mixes total runs others.mixed) same others.mixes))
 
 -- ---- a checkpoint
+
+pub ok_weaker : {T E : Type 0} (P Q : T → Type 0) → ((x : T) → P x → Q x) → (r : Result T E) → IfOk r P → IfOk r Q
+ok_weaker P Q weaker (Ok x) p = weaker x p
+ok_weaker P Q weaker (Err e) p = tt
+
+pub on_ok_weaker : {T E : Type 0} (P Q : Type 0) → (P → Q) → (r : Result T E) → OnOk r P → OnOk r Q
+on_ok_weaker P Q weaker (Ok x) p = weaker p
+on_ok_weaker P Q weaker (Err e) p = tt
+
+pub err_weaker : {T E : Type 0} (P Q : E → Type 0) → ((e : E) → P e → Q e) → (r : Result T E) → IfErr r P → IfErr r Q
+err_weaker P Q weaker (Ok x) p = tt
+err_weaker P Q weaker (Err e) p = weaker e p
 
 pub on_err : {T E P : Type 0} (r : Result T E) → P → OnErr r P
 on_err (Ok x) p = tt

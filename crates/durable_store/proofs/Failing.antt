@@ -1,4 +1,4 @@
--- Why a checkpoint fails, and that segments stay.
+-- Why a checkpoint fails.
 use Rattle.std.proofs.Common.{◌≡◌, inr, ℕ, ◌+◌, ◌≤◌, List, ap, arith, subst, sym, ◌∙◌, length, take}
 use Rattle.std.specs.Prelude.{ℤ, None, Option, Some, codes}
 use Rattle.std.specs.List.{AllByRecursion}
@@ -6,20 +6,24 @@ use Rattle.std.proofs.lemmas.List.Elements.{All-from_recursion}
 use Rattle.disk.specs.Memory.{shown_now}
 use Rattle.disk.specs.Names.{IsNameOctet}
 use Rattle.disk.specs.States.{State}
+use Rattle.disk.specs.declared.fault.DiskFault.{DiskFault}
 use Rattle.disk.specs.declared.fault.DiskFault.TheVariants.{Missing, Exists, Full, Failed, Memory}
 use Rattle.syslog_value.specs.declared.civil.Civil.{Civil}
 use Rattle.syslog_fields.specs.Canonical.{civil_text}
 use Rattle.archive_digest.specs.Periods.{IsPeriodOf}
 use Rattle.archive_digest.specs.declared.period.Period.TheVariants.{Day as day_Period}
+use Rattle.record_store.specs.Causes.{IsDraftCause}
 use Rattle.record_store.specs.Keeping.{IsKeepCause}
-use Rattle.record_store.specs.Names.{Counts, IsDayName}
-use Rattle.record_store.specs.Segments.{Drafts, SegmentsStay}
+use Rattle.record_store.specs.Names.{IsDayName, draft_name}
+use Rattle.record_store.specs.Segments.{Drafts}
 use Rattle.record_store.specs.declared.keeping.KeepFault.{KeepFault}
 use Rattle.record_store.specs.declared.keeping.KeepFault.TheVariants.{Disk, Day, Differs}
 use Rattle.record_store.specs.declared.segment.SegmentDraft.{SegmentDraft}
 use Rattle.record_store.specs.declared.store.RecordStore.{RecordStore}
 use Rattle.record_store.proofs.Causing.{cause_weaker}
-use Rattle.durable_store.specs.Causes.{IsCheckpointCause, IsKeepingCause, IsWritingCause, turning_causes}
+use Rattle.record_store.proofs.Naming.{segment_no_draft}
+use Rattle.durable_store.specs.Causes.{IsCheckpointCause, IsKeepingCause, IsWritingCause, ShowsOtherSegment}
+use Rattle.durable_store.specs.Causes.{turning_causes}
 use Rattle.durable_store.specs.Segments.{KeepsAside}
 use Rattle.durable_store.specs.declared.fault.CheckpointFault.{CheckpointFault}
 use Rattle.durable_store.specs.declared.fault.CheckpointFault.TheVariants.{Store, Segment}
@@ -57,6 +61,16 @@ day_is_name (Some i) day (time, (c, exists, names, text), first) =
       short = ten c;
       each = All-from_recursion IsNameOctet (take 10 (civil_text c)) (dated c);
     })
+
+-- so has the segment that several days share
+mixed : AllByRecursion IsNameOctet (codes "mixed")
+mixed = (digit 61, (digit 57, (digit 72, (digit 53, (digit 52, tt)))))
+
+pub mixed_is_name : IsDayName (codes "mixed")
+mixed_is_name = record {
+  short = omega arith;
+  each = All-from_recursion IsNameOctet (codes "mixed") mixed;
+}
 
 -- ---- causes
 
@@ -120,9 +134,47 @@ kept_cause tells failed known old new draft day (Differs name) named drafts is =
       };
     }
 
--- ---- beside a draft
+-- of a draft that is written
+pub draft_cause : (tells failed stands : Type 0) (state new : State) (draft : SegmentDraft) (fault : DiskFault)
+    → (tells → stands → (text : List ℕ) × Drafts draft state text)
+    → IsDraftCause tells failed state draft.name fault → IsWritingCause tells failed stands new (Segment (Disk fault))
+draft_cause tells failed stands state new draft Missing drafts is = λ tell k.
+    let drafted = drafts tell k in
+    absurd (cc (is tell, drafted.1.shown))
+draft_cause tells failed stands state new draft Exists drafts is = is
+draft_cause tells failed stands state new draft Full drafts is = is
+draft_cause tells failed stands state new draft Failed drafts is = is
+draft_cause tells failed stands state new draft Memory drafts is = is
 
-pub aside_stay : (old new : State) (draft : List ℕ) → KeepsAside old new draft → ¬ (Counts draft)
-    → SegmentsStay old new
-aside_stay old new draft aside apart day name octets segment shown =
-    ap shown_now (aside.others name (λ is. apart (subst Counts is (inr (day, segment))))) ∙ shown
+-- ---- once what is left of a draft is removed
+
+shows_aside : (old new : State) (name : List ℕ) → KeepsAside old new draft_name → ShowsOtherSegment old name
+    → ShowsOtherSegment new name
+shows_aside old new name aside shows = record {
+  day = shows.day;
+  text = shows.text;
+  other = record {
+    named = shows.other.named;
+    octets = shows.other.octets;
+    shown = ap shown_now (aside.others name
+        (λ is. segment_no_draft shows.day shows.text (sym shows.other.named ∙ is))) ∙ shows.other.shown;
+    other = shows.other.other;
+  };
+}
+
+module _ (tells told failed before stands : Type 0) (old new : State) (back : tells → told) (stays : before → failed)
+    (aside : tells → KeepsAside old new draft_name) where
+  keeping_then : (fault : KeepFault) → IsKeepingCause told before stands old fault
+      → IsKeepingCause tells failed stands new fault
+  keeping_then (Disk Missing) is = λ tell. is (back tell)
+  keeping_then (Disk Exists) is = λ tell. is (back tell)
+  keeping_then (Disk Full) is = stays is
+  keeping_then (Disk Failed) is = stays is
+  keeping_then (Disk Memory) is = is
+  keeping_then Day is = is
+  keeping_then (Differs name) is = λ tell k. shows_aside old new name (aside tell) (is (back tell) k)
+
+  pub writing_then : (fault : CheckpointFault) → IsWritingCause told before stands old fault
+      → IsWritingCause tells failed stands new fault
+  writing_then (Store fault) is = is
+  writing_then (Segment fault) is = keeping_then fault is

@@ -2,3 +2,4 @@ pub mod Causes
 pub mod Durables
 pub mod Recovery
 pub mod Segments
+pub mod Shares

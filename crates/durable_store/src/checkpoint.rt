@@ -2,7 +2,7 @@
 ghost use Rattle.std.specs.Prelude.{◌≡◌, ◌↔◌, [], IfErr, IsErr, None, OnErr, OnOk};
 ghost use Rattle.archive_pages.specs.Paged.{entries_in};
 ghost use Rattle.record_store.specs.Stores.{AreAmong, IsBroken as IsStoreBroken, Sets};
-ghost use Rattle.record_store.specs.Segments.{SegmentsStay};
+ghost use Rattle.record_store.specs.Segments.{SegmentsGrow, SegmentsStay};
 ghost use Rattle.record_store.specs.Shown.{journal_shown};
 ghost use Rattle.record_store.specs.Stores.{Stands as JournalStands, number_of};
 ghost use Rattle.record_store.specs.Turns.{turned};
@@ -11,7 +11,7 @@ ghost use Rattle.durable_store.specs.Durables.{IsBroken, Stands, entries_of, jou
 
 use crate::DurableStore;
 use crate::fault::CheckpointFault;
-use crate::segments::write_days;
+use crate::mixed::write_segments;
 use archive_pages::PagedArchive;
 use disk::Disk;
 use record_store::{RecordStore, StoreFault};
@@ -33,7 +33,7 @@ fn write_out<D: Disk>(
         → AreAmong sets.since (entries_in set.now)
         → JournalStands store.new (D.state disk.new) sets) }
     ensures segments { D.tells disk.new → StandsWith store.old (D.state disk.old) (entries_in set.now)
-        → SegmentsStay (D.state disk.old) (D.state disk.new) }
+        → SegmentsGrow 65 (D.state disk.old) (D.state disk.new) }
     ensures removed { OnOk result (D.tells disk.new
         → journal_shown (D.state disk.new) (number_of store.old) ≡ None) }
     ensures whole { OnOk result (¬ (IsStoreBroken store.new)) }
@@ -44,22 +44,24 @@ fn write_out<D: Disk>(
     if store.is_broken() {
         return Err(CheckpointFault::Store(StoreFault::Broken));
     }
-    write_days(alloc, disk, store, set)?;
+    write_segments(alloc, disk, store, set)?;
     store.turn(alloc, disk)?;
     Ok(())
 }
 
 impl DurableStore {
-    /// Writes what came since the last checkpoint as segments, one per day, and begins a new
-    /// journal; the old one is removed only once these are on the disk. The set in memory is empty
-    /// then, and all that was received is committed. A crash at any moment leaves what is
+    /// Writes what came since the last checkpoint as segments, and begins a new journal; the old one
+    /// is removed only once these are on the disk. A day gets a segment of its own where it has at
+    /// least a 64th of the octets; the others share one, so that at most 65 segments come whatever
+    /// times the records have. The set in memory is empty then, and all that was received is
+    /// committed. A crash at any moment leaves what is
     /// committed, and nothing that was not received; if one comes in between, records are there
     /// twice, which is the same set.
     ///
     /// # Errors
     /// The disk's fault, lack of memory, or a damaged file under the name of a segment, which
-    /// stays. The set in memory is as it was, some segments may be there, and the store is broken:
-    /// `reopen` it.
+    /// stays. The set in memory is as it was, some segments may be there, the draft is removed where
+    /// the disk lets it, and the store is broken: `reopen` it.
     pub fn checkpoint<D: Disk>(
         &mut self,
         alloc: Global,
@@ -74,6 +76,8 @@ impl DurableStore {
         // whatever the result is: so at every moment
         ensures segments { D.tells disk.new → StandsAtAll self.old (D.state disk.old)
             → SegmentsStay (D.state disk.old) (D.state disk.new) }
+        ensures few { D.tells disk.new → StandsAtAll self.old (D.state disk.old)
+            → SegmentsGrow 65 (D.state disk.old) (D.state disk.new) }
 
         // the journal that was there is removed
         ensures removed { OnOk result (D.tells disk.new

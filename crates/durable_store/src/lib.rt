@@ -3,7 +3,7 @@
 //!
 //! A [`DurableStore`] is opened on a disk. What is added to it (`Store`) is in memory, and waits;
 //! `commit` brings what waits to the disk. `checkpoint` writes what came since the last one as
-//! segments, one per day, and begins a new journal.
+//! segments, at most 65, and begins a new journal.
 //!
 //! Whenever a crash comes, what the folder holds afterwards is a set S with committed ⊆ S ⊆
 //! received.
@@ -12,8 +12,10 @@
 mod adding;
 mod checkpoint;
 mod fault;
+mod mixed;
 mod recovery;
 mod segments;
+mod shares;
 mod store;
 
 pub use fault::{CheckpointFault, OpenFault};

@@ -4,7 +4,7 @@ use Rattle.record_store.specs.Stores.{IsWhole, number_of}
 use Rattle.record_store.specs.Names.{journal_name}
 use Rattle.record_store.specs.Turns.{turn_causes}
 use Rattle.record_store.proofs.Causing.{cause_weaker}
-use Rattle.record_store.proofs.Remaining.{stay_then}
+use Rattle.record_store.proofs.Remaining.{grow_then}
 use Rattle.durable_store.specs.Causes.{StandsWith, turning_causes}
 use Rattle.durable_store.specs.declared.fault.CheckpointFault.TheVariants.{Store}
 use Rattle.durable_store.proofs.Daily.{not_broken, on_err, since_held, still_whole}
@@ -16,45 +16,45 @@ pub returns-in_err-turn-clause-err : goal.returns-in_err-turn-clause-err
 returns-in_err-turn-clause-err g c = on_err c.from_residual-in_err-turn.result (λ tells sets stands among since.
     let told = c.turn.ensures.told tells in
     let whole = not_broken c.args.store.now c.is_broken.result c.is_broken.ensures c.if-is_broken.false in
-    let mid = c.write_days.ensures.stands told sets whole stands among in
-    let still = still_whole c.args.store.now c.write_days.new.store c.in_ok-write_days.ensures.goes_on whole in
+    let mid = c.write_segments.ensures.stands told sets whole stands among in
+    let still = still_whole c.args.store.now c.write_segments.new.store c.in_ok-write_segments.ensures.goes_on whole in
     c.in_err-turn.ensures.err tells sets mid
-    (since_held (g.D.Disk.state c.write_days.new.disk) (journal_name (number_of c.write_days.new.store))
+    (since_held (g.D.Disk.state c.write_segments.new.disk) (journal_name (number_of c.write_segments.new.store))
     (entries_in c.args.set.now) sets.since
-    (c.in_ok-write_days.ensures.held told sets whole stands among (number_of c.write_days.new.store)
+    (c.in_ok-write_segments.ensures.held told sets whole stands among (number_of c.write_segments.new.store)
     (mid.ready still).small) since))
 
 pub returns-clause-done : goal.returns-clause-done
 returns-clause-done g c tells sets stands among since =
     let told = c.turn.ensures.told tells in
     let whole = not_broken c.args.store.now c.is_broken.result c.is_broken.ensures c.if-is_broken.false in
-    let mid = c.write_days.ensures.stands told sets whole stands among in
-    let still = still_whole c.args.store.now c.write_days.new.store c.in_ok-write_days.ensures.goes_on whole in
+    let mid = c.write_segments.ensures.stands told sets whole stands among in
+    let still = still_whole c.args.store.now c.write_segments.new.store c.in_ok-write_segments.ensures.goes_on whole in
     c.in_ok-turn.ensures.turned tells sets mid
-    (since_held (g.D.Disk.state c.write_days.new.disk) (journal_name (number_of c.write_days.new.store))
+    (since_held (g.D.Disk.state c.write_segments.new.disk) (journal_name (number_of c.write_segments.new.store))
     (entries_in c.args.set.now) sets.since
-    (c.in_ok-write_days.ensures.held told sets whole stands among (number_of c.write_days.new.store)
+    (c.in_ok-write_segments.ensures.held told sets whole stands among (number_of c.write_segments.new.store)
     (mid.ready still).small) since)
 
-pub returns-in_err-write_days-clause-cause : goal.returns-in_err-write_days-clause-cause
-returns-in_err-write_days-clause-cause g c =
+pub returns-in_err-write_segments-clause-cause : goal.returns-in_err-write_segments-clause-cause
+returns-in_err-write_segments-clause-cause g c =
     let store = c.args.store.now in
-    let new = g.D.Disk.state c.write_days.new.disk in
-    let tells = g.D.Disk.tells c.write_days.new.disk in
-    let failed = g.D.Disk.has_failed c.write_days.new.disk in
+    let new = g.D.Disk.state c.write_segments.new.disk in
+    let tells = g.D.Disk.tells c.write_segments.new.disk in
+    let failed = g.D.Disk.has_failed c.write_segments.new.disk in
     let stands = StandsWith store (g.D.Disk.state c.args.disk.now) (entries_in c.args.set.now) in
-    let fault = c.in_err-write_days.field-0.0 in
+    let fault = c.in_err-write_segments.field-0.0 in
     let whole = not_broken store c.is_broken.result c.is_broken.ensures c.if-is_broken.false in
     at_err c.from_residual.result fault _ c.from_residual.ensures.1
     (writing_fails tells failed stands store new fault
     (writing_less tells failed (IsWhole store × stands) stands new fault (λ tell known. (whole, known))
-    c.in_err-write_days.ensures.cause))
+    c.in_err-write_segments.ensures.cause))
 
 pub returns-in_err-turn-clause-cause : goal.returns-in_err-turn-clause-cause
 returns-in_err-turn-clause-cause g c =
     let store = c.args.store.now in
-    let mid = c.write_days.new.store in
-    let then = g.D.Disk.state c.write_days.new.disk in
+    let mid = c.write_segments.new.store in
+    let then = g.D.Disk.state c.write_segments.new.disk in
     let tells = g.D.Disk.tells c.turn.new.disk in
     let failed = g.D.Disk.has_failed c.turn.new.disk in
     let stands = StandsWith store (g.D.Disk.state c.args.disk.now) (entries_in c.args.set.now) in
@@ -63,27 +63,27 @@ returns-in_err-turn-clause-cause g c =
     at_err c.from_residual-in_err-turn.result (Store fault) _ c.from_residual-in_err-turn.ensures.1
     (cause_weaker (turn_causes tells failed mid then) (turning_causes tells failed stands store)
     (λ is. is)
-    (λ full. subst (λ (n : ℕ). failed ⊎ (n + 1 ≡ 2 ^ 64)) c.write_days.ensures.number full)
+    (λ full. subst (λ (n : ℕ). failed ⊎ (n + 1 ≡ 2 ^ 64)) c.write_segments.ensures.number full)
     (λ other tell known.
     let told = c.turn.ensures.told tell in
-    other tell known.0 (c.write_days.ensures.stands told known.0 whole known.1 known.2))
+    other tell known.0 (c.write_segments.ensures.stands told known.0 whole known.1 known.2))
     (λ long. long)
-    (λ broken. c.in_ok-write_days.ensures.goes_on broken)
+    (λ broken. c.in_ok-write_segments.ensures.goes_on broken)
     fault c.in_err-turn.ensures.cause)
 
-pub returns-in_err-write_days-clause-segments : goal.returns-in_err-write_days-clause-segments
-returns-in_err-write_days-clause-segments g c tells with =
-    c.write_days.ensures.segments tells (not_broken c.args.store.now c.is_broken.result c.is_broken.ensures
+pub returns-in_err-write_segments-clause-segments : goal.returns-in_err-write_segments-clause-segments
+returns-in_err-write_segments-clause-segments g c tells with =
+    c.write_segments.ensures.segments tells (not_broken c.args.store.now c.is_broken.result c.is_broken.ensures
     c.if-is_broken.false) with
 
 pub returns-in_err-turn-clause-segments : goal.returns-in_err-turn-clause-segments
 returns-in_err-turn-clause-segments g c tells with =
     let whole = not_broken c.args.store.now c.is_broken.result c.is_broken.ensures c.if-is_broken.false in
-    stay_then (g.D.Disk.state c.args.disk.now) (g.D.Disk.state c.write_days.new.disk) (g.D.Disk.state c.turn.new.disk)
-    (c.write_days.ensures.segments (c.turn.ensures.told tells) whole with) (c.turn.ensures.segments tells)
+    grow_then 65 0 (g.D.Disk.state c.args.disk.now) (g.D.Disk.state c.write_segments.new.disk) (g.D.Disk.state c.turn.new.disk)
+    (c.write_segments.ensures.segments (c.turn.ensures.told tells) whole with) (c.turn.ensures.segments tells)
 
 pub returns-clause-segments : goal.returns-clause-segments
 returns-clause-segments g c tells with =
     let whole = not_broken c.args.store.now c.is_broken.result c.is_broken.ensures c.if-is_broken.false in
-    stay_then (g.D.Disk.state c.args.disk.now) (g.D.Disk.state c.write_days.new.disk) (g.D.Disk.state c.turn.new.disk)
-    (c.write_days.ensures.segments (c.turn.ensures.told tells) whole with) (c.turn.ensures.segments tells)
+    grow_then 65 0 (g.D.Disk.state c.args.disk.now) (g.D.Disk.state c.write_segments.new.disk) (g.D.Disk.state c.turn.new.disk)
+    (c.write_segments.ensures.segments (c.turn.ensures.told tells) whole with) (c.turn.ensures.segments tells)

@@ -1,72 +1,99 @@
-use Rattle.std.proofs.Common.{[], ◌∙◌}
+use Rattle.std.proofs.Common.{List, [], inl, inr, refl, subst, sym, ◌∙◌}
+use Rattle.std.specs.Prelude.{false}
+use Rattle.archive_text.specs.Entries.{Entry}
 use Rattle.archive_text.specs.EntryViews.{entry_of}
 use Rattle.archive_pages.specs.Paged.{entries_from, entries_in}
 use Rattle.journal.specs.Journals.{IsSound}
 use Rattle.record_store.specs.Stores.{IsWhole}
 use Rattle.durable_store.specs.Causes.{StandsWith}
-use Rattle.record_store.proofs.Remaining.{stay_then}
-use Rattle.durable_store.proofs.Daily.{all_held, days_more, days_stand, still_whole}
+use Rattle.durable_store.proofs.Daily.{days_grow, days_grown, days_more, days_shorter, days_sound, days_stand, days_written}
+use Rattle.durable_store.proofs.Daily.{DaysWritten, none_written, still_whole}
 use Rattle.durable_store.proofs.Failing.{writing_less}
 use Rattle.durable_store.proofs.Readable.{at_err}
 use Rattle.durable_store.proofs.segments.write_days.Goals as goal
 
-pub returns-in_err-place-clause-stands : goal.returns-in_err-place-clause-stands
-returns-in_err-place-clause-stands g c =
-    days_stand (g.D.Disk.tells c.write_day.new.disk) (g.D.Disk.tells c.days.disk) c.args.store.now
-    (g.D.Disk.state c.args.disk.now) c.days.store (g.D.Disk.state c.days.disk) c.write_day.new.store
-    (g.D.Disk.state c.write_day.new.disk) (entries_in c.args.set.now) (entries_from c.args.set.now c.days.place)
-    (entries_from c.args.set.now c.in-Some.behind) [] (entry_of c.in-Some.entry) c.write_day.ensures.told
-    c.days.invariant.written c.in-Some.ensures.some c.args.set.now.paged.archive
-    (λ whole. still_whole c.args.store.now c.days.store c.days.invariant.goes_on whole) c.write_day.ensures.stands
+pub days-init : goal.days-init
+days-init g c = record {
+  told = λ tells. tells;
+  number = refl;
+  goes_on = λ broken. broken;
+  written = subst (λ (l : List Entry). DaysWritten (g.D.Disk.tells c.args.disk.now) c.args.total c.args.store.now
+      (g.D.Disk.state c.args.disk.now) c.args.store.now (g.D.Disk.state c.args.disk.now) false
+      (entries_in c.args.set.now) l) (sym (c.first-place.ensures c.args.set.now))
+      (none_written (g.D.Disk.tells c.args.disk.now) c.args.total c.args.store.now (g.D.Disk.state c.args.disk.now)
+      (entries_in c.args.set.now));
+}
 
 pub days-preserved : goal.days-preserved
 days-preserved g c = record {
-  told = λ tells. c.days.invariant.told (c.write_day.ensures.told tells);
-  number = c.write_day.ensures.number ∙ c.days.invariant.number;
-  goes_on = λ broken. c.days.invariant.goes_on (c.in_ok-place.ensures.goes_on broken);
-  written = days_more (g.D.Disk.tells c.write_day.new.disk) (g.D.Disk.tells c.days.disk) c.args.store.now
-      (g.D.Disk.state c.args.disk.now) c.days.store (g.D.Disk.state c.days.disk) c.write_day.new.store
-      (g.D.Disk.state c.write_day.new.disk) (entries_in c.args.set.now) (entries_from c.args.set.now c.days.place)
-      (entries_from c.args.set.now c.in-Some.behind) (entries_from c.args.set.now c.in_ok-place.place) (entry_of c.in-Some.entry) c.write_day.ensures.told
-      c.days.invariant.written c.in-Some.ensures.some c.args.set.now.paged.archive
-      (λ whole. still_whole c.args.store.now c.days.store c.days.invariant.goes_on whole) c.write_day.ensures.stands
-      c.in_ok-place.ensures.wrote;
-  segments = λ tells whole with.
-      let told = c.write_day.ensures.told tells in
-      let stands = c.days.invariant.written.stands told with.0 whole with.1 with.2 in
-      let still = still_whole c.args.store.now c.days.store c.days.invariant.goes_on whole in
-      stay_then (g.D.Disk.state c.args.disk.now) (g.D.Disk.state c.days.disk) (g.D.Disk.state c.write_day.new.disk)
-      (c.days.invariant.segments told whole with)
-      (c.write_day.ensures.segments tells (stands.ready still).stands.sound);
+  told = λ tells. c.days.invariant.told (c.write_share.ensures.told tells);
+  number = c.write_share.ensures.number ∙ c.days.invariant.number;
+  goes_on = λ broken. c.days.invariant.goes_on (c.in_ok-wrote.ensures.goes_on broken);
+  written = days_more (g.D.Disk.tells c.write_share.new.disk) (g.D.Disk.tells c.days.disk) c.args.total c.args.store.now
+      (g.D.Disk.state c.args.disk.now) c.days.store (g.D.Disk.state c.days.disk) c.write_share.new.store
+      (g.D.Disk.state c.write_share.new.disk) c.days.skipped (entries_in c.args.set.now)
+      (entries_from c.args.set.now c.days.place) (entries_from c.args.set.now c.in-Some.behind) (entry_of c.in-Some.entry)
+      c.write_share.ensures.told c.days.invariant.written c.in-Some.ensures.some c.args.set.now.paged.archive
+      (λ whole. still_whole c.args.store.now c.days.store c.days.invariant.goes_on whole)
+      c.in_ok-wrote.wrote (entries_from c.args.set.now c.in_ok-wrote.next)
+      c.in_ok-wrote.ensures.wrote c.is_skipped-skipped.result (λ yes. c.is_skipped-skipped.ensures.1 (inl yes))
+      (λ not. c.is_skipped-skipped.ensures.1 (inr not)) c.write_share.ensures.stands;
 }
 
-pub returns-clause-held : goal.returns-clause-held
-returns-clause-held g c =
-    all_held (g.D.Disk.tells c.days.disk) c.args.store.now (g.D.Disk.state c.args.disk.now) c.days.store
-    (g.D.Disk.state c.days.disk) (entries_in c.args.set.now) (entries_from c.args.set.now c.days.place)
-    c.days.invariant.written c.in_default.ensures.none
+pub days-smaller : goal.days-smaller
+days-smaller g c =
+    days_shorter (entry_of c.in-Some.entry) (entries_from c.args.set.now c.days.place)
+    (entries_from c.args.set.now c.in-Some.behind) c.in_ok-wrote.ensures.wrote.run
+    (entries_from c.args.set.now c.in_ok-wrote.next) c.in-Some.ensures.some c.in_ok-wrote.ensures.wrote.is
 
-pub returns-in_err-place-clause-cause : goal.returns-in_err-place-clause-cause
-returns-in_err-place-clause-cause g c =
+pub returns-in_err-wrote-clause-stands : goal.returns-in_err-wrote-clause-stands
+returns-in_err-wrote-clause-stands g c =
+    days_stand (g.D.Disk.tells c.write_share.new.disk) (g.D.Disk.tells c.days.disk) c.args.total c.args.store.now
+    (g.D.Disk.state c.args.disk.now) c.days.store (g.D.Disk.state c.days.disk) c.write_share.new.store
+    (g.D.Disk.state c.write_share.new.disk) c.days.skipped (entries_in c.args.set.now)
+    (entries_from c.args.set.now c.days.place) (entries_from c.args.set.now c.in-Some.behind) (entry_of c.in-Some.entry)
+    c.write_share.ensures.told c.days.invariant.written c.in-Some.ensures.some c.args.set.now.paged.archive
+    (λ whole. still_whole c.args.store.now c.days.store c.days.invariant.goes_on whole)
+    c.write_share.ensures.stands
+
+pub returns-in_err-wrote-clause-grows : goal.returns-in_err-wrote-clause-grows
+returns-in_err-wrote-clause-grows g c =
+    days_grow (g.D.Disk.tells c.write_share.new.disk) (g.D.Disk.tells c.days.disk) c.args.total c.args.store.now
+    (g.D.Disk.state c.args.disk.now) c.days.store (g.D.Disk.state c.days.disk) c.write_share.new.store
+    (g.D.Disk.state c.write_share.new.disk) c.days.skipped (entries_in c.args.set.now)
+    (entries_from c.args.set.now c.days.place) (entries_from c.args.set.now c.in-Some.behind) (entry_of c.in-Some.entry)
+    c.write_share.ensures.told c.days.invariant.written c.in-Some.ensures.some c.args.set.now.paged.archive
+    (λ whole. still_whole c.args.store.now c.days.store c.days.invariant.goes_on whole)
+    c.write_share.ensures.grows
+
+pub returns-in_err-wrote-clause-cause : goal.returns-in_err-wrote-clause-cause
+returns-in_err-wrote-clause-cause g c =
     let zero = g.D.Disk.state c.args.disk.now in
     let then = g.D.Disk.state c.days.disk in
-    let fault = c.in_err-place.field-0.0 in
+    let fault = c.in_err-wrote.field-0.0 in
     at_err c.from_residual.result fault _ c.from_residual.ensures.1
-    (writing_less (g.D.Disk.tells c.write_day.new.disk) (g.D.Disk.has_failed c.write_day.new.disk) (IsSound then)
+    (writing_less (g.D.Disk.tells c.write_share.new.disk) (g.D.Disk.has_failed c.write_share.new.disk) (IsSound then)
     (IsWhole c.args.store.now × StandsWith c.args.store.now zero (entries_in c.args.set.now))
-    (g.D.Disk.state c.write_day.new.disk) fault
+    (g.D.Disk.state c.write_share.new.disk) fault
     (λ tell known.
-    let told = c.write_day.ensures.told tell in
     let with : StandsWith c.args.store.now zero (entries_in c.args.set.now) = known.1 in
-    let stands = c.days.invariant.written.stands told with.0 known.0 with.1 with.2 in
-    (stands.ready (still_whole c.args.store.now c.days.store c.days.invariant.goes_on known.0)).stands.sound)
-    c.in_err-place.ensures.cause)
+    days_sound (g.D.Disk.tells c.write_share.new.disk) (g.D.Disk.tells c.days.disk) c.args.total c.args.store.now
+    (g.D.Disk.state c.args.disk.now) c.days.store (g.D.Disk.state c.days.disk) c.write_share.new.store
+    (g.D.Disk.state c.write_share.new.disk) c.days.skipped (entries_in c.args.set.now)
+    (entries_from c.args.set.now c.days.place) (entries_from c.args.set.now c.in-Some.behind) (entry_of c.in-Some.entry)
+    c.write_share.ensures.told c.days.invariant.written c.in-Some.ensures.some c.args.set.now.paged.archive
+    (λ whole. still_whole c.args.store.now c.days.store c.days.invariant.goes_on whole)
+    (c.write_share.ensures.told tell) with.0 known.0 with.1 with.2)
+    c.in_err-wrote.ensures.cause)
 
-pub returns-in_err-place-clause-segments : goal.returns-in_err-place-clause-segments
-returns-in_err-place-clause-segments g c tells whole with =
-    let told = c.write_day.ensures.told tells in
-    let stands = c.days.invariant.written.stands told with.0 whole with.1 with.2 in
-    let still = still_whole c.args.store.now c.days.store c.days.invariant.goes_on whole in
-    stay_then (g.D.Disk.state c.args.disk.now) (g.D.Disk.state c.days.disk) (g.D.Disk.state c.write_day.new.disk)
-    (c.days.invariant.segments told whole with)
-    (c.write_day.ensures.segments tells (stands.ready still).stands.sound)
+pub returns-clause-wrote : goal.returns-clause-wrote
+returns-clause-wrote g c =
+    days_written (g.D.Disk.tells c.days.disk) c.args.total c.args.store.now (g.D.Disk.state c.args.disk.now) c.days.store
+    (g.D.Disk.state c.days.disk) c.days.skipped (entries_in c.args.set.now) (entries_from c.args.set.now c.days.place)
+    c.days.invariant.written c.in_default.ensures.none
+
+pub returns-clause-grows : goal.returns-clause-grows
+returns-clause-grows g c =
+    days_grown (g.D.Disk.tells c.days.disk) c.args.total c.args.store.now (g.D.Disk.state c.args.disk.now) c.days.store
+    (g.D.Disk.state c.days.disk) c.days.skipped (entries_in c.args.set.now) (entries_from c.args.set.now c.days.place)
+    c.days.invariant.written c.in_default.ensures.none

@@ -1,8 +1,6 @@
 use Rattle.std.proofs.Common.{◌≡◌, length}
 use Rattle.archive_pages.specs.Paged.{entries_from, entries_in}
-use Rattle.record_store.specs.Segments.{SegmentsStay}
-use Rattle.record_store.specs.Stores.{IsBroken, IsWhole, number_of}
-use Rattle.durable_store.specs.Causes.{StandsWith}
+use Rattle.record_store.specs.Stores.{IsBroken, number_of}
 use Rattle.durable_store.proofs.Daily.{DaysWritten}
 use Rattle.durable_store.proofs.segments.write_days.Given as goal
 
@@ -11,11 +9,8 @@ invariant-days g l = record {
   told : g.D.Disk.tells l.disk → g.D.Disk.tells l.fn.disk;
   number : number_of l.store ≡ number_of l.fn.store;
   goes_on : IsBroken l.store → IsBroken l.fn.store;
-  written : DaysWritten (g.D.Disk.tells l.disk) l.fn.store (g.D.Disk.state l.fn.disk) l.store (g.D.Disk.state l.disk)
-      (entries_in l.set) (entries_from l.set l.place);
-  segments : g.D.Disk.tells l.disk → IsWhole l.fn.store
-      → StandsWith l.fn.store (g.D.Disk.state l.fn.disk) (entries_in l.set)
-      → SegmentsStay (g.D.Disk.state l.fn.disk) (g.D.Disk.state l.disk);
+  written : DaysWritten (g.D.Disk.tells l.disk) l.fn.total l.fn.store (g.D.Disk.state l.fn.disk) l.store
+      (g.D.Disk.state l.disk) l.skipped (entries_in l.set) (entries_from l.set l.place);
 }
 
 abbrev pub decreases-days : goal.decreases-days

@@ -23,10 +23,20 @@ returns-in-Err-clause-cause g c =
 
 pub returns-in-Ok-clause-segments : goal.returns-in-Ok-clause-segments
 returns-in-Ok-clause-segments g c tells known =
-    c.write_out.ensures.segments tells
-    (known.0, known.1.journal, λ e has. known.1.journal.within e ((known.1.held e).0 has))
+    (c.write_out.ensures.segments tells
+    (known.0, known.1.journal, λ e has. known.1.journal.within e ((known.1.held e).0 has))).stay
+
+pub returns-in-Ok-clause-few : goal.returns-in-Ok-clause-few
+returns-in-Ok-clause-few g c tells known =
+    (c.write_out.ensures.segments tells
+    (known.0, known.1.journal, λ e has. known.1.journal.within e ((known.1.held e).0 has)))
 
 pub returns-in-Err-clause-segments : goal.returns-in-Err-clause-segments
 returns-in-Err-clause-segments g c tells known =
-    c.write_out.ensures.segments tells
-    (known.0, known.1.journal, λ e has. known.1.journal.within e ((known.1.held e).0 has))
+    (c.write_out.ensures.segments tells
+    (known.0, known.1.journal, λ e has. known.1.journal.within e ((known.1.held e).0 has))).stay
+
+pub returns-in-Err-clause-few : goal.returns-in-Err-clause-few
+returns-in-Err-clause-few g c tells known =
+    (c.write_out.ensures.segments tells
+    (known.0, known.1.journal, λ e has. known.1.journal.within e ((known.1.held e).0 has)))

@@ -1,0 +1,12 @@
+use Rattle.std.proofs.Common.{List, ℕ, subst}
+use Rattle.durable_store.specs.Segments.{KeepsAside}
+use Rattle.record_store.specs.Names.{draft_name}
+use Rattle.durable_store.proofs.Daily.{aside_none, removed_aside}
+use Rattle.durable_store.proofs.mixed.drop_draft.Goals as goal
+
+pub returns-clause-aside : goal.returns-clause-aside
+returns-clause-aside g c tells =
+    let zero = g.D.Disk.state c.args.disk.now in
+    let new = g.D.Disk.state c.remove.new.self in
+    subst (λ (n : List ℕ). KeepsAside zero new n) c.in-Ok.ensures.name
+    (removed_aside zero new c.in-Ok.name c.remove.result (c.remove.ensures.done tells))
