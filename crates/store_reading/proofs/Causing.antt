@@ -170,24 +170,24 @@ module _ (tells failed now : Type 0) (one two : Files) (IsRead IsOther : List �
     (IsDamaged IsMore : List ℕ → List ℕ → FileFault → Type 0) (still : failed → now) (same : tells → one ≡ two)
     (among : (name : List ℕ) → IsRead name → IsOther name)
     (damaged : (name file : List ℕ) (fault : FileFault) → IsRead name → IsDamaged name file fault → IsMore name file fault)
-    where
-  pub wider_cause : (fault : ReadFault) → IsCause (file_causes tells failed one IsRead IsDamaged) fault
-      → IsCause (file_causes tells now two IsOther IsMore) fault
-  wider_cause fault is =
-      cause_weaker (file_causes tells failed one IsRead IsDamaged) (file_causes tells now two IsOther IsMore) still
-      among
-      (λ name damage told. (
-        among name told.0,
-        λ t. subst (λ (f : Files). IsSomeAnd (f name) (λ file. IsMore name file damage)) (same t)
-            (some_more (one name) (λ file. IsDamaged name file damage) (λ file. IsMore name file damage)
-            (λ file so. damaged name file damage told.0 so) (told.1 t)),
-      )) (λ none. none) fault is
+  where
+    pub wider_cause : (fault : ReadFault) → IsCause (file_causes tells failed one IsRead IsDamaged) fault
+        → IsCause (file_causes tells now two IsOther IsMore) fault
+    wider_cause fault is =
+        cause_weaker (file_causes tells failed one IsRead IsDamaged) (file_causes tells now two IsOther IsMore) still
+        among
+        (λ name damage told. (
+          among name told.0,
+          λ t. subst (λ (f : Files). IsSomeAnd (f name) (λ file. IsMore name file damage)) (same t)
+              (some_more (one name) (λ file. IsDamaged name file damage) (λ file. IsMore name file damage)
+              (λ file so. damaged name file damage told.0 so) (told.1 t)),
+        )) (λ none. none) fault is
 
-  pub wider_result : {T : Type 0} (r : Result T ReadFault)
-      → IfErr r (IsCause (file_causes tells failed one IsRead IsDamaged))
-      → IfErr r (IsCause (file_causes tells now two IsOther IsMore))
-  wider_result (Ok x) is = tt
-  wider_result (Err fault) is = wider_cause fault is
+    pub wider_result : {T : Type 0} (r : Result T ReadFault)
+        → IfErr r (IsCause (file_causes tells failed one IsRead IsDamaged))
+        → IfErr r (IsCause (file_causes tells now two IsOther IsMore))
+    wider_result (Ok x) is = tt
+    wider_result (Err fault) is = wider_cause fault is
 
 -- ---- a range
 

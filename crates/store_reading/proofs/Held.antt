@@ -109,6 +109,11 @@ memory_held files range e (name, inl (journal, has)) =
 memory_held files range e (name, inr ((segment, has), inside)) =
     record { name = name; at = at_segment (codes "mixed") name (files name) e segment has }
 
+-- a segment of some period has it
+pub segment_held : (files : Files) (period : List ℕ) (e : Entry) → (name : List ℕ) × HasAsSegment files period name e
+    → Held files e
+segment_held files period e (name, (segment, has)) =
+    record { name = name; at = at_segment period name (files name) e segment has }
+
 pub day_held : (files : Files) (day : List ℕ) (e : Entry) → DayHas files day e → Held files e
-day_held files day e (of, (name, (segment, has))) =
-    record { name = name; at = at_segment day name (files name) e segment has }
+day_held files day e h = segment_held files day e h.1

@@ -1,5 +1,5 @@
 -- Names in the order of their periods.
-use Rattle.std.proofs.Common.{◌≡◌, ◌≢◌, ◌⊎◌, ℕ, ◌+◌, ◌-◌, ◌<◌, ◌≤◌, Bool, true, false, List, [], ◌∷◌, ◌++◌, Option}
+use Rattle.std.proofs.Common.{◌≡◌, ◌⊎◌, ℕ, ◌+◌, ◌-◌, ◌<◌, ◌≤◌, Bool, true, false, List, [], ◌∷◌, ◌++◌, Option}
 use Rattle.std.proofs.Common.{length, take, drop, inl, inr, refl, sym, ap, subst, ◌∙◌, arith, append_assoc, length-append}
 use Rattle.std.specs.Prelude.{◌↔◌, Contains, None, Some, IfSome, IsSomeAnd, codes, not, slice_index_or}
 use Rattle.std.specs.declared.cmp.Ordering.{Ordering}
@@ -16,7 +16,7 @@ use Rattle.std.proofs.lemmas.List.Sorted.{ranks_by, sorted_far}
 use Rattle.syslog_value.specs.Order.{OctetsBelow}
 use Rattle.syslog_value.proofs.Octets.{octets_ranked}
 use Rattle.store_reading.specs.Days.{IsAfter, IsDayBelow, IsDayText}
-use Rattle.store_reading.specs.Names.{HaveSegment, IsNextSegment, SomeName}
+use Rattle.store_reading.specs.Names.{HaveSegment, IsNextSegment}
 use Rattle.store_reading.specs.Order.{AreInOrder, comes_before, compare_periods, is_period_below, period_of}
 use Rattle.record_store.specs.Names.{IsSegment}
 use Rattle.store_reading.proofs.DayOrders.{day_irreflexive, day_transitive}

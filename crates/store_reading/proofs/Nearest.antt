@@ -1,6 +1,6 @@
 -- The next of some days.
-use Rattle.std.proofs.Common.{◌≡◌, ◌⊎◌, ℕ, List, [], ◌∷◌, ◌++◌, Option, None, Some, inl, inr, refl, sym, subst}
-use Rattle.std.specs.Prelude.{IfSome, IsSomeAnd}
+use Rattle.std.proofs.Common.{◌≡◌, ◌⊎◌, ℕ, List, Option, None, Some, inl, inr, refl, sym, subst}
+use Rattle.std.specs.Prelude.{IsSomeAnd}
 use Rattle.store_reading.specs.Days.{IsAfter, IsDayBelow, IsDayText}
 use Rattle.store_reading.specs.Names.{AddsDay, HaveSegment, IsFirstDay, IsNextDay, IsNextSegment}
 use Rattle.store_reading.proofs.DayOrders.{day_irreflexive, day_transitive}

@@ -1,5 +1,5 @@
 -- The names of a store's files, and the days of its segments.
-use Rattle.std.specs.Prelude.{◌≡◌, ◌⊎◌, ℕ, All, Contains, List, [], ◌∷◌, ◌++◌, Option, Some, IfSome, IsSomeAnd, length}
+use Rattle.std.specs.Prelude.{◌≡◌, ◌⊎◌, ℕ, All, Contains, List, ◌∷◌, Option, Some, IfSome, IsSomeAnd, length}
 use Rattle.record_store.specs.Names.{IsHexadecimal, IsSegment}
 use Rattle.store_reading.specs.Days.{IsAfter, IsDayBelow, IsDayText, IsOf}
 use Rattle.archive_text.specs.Entries.{Entry}

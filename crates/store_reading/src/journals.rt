@@ -31,7 +31,11 @@ const JOURNAL_MAX: usize = 1 << 40;
 const HEAD: usize = 5;
 
 /// Adds an entry to a set.
-pub(crate) fn add_entry(alloc: Global, set: &mut PagedArchive, entry: &EntryView<'_>) -> Result<(), CheckFault>
+pub(crate) fn add_entry(
+    alloc: Global,
+    set: &mut PagedArchive,
+    entry: &EntryView<'_>,
+) -> Result<(), CheckFault>
     requires entry { IsEntry (entry_of entry.now) }
     requires fits { length entry.now.octets.now ≤ ENTRY_MAX }
     ensures adds { OnOk result (Adds (set_entries set.old)

@@ -56,12 +56,7 @@ fn fault_at(
 }
 
 /// Why the segments of a period among these names were not joined, from the fault of joining them.
-pub fn join_fault(
-    alloc: Global,
-    names: &[FileName],
-    period: &Period,
-    fault: JoinFault,
-) -> ReadFault
+pub fn join_fault(alloc: Global, names: &[FileName], period: &Period, fault: JoinFault) -> ReadFault
     ensures { IsJoinFault period.now names.now fault result }
 {
     match fault {
@@ -153,12 +148,7 @@ fn read_day<F: Folder, W: Output>(
     let mut inputs = day_inputs(alloc, folder, names, day, text)?;
     match join_streams(alloc, kept, inputs.as_mut_slice(), writer) {
         Ok(_) => Ok(()),
-        Err(fault) => Err(join_fault(
-            alloc,
-            names.as_slice(),
-            &Period::of(day),
-            fault,
-        )),
+        Err(fault) => Err(join_fault(alloc, names.as_slice(), &Period::of(day), fault)),
     }
 }
 

@@ -23,15 +23,14 @@ use Rattle.archive_streams.specs.Entries.{IsWhole}
 use Rattle.archive_join.specs.Inputs.{AreWhole}
 use Rattle.archive_join.specs.Holders.{IsHeld, kept_text}
 use Rattle.archive_join.specs.Joined.{Joined}
-use Rattle.record_store.specs.Holdings.{HeldAt, SegmentHas}
+use Rattle.record_store.specs.Holdings.{HeldAt, IsOfPeriod, SegmentHas}
 use Rattle.record_store.specs.Names.{Counts, IsSegment}
 use Rattle.record_store.specs.Segments.{IsSegmentOf, segment_name}
 use Rattle.record_store.proofs.Folders.{held_counts}
 use Rattle.record_store.proofs.Named.{not_both}
-use Rattle.store_reading.specs.Days.{IsOf}
 use Rattle.store_reading.specs.Folders.{IsUnused, Opens}
 use Rattle.store_reading.specs.Segments.{AreArchives, AreSegmentsOf, IsArchiveInput, IsSegmentInput, NamesHave}
-use Rattle.store_reading.proofs.Held.{day_held, no_name}
+use Rattle.store_reading.proofs.Held.{segment_held, no_name}
 use Rattle.store_reading.proofs.Joined.{rest_of, whole_rest}
 use Rattle.store_reading.specs.Damages.{OfLeft}
 use Rattle.store_reading.proofs.Damaged.{file_is}
@@ -200,7 +199,7 @@ union_written files names day ds es old new n s empty j = record {
           of_member (λ (x : Entry). length x.octets ≤ ENTRY_MAX) f.1.entries e f.1.archive.fits f.1.has);
     };
     text_is = refl;
-    days = of_all (IsOf day) j.ys (λ e h. let f = found e h in of_member (IsOf day) f.1.entries e f.1.days f.1.has);
+    days = of_all (IsOfPeriod day) j.ys (λ e h. let f = found e h in of_member (IsOfPeriod day) f.1.entries e f.1.days f.1.has);
   };
   written = appended_is new (text_of j.ys)
       (subst (λ (o : Option (List ℕ)). Appends o new (text_of j.ys)) empty
@@ -312,7 +311,7 @@ may_place old mid draft name day names segments j apart others listed found segm
       (subst (λ (o : Option (List ℕ)). HeldAt name o e) (same name (inr (day, segment))) held));
   held = λ e has.
       let h = (j.have e).0 has in
-      let old_held = day_held (shown old) day e (h.0, h.2) in
+      let old_held = segment_held (shown old) day e (h.0, h.2) in
       record {
         name = old_held.name;
         at = subst (λ (o : Option (List ℕ)). HeldAt old_held.name o e)

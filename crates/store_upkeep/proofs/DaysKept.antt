@@ -18,7 +18,7 @@ use Rattle.record_store.specs.Segments.{segment_name}
 use Rattle.record_store.proofs.Drafted.{segment_no_more}
 use Rattle.record_store.proofs.Leavings.{settled_shown}
 use Rattle.record_store.proofs.Named.{same_or_apart}
-use Rattle.store_reading.specs.Days.{IsDayText}
+use Rattle.store_reading.specs.Days.{IsPeriodText}
 use Rattle.store_upkeep.specs.Compaction.{AreDayNames, AreListed, AreWholeAt, DayIsListed, EachHasAtMost, GoesOn}
 use Rattle.store_upkeep.specs.Compaction.{HasAll, HasAtMost, IsJoinOf, IsSameApart, IsWholeDay, KeepsDamagedDays}
 use Rattle.store_upkeep.specs.Compaction.{KeepsOtherFiles, KeepsSet, KeepsUnlessDayIsWhole, MayBePlaced, ShowsLess}
@@ -65,7 +65,7 @@ unchanged_files old new same name differs not = ap shown_now (same.entries name)
 pub then_files : (a b c : State) → KeepsOtherFiles a b → KeepsOtherFiles b c → KeepsOtherFiles a c
 then_files a b c one two name differs not = two name differs not ∙ one name differs not
 
-pub day_files : (old new : State) (day : List ℕ) → IsDayText day → IsSameApart day old new → KeepsOtherFiles old new
+pub day_files : (old new : State) (day : List ℕ) → IsPeriodText day → IsSameApart day old new → KeepsOtherFiles old new
 day_files old new day text same name differs not = same name differs (not day text)
 
 pub unchanged_damaged : (old new : State) → IsUnchanged old new → KeepsDamagedDays old new
@@ -283,9 +283,9 @@ few_named most state day other name few segment named =
     subst (HasAtMost most state) (day_named day other name segment named) few
 
 pub few_more : (most : ℕ) (state : State) (names : List (List ℕ)) (last : List ℕ)
-    → ((day name : List ℕ) → Contains names name → IsDayText day → IsSegment day name → HasAtMost most state day)
-    → ((day : List ℕ) → IsDayText day → IsSegment day last → HasAtMost most state day)
-    → (day name : List ℕ) → Contains (names ++ last ∷ []) name → IsDayText day → IsSegment day name
+    → ((day name : List ℕ) → Contains names name → IsPeriodText day → IsSegment day name → HasAtMost most state day)
+    → ((day : List ℕ) → IsPeriodText day → IsSegment day last → HasAtMost most state day)
+    → (day name : List ℕ) → Contains (names ++ last ∷ []) name → IsPeriodText day → IsSegment day name
     → HasAtMost most state day
 few_more most state names last before here day name has text segment = ⊎_elim
     (λ there. before day name there text segment)
@@ -293,7 +293,7 @@ few_more most state names last before here day name has text segment = ⊎_elim
     (Contains-push_cases names last name has)
 
 pub each_few : (most : ℕ) (state : State) (names : List (List ℕ)) (last : Option (List ℕ)) → GoesOn most state names last
-    → ((day name : List ℕ) → Contains names name → IsDayText day → IsSegment day name → HasAtMost most state day)
+    → ((day name : List ℕ) → Contains names name → IsPeriodText day → IsSegment day name → HasAtMost most state day)
     → EachHasAtMost most state
 each_few most state names last g few day name text segment some = ⊎_elim
     (λ listed. few day name (listed name segment some) text segment)

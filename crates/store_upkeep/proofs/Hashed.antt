@@ -16,9 +16,9 @@ use Rattle.archive_streams.specs.Entries.{current, Ends, Halts, Reads, ReadsOne}
 use Rattle.archive_streams.specs.declared.entries.ArchiveEntries.{ArchiveEntries}
 use Rattle.archive_streams.specs.declared.fault.SideFault.{SideFault}
 use Rattle.archive_streams.specs.declared.fault.SideFault.TheVariants.{Archive as side_Archive, Input as side_Input}
+use Rattle.record_store.specs.Holdings.{IsOfPeriod}
 use Rattle.record_store.specs.Segments.{IsArchiveOfDay, segment_name}
 use Rattle.store_reading.specs.Damages.{OfLeft, position}
-use Rattle.store_reading.specs.Days.{IsOf}
 use Rattle.store_reading.proofs.Damaged.{file_is, goes_on, no_archive}
 use Rattle.store_reading.proofs.Joined.{rest_of, whole_rest}
 use Rattle.store_upkeep.specs.Damages.{HashesOf, IsArchiveDamage, IsHashed, IsSegmentDamage}
@@ -40,14 +40,14 @@ place_more : (most a b at n later : ℕ) → at ≡ min a most → n ≡ min b m
 place_more most a b at n later one two both = omega arith
 
 pub hashes_more : (day : List ℕ) (s t : ArchiveEntries) (hasher next : Sha256) (at n later : ℕ) (d e f : InputState)
-    → HashesOf day s hasher at d e → ReadsOne s t e f → IsOf day (current t)
+    → HashesOf day s hasher at d e → ReadsOne s t e f → IsOfPeriod day (current t)
     → ((m : List ℕ) → Holds256 hasher m → Holds256 next (m ++ entry_text (current t)))
     → n ≡ position (length (entry_text (current t))) → later ≡ position (at + n) → HashesOf day t next later d f
 hashes_more day s t hasher next at n later d e f h one of more size sum = record {
   segment = record {
     entries = h.segment.entries ++ current t ∷ [];
     reads = one.reads d h.segment.entries h.segment.reads;
-    days = all_append (IsOf day) h.segment.entries (current t ∷ []) h.segment.days (of, tt);
+    days = all_append (IsOfPeriod day) h.segment.entries (current t ∷ []) h.segment.days (of, tt);
   };
   hashed = subst (Holds256 next) (sym (text_push h.segment.entries (current t)))
       (more (text_of h.segment.entries) h.hashed);

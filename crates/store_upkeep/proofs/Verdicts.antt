@@ -9,7 +9,7 @@ use Rattle.octet_devices.specs.Device.{InputState}
 use Rattle.archive_text.proofs.Members.{all_append}
 use Rattle.record_store.specs.Names.{IsJournal, IsSegment}
 use Rattle.record_store.proofs.Named.{not_both}
-use Rattle.store_reading.specs.Days.{IsDayText}
+use Rattle.store_reading.specs.Days.{IsPeriodText}
 use Rattle.store_reading.specs.Folders.{AreNamesOf, Opens}
 use Rattle.store_reading.specs.Damages.{OfLeft}
 use Rattle.store_upkeep.specs.Damages.{AddsTo, AreAsTold, AreDamaged, IsDamageOf, IsFoundBy, IsJournalDamage}
@@ -85,7 +85,7 @@ journal_whole_at files name d journal opened whole file is = record {
 }
 
 pub other_whole_at : (files : Files) (name : List ℕ) → (IsJournal name → ⊥)
-    → ((day : List ℕ) → IsDayText day → IsSegment day name → ⊥) → IsWholeAt files name
+    → ((day : List ℕ) → IsPeriodText day → IsSegment day name → ⊥) → IsWholeAt files name
 other_whole_at files name no_journal no_segment file is = record {
   journal = λ journal. absurd (no_journal journal);
   segment = λ day text named. absurd (no_segment day text named);
@@ -107,7 +107,7 @@ result_verdict : {E : Type 0} (files : Files) (name : List ℕ) (d : InputState)
 result_verdict files name d fault (Ok found) opened told is = found_verdict files name d fault found opened told is
 result_verdict files name d fault (Err e) opened told is = tt
 
-segment_told : (name day file : List ℕ) (fault : CheckFault) → IsDayText day → IsSegment day name
+segment_told : (name day file : List ℕ) (fault : CheckFault) → IsPeriodText day → IsSegment day name
     → Refutes fault (IsWholeSegment day name file) → Tells fault (IsSegmentDamage day name file)
     → Tells fault (IsDamageOf name file)
 segment_told name day file (Damaged damage) text segment refuted told = record {
@@ -130,7 +130,7 @@ journal_told name file (Input fault) journal refuted told = tt
 journal_told name file Memory journal refuted told = tt
 
 pub segment_verdict : {E : Type 0} (files : Files) (name day : List ℕ) (d : InputState) (fault : CheckFault)
-    (r : Result (Option Damage) E) → IsDayText day → IsSegment day name → Opens files name d
+    (r : Result (Option Damage) E) → IsPeriodText day → IsSegment day name → Opens files name d
     → OfLeft d (λ file. Refutes fault (IsWholeSegment day name file))
     → OfLeft d (λ file. Tells fault (IsSegmentDamage day name file)) → IfOk r (IsFoundBy fault)
     → IfOk r (λ found. IsVerdict found files name)

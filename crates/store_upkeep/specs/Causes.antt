@@ -3,11 +3,11 @@ use Rattle.std.specs.Prelude.{◌⊎◌, ℕ, List, Contains, IsSome}
 use Rattle.disk.specs.States.{Files}
 use Rattle.record_store.specs.Names.{IsJournal, IsSegment}
 use Rattle.store_reading.specs.Causes.{Causes}
-use Rattle.store_reading.specs.Days.{IsDayText}
+use Rattle.store_reading.specs.Days.{IsPeriodText}
 
 -- a name is that of a journal or of a segment
 abbrev pub IsCounted : List ℕ → Type 0
-IsCounted name = IsJournal name ⊎ ((day : List ℕ) × IsDayText day × IsSegment day name)
+IsCounted name = IsJournal name ⊎ ((day : List ℕ) × IsPeriodText day × IsSegment day name)
 
 -- and it is listed
 abbrev pub IsListedFile : List (List ℕ) → List ℕ → Type 0

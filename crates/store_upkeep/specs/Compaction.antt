@@ -1,4 +1,4 @@
--- What it is to join the segments of a day.
+-- What it is to join the segments of a period: of a day, or mixed ones.
 use Rattle.std.specs.Prelude.{◌≡◌, ◌≢◌, ◌⊎◌, ◌↔◌, ℕ, ◌≤◌, List, Option, None, IfSome, IsSome, Contains, codes, length}
 use Rattle.disk.specs.Calls.{IsUnchanged, RemovesFile}
 use Rattle.disk.specs.Files.{settled}
@@ -10,7 +10,7 @@ use Rattle.record_store.specs.Crashes.{Keeps}
 use Rattle.record_store.specs.Holdings.{Held}
 use Rattle.record_store.specs.Names.{Counts, IsSegment}
 use Rattle.record_store.specs.Segments.{IsSegmentOf, ShowsNoMore, segment_name}
-use Rattle.store_reading.specs.Days.{IsDayText}
+use Rattle.store_reading.specs.Days.{IsPeriodText}
 use Rattle.store_reading.specs.Segments.{NamesHave}
 use Rattle.store_upkeep.specs.Whole.{IsDamagedAt, IsWholeAt}
 use Rattle.store_upkeep.specs.declared.whole_files.WholeFiles.{WholeFiles}
@@ -41,7 +41,7 @@ IsSameApart day old new = (name : List ℕ) → name ≢ compact_draft → ¬ (I
 -- the files that are segments of no day are the same, but for the draft
 abbrev pub KeepsOtherFiles : State → State → Type 0
 KeepsOtherFiles old new =
-    (name : List ℕ) → name ≢ compact_draft → ((day : List ℕ) → IsDayText day → ¬ (IsSegment day name))
+    (name : List ℕ) → name ≢ compact_draft → ((day : List ℕ) → IsPeriodText day → ¬ (IsSegment day name))
     → IsSameAt old new name
 
 -- the files under these names are whole
@@ -94,7 +94,7 @@ pub record HasAtMost (most : ℕ) (state : State) (day : List ℕ) : Type 0 wher
 -- each day that has a segment has at most so many
 abbrev pub EachHasAtMost : ℕ → State → Type 0
 EachHasAtMost most state =
-    (day name : List ℕ) → IsDayText day → IsSegment day name → IsSome (shown state name) → HasAtMost most state day
+    (day name : List ℕ) → IsPeriodText day → IsSegment day name → IsSome (shown state name) → HasAtMost most state day
 
 -- a draft is on the disk, and is the archive of what these segments have
 pub record IsJoinOf (old new : State) (draft day : List ℕ) (segments : List (List ℕ)) : Type 0 where

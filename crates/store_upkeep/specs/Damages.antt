@@ -17,7 +17,7 @@ use Rattle.archive_streams.specs.declared.fault.SideFault.TheVariants.{Archive a
 use Rattle.record_store.specs.Names.{IsJournal, IsSegment}
 use Rattle.record_store.specs.Segments.{IsArchiveOfDay, segment_name}
 use Rattle.store_reading.specs.Damages.{IsJournalFault, IsOtherDayAt, position}
-use Rattle.store_reading.specs.Days.{IsDayText}
+use Rattle.store_reading.specs.Days.{IsPeriodText}
 use Rattle.store_reading.specs.Folders.{Opens}
 use Rattle.store_reading.specs.Segments.{IsWholeOf, ReadsOf}
 use Rattle.store_reading.specs.declared.fault.FileFault.{FileFault}
@@ -51,13 +51,13 @@ Tells (Damaged damage) claim = claim damage
 Tells (Input fault) claim = Unit {0}
 Tells Memory claim = Unit {0}
 
--- octets are not the archive of entries of a day: there is a fault in them, or an entry of another day
+-- octets are not the archive of entries of a period: there is a fault in them, or an entry of another day
 abbrev pub IsArchiveDamage : List ℕ → List ℕ → Damage → Type 0
 IsArchiveDamage day file (Archive fault) = IsArchiveFault ENTRY_MAX file fault
 IsArchiveDamage day file (OtherDay at) = IsOtherDayAt day file at
 IsArchiveDamage day file Digest = ⊥
 
--- a segment is not whole: it is no archive of its day, or is one and has the name of another
+-- a segment is not whole: it is no archive of its period, or is one and has the name of another
 abbrev pub IsSegmentDamage : List ℕ → List ℕ → List ℕ → Damage → Type 0
 IsSegmentDamage day name file (Archive fault) = IsArchiveDamage day file (Archive fault)
 IsSegmentDamage day name file (OtherDay at) = IsArchiveDamage day file (OtherDay at)
@@ -73,7 +73,7 @@ IsJournalDamage file Digest = ⊥
 pub record IsDamageOf (name file : List ℕ) (damage : Damage) : Type 0 where
   pub not_whole : ¬ (IsWholeFile name file)
   pub journal : IsJournal name → IsJournalDamage file damage
-  pub segment : (day : List ℕ) → IsDayText day → IsSegment day name → IsSegmentDamage day name file damage
+  pub segment : (day : List ℕ) → IsPeriodText day → IsSegment day name → IsSegmentDamage day name file damage
 
 -- entries of the day were read and hashed, up to a position
 pub record HashesOf (day : List ℕ) (s : ArchiveEntries) (hasher : Sha256) (at : ℕ) (d e : InputState) : Type 0 where

@@ -5,9 +5,9 @@ use Rattle.archive_text.specs.Entries.{Entry}
 use Rattle.record_store.specs.Holdings.{IsWholeJournal}
 use Rattle.record_store.specs.Names.{IsJournal, IsSegment}
 use Rattle.record_store.specs.Segments.{IsSegmentOf, segment_name}
-use Rattle.store_reading.specs.Days.{IsDayText}
+use Rattle.store_reading.specs.Days.{IsPeriodText}
 
--- a segment is the archive of entries of its day, and its name has the SHA-256 of its octets
+-- a segment is the archive of entries of its period, and its name has the SHA-256 of its octets
 pub record IsWholeSegment (day name file : List ℕ) : Type 0 where
   pub entries : List Entry
   pub archive : IsSegmentOf day file entries
@@ -16,7 +16,7 @@ pub record IsWholeSegment (day name file : List ℕ) : Type 0 where
 -- a file is whole, as a journal or as a segment where its name is that of one
 pub record IsWholeFile (name file : List ℕ) : Type 0 where
   pub journal : IsJournal name → IsWholeJournal file
-  pub segment : (day : List ℕ) → IsDayText day → IsSegment day name → IsWholeSegment day name file
+  pub segment : (day : List ℕ) → IsPeriodText day → IsSegment day name → IsWholeSegment day name file
 
 -- the file under a name, if there is one, is whole
 abbrev pub IsWholeAt : Files → List ℕ → Type 0

@@ -1,23 +1,23 @@
-//! The segments of a day are joined into one.
+//! The segments of a period are joined into one.
 ghost use Rattle.std.specs.Prelude.{◌≡◌, ◌≢◌, ◌↔◌, Contains, IfOk, IsTrue, List, None, OnOk, Some, ℕ};
 ghost use Rattle.journal.specs.Journals.{IsOnDisk, IsSound};
 ghost use Rattle.archive_text.specs.Entries.{Entry};
 ghost use Rattle.record_store.specs.Names.{Counts, IsSegment};
 ghost use Rattle.record_store.specs.Puts.{KeepsOrSettlesApart};
-ghost use Rattle.store_reading.specs.Days.{IsDayText};
+ghost use Rattle.store_reading.specs.Days.{IsPeriodText};
 ghost use Rattle.store_upkeep.specs.Compaction.{AreDayNames, AreListed, EachHasAtMost, GoesOn, HasAll};
 ghost use Rattle.store_upkeep.specs.Compaction.{HasAtMost, IsSameApart, KeepsDamagedDays, KeepsOtherFiles};
 ghost use Rattle.store_upkeep.specs.Compaction.{KeepsSet, KeepsUnlessDayIsWhole, MayBePlaced};
 ghost use Rattle.store_upkeep.specs.Compaction.{RemovesOther, ShowsLess, compact_draft, shown};
 
 use crate::compact_fault::{CompactFault, write_fault};
-use crate::segments::{join_segments, list, name_of_draft, names_of_day};
+use crate::segments::{join_segments, list, name_of_draft, names_of};
 use crate::stream_disk::StreamDisk;
 use disk::{Disk, DiskFault, FileName};
 use std::alloc::{AllocError, Global};
-use store_reading::{Day, segment_day};
+use store_reading::{Names, Period, segment_period};
 
-/// The most segments that a day has once it is compacted.
+/// The most segments that a day has once it is compacted, and the most that are mixed.
 pub const SEGMENTS_MAX: usize = 8;
 
 // what a joined segment is called until all of it is on the disk
@@ -81,7 +81,7 @@ fn remove_other<D: Disk>(
     }
 }
 
-// Removes the segments of a day that were joined, but not the one that they are joined in.
+// Removes the segments of a period that were joined, but not the one that they are joined in.
 fn remove_joined<D: Disk>(
     alloc: Global,
     disk: &mut D,
@@ -110,39 +110,39 @@ fn remove_joined<D: Disk>(
     Ok(())
 }
 
-// Joins the segments of a day, and removes those that were joined.
+// Joins the segments of a period, and removes those that were joined.
 fn join_day<D: StreamDisk>(
     alloc: Global,
     disk: &mut D,
     segments: &[FileName],
-    day: &Day,
+    period: &Period,
 ) -> Result<(), CompactFault>
     ensures few { OnOk result (D.tells disk.new → IsSound (D.state disk.old)
         → (names : List (List ℕ)) → AreListed (D.state disk.old) names
-        → AreDayNames names day.now segments.now
-        → HasAtMost SEGMENTS_MAX (D.state disk.new) day.now) }
+        → AreDayNames names period.now segments.now
+        → HasAtMost SEGMENTS_MAX (D.state disk.new) period.now) }
     ensures sound { OnOk result (D.tells disk.new → IsSound (D.state disk.old)
         → (names : List (List ℕ)) → AreListed (D.state disk.old) names
-        → AreDayNames names day.now segments.now → IsSound (D.state disk.new)) }
+        → AreDayNames names period.now segments.now → IsSound (D.state disk.new)) }
 
     // whatever the result is: so at every moment
     ensures set { D.tells disk.new → IsSound (D.state disk.old)
         → (names : List (List ℕ)) → AreListed (D.state disk.old) names
-        → AreDayNames names day.now segments.now
+        → AreDayNames names period.now segments.now
         → KeepsSet (D.state disk.old) (D.state disk.new) }
     ensures others { D.tells disk.new
-        → (names : List (List ℕ)) → AreDayNames names day.now segments.now
-        → IsSameApart day.now (D.state disk.old) (D.state disk.new) }
+        → (names : List (List ℕ)) → AreDayNames names period.now segments.now
+        → IsSameApart period.now (D.state disk.old) (D.state disk.new) }
     ensures whole { D.tells disk.new → IsSound (D.state disk.old)
         → (names : List (List ℕ)) → AreListed (D.state disk.old) names
-        → AreDayNames names day.now segments.now
-        → KeepsUnlessDayIsWhole day.now (D.state disk.old) (D.state disk.new) }
+        → AreDayNames names period.now segments.now
+        → KeepsUnlessDayIsWhole period.now (D.state disk.old) (D.state disk.new) }
 
     ensures told { D.tells disk.new → D.tells disk.old }
 {
     let draft = draft_name(alloc)?;
-    join_segments(alloc, disk, segments, day, &draft)?;
-    let joined = name_of_draft(alloc, disk, &draft, day)?;
+    join_segments(alloc, disk, segments, period, &draft)?;
+    let joined = name_of_draft(alloc, disk, &draft, period)?;
     if let Err(fault) = place(disk, &draft, &joined) {
         return Err(write_fault(alloc, &joined, fault));
     }
@@ -150,56 +150,60 @@ fn join_day<D: StreamDisk>(
     Ok(())
 }
 
-// Joins the segments of a day where it has more than `SEGMENTS_MAX`.
-fn compact_day<D: StreamDisk>(alloc: Global, disk: &mut D, day: &Day) -> Result<(), CompactFault>
+// Joins the segments of a period where it has more than `SEGMENTS_MAX`.
+fn compact_day<D: StreamDisk>(
+    alloc: Global,
+    disk: &mut D,
+    period: &Period,
+) -> Result<(), CompactFault>
     ensures few { OnOk result (D.tells disk.new → IsSound (D.state disk.old)
-        → HasAtMost SEGMENTS_MAX (D.state disk.new) day.now) }
+        → HasAtMost SEGMENTS_MAX (D.state disk.new) period.now) }
     ensures sound { OnOk result (D.tells disk.new → IsSound (D.state disk.old)
         → IsSound (D.state disk.new)) }
 
     // whatever the result is: so at every moment
     ensures set { D.tells disk.new → IsSound (D.state disk.old)
         → KeepsSet (D.state disk.old) (D.state disk.new) }
-    ensures others { D.tells disk.new → IsSameApart day.now (D.state disk.old) (D.state disk.new) }
+    ensures others { D.tells disk.new → IsSameApart period.now (D.state disk.old) (D.state disk.new) }
     ensures whole { D.tells disk.new → IsSound (D.state disk.old)
-        → KeepsUnlessDayIsWhole day.now (D.state disk.old) (D.state disk.new) }
+        → KeepsUnlessDayIsWhole period.now (D.state disk.old) (D.state disk.new) }
 
     ensures told { D.tells disk.new → D.tells disk.old }
 {
     let names = list(alloc, disk)?;
-    let segments = names_of_day(alloc, &names, day)?;
+    let segments = names_of(alloc, &names, period)?;
     if segments.len() <= SEGMENTS_MAX {
         return Ok(());
     }
-    join_day(alloc, disk, &segments, day)?;
+    join_day(alloc, disk, &segments, period)?;
     Ok(())
 }
 
-// Whether a day is the last one.
-fn is_last(last: &Option<Day>, day: &Day) -> bool
-    ensures { IsTrue result → last.now ≡ Some day.now }
+// Whether a period is the last one.
+fn is_last(last: &Option<Period>, period: &Period) -> bool
+    ensures { IsTrue result → last.now ≡ Some period.now }
 {
     match last {
         None => false,
-        Some(last) => last.is(day),
+        Some(last) => last.is(period),
     }
 }
 
-// Compacts the day of the segment that has a name, where that is another than the last one. Gives the
-// day.
+// Compacts the period of the segment that has a name, where that is another than the last one. Gives the
+// period.
 fn compact_day_of<D: StreamDisk>(
     alloc: Global,
     disk: &mut D,
-    names: &[FileName],
+    names: &Names,
     name: &FileName,
-    last: Option<Day>,
-) -> Result<Option<Day>, CompactFault>
+    last: Option<Period>,
+) -> Result<Option<Period>, CompactFault>
     ensures goes_on { IfOk result (λ next. D.tells disk.new
         → GoesOn SEGMENTS_MAX (D.state disk.old) names.now last
         → GoesOn SEGMENTS_MAX (D.state disk.new) names.now next) }
     ensures few { OnOk result (D.tells disk.new
         → GoesOn SEGMENTS_MAX (D.state disk.old) names.now last → (day : List ℕ)
-        → IsDayText day → IsSegment day name.now → HasAtMost SEGMENTS_MAX (D.state disk.new) day) }
+        → IsPeriodText day → IsSegment day name.now → HasAtMost SEGMENTS_MAX (D.state disk.new) day) }
     ensures still { OnOk result (D.tells disk.new
         → GoesOn SEGMENTS_MAX (D.state disk.old) names.now last → (day : List ℕ)
         → HasAtMost SEGMENTS_MAX (D.state disk.old) day
@@ -214,26 +218,28 @@ fn compact_day_of<D: StreamDisk>(
 
     ensures told { D.tells disk.new → D.tells disk.old }
 {
-    let Some(day) = segment_day(name.as_octets()) else {
+    let Some(period) = segment_period(name.as_octets()) else {
         return Ok(last);
     };
-    if is_last(&last, &day) {
+    if is_last(&last, &period) {
         return Ok(last);
     }
-    let listed = names_of_day(alloc, names, &day)?;
+    let listed = names_of(alloc, names, &period)?;
     if listed.len() <= SEGMENTS_MAX {
-        return Ok(Some(day));
+        return Ok(Some(period));
     }
-    compact_day(alloc, disk, &day)?;
-    Ok(Some(day))
+    compact_day(alloc, disk, &period)?;
+    Ok(Some(period))
 }
 
-// Compacts the days of the segments that are among these names.
+// Compacts the periods of the segments that are among these names, each of which is given.
 fn compact_days<D: StreamDisk>(
     alloc: Global,
     disk: &mut D,
-    names: &[FileName],
+    names: &Names,
+    each: &[FileName],
 ) -> Result<(), CompactFault>
+    requires all { each.now ≡ names.now }
     ensures few { OnOk result (D.tells disk.new → IsSound (D.state disk.old)
         → AreListed (D.state disk.old) names.now
         → EachHasAtMost SEGMENTS_MAX (D.state disk.new)) }
@@ -250,24 +256,24 @@ fn compact_days<D: StreamDisk>(
     ensures told { D.tells disk.new → D.tells disk.old }
 {
     let mut last = None;
-    'names: for name in names {
+    'names: for name in each {
         last = compact_day_of(alloc, disk, names, name, last)?;
     }
     Ok(())
 }
 
-/// Joins the segments of each day that has more than `SEGMENTS_MAX` into one, and then removes those
-/// that were joined. The joined segment is on the disk under its name before one of them is removed.
+/// Joins the segments of each day that has more than `SEGMENTS_MAX` into one, and the mixed segments
+/// where there are more, and then removes those that were joined. The joined segment is on the disk under its name before one of them is removed.
 ///
-/// Each segment is read twice: once to see that it is an archive of entries of its day, and that its
+/// Each segment is read twice: once to see that it is an archive of entries of its period, and that its
 /// name has the SHA-256 of its octets, and once as it is joined. What was written is read again before
 /// it gets its name.
 ///
 /// # Errors
-/// The first fault, and at which file. Nothing is removed of a day of which a segment is damaged or
-/// cannot be read. Whatever the fault is, the disk holds the same set.
+/// The first fault, and at which file. Nothing is removed of a period of which a segment is damaged
+/// or cannot be read. Whatever the fault is, the disk holds the same set.
 pub fn compact<D: StreamDisk>(alloc: Global, disk: &mut D) -> Result<(), CompactFault>
-    // each day has so few segments
+    // each day has so few segments, and so few are mixed
     ensures few { OnOk result (D.tells disk.new → IsSound (D.state disk.old)
         → EachHasAtMost SEGMENTS_MAX (D.state disk.new)) }
 
@@ -278,13 +284,13 @@ pub fn compact<D: StreamDisk>(alloc: Global, disk: &mut D) -> Result<(), Compact
     // whatever the result is, journals and names that do not count show what they showed
     ensures others { D.tells disk.new → KeepsOtherFiles (D.state disk.old) (D.state disk.new) }
 
-    // and so do the segments of a day of which one is damaged
+    // and so do the segments of a period of which one is damaged
     ensures damaged { D.tells disk.new → IsSound (D.state disk.old)
         → KeepsDamagedDays (D.state disk.old) (D.state disk.new) }
 
     ensures told { D.tells disk.new → D.tells disk.old }
 {
     let names = list(alloc, disk)?;
-    compact_days(alloc, disk, &names)?;
+    compact_days(alloc, disk, &names, names.as_slice())?;
     Ok(())
 }

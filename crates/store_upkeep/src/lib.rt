@@ -1,5 +1,5 @@
 //! A store's folder is kept up: [`verify`] reads all of it and finds what is damaged, [`compact`] joins
-//! the segments of each day that has many.
+//! the segments of each day that has many, and the mixed ones.
 #![tactic(auto)]
 
 mod compact_fault;

@@ -12,20 +12,20 @@ use archive_streams::ArchiveEntries;
 use octet_devices::Input;
 use sha2::{Digest, Sha256};
 use std::alloc::Global;
-use store_reading::Day;
+use store_reading::Period;
 
-/// Reads a segment of a day to its end, and hashes it.
+/// Reads a segment of a period to its end, and hashes it.
 pub(crate) fn hash_segment<R: Input>(
     alloc: Global,
-    day: &Day,
+    period: &Period,
     reader: &mut R,
 ) -> Result<[u8; HEX_LEN], CheckFault>
-    ensures hashed { IfOk result (λ hex. IsHashed day.now (R.state reader.old) (R.state reader.new)
+    ensures hashed { IfOk result (λ hex. IsHashed period.now (R.state reader.old) (R.state reader.new)
         hex) }
     ensures damaged { IfErr result (λ fault. OfLeft (R.state reader.old) (λ file.
-        Refutes fault (IsArchiveOfDay day.now file))) }
+        Refutes fault (IsArchiveOfDay period.now file))) }
     ensures told { IfErr result (λ fault. OfLeft (R.state reader.old) (λ file.
-        Tells fault (IsArchiveDamage day.now file))) }
+        Tells fault (IsArchiveDamage period.now file))) }
 {
     let mut entries = ArchiveEntries::new(alloc)?;
     let mut hasher = Sha256::new();
@@ -37,32 +37,32 @@ pub(crate) fn hash_segment<R: Input>(
             Err(fault) => return Err(CheckFault::from(fault)),
         }
         let entry = entries.entry();
-        if !Day::of(entry.instant).is(day) {
+        if !period.may_have(entry.instant) {
             return Err(CheckFault::Damaged(Damage::OtherDay { at }));
         }
         at = at.saturating_add(hash_entry(&mut hasher, entry.octets));
     }
 }
 
-/// Reads a segment of a day, which has this name, to its end: it must be an archive of entries of
-/// the day, and its name must have the SHA-256 of its octets.
+/// Reads a segment of a period, which has this name, to its end: it must be an archive of entries of
+/// the period, and its name must have the SHA-256 of its octets.
 pub(crate) fn check_segment<R: Input>(
     alloc: Global,
     name: &[u8],
-    day: &Day,
+    period: &Period,
     reader: &mut R,
 ) -> Result<(), CheckFault>
-    ensures whole { OnOk result (OfLeft (R.state reader.old) (IsWholeSegment day.now name.now)) }
+    ensures whole { OnOk result (OfLeft (R.state reader.old) (IsWholeSegment period.now name.now)) }
     ensures damaged { IfErr result (λ fault. OfLeft (R.state reader.old) (λ file.
-        Refutes fault (IsWholeSegment day.now name.now file))) }
+        Refutes fault (IsWholeSegment period.now name.now file))) }
     ensures told { IfErr result (λ fault. OfLeft (R.state reader.old) (λ file.
-        Tells fault (IsSegmentDamage day.now name.now file))) }
+        Tells fault (IsSegmentDamage period.now name.now file))) }
 {
-    let hex = match hash_segment(alloc, day, reader) {
+    let hex = match hash_segment(alloc, period, reader) {
         Ok(hex) => hex,
         Err(fault) => return Err(fault),
     };
-    let Ok(named) = segment_octets(alloc, day.as_octets(), &hex) else {
+    let Ok(named) = segment_octets(alloc, period.as_octets(), &hex) else {
         return Err(CheckFault::Memory);
     };
     if named.as_slice() != name {

@@ -1,4 +1,4 @@
-//! The segments of a day, as they are joined.
+//! The segments of a period, as they are joined.
 ghost use Rattle.std.specs.Prelude.{◌≡◌, ◌++◌, ◌∷◌, [], Contains, IfOk, List, OnOk, Some, map, ℕ};
 ghost use Rattle.disk.specs.Calls.{IsUnchanged};
 ghost use Rattle.disk.specs.Files.{settled};
@@ -17,36 +17,38 @@ use crate::stream_disk::StreamDisk;
 use archive_join::{JoinFault, Union, join_streams};
 use disk::{Disk, DiskFault, FileName};
 use std::alloc::{AllocError, Global};
-use store_reading::{Day, ReadFault, is_segment_of, join_fault};
+use store_reading::{Names, Period, ReadFault, is_segment_of, join_fault};
 
-/// The names of all files, in the order of their octets.
-pub(crate) fn list<D: Disk>(alloc: Global, disk: &mut D) -> Result<Vec<FileName>, CompactFault>
-    ensures names { IfOk result (λ v. D.tells disk.new → IsSound (D.state disk.old)
-        → AreListed (D.state disk.new) v.items) }
+/// The names of all files, those of the segments of a period side by side, in the order of their
+/// octets.
+pub(crate) fn list<D: Disk>(alloc: Global, disk: &mut D) -> Result<Names, CompactFault>
+    ensures names { IfOk result (λ names. D.tells disk.new → IsSound (D.state disk.old)
+        → AreListed (D.state disk.new) names) }
     ensures same { D.tells disk.new → IsUnchanged (D.state disk.old) (D.state disk.new) }
     ensures told { D.tells disk.new → D.tells disk.old }
 {
     match disk.names(alloc) {
         Ok(mut names) => {
             names.sort_by(|one, other| one.as_octets().cmp(other.as_octets()))?;
-            Ok(names)
+            let ordered = Names::new(names)?;
+            Ok(ordered)
         }
         Err(fault) => Err(CompactFault::Read(ReadFault::Folder { fault })),
     }
 }
 
-// Adds a name to those of the segments of a day, where it is one.
+// Adds a name to those of the segments of a period, where it is one.
 fn add_segment(
     alloc: Global,
     name: &FileName,
-    day: &Day,
+    period: &Period,
     segments: &mut Vec<FileName>,
 ) -> Result<(), AllocError>
     ensures { OnOk result ((names : List (List ℕ))
-        → AreDayNames names day.now segments.old.items
-        → AreDayNames (names ++ name.now ∷ []) day.now segments.new.items) }
+        → AreDayNames names period.now segments.old.items
+        → AreDayNames (names ++ name.now ∷ []) period.now segments.new.items) }
 {
-    if !is_segment_of(name.as_octets(), day) {
+    if !is_segment_of(name.as_octets(), period) {
         return Ok(());
     }
     let copied = name.copy(alloc)?;
@@ -54,19 +56,30 @@ fn add_segment(
     Ok(())
 }
 
-/// Those of some names that are segments of a day.
-pub(crate) fn names_of_day(
+// Those of some names that are segments of a period.
+fn names_of_day(
     alloc: Global,
     names: &[FileName],
-    day: &Day,
+    period: &Period,
 ) -> Result<Vec<FileName>, AllocError>
-    ensures { IfOk result (λ v. AreDayNames names.now day.now v.items) }
+    ensures { IfOk result (λ v. AreDayNames names.now period.now v.items) }
 {
     let mut segments = Vec::new(alloc);
     'names: for name in names {
-        add_segment(alloc, name, day, &mut segments)?;
+        add_segment(alloc, name, period, &mut segments)?;
     }
     Ok(segments)
+}
+
+/// Those of the names of a folder that are segments of a period.
+pub(crate) fn names_of(
+    alloc: Global,
+    names: &Names,
+    period: &Period,
+) -> Result<Vec<FileName>, AllocError>
+    ensures { IfOk result (λ v. AreDayNames names.now period.now v.items) }
+{
+    names_of_day(alloc, names.of(period.as_octets()), period)
 }
 
 fn open<D: StreamDisk>(
@@ -86,48 +99,48 @@ fn open<D: StreamDisk>(
     }
 }
 
-// Opens a segment of a day, once it was read to its end: it is an archive of entries of the day, and its
-// name has the SHA-256 of its octets.
+// Opens a segment of a period, once it was read to its end: it is an archive of entries of the period, and
+// its name has the SHA-256 of its octets.
 fn open_segment<D: StreamDisk>(
     alloc: Global,
     disk: &mut D,
     name: &FileName,
-    day: &Day,
+    period: &Period,
 ) -> Result<D::File, CompactFault>
     ensures input { D.tells disk.new → IsSound (D.state disk.old) → IfOk result (λ file.
-        IsSegmentInput (shown (D.state disk.old)) name.now day.now (D.File.state file)) }
+        IsSegmentInput (shown (D.state disk.old)) name.now period.now (D.File.state file)) }
     ensures whole { OnOk result (D.tells disk.new → IsSound (D.state disk.old)
-        → IsSegment day.now name.now → IsWholeAt (shown (D.state disk.old)) name.now) }
+        → IsSegment period.now name.now → IsWholeAt (shown (D.state disk.old)) name.now) }
     ensures same { D.tells disk.new → IsUnchanged (D.state disk.old) (D.state disk.new) }
     ensures told { D.tells disk.new → D.tells disk.old }
 {
     let mut file = open(alloc, disk, name)?;
-    match check_segment(alloc, name.as_octets(), day, &mut file) {
+    match check_segment(alloc, name.as_octets(), period, &mut file) {
         Ok(()) => open(alloc, disk, name),
         Err(fault) => Err(check_fault(alloc, name, fault)),
     }
 }
 
-// Opens the segments of a day.
+// Opens the segments of a period.
 fn open_segments<D: StreamDisk>(
     alloc: Global,
     disk: &mut D,
     segments: &[FileName],
-    day: &Day,
+    period: &Period,
 ) -> Result<Vec<D::File>, CompactFault>
     ensures opened { IfOk result (λ v. D.tells disk.new → IsSound (D.state disk.old)
-        → ((name : List ℕ) → Contains segments.now name → IsSegment day.now name)
-        → AreSegmentsOf (shown (D.state disk.old)) segments.now day.now
+        → ((name : List ℕ) → Contains segments.now name → IsSegment period.now name)
+        → AreSegmentsOf (shown (D.state disk.old)) segments.now period.now
         (map D.File.state v.items)) }
     ensures whole { OnOk result (D.tells disk.new → IsSound (D.state disk.old)
-        → ((name : List ℕ) → Contains segments.now name → IsSegment day.now name)
+        → ((name : List ℕ) → Contains segments.now name → IsSegment period.now name)
         → AreWholeAt (shown (D.state disk.old)) segments.now) }
     ensures same { D.tells disk.new → IsUnchanged (D.state disk.old) (D.state disk.new) }
     ensures told { D.tells disk.new → D.tells disk.old }
 {
     let mut inputs = Vec::new(alloc);
     'segments: for segment in segments {
-        let file = open_segment(alloc, disk, segment, day)?;
+        let file = open_segment(alloc, disk, segment, period)?;
         inputs.push(file)?;
     }
     Ok(inputs)
@@ -190,7 +203,7 @@ fn fault_of<D: StreamDisk>(
     alloc: Global,
     disk: &mut D,
     segments: &[FileName],
-    day: &Day,
+    period: &Period,
     draft: &FileName,
     writer: D::Draft,
     fault: JoinFault,
@@ -201,7 +214,7 @@ fn fault_of<D: StreamDisk>(
 {
     if !matches!(fault, JoinFault::Write { .. }) {
         discard(disk, draft);
-        return CompactFault::from(join_fault(alloc, segments, day, fault));
+        return CompactFault::from(join_fault(alloc, segments, period, fault));
     }
     match settle(alloc, disk, draft, writer) {
         Ok(()) => {
@@ -212,56 +225,56 @@ fn fault_of<D: StreamDisk>(
     }
 }
 
-/// Writes the union of the segments of a day as a draft, and brings it to the disk. Where that fails,
+/// Writes the union of the segments of a period as a draft, and brings it to the disk. Where that fails,
 /// the draft is removed.
 pub(crate) fn join_segments<D: StreamDisk>(
     alloc: Global,
     disk: &mut D,
     segments: &[FileName],
-    day: &Day,
+    period: &Period,
     draft: &FileName,
 ) -> Result<(), CompactFault>
     ensures joined { OnOk result (D.tells disk.new → IsSound (D.state disk.old)
-        → ((name : List ℕ) → Contains segments.now name → IsSegment day.now name)
-        → IsJoinOf (D.state disk.old) (D.state disk.new) draft.now day.now segments.now) }
+        → ((name : List ℕ) → Contains segments.now name → IsSegment period.now name)
+        → IsJoinOf (D.state disk.old) (D.state disk.new) draft.now period.now segments.now) }
     ensures whole { OnOk result (D.tells disk.new → IsSound (D.state disk.old)
-        → ((name : List ℕ) → Contains segments.now name → IsSegment day.now name)
+        → ((name : List ℕ) → Contains segments.now name → IsSegment period.now name)
         → AreWholeAt (shown (D.state disk.old)) segments.now) }
     ensures others { D.tells disk.new
         → KeepsOthers (D.state disk.old) (D.state disk.new) draft.now }
     ensures told { D.tells disk.new → D.tells disk.old }
 {
-    let mut inputs = open_segments(alloc, disk, segments, day)?;
+    let mut inputs = open_segments(alloc, disk, segments, period)?;
     let mut writer = begin(alloc, disk, draft)?;
     if let Err(fault) = join_streams(alloc, &Union, inputs.as_mut_slice(), &mut writer) {
-        return Err(fault_of(alloc, disk, segments, day, draft, writer, fault));
+        return Err(fault_of(alloc, disk, segments, period, draft, writer, fault));
     }
     settle(alloc, disk, draft, writer)?;
     Ok(())
 }
 
-/// What a draft is called as the segment of a day, by the SHA-256 of its octets, once it was read to its
+/// What a draft is called as the segment of a period, by the SHA-256 of its octets, once it was read to its
 /// end.
 pub(crate) fn name_of_draft<D: StreamDisk>(
     alloc: Global,
     disk: &mut D,
     draft: &FileName,
-    day: &Day,
+    period: &Period,
 ) -> Result<FileName, CompactFault>
     ensures name { IfOk result (λ name. D.tells disk.new → IsSound (D.state disk.old)
         → (text : List ℕ) → shown (D.state disk.old) draft.now ≡ Some text
-        → name ≡ segment_name day.now text) }
-    ensures segment { IfOk result (λ name. IsSegment day.now name) }
+        → name ≡ segment_name period.now text) }
+    ensures segment { IfOk result (λ name. IsSegment period.now name) }
     ensures same { D.tells disk.new → IsUnchanged (D.state disk.old) (D.state disk.new) }
     ensures told { D.tells disk.new → D.tells disk.old }
 {
     let mut file = open(alloc, disk, draft)?;
-    let hex = match hash_segment(alloc, day, &mut file) {
+    let hex = match hash_segment(alloc, period, &mut file) {
         Ok(hex) => hex,
         Err(fault) => return Err(check_fault(alloc, draft, fault)),
     };
-    let octets = segment_octets(alloc, day.as_octets(), &hex)?;
-    if !is_segment_of(&octets, day) {
+    let octets = segment_octets(alloc, period.as_octets(), &hex)?;
+    if !is_segment_of(&octets, period) {
         return Err(CompactFault::Day);
     }
     match FileName::new(alloc, &octets)? {

@@ -2,7 +2,7 @@
 ghost use Rattle.std.specs.Prelude.{◌≡◌, Contains, IfErr, IfOk, IsTrue, List, ℕ, OnOk};
 ghost use Rattle.record_store.specs.Names.{IsJournal, IsSegment};
 ghost use Rattle.store_reading.specs.Causes.{IsCause, open_causes};
-ghost use Rattle.store_reading.specs.Days.{IsDayText};
+ghost use Rattle.store_reading.specs.Days.{IsPeriodText};
 ghost use Rattle.store_upkeep.specs.Causes.{IsCounted, IsCountedFile, IsListedFile, check_causes};
 ghost use Rattle.store_upkeep.specs.Damages.{AddsTo, AreAsTold, AreDamaged, IsFoundBy, IsVerdict, IsWholeOrListed};
 ghost use Rattle.store_upkeep.specs.Damages.{OpensOrNone};
@@ -12,7 +12,7 @@ use crate::journal_check::check_journal;
 use crate::segment_check::check_segment;
 use disk::FileName;
 use std::alloc::Global;
-use store_reading::{Day, Folder, ReadFault, is_journal, list, open_file, segment_day};
+use store_reading::{Folder, Period, ReadFault, is_journal, list, open_file, segment_period};
 
 // how often a file is opened that is there and gone
 const OPENINGS: usize = 64;
@@ -72,9 +72,9 @@ fn check_segment_file<F: Folder>(
     alloc: Global,
     folder: &mut F,
     name: &FileName,
-    day: &Day,
+    period: &Period,
 ) -> Result<Option<Damage>, ReadFault>
-    ensures verdict { F.tells folder.new → IsDayText day.now → IsSegment day.now name.now →
+    ensures verdict { F.tells folder.new → IsPeriodText period.now → IsSegment period.now name.now →
         IfOk result (λ found. IsVerdict found (F.files folder.old) name.now) }
     ensures same { F.tells folder.new → F.files folder.new ≡ F.files folder.old }
     ensures told { F.tells folder.new → F.tells folder.old }
@@ -83,7 +83,7 @@ fn check_segment_file<F: Folder>(
     let Some(mut file) = open_listed(alloc, folder, name)? else {
         return Ok(None);
     };
-    match check_segment(alloc, name.as_octets(), day, &mut file) {
+    match check_segment(alloc, name.as_octets(), period, &mut file) {
         Ok(()) => Ok(None),
         Err(fault) => found_by(alloc, name, fault),
     }
@@ -123,8 +123,8 @@ fn check_file<F: Folder>(
     ensures cause { IfErr result (IsCause (check_causes (F.has_failed folder.new)
         (λ (n : List ℕ). (n ≡ name.now) × IsCounted n))) }
 {
-    if let Some(day) = segment_day(name.as_octets()) {
-        return check_segment_file(alloc, folder, name, &day);
+    if let Some(period) = segment_period(name.as_octets()) {
+        return check_segment_file(alloc, folder, name, &period);
     }
     if is_journal(name.as_octets()) {
         return check_journal_file(alloc, folder, name);
@@ -185,10 +185,10 @@ fn verify_files<F: Folder>(
 }
 
 /// Reads the journals and the segments of a folder, in the order of their names, and adds those
-/// that are damaged to a list: a segment that is no archive of entries of its day, or whose SHA-256
-/// is not the one in its name; a journal with a batch that is no sequence of entries. What follows
-/// the last batch of a journal that is open and whole is no damage, nor is a file that is gone when
-/// it is to be opened.
+/// that are damaged to a list: a segment that is no archive of entries of its period, or whose
+/// SHA-256 is not the one in its name; a journal with a batch that is no sequence of entries. What
+/// follows the last batch of a journal that is open and whole is no damage, nor is a file that is
+/// gone when it is to be opened.
 ///
 /// # Errors
 /// The first fault for which a file or the names could not be read, or lack of memory. The files

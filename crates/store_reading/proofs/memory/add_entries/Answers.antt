@@ -1,10 +1,8 @@
-use Rattle.std.proofs.Common.{List, ℕ, IsTrue, ap, refl, rules, subst, sym, length, ◌≡◌, ◌≤◌, false}
+use Rattle.std.proofs.Common.{IsTrue, rules, subst, sym, length, ◌≡◌, ◌≤◌, false}
 use Rattle.std.specs.Prelude.{codes}
 use Rattle.archive_text.specs.Entries.{Entry, IsEntry}
-use Rattle.archive_text.specs.EntryViews.{entry_of}
 use Rattle.archive_text.specs.declared.limits.TheConstants.{ENTRY_MAX}
 use Rattle.archive_join.specs.Ranges.{IsOfRange}
-use Rattle.archive_streams.specs.Entries.{current}
 use Rattle.store_reading.specs.Damages.{IsDamagedSegment, OfLeft, Tells}
 use Rattle.store_reading.specs.Faults.{check_fault_of}
 use Rattle.store_reading.specs.Journals.{Adds}

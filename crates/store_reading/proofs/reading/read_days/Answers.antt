@@ -1,5 +1,4 @@
 use Rattle.std.proofs.Common.{List, ℕ, Option, refl, sym, subst, ◌∙◌}
-use Rattle.std.specs.Option.{option_map}
 use Rattle.disk.specs.States.{Files}
 use Rattle.archive_sets.proofs.Stops.{failed_outcome}
 use Rattle.store_reading.specs.Causes.{IsCause, reading_causes}

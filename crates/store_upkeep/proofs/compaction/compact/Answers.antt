@@ -1,5 +1,4 @@
-use Rattle.std.proofs.Common.{subst, sym, ◌∙◌}
-use Rattle.store_upkeep.specs.Compaction.{AreListed}
+use Rattle.std.proofs.Common.{◌∙◌}
 use Rattle.store_upkeep.proofs.DaysKept.{then_damaged, then_files, unchanged_damaged, unchanged_files}
 use Rattle.store_upkeep.proofs.SameSets.{then_set, unchanged_set}
 use Rattle.store_upkeep.proofs.compaction.compact.Goals as goal
@@ -14,7 +13,7 @@ returns-in_err-compact_days-clause-set g c t sound =
     let one = g.D.Disk.state c.list.new.disk in
     let before = c.compact_days.ensures.told t in
     let same = c.list.ensures.same before in
-    let listed = subst (AreListed one) (sym c.deref.ensures.value) (c.in_ok-names.ensures.names before sound) in
+    let listed = c.in_ok-names.ensures.names before sound in
     then_set zero one (g.D.Disk.state c.compact_days.new.disk) (unchanged_set zero one same)
     (c.compact_days.ensures.set t (same.lost ∙ sound) listed)
 
@@ -23,7 +22,7 @@ returns-clause-few g c t sound =
     let one = g.D.Disk.state c.list.new.disk in
     let before = c.compact_days.ensures.told t in
     let same = c.list.ensures.same before in
-    let listed = subst (AreListed one) (sym c.deref.ensures.value) (c.in_ok-names.ensures.names before sound) in
+    let listed = c.in_ok-names.ensures.names before sound in
     c.in_ok-compact_days.ensures.few t (same.lost ∙ sound) listed
 
 pub returns-clause-set : goal.returns-clause-set
@@ -32,7 +31,7 @@ returns-clause-set g c t sound =
     let one = g.D.Disk.state c.list.new.disk in
     let before = c.compact_days.ensures.told t in
     let same = c.list.ensures.same before in
-    let listed = subst (AreListed one) (sym c.deref.ensures.value) (c.in_ok-names.ensures.names before sound) in
+    let listed = c.in_ok-names.ensures.names before sound in
     then_set zero one (g.D.Disk.state c.compact_days.new.disk) (unchanged_set zero one same)
     (c.compact_days.ensures.set t (same.lost ∙ sound) listed)
 
@@ -57,7 +56,7 @@ returns-in_err-compact_days-clause-damaged g c t sound =
     let one = g.D.Disk.state c.list.new.disk in
     let before = c.compact_days.ensures.told t in
     let same = c.list.ensures.same before in
-    let listed = subst (AreListed one) (sym c.deref.ensures.value) (c.in_ok-names.ensures.names before sound) in
+    let listed = c.in_ok-names.ensures.names before sound in
     then_damaged zero one (g.D.Disk.state c.compact_days.new.disk) (unchanged_damaged zero one same)
     (c.compact_days.ensures.damaged t (same.lost ∙ sound) listed)
 
@@ -74,6 +73,6 @@ returns-clause-damaged g c t sound =
     let one = g.D.Disk.state c.list.new.disk in
     let before = c.compact_days.ensures.told t in
     let same = c.list.ensures.same before in
-    let listed = subst (AreListed one) (sym c.deref.ensures.value) (c.in_ok-names.ensures.names before sound) in
+    let listed = c.in_ok-names.ensures.names before sound in
     then_damaged zero one (g.D.Disk.state c.compact_days.new.disk) (unchanged_damaged zero one same)
     (c.compact_days.ensures.damaged t (same.lost ∙ sound) listed)

@@ -11,13 +11,12 @@ returns-in_err-join_day-clause-set g c t sound =
     let zero = g.D.Disk.state c.args.disk.now in
     let one = g.D.Disk.state c.list.new.disk in
     let two = g.D.Disk.state c.join_day.new.disk in
-    let names = c.in_ok-names.names.items in
+    let names = c.in_ok-names.names in
     let before = c.join_day.ensures.told t in
     let same = c.list.ensures.same before in
     let listed = c.in_ok-names.ensures.names before sound in
-    let found = subst (λ (l : List (List ℕ)). AreDayNames names c.args.day.now l) (sym c.deref-2.ensures.value)
-    (subst (λ (l : List (List ℕ)). AreDayNames l c.args.day.now c.in_ok-segments.segments.items) c.deref.ensures.value
-    c.in_ok-segments.ensures) in
+    let found = subst (λ (l : List (List ℕ)). AreDayNames names c.args.period.now l) (sym c.deref.ensures.value)
+    c.in_ok-segments.ensures in
     then_set zero one two (unchanged_set zero one same)
     (c.join_day.ensures.set t (same.lost ∙ sound) names listed found)
 
@@ -26,13 +25,12 @@ returns-clause-set g c t sound =
     let zero = g.D.Disk.state c.args.disk.now in
     let one = g.D.Disk.state c.list.new.disk in
     let two = g.D.Disk.state c.join_day.new.disk in
-    let names = c.in_ok-names.names.items in
+    let names = c.in_ok-names.names in
     let before = c.join_day.ensures.told t in
     let same = c.list.ensures.same before in
     let listed = c.in_ok-names.ensures.names before sound in
-    let found = subst (λ (l : List (List ℕ)). AreDayNames names c.args.day.now l) (sym c.deref-2.ensures.value)
-    (subst (λ (l : List (List ℕ)). AreDayNames l c.args.day.now c.in_ok-segments.segments.items) c.deref.ensures.value
-    c.in_ok-segments.ensures) in
+    let found = subst (λ (l : List (List ℕ)). AreDayNames names c.args.period.now l) (sym c.deref.ensures.value)
+    c.in_ok-segments.ensures in
     then_set zero one two (unchanged_set zero one same)
     (c.join_day.ensures.set t (same.lost ∙ sound) names listed found)
 
@@ -41,13 +39,12 @@ returns-clause-few g c t sound =
     let zero = g.D.Disk.state c.args.disk.now in
     let one = g.D.Disk.state c.list.new.disk in
     let two = g.D.Disk.state c.join_day.new.disk in
-    let names = c.in_ok-names.names.items in
+    let names = c.in_ok-names.names in
     let before = c.join_day.ensures.told t in
     let same = c.list.ensures.same before in
     let listed = c.in_ok-names.ensures.names before sound in
-    let found = subst (λ (l : List (List ℕ)). AreDayNames names c.args.day.now l) (sym c.deref-2.ensures.value)
-    (subst (λ (l : List (List ℕ)). AreDayNames l c.args.day.now c.in_ok-segments.segments.items) c.deref.ensures.value
-    c.in_ok-segments.ensures) in
+    let found = subst (λ (l : List (List ℕ)). AreDayNames names c.args.period.now l) (sym c.deref.ensures.value)
+    c.in_ok-segments.ensures in
     c.in_ok-join_day.ensures.few t (same.lost ∙ sound) names listed found
 
 pub returns-clause-sound : goal.returns-clause-sound
@@ -55,13 +52,12 @@ returns-clause-sound g c t sound =
     let zero = g.D.Disk.state c.args.disk.now in
     let one = g.D.Disk.state c.list.new.disk in
     let two = g.D.Disk.state c.join_day.new.disk in
-    let names = c.in_ok-names.names.items in
+    let names = c.in_ok-names.names in
     let before = c.join_day.ensures.told t in
     let same = c.list.ensures.same before in
     let listed = c.in_ok-names.ensures.names before sound in
-    let found = subst (λ (l : List (List ℕ)). AreDayNames names c.args.day.now l) (sym c.deref-2.ensures.value)
-    (subst (λ (l : List (List ℕ)). AreDayNames l c.args.day.now c.in_ok-segments.segments.items) c.deref.ensures.value
-    c.in_ok-segments.ensures) in
+    let found = subst (λ (l : List (List ℕ)). AreDayNames names c.args.period.now l) (sym c.deref.ensures.value)
+    c.in_ok-segments.ensures in
     c.in_ok-join_day.ensures.sound t (same.lost ∙ sound) names listed found
 
 pub returns-in_err-join_day-clause-others : goal.returns-in_err-join_day-clause-others
@@ -69,12 +65,11 @@ returns-in_err-join_day-clause-others g c t =
     let zero = g.D.Disk.state c.args.disk.now in
     let one = g.D.Disk.state c.list.new.disk in
     let two = g.D.Disk.state c.join_day.new.disk in
-    let names = c.in_ok-names.names.items in
+    let names = c.in_ok-names.names in
     let before = c.join_day.ensures.told t in
-    let found = subst (λ (l : List (List ℕ)). AreDayNames names c.args.day.now l) (sym c.deref-2.ensures.value)
-    (subst (λ (l : List (List ℕ)). AreDayNames l c.args.day.now c.in_ok-segments.segments.items) c.deref.ensures.value
-    c.in_ok-segments.ensures) in
-    then_apart zero one two c.args.day.now (unchanged_apart zero one c.args.day.now (c.list.ensures.same before))
+    let found = subst (λ (l : List (List ℕ)). AreDayNames names c.args.period.now l) (sym c.deref.ensures.value)
+    c.in_ok-segments.ensures in
+    then_apart zero one two c.args.period.now (unchanged_apart zero one c.args.period.now (c.list.ensures.same before))
     (c.join_day.ensures.others t names found)
 
 pub returns-clause-others : goal.returns-clause-others
@@ -82,22 +77,20 @@ returns-clause-others g c t =
     let zero = g.D.Disk.state c.args.disk.now in
     let one = g.D.Disk.state c.list.new.disk in
     let two = g.D.Disk.state c.join_day.new.disk in
-    let names = c.in_ok-names.names.items in
+    let names = c.in_ok-names.names in
     let before = c.join_day.ensures.told t in
-    let found = subst (λ (l : List (List ℕ)). AreDayNames names c.args.day.now l) (sym c.deref-2.ensures.value)
-    (subst (λ (l : List (List ℕ)). AreDayNames l c.args.day.now c.in_ok-segments.segments.items) c.deref.ensures.value
-    c.in_ok-segments.ensures) in
-    then_apart zero one two c.args.day.now (unchanged_apart zero one c.args.day.now (c.list.ensures.same before))
+    let found = subst (λ (l : List (List ℕ)). AreDayNames names c.args.period.now l) (sym c.deref.ensures.value)
+    c.in_ok-segments.ensures in
+    then_apart zero one two c.args.period.now (unchanged_apart zero one c.args.period.now (c.list.ensures.same before))
     (c.join_day.ensures.others t names found)
 
 pub returns-then-len-le-SEGMENTS_MAX-clause-few : goal.returns-then-len-le-SEGMENTS_MAX-clause-few
 returns-then-len-le-SEGMENTS_MAX-clause-few g c t sound =
     let one = g.D.Disk.state c.list.new.disk in
-    let names = c.in_ok-names.names.items in
-    few_listed SEGMENTS_MAX one names c.in_ok-segments.segments.items c.args.day.now
-    (listed_day one names c.args.day.now (c.in_ok-names.ensures.names t sound))
-    (subst (λ (l : List (List ℕ)). AreDayNames l c.args.day.now c.in_ok-segments.segments.items) c.deref.ensures.value
-    c.in_ok-segments.ensures) (omega arith)
+    let names = c.in_ok-names.names in
+    few_listed SEGMENTS_MAX one names c.in_ok-segments.segments.items c.args.period.now
+    (listed_day one names c.args.period.now (c.in_ok-names.ensures.names t sound))
+    c.in_ok-segments.ensures (omega arith)
 
 pub returns-then-len-le-SEGMENTS_MAX-clause-set : goal.returns-then-len-le-SEGMENTS_MAX-clause-set
 returns-then-len-le-SEGMENTS_MAX-clause-set g c t sound =
@@ -115,41 +108,39 @@ pub returns-in_err-join_day-clause-whole : goal.returns-in_err-join_day-clause-w
 returns-in_err-join_day-clause-whole g c t sound =
     let zero = g.D.Disk.state c.args.disk.now in
     let one = g.D.Disk.state c.list.new.disk in
-    let names = c.in_ok-names.names.items in
+    let names = c.in_ok-names.names in
     let before = c.join_day.ensures.told t in
     let same = c.list.ensures.same before in
     let listed = c.in_ok-names.ensures.names before sound in
-    let found = subst (λ (l : List (List ℕ)). AreDayNames names c.args.day.now l) (sym c.deref-2.ensures.value)
-    (subst (λ (l : List (List ℕ)). AreDayNames l c.args.day.now c.in_ok-segments.segments.items) c.deref.ensures.value
-    c.in_ok-segments.ensures) in
-    unchanged_then_unless zero one (g.D.Disk.state c.join_day.new.disk) c.args.day.now same
+    let found = subst (λ (l : List (List ℕ)). AreDayNames names c.args.period.now l) (sym c.deref.ensures.value)
+    c.in_ok-segments.ensures in
+    unchanged_then_unless zero one (g.D.Disk.state c.join_day.new.disk) c.args.period.now same
     (c.join_day.ensures.whole t (same.lost ∙ sound) names listed found)
 
 pub returns-clause-whole : goal.returns-clause-whole
 returns-clause-whole g c t sound =
     let zero = g.D.Disk.state c.args.disk.now in
     let one = g.D.Disk.state c.list.new.disk in
-    let names = c.in_ok-names.names.items in
+    let names = c.in_ok-names.names in
     let before = c.join_day.ensures.told t in
     let same = c.list.ensures.same before in
     let listed = c.in_ok-names.ensures.names before sound in
-    let found = subst (λ (l : List (List ℕ)). AreDayNames names c.args.day.now l) (sym c.deref-2.ensures.value)
-    (subst (λ (l : List (List ℕ)). AreDayNames l c.args.day.now c.in_ok-segments.segments.items) c.deref.ensures.value
-    c.in_ok-segments.ensures) in
-    unchanged_then_unless zero one (g.D.Disk.state c.join_day.new.disk) c.args.day.now same
+    let found = subst (λ (l : List (List ℕ)). AreDayNames names c.args.period.now l) (sym c.deref.ensures.value)
+    c.in_ok-segments.ensures in
+    unchanged_then_unless zero one (g.D.Disk.state c.join_day.new.disk) c.args.period.now same
     (c.join_day.ensures.whole t (same.lost ∙ sound) names listed found)
 
 pub returns-then-len-le-SEGMENTS_MAX-clause-whole : goal.returns-then-len-le-SEGMENTS_MAX-clause-whole
 returns-then-len-le-SEGMENTS_MAX-clause-whole g c t sound =
-    unchanged_unless (g.D.Disk.state c.args.disk.now) (g.D.Disk.state c.list.new.disk) c.args.day.now
+    unchanged_unless (g.D.Disk.state c.args.disk.now) (g.D.Disk.state c.list.new.disk) c.args.period.now
     (c.list.ensures.same t)
 
 pub returns-in_err-names-clause-whole : goal.returns-in_err-names-clause-whole
 returns-in_err-names-clause-whole g c t sound =
-    unchanged_unless (g.D.Disk.state c.args.disk.now) (g.D.Disk.state c.list.new.disk) c.args.day.now
+    unchanged_unless (g.D.Disk.state c.args.disk.now) (g.D.Disk.state c.list.new.disk) c.args.period.now
     (c.list.ensures.same t)
 
 pub returns-in_err-segments-clause-whole : goal.returns-in_err-segments-clause-whole
 returns-in_err-segments-clause-whole g c t sound =
-    unchanged_unless (g.D.Disk.state c.args.disk.now) (g.D.Disk.state c.list.new.disk) c.args.day.now
+    unchanged_unless (g.D.Disk.state c.args.disk.now) (g.D.Disk.state c.list.new.disk) c.args.period.now
     (c.list.ensures.same t)

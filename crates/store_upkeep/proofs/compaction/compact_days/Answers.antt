@@ -19,11 +19,11 @@ names-init g c = record {
 
 pub names-preserved : goal.names-preserved
 names-preserved g c =
-    let first = take c.names.name-index c.args.names.now in
+    let first = take c.names.name-index c.args.each.now in
     let zero = g.D.Disk.state c.args.disk.now in
     let then = g.D.Disk.state c.names.disk in
     let one = g.D.Disk.state c.compact_day_of.new.disk in
-    let more = take_more c.args.names.now c.names.name-index c.name-item.result c.names-test.true
+    let more = take_more c.args.each.now c.names.name-index c.name-item.result c.names-test.true
     ∙ ap (λ (n : List ℕ). first ++ n ∷ []) (sym c.name-item.is) in
     record {
       told = λ t. c.names.invariant.told (c.compact_day_of.ensures.told t);
@@ -73,4 +73,4 @@ returns-clause-few g c t sound listed =
     (c.names.invariant.goes_on t sound listed)
     (λ day name has. c.names.invariant.few t sound listed day name
     (subst (λ (l : List (List ℕ)). Contains l name)
-    (sym (take_all c.names.name-index c.args.names.now c.names-test.false)) has))
+    (sym c.requires.all ∙ sym (take_all c.names.name-index c.args.each.now c.names-test.false)) has))

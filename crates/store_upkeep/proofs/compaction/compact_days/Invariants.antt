@@ -2,7 +2,7 @@ use Rattle.std.proofs.Common.{List, ℕ, take}
 use Rattle.std.specs.Prelude.{Contains}
 use Rattle.journal.specs.Journals.{IsSound}
 use Rattle.record_store.specs.Names.{IsSegment}
-use Rattle.store_reading.specs.Days.{IsDayText}
+use Rattle.store_reading.specs.Days.{IsPeriodText}
 use Rattle.store_upkeep.specs.Compaction.{AreListed, GoesOn, HasAtMost, KeepsDamagedDays, KeepsOtherFiles}
 use Rattle.store_upkeep.specs.Compaction.{KeepsSet}
 use Rattle.store_upkeep.specs.declared.compaction.TheConstants.{SEGMENTS_MAX}
@@ -20,6 +20,6 @@ invariant-names g l =
       goes_on : g.D.Disk.tells l.disk → IsSound before → AreListed before l.names
           → GoesOn SEGMENTS_MAX now l.names l.last;
       few : g.D.Disk.tells l.disk → IsSound before → AreListed before l.names → (day name : List ℕ)
-          → Contains (take l.name-index l.names) name → IsDayText day → IsSegment day name
+          → Contains (take l.name-index l.each) name → IsPeriodText day → IsSegment day name
           → HasAtMost SEGMENTS_MAX now day;
     }

@@ -14,7 +14,7 @@ returns-in_err-join_segments-clause-set g c t sound names listed found =
 pub returns-in_err-join_segments-clause-others : goal.returns-in_err-join_segments-clause-others
 returns-in_err-join_segments-clause-others g c t names found =
     aside_apart (g.D.Disk.state c.args.disk.now) (g.D.Disk.state c.join_segments.new.disk) c.in_ok-draft.draft
-    c.args.day.now (c.join_segments.ensures.others t) c.in_ok-draft.ensures.named
+    c.args.period.now (c.join_segments.ensures.others t) c.in_ok-draft.ensures.named
 
 pub returns-in_err-joined-clause-set : goal.returns-in_err-joined-clause-set
 returns-in_err-joined-clause-set g c t sound names listed found =
@@ -31,7 +31,7 @@ returns-in_err-joined-clause-others g c t names found =
     let zero = g.D.Disk.state c.args.disk.now in
     let one = g.D.Disk.state c.join_segments.new.disk in
     let two = g.D.Disk.state c.name_of_draft.new.disk in
-    let day = c.args.day.now in
+    let day = c.args.period.now in
     then_apart zero one two day
     (aside_apart zero one c.in_ok-draft.draft day
     (c.join_segments.ensures.others (c.name_of_draft.ensures.told t)) c.in_ok-draft.ensures.named)
@@ -46,7 +46,7 @@ returns-in-Err-clause-set g c t sound names listed found =
     let t_two = c.place.ensures.told t in
     let t_one = c.name_of_draft.ensures.told t_two in
     let j = c.in_ok-join_segments.ensures.joined t_one sound found.are in
-    placed_three zero one two three c.in_ok-draft.draft c.in_ok-joined.joined c.args.day.now names
+    placed_three zero one two three c.in_ok-draft.draft c.in_ok-joined.joined c.args.period.now names
     c.args.segments.now j c.in_ok-draft.ensures.apart (c.join_segments.ensures.others t_one)
     (c.name_of_draft.ensures.same t_two) listed found c.in_ok-joined.ensures.segment
     (c.in_ok-joined.ensures.name t_two j.draft_is.sound) (c.place.ensures.set t)
@@ -59,7 +59,7 @@ returns-in-Err-clause-others g c t names found =
     let three = g.D.Disk.state c.place.new.disk in
     let t_two = c.place.ensures.told t in
     let t_one = c.name_of_draft.ensures.told t_two in
-    let day = c.args.day.now in
+    let day = c.args.period.now in
     then_apart zero two three day
     (then_apart zero one two day
     (aside_apart zero one c.in_ok-draft.draft day (c.join_segments.ensures.others t_one) c.in_ok-draft.ensures.named)
@@ -78,7 +78,7 @@ returns-in_err-remove_joined-clause-set g c t sound names listed found =
     let t_two = c.place.ensures.told t_three in
     let t_one = c.name_of_draft.ensures.told t_two in
     let j = c.in_ok-join_segments.ensures.joined t_one sound found.are in
-    removed_four zero one two three c.in_ok-draft.draft c.in_ok-joined.joined c.args.day.now names
+    removed_four zero one two three c.in_ok-draft.draft c.in_ok-joined.joined c.args.period.now names
     c.args.segments.now j c.in_ok-draft.ensures.apart (c.join_segments.ensures.others t_one)
     (c.name_of_draft.ensures.same t_two) listed found c.in_ok-joined.ensures.segment
     (c.in_ok-joined.ensures.name t_two j.draft_is.sound) (c.place.ensures.set t_three)
@@ -94,7 +94,7 @@ returns-in_err-remove_joined-clause-others g c t names found =
     let t_three = c.remove_joined.ensures.told t in
     let t_two = c.place.ensures.told t_three in
     let t_one = c.name_of_draft.ensures.told t_two in
-    let day = c.args.day.now in
+    let day = c.args.period.now in
     then_apart zero three four day
     (then_apart zero two three day
     (then_apart zero one two day
@@ -115,7 +115,7 @@ returns-clause-few g c t sound names listed found =
     let t_two = c.place.ensures.told t_three in
     let t_one = c.name_of_draft.ensures.told t_two in
     let j = c.in_ok-join_segments.ensures.joined t_one sound found.are in
-    few_four zero one two three c.in_ok-draft.draft c.in_ok-joined.joined c.args.day.now names
+    few_four zero one two three c.in_ok-draft.draft c.in_ok-joined.joined c.args.period.now names
     c.args.segments.now j c.in_ok-draft.ensures.apart (c.join_segments.ensures.others t_one)
     (c.name_of_draft.ensures.same t_two) listed found c.in_ok-joined.ensures.segment
     (c.in_ok-joined.ensures.name t_two j.draft_is.sound) (c.place.ensures.set t_three)
@@ -133,7 +133,7 @@ returns-clause-sound g c t sound names listed found =
     let t_one = c.name_of_draft.ensures.told t_two in
     let j = c.in_ok-join_segments.ensures.joined t_one sound found.are in
     c.remove_joined.ensures.lost t
-    ∙ sound_three zero one two three c.in_ok-draft.draft c.in_ok-joined.joined c.args.day.now names
+    ∙ sound_three zero one two three c.in_ok-draft.draft c.in_ok-joined.joined c.args.period.now names
     c.args.segments.now j c.in_ok-draft.ensures.apart (c.join_segments.ensures.others t_one)
     (c.name_of_draft.ensures.same t_two) listed found c.in_ok-joined.ensures.segment
     (c.in_ok-joined.ensures.name t_two j.draft_is.sound) (c.place.ensures.set t_three)
@@ -150,7 +150,7 @@ returns-clause-set g c t sound names listed found =
     let t_two = c.place.ensures.told t_three in
     let t_one = c.name_of_draft.ensures.told t_two in
     let j = c.in_ok-join_segments.ensures.joined t_one sound found.are in
-    removed_four zero one two three c.in_ok-draft.draft c.in_ok-joined.joined c.args.day.now names
+    removed_four zero one two three c.in_ok-draft.draft c.in_ok-joined.joined c.args.period.now names
     c.args.segments.now j c.in_ok-draft.ensures.apart (c.join_segments.ensures.others t_one)
     (c.name_of_draft.ensures.same t_two) listed found c.in_ok-joined.ensures.segment
     (c.in_ok-joined.ensures.name t_two j.draft_is.sound) (c.place.ensures.set t_three)
@@ -166,7 +166,7 @@ returns-clause-others g c t names found =
     let t_three = c.remove_joined.ensures.told t in
     let t_two = c.place.ensures.told t_three in
     let t_one = c.name_of_draft.ensures.told t_two in
-    let day = c.args.day.now in
+    let day = c.args.period.now in
     then_apart zero three four day
     (then_apart zero two three day
     (then_apart zero one two day
@@ -179,28 +179,28 @@ returns-clause-others g c t names found =
 pub returns-in_err-join_segments-clause-whole : goal.returns-in_err-join_segments-clause-whole
 returns-in_err-join_segments-clause-whole g c t sound names listed found =
     aside_unless (g.D.Disk.state c.args.disk.now) (g.D.Disk.state c.join_segments.new.disk) c.in_ok-draft.draft
-    c.args.day.now (c.join_segments.ensures.others t) c.in_ok-draft.ensures.named
+    c.args.period.now (c.join_segments.ensures.others t) c.in_ok-draft.ensures.named
 
 pub returns-in_err-joined-clause-whole : goal.returns-in_err-joined-clause-whole
 returns-in_err-joined-clause-whole g c t sound names listed found =
     let t_one = c.name_of_draft.ensures.told t in
-    inr (whole_day (g.D.Disk.state c.args.disk.now) names c.args.segments.now c.args.day.now listed found
+    inr (whole_day (g.D.Disk.state c.args.disk.now) names c.args.segments.now c.args.period.now listed found
     (c.in_ok-join_segments.ensures.whole t_one sound found.are))
 
 pub returns-in-Err-clause-whole : goal.returns-in-Err-clause-whole
 returns-in-Err-clause-whole g c t sound names listed found =
     let t_one = c.name_of_draft.ensures.told (c.place.ensures.told t) in
-    inr (whole_day (g.D.Disk.state c.args.disk.now) names c.args.segments.now c.args.day.now listed found
+    inr (whole_day (g.D.Disk.state c.args.disk.now) names c.args.segments.now c.args.period.now listed found
     (c.in_ok-join_segments.ensures.whole t_one sound found.are))
 
 pub returns-in_err-remove_joined-clause-whole : goal.returns-in_err-remove_joined-clause-whole
 returns-in_err-remove_joined-clause-whole g c t sound names listed found =
     let t_one = c.name_of_draft.ensures.told (c.place.ensures.told (c.remove_joined.ensures.told t)) in
-    inr (whole_day (g.D.Disk.state c.args.disk.now) names c.args.segments.now c.args.day.now listed found
+    inr (whole_day (g.D.Disk.state c.args.disk.now) names c.args.segments.now c.args.period.now listed found
     (c.in_ok-join_segments.ensures.whole t_one sound found.are))
 
 pub returns-clause-whole : goal.returns-clause-whole
 returns-clause-whole g c t sound names listed found =
     let t_one = c.name_of_draft.ensures.told (c.place.ensures.told (c.remove_joined.ensures.told t)) in
-    inr (whole_day (g.D.Disk.state c.args.disk.now) names c.args.segments.now c.args.day.now listed found
+    inr (whole_day (g.D.Disk.state c.args.disk.now) names c.args.segments.now c.args.period.now listed found
     (c.in_ok-join_segments.ensures.whole t_one sound found.are))

@@ -5,7 +5,7 @@ use Rattle.store_upkeep.proofs.segment_check.hash_segment.Given as goal
 abbrev pub invariant-entries : goal.invariant-entries
 invariant-entries g l = record {
   unclosed : IsOpen l.entries;
-  hashes : HashesOf l.day l.entries l.hasher l.at (g.R.Input.state l.fn.reader) (g.R.Input.state l.reader);
+  hashes : HashesOf l.period l.entries l.hasher l.at (g.R.Input.state l.fn.reader) (g.R.Input.state l.reader);
 }
 
 abbrev pub decreases-entries : goal.decreases-entries

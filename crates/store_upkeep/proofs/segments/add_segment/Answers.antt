@@ -7,15 +7,15 @@ use Rattle.store_upkeep.proofs.segments.add_segment.Goals as goal
 
 pub returns-then-not-is_segment_of : goal.returns-then-not-is_segment_of
 returns-then-not-is_segment_of c names found =
-    day_names_other names _ c.args.name.now c.args.day.now found
+    day_names_other names _ c.args.name.now c.args.period.now found
     (λ segment. let off : c.is_segment_of.result ≡ false = search rules in
     false≢true (sym off
-    ∙ c.is_segment_of.ensures.1 (subst (IsSegment c.args.day.now) (sym c.as_octets.ensures.value) segment)))
+    ∙ c.is_segment_of.ensures.1 (subst (IsSegment c.args.period.now) (sym c.as_octets.ensures.value) segment)))
 
 pub returns : goal.returns
 returns c names found =
     let name = c.args.name.now in
-    let day = c.args.day.now in
+    let day = c.args.period.now in
     let segment = subst (IsSegment day) c.as_octets.ensures.value (c.is_segment_of.ensures.0 (search rules)) in
     subst (λ (l : List (List ℕ)). AreDayNames (names ++ name ∷ []) day l)
     (sym (c.in_ok-push.ensures.items

@@ -11,10 +11,10 @@ returns-clause-joined g c tells sound are =
     let opened = c.begin.ensures.told begun in
     let same = c.open_segments.ensures.same opened in
     let taken = (g.D.Draft.Output.state c.join_streams.new.writer).taken in
-    is_join (g.D.Disk.state c.args.disk.now) (g.D.Disk.state c.settle.new.disk) c.args.draft.now c.args.day.now
+    is_join (g.D.Disk.state c.args.disk.now) (g.D.Disk.state c.settle.new.disk) c.args.draft.now c.args.period.now
     c.args.segments.now taken
-    (union_written files c.args.segments.now c.args.day.now _ _ _ taken _
-    (subst (AreSegmentsOf files c.args.segments.now c.args.day.now)
+    (union_written files c.args.segments.now c.args.period.now _ _ _ taken _
+    (subst (AreSegmentsOf files c.args.segments.now c.args.period.now)
     (sym (ap (map g.D.File.Input.state) c.as_mut_slice.ensures.value))
     (c.in_ok-inputs.ensures.opened opened sound are))
     (c.in_ok-writer.ensures.empty begun) c.in_default.ensures.outcome)

@@ -3,4 +3,4 @@ use Rattle.store_upkeep.specs.Compaction.{AreDayNames}
 use Rattle.store_upkeep.proofs.segments.names_of_day.Given as goal
 
 abbrev pub invariant-names : goal.invariant-names
-invariant-names l = AreDayNames (take l.name-index l.names) l.day l.segments.items
+invariant-names l = AreDayNames (take l.name-index l.names) l.period l.segments.items

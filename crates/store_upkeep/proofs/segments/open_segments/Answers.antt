@@ -18,9 +18,9 @@ segments-init g c = record {
   told = λ t. t;
   same = λ t. same_state (g.D.Disk.state c.args.disk.now);
   opened = λ t sound are.
-      subst (λ (ds : List InputState). AreSegmentsOf (shown (g.D.Disk.state c.args.disk.now)) [] c.args.day.now ds)
+      subst (λ (ds : List InputState). AreSegmentsOf (shown (g.D.Disk.state c.args.disk.now)) [] c.args.period.now ds)
       (sym (ap (map g.D.File.Input.state) c.new-inputs.ensures.items))
-      (segments_none (shown (g.D.Disk.state c.args.disk.now)) c.args.day.now);
+      (segments_none (shown (g.D.Disk.state c.args.disk.now)) c.args.period.now);
   whole = λ t sound are name has. absurd (no_name (λ (n : List ℕ). Unit {0}) (name, has, tt));
 }
 
@@ -28,7 +28,7 @@ pub segments-preserved : goal.segments-preserved
 segments-preserved g c =
     let all = c.args.segments.now in
     let first = take c.segments.segment-index all in
-    let day = c.args.day.now in
+    let day = c.args.period.now in
     let state = g.D.File.Input.state in
     let zero = g.D.Disk.state c.args.disk.now in
     let then = g.D.Disk.state c.segments.disk in

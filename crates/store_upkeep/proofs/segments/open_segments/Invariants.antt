@@ -12,10 +12,10 @@ invariant-segments g l = record {
   told : g.D.Disk.tells l.disk → g.D.Disk.tells l.fn.disk;
   same : g.D.Disk.tells l.disk → IsUnchanged (g.D.Disk.state l.fn.disk) (g.D.Disk.state l.disk);
   opened : g.D.Disk.tells l.disk → IsSound (g.D.Disk.state l.fn.disk)
-      → ((name : List ℕ) → Contains l.segments name → IsSegment l.day name)
-      → AreSegmentsOf (shown (g.D.Disk.state l.fn.disk)) (take l.segment-index l.segments) l.day
+      → ((name : List ℕ) → Contains l.segments name → IsSegment l.period name)
+      → AreSegmentsOf (shown (g.D.Disk.state l.fn.disk)) (take l.segment-index l.segments) l.period
       (map g.D.File.Input.state l.inputs.items);
   whole : g.D.Disk.tells l.disk → IsSound (g.D.Disk.state l.fn.disk)
-      → ((name : List ℕ) → Contains l.segments name → IsSegment l.day name)
+      → ((name : List ℕ) → Contains l.segments name → IsSegment l.period name)
       → AreWholeAt (shown (g.D.Disk.state l.fn.disk)) (take l.segment-index l.segments);
 }

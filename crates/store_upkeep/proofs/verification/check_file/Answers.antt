@@ -9,7 +9,7 @@ pub returns-in-Some-clause-cause : goal.returns-in-Some-clause-cause
 returns-in-Some-clause-cause g c =
     let failed = g.F.Folder.has_failed c.check_segment_file.new.folder in
     let name = c.args.name.now in
-    let day = c.in-Some.day in
+    let day = c.in-Some.period in
     let found = c.in-Some.ensures.some in
     let counted : IsCounted name = inr (day, found.0, subst (IsSegment day) c.as_octets.ensures.value found.1) in
     result_weaker (open_causes failed name) (check_causes failed (λ (n : List ℕ). (n ≡ name) × IsCounted n))
