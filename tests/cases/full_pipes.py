@@ -264,8 +264,9 @@ def turned(runs):
     path.write_bytes(framed("counted", frame))
     (store / "refused.new").mkdir()
     with runs.until_eof(*any_port("lf"), *SOON, store=store) as server:
+        begun = path.stat().st_size
         server.send("lf", b"first\n")
-        until(lambda: path.stat().st_size > len(frame) + 100)
+        until(lambda: path.stat().st_size > begun)
         (store / "refused.new").rmdir()
         server.send("lf", b"second\n")
         server.end()
