@@ -16,8 +16,8 @@ _syslogbox_options() {
         collect) echo "--trim --legacy --zone --dialect --help" ;;
         read) echo "--from --to --undated --help" ;;
         serve)
-            echo "--udp --counted --lf --unix --inherited --connections --idle --commit --checkpoint --until-eof"
-            echo "--trim --legacy --zone --dialect --help"
+            echo "--udp --counted --lf --unix --inherited --connections --per-peer --idle --commit --checkpoint"
+            echo "--until-eof --trim --legacy --zone --dialect --help"
             ;;
     esac
 }
@@ -37,7 +37,7 @@ _syslogbox_values() {
         *" --severity" | *" --up-to") echo "emerg alert crit err warning notice info debug" ;;
         *" --legacy" | *" --zone" | *" --host" | *" --app" | *" --proc" | *" --msgid" | *" --micros") ;;
         *" --from" | *" --to" | *" --id" | *" --memory" | *" --udp" | *" --counted" | *" --lf") ;;
-        *" --connections" | *" --idle" | *" --commit" | *" --checkpoint") ;;
+        *" --connections" | *" --per-peer" | *" --idle" | *" --commit" | *" --checkpoint") ;;
         *) return 1 ;;
     esac
 }

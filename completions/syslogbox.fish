@@ -80,6 +80,7 @@ complete -c syslogbox -n "__fish_seen_subcommand_from serve" -x -l lf -d 'Accept
 complete -c syslogbox -n "__fish_seen_subcommand_from serve" -r -F -l unix -d 'Receive datagrams on a socket at this path'
 complete -c syslogbox -n "__fish_seen_subcommand_from serve" -x -l inherited -a 'udp counted lf' -d 'Take the next descriptor, from 3 on'
 complete -c syslogbox -n "__fish_seen_subcommand_from serve" -x -l connections -d 'Connections that may be open at once'
+complete -c syslogbox -n "__fish_seen_subcommand_from serve" -x -l per-peer -d 'Connections of one address that may be open at once'
 complete -c syslogbox -n "__fish_seen_subcommand_from serve" -x -l idle -d 'Seconds without an octet before a connection is closed'
 complete -c syslogbox -n "__fish_seen_subcommand_from serve" -x -l commit -d 'Milliseconds before a record is committed at the latest'
 complete -c syslogbox -n "__fish_seen_subcommand_from serve" -x -l checkpoint -d 'MiB of a journal before a checkpoint'

@@ -185,6 +185,14 @@ def in_order(runs):
         runs.results.check("the lines are whole", whole_lines(pipe.octets), str(pipe.octets))
 
 
+def to_a_file(runs):
+    """A file takes all lines, however many one turn has."""
+    with runs.until_eof(*any_port("lf"), *SOON) as server:
+        server.send("lf", b"x\n" * 30_000)
+        status, lines = server.end()
+        runs.results.check("no line to a file is dropped", status == 1 and not any(map(DROPPED.fullmatch, lines)))
+
+
 def stopped_terminal(runs):
     """A terminal whose output is stopped, as by ^S, stops nothing; once it goes on, it gets its lines."""
     ours, theirs = pty.openpty()
@@ -264,8 +272,9 @@ def turned(runs):
     path.write_bytes(framed("counted", frame))
     (store / "refused.new").mkdir()
     with runs.until_eof(*any_port("lf"), *SOON, store=store) as server:
+        begun = path.stat().st_size
         server.send("lf", b"first\n")
-        until(lambda: path.stat().st_size > len(frame) + 100)
+        until(lambda: path.stat().st_size > begun)
         (store / "refused.new").rmdir()
         server.send("lf", b"second\n")
         server.end()
@@ -313,7 +322,7 @@ def shown(runs):
     runs.refused("a name with an escape", any_port("lf"), f"{store}".replace("\x1b", "\\x1b") + ": ", store=store)
 
 
-TESTS = [unread, read_late, no_reader, in_order, stopped_terminal, torn, others, turned, full_disk, shown]
+TESTS = [unread, read_late, no_reader, in_order, to_a_file, stopped_terminal, torn, others, turned, full_disk, shown]
 
 
 def full_pipes(program, results):

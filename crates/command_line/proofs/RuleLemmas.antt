@@ -11,10 +11,9 @@ pub two_rules : (line one two three : App) (a b x y : Rule) → one ≡ line →
     → a ≡ x → b ≡ y → three ≡ with_rule (with_rule line x) y
 two_rules line one two three a b x y e f g h k = g ∙ ap₂ add (f ∙ ap₂ add e h) k
 
--- four rules
-pub four_rules : (line one two three four : App) (a b c d x y z w : Rule) → one ≡ with_rule line a → two ≡ with_rule one b
-    → three ≡ with_rule two c → four ≡ with_rule three d → a ≡ x → b ≡ y → c ≡ z → d ≡ w
-    → four ≡ with_rule (with_rule (with_rule (with_rule line x) y) z) w
-four_rules line one two three four a b c d x y z w e f g h i j k l =
+-- three rules
+pub three_rules : (line one two three : App) (a b c x y z : Rule) → one ≡ with_rule line a → two ≡ with_rule one b
+    → three ≡ with_rule two c → a ≡ x → b ≡ y → c ≡ z → three ≡ with_rule (with_rule (with_rule line x) y) z
+three_rules line one two three a b c x y z e f g i j k =
     let first : one ≡ with_rule line x = e ∙ ap (add line) i in
-    h ∙ ap₂ add (g ∙ ap₂ add (f ∙ ap₂ add first j) k) l
+    g ∙ ap₂ add (f ∙ ap₂ add first j) k

@@ -143,11 +143,16 @@ abbrev pub with_socket_rules : App → App
 with_socket_rules a =
     with_rule (with_rule (with_address_rules a) (list_rule (codes "unix"))) (list_rule (codes "inherited"))
 
+-- the options of `serve` on connections
+abbrev pub with_connection_rules : App → App
+with_connection_rules a =
+    with_rule (with_rule (with_rule a (default_rule (codes "connections") (codes "1024")))
+    (option_rule (codes "per-peer"))) (option_rule (codes "idle"))
+
 -- the options of `serve` that are numbers
 abbrev pub with_limit_rules : App → App
 with_limit_rules a =
-    with_rule (with_rule (with_rule (with_rule a (default_rule (codes "connections") (codes "1024")))
-    (option_rule (codes "idle"))) (default_rule (codes "commit") (codes "1000")))
+    with_rule (with_rule (with_connection_rules a) (default_rule (codes "commit") (codes "1000")))
     (default_rule (codes "checkpoint") (codes "64"))
 
 -- the command that collects into a store

@@ -3,8 +3,8 @@
 ghost use Rattle.std.specs.Prelude.{◌≡◌, codes, false, option_map, IfOk};
 ghost use Rattle.clap.specs.Words.{app_of, found_of, rows_of, rule_of};
 ghost use Rattle.clap.specs.declared.builder.command.Command.TheViews.{out-Command as fields_of};
-ghost use Rattle.command_line.specs.CommandLine.{list_rule, serve_app, with_address_rules, with_limit_rules};
-ghost use Rattle.command_line.specs.CommandLine.{with_socket_rules};
+ghost use Rattle.command_line.specs.CommandLine.{list_rule, serve_app, with_address_rules, with_connection_rules};
+ghost use Rattle.command_line.specs.CommandLine.{with_limit_rules, with_socket_rules};
 ghost use Rattle.command_line.specs.Requests.{asked_by, read_serve};
 
 use crate::reading_words::with_reading;
@@ -50,21 +50,33 @@ fn with_sockets<'a>(alloc: Global, serve: Command<'a>) -> Result<Command<'a>, Al
     with_arg(serve, list_option(alloc, "inherited", help))
 }
 
+// The command with the options on connections.
+fn with_connections<'a>(alloc: Global, serve: Command<'a>) -> Result<Command<'a>, AllocError>
+    requires { (fields_of serve).has_globals ≡ false }
+    ensures app { IfOk result (λ c. app_of c ≡ with_connection_rules (app_of serve.entry)) }
+    ensures local { IfOk result (λ c. (fields_of c).has_globals ≡ false) }
+{
+    let help = "Connections that may be open at once: 1 to 16384";
+    let serve = with_arg(serve, default_option(alloc, "connections", "1024", help))?;
+    let help =
+        "Connections that one address may have open at once: 1 to 16384 [default: a quarter of all]";
+    let serve = with_arg(serve, told_option(alloc, "per-peer", help))?;
+    let help =
+        "Seconds without an octet after which a connection is closed: 1 to 31536000 [default: never]";
+    with_arg(serve, told_option(alloc, "idle", help))
+}
+
 // The command with the options that are numbers.
 fn with_limits<'a>(alloc: Global, serve: Command<'a>) -> Result<Command<'a>, AllocError>
     requires { (fields_of serve).has_globals ≡ false }
     ensures app { IfOk result (λ c. app_of c ≡ with_limit_rules (app_of serve.entry)) }
     ensures local { IfOk result (λ c. (fields_of c).has_globals ≡ false) }
 {
-    let help = "Connections that may be open at once: 1 to 16384";
-    let serve = with_arg(serve, default_option(alloc, "connections", "1024", help))?;
-    let help =
-        "Seconds without an octet after which a connection is closed: 1 to 31536000 [default: never]";
-    let serve = with_arg(serve, told_option(alloc, "idle", help))?;
+    let serve = with_connections(alloc, serve)?;
     let help =
         "Milliseconds within which a record is committed: 0 (before the next read) to 3600000";
     let serve = with_arg(serve, default_option(alloc, "commit", "1000", help))?;
-    let help = "MiB that a journal may reach before a checkpoint: 1 to 1048576";
+    let help = "MiB that a journal may reach before a checkpoint: 1 to 2048";
     with_arg(serve, default_option(alloc, "checkpoint", "64", help))
 }
 

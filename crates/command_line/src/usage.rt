@@ -56,12 +56,13 @@ const COLLECT: [Row; 2] = [
     ("PORT", Kind::Number(1, 65_535)),
 ];
 
-const SERVE: [Row; 8] = [
+const SERVE: [Row; 9] = [
     ("udp", Kind::Address),
     ("counted", Kind::Address),
     ("lf", Kind::Address),
     ("inherited", Kind::Inherited),
     ("connections", Kind::Number(1, CONNECTIONS_MAX)),
+    ("per-peer", Kind::Number(1, CONNECTIONS_MAX)),
     ("idle", Kind::Number(1, IDLE_MAX)),
     ("commit", Kind::Number(0, COMMIT_MAX)),
     ("checkpoint", Kind::Number(1, CHECKPOINT_MAX)),

@@ -33,6 +33,8 @@ pub struct Notes {
     // the most octets of a write, where the system is asked before each
     piece_max: Option<usize>,
     waiting: Vec<u8>,
+    // whether the last try to write left something
+    stalled: bool,
     dropped: u64,
     alloc: Global,
 }
@@ -89,6 +91,7 @@ impl Notes {
             stderr,
             piece_max: piece_max(),
             waiting: Vec::with_capacity(alloc, ROOM)?,
+            stalled: false,
             dropped: 0,
             alloc,
         })
@@ -123,11 +126,23 @@ impl Notes {
         held
     }
 
-    /// Puts lines behind what waits, or drops them.
+    fn take(&mut self, lines: &[u8]) -> bool {
+        self.hold_dropped() && self.hold(lines)
+    }
+
+    /// Puts lines behind what waits, or drops them. Where there is no room, what waits is written
+    /// first, unless that was tried since the last flush.
     pub fn put(&mut self, lines: &[u8]) {
-        if !self.hold_dropped() || !self.hold(lines) {
-            self.drop_lines(lines_in(lines));
+        if self.take(lines) {
+            return;
         }
+        if !self.stalled {
+            self.send();
+            if self.take(lines) {
+                return;
+            }
+        }
+        self.drop_lines(lines_in(lines));
     }
 
     fn drop_lines(&mut self, count: u64) {
@@ -173,6 +188,7 @@ impl Notes {
             }
         }
         self.forget(sent);
+        self.stalled = !self.waiting.is_empty();
     }
 
     // Takes octets away from the front of what waits.

@@ -63,7 +63,7 @@ impl<'f, 'r> Write for SharedRefused<'f, 'r> {
     }
 }
 
-/// Both.
+/// The two outputs of a server.
 #[derive(Clone, Copy)]
 pub struct Outputs<'n, 'f, 'r> {
     pub notes: SharedNotes<'n>,

@@ -1,14 +1,12 @@
 use Rattle.std.proofs.lemmas.Result.{IfOk-weaker}
 use Rattle.clap.specs.Words.{app_of, rule_of}
-use Rattle.command_line.proofs.RuleLemmas.{four_rules}
+use Rattle.command_line.proofs.RuleLemmas.{two_rules}
 use Rattle.command_line.proofs.serving.with_limits.Goals as goal
 
 pub returns-clause-app : goal.returns-clause-app
 returns-clause-app c =
-    IfOk-weaker c.with_arg-4.result _ _
-    (λ r is. four_rules (app_of c.args.serve) (app_of c.in_ok-serve.serve) (app_of c.in_ok-serve-2.serve)
-    (app_of c.in_ok-serve-3.serve) (app_of r) (rule_of c.default_option.result) (rule_of c.told_option.result)
-    (rule_of c.default_option-2.result) (rule_of c.default_option-3.result) _ _ _ _ c.in_ok-serve.ensures.app
-    c.in_ok-serve-2.ensures.app c.in_ok-serve-3.ensures.app is c.default_option.ensures.rule c.told_option.ensures.rule
-    c.default_option-2.ensures.rule c.default_option-3.ensures.rule)
-    c.with_arg-4.ensures.app
+    IfOk-weaker c.with_arg-2.result _ _
+    (λ r is. two_rules _ (app_of c.in_ok-serve.serve) (app_of c.in_ok-serve-2.serve) (app_of r)
+    (rule_of c.default_option.result) (rule_of c.default_option-2.result) _ _ c.in_ok-serve.ensures.app
+    c.in_ok-serve-2.ensures.app is c.default_option.ensures.rule c.default_option-2.ensures.rule)
+    c.with_arg-2.ensures.app
