@@ -30,7 +30,7 @@ use std::alloc::{AllocError, Global};
 use std::convert::AsStr;
 
 // What `--version` tells beside the program's name.
-const VERSION: &str = "0.1.0";
+const VERSION: &str = "0.2.0";
 
 /// Why words are no request.
 #[derive(Debug, Drop)]
