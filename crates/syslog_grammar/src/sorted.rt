@@ -168,7 +168,11 @@ fn put_sorted_in_room<const N: usize>(
     put_sorted_in(elements, &mut keys, is_form, out)
 }
 
-/// Appends elements in the order of their ids, by keys. Each element has at least three octets.
+/// Appends elements in the order of their ids, by keys, in less than 1 MiB of stack.
+///
+/// An element has at least three octets. There are 91 ids of one octet and 8,281 of two, so that
+/// 262,144 octets have fewer than 65,536 elements whose ids differ, and 524,295 octets fewer than
+/// 106,752.
 fn put_by_keys(elements: &[u8], is_form: bool, out: &mut Vec<u8>) -> Result<bool, AllocError>
     ensures { PutsUnless (SortedElementsOf is_form elements.now) ⊤ out.old.items out.new.items result }
 {
@@ -178,8 +182,8 @@ fn put_by_keys(elements: &[u8], is_form: bool, out: &mut Vec<u8>) -> Result<bool
         769..=3072 => put_sorted_in_room::<1024>(elements, is_form, out),
         3073..=12_288 => put_sorted_in_room::<4096>(elements, is_form, out),
         12_289..=49_152 => put_sorted_in_room::<16_384>(elements, is_form, out),
-        49_153..=196_608 => put_sorted_in_room::<65_536>(elements, is_form, out),
-        196_609..=16_777_215 => put_sorted_in_room::<131_072>(elements, is_form, out),
+        49_153..=262_144 => put_sorted_in_room::<65_536>(elements, is_form, out),
+        262_145..=16_777_215 => put_sorted_in_room::<106_752>(elements, is_form, out),
         _ => Ok(false),
     }
 }

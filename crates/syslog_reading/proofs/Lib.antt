@@ -5,6 +5,7 @@ pub mod Repeating
 pub mod Viewing
 pub mod Meanings
 pub mod Rising
+pub mod Sorted
 pub mod ById
 pub mod OwnedParts
 pub mod RecordsOf

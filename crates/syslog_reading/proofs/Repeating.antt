@@ -148,7 +148,7 @@ each_end [] e p q h k = (q, [], ap (λ (u : List ℕ). u ++ q) h ∙ sym (append
 each_end (f ∷ es) e p q (x, y, g, h, l) k =
     (x, y ++ q, ap (λ (u : List ℕ). u ++ q) g ∙ append_assoc x y q, h, each_end es e y q l k)
 
-each_join : (es fs : List ElementParts) (p q : List ℕ) → Each Element es p → Each Element fs q
+pub each_join : (es fs : List ElementParts) (p q : List ℕ) → Each Element es p → Each Element fs q
     → Each Element (es ++ fs) (p ++ q)
 each_join [] fs p q h k = subst (λ (u : List ℕ). Each Element fs (u ++ q)) (sym h) k
 each_join (f ∷ es) fs p q (x, y, g, h, l) k =
@@ -302,29 +302,6 @@ skips_more elements rest behind t x v e f (text, parts) s = record {
         let p = split d bs rest behind v k f in
         let same : p.prefix ≡ text = append_cancel_right p.prefix text behind (sym p.parts ∙ parts) in
         (us ++ d ∷ [], bs, each_end us d s.prefix text h (subst (Element d) same p.text), p.others)
-
--- elements further on, where the ids up to there differ
-pub known_further : (text rest behind t : List ℕ) (x : ℕ) → rest ≡ x ∷ t → x ≡ 91 → Skips rest behind
-    → ((es : List ElementParts) → Each Element es (take (length text - length behind) text) → AreDistinct es)
-    → Known text rest → Known text behind
-known_further text rest behind t x e g k differ s = elim s.more [
-  | inl m ↦
-      let b = k.both m.0 m.1 in
-      let parts : text ≡ (s.prefix ++ k.prefix) ++ behind =
-      s.parts ∙ ap (λ (u : List ℕ). s.prefix ++ u) k.parts ∙ sym (append_assoc s.prefix k.prefix behind) in
-      let each = each_join s.before b.0 s.prefix k.prefix s.each b.2 in
-      record {
-        prefix = s.prefix ++ k.prefix;
-        before = s.before ++ b.0;
-        parts = parts;
-        each = each;
-        distinct = differ (s.before ++ b.0) (subst (Each Element (s.before ++ b.0))
-            (sym (prefix_is text (s.prefix ++ k.prefix) behind parts)) each);
-        more = inl (b.1, b.3);
-      }
-  | inr m ↦
-      let i : x ≡ 45 = heads x 45 t [] (sym e ∙ m.1) in absurd (omega (arith, i, g))
-]
 
 -- ---- above the greatest
 

@@ -12,4 +12,5 @@ pub mod WellFormed
 pub mod CanonicalOctets
 pub mod DecodeFaults
 pub mod IdHashes
+pub mod IdKeys
 pub mod DataForms

@@ -10,6 +10,7 @@ mod few_ids;
 pub mod first_element;
 mod header;
 mod id_hash;
+mod id_keys;
 mod id_table;
 mod message;
 mod owned;

@@ -1,32 +1,16 @@
-use Rattle.std.proofs.Common.{subst, sym, ap, arith, ◌≤◌, length, Bor, ℕ, List}
-use Rattle.std.proofs.lemmas.List.{length-append}
-use Rattle.octet_language.specs.Language.{Each}
-use Rattle.syslog_fields.specs.Grammar.{Element}
-use Rattle.syslog_reading.specs.Ids.{Known}
-use Rattle.syslog_reading.proofs.Repeating.{known_further}
+use Rattle.std.proofs.Common.{rules, subst, sym}
+use Rattle.syslog_reading.specs.Ids.{Skips}
+use Rattle.syslog_reading.proofs.Sorted.{known_all, known_sorted}
 use Rattle.syslog_reading.proofs.repeated.behind_sorted.Goals as goal
-use Rattle.syslog_reading.proofs.repeated.behind_sorted.Goals.{then-differ, else-differ}
 
-pub loop-step-preserved : goal.loop-step-preserved
-loop-step-preserved c = record {
-  known = elim c.if-differ.branch [
-    | then-differ w ↦ subst (λ (k : Bor (List ℕ)). Known c.args.structured_data.now k.now) (sym w.known-is)
-        (known_further c.args.structured_data.now c.loop-step.known.now c.behind_count-rest.result.now
-        c.in-Some._after.now c.in-Some.first c.in-Some.ensures c.if-first-ne91.false c.behind_count-rest.ensures
-        (λ es h. c.differ.ensures w.if-differ.true es (subst (Each Element es) (sym c.split_at.ensures.front) h))
-        c.loop-step.invariant.known)
-    | else-differ w ↦ subst (λ (k : Bor (List ℕ)). Known c.args.structured_data.now k.now) (sym w.known-is)
-        c.loop-step.invariant.known
-  ];
-  within = elim c.if-differ.branch [
-    | then-differ w ↦ subst (λ (k : Bor (List ℕ)). length k.now ≤ length c.args.known.now) (sym w.known-is)
-        (omega (
-          arith,
-          ap length c.behind_count-rest.ensures.parts,
-          length-append c.behind_count-rest.ensures.prefix c.behind_count-rest.result.now,
-          c.loop-step.invariant.within,
-        ))
-    | else-differ w ↦ subst (λ (k : Bor (List ℕ)). length k.now ≤ length c.args.known.now) (sym w.known-is)
-        c.loop-step.invariant.within
-  ];
-}
+pub returns-in_default : goal.returns-in_default
+returns-in_default c = known_all c.args.structured_data.now c.requires
+
+pub returns-then-first-ne91 : goal.returns-then-first-ne91
+returns-then-first-ne91 c = known_all c.args.structured_data.now c.requires
+
+pub returns : goal.returns
+returns c = known_sorted c.args.structured_data.now c.split_at.result.1.now c.in-Some._after.now c.in-Some.first
+    c.offset_of_repeated-at.result c.requires c.in-Some.ensures c.if-first-ne91.false
+    (subst (Skips c.args.structured_data.now) (sym c.split_at.ensures.back) c.offset_of_repeated-at.ensures.end.1)
+    (search rules) c.offset_of_repeated-at.ensures.differ
