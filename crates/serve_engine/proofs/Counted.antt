@@ -11,15 +11,15 @@ use Rattle.serve_engine.specs.declared.counts.ServeCounts.{ServeCounts}
 
 -- nothing was dropped
 pub dropped_none : (c d : ServeCounts) → d ≡ c → CountsDropped c d
-dropped_none c d is = is ∙ ap (λ (n : ℕ). record c { dropped = n }) (sym (ap (λ (x : ServeCounts). x.dropped) is))
+dropped_none c d is = is ∙ ap (λ (x : ServeCounts). record c { dropped = x.dropped; quiet = x.quiet }) (sym is)
 
 -- and then more was
 pub dropped_twice : (a b c : ServeCounts) → CountsDropped a b → CountsDropped b c → CountsDropped a c
-dropped_twice a b c one more = more ∙ ap (λ (x : ServeCounts). record x { dropped = c.dropped }) one
+dropped_twice a b c one more = more ∙ ap (λ (x : ServeCounts). record x { dropped = c.dropped; quiet = c.quiet }) one
 
 -- behind what was counted
 pub dropped_behind : (a b c : ServeCounts) → b ≡ a → CountsDropped b c → CountsDropped a c
-dropped_behind a b c is more = more ∙ ap (λ (x : ServeCounts). record x { dropped = c.dropped }) is
+dropped_behind a b c is more = more ∙ ap (λ (x : ServeCounts). record x { dropped = c.dropped; quiet = c.quiet }) is
 
 -- behind a commit
 pub commit_behind : (a b c : ServeCounts) → CountsCommit a b → CountsDropped b c → CountsCommit a c
@@ -47,13 +47,14 @@ up_twice a b c (inr (m, one)) (inr (n, more)) =
 pub broken_one : (c d : ServeCounts) → CountsDropped (broken_counted c) d → CountsBroken c d
 broken_one c d is = (
   inr (1, ap (λ (x : ServeCounts). x.broken) is),
-  is ∙ ap (λ (n : ℕ). record c { broken = n; dropped = d.dropped }) (sym (ap (λ (x : ServeCounts). x.broken) is)),
+  is ∙ ap (λ (n : ℕ). record c { broken = n; dropped = d.dropped; quiet = d.quiet })
+      (sym (ap (λ (x : ServeCounts). x.broken) is)),
 )
 
 pub broken_twice : (a b c : ServeCounts) → CountsBroken a b → CountsBroken b c → CountsBroken a c
 broken_twice a b c one more = (
   up_twice a.broken b.broken c.broken one.0 more.0,
-  more.1 ∙ ap (λ (x : ServeCounts). record x { broken = c.broken; dropped = c.dropped }) one.1,
+  more.1 ∙ ap (λ (x : ServeCounts). record x { broken = c.broken; dropped = c.dropped; quiet = c.quiet }) one.1,
 )
 
 -- a connection that was not opened is not counted

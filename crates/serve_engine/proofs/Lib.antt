@@ -1,3 +1,5 @@
+pub mod Rows
+pub mod Opening
 pub mod Counted
 pub mod Kept
 pub mod Refused

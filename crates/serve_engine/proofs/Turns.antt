@@ -14,13 +14,14 @@ use Rattle.syslog_collect.specs.History.{AcceptedEvent, Ended, Opened, Piece}
 use Rattle.syslog_collect.specs.declared.outcome.Outcome.{Outcome}
 use Rattle.syslog_collect.proofs.Headline.{holds_received}
 use Rattle.socket_source.specs.declared.step.ServerStep.{ServerStep}
+use Rattle.socket_source.specs.declared.step.ServerStep.TheVariants as step
 use Rattle.serve_engine.specs.Events.{IsAccepted, IsReceivedAs, Manner, Receives, ends_in_bad_count, event_of, loses}
-use Rattle.serve_engine.specs.Events.{loses_opening, loses_piece, manner_of, turn_of}
+use Rattle.serve_engine.specs.Events.{loses_opening, loses_piece, manner_of, turn_after, turn_of}
 use Rattle.serve_engine.specs.Intakes.{IsCommitted, StandsBy}
 use Rattle.serve_engine.specs.Keepings.{Kept}
 use Rattle.serve_engine.specs.Serving.{Accepts, CommitsAll, EndsUnlessFull, FaultsAs, HoldsReceived, IfSettled}
 use Rattle.serve_engine.specs.Serving.{IsCommitTurn, IsEventTurn, IsStepTurn, IsTryTurn, ServesEvent, ServesStep}
-use Rattle.serve_engine.specs.Serving.{UnlessMemory, UnlessStopped, asks_commit}
+use Rattle.serve_engine.specs.Serving.{IsToldFull, UnlessMemory, UnlessStopped, asks_commit, is_opening}
 use Rattle.serve_engine.specs.declared.counts.ServeCounts.{ServeCounts}
 use Rattle.serve_engine.specs.declared.intake.Intake.{Intake}
 use Rattle.serve_engine.specs.declared.keeping.KeepFault.{KeepFault}
@@ -35,7 +36,7 @@ use Rattle.serve_engine.specs.declared.turn.Turn.TheVariants.{On, End}
 -- what a collector makes of an event is accepted, where its connection is not lost
 abbrev pub accepted_own : (way : Manner) (before : List AcceptedEvent) (e : AcceptedEvent) (r : Received)
     (os : List Outcome) (own : List AcceptedEvent) (turn : Turn) → IsReceivedAs way before e r os own
-    → loses e r os ≡ false → turn ≡ turn_of r → IsAccepted way before e own false turn
+    → loses e r os ≡ false → turn ≡ turn_of e r → IsAccepted way before e own false turn
 accepted_own way before e r os own turn is kept on = record {
   received = r;
   outcomes = os;
@@ -50,7 +51,7 @@ accepted_own way before e r os own turn is kept on = record {
 -- of a connection that was not opened
 abbrev pub accepted_none : (way : Manner) (before : List AcceptedEvent) (c : ℕ) (k : Framing) (r : Received)
     (os : List Outcome) (own : List AcceptedEvent) (turn : Turn) → IsReceivedAs way before (Opened c k) r os own
-    → loses_opening r ≡ true → turn ≡ turn_of r → IsAccepted way before (Opened c k) own true turn
+    → loses_opening r ≡ true → turn ≡ On → IsAccepted way before (Opened c k) own true turn
 accepted_none way before c k r os own turn is lost on = record {
   received = r;
   outcomes = os;
@@ -92,28 +93,25 @@ pub lost_taken : (r : Received) (os : List Outcome) (b : Bool)
 lost_taken r os b (inl is) bad = subst (λ (q : Received). loses_piece q os ≡ b) (sym is) bad
 lost_taken r os b (inr (start, is)) bad = subst (λ (q : Received). loses_piece q os ≡ b) (sym is) bad
 
-pub taken_on : (r : Received) → (r ≡ received.Accepted) ⊎ ((start : ℕ) × (r ≡ received.Unterminated start)) → On ≡ turn_of r
-taken_on r (inl is) = sym (ap turn_of is)
-taken_on r (inr (start, is)) = sym (ap turn_of is)
+pub taken_on : (r : Received) → (r ≡ received.Accepted) ⊎ ((start : ℕ) × (r ≡ received.Unterminated start)) → On ≡ turn_after r
+taken_on r (inl is) = sym (ap turn_after is)
+taken_on r (inr (start, is)) = sym (ap turn_after is)
+
+pub never_memory : (r : Received) (P : Type 0) → P → IfNotMemory r P
+never_memory received.Accepted P h = h
+never_memory (received.Unterminated start) P h = h
+never_memory received.Refused P h = h
+never_memory received.Memory P h = tt
 
 -- where memory did not run out, it goes on
-settled_turn : (r : Received) (P : Type 0) → IfNotMemory r P → IfSettled (turn_of r) P
+settled_turn : (r : Received) (P : Type 0) → IfNotMemory r P → IfSettled (turn_after r) P
 settled_turn received.Accepted P h = h
 settled_turn (received.Unterminated start) P h = h
 settled_turn received.Refused P h = h
 settled_turn received.Memory P h = tt
 
-pub after_event : (t : Turn) (r : Received) (P : Type 0) → t ≡ turn_of r → IfNotMemory r P → IfSettled t P
+pub after_event : (t : Turn) (r : Received) (P : Type 0) → t ≡ turn_after r → IfNotMemory r P → IfSettled t P
 after_event t r P is h = subst (λ (u : Turn). IfSettled u P) (sym is) (settled_turn r P h)
-
-event_turn : (r : Received) → IsEventTurn (turn_of r)
-event_turn received.Accepted = inl refl
-event_turn (received.Unterminated start) = inl refl
-event_turn received.Refused = inl refl
-event_turn received.Memory = inr refl
-
-pub turn_event : (t : Turn) (r : Received) → t ≡ turn_of r → IsEventTurn t
-turn_event t r is = subst IsEventTurn (sym is) (event_turn r)
 
 pub still_settled : (r : Received) (P : Type 0)
     → (r ≡ received.Accepted) ⊎ ((start : ℕ) × (r ≡ received.Unterminated start)) → IfNotMemory r P → P
@@ -121,6 +119,11 @@ still_settled r P (inl is) h = subst (λ (q : Received). IfNotMemory q P) is h
 still_settled r P (inr (start, is)) h = subst (λ (q : Received). IfNotMemory q P) is h
 
 -- ---- commits
+
+-- after a tick that goes on, it is told that the disk is full exactly where it is
+pub told_full : (full told now : Bool) → IsToldFull full told → (full ≡ false → now ≡ false) → (full ≡ true → now ≡ told) → now ≡ full
+told_full true told now is none same = same refl ∙ is refl
+told_full false told now is none same = none refl
 
 -- after a fault nothing is said of the commit
 pub stopped_fault : (f : KeepFault) (full : Bool) (t : Turn) (P : Type 0) → FaultsAs f full t → UnlessStopped t full P
@@ -220,14 +223,25 @@ serves_nothing {S = S} {K = K} entries stands old new s octets full t was now is
   λ rests. refl,
 )
 
-pub event_step : (s : ServerStep) (t : Turn) → IsEventTurn t → IsStepTurn s t
-event_step s t (inl is) = subst (IsStepTurn s) (sym is) tt
-event_step s t (inr is) = subst (IsStepTurn s) (sym is) tt
+pub event_step : (s : ServerStep) (t : Turn) → is_opening s ≡ false → IsEventTurn t → IsStepTurn s t
+event_step s t other (inl is) = subst (IsStepTurn s) (sym is) tt
+event_step s t other (inr is) = subst (IsStepTurn s) (sym is) other
+
+asks_other : (s : ServerStep) → asks_commit s ≡ true → is_opening s ≡ false
+asks_other (step.Opened conn listener framing peer) asks = absurd (cc)
+asks_other (step.Piece conn len) asks = refl
+asks_other (step.Ended conn end) asks = refl
+asks_other (step.Datagram listener peer len) asks = refl
+asks_other (step.TurnedAway listener framing peer) asks = refl
+asks_other step.Tick asks = refl
+asks_other step.InputEnded asks = refl
+asks_other step.Finished asks = refl
+asks_other (step.Failed fault) asks = refl
 
 pub commit_step : (s : ServerStep) (t : Turn) → asks_commit s ≡ true → IsCommitTurn t → IsStepTurn s t
 commit_step s t asks (inl is) = subst (IsStepTurn s) (sym is) tt
 commit_step s t asks (inr (inl is)) = subst (IsStepTurn s) (sym is) asks
-commit_step s t asks (inr (inr is)) = subst (IsStepTurn s) (sym is) tt
+commit_step s t asks (inr (inr is)) = subst (IsStepTurn s) (sym is) (asks_other s asks)
 
 pub commit_try : (t : Turn) → IsCommitTurn t → IsTryTurn t
 commit_try t (inl is) = subst IsTryTurn (sym is) tt

@@ -27,6 +27,7 @@ no_counts = record {
   octets = 0;
   broken = 0;
   dropped = 0;
+  quiet = 0;
 }
 
 -- a count with so many more, which stays at the largest value
@@ -53,9 +54,13 @@ connection_counted c = record c { connections = count_up c.connections 1 }
 abbrev pub broken_counted : ServeCounts → ServeCounts
 broken_counted c = record c { broken = count_up c.broken 1 }
 
--- no more is counted than lines and frames that were dropped
+-- no more is counted than lines and frames that were dropped, and lines that were quiet
 abbrev pub CountsDropped : ServeCounts → ServeCounts → Type 0
-CountsDropped old new = new ≡ record old { dropped = new.dropped }
+CountsDropped old new = new ≡ record old { dropped = new.dropped; quiet = new.quiet }
+
+-- a line more is quiet
+abbrev pub quiet_counted : ServeCounts → ServeCounts
+quiet_counted c = record c { quiet = count_up c.quiet 1 }
 
 -- a count stays, or goes up
 abbrev pub GoesUp : ℕ → ℕ → Type 0
@@ -64,14 +69,22 @@ GoesUp old new = (new ≡ old) ⊎ ((more : ℕ) × (new ≡ count_up old more))
 -- or than bad counts, which go up, and that
 abbrev pub CountsBroken : ServeCounts → ServeCounts → Type 0
 CountsBroken old new =
-    GoesUp old.broken new.broken × (new ≡ record old { broken = new.broken; dropped = new.dropped })
+    GoesUp old.broken new.broken
+    × (new ≡ record old { broken = new.broken; dropped = new.dropped; quiet = new.quiet })
 
--- with a commit, and what was handed over at it
+-- what became of no record, and of the records of two sets
+abbrev pub no_taken : Taken
+no_taken = record { new = 0; held = 0 }
+
+abbrev pub taken_both : Taken → Taken → Taken
+taken_both one two = record { new = count_up one.new two.new; held = count_up one.held two.held }
+
+-- with a commit, and what was handed over for it: it is a batch, where that had a record
 abbrev pub commit_counted : ServeCounts → Taken → ServeCounts
 commit_counted c taken = record c {
   new = count_up c.new taken.new;
   held = count_up c.held taken.held;
-  batches = count_up c.batches 1;
+  batches = count_up c.batches (min 1 (taken.new + taken.held));
 }
 
 -- a commit is counted, or none is

@@ -1,5 +1,6 @@
 -- What a server makes of one event.
 use Rattle.std.specs.Prelude.{◌≡◌, ◌-◌, ℕ, Bool, true, false, List, [], ◌++◌, length, slice_get, Option, Some, None}
+use Rattle.std.specs.Prelude.{Result, Ok, Err}
 use Rattle.collect_engine.specs.Receiving.{IfNotMemory, IfRefused, MayNotOpen, ReceivesAs}
 use Rattle.collect_engine.specs.declared.receiving.Received.{Received}
 use Rattle.collect_engine.specs.declared.receiving.Received.TheVariants as received
@@ -7,6 +8,8 @@ use Rattle.syslog_legacy.specs.declared.frame_reading.FrameReading.{FrameReading
 use Rattle.syslog_collect.specs.Collectors.{limit_of, reading_of}
 use Rattle.syslog_collect.specs.History.{AcceptedEvent, Opened, Piece, Ended, Datagram, history_of}
 use Rattle.syslog_collect.specs.declared.collector.Collector.{Collector}
+use Rattle.syslog_collect.specs.declared.fault.CollectFault.{CollectFault}
+use Rattle.syslog_collect.specs.declared.fault.CollectFault.TheVariants as fault
 use Rattle.syslog_collect.specs.declared.outcome.Outcome.{Outcome}
 use Rattle.socket_source.specs.declared.step.ServerStep.{ServerStep}
 use Rattle.socket_source.specs.declared.step.ServerStep.TheVariants as step
@@ -47,17 +50,36 @@ IsReceivedAs way before e r os own = (w : ℕ → ℕ) × (v : ℕ → ℕ) × N
     × ReceivesAs way.reading (history_of before) w v e r os own
     × IfRefused r (MayNotOpen way.limit (history_of before) e)
 
--- how it goes on after an event
-abbrev pub turn_of : Received → Turn
-turn_of received.Accepted = On
-turn_of (received.Unterminated start) = On
-turn_of received.Refused = On
-turn_of received.Memory = End Memory
+-- what became of an opening
+abbrev pub opening_of : {U : Type 0} → Result U CollectFault → Received
+opening_of (Ok u) = received.Accepted
+opening_of (Err (fault.Memory used)) = received.Memory
+opening_of (Err fault.AlreadyOpen) = received.Refused
+opening_of (Err fault.TooManyOpen) = received.Refused
+opening_of (Err fault.NotOpen) = received.Refused
+opening_of (Err fault.ConnFailed) = received.Refused
+opening_of (Err fault.StreamTooLong) = received.Refused
+opening_of (Err fault.Unreleased) = received.Refused
+opening_of (Err (fault.Unterminated start)) = received.Refused
+
+-- how it goes on where memory was wanted for what an open connection or a datagram had
+abbrev pub turn_after : Received → Turn
+turn_after received.Accepted = On
+turn_after (received.Unterminated start) = On
+turn_after received.Refused = On
+turn_after received.Memory = End Memory
+
+-- how it goes on after an event: always with the next step, where that is an opening
+abbrev pub turn_of : AcceptedEvent → Received → Turn
+turn_of (Opened c k) r = On
+turn_of (Piece c o) r = turn_after r
+turn_of (Ended c) r = turn_after r
+turn_of (Datagram o) r = turn_after r
 
 -- a collector makes this of an event that comes after others, and so it goes on
 abbrev pub Receives : Manner → List AcceptedEvent → AcceptedEvent → List AcceptedEvent → Turn → Type 0
 Receives way before e own turn = (r : Received) × (os : List Outcome) × IsReceivedAs way before e r os own
-    × (turn ≡ turn_of r)
+    × (turn ≡ turn_of e r)
 
 -- the last of outcomes is a bad count
 abbrev pub bad_last : Option Outcome → Bool
@@ -91,8 +113,8 @@ loses (Datagram o) r os = false
 -- behind a piece whose connection is lost, that one ends; behind any other event nothing comes
 abbrev pub EndsLost : Bool → Manner → List AcceptedEvent → AcceptedEvent → Received → List AcceptedEvent → Turn
     → Type 0
-EndsLost false way events e r closing turn = (closing ≡ []) × (turn ≡ turn_of r)
-EndsLost true way events (Opened c k) r closing turn = (closing ≡ []) × (turn ≡ turn_of r)
+EndsLost false way events e r closing turn = (closing ≡ []) × (turn ≡ turn_of e r)
+EndsLost true way events (Opened c k) r closing turn = (closing ≡ []) × (turn ≡ turn_of (Opened c k) r)
 EndsLost true way events (Piece c o) r closing turn = Receives way events (Ended c) closing turn
 EndsLost true way events (Ended c) r closing turn = ⊥
 EndsLost true way events (Datagram o) r closing turn = ⊥

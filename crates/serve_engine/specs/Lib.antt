@@ -1,8 +1,11 @@
 pub mod Keepings
 pub mod Lines
+pub mod Peers
+pub mod Rows
 pub mod Events
 pub mod Refusals
 pub mod Counts
+pub mod Paces
 pub mod Intakes
 pub mod Serving
 pub mod Servers

@@ -145,13 +145,25 @@ abbrev pub is_over : Option Given → Bool
 is_over None = false
 is_over (Some g) = is_last g.step
 
--- why a step ends a run: it says so; or the disk failed at a commit; or memory ran out
+-- it says that a connection was opened
+abbrev pub is_opening : ServerStep → Bool
+is_opening (step.Opened conn listener framing peer) = true
+is_opening (step.Piece conn len) = false
+is_opening (step.Ended conn end) = false
+is_opening (step.Datagram listener peer len) = false
+is_opening (step.TurnedAway listener framing peer) = false
+is_opening step.Tick = false
+is_opening step.InputEnded = false
+is_opening step.Finished = false
+is_opening (step.Failed fault) = false
+
+-- why a step ends a run: it says so; or the disk failed at a commit; or memory ran out, but for an opening
 abbrev pub IsStepTurn : ServerStep → Turn → Type 0
 IsStepTurn s On = Unit {0}
 IsStepTurn s (End Finished) = s ≡ step.Finished
 IsStepTurn s (End (Source fault)) = s ≡ step.Failed fault
 IsStepTurn s (End Disk) = asks_commit s ≡ true
-IsStepTurn s (End Memory) = Unit {0}
+IsStepTurn s (End Memory) = is_opening s ≡ false
 IsStepTurn s (End Endless) = ⊥
 
 -- the same where the disk was full and was tried again
@@ -188,6 +200,14 @@ abbrev pub FaultsAs : KeepFault → Bool → Turn → Type 0
 FaultsAs keep.Full full turn = (turn ≡ On) × (full ≡ true)
 FaultsAs keep.Failed full turn = turn ≡ End Disk
 FaultsAs keep.Memory full turn = turn ≡ End Memory
+
+-- where the disk is full, that was told
+abbrev pub IsToldFull : Bool → Bool → Type 0
+IsToldFull full told = full ≡ true → told ≡ true
+
+-- that was told before still is; and where the turn goes on, it is told where the disk is full then
+abbrev pub TellsFull : Turn → Bool → Bool → Bool → Type 0
+TellsFull turn told full told_new = (told ≡ true → told_new ≡ true) × (turn ≡ On → IsToldFull full told_new)
 
 -- it ends so, unless the disk is full
 abbrev pub EndsUnlessFull : Bool → ServeEnd → Turn → Type 0

@@ -20,7 +20,7 @@ pub struct ServeCounts {
     pub too_long: u64,
     /// Connections that were opened.
     pub connections: u64,
-    /// Commits.
+    /// Commits of a record or more.
     pub batches: u64,
     /// Octets of pieces and datagrams.
     pub octets: u64,
@@ -28,6 +28,8 @@ pub struct ServeCounts {
     pub broken: u64,
     /// Lines that could not be written.
     pub dropped: u64,
+    /// Lines on frames and connections that the pace of the notes left out.
+    pub quiet: u64,
 }
 
 impl ServeCounts {

@@ -1,12 +1,13 @@
 //! Where events go: a collector, and what keeps its records.
-ghost use Rattle.std.specs.Prelude.{◌≡◌, ◌++◌, ⊤, [], List, OnOk};
+ghost use Rattle.std.specs.Prelude.{◌≡◌, ◌++◌, ⊤, [], List, IfOk, OnErr, OnOk};
 ghost use Rattle.archive_text.specs.Entries.{Entry};
 ghost use Rattle.collect_engine.specs.Receiving.{HearsReceived, IfNotMemory, IfRefused, MayNotOpen, ReceivesAs};
 ghost use Rattle.syslog_collect.specs.Collectors.{NoneWaits, limit_of, reading_of, store_of, waits_of};
-ghost use Rattle.syslog_collect.specs.History.{AcceptedEvent, Piece, history_of, stream_of};
+ghost use Rattle.syslog_collect.specs.History.{AcceptedEvent, Opened, Piece, history_of, stream_of};
 ghost use Rattle.syslog_collect.specs.Runs.{accepted_event};
-ghost use Rattle.serve_engine.specs.Events.{manner_of};
-ghost use Rattle.serve_engine.specs.Intakes.{IsCommitted, StandsBy};
+ghost use Rattle.serve_engine.specs.Counts.{no_taken};
+ghost use Rattle.serve_engine.specs.Events.{manner_of, opening_of};
+ghost use Rattle.serve_engine.specs.Intakes.{AddsTaken, IsCommitted, StandsBy};
 ghost use Rattle.serve_engine.specs.Keepings.{Kept};
 ghost use Rattle.serve_engine.specs.Serving.{StandsOn};
 
@@ -14,13 +15,27 @@ use crate::keeping::{KeepFault, Keeping, Taken};
 use archive_text::Store;
 use collect_engine::{Received, receive, receive_piece};
 use std::alloc::Global;
-use syslog_collect::{Collector, Event, Observer, Outcome};
+use syslog_collect::{CollectFault, Collector, Event, Observer, Outcome};
+use syslog_frame::Framing;
+
+// What became of an opening.
+fn opening_of(answer: Result<(), CollectFault>) -> Received
+    ensures { result ≡ opening_of answer }
+{
+    match answer {
+        Ok(()) => Received::Accepted,
+        Err(CollectFault::Memory { .. }) => Received::Memory,
+        Err(_) => Received::Refused,
+    }
+}
 
 /// A collector over a set of what came since the last hand-over, and what keeps the rest.
 #[derive(Drop)]
 pub(crate) struct Intake<S, K> {
     pub(crate) collector: Collector<S>,
     pub(crate) keeper: K,
+    /// What was handed over and is not committed.
+    pub(crate) handed: Taken,
     /// The outcomes of the last event.
     pub(crate) outcomes: Vec<Outcome>,
 }
@@ -33,9 +48,29 @@ impl<S: Store + Drop, K: Keeping<S> + Drop> Intake<S, K> {
         let Intake {
             collector: _,
             keeper,
+            handed: _,
             outcomes: _,
         } = self;
         keeper
+    }
+
+    /// Opens a connection in the collector.
+    pub(crate) fn open(&mut self, alloc: Global, conn: u32, framing: Framing) -> Received
+        ensures received { (k : Kept) (first : List Entry) (before : List AcceptedEvent)
+            → StandsBy S.entries K.stands self.old k first before
+            → (accepted : List AcceptedEvent)
+            × StandsBy S.entries K.stands self.new k first (before ++ accepted)
+            × ReceivesAs (reading_of self.old.collector) (history_of before) (waits_of self.old.collector)
+            (waits_of self.new.collector) (Opened conn framing) result [] accepted }
+        ensures room { (k : Kept) (first : List Entry) (before : List AcceptedEvent)
+            → StandsBy S.entries K.stands self.old k first before
+            → IfRefused result (MayNotOpen (limit_of self.old.collector) (history_of before)
+            (Opened conn framing)) }
+        ensures settled { NoneWaits self.old.collector → NoneWaits self.new.collector }
+        ensures manner { manner_of self.new.collector ≡ manner_of self.old.collector }
+    {
+        let answer = self.collector.open_conn(alloc, conn, framing);
+        opening_of(answer)
     }
 
     /// Gives an event to the collector.
@@ -103,6 +138,7 @@ impl<S: Store + Drop, K: Keeping<S> + Drop> Intake<S, K> {
         ensures empty { OnOk result (S.entries (store_of self.new.collector) ≡ []) }
         ensures settled { NoneWaits self.old.collector → NoneWaits self.new.collector }
         ensures manner { manner_of self.new.collector ≡ manner_of self.old.collector }
+        ensures handed { self.new.handed ≡ self.old.handed }
     {
         let fresh = self.collector.store_mut();
         self.keeper.take(alloc, fresh)
@@ -114,21 +150,28 @@ impl<S: Store + Drop, K: Keeping<S> + Drop> Intake<S, K> {
             (λ j. j.committed ≡ j.held)) }
         ensures stands { StandsOn S.entries K.stands self.old self.new (λ _. ⊤) }
         ensures collector { self.new.collector ≡ self.old.collector }
+        ensures handed { self.new.handed ≡ self.old.handed }
     {
         self.keeper.commit(alloc)
     }
 
-    /// Commits all that came.
+    /// Commits all that came, and says what was handed over since the last commit.
     pub(crate) fn commit(&mut self, alloc: Global) -> Result<Taken, KeepFault>
         ensures ok { OnOk result (StandsOn S.entries K.stands self.old self.new
             (IsCommitted S.entries self.new)) }
         ensures stands { StandsOn S.entries K.stands self.old self.new (λ _. ⊤) }
         ensures settled { NoneWaits self.old.collector → NoneWaits self.new.collector }
         ensures manner { manner_of self.new.collector ≡ manner_of self.old.collector }
+        ensures taken { IfOk result (λ taken. AddsTaken self.old.handed taken) }
+        ensures handed { OnOk result (self.new.handed ≡ no_taken) }
+        ensures waits { OnErr result (AddsTaken self.old.handed self.new.handed) }
     {
         let taken = self.hand_over(alloc)?;
+        let all = self.handed.and(taken);
+        self.handed = all;
         self.commit_held(alloc)?;
-        Ok(taken)
+        self.handed = Taken::none();
+        Ok(all)
     }
 
     /// Opens the store again.

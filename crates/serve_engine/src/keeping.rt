@@ -1,5 +1,6 @@
 //! What keeps records through crashes, as a server sees it.
 ghost use Rattle.std.specs.Prelude.{◌≡◌, [], OnErr, OnOk};
+ghost use Rattle.serve_engine.specs.Counts.{no_taken, taken_both};
 ghost use Rattle.serve_engine.specs.Keepings.{HandsOver, Kept, all_committed};
 
 use archive_text::Store;
@@ -27,6 +28,25 @@ pub struct Taken {
     pub new: u64,
     /// How many had.
     pub held: u64,
+}
+
+impl Taken {
+    // What became of no record.
+    pub(crate) fn none() -> Taken
+        ensures { result ≡ no_taken }
+    {
+        Taken { new: 0, held: 0 }
+    }
+
+    // What became of these records and more.
+    pub(crate) fn and(self, more: Taken) -> Taken
+        ensures { result ≡ taken_both self more }
+    {
+        Taken {
+            new: self.new.saturating_add(more.new),
+            held: self.held.saturating_add(more.held),
+        }
+    }
 }
 
 /// What keeps records through crashes: a store on a disk. It is handed sets of records, and commits

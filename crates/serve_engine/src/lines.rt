@@ -24,6 +24,8 @@ pub(crate) enum Happening {
     Idle,
     /// There was no room for it.
     TurnedAway,
+    /// There was no memory for it.
+    NoMemory,
 }
 
 fn put(out: &mut Vec<u8>, text: &[u8]) -> Result<(), AllocError> {
@@ -116,6 +118,7 @@ pub(crate) fn put_happening(
         Happening::Reset => put_peer(alloc, out, way, b" reset\n"),
         Happening::Idle => put_peer(alloc, out, way, b" idle\n"),
         Happening::TurnedAway => put_peer(alloc, out, way, b" closed: too many connections\n"),
+        Happening::NoMemory => put_peer(alloc, out, way, b" closed: want of memory\n"),
     }
 }
 
@@ -134,5 +137,6 @@ pub(crate) fn put_counts(out: &mut Vec<u8>, counts: &ServeCounts) -> Result<(), 
     put_count(out, b" connections ", counts.connections)?;
     put_count(out, b" batches ", counts.batches)?;
     put_count(out, b" octets ", counts.octets)?;
+    put_count(out, b" quiet ", counts.quiet)?;
     put(out, b"\n")
 }

@@ -1,7 +1,10 @@
 //! Who is at the other end of each open connection.
+ghost use Rattle.std.specs.Prelude.{◌≡◌};
+ghost use Rattle.std.specs.Net.Socket.{socket_ip};
+ghost use Rattle.serve_engine.specs.Peers.{number_of, peer_of};
 
 use std::alloc::{AllocError, Global};
-use std::net::SocketAddr;
+use std::net::{IpAddr, SocketAddr};
 use syslog_frame::Framing;
 
 /// Where octets come from.
@@ -13,6 +16,28 @@ pub(crate) enum Way {
     Unix,
     /// A connection.
     Stream(Framing, SocketAddr),
+}
+
+// The bits of an IPv6 address; of an IPv4 address those of the IPv6 address that maps it.
+fn number_of(peer: SocketAddr) -> u128
+    ensures { result ≡ number_of (socket_ip peer) }
+{
+    match peer.ip() {
+        IpAddr::V4(ip) => 0xffff_0000_0000 + u128::from(ip.to_bits()),
+        IpAddr::V6(ip) => ip.to_bits(),
+    }
+}
+
+impl Way {
+    /// The number of the peer, whatever its port. All senders without an address are one peer.
+    pub(crate) fn peer(self) -> u128
+        ensures { result ≡ peer_of self }
+    {
+        match self {
+            Way::Udp(peer) | Way::Stream(_, peer) => number_of(peer),
+            Way::Unix => 0,
+        }
+    }
 }
 
 /// The way of each open connection, by its number.

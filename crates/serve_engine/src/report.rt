@@ -1,13 +1,16 @@
 //! What a server tells: lines, counts, and the frames that it refuses.
-ghost use Rattle.std.specs.Prelude.{◌≡◌, ◌≤◌, false};
+ghost use Rattle.std.specs.Prelude.{◌≡◌, ◌≤◌, false, true};
 ghost use Rattle.serve_engine.specs.Counts.{CountsDropped, CountsEnd, connection_counted, count_up, counted, no_counts};
-ghost use Rattle.serve_engine.specs.Counts.{commit_counted, octets_counted};
+ghost use Rattle.serve_engine.specs.Counts.{commit_counted, octets_counted, quiet_counted};
+ghost use Rattle.serve_engine.specs.Paces.{GoesByPace, HasLine, PaysFor, SpendsLine};
+ghost use Rattle.serve_engine.specs.Peers.{peer_of};
 ghost use Rattle.serve_engine.specs.Refusals.{KeepsEach, KeepsFrame, KeepsNext, KeepsNone, KeepsSilent, kept_in};
 ghost use Rattle.serve_engine.specs.Refusals.{octets_in, outputs_in};
 
 use crate::counts::ServeCounts;
 use crate::keeping::Taken;
 use crate::lines::{Happening, put_counts, put_happening, put_refused};
+use crate::pace::Pace;
 use crate::peers::Way;
 use crate::refusals::put_refusal;
 use crate::serve_end::ServeEnd;
@@ -30,10 +33,11 @@ pub(crate) struct Report<N, R> {
     line: Vec<u8>,
     // the last frame that was kept, behind its line
     kept: Vec<u8>,
+    pub(crate) pace: Pace,
 }
 
 impl<N: Output + Drop, R: Output + Drop> Report<N, R> {
-    pub(crate) fn new(alloc: Global, notes: N, refused: R) -> Report<N, R>
+    pub(crate) fn new(alloc: Global, pace: Pace, notes: N, refused: R) -> Report<N, R>
         ensures counts { result.counts ≡ no_counts }
         ensures outputs { outputs_in result ≡ (notes, refused) }
     {
@@ -51,11 +55,13 @@ impl<N: Output + Drop, R: Output + Drop> Report<N, R> {
                 octets: 0,
                 broken: 0,
                 dropped: 0,
+                quiet: 0,
             },
             number: 1,
             way: Way::Unix,
             line: Vec::new(alloc),
             kept: Vec::new(alloc),
+            pace,
         }
     }
 
@@ -71,6 +77,7 @@ impl<N: Output + Drop, R: Output + Drop> Report<N, R> {
             way: _,
             line: _,
             kept: _,
+            pace: _,
         } = self;
         (notes, refused)
     }
@@ -80,20 +87,49 @@ impl<N: Output + Drop, R: Output + Drop> Report<N, R> {
         ensures refused { self.new.refused ≡ self.old.refused }
         ensures dropped { self.old.counts.dropped ≤ self.new.counts.dropped }
         ensures counts { CountsDropped self.old.counts self.new.counts }
+        ensures quiet { self.new.counts.quiet ≡ self.old.counts.quiet }
+        ensures pace { self.new.pace ≡ self.old.pace }
     {
         if made.is_err() || write_all(&mut self.notes, self.line.as_slice()).is_err() {
             self.counts.dropped = self.counts.dropped.saturating_add(1);
         }
     }
 
-    /// Tells what happened to a connection.
+    // Writes the line that was made on a peer, if the pace has one for it, or counts it as quiet.
+    fn write_paced(&mut self, way: Way, made: Result<(), AllocError>)
+        ensures refused { self.new.refused ≡ self.old.refused }
+        ensures dropped { self.old.counts.dropped ≤ self.new.counts.dropped }
+        ensures counts { CountsDropped self.old.counts self.new.counts }
+        ensures pace { GoesByPace self.old.pace self.new.pace (peer_of way) self.old.counts.quiet
+            self.new.counts.quiet }
+        ensures quiet { ¬ (HasLine self.old.pace (peer_of way))
+            → self.new ≡ record self.old { counts = quiet_counted self.old.counts } }
+    {
+        if self.pace.lets(way.peer()) {
+            self.write_line(made);
+        } else {
+            count_up(&mut self.counts.quiet, 1);
+        }
+    }
+
+    /// Tells what happened to a connection, at the pace of the notes.
     pub(crate) fn tell(&mut self, alloc: Global, way: Way, happening: Happening)
         ensures kept { KeepsNone (kept_in R.state self.old) (kept_in R.state self.new) }
         ensures counts { CountsDropped self.old.counts self.new.counts }
+        ensures pace { GoesByPace self.old.pace self.new.pace (peer_of way) self.old.counts.quiet
+            self.new.counts.quiet }
     {
         self.line.clear();
         let made = put_happening(alloc, &mut self.line, way, happening);
-        self.write_line(made);
+        self.write_paced(way, made);
+    }
+
+    /// Time has passed, which pays for lines.
+    pub(crate) fn tick(&mut self, millis: u32)
+        ensures kept { kept_in R.state self.new ≡ kept_in R.state self.old }
+        ensures pace { PaysFor self.old.pace self.new.pace millis }
+    {
+        self.pace.tick(millis);
     }
 
     /// Tells a line whose text is known.
@@ -107,7 +143,8 @@ impl<N: Output + Drop, R: Output + Drop> Report<N, R> {
 
     /// Tells the counts.
     pub(crate) fn tell_counts(&mut self)
-        ensures { KeepsSilent false (kept_in R.state self.old) (kept_in R.state self.new) }
+        ensures kept { KeepsSilent false (kept_in R.state self.old) (kept_in R.state self.new) }
+        ensures pace { self.new.pace ≡ self.old.pace }
     {
         self.line.clear();
         let made = put_counts(&mut self.line, &self.counts);
@@ -138,6 +175,8 @@ impl<N: Output + Drop, R: Output + Drop> Report<N, R> {
         ensures refused { self.new.refused ≡ self.old.refused }
         ensures dropped { self.new.counts.dropped ≡ count_up self.old.counts.dropped 1 }
         ensures counts { CountsDropped self.old.counts self.new.counts }
+        ensures quiet { self.new.counts.quiet ≡ self.old.counts.quiet }
+        ensures pace { self.new.pace ≡ self.old.pace }
     {
         count_up(&mut self.counts.dropped, 1);
     }
@@ -147,6 +186,8 @@ impl<N: Output + Drop, R: Output + Drop> Report<N, R> {
         ensures kept { KeepsFrame (R.state self.old.refused) (R.state self.new.refused) (octets_in frame.entry)
             self.old.counts.dropped self.new.counts.dropped }
         ensures counts { CountsDropped self.old.counts self.new.counts }
+        ensures quiet { self.new.counts.quiet ≡ self.old.counts.quiet }
+        ensures pace { self.new.pace ≡ self.old.pace }
     {
         self.kept.clear();
         let line = without_lf(self.line.as_slice());
@@ -159,7 +200,7 @@ impl<N: Output + Drop, R: Output + Drop> Report<N, R> {
         }
     }
 
-    // Tells a frame of this number that is refused, and keeps it.
+    // Tells a frame of this number that is refused, at the pace of the notes, and keeps it.
     fn refuse(
         &mut self,
         alloc: Global,
@@ -171,10 +212,12 @@ impl<N: Output + Drop, R: Output + Drop> Report<N, R> {
         ensures kept { KeepsFrame (R.state self.old.refused) (R.state self.new.refused) (octets_in frame.entry)
             self.old.counts.dropped self.new.counts.dropped }
         ensures counts { CountsDropped self.old.counts self.new.counts }
+        ensures pace { GoesByPace self.old.pace self.new.pace (peer_of way) self.old.counts.quiet
+            self.new.counts.quiet }
     {
         self.line.clear();
         let made = put_refused(alloc, &mut self.line, way, number, outcome);
-        self.write_line(made);
+        self.write_paced(way, made);
         self.keep_refused(alloc, frame);
     }
 
@@ -250,15 +293,27 @@ impl<N: Output + Drop, R: Output + Drop> Report<N, R> {
             ConnectionEnd::Closed => {}
             ConnectionEnd::Reset => self.tell(alloc, way, Happening::Reset),
             ConnectionEnd::Idle => self.tell(alloc, way, Happening::Idle),
+            ConnectionEnd::Displaced => self.tell(alloc, way, Happening::TurnedAway),
         }
     }
 
-    /// Tells that the disk is full, unless it was full before.
-    pub(crate) fn tell_full(&mut self, before: bool)
-        ensures { KeepsSilent false (kept_in R.state self.old) (kept_in R.state self.new) }
+    /// Tells that the disk is full, unless that was told before.
+    pub(crate) fn tell_full(&mut self, told: bool)
+        ensures kept { KeepsSilent false (kept_in R.state self.old) (kept_in R.state self.new) }
+        ensures once { told ≡ true → self.new ≡ self.old }
     {
-        if !before {
+        if !told {
             self.tell_text(b"store full\n");
+        }
+    }
+
+    /// Tells that the disk has room again, where it was told that it is full.
+    pub(crate) fn tell_room(&mut self, told: bool)
+        ensures kept { KeepsSilent false (kept_in R.state self.old) (kept_in R.state self.new) }
+        ensures once { told ≡ false → self.new ≡ self.old }
+    {
+        if told {
+            self.tell_text(b"store has room\n");
         }
     }
 
@@ -294,7 +349,10 @@ impl<N: Output + Drop, R: Output + Drop> Report<N, R> {
     {
         count_up(&mut self.counts.new, taken.new);
         count_up(&mut self.counts.held, taken.held);
-        count_up(&mut self.counts.batches, 1);
+        count_up(
+            &mut self.counts.batches,
+            u64::from(taken.new > 0 || taken.held > 0),
+        );
     }
 }
 

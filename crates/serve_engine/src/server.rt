@@ -5,7 +5,8 @@ ghost use Rattle.serve_engine.specs.Counts.{no_counts};
 
 use crate::counts::ServeCounts;
 use crate::intake::Intake;
-use crate::keeping::Keeping;
+use crate::keeping::{Keeping, Taken};
+use crate::pace::Pace;
 use crate::peers::Peers;
 use crate::report::Report;
 use archive_text::Store;
@@ -22,6 +23,8 @@ pub struct Server<S, K, N, R> {
     pub(crate) peers: Peers,
     /// Whether the disk is full, so that nothing is read.
     pub(crate) full: bool,
+    /// Whether it was told that the disk is full, and not since that it has room.
+    pub(crate) told: bool,
     /// How many ticks have come since the counts were told.
     pub(crate) ticks: u64,
 }
@@ -46,11 +49,13 @@ impl<S: Store + Drop, K: Keeping<S> + Drop, N: Output + Drop, R: Output + Drop> 
             intake: Intake {
                 collector,
                 keeper,
+                handed: Taken::none(),
                 outcomes: Vec::new(alloc),
             },
-            report: Report::new(alloc, notes, refused),
+            report: Report::new(alloc, Pace::new(alloc)?, notes, refused),
             peers: Peers::new(alloc, CONNECTIONS_MAX)?,
             full: false,
+            told: false,
             ticks: 0,
         })
     }
@@ -65,6 +70,7 @@ impl<S: Store + Drop, K: Keeping<S> + Drop, N: Output + Drop, R: Output + Drop> 
             report,
             peers: _,
             full: _,
+            told: _,
             ticks: _,
         } = self;
         let (notes, refused) = report.into_outputs();

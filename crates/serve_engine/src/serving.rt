@@ -23,6 +23,8 @@ pub struct ServeOptions {
     pub checkpoint_len: u64,
     /// After how many ticks the counts are told; 0 means never.
     pub count_ticks: u64,
+    /// How many milliseconds a tick stands for; the pace of the notes goes by it.
+    pub tick_millis: u32,
 }
 
 impl<S: Store + Drop, K: Keeping<S> + Drop, N: Output + Drop, R: Output + Drop> Server<S, K, N, R> {

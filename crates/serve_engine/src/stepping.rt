@@ -4,12 +4,13 @@ ghost use Rattle.archive_text.specs.Entries.{Entry};
 ghost use Rattle.socket_source.specs.Steps.{Closes};
 ghost use Rattle.syslog_collect.specs.Collectors.{NoneWaits};
 ghost use Rattle.syslog_collect.specs.History.{AcceptedEvent, Datagram, Ended, Opened, Piece};
-ghost use Rattle.serve_engine.specs.Events.{Receives, bad_last, ends_in_bad_count, manner_of, turn_of};
+ghost use Rattle.serve_engine.specs.Events.{Receives, bad_last, ends_in_bad_count, manner_of, turn_after};
 ghost use Rattle.serve_engine.specs.Intakes.{StandsBy};
 ghost use Rattle.serve_engine.specs.Keepings.{Kept};
+ghost use Rattle.serve_engine.specs.Paces.{PaysFor};
 ghost use Rattle.serve_engine.specs.Refusals.{KeepsSilent, kept_in};
 ghost use Rattle.serve_engine.specs.Serving.{Accepts, ClosesLost, CommitsAll, EndsUnlessFull, FaultsAs, IfSettled};
-ghost use Rattle.serve_engine.specs.Serving.{IsCommitTurn, IsEventTurn, UnlessStopped};
+ghost use Rattle.serve_engine.specs.Serving.{IsCommitTurn, IsEventTurn, IsToldFull, TellsFull, UnlessStopped};
 ghost use Rattle.serve_engine.specs.declared.serve_end.ServeEnd.TheVariants.{Disk, Memory};
 ghost use Rattle.serve_engine.specs.declared.turn.Turn.TheVariants.{End, On};
 
@@ -54,9 +55,9 @@ fn way_of(peer: Option<SocketAddr>) -> Way {
     }
 }
 
-// How it goes on after an event.
+// How it goes on after an event that is no opening.
 fn turn_after(received: Received) -> Turn
-    ensures { result ≡ turn_of received }
+    ensures { result ≡ turn_after received }
 {
     match received {
         Received::Memory => Turn::End(ServeEnd::Memory),
@@ -64,8 +65,18 @@ fn turn_after(received: Received) -> Turn
     }
 }
 
+// Why a connection was not opened.
+fn not_opened(received: Received) -> Happening {
+    match received {
+        Received::Memory => Happening::NoMemory,
+        Received::Accepted | Received::Refused | Received::Unterminated { .. } => {
+            Happening::TurnedAway
+        }
+    }
+}
+
 impl<S: Store + Drop, K: Keeping<S> + Drop, N: Output + Drop, R: Output + Drop> Server<S, K, N, R> {
-    // A connection was opened.
+    // A connection was opened. Where there is no room or no memory for it, it is closed.
     pub(crate) fn opened<Q: ServerSource>(
         &mut self,
         alloc: Global,
@@ -79,10 +90,10 @@ impl<S: Store + Drop, K: Keeping<S> + Drop, N: Output + Drop, R: Output + Drop> 
             (kept_in R.state self.old.report) (kept_in R.state self.new.report) }
         ensures manner { manner_of self.new.intake.collector ≡ manner_of self.old.intake.collector }
         ensures full { self.new.full ≡ self.old.full }
-        ensures turn { IsEventTurn result }
+        ensures turn { result ≡ On }
     {
         let way = Way::Stream(framing, peer);
-        match self.intake.receive(alloc, Event::Opened { conn, framing }) {
+        match self.intake.open(alloc, conn, framing) {
             Received::Accepted => {
                 self.peers.set(conn, Some(way));
                 self.report.count_connection();
@@ -90,8 +101,8 @@ impl<S: Store + Drop, K: Keeping<S> + Drop, N: Output + Drop, R: Output + Drop> 
             }
             received => {
                 source.close(conn);
-                self.report.tell(alloc, way, Happening::TurnedAway);
-                turn_after(received)
+                self.report.tell(alloc, way, not_opened(received));
+                Turn::On
             }
         }
     }
@@ -200,11 +211,13 @@ impl<S: Store + Drop, K: Keeping<S> + Drop, N: Output + Drop, R: Output + Drop> 
     fn fault(&mut self, fault: KeepFault) -> Turn
         ensures same { self.new.intake ≡ self.old.intake }
         ensures turn { FaultsAs fault self.new.full result }
+        ensures told { TellsFull result self.old.told self.new.full self.new.told }
         ensures kept { KeepsSilent false (kept_in R.state self.old.report) (kept_in R.state self.new.report) }
     {
         match fault {
             KeepFault::Full => {
-                self.report.tell_full(self.full);
+                self.report.tell_full(self.told);
+                self.told = true;
                 self.full = true;
                 Turn::On
             }
@@ -223,6 +236,7 @@ impl<S: Store + Drop, K: Keeping<S> + Drop, N: Output + Drop, R: Output + Drop> 
         ensures manner { manner_of self.new.intake.collector ≡ manner_of self.old.intake.collector }
         ensures turn { IsCommitTurn result }
         ensures kept { KeepsSilent true (kept_in R.state self.old.report) (kept_in R.state self.new.report) }
+        ensures told { TellsFull result self.old.told self.new.full self.new.told }
     {
         match self.intake.commit(alloc) {
             Ok(taken) => {
@@ -243,6 +257,8 @@ impl<S: Store + Drop, K: Keeping<S> + Drop, N: Output + Drop, R: Output + Drop> 
         ensures full { UnlessStopped result self.new.full (self.old.full ≡ false) }
         ensures turn { IsCommitTurn result }
         ensures kept { KeepsSilent false (kept_in R.state self.old.report) (kept_in R.state self.new.report) }
+        ensures told { IsToldFull self.old.full self.old.told
+            → TellsFull result self.old.told self.new.full self.new.told }
     {
         if self.full || self.intake.keeper.journal_len() <= checkpoint_len {
             return Turn::On;
@@ -253,16 +269,54 @@ impl<S: Store + Drop, K: Keeping<S> + Drop, N: Output + Drop, R: Output + Drop> 
         }
     }
 
-    // Counts a tick, and tells the counts each so often.
-    fn count_tick(&mut self, count_ticks: u64)
+    // Counts a tick, which pays for lines, and tells the counts each so often.
+    fn count_tick(&mut self, options: &ServeOptions)
         ensures same { self.new.intake ≡ self.old.intake }
         ensures full { self.new.full ≡ self.old.full }
         ensures kept { KeepsSilent false (kept_in R.state self.old.report) (kept_in R.state self.new.report) }
+        ensures pace { PaysFor self.old.report.pace self.new.report.pace options.now.tick_millis }
+        ensures told { self.new.told ≡ self.old.told }
     {
+        self.report.tick(options.tick_millis);
         self.ticks = self.ticks.saturating_add(1);
-        if count_ticks != 0 && self.ticks >= count_ticks {
+        if options.count_ticks != 0 && self.ticks >= options.count_ticks {
             self.ticks = 0;
             self.report.tell_counts();
+        }
+    }
+
+    // Tells that the disk has room again, where it was told that it is full and it is not.
+    fn tell_room(&mut self)
+        ensures same { self.new.intake ≡ self.old.intake }
+        ensures full { self.new.full ≡ self.old.full }
+        ensures kept { KeepsSilent false (kept_in R.state self.old.report) (kept_in R.state self.new.report) }
+        ensures told { self.old.full ≡ false → self.new.told ≡ false }
+        ensures waits { self.old.full ≡ true → self.new ≡ self.old }
+    {
+        if !self.full {
+            self.report.tell_room(self.told);
+            self.told = false;
+        }
+    }
+
+    // Makes a checkpoint that is due, and tells that there is room again.
+    fn finish_tick(&mut self, alloc: Global, checkpoint_len: u64) -> Turn
+        ensures stands { (k : Kept) (first : List Entry) (before : List AcceptedEvent)
+            → StandsBy S.entries K.stands self.old.intake k first before
+            → StandsBy S.entries K.stands self.new.intake k first before }
+        ensures collector { self.new.intake.collector ≡ self.old.intake.collector }
+        ensures full { UnlessStopped result self.new.full (self.old.full ≡ false) }
+        ensures turn { IsCommitTurn result }
+        ensures kept { KeepsSilent false (kept_in R.state self.old.report) (kept_in R.state self.new.report) }
+        ensures told { IsToldFull self.old.full self.old.told → result ≡ On
+            → self.new.told ≡ self.new.full }
+    {
+        match self.checkpoint(alloc, checkpoint_len) {
+            Turn::On => {
+                self.tell_room();
+                Turn::On
+            }
+            end => end,
         }
     }
 
@@ -273,11 +327,12 @@ impl<S: Store + Drop, K: Keeping<S> + Drop, N: Output + Drop, R: Output + Drop> 
         ensures manner { manner_of self.new.intake.collector ≡ manner_of self.old.intake.collector }
         ensures turn { IsCommitTurn result }
         ensures kept { KeepsSilent true (kept_in R.state self.old.report) (kept_in R.state self.new.report) }
+        ensures told { result ≡ On → self.new.told ≡ self.new.full }
     {
         match self.commit(alloc) {
             Turn::On => {
-                self.count_tick(options.count_ticks);
-                self.checkpoint(alloc, options.checkpoint_len)
+                self.count_tick(options);
+                self.finish_tick(alloc, options.checkpoint_len)
             }
             end => end,
         }
@@ -319,6 +374,7 @@ impl<S: Store + Drop, K: Keeping<S> + Drop, N: Output + Drop, R: Output + Drop> 
         ensures manner { manner_of self.new.intake.collector ≡ manner_of self.old.intake.collector }
         ensures turn { IsCommitTurn result }
         ensures kept { KeepsSilent true (kept_in R.state self.old.report) (kept_in R.state self.new.report) }
+        ensures told { TellsFull result self.old.told self.new.full self.new.told }
     {
         match self.intake.reopen(alloc) {
             Ok(()) => self.commit(alloc),

@@ -116,6 +116,7 @@ fn served(
     let options = ServeOptions {
         checkpoint_len: 1,
         count_ticks: 2,
+        tick_millis: 100,
     };
     let end = server.serve(alloc, &mut source, &mut pause, &options);
     let counts = server.counts();
@@ -200,7 +201,7 @@ fn steps_are_served_and_told(rt: HostRuntime) -> Result<(), Fail> {
         192.0.2.2:99 reset\n\
         192.0.2.3:7 idle\n\
         192.0.2.4:8 closed: too many connections\n\
-        received 4 new 3 held 1 refused 2 too-long 0 connections 3 batches 2 octets 123\n";
+        received 4 new 3 held 1 refused 2 too-long 0 connections 3 batches 2 octets 123 quiet 0\n";
     assert_eq!(rt; done.notes.as_slice(), notes.as_slice());
     let refused = b"46 udp 192.0.2.1:514 2 syntax timestamp 6\n<13>1 x\
         31 unix - 3 syntax version 4\n<13>x";
@@ -252,9 +253,10 @@ fn a_full_disk_stops_reading(rt: HostRuntime) -> Result<(), Fail> {
     assert_eq!(rt; done.end, ServeEnd::Finished);
     assert_eq!(rt; done.committed, 2);
     assert_eq!(rt; done.pauses, 3);
-    assert_eq!(rt; done.counts.batches, 3);
+    assert_eq!(rt; done.counts.batches, 2);
     let notes = b"store full\n\
-        received 2 new 1 held 0 refused 0 too-long 0 connections 0 batches 2 octets 64\n";
+        received 2 new 2 held 0 refused 0 too-long 0 connections 0 batches 2 octets 64 quiet 0\n\
+        store has room\n";
     assert_eq!(rt; done.notes.as_slice(), notes.as_slice());
     Ok(())
 }
@@ -306,6 +308,7 @@ fn lines_that_cannot_be_written_are_dropped(rt: HostRuntime) -> Result<(), Fail>
     let options = ServeOptions {
         checkpoint_len: 1,
         count_ticks: 0,
+        tick_millis: 100,
     };
     let end = server.serve(alloc, &mut source, &mut CountPause(0), &options);
     assert_eq!(rt; end, ServeEnd::Finished);

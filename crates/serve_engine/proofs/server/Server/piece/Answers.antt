@@ -1,6 +1,6 @@
 use Rattle.std.proofs.Common.{◌++◌, true, false, List, refl, subst, sym, ap, append_assoc, ◌∙◌}
 use Rattle.syslog_collect.specs.History.{AcceptedEvent, Ended, Piece}
-use Rattle.serve_engine.specs.Events.{Manner, Receives, ends_in_bad_count, loses_piece, manner_of, turn_of}
+use Rattle.serve_engine.specs.Events.{Manner, Receives, ends_in_bad_count, loses_piece, manner_of, turn_after}
 use Rattle.serve_engine.specs.Intakes.{StandsBy}
 use Rattle.serve_engine.specs.Refusals.{kept_in}
 use Rattle.serve_engine.proofs.Refused.{hears_kept, kept_at, kept_frames}
@@ -18,7 +18,7 @@ returns-in-Memory-clause-served g c = (
       let taken = accepted_own (manner_of c.args.self.now.intake.collector) before (Piece c.args.conn c.args.octets.now)
       c.receive_piece-received.result os made.0 _
       (_, _, none, quiet, made.2, c.receive_piece-received.ensures.room k first before at)
-      (ap (λ r. loses_piece r os) c.in-Memory.is) (sym (ap turn_of c.in-Memory.is)) in (
+      (ap (λ r. loses_piece r os) c.in-Memory.is) (sym (ap turn_after c.in-Memory.is)) in (
         made.0,
         made.1,
         taken,
