@@ -1,6 +1,6 @@
 -- How many segments come.
-use Rattle.std.proofs.Common.{◌≡◌, inr, ⊎_elim, ℕ, ◌+◌, ◌*◌, ◌<◌, ◌≤◌, ◌^◌, List, [], ◌∷◌, ◌++◌, length, refl, sym, ap, subst}
-use Rattle.std.proofs.Common.{◌∙◌, arith, length-append, suc, zero}
+use Rattle.std.proofs.Common.{◌≡◌, inr, ℕ, ◌+◌, ◌*◌, ◌<◌, ◌≤◌, ◌^◌, List, [], ◌∷◌, ◌++◌, length, refl, sym, ap, subst}
+use Rattle.std.proofs.Common.{arith, length-append, suc, zero}
 use Rattle.std.proofs.Math.Nat.{le_of_mul-le-mul_right, mul-le-mul_right}
 use Rattle.std.proofs.lemmas.Fmt.{length-decimal-le_succ}
 use Rattle.std.specs.List.{AllByRecursion}
@@ -20,7 +20,7 @@ use Rattle.record_store.specs.Names.{Counts}
 use Rattle.record_store.specs.Segments.{SegmentsGrow}
 use Rattle.record_store.proofs.Remaining.{grow_less, grow_then, none_grow}
 use Rattle.durable_store.specs.Segments.{KeepsAside}
-use Rattle.durable_store.specs.Shares.{GrowsBy, HasShare, IsShare}
+use Rattle.durable_store.specs.Shares.{GrowsBy, IsShare}
 
 -- ---- shares, where a count stays at the largest of 64 bits
 

@@ -1,7 +1,6 @@
 use Rattle.std.proofs.Common.{List, ℕ, subst}
 use Rattle.durable_store.specs.Segments.{KeepsAside}
-use Rattle.record_store.specs.Names.{draft_name}
-use Rattle.durable_store.proofs.Daily.{aside_none, removed_aside}
+use Rattle.durable_store.proofs.Daily.{removed_aside}
 use Rattle.durable_store.proofs.mixed.drop_draft.Goals as goal
 
 pub returns-clause-aside : goal.returns-clause-aside

@@ -1,8 +1,6 @@
-use Rattle.std.proofs.Common.{◌≡◌, ℕ, arith, subst, sym}
+use Rattle.std.proofs.Common.{arith}
 use Rattle.archive_pages.specs.Paged.{entries_in}
-use Rattle.archive_text.specs.Text.{text_of}
 use Rattle.journal.specs.Journals.{IsSound}
-use Rattle.record_store.specs.Segments.{SegmentsGrow}
 use Rattle.record_store.specs.Stores.{IsWhole}
 use Rattle.record_store.proofs.Remaining.{grow_less, grow_then}
 use Rattle.durable_store.specs.Causes.{StandsWith}

@@ -1,4 +1,4 @@
-use Rattle.std.proofs.Common.{List, ℕ, [], refl, subst, arith}
+use Rattle.std.proofs.Common.{[], refl, subst, arith}
 use Rattle.std.specs.Prelude.{codes}
 use Rattle.archive_pages.specs.Paged.{entries_in}
 use Rattle.archive_text.specs.Text.{text_of}

@@ -1,4 +1,4 @@
-use Rattle.std.proofs.Common.{List, [], inl, inr, refl, subst, sym, ◌∙◌}
+use Rattle.std.proofs.Common.{List, inl, inr, refl, subst, sym, ◌∙◌}
 use Rattle.std.specs.Prelude.{false}
 use Rattle.archive_text.specs.Entries.{Entry}
 use Rattle.archive_text.specs.EntryViews.{entry_of}

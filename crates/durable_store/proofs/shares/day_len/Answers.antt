@@ -1,8 +1,7 @@
-use Rattle.std.proofs.Common.{◌≡◌, ◌++◌, ◌∷◌, [], List, ap, arith, append_assoc, refl, sym, ◌∙◌}
-use Rattle.std.proofs.lemmas.List.{append-nil}
+use Rattle.std.proofs.Common.{◌++◌, ◌∷◌, [], List, ap, append_assoc, refl, sym, ◌∙◌}
 use Rattle.archive_digest.specs.Periods.{IsIn}
 use Rattle.archive_digest.specs.declared.period.Period.TheVariants.{Day}
-use Rattle.archive_pages.specs.Paged.{at_most_all, entries_from}
+use Rattle.archive_pages.specs.Paged.{entries_from}
 use Rattle.archive_text.specs.Entries.{Entry}
 use Rattle.archive_text.specs.EntryViews.{entry_of}
 use Rattle.archive_text.proofs.Members.{all_append}

@@ -1,6 +1,6 @@
-use Rattle.std.proofs.Common.{◌≡◌, ◌++◌, ◌∷◌, [], List, ap, arith, append_assoc, sym, ◌∙◌, length}
+use Rattle.std.proofs.Common.{◌++◌, ◌∷◌, [], List, ap, arith, append_assoc, sym, ◌∙◌, length}
 use Rattle.std.proofs.lemmas.List.{append-nil}
-use Rattle.archive_pages.specs.Paged.{entries_from, entries_in}
+use Rattle.archive_pages.specs.Paged.{entries_from}
 use Rattle.archive_text.specs.Entries.{Entry}
 use Rattle.archive_text.specs.EntryViews.{entry_of}
 use Rattle.archive_text.specs.Text.{text_of}
