@@ -264,6 +264,7 @@ fn serve_options(words: &ServeWords<'_>) -> ServeOptions {
     ServeOptions {
         checkpoint_len: u64::from(words.options.checkpoint_mib) << 20,
         count_ticks: periods_a_minute(words),
+        tick_millis: words.options.commit_millis.max(1),
     }
 }
 
