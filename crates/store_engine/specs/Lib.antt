@@ -1,3 +1,5 @@
 pub mod Lines
+pub mod NoStores
 pub mod Reading
 pub mod Systems
+pub mod Verifying

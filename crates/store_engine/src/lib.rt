@@ -1,13 +1,15 @@
 //! What the commands on stores do, over any folder: [`read_store`] writes the archive of what a store
-//! holds. [`SystemFolder`] is a folder of the system's files, and [`SystemDisk`] a disk over one.
+//! holds, [`verify_store`] which of its files are damaged. [`SystemFolder`] is a folder of the system's files, and [`SystemDisk`] a disk over one.
 #![tactic(auto)]
 
 mod lines;
 mod read;
 mod system;
 mod system_disk;
+mod verify;
 
-pub use lines::{NoStore, report_no_store};
+pub use lines::{NoStore, report_damaged_file, report_file_error, report_no_store};
 pub use read::{read_store, report_read_fault};
 pub use system::{SystemFolder, Uninterrupted};
 pub use system_disk::{DraftFile, SystemDisk};
+pub use verify::verify_store;

@@ -1,17 +1,22 @@
 //! The lines on a store's files.
-ghost use Rattle.std.specs.Prelude.{◌≡◌, ◌++◌, ◌⊎◌, IfErr, IfOk, codes};
+ghost use Rattle.std.specs.Prelude.{◌≡◌, ◌++◌, ◌⊎◌, ◌↔◌, IfErr, IfOk, IsTrue, codes};
 ghost use Rattle.driver.specs.Devices.{Reports};
 ghost use Rattle.archive_engine.specs.FaultLines.{fault_line};
-ghost use Rattle.store_engine.specs.Lines.{day_line, file_line};
+ghost use Rattle.set_engine.specs.Ended.{TellsLine};
+ghost use Rattle.store_engine.specs.Lines.{day_line, damage_line, file_line};
+ghost use Rattle.store_engine.specs.NoStores.{IsOfMemory};
 
 use archive_engine::report_archive_fault;
 use archive_text::ArchiveFault;
 use driver::{FAULT, NO_MEMORY, REFUSED, report};
+use folder_disk::{FileError, FolderFault, FolderPath};
 use itoa::Buffer;
 use octet_devices::{Output, ToWrite};
 use std::alloc::{AllocError, Global};
-use std::io;
+use std::fmt::Display;
+use std::io::{self, ErrorKind};
 use store_reading::FileFault;
+use store_upkeep::{Damage, DamagedFile};
 use thiserror::Error;
 
 /// A name and words behind it.
@@ -61,6 +66,18 @@ pub(crate) fn damaged_line(
     }
 }
 
+/// The line on a file that is found to be damaged.
+pub(crate) fn damage_line(alloc: Global, file: &DamagedFile) -> Result<Vec<u8>, AllocError>
+    ensures { IfOk result (λ line. line.items ≡ damage_line file.now.name file.now.damage) }
+{
+    let name = file.name.as_octets();
+    match file.damage {
+        Damage::Archive(fault) => archive_line(alloc, name, fault),
+        Damage::OtherDay { at } => other_day_line(alloc, name, at),
+        Damage::Digest => words_on(alloc, name, b" digest\n"),
+    }
+}
+
 /// Reports a line on a file, for which memory may have run out, and returns this exit status;
 /// `NO_MEMORY` if it has, and `FAULT` if the line cannot be written.
 pub(crate) fn report_line<N: Output>(
@@ -79,7 +96,16 @@ pub(crate) fn report_line<N: Output>(
     }
 }
 
-/// Why a folder is no store.
+/// Reports that a file is damaged, and returns `REFUSED`; or `NO_MEMORY` if memory runs out for the line,
+/// and `FAULT` if it cannot be written.
+pub fn report_damaged_file<N: Output>(alloc: Global, file: &DamagedFile, diagnostics: &mut N) -> u8
+    ensures { TellsLine (damage_line file.now.name file.now.damage) REFUSED
+        (N.state diagnostics.old) (N.state diagnostics.new) result }
+{
+    report_line(damage_line(alloc, file), REFUSED, diagnostics)
+}
+
+/// Why a folder is no store, or none for the caller.
 #[derive(Debug, Drop, Error)]
 pub enum NoStore {
     /// It cannot be read, as the system reported it.
@@ -88,15 +114,79 @@ pub enum NoStore {
     /// It has neither a journal nor a segment.
     #[error("it has neither a journal nor a segment")]
     NoFiles,
+    /// The caller may change nothing in it.
+    #[error("{0}")]
+    Refused(FolderFault),
 }
 
-/// Reports why a folder is no store, and returns `FAULT`; or `NO_MEMORY` if memory runs out for the
-/// line.
-pub fn report_no_store<N: Output>(alloc: Global, why: &NoStore, diagnostics: &mut N) -> u8
+// Whether memory ran out.
+fn is_of_memory(why: &NoStore) -> bool
+    ensures { IsTrue result ↔ IsOfMemory why.now }
+{
+    match why {
+        NoStore::System(error) => error.kind() == ErrorKind::OutOfMemory,
+        NoStore::Refused(fault) => fault.kind() == ErrorKind::OutOfMemory,
+        NoStore::NoFiles => false,
+    }
+}
+
+// Reports words, and why, and returns `FAULT`; or `NO_MEMORY` if memory runs out for the line.
+fn report_why<N: Output>(
+    alloc: Global,
+    words: &str,
+    why: impl Display + Drop,
+    diagnostics: &mut N,
+) -> u8
     ensures { (result ≡ FAULT) ⊎ (result ≡ NO_MEMORY) }
 {
-    match format!(in alloc; "not a store: {why}\n") {
+    match format!(in alloc; "{words}: {why}\n") {
         Ok(line) => report(diagnostics, line.as_bytes(), FAULT),
         Err(_) => report(diagnostics, b"want of memory\n", NO_MEMORY),
+    }
+}
+
+/// Reports an error of the system, of a file in a folder or of the folder, and returns `FAULT`; or
+/// `NO_MEMORY` if memory runs out for the line.
+pub fn report_file_error<N: Output>(
+    alloc: Global,
+    dir: &str,
+    error: &FileError,
+    diagnostics: &mut N,
+) -> u8
+    ensures { (result ≡ FAULT) ⊎ (result ≡ NO_MEMORY) }
+{
+    let FileError { name, error } = error;
+    let Some(name) = name else {
+        return report_why(alloc, dir, error, diagnostics);
+    };
+    let Ok(folder) = FolderPath::new(alloc, dir) else {
+        return report(diagnostics, b"want of memory\n", NO_MEMORY);
+    };
+    match folder.of_file(name) {
+        Ok(path) => report_why(alloc, path.as_str(), error, diagnostics),
+        Err(_) => report_why(alloc, dir, error, diagnostics),
+    }
+}
+
+/// Reports why the folder of this name is no store for the caller, and returns `FAULT`; or `NO_MEMORY` if
+/// memory ran out, or runs out for the line.
+pub fn report_no_store<N: Output>(
+    alloc: Global,
+    dir: &str,
+    why: &NoStore,
+    diagnostics: &mut N,
+) -> u8
+    ensures known { (result ≡ FAULT) ⊎ (result ≡ NO_MEMORY) }
+    ensures memory { IsOfMemory why.now → Reports (codes "want of memory\n") NO_MEMORY
+        (N.state diagnostics.old) (N.state diagnostics.new) result }
+{
+    if is_of_memory(why) {
+        return report(diagnostics, b"want of memory\n", NO_MEMORY);
+    }
+    match why {
+        NoStore::Refused(fault) => report_why(alloc, dir, fault, diagnostics),
+        NoStore::System(_) | NoStore::NoFiles => {
+            report_why(alloc, "not a store", why, diagnostics)
+        }
     }
 }

@@ -4,21 +4,20 @@ ghost use Rattle.store_engine.specs.Systems.{last_error_of};
 
 use crate::lines::NoStore;
 use disk::{DiskFault, FileName};
-use folder_disk::FileError;
+use folder_disk::{Access, FileError, FolderPath, open_regular};
 use octet_devices::FromRead;
-use std::alloc::{AllocError, Global};
+use std::alloc::Global;
+use std::fs;
 use std::io::{self, ErrorKind, Read};
 use std::rt::Files;
-use std::{fs, str};
-use store_reading::{Folder, is_journal, segment_day};
+use store_reading::{Folder, is_journal, segment_period};
 
 /// A folder of the system's files, which are only opened for reading. No contract knows what they
 /// have.
 #[derive(Drop)]
 pub struct SystemFolder<R> {
     rt: R,
-    // the folder's path with a slash at its end, by which the system opens nothing but a folder
-    path: String,
+    path: FolderPath,
     last_error: Option<FileError>,
 }
 
@@ -40,19 +39,6 @@ impl<F: Read> Read for Uninterrupted<F> {
     }
 }
 
-fn with_slash(alloc: Global, path: &str) -> Result<String, AllocError> {
-    let mut text = String::from_str(alloc, path)?;
-    if !path.is_empty() && !path.ends_with('/') {
-        text.push('/')?;
-    }
-    Ok(text)
-}
-
-// a name that the folder's listing has and no path can
-fn is_no_text(error: &io::Error) -> bool {
-    error.kind() == ErrorKind::InvalidFilename && error.raw_os_error().is_none()
-}
-
 // What an error of this kind means, where a file was to be opened.
 fn opening_fault(kind: ErrorKind) -> DiskFault
     ensures { result ≢ DiskFault.Full }
@@ -66,7 +52,7 @@ fn opening_fault(kind: ErrorKind) -> DiskFault
 
 // Whether a file has the name of a journal or of a segment.
 fn is_of_store(name: &FileName) -> bool {
-    is_journal(name.as_octets()) || segment_day(name.as_octets()).is_some()
+    is_journal(name.as_octets()) || segment_period(name.as_octets()).is_some()
 }
 
 // What it means where the names were to be read.
@@ -84,7 +70,7 @@ impl<R: Files + AllocGlobal + Clone + Drop> SystemFolder<R> {
     fn open_folder(rt: &R, path: &str) -> io::Result<SystemFolder<R>>
         ensures { IfOk result (λ folder. IsNone (last_error_of folder)) }
     {
-        let path = with_slash(rt.alloc(), path)?;
+        let path = FolderPath::new(rt.alloc(), path)?;
         drop(fs::open(rt, path.as_str())?);
         Ok(SystemFolder {
             rt: rt.clone()?,
@@ -101,7 +87,7 @@ impl<R: Files + AllocGlobal + Clone + Drop> SystemFolder<R> {
         ensures { IfOk result (λ folder. IsNone (last_error_of folder)) }
     {
         let folder = SystemFolder::open_folder(rt, path).map_err(NoStore::System)?;
-        let names = folder.names_of(rt.alloc()).map_err(NoStore::System)?;
+        let names = folder.path.names(rt, rt.alloc()).map_err(NoStore::System)?;
         if names.iter().any(is_of_store) {
             return Ok(folder);
         }
@@ -128,28 +114,9 @@ impl<R: Files + AllocGlobal + Clone + Drop> SystemFolder<R> {
         fault
     }
 
-    fn names_of(&self, alloc: Global) -> io::Result<Vec<FileName>> {
-        let mut names = Vec::new(alloc);
-        for entry in fs::read_dir(&self.rt, self.path.as_str())? {
-            let entry = match entry {
-                Ok(entry) => entry,
-                Err(error) if is_no_text(&error) => continue,
-                Err(error) => return Err(error),
-            };
-            if let Some(name) = FileName::new(alloc, entry.file_name().as_bytes())? {
-                names.push(name)?;
-            }
-        }
-        Ok(names)
-    }
-
     fn open_file(&self, name: &FileName) -> io::Result<R::File> {
-        let Ok(name) = str::from_utf8(name.as_octets()) else {
-            return Err(ErrorKind::InvalidFilename.into());
-        };
-        let mut path = self.path.clone()?;
-        path.push_str(name)?;
-        fs::open(&self.rt, path.as_str())
+        let path = self.path.of_file(name)?;
+        Ok(open_regular(&self.rt, path.as_str(), Access::Read)?.file)
     }
 }
 
@@ -168,7 +135,7 @@ where
     ghost has_failed = { λ folder. IsSome folder.last_error };
 
     fn names(&mut self, alloc: Global) -> Result<Vec<FileName>, DiskFault> {
-        match self.names_of(alloc) {
+        match self.path.names(&self.rt, alloc) {
             Ok(names) => Ok(names),
             Err(error) => Err(self.failed(listing_fault(error.kind()), None, error)),
         }

@@ -5,14 +5,12 @@ ghost use Rattle.folder_disk.specs.Folders.{last_error_of, untold};
 use crate::lines::NoStore;
 use crate::system::{SystemFolder, Uninterrupted};
 use disk::{Disk, DiskFault, FileName};
-use folder_disk::{FileError, FolderDisk};
+use folder_disk::{FileError, FolderDisk, FolderFault, FolderPath, create_regular, remove_regular};
 use octet_devices::{FromRead, ToWrite};
 use std::alloc::Global;
-use std::fs::{OpenFile, OpenOptions};
+use std::fs::OpenFile;
 use std::io::{self, ErrorKind, Read, Write};
-use std::os::unix::fs::OpenOptionsExt;
 use std::rt::Files;
-use std::{fs, str};
 use store_reading::Folder;
 use store_upkeep::StreamDisk;
 
@@ -21,7 +19,7 @@ use store_upkeep::StreamDisk;
 #[derive(Drop)]
 pub struct SystemDisk<R: Files> {
     rt: R,
-    path: String,
+    path: FolderPath,
     disk: FolderDisk<R>,
     folder: SystemFolder<R>,
     last_error: Option<FileError>,
@@ -81,27 +79,24 @@ where
     R::File: Read + Write + OpenFile + Drop,
 {
     // The disk, of whose folder this is.
-    fn over(rt: &R, path: &str, folder: SystemFolder<R>) -> io::Result<SystemDisk<R>> {
-        let mut text = String::from_str(rt.alloc(), path)?;
-        if !path.is_empty() && !path.ends_with('/') {
-            text.push('/')?;
-        }
+    fn over(rt: &R, path: &str, folder: SystemFolder<R>) -> Result<SystemDisk<R>, FolderFault> {
         Ok(SystemDisk {
             rt: rt.clone()?,
-            path: text,
+            path: FolderPath::new(rt.alloc(), path)?,
             disk: FolderDisk::open(rt, path)?,
             folder,
             last_error: None,
         })
     }
 
-    /// The disk of a store's folder.
+    /// The disk of a store's folder, in which the caller may keep a store.
     ///
     /// # Errors
-    /// That of the system if it cannot be opened, or lack of memory; or that it is no store.
+    /// That of the system if it cannot be opened, or lack of memory; that it is no store; or that the
+    /// caller may change nothing in it.
     pub fn open(rt: &R, path: &str) -> Result<SystemDisk<R>, NoStore> {
         let folder = SystemFolder::open(rt, path)?;
-        SystemDisk::over(rt, path, folder).map_err(NoStore::System)
+        SystemDisk::over(rt, path, folder).map_err(NoStore::Refused)
     }
 
     /// Why a call last failed, as the system told it; none where none has.
@@ -125,20 +120,14 @@ where
         fault
     }
 
-    // Makes a file, for its owner alone, in place of what is there.
+    // Makes a file, for its owner alone, in place of one that is there.
     fn create_anew(&self, name: &FileName) -> io::Result<R::File> {
-        let Ok(name) = str::from_utf8(name.as_octets()) else {
-            return Err(ErrorKind::InvalidFilename.into());
-        };
-        let mut path = self.path.clone()?;
-        path.push_str(name)?;
-        match fs::remove_file(&self.rt, path.as_str()) {
+        let path = self.path.of_file(name)?;
+        match remove_regular(&self.rt, path.as_str()) {
             Err(error) if error.kind() != ErrorKind::NotFound => return Err(error),
             _ => {}
         }
-        let mut options = OpenOptions::new();
-        options.write(true).create_new(true).mode(0o600);
-        options.open(&self.rt, path.as_str())
+        Ok(create_regular(&self.rt, path.as_str())?.file)
     }
 }
 

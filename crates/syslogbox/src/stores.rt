@@ -1,17 +1,34 @@
 //! `read`, `verify` and `compact`, over a folder of the system.
 
-use archive_engine::report_archive_fault;
 use archive_sets::InRange;
-use archive_text::ArchiveFault;
 use disk::DiskFault;
-use driver::{DONE, FAULT, NO_MEMORY, REFUSED, report};
+use driver::{DONE, FAULT, NO_MEMORY, report};
 use folder_disk::{FileError, FolderLock, LockFault, LockFile};
-use octet_devices::{Output, ToWrite, write_all};
-use std::alloc::{AllocError, Global};
+use octet_devices::Output;
+use std::alloc::Global;
 use std::fmt::Display;
-use store_engine::{SystemDisk, SystemFolder, read_store, report_no_store, report_read_fault};
+use std::io::ErrorKind;
+use store_engine::{
+    SystemDisk, SystemFolder, read_store, report_damaged_file, report_file_error, report_no_store,
+    report_read_fault, verify_store,
+};
 use store_reading::ReadFault;
-use store_upkeep::{CompactFault, Damage, DamagedFile};
+use store_upkeep::{CompactFault, DamagedFile};
+
+// Reports the error by which a call on the folder or a file failed, behind the line on the fault that it
+// is. Returns the exit status.
+fn explained<N: Output>(
+    alloc: Global,
+    dir: &str,
+    folder: &SystemFolder<HostRuntime>,
+    status: u8,
+    diagnostics: &mut N,
+) -> u8 {
+    match folder.last_error() {
+        Some(error) if status == FAULT => report_file_error(alloc, dir, error, diagnostics),
+        _ => status,
+    }
+}
 
 /// Writes the archive of the records in a range of time that a store holds. Returns the exit status.
 pub fn read<W: Output, N: Output>(
@@ -22,47 +39,12 @@ pub fn read<W: Output, N: Output>(
     output: &mut W,
     diagnostics: &mut N,
 ) -> u8 {
-    match SystemFolder::open(rt, dir) {
-        Ok(mut folder) => read_store(alloc, &mut folder, range, output, diagnostics),
-        Err(error) => report_no_store(alloc, &error, diagnostics),
-    }
-}
-
-// The line on a file that is no archive, as `merge` tells it.
-fn archive_line(alloc: Global, name: &str, fault: ArchiveFault) -> Result<Vec<u8>, AllocError> {
-    let words = format!(in alloc; "{name} ")?;
-    let mut line = ToWrite::new(Vec::new(alloc));
-    let _status = report_archive_fault(alloc, words.as_bytes(), fault, REFUSED, &mut line);
-    Ok(line.into_inner())
-}
-
-// The line on a file that is damaged.
-fn damage_line(alloc: Global, file: &DamagedFile) -> Result<Vec<u8>, AllocError> {
-    let name = str::from_utf8(file.name.as_octets()).unwrap_or("?");
-    let text = match file.damage {
-        Damage::Archive(fault) => return archive_line(alloc, name, fault),
-        Damage::OtherDay { at } => format!(in alloc; "{name} day {at}\n")?,
-        Damage::Digest => format!(in alloc; "{name} digest\n")?,
+    let mut folder = match SystemFolder::open(rt, dir) {
+        Ok(folder) => folder,
+        Err(error) => return report_no_store(alloc, dir, &error, diagnostics),
     };
-    text.as_bytes().to_vec(alloc)
-}
-
-// Writes the lines on all files that are damaged.
-fn tell_damage<W: Output, N: Output>(
-    alloc: Global,
-    damaged: &[DamagedFile],
-    output: &mut W,
-    diagnostics: &mut N,
-) -> Result<(), u8> {
-    for file in damaged {
-        let Ok(line) = damage_line(alloc, file) else {
-            return Err(report(diagnostics, b"want of memory\n", NO_MEMORY));
-        };
-        if write_all(output, &line).is_err() {
-            return Err(report(diagnostics, b"write fault\n", FAULT));
-        }
-    }
-    Ok(())
+    let status = read_store(alloc, &mut folder, range, output, diagnostics);
+    explained(alloc, dir, &folder, status, diagnostics)
 }
 
 /// Writes a line for each file of a store that is damaged. Returns the exit status: 0 if none is, 1
@@ -76,18 +58,10 @@ pub fn verify<W: Output, N: Output>(
 ) -> u8 {
     let mut folder = match SystemFolder::open(rt, dir) {
         Ok(folder) => folder,
-        Err(error) => return report_no_store(alloc, &error, diagnostics),
+        Err(error) => return report_no_store(alloc, dir, &error, diagnostics),
     };
-    let mut damaged = Vec::new(alloc);
-    let verified = store_upkeep::verify(alloc, &mut folder, &mut damaged);
-    if let Err(status) = tell_damage(alloc, &damaged, output, diagnostics) {
-        return status;
-    }
-    match verified {
-        Ok(()) if damaged.is_empty() => DONE,
-        Ok(()) => REFUSED,
-        Err(fault) => report_read_fault(alloc, &fault, diagnostics),
-    }
+    let status = verify_store(alloc, &mut folder, output, diagnostics);
+    explained(alloc, dir, &folder, status, diagnostics)
 }
 
 // Reports words, and why, and returns the exit status.
@@ -121,14 +95,6 @@ fn report_disk_fault<N: Output>(
     }
 }
 
-// Reports that a segment is damaged.
-fn report_damage<N: Output>(alloc: Global, file: &DamagedFile, diagnostics: &mut N) -> u8 {
-    match damage_line(alloc, file) {
-        Ok(line) => report(diagnostics, &line, REFUSED),
-        Err(_) => report(diagnostics, b"want of memory\n", NO_MEMORY),
-    }
-}
-
 // Reports why a store was not compacted, and returns the exit status.
 fn report_compact_fault<N: Output>(
     alloc: Global,
@@ -146,7 +112,7 @@ fn report_compact_fault<N: Output>(
         }
         CompactFault::Read(fault) => report_read_fault(alloc, &fault, diagnostics),
         CompactFault::Damaged { name, damage } => {
-            report_damage(alloc, &DamagedFile { name, damage }, diagnostics)
+            report_damaged_file(alloc, &DamagedFile { name, damage }, diagnostics)
         }
         CompactFault::Write { name, fault } => {
             report_disk_fault(alloc, disk, name.as_octets(), fault, diagnostics)
@@ -160,7 +126,10 @@ fn report_lock_fault<N: Output>(alloc: Global, fault: LockFault, diagnostics: &m
     let what = LockFile::Compaction.name();
     match fault {
         LockFault::Held => report_why(alloc, what, "the store is being compacted", diagnostics),
-        LockFault::Failed(error) => report_why(alloc, what, error, diagnostics),
+        LockFault::Failed(error) if error.kind() == ErrorKind::OutOfMemory => {
+            report(diagnostics, b"want of memory\n", NO_MEMORY)
+        }
+        LockFault::Failed(error) => report_why(alloc, what, error.error, diagnostics),
     }
 }
 
@@ -169,7 +138,7 @@ fn report_lock_fault<N: Output>(alloc: Global, fault: LockFault, diagnostics: &m
 pub fn compact<N: Output>(rt: &HostRuntime, alloc: Global, dir: &str, diagnostics: &mut N) -> u8 {
     let mut disk = match SystemDisk::open(rt, dir) {
         Ok(disk) => disk,
-        Err(error) => return report_no_store(alloc, &error, diagnostics),
+        Err(error) => return report_no_store(alloc, dir, &error, diagnostics),
     };
     let _lock = match FolderLock::take(rt, dir, LockFile::Compaction) {
         Ok(lock) => lock,
