@@ -474,6 +474,7 @@ fn serves(rt: &HostRuntime, words: &[&str]) -> Option<ServeOptions> {
 fn serve_has_limits(rt: HostRuntime) {
     let mut options = ServeOptions {
         connections: 1024,
+        per_peer: 256,
         idle_seconds: None,
         commit_millis: 1000,
         checkpoint_mib: 64,
@@ -482,6 +483,7 @@ fn serve_has_limits(rt: HostRuntime) {
     };
     assert!(rt; serves(&rt, &["serve", "d", "--unix", "p"]) == Some(options));
     options.connections = 16_384;
+    options.per_peer = 4_096;
     options.idle_seconds = Some(1);
     options.commit_millis = 0;
     options.checkpoint_mib = 1;
@@ -510,7 +512,7 @@ fn serve_has_limits(rt: HostRuntime) {
         "--commit=-1",
         "--commit=3600001",
         "--checkpoint=0",
-        "--checkpoint=1048577",
+        "--checkpoint=2049",
         "--until-eof=true",
         "--dialect=x",
         "--summary",
@@ -758,9 +760,9 @@ const REFUSED_SOCKETS: [(&[&str], &str); 14] = [
             "d",
             "--unix=p",
             "--dialect=x",
-            "--checkpoint=1048577",
+            "--checkpoint=2049",
         ],
-        "error: invalid value '1048577' for --checkpoint: expected a number from 1 to 1048576\n",
+        "error: invalid value '2049' for --checkpoint: expected a number from 1 to 2048\n",
     ),
 ];
 
