@@ -1,4 +1,4 @@
-use Rattle.std.proofs.Common.{IsTrue, false, refl, rules, ◌≡◌, ap, subst, sym}
+use Rattle.std.proofs.Common.{IsTrue, false, rules, ◌≡◌, ap, subst, sym}
 use Rattle.archive_text.specs.Entries.{Entry}
 use Rattle.archive_streams.specs.Entries.{current}
 use Rattle.sha2.specs.Hashers.{Holds256}
