@@ -25,23 +25,20 @@ through or unreadable. The status is 0 exactly where nothing failed.
 import sys
 import tempfile
 from importlib import import_module
-from pathlib import Path
 
 sys.dont_write_bytecode = True
 from lib.program import Folder, Program
 from lib.results import Results
 from lib.side_by_side import Parts, cores, python
 
-CASES = Path(__file__).resolve().parent / "cases"
 # the parts that run side by side, those that take longest first; each is a module of cases/ with a function of its name
 SIDE_BY_SIDE = ["stores", "libraries", "algebra", "mutated", "serving", "legacy", "bindings", "commands", "verdicts", "archives",
-                "sending", "collect", "spilling", "documents", "sockets", "descriptors", "costs", "auditing"]
-# those of which the files are not all there yet
-SIDE_BY_SIDE += ["colliding_ids", "notes_pace", "full_pipes", "unsafe_folders", "many_days", "damaged_segments"]
+                "unsafe_folders", "damaged_segments", "many_days", "full_pipes", "colliding_ids", "notes_pace", "sending", "collect",
+                "spilling", "documents", "sockets", "descriptors", "costs", "auditing"]
 # these run after the others, one after the other: `soak` takes all cores itself, and `noisy_senders` measures
 AT_THE_END = ["soak", "noisy_senders"]
 MODULES = {"soak": "hostile.soak"}
-PARTS = [name for name in SIDE_BY_SIDE + AT_THE_END if name in MODULES or (CASES / f"{name}.py").exists()]
+PARTS = SIDE_BY_SIDE + AT_THE_END
 ALONE = {"soak": "hostile.soak", "algebra": "hostile.archives", "stores": "hostile.stores", "clients": "hostile.clients",
          "mutants": "mutants.run", "senders": "peers.senders", "load": "peers.load", "cluster": "peers.cluster",
          "serve-clients": "peers.serve_clients", "serve-soak": "peers.serve_soak", "serve-load": "peers.serve_load"}
