@@ -25,6 +25,7 @@ from lib.store_format import bodies_of
 SEED = 5426
 FRAME_MAX = 262_144
 REFUSED_MAX = 64 << 20
+BURST = 100  # lines on one peer that are told at once
 LONG = b"<14>1 - - - - - - " + b"a" * (FRAME_MAX - 18)
 BOTH = [*any_port("counted"), *any_port("lf")]
 
@@ -190,6 +191,19 @@ def kept_of(lines, frames):
     return [(line, None if line.endswith(b" too-long") else frames[int(line.split(b" ")[2]) - 1]) for line in lines]
 
 
+def ends_at_pace(runs, name, server, lines):
+    """A server ends with status 1, after the first of these lines, and then some of them in order."""
+    status, seen = server.end()
+    rest = iter(lines)
+    right = status == 1 and seen[:BURST] == lines[:BURST] and all(one in rest for one in seen)
+    runs.results.check(f"{name}: its end", right, f"{status} {seen}"[:3_000])
+
+
+def until_kept(server, last):
+    """Waits until an entry is the last one of the refused frames."""
+    return until(lambda: (server.store / "refused").exists() and refused_file(server.store)[-1] == last)
+
+
 def streams(runs):
     """Random and changed frames of one connection, in pieces: what is held, what is told, and what is kept of it."""
     random, frames = Random(SEED), mutations(400)
@@ -199,7 +213,7 @@ def streams(runs):
         with runs.until_eof(*any_port(kind), *SOON) as server:
             lines = lines_on(kind, server.send(kind, *pieces_of(octets, random, 4_000)), notes)
             runs.results.same(f"{kind}: what is read", server.until_held(text), (0, text, b""))
-            runs.ends(f"{kind}, random frames", server, 1, *lines)
+            ends_at_pace(runs, f"{kind}, random frames", server, lines)
             kept = refused_file(server.store)
             right = kept_of(lines, ones_for(kind, frames))
             runs.results.check(f"{kind}: what is kept", kept == right, str(kept)[:300])
@@ -217,9 +231,9 @@ def datagrams(runs):
             front = b"unix - " if kind == "unix" else b"udp %b " % spelled(name)
             right = [(b"%b%d %b" % (front, n, one), frame)
                      for n, (one, frame) in enumerate(zip(outcomes, frames), 1) if isinstance(one, bytes)]
-            runs.results.check(f"{kind}: the last is told", server.until_told(right[-1][0]), str(server.lines()[-1:]))
+            runs.results.check(f"{kind}: the last is kept", until_kept(server, right[-1]), str(server.lines()[-1:]))
             runs.results.same(f"{kind}: what is read", server.until_held(text), (0, text, b""))
-            runs.ends(f"{kind}, random datagrams", server, 1, *(line for line, _ in right))
+            ends_at_pace(runs, f"{kind}, random datagrams", server, [line for line, _ in right])
             kept = refused_file(server.store)
             runs.results.check(f"{kind}: what is kept", kept == right, str(kept)[:300])
 
@@ -246,10 +260,12 @@ def at_once(runs):
         runs.results.check("each connection is read to its end", all(end(one) for one, _ in senders))
         runs.holds("connections at once", server, *texts)
         status, lines = server.end()
-    told = [re.fullmatch(rb"(\w+ \S+ )(\d+) (.*)", line).groups() for line in lines]
+        kept = [line for line, _ in refused_file(server.store)]
+    told = [re.fullmatch(rb"(\w+ \S+ )(\d+) (.*)", line).groups() for line in kept]
     by_sender = {front: [fault for one, _, fault in told if one == front] for front in faults}
     right = status == 1 and by_sender == faults and len(told) == sum(map(len, faults.values()))
-    runs.results.check("connections at once: each fault is told of its sender", right, str(lines)[:300])
+    runs.results.check("connections at once: each fault is kept of its sender", right, str(kept)[:300])
+    runs.results.check("connections at once: the first are told", lines[:BURST] == kept[:BURST], str(lines)[:300])
     numbers = [int(number) for _, number, _ in told]
     runs.results.check("numbers ascend over the run", numbers == sorted(set(numbers)) and numbers[-1] <= 600)
 
@@ -610,7 +626,7 @@ def counts(runs):
         server.send("counted", framed("counted", Z) + b"x")
         server.datagrams("udp", A, b"y")
         octets = 2 * len(lines) + len(framed("counted", Z) + b"x") + len(A + b"y")
-        right = re.compile(rb"received 8 new 3 held 5 refused 3 too-long 2 connections 3 batches [1-9]\d* octets %d"
+        right = re.compile(rb"received 8 new 3 held 5 refused 3 too-long 2 connections 3 batches [1-9]\d* octets %d quiet 0"
                            % octets)
         runs.results.check("the counts are told", server.until_told(right), str(server.lines()[-3:]))
         runs.results.check("and told again", server.until_told(right, 2), str(server.lines()[-3:]))

@@ -167,7 +167,7 @@ def full(runs):
         runs.results.check("a full disk is told", server.until_told(b"store full"), str(server.lines()))
         server.send("counted", counted(sent[100:]))
         runs.holds("a disk with room again", server, *sent)
-        runs.ends("a full disk", server, 0, b"store full")
+        runs.ends("a full disk", server, 0, b"store full", b"store has room")
 
 
 def full_mount(runs):
@@ -187,7 +187,7 @@ def full_mount(runs):
             subprocess.run(["mount", "-o", "remount,size=16m", str(disk)], check=True)
             runs.holds("a disk that was given room", server, *sent)
             sender.join()
-            runs.ends("a disk without room", server, 0, b"store full")
+            runs.ends("a disk without room", server, 0, b"store full", b"store has room")
     finally:
         subprocess.run(["umount", str(disk)], check=True)
 
