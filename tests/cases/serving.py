@@ -390,7 +390,7 @@ def endless(runs):
 
 def numbers(runs):
     """The number of a connection that was closed is given again: nothing of the one before is in the one behind it."""
-    with runs.until_eof(*BOTH, *SOON, "--connections", 3) as server, server.open("lf") as stays:
+    with runs.until_eof(*BOTH, *SOON, "--connections", 3, "--per-peer", 3) as server, server.open("lf") as stays:
         sent, right = [], []
         for n in range(60):
             kind, how = ("counted", "lf")[n % 2], ("resets", "shuts", "waits")[n // 2 % 3]
@@ -419,7 +419,7 @@ def numbers(runs):
 
 def too_many(runs):
     """A connection above the limit is closed at once, and told; once one has ended there is room again."""
-    with runs.until_eof(*any_port("lf"), *SOON, "--connections", 2) as server:
+    with runs.until_eof(*any_port("lf"), *SOON, "--connections", 2, "--per-peer", 2) as server:
         first, second = server.open("lf"), server.open("lf")
         first.sendall(numbered(0) + b"\n")
         second.sendall(numbered(1) + b"\n")

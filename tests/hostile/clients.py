@@ -338,7 +338,7 @@ def peak(server):
 def play(program, results, path, played, seconds):
     """A round."""
     words = [*any_port("udp"), *any_port("udp"), *any_port("counted"), *any_port("lf"), "--unix", path / "socket",
-             "--commit", COMMIT, "--checkpoint", 1, "--connections", played.connections]
+             "--commit", COMMIT, "--checkpoint", 1, "--connections", played.connections, "--per-peer", played.connections]
     front = ["sh", "-c", f'ulimit -n {played.descriptors}; exec "$@"', "sh"] if played.descriptors else []
     with Runs(program, results, path).until_eof(*words, front=front) as server:
         bad = Bad(server, now() + seconds, played.silent)

@@ -1,3 +1,5 @@
 pub mod Numbers
 pub mod Listing
 pub mod Stays
+pub mod Orders
+pub mod Places
