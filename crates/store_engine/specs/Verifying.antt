@@ -23,7 +23,7 @@ pub record IsVerdictStatus (damaged : List DamagedFile) (status : ℕ) : Type 0 
 -- all files were read, and a line was written for each that is damaged
 pub record IsVerified (tells : Type 0) (files : Files) (damaged : List DamagedFile) (w w_new : OutputState) (status : ℕ) :
     Type 0 where
-  pub status : IsVerdictStatus damaged status
+  pub verdict : IsVerdictStatus damaged status
   pub lines : WroteAll w w_new (damage_lines damaged)
   pub whole : tells → (name : List ℕ) → IsWholeOrListed files damaged name
 
